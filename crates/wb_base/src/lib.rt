@@ -1,0 +1,16 @@
+//! Names, texts of bytes, symbols and grammars: the values that every other crate speaks of.
+//!
+//! Each is seen by contracts as what was put into it. What grammars derive is defined in `wb_grammars`, not here.
+#![tactic(auto)]
+
+mod bytes;
+mod grammar;
+mod names;
+mod symbol;
+#[cfg(test)]
+mod tests;
+
+pub use bytes::Bytes;
+pub use grammar::Grammar;
+pub use names::{Added, Names};
+pub use symbol::{Kind, Symbol};
