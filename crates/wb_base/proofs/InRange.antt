@@ -1,9 +1,9 @@
 -- A production of a grammar is in range.
-use Rattle.std.proofs.Common.{◌≡◌, ◌<◌, ℕ, List, All, length, get_or, map, subst, sym, ◌∙◌, ap}
+use Rattle.std.proofs.Common.{◌≡◌, ◌<◌, ℕ, List, All, length, get_or, subst, sym, ◌∙◌, ap}
 use Rattle.std.proofs.lemmas.List.Elements.{All-get_or}
 use Rattle.std.proofs.lemmas.List.{get_or-map, length-map}
 use Rattle.wb_base.specs.declared.grammar.Production.{Production}
-use Rattle.wb_base.specs.Grammar.{Production as Plain, GrammarState, IsProductionBelow}
+use Rattle.wb_base.specs.Grammar.{GrammarState, IsProductionBelow}
 use Rattle.wb_base.specs.Productions.{plain, plain_one}
 
 -- one that stands at a place of the list

@@ -1,3 +1,4 @@
+pub mod Different
 pub mod Grammar
 pub mod Names
 pub mod Productions

@@ -1,4 +1,5 @@
 ghost use Rattle.std.specs.Prelude.{◌≡◌, ◌<◌, ◌↔◌, IsTrue, [], length, IfOk, OnErr, IfSome, IfNone, Contains, slice_get, Some};
+ghost use Rattle.wb_base.specs.Different.{AreDifferent};
 ghost use Rattle.wb_base.specs.Names.{AddsName};
 
 use indexmap::IndexSet;
@@ -23,10 +24,13 @@ pub struct Names {
 
 impl Model for Names {
     ghost use Rattle.std.specs.Prelude.{List, ℕ, map};
+    ghost use Rattle.wb_base.specs.Different.{AreDifferent};
 
     ghost Value = { List (List ℕ) };
 
     ghost view = { λ n. map (λ text. text.items) n.texts.keys };
+
+    ghost invariant = { λ n. AreDifferent (map (λ text. text.items) n.texts.keys) };
 }
 
 impl Names {
@@ -64,7 +68,8 @@ impl Names {
 
     /// How many names there are.
     pub fn len(&self) -> usize
-        ensures { result ≡ length self.now }
+        ensures count { result ≡ length self.now }
+        ensures different { AreDifferent self.now }
     {
         self.texts.len()
     }
