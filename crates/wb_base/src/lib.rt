@@ -6,6 +6,7 @@
 mod bytes;
 mod grammar;
 mod names;
+mod sequence;
 mod symbol;
 #[cfg(test)]
 mod tests;
@@ -13,4 +14,5 @@ mod tests;
 pub use bytes::Bytes;
 pub use grammar::Grammar;
 pub use names::{Added, Names};
+pub use sequence::Sequence;
 pub use symbol::{Kind, Symbol};

@@ -1,4 +1,4 @@
-use crate::{Added, Bytes, Grammar, Names, Symbol};
+use crate::{Added, Bytes, Grammar, Names, Sequence, Symbol};
 use std::test::Fail;
 
 #[test]
@@ -40,5 +40,14 @@ fn a_grammar_holds_its_productions(rt: HostRuntime) -> Result<(), Fail> {
     assert_eq!(rt; copy.productions(), 2);
     assert_eq!(rt; copy.left(1), 0);
     assert_eq!(rt; copy.right(1), recursive.as_slice());
+    Ok(())
+}
+
+#[test]
+fn a_sequence_gives_back_its_vector(rt: HostRuntime) -> Result<(), Fail> {
+    let values = Sequence::from_vec(vec![in rt.alloc(); 3u8, 1, 2]?);
+    assert_eq!(rt; values.as_slice(), [3, 1, 2].as_slice());
+    assert_eq!(rt; (values.len(), values.is_empty()), (3, false));
+    assert_eq!(rt; values.into_vec().as_slice(), [3, 1, 2].as_slice());
     Ok(())
 }
