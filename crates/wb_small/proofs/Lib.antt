@@ -1,0 +1,13 @@
+mod ChildrenLemmas
+mod DifferLemmas
+mod EquationLemmas
+mod ExpressionLemmas
+mod HostLemmas
+mod IndexLemmas
+mod NumberSetLemmas
+mod OccurrenceLemmas
+mod OccurrencesLemmas
+mod ProductionLemmas
+mod Refusals
+mod TermLemmas
+mod Zips

@@ -1,0 +1,12 @@
+pub mod AddsOccurrence
+pub mod Attributes
+pub mod Differ
+pub mod Nodes
+pub mod NumberSet
+pub mod Numbered
+pub mod Reads
+pub mod Refusal
+pub mod Scope
+pub mod SmallHost
+pub mod SmallSpec
+pub mod SmallTerm
