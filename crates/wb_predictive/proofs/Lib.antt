@@ -1,0 +1,9 @@
+pub mod Booleans
+pub mod Members
+pub mod Rights
+pub mod Derivations
+pub mod Decides
+pub mod Weights
+pub mod Stacks
+pub mod Readings
+pub mod CallerLemmas

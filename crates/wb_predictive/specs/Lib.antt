@@ -1,0 +1,10 @@
+pub mod Rules
+pub mod Grammar
+pub mod Kinds
+pub mod Entries
+pub mod Stack
+pub mod Machine
+pub mod Reading
+pub mod Steps
+pub mod Nested
+pub mod NestedLaws
