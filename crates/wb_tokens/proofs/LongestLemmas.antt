@@ -1,0 +1,70 @@
+-- For each kind of token, what the reader of its bytes finds is the longest token.
+use Rattle.std.proofs.Common.{◌≡◌, ℕ, suc, ◌+◌, ◌<◌, ◌≤◌, List, [], ◌∷◌, Bool, true, false, ◌||◌, ◌&&◌, cond, length, get_or, take, drop, refl, sym, ap, ◌∙◌, subst, arith, length-take}
+use Rattle.std.proofs.lemmas.List.{get_or-take}
+use Rattle.std.proofs.lemmas.List.Folds.{list_all_at}
+use Rattle.std.proofs.lemmas.List.Sums.{prefix_len-le-length, prefix_len_stops, prefix_len_is}
+use Rattle.std.specs.Char.{is_ascii_digit}
+use Rattle.std.specs.List.{list_all, prefix_len}
+use Rattle.wb_tokens.specs.Longest.{beginning_of, IsLongest}
+use Rattle.wb_tokens.specs.Spelling.{is_letter, is_name_byte, IsIdentifier, Spells, HasValueInRange}
+use Rattle.wb_tokens.specs.declared.token.Token.{Token}
+use Rattle.wb_tokens.proofs.FirstByteLemmas.{kind_of, spelled_some, spelled_beginning, name_bytes, letter_is}
+
+-- a prefix that is a token has a byte
+pub prefix_some : (text : List ℕ) (token : Token) (count : ℕ) → Spells token (take count text) → 0 < count
+prefix_some text token count s = omega (arith, spelled_some token (take count text) s, length-take count text)
+
+-- the first byte of the text tells the kind of each prefix that is a token
+pub prefix_kind : (text : List ℕ) (token : Token) (count : ℕ) → Spells token (take count text) → beginning_of (get_or text 0 0) ≡ kind_of token
+prefix_kind text token count s =
+    let some = prefix_some text token count s in
+    ap beginning_of (sym (get_or-take count text 0 0 some)) ∙ spelled_beginning token (take count text) s
+
+-- what is before the end of a run passes the test, by one byte more
+before_step : (p : ℕ → Bool) (b : ℕ) (x : List ℕ) (t : Bool) → p b ≡ t → list_all p (take (prefix_len p x) x) ≡ true
+    → list_all p (take (cond t (1 + prefix_len p x) 0) (b ∷ x)) ≡ true
+before_step p b x true h all =
+    let e : 1 + prefix_len p x ≡ suc (prefix_len p x) = omega arith in
+    ap (λ n. list_all p (take n (b ∷ x))) e ∙ ap (λ t. t && list_all p (take (prefix_len p x) x)) h ∙ all
+before_step p b x false h all = refl
+
+-- what is before the end of a run passes the test
+pub all_before : (p : ℕ → Bool) (x : List ℕ) → list_all p (take (prefix_len p x) x) ≡ true
+all_before p [] = refl
+all_before p (b ∷ x) = before_step p b x (p b) refl (all_before p x)
+
+-- a letter and the bytes that go on a name are an identifier
+pub identifier : (text : List ℕ) → 0 < length text → is_letter (get_or text 0 0) ≡ true → IsIdentifier (take (prefix_len is_name_byte text) text)
+identifier [] some h = absurd (omega (arith, some))
+identifier (b ∷ x) some h =
+    let e : prefix_len is_name_byte (b ∷ x) ≡ suc (prefix_len is_name_byte x) =
+    ap (λ t. cond (t || is_ascii_digit b) (1 + prefix_len is_name_byte x) 0) h ∙ omega arith in
+    subst (λ n. IsIdentifier (take n (b ∷ x))) (sym e) (h, all_before is_name_byte x)
+
+-- as far as letters, digits and `_` go, a token is the longest
+pub name_longest : (text : List ℕ) (token : Token) → is_letter (get_or text 0 0) ≡ true → HasValueInRange token
+    → Spells token (take (prefix_len is_name_byte text) text) → IsLongest text token (prefix_len is_name_byte text)
+name_longest text token begins range s = record {
+  some = prefix_some text token _ s;
+  within = prefix_len-le-length is_name_byte text;
+  spelled = s;
+  in_range = range;
+  longest = λ other more lt le o.
+      let n = prefix_len is_name_byte text in
+      let kind = sym (prefix_kind text other more o) ∙ letter_is (get_or text 0 0) begins in
+      let all = name_bytes other (take more text) o kind in
+      let there : n < length (take more text) = omega (arith, length-take more text) in
+      let stops = prefix_len_stops is_name_byte text 0 (omega arith) in
+      let none = list_all_at is_name_byte (take more text) n 0 there (ap is_name_byte (get_or-take more text n 0 lt) ∙ stops) in
+      cc (all, none);
+}
+
+-- how many of the bytes that a test passes are before any other
+pub run_is : (p : ℕ → Bool) (text : List ℕ) (n : ℕ) → n ≤ length text → ((k : ℕ) → k < n → p (get_or text k 0) ≡ true)
+    → (n < length text → p (get_or text n 0) ≡ false) → n ≡ prefix_len p text
+run_is p text n within passes stops = sym (prefix_len_is p text n 0 within passes stops)
+
+-- a text begins with its first byte
+pub headed : (text : List ℕ) (b : ℕ) → 0 < length text → get_or text 0 0 ≡ b → text ≡ b ∷ drop 1 text
+headed [] b some h = absurd (omega (arith, some))
+headed (c ∷ x) b some h = ap (λ a. a ∷ x) h

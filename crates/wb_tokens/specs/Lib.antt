@@ -1,0 +1,9 @@
+pub mod Longest
+pub mod Marks
+pub mod NextToken
+pub mod Numbers
+pub mod Parts
+pub mod Printing
+pub mod Skipping
+pub mod Spelling
+pub mod Words

@@ -1,0 +1,25 @@
+//! The tokens of the project's texts, the reader of one token, and how values are printed as tokens.
+//!
+//! Which bytes spell which token is in `specs/Spelling.antt`, and what comes next in a text in `specs/NextToken.antt`. Specifications
+//! and terms are read by `next_token`; what follows what in them is no matter of this crate.
+#![tactic(auto)]
+
+mod beginning;
+mod integer;
+mod name;
+mod next;
+mod print;
+mod punctuation;
+mod regex;
+mod skipping;
+mod string;
+#[cfg(test)]
+mod tests;
+mod token;
+mod word;
+
+pub use next::next_token;
+pub use print::{print_int, print_text};
+pub use punctuation::Punctuation;
+pub use token::{Layout, Next, Token};
+pub use word::Word;

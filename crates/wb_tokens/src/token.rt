@@ -1,0 +1,49 @@
+//! What a token is, and what the reader of one token answers.
+
+use crate::{Punctuation, Word};
+use wb_base::Bytes;
+
+/// A token of a text.
+#[derive(Debug, Drop)]
+pub enum Token {
+    /// A name, which is no reserved word: its bytes.
+    Name(Bytes),
+    /// A reserved word.
+    Word(Word),
+    /// An integer, by its value.
+    Int(i64),
+    /// A string: the text that stands between the quotes, with escapes replaced by what they stand for.
+    Text(Bytes),
+    /// A regular expression: the bytes between the slashes, as they stand there.
+    Regex(Bytes),
+    /// A punctuation mark.
+    Punctuation(Punctuation),
+}
+
+/// What may stand between two tokens beside space, tab, LF and CR.
+#[derive(Clone, Copy, Debug, PartialEq, Eq)]
+pub enum Layout {
+    /// Comments too: from `//` to before the next LF, or to the end of the text.
+    WithComments,
+    /// Nothing else.
+    Plain,
+}
+
+/// What stands in a text behind layout. Places count bytes from the beginning of the text.
+#[derive(Debug, Drop)]
+pub enum Next {
+    /// A token, from its first byte to before the byte at `behind`.
+    Token {
+        token: Token,
+        at: usize,
+        behind: usize,
+    },
+    /// Nothing: the text ends here.
+    End {
+        at: usize,
+    },
+    /// Bytes that begin no token.
+    NoToken {
+        at: usize,
+    },
+}
