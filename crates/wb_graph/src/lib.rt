@@ -1,0 +1,16 @@
+//! An order or a cycle of a directed graph, and what walks reach.
+//!
+//! Vertices are numbers below a count, and an edge is the pair of the vertex that it leaves and the one that it leads to.
+//! An edge may stand several times, and may lead back to its own vertex. Each call takes time linear in vertices and edges
+//! and no stack for its input; no clause bounds the time.
+#![tactic(auto)]
+
+mod order;
+mod search;
+mod spread;
+#[cfg(test)]
+mod tests;
+mod untaken;
+
+pub use order::{Order, order_of};
+pub use spread::reach;

@@ -1,0 +1,46 @@
+//! An order of a graph in which each vertex stands behind the ends of its edges, or a cycle, which rules every order out.
+
+ghost use Rattle.std.specs.Prelude.{◌≡◌, ℕ, All, Contains, IfOk, Some, slice_get, drop};
+ghost use Rattle.wb_graph.specs.Graphs.{IsEdgeBelow};
+ghost use Rattle.wb_graph.specs.Orders.{IsAnswer, ExcludesOther};
+
+use crate::search::Search;
+use std::alloc::{AllocError, Global};
+
+/// What `order_of` answers.
+#[derive(Debug, Drop)]
+pub enum Order {
+    /// Every vertex once, each behind the ends of its edges.
+    Order(Vec<usize>),
+    /// The vertices of a cycle: an edge leads from each to the next, and from the last to the first.
+    Cycle(Vec<usize>),
+}
+
+/// An order of the vertices from 0 to below the count, or a cycle where there is one.
+///
+/// An edge `(u, v)` leads from u to v, so v stands before u. Which of several orders or cycles is answered is left open. The only error is want of memory.
+pub fn order_of(alloc: Global, count: usize, edges: &[(usize, usize)]) -> Result<Order, AllocError>
+    requires { All (IsEdgeBelow count) edges.now }
+    ensures ok { IfOk result (IsAnswer count edges.now) }
+    ensures exact { IfOk result (ExcludesOther count edges.now) }
+{
+    let mut search = Search::new(alloc, count, edges)?;
+    'roots: for root in 0..count {
+        if let Some(vertex) = search.visit(edges, root)? {
+            return Ok(Order::Cycle(cycle_from(alloc, &search.path, vertex)?));
+        }
+    }
+    Ok(Order::Order(search.finished))
+}
+
+// The path from the vertex on.
+fn cycle_from(alloc: Global, path: &[usize], vertex: usize) -> Result<Vec<usize>, AllocError>
+    requires { Contains path.now vertex }
+    ensures { IfOk result (λ cycle. (i : ℕ) × (slice_get path.now i ≡ Some vertex) × (cycle.items ≡ drop i path.now)) }
+{
+    let mut start = 0;
+    'places: while path[start] != vertex {
+        start += 1;
+    }
+    path[start..].to_vec(alloc)
+}

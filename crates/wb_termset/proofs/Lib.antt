@@ -1,0 +1,6 @@
+mod BitLemmas
+pub mod CallerLemmas
+mod FirstBitLemmas
+mod MeetLemmas
+mod Searches
+mod ViewLemmas

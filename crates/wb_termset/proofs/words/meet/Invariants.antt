@@ -1,0 +1,6 @@
+use Rattle.std.proofs.Common.{◌≡◌, ◌<◌, ℕ, get_or}
+use Rattle.std.specs.Prelude.{bit_and}
+use Rattle.wb_termset.proofs.words.meet.Given as goal
+
+abbrev pub invariant-loop-k : goal.invariant-loop-k
+invariant-loop-k l = (j : ℕ) → j < l.k → bit_and (get_or l.words j 0) (get_or l.others j 0) ≡ 0
