@@ -1,0 +1,3 @@
+mod HostTextLemmas
+mod Refusals
+mod TermTextLemmas

@@ -1,0 +1,10 @@
+pub mod HostLaws
+pub mod HostParts
+pub mod Next
+pub mod NextLaws
+pub mod SmallHostGrammar
+pub mod SmallHostText
+pub mod SmallTermGrammar
+pub mod SmallTermText
+pub mod TermLaws
+pub mod TermParts

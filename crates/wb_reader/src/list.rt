@@ -1,0 +1,64 @@
+//! A list that grows at its end, and can be taken out as a whole.
+
+ghost use Rattle.std.specs.Prelude.{◌≡◌, ◌++◌, ◌∷◌, [], OnOk, length};
+
+use std::alloc::{AllocError, Global};
+use std::marker::Model;
+use std::mem::replace;
+use wb_base::Sequence;
+
+/// Values in order.
+#[derive(Drop)]
+pub struct List<T> {
+    items: Vec<T>,
+}
+
+impl<T> Model for List<T> {
+    ghost use Rattle.std.specs.Prelude.{List as Values};
+
+    ghost Value = { Values T };
+
+    ghost view = { λ l. l.items.items };
+}
+
+impl<T: Drop> List<T> {
+    /// No values. Takes no memory.
+    pub fn new(alloc: Global) -> List<T>
+        ensures { result ≡ [] }
+    {
+        List {
+            items: Vec::new(alloc),
+        }
+    }
+
+    /// One value more, which is last. The only error is want of memory.
+    pub fn push(&mut self, value: T) -> Result<(), AllocError>
+        ensures ok { OnOk result (self.new ≡ self.old ++ value ∷ []) }
+    {
+        self.items.push(value)?;
+        Ok(())
+    }
+
+    /// How many values there are.
+    pub fn len(&self) -> usize
+        ensures { result ≡ length self.now }
+    {
+        self.items.len()
+    }
+
+    /// The values, which are no longer here. Takes no memory.
+    pub fn take(&mut self) -> Sequence<T>
+        ensures all { result ≡ self.old }
+        ensures none { self.new ≡ [] }
+    {
+        let alloc = *self.items.allocator();
+        Sequence::from_vec(replace(&mut self.items, Vec::new(alloc)))
+    }
+
+    /// The values. Takes no memory.
+    pub fn into_sequence(self) -> Sequence<T>
+        ensures { result ≡ self }
+    {
+        Sequence::from_vec(self.items)
+    }
+}

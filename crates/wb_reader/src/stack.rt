@@ -1,0 +1,48 @@
+//! A stack, seen from its top.
+
+ghost use Rattle.std.specs.Prelude.{◌≡◌, ◌∷◌, [], OnOk, MatchOption};
+
+use std::alloc::{AllocError, Global};
+use std::marker::Model;
+
+/// Values, the last one that was put there first.
+#[derive(Drop)]
+pub struct Stack<T> {
+    items: Vec<T>,
+}
+
+impl<T> Model for Stack<T> {
+    ghost use Rattle.std.specs.Prelude.{List, reverse};
+
+    ghost Value = { List T };
+
+    ghost view = { λ s. reverse s.items.items };
+}
+
+impl<T: Drop> Stack<T> {
+    /// No values. Takes no memory.
+    pub fn new(alloc: Global) -> Stack<T>
+        ensures { result ≡ [] }
+    {
+        Stack {
+            items: Vec::new(alloc),
+        }
+    }
+
+    /// Puts a value on top. The only error is want of memory.
+    pub fn push(&mut self, value: T) -> Result<(), AllocError>
+        ensures ok { OnOk result (self.new ≡ value ∷ self.old) }
+    {
+        self.items.push(value)?;
+        Ok(())
+    }
+
+    /// Takes the value on top, where there is one. Takes no memory.
+    pub fn pop(&mut self) -> Option<T>
+        ensures { MatchOption result
+            ((self.old ≡ []) × (self.new ≡ []))
+            (λ top. self.old ≡ top ∷ self.new) }
+    {
+        self.items.pop()
+    }
+}
