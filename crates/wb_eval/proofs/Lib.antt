@@ -1,0 +1,9 @@
+mod AskedLemmas
+mod Equations
+mod Existence
+mod Lists
+mod Reading
+mod RowLemmas
+mod Sums
+mod TargetLemmas
+mod Uniqueness

@@ -1,0 +1,11 @@
+ghost use Rattle.std.specs.Prelude.{◌≡◌, OnOk, ◌++◌, ◌∷◌, []};
+
+use std::alloc::AllocError;
+
+// Puts a value behind the others.
+pub(crate) fn push<T: Drop>(list: &mut Vec<T>, value: T) -> Result<(), AllocError>
+    ensures { OnOk result (list.new.items ≡ list.old.items ++ value ∷ []) }
+{
+    list.push(value)?;
+    Ok(())
+}

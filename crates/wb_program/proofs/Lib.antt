@@ -1,0 +1,3 @@
+mod CauseLemmas
+mod Known
+mod Pieces

@@ -1,0 +1,14 @@
+-- Whether the front is the whole file, by its length.
+use Rattle.std.proofs.Common.{arith, length, ◌≤◌}
+use Rattle.std.proofs.lemmas.Grind.{common_steps}
+use Rattle.wb_program.proofs.Pieces.{whole, too_long}
+use Rattle.wb_program.proofs.reading.read_file.Goals as goal
+
+pub returns-then-len-le-LIMIT-clause-ok : goal.returns-then-len-le-LIMIT-clause-ok
+returns-then-len-le-LIMIT-clause-ok g c =
+    let short : length c.in_ok-bytes.bytes.items ≤ 1048576 = grind (arith, common_steps) in
+    (whole (g.S.Shelf.files c.args.shelf.now) c.args.name.now c.in_ok-bytes.bytes.items 1048576 c.in_ok-bytes.ensures.ok short, short)
+
+pub returns-else-len-le-LIMIT-clause-ok : goal.returns-else-len-le-LIMIT-clause-ok
+returns-else-len-le-LIMIT-clause-ok g c =
+    too_long (g.S.Shelf.files c.args.shelf.now) c.args.name.now c.in_ok-bytes.bytes.items 1048576 c.in_ok-bytes.ensures.ok (grind (arith, common_steps))

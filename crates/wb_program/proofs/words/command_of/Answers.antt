@@ -1,0 +1,23 @@
+-- Four words are those of the command.
+use Rattle.std.proofs.Common.{rules, string_bytes, refl, ◌≡◌, List, [], ◌∷◌, length, get_or, arith, sym, ◌∙◌, ap}
+use lib.Chars.{codes}
+use Rattle.wb_program.specs.Words.{texts}
+use Rattle.wb_program.proofs.words.command_of.Goals as goal
+
+-- a list of four is its four elements
+four : {X : Type 0} (xs : List X) (a b c d : X) → length xs ≡ 4 → a ≡ get_or xs 0 a → b ≡ get_or xs 1 b → c ≡ get_or xs 2 c → d ≡ get_or xs 3 d → xs ≡ a ∷ b ∷ c ∷ d ∷ []
+four [] a b c d l p q r s = absurd (omega arith)
+four (w ∷ []) a b c d l p q r s = absurd (omega arith)
+four (w ∷ x ∷ []) a b c d l p q r s = absurd (omega arith)
+four (w ∷ x ∷ y ∷ []) a b c d l p q r s = absurd (omega arith)
+four (w ∷ x ∷ y ∷ z ∷ []) a b c d l p q r s = cc
+four (w ∷ x ∷ y ∷ z ∷ v ∷ vs) a b c d l p q r s = absurd (omega arith)
+
+pub returns-then-is_positional-3-clause-some : goal.returns-then-is_positional-3-clause-some
+returns-then-is_positional-3-clause-some c =
+    let words : c.args.words.now ≡ c.command-item.result ∷ c.host-item.result ∷ c.term-item.result ∷ c.attribute-item.result ∷ [] = four _ _ _ _ _ (omega arith) c.command-item.is c.host-item.is c.term-item.is c.attribute-item.is in
+    let command : c.as_str.result.now ≡ codes "value" = search rules in
+    let first : string_bytes c.command-item.result ≡ codes "value" = sym c.as_str.ensures.value ∙ command in
+    let all : texts c.args.words.now ≡ string_bytes c.command-item.result ∷ string_bytes c.host-item.result ∷ string_bytes c.term-item.result ∷ string_bytes c.attribute-item.result ∷ [] = ap texts words in
+    let said : texts c.args.words.now ≡ codes "value" ∷ c.as_str-host.result.now ∷ c.as_str-term.result.now ∷ c.as_str-attribute.result.now ∷ [] = cc (all, first, c.as_str-host.ensures.value, c.as_str-term.ensures.value, c.as_str-attribute.ensures.value) in
+    (said, record { command_is = refl; host_is = search rules; term_is = search rules; attribute_is = search rules })

@@ -1,0 +1,26 @@
+-- What is said of a file, where files are told. Where they aren't, nothing is said.
+use Rattle.std.specs.Prelude.{◌≡◌, ◌<◌, ◌⊎◌, ℕ, Option, Some, None, List, length}
+use Rattle.wb_world.specs.Shelf.{Files}
+
+-- a file is there, and its contents meet this
+abbrev pub FileIs : Option (List ℕ) → (List ℕ → Type 0) → Type 0
+FileIs None P = ⊥
+FileIs (Some contents) P = P contents
+
+-- a file of this name is there, and its contents meet this
+abbrev pub KnownFile : Option Files → List ℕ → (List ℕ → Type 0) → Type 0
+KnownFile None name P = Unit {0}
+KnownFile (Some files) name P = FileIs (files name) P
+
+-- no file has this name
+abbrev pub KnownAbsent : Option Files → List ℕ → Type 0
+KnownAbsent None name = Unit {0}
+KnownAbsent (Some files) name = files name ≡ None
+
+-- the contents are longer than the limit of a specification and of a term
+abbrev pub IsTooLong : List ℕ → Type 0
+IsTooLong contents = 1048576 < length contents
+
+-- the contents are too long, or meet this
+abbrev pub IsTooLongOr : (List ℕ → Type 0) → List ℕ → Type 0
+IsTooLongOr P contents = IsTooLong contents ⊎ P contents

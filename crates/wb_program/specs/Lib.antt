@@ -1,0 +1,10 @@
+pub mod Causes
+pub mod Commands
+pub mod Contents
+pub mod Files
+pub mod Language
+pub mod Lines
+pub mod Report
+pub mod StatusNumber
+pub mod Words
+pub mod Written

@@ -1,0 +1,16 @@
+-- The numbers of statuses.
+use Rattle.std.specs.Prelude.{ℕ}
+use Rattle.wb_program.specs.declared.status.Status.{Status}
+use Rattle.wb_program.specs.declared.status.Status.TheVariants.{Done, Usage, SpecRefused, OperationFault, Absent, ReadFault, WriteFault, NoMemory, UnknownAttribute}
+
+-- the number that a process with this status ends with
+abbrev pub number_of : Status → ℕ
+number_of Done = 0
+number_of Usage = 2
+number_of SpecRefused = 3
+number_of OperationFault = 6
+number_of Absent = 8
+number_of ReadFault = 9
+number_of WriteFault = 10
+number_of NoMemory = 11
+number_of UnknownAttribute = 17

@@ -1,0 +1,99 @@
+//! What each command answers: a status with its report, or the reason why a run ends without one.
+ghost use Rattle.std.specs.Prelude.{◌≡◌, IfOk, IsErrOf};
+ghost use Rattle.wb_world.specs.Cause.{Rose};
+ghost use Rattle.wb_small.specs.SmallSpec.{IsSmallSpec};
+ghost use Rattle.wb_small.specs.SmallTerm.{IsSmallTerm};
+ghost use Rattle.wb_program.specs.Files.{KnownAbsent};
+ghost use Rattle.wb_program.specs.Lines.{refused_line, usage_line};
+ghost use Rattle.wb_program.specs.Causes.{ValueReads};
+ghost use Rattle.wb_program.specs.Report.{TermReport, ValueReport};
+
+use crate::language::{read_host, read_term};
+use crate::lines;
+use crate::reading::Stop;
+use crate::status::Status;
+use std::alloc::{AllocError, Global};
+use wb_eval::{SmallAnswer, attribute_named, evaluate_small};
+use wb_small::{SmallSpec, SmallTerm};
+use wb_world::Shelf;
+
+/// A status with its report.
+#[derive(Drop)]
+pub struct Answer {
+    pub status: Status,
+    pub report: Vec<u8>,
+}
+
+/// The answer to `value HOST TERM ATTR`.
+pub fn answer_value<S: Shelf>(
+    alloc: Global,
+    shelf: &mut S,
+    host: &str,
+    term: &str,
+    attribute: &str,
+) -> Result<Answer, Stop>
+    ensures ok { IfOk result (λ answer. ValueReport (S.files shelf.old) answer.status answer.report.items host.now term.now attribute.now) }
+    ensures absent { IsErrOf result Stop.Absent → ValueReads (S.files shelf.old) (λ name. Rose (S.absences shelf.old name) (S.absences shelf.new name) × KnownAbsent (S.files shelf.old) name) host.now term.now attribute.now }
+    ensures read_fault { IsErrOf result Stop.ReadFault → ValueReads (S.files shelf.old) (λ name. Rose (S.faults shelf.old name) (S.faults shelf.new name)) host.now term.now attribute.now }
+    ensures files { S.files shelf.new ≡ S.files shelf.old }
+{
+    let Some(spec) = read_host(alloc, shelf, host)? else {
+        return Ok(refusal(alloc, host)?);
+    };
+    let Some(tree) = read_term(alloc, shelf, term, &spec)? else {
+        return Ok(refusal(alloc, term)?);
+    };
+    let answer = answer_on(alloc, &spec, &tree, attribute)?;
+    Ok(answer)
+}
+
+// The answer for a host and a term that were read.
+fn answer_on(
+    alloc: Global,
+    spec: &SmallSpec,
+    term: &SmallTerm,
+    attribute: &str,
+) -> Result<Answer, AllocError>
+    requires host { IsSmallSpec spec.now }
+    requires term { IsSmallTerm spec.now term.now }
+    ensures { IfOk result (λ answer. TermReport attribute.now answer.status answer.report.items spec.now term.now) }
+{
+    let Some(number) = attribute_named(spec, term, attribute.as_bytes()) else {
+        return Ok(Answer {
+            status: Status::UnknownAttribute,
+            report: lines::unknown(alloc, attribute)?,
+        });
+    };
+    match evaluate_small(alloc, spec, term, number)? {
+        SmallAnswer::Value(value) => Ok(Answer {
+            status: Status::Done,
+            report: lines::value(alloc, attribute, value)?,
+        }),
+        SmallAnswer::Fault(code) => Ok(Answer {
+            status: Status::OperationFault,
+            report: lines::fault(alloc, code)?,
+        }),
+    }
+}
+
+// The answer for a file that isn't a small host or a small term.
+fn refusal(alloc: Global, file: &str) -> Result<Answer, AllocError>
+    ensures status { IfOk result (λ answer. answer.status ≡ Status.SpecRefused) }
+    ensures report { IfOk result (λ answer. answer.report.items ≡ refused_line file.now) }
+{
+    Ok(Answer {
+        status: Status::SpecRefused,
+        report: lines::refused(alloc, file)?,
+    })
+}
+
+/// The answer for words that are no command.
+pub fn usage(alloc: Global) -> Result<Answer, AllocError>
+    ensures status { IfOk result (λ answer. answer.status ≡ Status.Usage) }
+    ensures report { IfOk result (λ answer. answer.report.items ≡ usage_line) }
+{
+    Ok(Answer {
+        status: Status::Usage,
+        report: lines::usage(alloc)?,
+    })
+}

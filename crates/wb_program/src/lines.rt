@@ -1,0 +1,43 @@
+//! The lines of reports.
+ghost use Rattle.std.specs.Prelude.{◌≡◌, IfOk};
+ghost use Rattle.wb_program.specs.Lines.{usage_line, refused_line, unknown_line, fault_line, value_line};
+
+use std::alloc::{AllocError, Global};
+
+/// The line for words that are no command.
+pub fn usage(alloc: Global) -> Result<Vec<u8>, AllocError>
+    ensures ok { IfOk result (λ line. line.items ≡ usage_line) }
+{
+    Vec::from_slice(
+        alloc,
+        b"usage: workbench value|show|check|certify|compose|tree|run|generate ARGUMENTS\n",
+    )
+}
+
+/// The line for a file that isn't a small host or a small term.
+pub fn refused(alloc: Global, file: &str) -> Result<Vec<u8>, AllocError>
+    ensures ok { IfOk result (λ line. line.items ≡ refused_line file.now) }
+{
+    Ok(format!(in alloc; "refused {file} S0\n")?.into_bytes())
+}
+
+/// The line for an attribute that doesn't occur on the root.
+pub fn unknown(alloc: Global, attribute: &str) -> Result<Vec<u8>, AllocError>
+    ensures ok { IfOk result (λ line. line.items ≡ unknown_line attribute.now) }
+{
+    Ok(format!(in alloc; "no attribute {attribute}\n")?.into_bytes())
+}
+
+/// The line for a fault of the operation `add`.
+pub fn fault(alloc: Global, code: u32) -> Result<Vec<u8>, AllocError>
+    ensures ok { IfOk result (λ line. line.items ≡ fault_line code) }
+{
+    Ok(format!(in alloc; "fault add {code}\n")?.into_bytes())
+}
+
+/// The line for a value.
+pub fn value(alloc: Global, attribute: &str, value: i64) -> Result<Vec<u8>, AllocError>
+    ensures ok { IfOk result (λ line. line.items ≡ value_line attribute.now value) }
+{
+    Ok(format!(in alloc; "{attribute} = {value}\n")?.into_bytes())
+}

@@ -1,0 +1,34 @@
+ghost use Rattle.std.specs.Prelude.{◌≡◌};
+ghost use Rattle.wb_program.specs.StatusNumber.{number_of};
+
+/// How a run ended.
+#[derive(Clone, Copy, Debug, PartialEq, Eq)]
+pub enum Status {
+    /// The report of the command was written whole.
+    Done = 0,
+    /// The words are no command.
+    Usage = 2,
+    /// A file isn't a specification, or a term, of the form that the command asks for.
+    SpecRefused = 3,
+    /// The answer of the evaluation is the fault of an operation.
+    OperationFault = 6,
+    /// A file that the words name wasn't found.
+    Absent = 8,
+    /// A file that the words name couldn't be read.
+    ReadFault = 9,
+    /// The report couldn't be written whole.
+    WriteFault = 10,
+    /// Memory was wanting.
+    NoMemory = 11,
+    /// No attribute of that name occurs on the root of the term.
+    UnknownAttribute = 17,
+}
+
+impl Status {
+    /// The number that the process ends with.
+    pub fn number(self) -> u8
+        ensures { result ≡ number_of self }
+    {
+        self as u8
+    }
+}

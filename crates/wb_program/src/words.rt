@@ -1,0 +1,50 @@
+//! The words of the command line, read as a command.
+ghost use Rattle.std.specs.Prelude.{◌↔◌, IsTrue, IfSome, IfNone};
+ghost use Rattle.wb_program.specs.Words.{texts, IsPositional, InCommandSet};
+ghost use Rattle.wb_program.specs.Commands.{IsCommand};
+
+/// A command with its words.
+#[derive(Clone, Copy)]
+pub enum Command<'a> {
+    Value {
+        host: &'a str,
+        term: &'a str,
+        attribute: &'a str,
+    },
+}
+
+/// The command that the words are, where they are one.
+pub fn command_of(words: &[String]) -> Option<Command<'_>>
+    ensures some { IfSome result (λ command. IsCommand command (texts words.now)) }
+    ensures none { IfNone result (¬ InCommandSet (texts words.now)) }
+{
+    let [command, host, term, attribute] = words else {
+        return None;
+    };
+    let host = host.as_str();
+    let term = term.as_str();
+    let attribute = attribute.as_str();
+    if command.as_str() == "value"
+        && is_positional(host)
+        && is_positional(term)
+        && is_positional(attribute)
+    {
+        Some(Command::Value {
+            host,
+            term,
+            attribute,
+        })
+    } else {
+        None
+    }
+}
+
+// Whether a word can be a file or a name: options begin with a dash.
+fn is_positional(word: &str) -> bool
+    ensures { IsTrue result ↔ IsPositional word.now }
+{
+    match word.as_bytes() {
+        [] => false,
+        [first, ..] => *first != b'-',
+    }
+}
