@@ -1,5 +1,5 @@
 -- Which attribute a name asks for, and that the root has a production.
-use Rattle.std.proofs.Common.{◌≡◌, ◌<◌, ◌-◌, ℕ, List, Some, Bool, true, false, length, take, slice_get, get_or, IsTrue, refl, sym, ap, ◌∙◌, subst, arith}
+use Rattle.std.proofs.Common.{◌≡◌, ◌<◌, ℕ, List, Some, Bool, true, false, length, slice_get, refl, sym, ap, ◌∙◌, subst}
 use Rattle.std.specs.Prelude.{nat_eq}
 use Rattle.std.specs.Cmp.Lexicographic.{same_text, other_text}
 use Rattle.std.proofs.lemmas.Option.{slice_get_within}
@@ -9,14 +9,15 @@ use Rattle.wb_small.specs.declared.numbered.Occurrence.{Occurrence}
 use Rattle.wb_small.specs.declared.numbered.SmallProduction.{SmallProduction}
 use Rattle.wb_small.specs.declared.term.SmallTerm.{SmallTerm}
 use Rattle.wb_small.specs.declared.term.SmallTermNode.{SmallTermNode}
-use Rattle.wb_small.specs.SmallTerm.{FitsNode, IsSmallTerm}
+use Rattle.wb_small.specs.SmallTerm.{FitsNode}
 use Rattle.wb_eval.specs.Asked.{IsAskedAttribute, root_of}
-use Rattle.wb_eval.proofs.Lists.{one_at, place_in, contains_at}
+use Rattle.wb_eval.proofs.Lists.{one_at, place_in}
 
 -- a text that was compared with the name is the name
 pub named : (names : List (List ℕ)) (i : ℕ) (text name : List ℕ) → slice_get names i ≡ Some text → true ≡ pointwise nat_eq text name → slice_get names i ≡ Some name
 named names i text name at same = at ∙ ap Some (same_text text name same)
 
+-- a text that is the name compares so
 pub compared : (names : List (List ℕ)) (i : ℕ) (text name : List ℕ) (r : Bool) → slice_get names i ≡ Some text → r ≡ pointwise nat_eq text name → slice_get names i ≡ Some name → r ≡ true
 compared names i text name true at tested is = refl
 compared names i text name false at tested is = absurd (other_text text name tested (one_at names i text name at is))
@@ -26,17 +27,6 @@ pub production_within : (spec : SmallSpec) (nodes : List SmallTermNode) (node : 
 production_within spec nodes node fits = slice_get_within spec.productions node.production fits.production fits.its
 
 module _ (spec : SmallSpec) (term : SmallTerm) (node : SmallTermNode) (p : SmallProduction) (root : slice_get term.nodes (root_of term) ≡ Some node) (its : slice_get spec.productions node.production ≡ Some p) where
-  -- an attribute of the name, on the nonterminal of the root, is asked for
-  pub is_asked : (occurrence : Occurrence) (i : ℕ) (name : List ℕ) → slice_get spec.occurrences i ≡ Some occurrence → occurrence.nonterminal ≡ p.left → slice_get spec.attributes occurrence.attribute ≡ Some name → IsAskedAttribute spec term name occurrence.attribute
-  is_asked occurrence i name at on is = record {
-    named = is;
-    occurs = record {
-      nonterminal = occurrence.nonterminal;
-      node = record { node = node; there = root; production = p; its = its; left = sym on };
-      occurs = contains_at spec.occurrences occurrence i at;
-    };
-  }
-
   -- where no occurrence has the name on the nonterminal of the root, no attribute is asked for
   pub none_asked : (name : List ℕ) → ((i : ℕ) (occurrence : Occurrence) → slice_get spec.occurrences i ≡ Some occurrence → occurrence.nonterminal ≡ p.left → slice_get spec.attributes occurrence.attribute ≡ Some name → ⊥) → (attribute : ℕ) → ¬ IsAskedAttribute spec term name attribute
   none_asked name none attribute asked =

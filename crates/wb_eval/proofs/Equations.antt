@@ -1,5 +1,5 @@
 -- The equation for an attribute at a node: it is there, and there is one.
-use Rattle.std.proofs.Common.{◌≡◌, ◌<◌, ℕ, List, Some, length, take, slice_get, Contains, refl, sym, ap, ◌∙◌, subst}
+use Rattle.std.proofs.Common.{◌≡◌, ◌<◌, ℕ, List, Some, length, slice_get, Contains, sym, ap, ◌∙◌, subst}
 use Rattle.std.specs.Option.{option_map}
 use Rattle.std.proofs.lemmas.List.{length-map}
 use Rattle.std.proofs.lemmas.Option.{slice_get-map, slice_get_within}
@@ -42,6 +42,7 @@ pub record SameEquation (m n : SmallTermNode) (e f : SmallEquation) : Type 0 whe
   pub node : m ≡ n
   pub equation : e ≡ f
 
+-- two equations at one place for one attribute are one
 pub same_equation : (spec : SmallSpec) (term : SmallTerm) (place attribute : ℕ) (m n : SmallTermNode) (e f : SmallEquation) → IsSmallSpec spec →
     IsEquationAt spec term place attribute m e → IsEquationAt spec term place attribute n f → SameEquation m n e f
 same_equation spec term place attribute m n e f rules first second =
@@ -54,7 +55,7 @@ same_equation spec term place attribute m n e f rules first second =
       equation = one_of_two second.production.equations attribute e f fits.targets_differ (subst (λ (p : SmallProduction). Contains p.equations e) production first.among) second.among first.target second.target;
     }
 
--- the equation for an attribute that occurs at a node
+-- the equation for an attribute at a node, which meets the rules
 pub record EquationThere (spec : SmallSpec) (term : SmallTerm) (place attribute : ℕ) : Type 0 where
   pub node : SmallTermNode
   pub equation : SmallEquation
@@ -71,6 +72,7 @@ has_target spec term place attribute node p rules occurs there its =
     let fits : IsSmallProduction (length spec.nonterminals) spec.occurrences p = all_at (IsSmallProduction (length spec.nonterminals) spec.occurrences) spec.productions node.production p rules.productions its in
     fits.complete attribute (subst (λ (n : ℕ). OccursOn spec.occurrences attribute n) (sym occurs.node.left ∙ ap (λ (q : SmallProduction). q.left) production) occurs.occurs)
 
+-- an attribute that occurs at a node has one
 pub equation_there : (spec : SmallSpec) (term : SmallTerm) (place attribute : ℕ) → IsSmallSpec spec → OccursAt spec term place attribute → EquationThere spec term place attribute
 equation_there spec term place attribute rules occurs =
     let p = occurs.node.production in

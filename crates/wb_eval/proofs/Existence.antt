@@ -1,6 +1,6 @@
 -- Each attribute that occurs at a node of a small term has an answer there.
-use Rattle.std.proofs.Common.{◌≡◌, ◌<◌, ◌-◌, ℕ, zero, suc, List, Some, length, take, slice_get, refl, arith}
-use Rattle.std.proofs.lemmas.Option.{slice_get_within, get_or_from_slice_get}
+use Rattle.std.proofs.Common.{◌≡◌, ◌<◌, ◌-◌, ℕ, zero, suc, List, Some, length, slice_get, arith}
+use Rattle.std.proofs.lemmas.Option.{slice_get_within}
 use Rattle.wb_small.specs.declared.numbered.SmallSpec.{SmallSpec}
 use Rattle.wb_small.specs.declared.numbered.SmallNode.{SmallNode}
 use Rattle.wb_small.specs.declared.numbered.SmallNode.TheVariants.{Int, Child, Read, Add}
@@ -8,16 +8,16 @@ use Rattle.wb_small.specs.declared.term.SmallTerm.{SmallTerm}
 use Rattle.wb_small.specs.declared.term.SmallValue.{SmallValue}
 use Rattle.wb_small.specs.Nodes.{IsExpression}
 use Rattle.wb_small.specs.SmallSpec.{IsSmallSpec}
-use Rattle.wb_small.specs.SmallTerm.{FitsNode, IsSmallTerm}
+use Rattle.wb_small.specs.SmallTerm.{IsSmallTerm}
 use Rattle.wb_eval.specs.declared.answer.SmallAnswer.{SmallAnswer}
-use Rattle.wb_eval.specs.declared.answer.SmallAnswer.TheVariants.{Value, Fault}
+use Rattle.wb_eval.specs.declared.answer.SmallAnswer.TheVariants.{Value}
 use Rattle.wb_eval.specs.Answer.{HasAnswer, int, child, read, IsAnswer, HasOneAnswer}
 use Rattle.wb_eval.specs.Asked.{OccursAt}
 use Rattle.wb_eval.specs.Rows.{CanRead, CanReadAll}
-use Rattle.wb_eval.proofs.Equations.{EquationThere, equation_there}
-use Rattle.wb_eval.proofs.Lists.{Stands, stands}
+use Rattle.wb_eval.proofs.Equations.{equation_there}
+use Rattle.wb_eval.proofs.Lists.{stands}
 use Rattle.wb_eval.proofs.Reading.{can_read_all}
-use Rattle.wb_eval.proofs.Sums.{Sum, sum_of, added}
+use Rattle.wb_eval.proofs.Sums.{sum_of, added}
 use Rattle.wb_eval.proofs.Uniqueness.{one_answer_at}
 
 module _ (spec : SmallSpec) (term : SmallTerm) where

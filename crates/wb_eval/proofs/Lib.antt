@@ -1,9 +1,9 @@
 mod AskedLemmas
 mod Equations
-mod Existence
+pub mod Existence
 mod Lists
 mod Reading
 mod RowLemmas
 mod Sums
 mod TargetLemmas
-mod Uniqueness
+pub mod Uniqueness

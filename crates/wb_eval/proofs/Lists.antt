@@ -1,8 +1,8 @@
 -- What stands at a place of a list: behind a push, among the first ones, and beside it in another list.
-use Rattle.std.proofs.Common.{◌≡◌, ◌<◌, ◌-◌, ◌++◌, ◌∷◌, ◌⊎◌, [], ℕ, zero, suc, List, Some, length, take, slice_get, get_or, Contains, All, refl, sym, subst, inl, inr, arith}
+use Rattle.std.proofs.Common.{◌≡◌, ◌<◌, ◌-◌, ◌++◌, ◌∷◌, ◌⊎◌, [], ℕ, zero, suc, List, Some, length, take, slice_get, get_or, Contains, All, refl, sym, subst, arith}
 use Rattle.std.specs.List.{AllZip}
 use Rattle.std.proofs.lemmas.Grind.{common_steps}
-use Rattle.std.proofs.lemmas.Option.{gets, slice_get_within, slice_get_read, get_or_from_slice_get, slice_get-get_or}
+use Rattle.std.proofs.lemmas.Option.{gets, slice_get_within, slice_get_read, get_or_from_slice_get}
 
 -- what stands in a list with one more
 pub at_push : {X : Type 0} (xs : List X) (x y : X) (i : ℕ) → slice_get (xs ++ x ∷ []) i ≡ Some y → (slice_get xs i ≡ Some y) ⊎ ((i ≡ length xs) × (x ≡ y))
@@ -20,6 +20,7 @@ pub record Stands {X : Type 0} (xs : List X) (i : ℕ) : Type 0 where
   pub element : X
   pub at : slice_get xs i ≡ Some element
 
+-- each place in range has one
 pub stands : {X : Type 0} (xs : List X) (i : ℕ) → i < length xs → Stands xs i
 stands [] i within = absurd (omega arith)
 stands (x ∷ xs) zero within = record { element = x; at = refl }
@@ -47,6 +48,7 @@ pub record Beside {A B : Type 0} (R : A → B → Type 0) (xs : List A) (y : B) 
   pub at : slice_get xs i ≡ Some other
   pub related : R other y
 
+-- an element of the second list has one beside it
 pub beside : {A B : Type 0} (R : A → B → Type 0) (xs : List A) (ys : List B) (i : ℕ) (y : B) → AllZip R xs ys → slice_get ys i ≡ Some y → Beside R xs y i
 beside R [] [] i y all at = absurd (cc at)
 beside R [] (z ∷ ys) i y all at = absurd all

@@ -1,6 +1,6 @@
 -- What a node of an expression reads is there, and gives its answer.
 use Rattle.std.proofs.Common.{◌≡◌, ◌<◌, ℕ, ℤ, List, Option, Some, None, length, take, slice_get, get_or, refl, sym, ap, ◌∙◌, subst}
-use Rattle.std.proofs.lemmas.Option.{get_or_from_slice_get, slice_get_within}
+use Rattle.std.proofs.lemmas.Option.{get_or_from_slice_get}
 use Rattle.wb_small.specs.declared.numbered.SmallSpec.{SmallSpec}
 use Rattle.wb_small.specs.declared.numbered.SmallProduction.{SmallProduction}
 use Rattle.wb_small.specs.declared.numbered.SmallChild.{SmallChild}
@@ -11,12 +11,11 @@ use Rattle.wb_small.specs.declared.term.SmallTerm.{SmallTerm}
 use Rattle.wb_small.specs.declared.term.SmallTermNode.{SmallTermNode}
 use Rattle.wb_small.specs.declared.term.SmallValue.{SmallValue}
 use Rattle.wb_small.specs.declared.term.SmallValue.TheVariants.{Int as Number, Node as Tree}
-use Rattle.wb_small.specs.SmallSpec.{IsSmallSpec, IsSmallProduction, IsSmallEquation, IsSmallNode, OccursOn}
+use Rattle.wb_small.specs.SmallSpec.{IsSmallSpec, IsSmallProduction, IsSmallEquation, IsSmallNode}
 use Rattle.wb_small.specs.SmallTerm.{IsNodeOf, FitsKind, FitsChildren, FitsNode}
 use Rattle.wb_eval.specs.declared.answer.SmallAnswer.{SmallAnswer}
-use Rattle.wb_eval.specs.declared.answer.SmallAnswer.TheVariants.{Value, Fault}
+use Rattle.wb_eval.specs.declared.answer.SmallAnswer.TheVariants.{Value}
 use Rattle.wb_eval.specs.Answer.{HasAnswer, child, read, IsAnswer}
-use Rattle.wb_eval.specs.Asked.{OccursAt}
 use Rattle.wb_eval.specs.Rows.{CanRead, CanReadAll}
 use Rattle.wb_eval.proofs.Lists.{one_at, at_take, all_at, Beside, beside}
 
@@ -77,27 +76,6 @@ module _ (spec : SmallSpec) (term : SmallTerm) (known : ℕ) (children : List Sm
       let there : CanRead spec term known children (Child k) = subst (λ (n : SmallNode). CanRead spec term known children n) is reads in
       let same : Number there.0 ≡ Number z = sym (get_or_from_slice_get children k (Number there.0) d there.1) ∙ found in
       subst (λ (n : SmallNode). HasAnswer spec term children expression n (Value z)) (sym is) (child (there.1 ∙ ap Some same))
-
-  -- a node that reads a tree doesn't find a number
-  pub child_is_no_tree : (node : SmallNode) (k place : ℕ) (d : SmallValue) → CanRead spec term known children node → node ≡ Child k → get_or children k d ≡ Tree place → ⊥
-  child_is_no_tree node k place d reads is found =
-      let there : CanRead spec term known children (Child k) = subst (λ (n : SmallNode). CanRead spec term known children n) is reads in
-      let same : Number there.0 ≡ Tree place = sym (get_or_from_slice_get children k (Number there.0) d there.1) ∙ found in
-      absurd (cc)
-
-  pub read_is_no_number : (node : SmallNode) (k attribute : ℕ) (z : ℤ) (d : SmallValue) → CanRead spec term known children node → node ≡ Read k attribute → get_or children k d ≡ Number z → ⊥
-  read_is_no_number node k attribute z d reads is found =
-      let there : CanRead spec term known children (Read k attribute) = subst (λ (n : SmallNode). CanRead spec term known children n) is reads in
-      let same : Tree there.0 ≡ Number z = sym (get_or_from_slice_get children k (Tree there.0) d there.1) ∙ found in
-      absurd (cc)
-
-  -- where the attribute is read, it occurs, and its answer is known
-  pub read_there : (node : SmallNode) (k attribute place : ℕ) (d : SmallValue) → CanRead spec term known children node → node ≡ Read k attribute → get_or children k d ≡ Tree place → (place < known) × OccursAt spec term place attribute
-  read_there node k attribute place d reads is found =
-      let there : CanRead spec term known children (Read k attribute) = subst (λ (n : SmallNode). CanRead spec term known children n) is reads in
-      let same : Tree there.0 ≡ Tree place = sym (get_or_from_slice_get children k (Tree there.0) d there.1) ∙ found in
-      let here : there.0 ≡ place = cc in
-      (subst (λ (q : ℕ). q < known) here there.2, subst (λ (q : ℕ). OccursAt spec term q attribute) here there.3)
 
   -- a node that reads an attribute has the attribute's answer
   pub read_answer : (node : SmallNode) (k attribute place : ℕ) (d : SmallValue) (answer : SmallAnswer) → CanRead spec term known children node → node ≡ Read k attribute → get_or children k d ≡ Tree place → IsAnswer spec term place attribute answer → HasAnswer spec term children expression node answer

@@ -1,5 +1,5 @@
 -- What rows know, and what one more answer or one more row adds.
-use Rattle.std.proofs.Common.{◌≡◌, ◌<◌, ◌≤◌, ◌-◌, ◌++◌, ◌∷◌, ◌⊎◌, ◌+◌, [], ℕ, List, Some, length, take, slice_get, get_or, inl, inr, refl, sym, ap, ◌∙◌, subst, arith}
+use Rattle.std.proofs.Common.{◌≡◌, ◌<◌, ◌≤◌, ◌-◌, ◌++◌, ◌∷◌, ◌⊎◌, [], ℕ, List, Some, length, slice_get, get_or, inl, inr, refl, sym, ap, ◌∙◌, subst, arith}
 use Rattle.std.proofs.lemmas.Option.{slice_get-get_or, slice_get_within, slice_get_read}
 use Rattle.wb_small.specs.declared.numbered.SmallSpec.{SmallSpec}
 use Rattle.wb_small.specs.declared.numbered.SmallProduction.{SmallProduction}
@@ -14,13 +14,14 @@ use Rattle.wb_small.specs.SmallSpec.{targets_of}
 use Rattle.wb_eval.specs.declared.answer.SmallAnswer.{SmallAnswer}
 use Rattle.wb_eval.specs.Answer.{HasAnswer, HasEquationAnswer, IsAnswer}
 use Rattle.wb_eval.specs.Asked.{OccursAt}
-use Rattle.wb_eval.specs.Rows.{AreParts, AreAnswers, AreRows, IsRow, IsRowOf, IsSum}
+use Rattle.wb_eval.specs.Rows.{AreParts, AreRows, IsRow, IsRowOf, IsSum}
 use Rattle.wb_eval.proofs.Lists.{stands, one_at, at_push, contains_at, read_at}
 use Rattle.wb_eval.proofs.Sums.{added}
 use Rattle.wb_eval.proofs.Equations.{target_within, equation_of}
 
--- one answer more of equally many elements
+-- answers of the elements at their places
 module _ {X : Type 0} (xs : List X) (P : X → SmallAnswer → Type 0) where
+  -- the answers so far and one more
   pub more : (answers : List SmallAnswer) (x : X) (answer : SmallAnswer) → ((i : ℕ) (y : X) (b : SmallAnswer) → slice_get xs i ≡ Some y → slice_get answers i ≡ Some b → P y b) → slice_get xs (length answers) ≡ Some x → P x answer →
       (i : ℕ) (y : X) (b : SmallAnswer) → slice_get xs i ≡ Some y → slice_get (answers ++ answer ∷ []) i ≡ Some b → P y b
   more answers x answer known at new i y b there found = cases (at_push answers answer b i found) where
@@ -48,6 +49,7 @@ pub record Known (spec : SmallSpec) (term : SmallTerm) (place attribute : ℕ) (
   pub target : slice_get (targets_of production.equations) number ≡ Some attribute
 
 module _ (spec : SmallSpec) (term : SmallTerm) (place attribute : ℕ) (node : SmallTermNode) (row : List SmallAnswer) (number : ℕ) where
+  -- what was read of the rows is known
   pub row_known : (rows : List (List SmallAnswer)) (nodes : List SmallTermNode) (found : List SmallAnswer) → AreRows spec term rows → OccursAt spec term place attribute → nodes ≡ term.nodes → node ≡ get_or nodes place node →
       ((p : SmallProduction) → slice_get spec.productions node.production ≡ Some p → slice_get (targets_of p.equations) number ≡ Some attribute) → place < length rows → found ≡ get_or rows place found → row ≡ found → Known spec term place attribute node row number
   row_known rows nodes found known occurs same is target within at equal =
@@ -63,9 +65,11 @@ module _ (spec : SmallSpec) (term : SmallTerm) (place attribute : ℕ) (node : S
         target = target p its;
       }
 
+  -- the number stands in the row
   pub number_within : Known spec term place attribute node row number → number < length row
   number_within known = omega (arith, target_within known.production.equations number attribute known.target, known.is.count)
 
+  -- and has the attribute's answer there
   pub row_answer : (d : SmallAnswer) → Known spec term place attribute node row number → IsAnswer spec term place attribute (get_or row number d)
   row_answer d known =
       let one = stands known.production.equations number (target_within known.production.equations number attribute known.target) in

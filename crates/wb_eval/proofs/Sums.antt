@@ -1,5 +1,5 @@
 -- Two answers have a sum, and it is the answer of the node that adds them.
-use Rattle.std.proofs.Common.{◌≡◌, ◌<◌, ◌≤◌, ◌⊎◌, ◌^◌, ◌+ℤ◌, ℕ, ℤ, List, Some, slice_get, inl, inr, refl, sym, subst, arith, pos, negsuc}
+use Rattle.std.proofs.Common.{◌≡◌, ◌<◌, ◌⊎◌, ◌^◌, ◌+ℤ◌, ℕ, ℤ, List, Some, slice_get, inl, inr, refl, sym, subst, arith, pos, negsuc}
 use Rattle.std.specs.Prelude.{FitsSigned}
 use Rattle.std.specs.Int.{w64}
 use Rattle.std.proofs.lemmas.Int.{ints}
@@ -30,6 +30,7 @@ pub record Sum (first second : SmallAnswer) : Type 0 where
   pub answer : SmallAnswer
   pub is : IsSum first second answer
 
+-- there is one
 pub sum_of : (first second : SmallAnswer) → Sum first second
 sum_of (Fault code) second = record { answer = Fault code; is = refl }
 sum_of (Value u) (Fault code) = record { answer = Fault code; is = refl }

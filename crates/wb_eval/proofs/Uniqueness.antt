@@ -39,6 +39,7 @@ module _ (spec : SmallSpec) (term : SmallTerm) (rules : IsSmallSpec spec) where
       subst (λ (g : SmallEquation). HasAnswer spec term m.children g.nodes w a) same.equation (subst (λ (o : SmallTermNode). HasAnswer spec term o.children f.nodes w a) same.node has) in
       at_one m.children e.nodes (length e.nodes - 1) v w a last (subst (λ (g : SmallEquation). IsWhole g.nodes w) same.equation last') moved
 
+  -- a node of an expression has one answer
   pub one_answer : (children : List SmallValue) (expression : List SmallNode) (node : SmallNode) (a b : SmallAnswer) → HasAnswer spec term children expression node a → HasAnswer spec term children expression node b → a ≡ b
   one_answer children expression (Int z) a b int int = refl
   one_answer children expression (Child k) a b (child {z = z} at) (child {z = z'} at') = let e : Some (Number z) ≡ Some (Number z') = sym at ∙ at' in cc

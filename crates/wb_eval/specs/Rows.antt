@@ -1,4 +1,4 @@
--- Answers that are known, in the order of the nodes and equations that have them.
+-- How answers are kept: by place of the node in the term, and by place of the equation in its production.
 use Rattle.std.specs.Prelude.{◌≡◌, ◌<◌, ◌+ℤ◌, ℕ, ℤ, List, Some, slice_get, length, map, FitsSigned}
 use Rattle.std.specs.Int.{w64}
 use Rattle.wb_small.specs.declared.numbered.SmallSpec.{SmallSpec}
@@ -21,33 +21,33 @@ use Rattle.wb_eval.specs.Asked.{OccursAt}
 abbrev pub targets_by : SmallProduction → List ℕ
 targets_by production = targets_of production.equations
 
--- no two equations of a production are for one attribute
-abbrev pub HaveTargets : SmallProduction → Type 0
-HaveTargets production = Differ (targets_by production)
+-- no two equations of the production are for one attribute
+abbrev pub TargetsDiffer : SmallProduction → Type 0
+TargetsDiffer production = Differ (targets_by production)
 
 -- the host keeps its rules, and these are the targets of its productions
 pub record IsIndexed (spec : SmallSpec) (sets : List (List ℕ)) : Type 0 where
   pub rules : IsSmallSpec spec
   pub each : sets ≡ map targets_by spec.productions
 
--- these are answers of the first nodes of the expression, one each
+-- each of these answers is that of the node at its place in the expression, where one stands there
 abbrev pub AreParts : SmallSpec → SmallTerm → List SmallValue → List SmallNode → List SmallAnswer → Type 0
 AreParts spec term children expression answers = (place : ℕ) (node : SmallNode) (answer : SmallAnswer) → slice_get expression place ≡ Some node → slice_get answers place ≡ Some answer → HasAnswer spec term children expression node answer
 
--- these are answers of the first equations, one each
+-- each of these answers is that of the equation at its place, where one stands there
 abbrev pub AreAnswers : SmallSpec → SmallTerm → List SmallValue → List SmallEquation → List SmallAnswer → Type 0
 AreAnswers spec term children equations answers = (place : ℕ) (equation : SmallEquation) (answer : SmallAnswer) → slice_get equations place ≡ Some equation → slice_get answers place ≡ Some answer → HasEquationAnswer spec term children equation answer
 
--- a row has an answer for each equation
+-- a row has the answer of each equation, at its place
 pub record IsRow (spec : SmallSpec) (term : SmallTerm) (children : List SmallValue) (equations : List SmallEquation) (row : List SmallAnswer) : Type 0 where
   pub count : length row ≡ length equations
   pub answers : AreAnswers spec term children equations row
 
--- the row of a node has an answer for each equation of its production
+-- the row of a node has the answer of each equation of its production
 abbrev pub IsRowOf : SmallSpec → SmallTerm → SmallTermNode → List SmallAnswer → Type 0
 IsRowOf spec term node row = (production : SmallProduction) → slice_get spec.productions node.production ≡ Some production → IsRow spec term node.children production.equations row
 
--- the rows are those of the term's first nodes, one each
+-- each of these rows is that of the node at its place in the term, where one stands there
 abbrev pub AreRows : SmallSpec → SmallTerm → List (List SmallAnswer) → Type 0
 AreRows spec term rows = (place : ℕ) (node : SmallTermNode) (row : List SmallAnswer) → slice_get term.nodes place ≡ Some node → slice_get rows place ≡ Some row → IsRowOf spec term node row
 

@@ -1,7 +1,7 @@
 ghost use Rattle.std.specs.Prelude.{◌≡◌, ◌<◌, Some, slice_get, length, map, All, Contains, IfOk};
-ghost use Rattle.wb_small.specs.SmallSpec.{IsSmallSpec, targets_of};
+ghost use Rattle.wb_small.specs.SmallSpec.{targets_of};
 ghost use Rattle.wb_small.specs.declared.numbered.SmallProduction.{SmallProduction};
-ghost use Rattle.wb_eval.specs.Rows.{HaveTargets, IsIndexed, targets_by};
+ghost use Rattle.wb_eval.specs.Rows.{TargetsDiffer, IsIndexed, targets_by};
 
 use crate::push::push;
 use crate::targets::Targets;
@@ -40,7 +40,7 @@ pub(crate) fn targets_of_all(
     alloc: Global,
     productions: &[SmallProduction],
 ) -> Result<Vec<Targets>, AllocError>
-    requires { All HaveTargets productions.now }
+    requires { All TargetsDiffer productions.now }
     ensures { IfOk result (λ targets. targets.items ≡ map targets_by productions.now) }
 {
     let mut all = Vec::new(alloc);

@@ -1,4 +1,4 @@
-ghost use Rattle.std.specs.Prelude.{◌≡◌, ◌<◌, Some, slice_get, length};
+ghost use Rattle.std.specs.Prelude.{◌<◌, length};
 ghost use Rattle.wb_eval.specs.Answer.{IsAnswer};
 ghost use Rattle.wb_eval.specs.Asked.{OccursAt};
 ghost use Rattle.wb_eval.specs.Rows.{AreRows, IsIndexed};

@@ -1,5 +1,5 @@
 -- A text spells one host at most, since it has one outcome.
-use Rattle.std.proofs.Common.{◌≡◌, ℕ, List, refl, sym, ap, ◌∙◌, subst}
+use Rattle.std.proofs.Common.{◌≡◌, ℕ, List, sym, ap, ◌∙◌, subst}
 use Rattle.wb_predictive.specs.declared.reading.Outcome.{Outcome}
 use Rattle.wb_predictive.specs.declared.reading.Outcome.TheVariants.{Whole, Stopped}
 use Rattle.wb_predictive.specs.Reading.{IsReading, IsOutcome}

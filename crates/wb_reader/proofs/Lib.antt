@@ -1,3 +1,4 @@
+pub mod CallerLemmas
 mod HostTextLemmas
 mod Refusals
 mod TermTextLemmas

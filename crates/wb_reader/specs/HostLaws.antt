@@ -1,5 +1,5 @@
 -- The laws of the table of small hosts.
-use Rattle.std.proofs.Common.{◌≡◌, ℕ, List, [], ◌∷◌, Bool, true, false, refl, ℤ, pos}
+use Rattle.std.proofs.Common.{◌≡◌, [], true, false, refl, pos}
 use Rattle.std.specs.Prelude.{codes}
 use denote.Enum.Bare.{sameb}
 use Rattle.wb_reader.specs.contracts.host_rules.Kind.{the_type}
@@ -10,10 +10,10 @@ use Rattle.wb_tokens.specs.declared.token.Token.TheVariants as t
 use Rattle.wb_tokens.specs.declared.word.Word.TheVariants as w
 use Rattle.wb_tokens.specs.declared.punctuation.Punctuation.TheVariants as p
 use Rattle.wb_reader.specs.declared.host_rules.Kind.{Kind}
-use Rattle.wb_reader.specs.declared.host_rules.Kind.TheVariants as Kind
 use Rattle.wb_reader.specs.declared.host_rules.Part.{Part}
-use Rattle.wb_reader.specs.declared.host_rules.Part.TheVariants as Part
-use Rattle.wb_reader.specs.SmallHostGrammar.{kind_of, host_rights, host_entries}
+use Rattle.wb_reader.specs.HostEntries.{host_entries}
+use Rattle.wb_reader.specs.HostKinds.{kind_of}
+use Rattle.wb_reader.specs.SmallHostGrammar.{host_rights}
 
 -- one token of lookahead decides
 pub host_decided : (n : Part) → is_decided (sameb the_type) Kind.End host_entries host_rights n ≡ true

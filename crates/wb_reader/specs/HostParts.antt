@@ -1,5 +1,5 @@
 -- What each step of a reading makes of a host's parts.
-use Rattle.std.specs.Prelude.{ℕ, ◌-◌, ℤ, pos, List, [], ◌∷◌, ◌++◌, Some, None, length}
+use Rattle.std.specs.Prelude.{ℕ, ◌-◌, pos, List, [], ◌∷◌, ◌++◌, Some, None, length}
 use Rattle.wb_small.specs.declared.named.NamedHost.{NamedHost}
 use Rattle.wb_small.specs.declared.named.NamedNode.{NamedNode}
 use Rattle.wb_small.specs.declared.named.NamedNode.TheVariants.{Int, Child, Read, Add}

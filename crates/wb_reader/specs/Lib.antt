@@ -1,3 +1,5 @@
+pub mod HostEntries
+pub mod HostKinds
 pub mod HostLaws
 pub mod HostParts
 pub mod Next
@@ -6,5 +8,6 @@ pub mod SmallHostGrammar
 pub mod SmallHostText
 pub mod SmallTermGrammar
 pub mod SmallTermText
+pub mod TermEntries
 pub mod TermLaws
 pub mod TermParts

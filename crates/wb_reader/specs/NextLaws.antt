@@ -1,5 +1,5 @@
 -- One thing stands next, and a token ends behind the place from which it was looked for.
-use Rattle.std.proofs.Common.{◌≡◌, ◌<◌, ◌≤◌, ◌+◌, ℕ, List, refl, sym, ap, length, arith}
+use Rattle.std.proofs.Common.{◌≡◌, ◌<◌, ◌≤◌, ℕ, List, ap, length, arith}
 use Rattle.wb_predictive.specs.declared.table.Placed.{Placed}
 use Rattle.wb_predictive.specs.declared.table.Next.{Next}
 use Rattle.wb_predictive.specs.declared.table.Next.TheVariants.{Found, End, NoToken}

@@ -1,20 +1,16 @@
 -- The grammar of small terms, as a table: its kinds of tokens, its rules, and what each makes of a term's parts.
-use Rattle.std.specs.Prelude.{ℕ, List, [], ◌∷◌, true, false}
+use Rattle.std.specs.Prelude.{ℕ, List, [], ◌∷◌}
 use Rattle.wb_predictive.specs.declared.symbol.Symbol.{Symbol}
 use Rattle.wb_predictive.specs.declared.symbol.Symbol.TheVariants.{Token, Nonterminal, Act}
 use Rattle.wb_predictive.specs.Grammar.{Grammar}
-use Rattle.wb_predictive.specs.Entries.{Entry}
 use Rattle.wb_tokens.specs.declared.token.Token.{Token as Lexeme}
 use Rattle.wb_tokens.specs.declared.token.Token.TheVariants as t
 use Rattle.wb_tokens.specs.declared.punctuation.Punctuation.{Punctuation}
 use Rattle.wb_tokens.specs.declared.punctuation.Punctuation.TheVariants as p
 use Rattle.wb_small.specs.declared.term.SmallValue.TheVariants as SmallValue
 use Rattle.wb_reader.specs.declared.term_rules.Kind.{Kind}
-use Rattle.wb_reader.specs.declared.term_rules.Kind.TheVariants as Kind
 use Rattle.wb_reader.specs.declared.term_rules.Part.{Part}
-use Rattle.wb_reader.specs.declared.term_rules.Part.TheVariants as Part
 use Rattle.wb_reader.specs.declared.term_rules.Action.{Action}
-use Rattle.wb_reader.specs.declared.term_rules.Action.TheVariants as Action
 use Rattle.wb_reader.specs.declared.term_builder.TermBuilder.{TermBuilder}
 use Rattle.wb_reader.specs.TermParts.{named, with_child, with_open, with_node, qualified, with_tree}
 
@@ -63,12 +59,3 @@ term_rights Part.Argument = (Token Kind.Int ∷ []) ∷ (Nonterminal Part.Term �
 -- the grammar
 abbrev pub term_grammar : Grammar Kind Part Action Lexeme TermBuilder
 term_grammar = record { start = Part.Term; rights = term_rights; kind_of = kind_of; shift = shift; act = act }
-
--- what is given of each nonterminal
-unfoldable pub term_entries : Part → Entry Kind
-term_entries Part.Term = record { kinds = (Kind.Name ∷ []) ∷ []; nullable = false; first = Kind.Name ∷ []; follow = Kind.CloseParenthesis ∷ Kind.Comma ∷ Kind.End ∷ []; rank = 2; weight = 2 }
-term_entries Part.Head = record { kinds = (Kind.Name ∷ []) ∷ []; nullable = false; first = Kind.Name ∷ []; follow = Kind.OpenParenthesis ∷ []; rank = 1; weight = 1 }
-term_entries Part.Owner = record { kinds = (Kind.OpenParenthesis ∷ []) ∷ (Kind.Colon ∷ []) ∷ []; nullable = true; first = Kind.Colon ∷ []; follow = Kind.OpenParenthesis ∷ []; rank = 0; weight = 1 }
-term_entries Part.Arguments = record { kinds = (Kind.CloseParenthesis ∷ []) ∷ (Kind.Name ∷ Kind.Int ∷ []) ∷ []; nullable = true; first = Kind.Name ∷ Kind.Int ∷ []; follow = Kind.CloseParenthesis ∷ []; rank = 0; weight = 4 }
-term_entries Part.More = record { kinds = (Kind.CloseParenthesis ∷ []) ∷ (Kind.Comma ∷ []) ∷ []; nullable = true; first = Kind.Comma ∷ []; follow = Kind.CloseParenthesis ∷ []; rank = 0; weight = 1 }
-term_entries Part.Argument = record { kinds = (Kind.Int ∷ []) ∷ (Kind.Name ∷ []) ∷ []; nullable = false; first = Kind.Name ∷ Kind.Int ∷ []; follow = Kind.CloseParenthesis ∷ Kind.Comma ∷ []; rank = 0; weight = 3 }

@@ -1,5 +1,5 @@
 -- The laws of the table of small terms.
-use Rattle.std.proofs.Common.{◌≡◌, ℕ, List, [], ◌∷◌, Bool, true, false, refl, ℤ, pos}
+use Rattle.std.proofs.Common.{◌≡◌, [], true, false, refl, pos}
 use denote.Enum.Bare.{sameb}
 use Rattle.wb_reader.specs.contracts.term_rules.Kind.{the_type}
 use Rattle.wb_predictive.specs.Entries.{is_decided}
@@ -8,10 +8,9 @@ use Rattle.wb_tokens.specs.declared.token.Token.{Token as Lexeme}
 use Rattle.wb_tokens.specs.declared.token.Token.TheVariants as t
 use Rattle.wb_tokens.specs.declared.punctuation.Punctuation.TheVariants as p
 use Rattle.wb_reader.specs.declared.term_rules.Kind.{Kind}
-use Rattle.wb_reader.specs.declared.term_rules.Kind.TheVariants as Kind
 use Rattle.wb_reader.specs.declared.term_rules.Part.{Part}
-use Rattle.wb_reader.specs.declared.term_rules.Part.TheVariants as Part
-use Rattle.wb_reader.specs.SmallTermGrammar.{kind_of, term_rights, term_entries}
+use Rattle.wb_reader.specs.SmallTermGrammar.{kind_of, term_rights}
+use Rattle.wb_reader.specs.TermEntries.{term_entries}
 
 -- one token of lookahead decides
 pub term_decided : (n : Part) → is_decided (sameb the_type) Kind.End term_entries term_rights n ≡ true

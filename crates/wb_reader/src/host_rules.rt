@@ -1,4 +1,15 @@
 //! The grammar of small hosts, as a table.
+//!
+//! ```text
+//! file       = 'format' 1 ';' 'host' NAME ';' item*
+//! item       = 'nonterminal' NAME ';'
+//!            | 'syn' NAME ':' 'int' ';'
+//!            | 'occurs' NAME 'on' NAME ';'
+//!            | 'abstract' NAME ':' NAME '::=' child* '{' equation* '}'
+//! child      = NAME ':' ('int' | NAME)
+//! equation   = 'top' '.' NAME '=' expression ';'
+//! expression = INT | NAME | NAME '.' NAME | '@' 'add' '(' expression ',' expression ')'
+//! ```
 
 use wb_predictive::Rule;
 use wb_predictive::Symbol::{Act, Nonterminal, Token};

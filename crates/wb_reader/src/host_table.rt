@@ -3,7 +3,9 @@
 ghost use Rattle.std.specs.Prelude.{◌≡◌};
 ghost use denote.Enum.Bare.{same_true, true_same};
 ghost use Rattle.wb_reader.specs.contracts.host_rules.Kind.{the_type};
-ghost use Rattle.wb_reader.specs.SmallHostGrammar.{name_kind, integer_kind, word_kind, mark_kind, host_grammar, host_entries};
+ghost use Rattle.wb_reader.specs.HostEntries.{host_entries};
+ghost use Rattle.wb_reader.specs.HostKinds.{name_kind, integer_kind, word_kind, mark_kind};
+ghost use Rattle.wb_reader.specs.SmallHostGrammar.{host_grammar};
 ghost use Rattle.wb_reader.specs.Next.{IsNextIn};
 ghost use Rattle.wb_reader.specs.NextLaws.{one_next, advances};
 ghost use Rattle.wb_reader.specs.HostLaws.{host_sampled, host_decided, host_ends};
@@ -129,7 +131,7 @@ impl Table for HostTable {
         }
     }
 
-    #[tactic(auto, unfolding(crate::specs::SmallHostGrammar::host_rights, crate::specs::SmallHostGrammar::host_entries))]
+    #[tactic(auto, unfolding(crate::specs::SmallHostGrammar::host_rights, crate::specs::HostEntries::host_entries))]
     fn rules(&self, part: Part) -> &[Rule<'_, Kind, Part, Action>] {
         match part {
             Part::File => &FILE,

@@ -36,6 +36,7 @@ fn named_host(alloc: Global, bytes: &[u8]) -> Result<Option<NamedHost>, AllocErr
 /// bytes.
 pub fn read_small_spec(alloc: Global, bytes: &[u8]) -> Result<SmallSpec, SmallRefusal>
     ensures ok { IfOk result (λ spec. IsSmallHostText bytes.now spec) }
+    ensures only { IfOk result (λ spec. (other : SmallSpec) → IsSmallHostText bytes.now other → other ≡ spec) }
     ensures refused { IfErr result (λ e. OnRefused e ((spec : SmallSpec) → ¬ IsSmallHostText bytes.now spec)) }
 {
     if bytes.len() > LIMIT {

@@ -42,6 +42,7 @@ pub fn read_small_term(
 ) -> Result<SmallTerm, SmallRefusal>
     requires { IsSmallSpec spec.now }
     ensures ok { IfOk result (λ term. IsSmallTermText spec.now bytes.now term) }
+    ensures only { IfOk result (λ term. (other : SmallTerm) → IsSmallTermText spec.now bytes.now other → other ≡ term) }
     ensures refused { IfErr result (λ e. OnRefused e ((term : SmallTerm) → ¬ IsSmallTermText spec.now bytes.now term)) }
 {
     if bytes.len() > LIMIT {

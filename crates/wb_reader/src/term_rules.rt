@@ -1,4 +1,9 @@
 //! The grammar of small terms, as a table.
+//!
+//! ```text
+//! term     = NAME [':' NAME] '(' [argument (',' argument)*] ')'
+//! argument = INT | term
+//! ```
 
 use wb_predictive::Rule;
 use wb_predictive::Symbol::{Act, Nonterminal, Token};

@@ -3,7 +3,8 @@
 ghost use Rattle.std.specs.Prelude.{◌≡◌};
 ghost use denote.Enum.Bare.{same_true, true_same};
 ghost use Rattle.wb_reader.specs.contracts.term_rules.Kind.{the_type};
-ghost use Rattle.wb_reader.specs.SmallTermGrammar.{mark_kind, term_grammar, term_entries};
+ghost use Rattle.wb_reader.specs.SmallTermGrammar.{mark_kind, term_grammar};
+ghost use Rattle.wb_reader.specs.TermEntries.{term_entries};
 ghost use Rattle.wb_reader.specs.Next.{IsNextIn};
 ghost use Rattle.wb_reader.specs.NextLaws.{one_next, advances};
 ghost use Rattle.wb_reader.specs.TermLaws.{term_sampled, term_decided, term_ends};
@@ -85,7 +86,7 @@ impl Table for TermTable {
         }
     }
 
-    #[tactic(auto, unfolding(crate::specs::SmallTermGrammar::term_rights, crate::specs::SmallTermGrammar::term_entries))]
+    #[tactic(auto, unfolding(crate::specs::SmallTermGrammar::term_rights, crate::specs::TermEntries::term_entries))]
     fn rules(&self, part: Part) -> &[Rule<'_, Kind, Part, Action>] {
         match part {
             Part::Term => &TERM,

@@ -1,3 +1,4 @@
+pub mod CallerLemmas
 mod ChildrenLemmas
 mod DifferLemmas
 mod EquationLemmas
@@ -7,6 +8,7 @@ mod IndexLemmas
 mod NumberSetLemmas
 mod OccurrenceLemmas
 mod OccurrencesLemmas
+mod OneLemmas
 mod ProductionLemmas
 mod Refusals
 mod TermLemmas

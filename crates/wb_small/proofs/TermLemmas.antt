@@ -174,3 +174,9 @@ no_root spec named nodes become none term is =
     let other : length term.nodes ≡ length named.nodes = AllZip-long (NumbersTermNode spec.productions) named.nodes term.nodes is.nodes in
     let root : 0 < length term.nodes = is.rules.root in
     absurd (omega (arith, long, other, root, none))
+
+-- nodes that terms with names become make one term
+pub only_term : (spec : SmallSpec) (named : NamedTerm) (nodes : List SmallTermNode) → Differ (names_of spec.productions) → BecomeTermNodes spec.productions named.nodes nodes → (other : SmallTerm) → IsSmallTermOf spec named other → other ≡ record { nodes = nodes }
+only_term spec named nodes differ become other is = ap made (one_nodes spec.productions differ named.nodes other.nodes nodes is.nodes become.numbers) where
+  made : List SmallTermNode → SmallTerm
+  made ns = record { nodes = ns }

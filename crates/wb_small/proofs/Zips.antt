@@ -55,3 +55,12 @@ zip_map R f g same [] [] all = refl
 zip_map R f g same [] (y ∷ ys) all = absurd all
 zip_map R f g same (x ∷ xs) [] all = absurd all
 zip_map R f g same (x ∷ xs) (y ∷ ys) all = ap (λ zs. g y ∷ zs) (zip_map R f g same xs ys all.1) ∙ ap (λ z. z ∷ map f xs) (same x y all.0)
+
+-- where each element is related to one, the second list is one
+pub one_zip : {A B : Type 0} (R : A → B → Type 0) → ((x : A) (y z : B) → R x y → R x z → y ≡ z) → (xs : List A) (ys zs : List B) → AllZip R xs ys → AllZip R xs zs → ys ≡ zs
+one_zip R one [] [] [] first second = refl
+one_zip R one [] [] (z ∷ zs) first second = absurd second
+one_zip R one [] (y ∷ ys) zs first second = absurd first
+one_zip R one (x ∷ xs) [] zs first second = absurd first
+one_zip R one (x ∷ xs) (y ∷ ys) [] first second = absurd second
+one_zip R one (x ∷ xs) (y ∷ ys) (z ∷ zs) first second = ap (λ w. w ∷ ys) (one x y z first.0 second.0) ∙ ap (λ ws. z ∷ ws) (one_zip R one xs ys zs first.1 second.1)

@@ -1,7 +1,5 @@
 -- Expressions as lists of nodes.
 use Rattle.std.specs.Prelude.{◌≡◌, ◌<◌, ℕ, List, Some, slice_get, length}
-use Rattle.wb_small.specs.declared.named.NamedNode.{NamedNode}
-use Rattle.wb_small.specs.declared.named.NamedNode.TheVariants.{Int as NamedInt, Child as NamedChild, Read as NamedRead, Add as NamedAdd}
 use Rattle.wb_small.specs.declared.numbered.SmallNode.{SmallNode}
 use Rattle.wb_small.specs.declared.numbered.SmallNode.TheVariants.{Int, Child, Read, Add}
 
@@ -11,13 +9,6 @@ PartsBefore place (Int z) = Unit {0}
 PartsBefore place (Child k) = Unit {0}
 PartsBefore place (Read k a) = Unit {0}
 PartsBefore place (Add x y) = (x < place) × (y < place)
-
--- the same for a node with names
-abbrev pub NamedPartsBefore : ℕ → NamedNode → Type 0
-NamedPartsBefore place (NamedInt z) = Unit {0}
-NamedPartsBefore place (NamedChild k) = Unit {0}
-NamedPartsBefore place (NamedRead k a) = Unit {0}
-NamedPartsBefore place (NamedAdd x y) = (x < place) × (y < place)
 
 -- a list of nodes is an expression: there is a whole, and each part stands before what it is a part of
 pub record IsExpression (nodes : List SmallNode) : Type 0 where

@@ -18,7 +18,7 @@ OccursOn occurrences attribute nonterminal = Contains occurrences (record { attr
 abbrev pub HasKind : List SmallChild → ℕ → Option ℕ → Type 0
 HasKind children k kind = (label : List ℕ) × (slice_get children k ≡ Some (record { label = label; nonterminal = kind }))
 
--- a node of an equation over these children is of kind int, and reads what is there
+-- a node of an equation over these children is of kind int, and reads what is there; the parts of a sum are nodes of their own
 abbrev pub IsSmallNode : List Occurrence → List SmallChild → SmallNode → Type 0
 IsSmallNode occurrences children (Int z) = Unit {0}
 IsSmallNode occurrences children (Child k) = HasKind children k None
@@ -48,7 +48,7 @@ targets_of equations = map (λ (equation : SmallEquation). equation.attribute) e
 abbrev pub names_of : List SmallProduction → List (List ℕ)
 names_of productions = map (λ (production : SmallProduction). production.name) productions
 
--- a production: no label twice, no two equations for one attribute, and one for each attribute of its left side
+-- a production: its left side and its children's kinds are there, no label stands twice, each equation is one, no two are for one attribute, and there is one for each attribute of its left side
 pub record IsSmallProduction (nonterminals : ℕ) (occurrences : List Occurrence) (production : SmallProduction) : Type 0 where
   pub left : production.left < nonterminals
   pub kinds : All (λ (child : SmallChild). IsKindBelow nonterminals child.nonterminal) production.children
@@ -62,7 +62,7 @@ pub record IsOccurrenceBelow (attributes nonterminals : ℕ) (occurrence : Occur
   pub attribute : occurrence.attribute < attributes
   pub nonterminal : occurrence.nonterminal < nonterminals
 
--- a small host: no name is declared twice in its name space, no occurrence stands twice, and each production is one
+-- a small host: no name is declared twice in its name space, each occurrence is of what is there and none stands twice, and each production is one
 pub record IsSmallSpec (spec : SmallSpec) : Type 0 where
   pub attributes_differ : Differ spec.attributes
   pub names_differ : Differ (spec.nonterminals ++ names_of spec.productions)

@@ -18,6 +18,7 @@ use wb_base::{Added, Bytes, Names, Sequence};
 /// asks for, where an expression isn't of kind int, or where a production lacks an equation or has two for one attribute.
 pub fn number_host(alloc: Global, named: &NamedHost) -> Result<SmallSpec, SmallRefusal>
     ensures ok { IfOk result (λ spec. IsSmallHost named.now spec) }
+    ensures only { IfOk result (λ spec. (other : SmallSpec) → IsSmallHost named.now other → other ≡ spec) }
     ensures refused { IfErr result (λ e. OnRefused e ((spec : SmallSpec) → ¬ IsSmallHost named.now spec)) }
 {
     let mut nonterminals = different_names(alloc, named.nonterminals.as_slice())?;

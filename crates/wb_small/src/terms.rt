@@ -27,6 +27,7 @@ pub fn number_term(
 ) -> Result<SmallTerm, SmallRefusal>
     requires { IsSmallSpec spec.now }
     ensures ok { IfOk result (λ term. IsSmallTermOf spec.now named.now term) }
+    ensures only { IfOk result (λ term. (other : SmallTerm) → IsSmallTermOf spec.now named.now other → other ≡ term) }
     ensures refused { IfErr result (λ e. OnRefused e ((term : SmallTerm) → ¬ IsSmallTermOf spec.now named.now term)) }
 {
     let productions = spec.productions.as_slice();

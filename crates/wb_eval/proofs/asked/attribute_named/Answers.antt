@@ -1,10 +1,9 @@
-use Rattle.std.proofs.Common.{◌≡◌, ◌<◌, ◌-◌, ℕ, List, Some, length, slice_get, refl, sym, ap, ◌∙◌, subst, arith}
+use Rattle.std.proofs.Common.{◌≡◌, ℕ, List, Some, length, slice_get, ap, ◌∙◌, arith}
 use Rattle.std.proofs.lemmas.Option.{slice_get_within}
 use Rattle.wb_small.specs.declared.numbered.Occurrence.{Occurrence}
-use Rattle.wb_small.specs.SmallTerm.{FitsNode}
 use Rattle.wb_eval.specs.Asked.{root_of}
 use Rattle.wb_eval.proofs.Lists.{read_last}
-use Rattle.wb_eval.proofs.AskedLemmas.{production_within, is_asked, none_asked}
+use Rattle.wb_eval.proofs.AskedLemmas.{production_within, none_asked}
 use Rattle.wb_eval.proofs.asked.attribute_named.Goals as goal
 
 -- the node that was read is the root

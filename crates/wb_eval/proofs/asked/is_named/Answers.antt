@@ -1,4 +1,4 @@
-use Rattle.std.proofs.Common.{◌≡◌, ℕ, List, Some, slice_get, true, length, refl, sym, ◌∙◌, subst, IsTrue}
+use Rattle.std.proofs.Common.{◌≡◌, ℕ, List, Some, slice_get, length, refl, sym, ◌∙◌, subst}
 use Rattle.std.proofs.lemmas.Option.{slice_get_read}
 use Rattle.wb_eval.proofs.AskedLemmas.{named, compared}
 use Rattle.wb_eval.proofs.asked.is_named.Goals as goal

@@ -1,4 +1,4 @@
-use Rattle.std.proofs.Common.{◌≡◌, ◌<◌, ◌+◌, ℕ, List, Some, length, take, slice_get, refl, sym, ap, ◌∙◌, subst, arith, length-append}
+use Rattle.std.proofs.Common.{◌≡◌, ◌<◌, ◌+◌, ℕ, List, Some, length, take, slice_get, sym, ap, ◌∙◌, subst, arith, length-append}
 use Rattle.wb_small.specs.SmallTerm.{FitsNode}
 use Rattle.wb_eval.specs.declared.answer.SmallAnswer.{SmallAnswer}
 use Rattle.wb_eval.specs.Rows.{AreRows}

@@ -1,6 +1,5 @@
 use Rattle.std.proofs.Common.{◌≡◌, ◌<◌, ◌+◌, ℕ, List, Some, length, slice_get, refl, sym, ap, ◌∙◌, subst, arith, length-append}
 use Rattle.std.proofs.lemmas.Option.{slice_get_read}
-use Rattle.std.proofs.lemmas.Grind.{common_steps}
 use Rattle.wb_small.specs.declared.term.SmallValue.{SmallValue}
 use Rattle.wb_eval.specs.declared.answer.SmallAnswer.{SmallAnswer}
 use Rattle.wb_eval.specs.Answer.{HasEquationAnswer}

@@ -1,9 +1,5 @@
-use Rattle.std.proofs.Common.{◌≡◌, ◌<◌, ℕ, List, Some, length, slice_get, get_or, refl, sym, ap, ◌∙◌, subst, arith}
-use Rattle.std.proofs.lemmas.Option.{slice_get-get_or}
-use Rattle.wb_small.specs.declared.numbered.SmallNode.{SmallNode}
-use Rattle.wb_small.specs.Nodes.{PartsBefore}
+use Rattle.std.proofs.Common.{List, length, sym, ap, ◌∙◌, subst, arith}
 use Rattle.wb_eval.specs.declared.answer.SmallAnswer.{SmallAnswer}
-use Rattle.wb_eval.specs.Answer.{HasAnswer}
 use Rattle.wb_eval.specs.Rows.{AreParts}
 use Rattle.wb_eval.proofs.RowLemmas.{parts_before, equation_done}
 use Rattle.wb_eval.proofs.expression.equation_answer.Goals as goal

@@ -1,10 +1,7 @@
-use Rattle.std.proofs.Common.{◌≡◌, ◌<◌, ℤ, List, Some, length, slice_get, get_or, refl, sym, ap, ◌∙◌, subst, arith, w64, rules}
+use Rattle.std.proofs.Common.{ℤ, length, sym, subst, w64, rules}
 use Rattle.std.specs.Prelude.{FitsSigned}
 use Rattle.std.proofs.lemmas.Int.{to_z-of_z}
-use Rattle.std.proofs.lemmas.Option.{slice_get-get_or}
 use Rattle.wb_small.specs.declared.numbered.SmallNode.{SmallNode}
-use Rattle.wb_small.specs.declared.numbered.SmallNode.TheVariants.{Int, Child, Read, Add}
-use Rattle.wb_eval.specs.declared.answer.SmallAnswer.{SmallAnswer}
 use Rattle.wb_eval.specs.declared.answer.SmallAnswer.TheVariants.{Value}
 use Rattle.wb_eval.specs.Answer.{HasAnswer, int}
 use Rattle.wb_eval.proofs.Reading.{child_answer, read_answer}

@@ -18,3 +18,8 @@ pub returns-in-None-clause-refused : goal.returns-in-None-clause-refused
 returns-in-None-clause-refused c =
     let none = subst (λ found. MatchOption found ((named : NamedHost) → ¬ SpellsHost c.args.bytes.now named) (λ named. SpellsHost c.args.bytes.now named)) c.in-None.is c.in_ok-named_host.ensures.ok in
     λ spec text. none text.named text.spelled
+
+pub returns-in_ok-spec-in-Some-clause-only : goal.returns-in_ok-spec-in-Some-clause-only
+returns-in_ok-spec-in-Some-clause-only c =
+    let only = subst (λ found. IfSome found (λ named. (other : NamedHost) → SpellsHost c.args.bytes.now other → other ≡ named)) c.in-Some.is c.in_ok-named_host.ensures.only in
+    λ other text. c.in_ok-spec-in-Some.ensures.only other (subst (λ named. IsSmallHost named other) (only text.named text.spelled) text.rules)

@@ -18,3 +18,8 @@ pub returns-in-None-clause-refused : goal.returns-in-None-clause-refused
 returns-in-None-clause-refused c =
     let none = subst (λ found. MatchOption found ((named : NamedTerm) → ¬ SpellsTerm c.args.bytes.now named) (λ named. SpellsTerm c.args.bytes.now named)) c.in-None.is c.in_ok-named_term.ensures.ok in
     λ term text. none text.named text.spelled
+
+pub returns-in_ok-term-in-Some-clause-only : goal.returns-in_ok-term-in-Some-clause-only
+returns-in_ok-term-in-Some-clause-only c =
+    let only = subst (λ found. IfSome found (λ named. (other : NamedTerm) → SpellsTerm c.args.bytes.now other → other ≡ named)) c.in-Some.is c.in_ok-named_term.ensures.only in
+    λ other text. c.in_ok-term-in-Some.ensures.only other (subst (λ named. IsSmallTermOf c.args.spec.now named other) (only text.named text.spelled) text.rules)

@@ -6,6 +6,7 @@ use Rattle.wb_small.specs.Differ.{Differ}
 use Rattle.wb_small.specs.SmallSpec.{names_of}
 use Rattle.wb_small.specs.SmallHost.{IsSmallHost}
 use Rattle.wb_small.specs.Numbered.{BecomeOccurrences, BecomeProductions}
+use Rattle.wb_small.proofs.CallerLemmas.{one_host}
 use Rattle.wb_small.proofs.Refusals.{handed_on}
 use Rattle.wb_small.proofs.HostLemmas.{host_nonterminals, host_productions, host_names, host_is, occurrences_at, productions_at}
 use Rattle.wb_small.proofs.host.number_host.Goals as goal
@@ -60,3 +61,6 @@ returns-clause-ok c =
     host_is c.args.named.now c.in_ok-copies.field-0 c.in_ok-copies-2.field-0 c.into_list.result c.from_vec.result
     (c.in_ok-copies.ensures ∙ c.as_slice-5.ensures) (c.in_ok-copies-2.ensures ∙ c.as_slice-6.ensures)
     (subst (λ (ns : List (List ℕ)). Differ ns) a c.in_ok-attributes.ensures.differ) become more names
+
+pub returns-clause-only : goal.returns-clause-only
+returns-clause-only c other host = one_host c.args.named.now other _ host (returns-clause-ok c)

@@ -1,6 +1,5 @@
 use Rattle.std.proofs.Common.{◌≡◌, ◌<◌, ℕ, List, Some, length, slice_get, Contains, refl, sym, subst}
 use Rattle.std.proofs.lemmas.Option.{slice_get_read}
-use Rattle.wb_small.specs.SmallSpec.{targets_of}
 use Rattle.wb_eval.proofs.Lists.{stands}
 use Rattle.wb_eval.proofs.TargetLemmas.{targets_there, targets_within}
 use Rattle.wb_eval.proofs.host.Host.number.Goals as goal
