@@ -1,3 +1,4 @@
 mod CauseLemmas
 mod Known
+pub mod OneReport
 mod Pieces

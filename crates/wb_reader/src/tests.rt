@@ -130,7 +130,7 @@ fn a_host_stands_in_the_grammar(rt: HostRuntime) -> Result<(), Fail> {
 }
 
 #[test]
-fn items_meet_the_rules(rt: HostRuntime) -> Result<(), Fail> {
+fn declarations_stand_in_the_grammar(rt: HostRuntime) -> Result<(), Fail> {
     let start = "format 1; host h; ";
     let cases = [
         ("nonterminal T; T", false), // it goes on
@@ -151,6 +151,18 @@ fn items_meet_the_rules(rt: HostRuntime) -> Result<(), Fail> {
         ("nonterminal T; syn a: int; occurs a on T needs {};", false),
         ("nonterminal T; syn a: int; occurs a T;", false),
         ("nonterminal T; syn a: int; forward on T needs {};", false),
+    ];
+    for (rest, accepted) in cases {
+        let answer = is_host(rt.alloc(), start, rest)?;
+        assert!(rt; answer == accepted, "{rest:?}");
+    }
+    Ok(())
+}
+
+#[test]
+fn productions_stand_in_the_grammar(rt: HostRuntime) -> Result<(), Fail> {
+    let start = "format 1; host h; ";
+    let cases = [
         ("nonterminal T; concrete leaf: T ::= {}", false),
         ("nonterminal T; aspect T {}", false),
         ("nonterminal T; abstract leaf: T ::= {}", true),
@@ -167,6 +179,18 @@ fn items_meet_the_rules(rt: HostRuntime) -> Result<(), Fail> {
         ("nonterminal T; abstract leaf: T ::= add: int {}", true),
         ("nonterminal T; abstract leaf: T ::= n: int;", false),
         ("nonterminal T; abstract leaf: T ::= n: int {};", false),
+    ];
+    for (rest, accepted) in cases {
+        let answer = is_host(rt.alloc(), start, rest)?;
+        assert!(rt; answer == accepted, "{rest:?}");
+    }
+    Ok(())
+}
+
+#[test]
+fn items_meet_the_rules(rt: HostRuntime) -> Result<(), Fail> {
+    let start = "format 1; host h; ";
+    let cases = [
         ("nonterminal T; nonterminal T; ", false), // declared twice
         ("syn a: int; syn a: int; ", false),
         ("nonterminal T; syn T: int;", true), // attributes are apart
@@ -225,6 +249,19 @@ fn equations_meet_the_rules(rt: HostRuntime) -> Result<(), Fail> {
         ("top.a = -9223372036854775809; }", false),
         ("top.a = -1; }", true),
         ("top.a = - 1; }", false),
+    ];
+    for (rest, accepted) in cases {
+        let answer = is_host(rt.alloc(), start, rest)?;
+        assert!(rt; answer == accepted, "{rest:?}");
+    }
+    Ok(())
+}
+
+#[test]
+fn expressions_meet_the_rules(rt: HostRuntime) -> Result<(), Fail> {
+    let start = "format 1; host h; nonterminal T; nonterminal U; syn a: int; syn b: int; \
+        occurs a on T; occurs b on U; abstract leaf: T ::= n: int t: T u: U { ";
+    let cases = [
         ("top.a = 1 2; }", false),
         ("top.a = \"1\"; }", false),
         ("top.a = true; }", false),
@@ -290,6 +327,20 @@ fn a_term_fits_its_host(rt: HostRuntime) -> Result<(), Fail> {
         ("node(leaf(1))", false),
         ("node(leaf(1), 2, 3)", false),
         ("node(other(), 2)", false), // of another nonterminal
+    ];
+    for (text, accepted) in cases {
+        let answer = is_term(rt.alloc(), host.as_bytes(), text.as_bytes())?;
+        assert!(rt; answer == accepted, "{text:?}");
+    }
+    Ok(())
+}
+
+#[test]
+fn a_term_stands_in_the_grammar(rt: HostRuntime) -> Result<(), Fail> {
+    let host = "format 1; host h; nonterminal T; nonterminal U; abstract none: T ::= {} \
+        abstract leaf: T ::= n: int {} abstract node: T ::= t: T n: int {} \
+        abstract other: U ::= {}";
+    let cases = [
         ("tree(1)", false),
         ("T()", false), // a nonterminal
         ("leaf(\"1\")", false),

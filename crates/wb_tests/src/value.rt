@@ -28,6 +28,15 @@ fn shelf_of(alloc: Global, host: &[u8], term: &[u8]) -> Result<MemoryShelf, Allo
     Ok(shelf)
 }
 
+// The text with spaces behind it, up to a length.
+fn padded(alloc: Global, text: &[u8], len: usize) -> Result<Vec<u8>, AllocError> {
+    let mut bytes = Vec::from_slice(alloc, text)?;
+    for _ in text.len()..len {
+        bytes.push(b' ')?;
+    }
+    Ok(bytes)
+}
+
 // How a run with these words ends, and what it has written.
 fn run(
     alloc: Global,
@@ -125,6 +134,26 @@ fn a_write_that_fails_ends_the_run(rt: HostRuntime) -> Result<(), Fail> {
         };
         assert_eq!(rt; status, ended);
         assert_eq!(rt; bytes.as_slice(), &LINE[..call - 1]);
+    }
+    Ok(())
+}
+
+#[test]
+fn a_file_may_be_as_long_as_its_limit(rt: HostRuntime) -> Result<(), Fail> {
+    let limit = 1048576;
+    let cases = [
+        (limit, limit, Status::Done, LINE),
+        (limit + 1, limit, Status::SpecRefused, b"refused h S0\n"),
+        (limit, limit + 1, Status::SpecRefused, b"refused t S0\n"),
+    ];
+    for (host, term, status, line) in cases {
+        let host = padded(rt.alloc(), CALC, host)?;
+        let term = padded(rt.alloc(), THREE, term)?;
+        let mut shelf = shelf_of(rt.alloc(), host.as_slice(), term.as_slice())?;
+        let mut sink = MemorySink::new(rt.alloc(), 1000, 1000)?;
+        let (ended, bytes) = run(rt.alloc(), &VALUE, &mut shelf, &mut sink)?;
+        assert_eq!(rt; ended, status);
+        assert_eq!(rt; bytes.as_slice(), line);
     }
     Ok(())
 }

@@ -1,0 +1,3 @@
+pub mod CallerLemmas
+pub mod DigitLemmas
+pub mod KeptLemmas

@@ -1,0 +1,83 @@
+//! The standard operations that give a truth value.
+
+ghost use Rattle.std.specs.Prelude.{◌&&◌, ◌||◌, not, int_lt};
+ghost use Rattle.std.specs.Ordering.{int_eq};
+ghost use Rattle.std.specs.Str.{bytes_eq};
+ghost use Rattle.wb_values.specs.Tree.{bool};
+ghost use Rattle.wb_operations.specs.Outcome.{value, FitKinds, Answers, HasMemory, plains_of};
+ghost use Rattle.wb_operations.specs.Takes.{one_bool, two_ints, two_bools, two_texts, of_ints, of_bool, of_bools, of_texts};
+
+use crate::OperationRefusal;
+use wb_values::Value;
+
+/// Whether two numbers are equal. Takes no memory.
+pub fn standard_eq(arguments: &[Value]) -> Result<Value, OperationRefusal>
+    requires { FitKinds two_ints arguments.now }
+    ensures answer { Answers (of_ints (λ x y. value (bool (int_eq x y))) (plains_of arguments.now)) result }
+    ensures memory { HasMemory result }
+{
+    match arguments {
+        [Value::Int(x), Value::Int(y)] => Ok(Value::Bool(*x == *y)),
+        _ => unreachable!(),
+    }
+}
+
+/// Whether the first number is below the second. Takes no memory.
+pub fn standard_less(arguments: &[Value]) -> Result<Value, OperationRefusal>
+    requires { FitKinds two_ints arguments.now }
+    ensures answer { Answers (of_ints (λ x y. value (bool (int_lt x y))) (plains_of arguments.now)) result }
+    ensures memory { HasMemory result }
+{
+    match arguments {
+        [Value::Int(x), Value::Int(y)] => Ok(Value::Bool(*x < *y)),
+        _ => unreachable!(),
+    }
+}
+
+/// Whether two texts have the same bytes. Takes no memory.
+pub fn standard_same(arguments: &[Value]) -> Result<Value, OperationRefusal>
+    requires { FitKinds two_texts arguments.now }
+    ensures answer { Answers (of_texts (λ x y. value (bool (bytes_eq x y))) (plains_of arguments.now)) result }
+    ensures memory { HasMemory result }
+{
+    match arguments {
+        [Value::Text(x), Value::Text(y)] => Ok(Value::Bool(x.as_slice() == y.as_slice())),
+        _ => unreachable!(),
+    }
+}
+
+/// Whether it doesn't hold. Takes no memory.
+pub fn standard_not(arguments: &[Value]) -> Result<Value, OperationRefusal>
+    requires { FitKinds one_bool arguments.now }
+    ensures answer { Answers (of_bool (λ x. value (bool (not x))) (plains_of arguments.now)) result }
+    ensures memory { HasMemory result }
+{
+    match arguments {
+        [Value::Bool(x)] => Ok(Value::Bool(!*x)),
+        _ => unreachable!(),
+    }
+}
+
+/// Whether both hold. Takes no memory.
+pub fn standard_and(arguments: &[Value]) -> Result<Value, OperationRefusal>
+    requires { FitKinds two_bools arguments.now }
+    ensures answer { Answers (of_bools (λ x y. value (bool (x && y))) (plains_of arguments.now)) result }
+    ensures memory { HasMemory result }
+{
+    match arguments {
+        [Value::Bool(x), Value::Bool(y)] => Ok(Value::Bool(*x & *y)),
+        _ => unreachable!(),
+    }
+}
+
+/// Whether one or both hold. Takes no memory.
+pub fn standard_or(arguments: &[Value]) -> Result<Value, OperationRefusal>
+    requires { FitKinds two_bools arguments.now }
+    ensures answer { Answers (of_bools (λ x y. value (bool (x || y))) (plains_of arguments.now)) result }
+    ensures memory { HasMemory result }
+{
+    match arguments {
+        [Value::Bool(x), Value::Bool(y)] => Ok(Value::Bool(*x | *y)),
+        _ => unreachable!(),
+    }
+}

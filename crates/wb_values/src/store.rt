@@ -1,0 +1,135 @@
+ghost use Rattle.std.specs.Prelude.{◌≡◌, ◌↔◌, ◌<◌, ◌≤◌, ◌-◌, [], ◌∷◌, ◌++◌, length, take, All, IsTrue, IfOk, OnErr, OnOk};
+ghost use Rattle.wb_values.specs.Tree.{node, production_of, children_of};
+ghost use Rattle.wb_values.specs.ValuesIn.{tree_in, values_in, last, IsIn};
+
+use crate::move_end::move_end;
+use crate::node::Node;
+use crate::{TreeId, Value};
+use std::alloc::{AllocError, Global};
+use std::marker::Model;
+
+/// A store of trees, one for each node. Nodes and their children lie in two flat lists.
+#[derive(Drop)]
+pub struct TreeStore {
+    nodes: Vec<Node>,
+    values: Vec<Value>,
+}
+
+impl Model for TreeStore {
+    ghost use Rattle.std.specs.Prelude.{List};
+    ghost use Rattle.std.specs.Coded.{coded_list};
+    ghost use Rattle.wb_values.specs.Tree.{Tree};
+    ghost use Rattle.wb_values.specs.TreeCode.{coded_tree};
+    ghost use Rattle.wb_values.specs.Trees.{trees_of, IsStore};
+
+    ghost Value = { List Tree };
+
+    ghost coded = { coded_list coded_tree };
+
+    ghost view = { λ s. trees_of s.nodes.items s.values.items };
+
+    ghost invariant = { λ s. IsStore s.nodes.items s.values.items };
+}
+
+impl TreeStore {
+    /// A store without trees. Takes no memory.
+    pub fn new(alloc: Global) -> TreeStore
+        ensures { result ≡ [] }
+    {
+        TreeStore {
+            nodes: Vec::new(alloc),
+            values: Vec::new(alloc),
+        }
+    }
+
+    /// How many trees there are. Takes no memory.
+    pub fn len(&self) -> usize
+        ensures { result ≡ length self.now }
+    {
+        self.nodes.len()
+    }
+
+    /// Whether there is no tree. Takes no memory.
+    pub fn is_empty(&self) -> bool
+        ensures { IsTrue result ↔ (self.now ≡ []) }
+    {
+        self.len() == 0
+    }
+
+    /// Adds the tree of a production over these children, behind the others. The only error is want of memory, and then the
+    /// children are dropped.
+    pub fn build(
+        &mut self,
+        production: usize,
+        mut children: Vec<Value>,
+    ) -> Result<TreeId, AllocError>
+        requires { All (IsIn (length self.old)) children.items }
+        ensures id { IfOk result (λ tree. tree.0 ≡ length self.old) }
+        ensures ok { OnOk result (self.new ≡ self.old ++ node production (values_in self.old children.items) ∷ []) }
+        ensures err { OnErr result (self.new ≡ self.old) }
+    {
+        let count = children.len();
+        let tree = self.build_from(production, &mut children, count)?;
+        Ok(tree)
+    }
+
+    /// Adds the tree of a production over the last values of a vector, so many of them, in order, and takes them off it. A caller
+    /// that gathers children in one vector takes memory for a node in this store alone. The only error is want of memory.
+    pub fn build_from(
+        &mut self,
+        production: usize,
+        values: &mut Vec<Value>,
+        count: usize,
+    ) -> Result<TreeId, AllocError>
+        requires count { count ≤ length values.old.items }
+        requires children { All (IsIn (length self.old)) (last count values.old.items) }
+        ensures id { IfOk result (λ tree. tree.0 ≡ length self.old) }
+        ensures ok { OnOk result (self.new ≡ self.old ++ node production (values_in self.old (last count values.old.items)) ∷ []) }
+        ensures taken { OnOk result (values.new.items ≡ take (length values.old.items - count) values.old.items) }
+        ensures err { OnErr result (self.new ≡ self.old) }
+        ensures err_values { OnErr result (values.new.items ≡ values.old.items) }
+    {
+        let tree = TreeId(self.nodes.len());
+        let node = Node {
+            production,
+            first: self.values.len(),
+            count,
+        };
+        let start = values.len() - count;
+        self.nodes.reserve(1)?;
+        move_end(values, start, &mut self.values)?;
+        self.nodes.push_reserved(node);
+        Ok(tree)
+    }
+
+    /// Keeps the first trees, so many of them, and takes the others away. Takes no memory.
+    pub fn truncate(&mut self, len: usize)
+        requires { len ≤ length self.old }
+        ensures { self.new ≡ take len self.old }
+    {
+        if len < self.nodes.len() {
+            let kept = self.nodes[len].first;
+            self.values.truncate(kept);
+            self.nodes.truncate(len);
+        }
+    }
+
+    /// The production of a tree. Takes no memory.
+    pub fn production(&self, tree: TreeId) -> usize
+        requires { tree.0 < length self.now }
+        ensures { result ≡ production_of (tree_in self.now tree.0) }
+    {
+        self.nodes[tree.0].production
+    }
+
+    /// The children of a tree, from left to right. Those that are trees have smaller ids. Takes no memory.
+    pub fn children(&self, tree: TreeId) -> &[Value]
+        requires { tree.0 < length self.now }
+        ensures values { values_in self.now result.now ≡ children_of (tree_in self.now tree.0) }
+        ensures below { All (IsIn tree.0) result.now }
+    {
+        let node = self.nodes[tree.0];
+        let values = self.values.as_slice();
+        &values[node.first..node.first + node.count]
+    }
+}
