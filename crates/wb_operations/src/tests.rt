@@ -1,7 +1,8 @@
 use crate::{
-    OperationRefusal, standard_add, standard_and, standard_concat, standard_div, standard_eq,
-    standard_length, standard_less, standard_mul, standard_neg, standard_not, standard_or,
-    standard_rem, standard_same, standard_sub, standard_to_int, standard_to_text,
+    LONGEST_TEXT, OperationRefusal, TOO_LONG, standard_add, standard_and, standard_concat,
+    standard_div, standard_eq, standard_length, standard_less, standard_mul, standard_neg,
+    standard_not, standard_or, standard_rem, standard_same, standard_sub, standard_to_int,
+    standard_to_text,
 };
 use std::alloc::Global;
 use std::test::Fail;
@@ -87,6 +88,18 @@ fn is_joined(alloc: Global, x: &[u8], y: &[u8], wanted: &[u8]) -> Result<bool, F
     let y = Bytes::from_slice(alloc, y)?;
     let answer = standard_concat(alloc, &[Value::Text(x), Value::Text(y)]);
     Ok(is_text(&answer, wanted))
+}
+
+// The length of a joined text, or the code.
+fn joined_length(alloc: Global, x: &[u8], y: &[u8]) -> Result<Result<usize, u32>, Fail> {
+    let x = Bytes::from_slice(alloc, x)?;
+    let y = Bytes::from_slice(alloc, y)?;
+    match standard_concat(alloc, &[Value::Text(x), Value::Text(y)]) {
+        Ok(Value::Text(text)) => Ok(Ok(text.as_slice().len())),
+        Ok(_) => Ok(Err(0)),
+        Err(OperationRefusal::Fault(code)) => Ok(Err(code)),
+        Err(OperationRefusal::NoMemory(error)) => Err(Fail::from(error)),
+    }
 }
 
 fn is_printed(alloc: Global, number: i64, wanted: &[u8]) -> bool {
@@ -211,5 +224,18 @@ fn numbers_are_printed_and_read(rt: HostRuntime) -> Result<(), Fail> {
         ),
         (Err(3), Err(3), Err(3))
     );
+    Ok(())
+}
+
+#[test]
+fn a_joined_text_may_be_as_long_as_the_limit(rt: HostRuntime) -> Result<(), Fail> {
+    let mut longest = Vec::new(rt.alloc());
+    for _ in 0..LONGEST_TEXT {
+        longest.push(b'a')?;
+    }
+    let whole = joined_length(rt.alloc(), longest.as_slice(), b"")?;
+    assert_eq!(rt; whole, Ok(LONGEST_TEXT));
+    let beyond = joined_length(rt.alloc(), longest.as_slice(), b"b")?;
+    assert_eq!(rt; beyond, Err(TOO_LONG));
     Ok(())
 }
