@@ -1,6 +1,6 @@
--- Lists of different texts.
+-- Lists in which nothing stands twice.
 use Rattle.std.specs.Prelude.{◌≡◌, ℕ, List, Some, slice_get}
 
--- no text stands at two places
-abbrev pub AreDifferent : List (List ℕ) → Type 0
-AreDifferent texts = (text : List ℕ) (i j : ℕ) → slice_get texts i ≡ Some text → slice_get texts j ≡ Some text → i ≡ j
+-- no element stands at two places
+abbrev pub Differ : {X : Type 0} → List X → Type 0
+Differ {X} xs = (x : X) (i j : ℕ) → slice_get xs i ≡ Some x → slice_get xs j ≡ Some x → i ≡ j

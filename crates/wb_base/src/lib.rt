@@ -5,6 +5,7 @@
 
 mod bytes;
 mod grammar;
+mod lists;
 mod names;
 mod sequence;
 mod symbol;
@@ -13,6 +14,7 @@ mod tests;
 
 pub use bytes::Bytes;
 pub use grammar::Grammar;
+pub use lists::push;
 pub use names::{Added, Names};
 pub use sequence::Sequence;
 pub use symbol::{Kind, Symbol};

@@ -1,5 +1,5 @@
 ghost use Rattle.std.specs.Prelude.{◌≡◌, ◌<◌, ◌↔◌, IsTrue, [], length, IfOk, OnErr, IfSome, IfNone, Contains, slice_get, Some};
-ghost use Rattle.wb_base.specs.Different.{AreDifferent};
+ghost use Rattle.wb_base.specs.Different.{Differ};
 ghost use Rattle.wb_base.specs.Names.{AddsName};
 
 use indexmap::IndexSet;
@@ -24,13 +24,13 @@ pub struct Names {
 
 impl Model for Names {
     ghost use Rattle.std.specs.Prelude.{List, ℕ, map};
-    ghost use Rattle.wb_base.specs.Different.{AreDifferent};
+    ghost use Rattle.wb_base.specs.Different.{Differ};
 
     ghost Value = { List (List ℕ) };
 
     ghost view = { λ n. map (λ text. text.items) n.texts.keys };
 
-    ghost invariant = { λ n. AreDifferent (map (λ text. text.items) n.texts.keys) };
+    ghost invariant = { λ n. Differ (map (λ text. text.items) n.texts.keys) };
 }
 
 impl Names {
@@ -69,7 +69,7 @@ impl Names {
     /// How many names there are.
     pub fn len(&self) -> usize
         ensures count { result ≡ length self.now }
-        ensures different { AreDifferent self.now }
+        ensures different { Differ self.now }
     {
         self.texts.len()
     }

@@ -8,7 +8,7 @@ use Rattle.wb_small.specs.declared.numbered.SmallProduction.{SmallProduction}
 use Rattle.wb_small.specs.declared.numbered.SmallEquation.{SmallEquation}
 use Rattle.wb_small.specs.declared.term.SmallTerm.{SmallTerm}
 use Rattle.wb_small.specs.declared.term.SmallTermNode.{SmallTermNode}
-use Rattle.wb_small.specs.Differ.{Differ}
+use Rattle.wb_base.specs.Different.{Differ}
 use Rattle.wb_small.specs.SmallSpec.{IsSmallSpec, IsSmallProduction, IsSmallEquation, OccursOn, targets_of}
 use Rattle.wb_eval.specs.Answer.{IsEquationAt}
 use Rattle.wb_eval.specs.Asked.{OccursAt}

@@ -10,7 +10,7 @@ use Rattle.std.proofs.lemmas.List.Quantifiers.{position-Some}
 use Rattle.std.proofs.lemmas.Option.{slice_get-get_or, slice_get_within, slice_get-map, get_or_from_slice_get}
 use Rattle.std.proofs.lemmas.Bool.{eqb-true, eq-eqb}
 use Rattle.wb_small.specs.declared.numbered.SmallEquation.{SmallEquation}
-use Rattle.wb_small.specs.Differ.{Differ}
+use Rattle.wb_base.specs.Different.{Differ}
 use Rattle.wb_small.specs.SmallSpec.{targets_of}
 use Rattle.wb_small.specs.declared.numbered.SmallSpec.{SmallSpec}
 use Rattle.wb_small.specs.declared.numbered.SmallProduction.{SmallProduction}

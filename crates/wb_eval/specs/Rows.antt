@@ -10,7 +10,7 @@ use Rattle.wb_small.specs.declared.term.SmallTerm.{SmallTerm}
 use Rattle.wb_small.specs.declared.term.SmallTermNode.{SmallTermNode}
 use Rattle.wb_small.specs.declared.term.SmallValue.{SmallValue}
 use Rattle.wb_small.specs.declared.term.SmallValue.TheVariants.{Int as Number, Node as Tree}
-use Rattle.wb_small.specs.Differ.{Differ}
+use Rattle.wb_base.specs.Different.{Differ}
 use Rattle.wb_small.specs.SmallSpec.{IsSmallSpec, targets_of}
 use Rattle.wb_eval.specs.declared.answer.SmallAnswer.{SmallAnswer}
 use Rattle.wb_eval.specs.declared.answer.SmallAnswer.TheVariants.{Value, Fault}

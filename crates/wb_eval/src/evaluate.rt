@@ -8,10 +8,9 @@ ghost use Rattle.wb_eval.specs.Rows.{AreRows, IsIndexed, IsRowOf};
 use crate::SmallAnswer;
 use crate::expression::equation_answer;
 use crate::host::{Host, production_of, targets_of_all};
-use crate::push::push;
 use crate::rows::answer_at;
 use std::alloc::{AllocError, Global};
-use wb_base::Sequence;
+use wb_base::{Sequence, push};
 use wb_small::{SmallSpec, SmallTerm, SmallTermNode};
 
 /// The answer of an attribute at the root of a small term: its value, or the first fault that its value meets.

@@ -5,10 +5,9 @@ ghost use Rattle.wb_eval.specs.Rows.{AreParts, AreRows, CanRead, CanReadAll, IsI
 
 use crate::SmallAnswer;
 use crate::host::Host;
-use crate::push::push;
 use crate::rows::answer_at;
 use std::alloc::{AllocError, Global};
-use wb_base::Sequence;
+use wb_base::{Sequence, push};
 use wb_small::{SmallEquation, SmallNode, SmallTerm, SmallValue};
 
 // The fault of a sum that is outside the range of numbers.

@@ -3,9 +3,9 @@ ghost use Rattle.wb_small.specs.SmallSpec.{targets_of};
 ghost use Rattle.wb_small.specs.declared.numbered.SmallProduction.{SmallProduction};
 ghost use Rattle.wb_eval.specs.Rows.{TargetsDiffer, IsIndexed, targets_by};
 
-use crate::push::push;
 use crate::targets::Targets;
 use std::alloc::{AllocError, Global};
+use wb_base::push;
 use wb_small::{SmallProduction, SmallSpec, SmallTermNode};
 
 // A small host, with the targets of its productions by number.

@@ -9,7 +9,6 @@ mod asked;
 mod evaluate;
 mod expression;
 mod host;
-mod push;
 mod rows;
 mod targets;
 #[cfg(test)]

@@ -1,5 +1,5 @@
 ghost use Rattle.std.specs.Prelude.{◌≡◌, ◌++◌, ◌∷◌, [], Some, slice_get, Contains, IfOk, OnOk};
-ghost use Rattle.wb_small.specs.Differ.{Differ};
+ghost use Rattle.wb_base.specs.Different.{Differ};
 ghost use Rattle.wb_small.specs.SmallSpec.{targets_of};
 
 use indexmap::IndexSet;

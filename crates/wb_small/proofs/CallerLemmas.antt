@@ -11,7 +11,7 @@ use Rattle.wb_small.specs.declared.numbered.SmallEquation.{SmallEquation}
 use Rattle.wb_small.specs.declared.term.NamedTerm.{NamedTerm}
 use Rattle.wb_small.specs.declared.term.SmallTerm.{SmallTerm}
 use Rattle.wb_small.specs.declared.term.SmallTermNode.{SmallTermNode}
-use Rattle.wb_small.specs.Differ.{Differ}
+use Rattle.wb_base.specs.Different.{Differ}
 use Rattle.wb_small.specs.SmallSpec.{IsSmallSpec, IsSmallProduction, names_of}
 use Rattle.wb_small.specs.SmallHost.{NumbersEquation, NumbersProduction, NumbersOccurrence, IsSmallHost}
 use Rattle.wb_small.specs.SmallTerm.{IsSmallTermOf}

@@ -11,7 +11,7 @@ use Rattle.wb_base.specs.declared.names.Added.TheVariants.{New, Present}
 use Rattle.wb_base.specs.Names.{AddsName}
 use Rattle.wb_small.specs.declared.named.NamedChild.{NamedChild}
 use Rattle.wb_small.specs.declared.numbered.SmallChild.{SmallChild}
-use Rattle.wb_small.specs.Differ.{Differ}
+use Rattle.wb_base.specs.Different.{Differ}
 use Rattle.wb_small.specs.SmallSpec.{IsKindBelow, labels_of}
 use Rattle.wb_small.specs.SmallHost.{NumbersChild}
 use Rattle.wb_small.specs.Numbered.{BecomesKind, BecomeChildren}

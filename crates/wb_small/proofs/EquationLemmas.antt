@@ -13,7 +13,7 @@ use Rattle.wb_small.specs.declared.numbered.SmallNode.{SmallNode}
 use Rattle.wb_small.specs.declared.numbered.SmallChild.{SmallChild}
 use Rattle.wb_small.specs.declared.numbered.SmallEquation.{SmallEquation}
 use Rattle.wb_small.specs.declared.numbered.Occurrence.{Occurrence}
-use Rattle.wb_small.specs.Differ.{Differ}
+use Rattle.wb_base.specs.Different.{Differ}
 use Rattle.wb_small.specs.Nodes.{PartsBefore}
 use Rattle.wb_small.specs.SmallSpec.{IsSmallNode, IsSmallEquation, OccursOn, targets_of}
 use Rattle.wb_small.specs.SmallHost.{NumbersNode, NumbersEquation, IsNumberOf}

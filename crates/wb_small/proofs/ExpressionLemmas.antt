@@ -9,7 +9,7 @@ use Rattle.wb_small.specs.declared.named.NamedNode.TheVariants.{Child as NamedCh
 use Rattle.wb_small.specs.declared.numbered.SmallNode.{SmallNode}
 use Rattle.wb_small.specs.declared.numbered.SmallNode.TheVariants.{Int, Child, Read, Add}
 use Rattle.wb_small.specs.Numbered.{BecomesNode}
-use Rattle.wb_small.specs.Differ.{Differ}
+use Rattle.wb_base.specs.Different.{Differ}
 use Rattle.wb_small.specs.SmallSpec.{labels_of, HasKind, OccursOn}
 use Rattle.wb_small.specs.SmallHost.{IsChildOf, IsNumberOf}
 use Rattle.wb_small.specs.Reads.{NumbersRead, ReadsSomething}

@@ -11,7 +11,7 @@ use Rattle.wb_small.specs.declared.named.NamedProduction.{NamedProduction}
 use Rattle.wb_small.specs.declared.numbered.SmallSpec.{SmallSpec}
 use Rattle.wb_small.specs.declared.numbered.Occurrence.{Occurrence}
 use Rattle.wb_small.specs.declared.numbered.SmallProduction.{SmallProduction}
-use Rattle.wb_small.specs.Differ.{Differ}
+use Rattle.wb_base.specs.Different.{Differ}
 use Rattle.wb_small.specs.SmallSpec.{names_of}
 use Rattle.wb_small.specs.SmallHost.{NumbersOccurrence, NumbersProduction, IsSmallHost}
 use Rattle.wb_small.specs.Numbered.{BecomeOccurrences, BecomeProductions}

@@ -7,7 +7,7 @@ use Rattle.std.proofs.lemmas.Option.{gets, slice_get_read}
 use Rattle.std.proofs.lemmas.Slice.Zip.{all_zipped_more, AllZip-long}
 use Rattle.wb_small.specs.declared.named.NamedOccurrence.{NamedOccurrence}
 use Rattle.wb_small.specs.declared.numbered.Occurrence.{Occurrence}
-use Rattle.wb_small.specs.Differ.{Differ}
+use Rattle.wb_base.specs.Different.{Differ}
 use Rattle.wb_small.specs.SmallSpec.{IsOccurrenceBelow}
 use Rattle.wb_small.specs.SmallHost.{NumbersOccurrence, IsNumberOf}
 use Rattle.wb_small.specs.Numbered.{BecomesOccurrence, BecomeOccurrences}

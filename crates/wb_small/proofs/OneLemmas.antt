@@ -7,7 +7,7 @@ use Rattle.wb_small.specs.declared.numbered.SmallChild.{SmallChild}
 use Rattle.wb_small.specs.declared.numbered.SmallEquation.{SmallEquation}
 use Rattle.wb_small.specs.declared.numbered.SmallNode.{SmallNode}
 use Rattle.wb_small.specs.declared.numbered.SmallNode.TheVariants.{Int, Child, Read, Add}
-use Rattle.wb_small.specs.Differ.{Differ}
+use Rattle.wb_base.specs.Different.{Differ}
 use Rattle.wb_small.specs.SmallSpec.{labels_of}
 use Rattle.wb_small.specs.SmallHost.{NumbersNode, NumbersEquation}
 use Rattle.wb_small.proofs.Zips.{one_zip}

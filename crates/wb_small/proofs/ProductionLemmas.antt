@@ -12,7 +12,7 @@ use Rattle.wb_small.specs.declared.numbered.Occurrence.{Occurrence}
 use Rattle.wb_small.specs.declared.numbered.SmallChild.{SmallChild}
 use Rattle.wb_small.specs.declared.numbered.SmallEquation.{SmallEquation}
 use Rattle.wb_small.specs.declared.numbered.SmallProduction.{SmallProduction}
-use Rattle.wb_small.specs.Differ.{Differ}
+use Rattle.wb_base.specs.Different.{Differ}
 use Rattle.wb_small.specs.SmallSpec.{IsSmallProduction, OccursOn, targets_of}
 use Rattle.wb_small.specs.SmallHost.{NumbersKind, NumbersChild, NumbersEquation, NumbersProduction, IsNumberOf}
 use Rattle.wb_small.specs.Numbered.{BecomeChildren, BecomeEquations, BecomesProduction, BecomeProductions}

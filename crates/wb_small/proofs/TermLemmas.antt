@@ -14,7 +14,7 @@ use Rattle.wb_small.specs.declared.term.SmallTerm.{SmallTerm}
 use Rattle.wb_small.specs.declared.term.NamedTermNode.{NamedTermNode}
 use Rattle.wb_small.specs.declared.term.SmallTermNode.{SmallTermNode}
 use Rattle.wb_small.specs.declared.term.SmallValue.{SmallValue}
-use Rattle.wb_small.specs.Differ.{Differ}
+use Rattle.wb_base.specs.Different.{Differ}
 use Rattle.wb_small.specs.SmallSpec.{names_of}
 use Rattle.wb_small.specs.SmallTerm.{FitsKind, FitsChildren, FitsNode, NumbersTermNode, BecomesTermNode, BecomeTermNodes, IsSmallTermOf}
 use Rattle.wb_small.proofs.DifferLemmas.{at_push, contains_at}

@@ -1,6 +1,5 @@
 pub mod AddsOccurrence
 pub mod Attributes
-pub mod Differ
 pub mod Nodes
 pub mod NumberSet
 pub mod Numbered

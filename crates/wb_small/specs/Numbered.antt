@@ -11,7 +11,7 @@ use Rattle.wb_small.specs.declared.numbered.SmallProduction.{SmallProduction}
 use Rattle.wb_small.specs.declared.numbered.SmallChild.{SmallChild}
 use Rattle.wb_small.specs.declared.numbered.SmallEquation.{SmallEquation}
 use Rattle.wb_small.specs.declared.numbered.SmallNode.{SmallNode}
-use Rattle.wb_small.specs.Differ.{Differ}
+use Rattle.wb_base.specs.Different.{Differ}
 use Rattle.wb_small.specs.Nodes.{PartsBefore}
 use Rattle.wb_small.specs.SmallSpec.{IsKindBelow, IsSmallNode, IsSmallEquation, IsSmallProduction, IsOccurrenceBelow, labels_of, targets_of}
 use Rattle.wb_small.specs.SmallHost.{NumbersKind, NumbersChild, NumbersNode, NumbersEquation, NumbersProduction, NumbersOccurrence}

@@ -2,7 +2,7 @@
 use Rattle.std.specs.Prelude.{◌≡◌, ℕ, List}
 use Rattle.wb_small.specs.declared.numbered.SmallChild.{SmallChild}
 use Rattle.wb_small.specs.declared.occurrences.Occurrences.{Occurrences}
-use Rattle.wb_small.specs.Differ.{Differ}
+use Rattle.wb_base.specs.Different.{Differ}
 use Rattle.wb_small.specs.Attributes.{IsIndex}
 use Rattle.wb_small.specs.SmallSpec.{labels_of}
 

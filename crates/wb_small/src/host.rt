@@ -1,16 +1,15 @@
 ghost use Rattle.std.specs.Prelude.{◌≡◌, ◌++◌, ℕ, List, IfOk, IfErr};
 ghost use Rattle.wb_small.specs.Refusal.{OnRefused};
-ghost use Rattle.wb_small.specs.Differ.{Differ};
+ghost use Rattle.wb_base.specs.Different.{Differ};
 ghost use Rattle.wb_small.specs.SmallSpec.{names_of};
 ghost use Rattle.wb_small.specs.SmallHost.{IsSmallHost};
 ghost use Rattle.wb_small.specs.declared.numbered.SmallSpec.{SmallSpec};
 
 use crate::number_occurrences::number_occurrences;
 use crate::number_productions::number_productions;
-use crate::push::push;
 use crate::{NamedHost, SmallProduction, SmallRefusal, SmallSpec};
 use std::alloc::{AllocError, Global};
-use wb_base::{Added, Bytes, Names, Sequence};
+use wb_base::{Added, Bytes, Names, Sequence, push};
 
 /// The small host that this host with names is.
 ///

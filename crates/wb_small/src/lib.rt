@@ -14,7 +14,6 @@ mod number_productions;
 mod number_set;
 mod numbered;
 mod occurrences;
-mod push;
 mod refusal;
 mod term;
 mod terms;

@@ -4,10 +4,9 @@ ghost use Rattle.wb_small.specs.Numbered.{BecomesKind, BecomeChildren};
 ghost use Rattle.wb_small.specs.SmallSpec.{labels_of};
 ghost use Rattle.wb_small.specs.declared.numbered.SmallChild.{SmallChild};
 
-use crate::push::push;
 use crate::{NamedChild, SmallChild, SmallRefusal};
 use std::alloc::Global;
-use wb_base::{Added, Bytes, Names};
+use wb_base::{Added, Bytes, Names, push};
 
 // The children of a production, where each kind is declared and no label stands twice. Their labels are added to none before.
 pub(crate) fn number_children(

@@ -8,10 +8,9 @@ ghost use Rattle.wb_small.specs.declared.numbered.SmallEquation.{SmallEquation};
 use crate::number_expression::number_nodes;
 use crate::number_set::NumberSet;
 use crate::occurrences::Occurrences;
-use crate::push::push;
 use crate::{NamedEquation, SmallChild, SmallEquation, SmallRefusal};
 use std::alloc::Global;
-use wb_base::{Names, Sequence};
+use wb_base::{Names, Sequence, push};
 
 // The equations of a production, no two for one attribute. The attributes that they are for are added to none before.
 pub(crate) fn number_equations(

@@ -1,6 +1,6 @@
 ghost use Rattle.std.specs.Prelude.{◌≡◌, ◌≤◌, ℕ, List, Some, None, slice_get, IfOk, IfErr, IfSome, IfNone};
 ghost use Rattle.wb_small.specs.Refusal.{OnRefused};
-ghost use Rattle.wb_small.specs.Differ.{Differ};
+ghost use Rattle.wb_base.specs.Different.{Differ};
 ghost use Rattle.wb_small.specs.Attributes.{IsIndex};
 ghost use Rattle.wb_small.specs.SmallSpec.{labels_of, HasKind};
 ghost use Rattle.wb_small.specs.SmallHost.{IsChildOf};
@@ -10,10 +10,9 @@ ghost use Rattle.wb_small.specs.Scope.{IsScope};
 ghost use Rattle.wb_small.specs.declared.numbered.SmallNode.{SmallNode};
 
 use crate::occurrences::Occurrences;
-use crate::push::push;
 use crate::{NamedNode, SmallChild, SmallNode, SmallRefusal};
 use std::alloc::Global;
-use wb_base::{Bytes, Names};
+use wb_base::{Bytes, Names, push};
 
 // The nodes of an expression, where each is of kind int and reads what is there.
 pub(crate) fn number_nodes(

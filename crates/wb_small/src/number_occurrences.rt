@@ -1,6 +1,6 @@
 ghost use Rattle.std.specs.Prelude.{◌≡◌, ℕ, List, IfOk, IfErr};
 ghost use Rattle.wb_small.specs.Refusal.{OnRefused};
-ghost use Rattle.wb_small.specs.Differ.{Differ};
+ghost use Rattle.wb_base.specs.Different.{Differ};
 ghost use Rattle.wb_small.specs.Attributes.{IsIndex};
 ghost use Rattle.wb_small.specs.Numbered.{BecomesOccurrence, BecomeOccurrences};
 ghost use Rattle.wb_small.specs.declared.numbered.Occurrence.{Occurrence};

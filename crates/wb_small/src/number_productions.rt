@@ -1,6 +1,6 @@
 ghost use Rattle.std.specs.Prelude.{◌≡◌, ◌↔◌, ℕ, List, IsTrue, IfOk, IfErr, Contains};
 ghost use Rattle.wb_small.specs.Refusal.{OnRefused};
-ghost use Rattle.wb_small.specs.Differ.{Differ};
+ghost use Rattle.wb_base.specs.Different.{Differ};
 ghost use Rattle.wb_small.specs.Attributes.{IsIndex};
 ghost use Rattle.wb_small.specs.Numbered.{BecomesProduction, BecomeProductions};
 ghost use Rattle.wb_small.specs.declared.numbered.SmallProduction.{SmallProduction};
@@ -9,10 +9,9 @@ use crate::number_children::number_children;
 use crate::number_equations::number_equations;
 use crate::number_set::NumberSet;
 use crate::occurrences::Occurrences;
-use crate::push::push;
 use crate::{NamedProduction, SmallProduction, SmallRefusal};
 use std::alloc::Global;
-use wb_base::{Names, Sequence};
+use wb_base::{Names, Sequence, push};
 
 // The productions of a host, where each meets the rules.
 pub(crate) fn number_productions(

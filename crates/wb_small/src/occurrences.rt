@@ -3,9 +3,8 @@ ghost use Rattle.wb_small.specs.AddsOccurrence.{FillsWithEmpty};
 
 use crate::Occurrence;
 use crate::number_set::NumberSet;
-use crate::push::push;
 use std::alloc::{AllocError, Global};
-use wb_base::Sequence;
+use wb_base::{Sequence, push};
 
 // Occurrences in order, with the set of attributes of each nonterminal.
 #[derive(Drop)]

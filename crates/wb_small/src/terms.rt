@@ -1,20 +1,19 @@
 ghost use Rattle.std.specs.Prelude.{◌≡◌, ◌↔◌, ◌<◌, ℕ, List, Some, slice_get, length, Contains, IsTrue, IfOk, IfErr, IfSome, IfNone};
 ghost use Rattle.std.specs.List.{AllZip};
 ghost use Rattle.wb_small.specs.Refusal.{OnRefused};
-ghost use Rattle.wb_small.specs.Differ.{Differ};
+ghost use Rattle.wb_base.specs.Different.{Differ};
 ghost use Rattle.wb_small.specs.SmallSpec.{IsSmallSpec, names_of};
 ghost use Rattle.wb_small.specs.SmallTerm.{FitsKind, FitsChildren, IsSmallTermOf, BecomesTermNode, BecomeTermNodes, IsNodeOf};
 ghost use Rattle.wb_small.specs.declared.term.SmallTerm.{SmallTerm};
 ghost use Rattle.wb_small.specs.declared.term.SmallTermNode.{SmallTermNode};
 
 use crate::host::add_names;
-use crate::push::push;
 use crate::{
     NamedTerm, NamedTermNode, SmallChild, SmallProduction, SmallRefusal, SmallSpec, SmallTerm,
     SmallTermNode, SmallValue,
 };
 use std::alloc::{AllocError, Global};
-use wb_base::{Bytes, Names, Sequence};
+use wb_base::{Bytes, Names, Sequence, push};
 
 /// The small term of this host that this term with names is.
 ///

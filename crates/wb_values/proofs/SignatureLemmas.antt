@@ -8,7 +8,7 @@ use Rattle.wb_values.specs.Signatures.{signature_of, signatures_of, name_numbers
 use Rattle.wb_values.specs.NameIndex.{IsFirstUse, IsIndex}
 use Rattle.wb_values.specs.declared.signatures.Entry.{Entry}
 use Rattle.wb_base.specs.declared.symbol.Kind.{Kind}
-use Rattle.wb_base.specs.Different.{AreDifferent}
+use Rattle.wb_base.specs.Different.{Differ}
 
 -- as many signatures as entries
 pub length-signatures : (names : List (List ℕ)) (es : List Entry) → length (signatures_of names es) ≡ length es
@@ -75,7 +75,7 @@ none-named names es name below absent i d lt is =
     absent (e.0.name, number, get_or_default names e.0.name name [] number ∙ named)
 
 -- the first use of a name is the first signature of it
-pub first-named : (names : List (List ℕ)) (es : List Entry) (firsts : List ℕ) (k : ℕ) (name : List ℕ) (at : ℕ) → AreDifferent names → IsIndex (length names) firsts (name_numbers es) → slice_get names k ≡ Some name → at ≡ get_or firsts k at → IsFirst (signatures_of names es) name at
+pub first-named : (names : List (List ℕ)) (es : List Entry) (firsts : List ℕ) (k : ℕ) (name : List ℕ) (at : ℕ) → Differ names → IsIndex (length names) firsts (name_numbers es) → slice_get names k ≡ Some name → at ≡ get_or firsts k at → IsFirst (signatures_of names es) name at
 first-named names es firsts k name at apart index there is =
     let known : k < length names = slice_get_within names k name there in
     let place : get_or firsts k 0 ≡ at = sym (get_or_read firsts k at (omega (arith, index.counted)) is 0) in

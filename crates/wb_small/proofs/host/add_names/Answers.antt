@@ -1,6 +1,6 @@
 use Rattle.std.proofs.Common.{◌≡◌, ◌++◌, ◌∷◌, [], ℕ, List, Some, slice_get, sym, ◌∙◌, ap, subst}
 use Rattle.wb_base.specs.Names.{AddsName}
-use Rattle.wb_small.specs.Differ.{Differ}
+use Rattle.wb_base.specs.Different.{Differ}
 use Rattle.wb_small.proofs.ChildrenLemmas.{added_new, added_present}
 use Rattle.wb_small.proofs.DifferLemmas.{differ_push}
 use Rattle.wb_small.proofs.HostLemmas.{names_more, name_twice}

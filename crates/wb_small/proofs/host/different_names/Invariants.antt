@@ -1,5 +1,5 @@
 use Rattle.std.proofs.Common.{◌≡◌, take}
-use Rattle.wb_small.specs.Differ.{Differ}
+use Rattle.wb_base.specs.Different.{Differ}
 use Rattle.wb_small.proofs.host.different_names.Given as goal
 
 abbrev pub invariant-loop-name : goal.invariant-loop-name

@@ -2,7 +2,7 @@ use Rattle.std.proofs.Common.{◌≡◌, ◌++◌, ℕ, List, sym, ◌∙◌, su
 use Rattle.wb_small.specs.declared.numbered.SmallSpec.{SmallSpec}
 use Rattle.wb_small.specs.declared.numbered.Occurrence.{Occurrence}
 use Rattle.wb_small.specs.declared.numbered.SmallProduction.{SmallProduction}
-use Rattle.wb_small.specs.Differ.{Differ}
+use Rattle.wb_base.specs.Different.{Differ}
 use Rattle.wb_small.specs.SmallSpec.{names_of}
 use Rattle.wb_small.specs.SmallHost.{IsSmallHost}
 use Rattle.wb_small.specs.Numbered.{BecomeOccurrences, BecomeProductions}

@@ -1,6 +1,6 @@
 use Rattle.std.proofs.Common.{◌+◌, List, take, sym, subst}
 use Rattle.wb_small.specs.declared.term.SmallTermNode.{SmallTermNode}
-use Rattle.wb_small.specs.Differ.{Differ}
+use Rattle.wb_base.specs.Different.{Differ}
 use Rattle.wb_small.specs.SmallTerm.{BecomesTermNode, BecomeTermNodes}
 use Rattle.wb_small.proofs.Refusals.{handed_on}
 use Rattle.wb_small.proofs.TermLemmas.{nodes_more, no_term_node}

@@ -4,7 +4,7 @@ use Rattle.wb_small.specs.declared.numbered.SmallProduction.{SmallProduction}
 use Rattle.wb_small.specs.declared.term.NamedTermNode.{NamedTermNode}
 use Rattle.wb_small.specs.declared.term.SmallTerm.{SmallTerm}
 use Rattle.wb_small.specs.declared.term.SmallTermNode.{SmallTermNode}
-use Rattle.wb_small.specs.Differ.{Differ}
+use Rattle.wb_base.specs.Different.{Differ}
 use Rattle.wb_small.specs.SmallSpec.{names_of}
 use Rattle.wb_small.specs.SmallTerm.{IsSmallTermOf, BecomeTermNodes}
 use Rattle.wb_small.proofs.Refusals.{handed_on}
