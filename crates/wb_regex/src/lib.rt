@@ -1,0 +1,13 @@
+//! Regular expressions over bytes: their trees, what they match, and how they are read from a text.
+//!
+//! A `Regex` is a list of nodes in which parts stand before the whole, so that nothing here recurses. Automata that answer what
+//! matches lie in a crate above.
+#![tactic(auto)]
+
+mod node;
+mod refusal;
+mod regex;
+
+pub use node::RegexNode;
+pub use refusal::RegexRefusal;
+pub use regex::Regex;

@@ -1,0 +1,50 @@
+ghost use Rattle.std.specs.Prelude.{◌≡◌, [], length, IfOk};
+ghost use Rattle.wb_regex.specs.Matches.{Matches};
+ghost use Rattle.wb_regex.specs.Filled.{Filled};
+ghost use Rattle.wb_regex.specs.Covers.{Covers};
+
+use crate::RegexNode;
+use std::alloc::AllocError;
+use std::marker::Model;
+
+/// A regular expression, in which each byte set holds a byte, and which doesn't match the empty text.
+///
+/// Contracts see its tree.
+#[derive(Drop)]
+pub struct Regex {
+    nodes: Vec<RegexNode>,
+}
+
+impl Model for Regex {
+    ghost use Rattle.wb_regex.specs.Tree.{Tree};
+    ghost use Rattle.wb_regex.specs.TreeCode.{coded_tree};
+    ghost use Rattle.wb_regex.specs.Whole.{tree_of, IsWhole};
+
+    ghost Value = { Tree };
+
+    ghost coded = { coded_tree };
+
+    ghost view = { λ r. tree_of r.nodes.items };
+
+    ghost invariant = { λ r. IsWhole r.nodes.items };
+}
+
+impl Regex {
+    /// The nodes of the tree, each once: parts before the whole, from left to right, and the root last. Takes no memory.
+    pub fn nodes(&self) -> &[RegexNode]
+        ensures covers { Covers result.now 0 (length result.now) self.now }
+        ensures filled { Filled self.now }
+        ensures some { ¬ Matches self.now [] }
+    {
+        &self.nodes
+    }
+
+    /// An equal expression. The only error is want of memory.
+    pub fn copy(&self) -> Result<Regex, AllocError>
+        ensures { IfOk result (λ made. made ≡ self.now) }
+    {
+        Ok(Regex {
+            nodes: self.nodes.clone()?,
+        })
+    }
+}
