@@ -2,8 +2,6 @@ pub mod HostEntries
 pub mod HostKinds
 pub mod HostLaws
 pub mod HostParts
-pub mod Next
-pub mod NextLaws
 pub mod SmallHostGrammar
 pub mod SmallHostText
 pub mod SmallTermGrammar

@@ -6,8 +6,8 @@ ghost use Rattle.wb_reader.specs.contracts.host_rules.Kind.{the_type};
 ghost use Rattle.wb_reader.specs.HostEntries.{host_entries};
 ghost use Rattle.wb_reader.specs.HostKinds.{name_kind, integer_kind, word_kind, mark_kind};
 ghost use Rattle.wb_reader.specs.SmallHostGrammar.{host_grammar};
-ghost use Rattle.wb_reader.specs.Next.{IsNextIn};
-ghost use Rattle.wb_reader.specs.NextLaws.{one_next, advances};
+ghost use Rattle.wb_tokens.specs.Placed.{IsNextIn};
+ghost use Rattle.wb_tokens.proofs.PlacedLaws.{one_next, advances};
 ghost use Rattle.wb_reader.specs.HostLaws.{host_sampled, host_decided, host_ends};
 
 use crate::host_builder::HostBuilder;
@@ -15,10 +15,9 @@ use crate::host_rules::{
     Action, CHILD, CHILD_KIND, CHILDREN, EQUATION, EQUATIONS, EXPRESSION, FILE, INTEGER, ITEM,
     ITEMS, Kind, NAME, Part, TAIL,
 };
-use crate::next::next_in;
 use std::alloc::{AllocError, Global};
 use wb_predictive::{Next, Rule, Table};
-use wb_tokens::{Layout, Punctuation, Token, Word};
+use wb_tokens::{Layout, Punctuation, Token, Word, next_in};
 
 // The kind of a name.
 fn name_kind(name: &[u8]) -> Kind

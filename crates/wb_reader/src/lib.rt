@@ -10,7 +10,6 @@ mod host_rules;
 mod host_table;
 mod limit;
 mod list;
-mod next;
 mod small_host;
 mod small_term;
 mod stack;

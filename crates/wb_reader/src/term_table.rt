@@ -5,17 +5,16 @@ ghost use denote.Enum.Bare.{same_true, true_same};
 ghost use Rattle.wb_reader.specs.contracts.term_rules.Kind.{the_type};
 ghost use Rattle.wb_reader.specs.SmallTermGrammar.{mark_kind, term_grammar};
 ghost use Rattle.wb_reader.specs.TermEntries.{term_entries};
-ghost use Rattle.wb_reader.specs.Next.{IsNextIn};
-ghost use Rattle.wb_reader.specs.NextLaws.{one_next, advances};
+ghost use Rattle.wb_tokens.specs.Placed.{IsNextIn};
+ghost use Rattle.wb_tokens.proofs.PlacedLaws.{one_next, advances};
 ghost use Rattle.wb_reader.specs.TermLaws.{term_sampled, term_decided, term_ends};
 
-use crate::next::next_in;
 use crate::term_builder::TermBuilder;
 use crate::term_rules::{ARGUMENT, ARGUMENTS, Action, HEAD, Kind, MORE, OWNER, Part, TERM};
 use std::alloc::{AllocError, Global};
 use wb_predictive::{Next, Rule, Table};
 use wb_small::SmallValue;
-use wb_tokens::{Layout, Punctuation, Token};
+use wb_tokens::{Layout, Punctuation, Token, next_in};
 
 // The kind of a punctuation mark.
 fn mark_kind(mark: Punctuation) -> Kind

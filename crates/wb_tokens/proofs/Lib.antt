@@ -10,3 +10,4 @@ mod QuotedLemmas
 mod SkippingLemmas
 pub mod StandingLemmas
 mod WordLemmas
+pub mod PlacedLaws

@@ -7,3 +7,4 @@ pub mod Printing
 pub mod Skipping
 pub mod Spelling
 pub mod Words
+pub mod Placed

@@ -8,6 +8,7 @@ mod beginning;
 mod integer;
 mod name;
 mod next;
+mod placed;
 mod print;
 mod punctuation;
 mod regex;
@@ -19,6 +20,7 @@ mod token;
 mod word;
 
 pub use next::next_token;
+pub use placed::next_in;
 pub use print::{print_int, print_text};
 pub use punctuation::Punctuation;
 pub use token::{Layout, Next, Token};

@@ -9,7 +9,7 @@ use Rattle.wb_tokens.specs.declared.token.Next.{Next as NextThing}
 use Rattle.wb_tokens.specs.declared.token.Next.TheVariants as n
 use Rattle.wb_tokens.specs.Skipping.{SkipsLayout, stop, skip, IsLayoutPiece, blank, comment}
 use Rattle.wb_tokens.proofs.CallerLemmas.{next_only}
-use Rattle.wb_reader.specs.Next.{IsNextIn}
+use Rattle.wb_tokens.specs.Placed.{IsNextIn}
 
 -- the same, as a table has it
 abbrev as_next : NextThing → Next Token

@@ -1,11 +1,11 @@
-//! What stands next in a text, for a table.
+//! What stands next in a text, as a table of `wb_predictive` asks for it.
 
 ghost use Rattle.std.specs.Prelude.{◌≤◌, length, IfOk};
-ghost use Rattle.wb_reader.specs.Next.{IsNextIn};
+ghost use Rattle.wb_tokens.specs.Placed.{IsNextIn};
 
+use crate::{Layout, Token, next_token};
 use std::alloc::{AllocError, Global};
 use wb_predictive::{Next, Placed};
-use wb_tokens::{Layout, Token, next_token};
 
 /// The longest token behind a place, the end of the text, or bytes that begin no token.
 /// The only error is want of memory.
@@ -19,12 +19,12 @@ pub fn next_in(
     ensures ok { IfOk result (λ next. IsNextIn layout text.now from next) }
 {
     match next_token(alloc, text, from, layout)? {
-        wb_tokens::Next::Token { token, at, behind } => Ok(Next::Found(Placed {
+        crate::Next::Token { token, at, behind } => Ok(Next::Found(Placed {
             token,
             at,
             end: behind,
         })),
-        wb_tokens::Next::End { at } => Ok(Next::End { at }),
-        wb_tokens::Next::NoToken { at } => Ok(Next::NoToken { at }),
+        crate::Next::End { at } => Ok(Next::End { at }),
+        crate::Next::NoToken { at } => Ok(Next::NoToken { at }),
     }
 }
