@@ -1,1 +1,14 @@
 pub mod CoversLemmas
+pub mod SetBits
+pub mod ClassSteps
+pub mod BuildLemmas
+pub mod ReaderSteps
+pub mod SetLemmas
+pub mod ClassResidual
+pub mod Residual
+pub mod ResidualBack
+pub mod Reading
+pub mod Spelling
+pub mod Excluding
+pub mod EmptyLemmas
+pub mod ReadLemmas
