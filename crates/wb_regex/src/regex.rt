@@ -44,7 +44,7 @@ impl Regex {
     pub fn nodes(&self) -> &[RegexNode]
         ensures covers { Covers result.now 0 (length result.now) self.now }
         ensures filled { Filled self.now }
-        ensures not_empty { ¬ Matches self.now [] }
+        ensures some { ¬ Matches self.now [] }
     {
         &self.nodes
     }
