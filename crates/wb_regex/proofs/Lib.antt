@@ -1,14 +1,16 @@
 pub mod CoversLemmas
-pub mod SetBits
-pub mod ClassSteps
-pub mod BuildLemmas
-pub mod ReaderSteps
-pub mod SetLemmas
-pub mod ClassResidual
-pub mod Residual
-pub mod ResidualBack
-pub mod Reading
-pub mod Spelling
-pub mod Excluding
-pub mod EmptyLemmas
-pub mod ReadLemmas
+mod SetBits
+mod ClassSteps
+mod BuildLemmas
+mod ReaderSteps
+mod SetLemmas
+mod ClassResidual
+mod Residual
+mod ResidualBack
+mod Reading
+mod Spelling
+mod Excluding
+mod EmptyLemmas
+mod ReadLemmas
+pub mod MatchLaws
+pub mod CallerLemmas

@@ -144,8 +144,8 @@ impl Reader {
             → EndsAt self.old self.new (regex_of l t) ls place) }
         ensures rest { self.new ≡ record self.old { nodes = self.new.nodes } }
     {
-        let branch = build::sequence(&mut self.nodes, self.level.branch, piece)?;
-        let place = build::choice(&mut self.nodes, self.level.alternatives, branch)?;
+        let sequence = build::sequence(&mut self.nodes, self.level.branch, piece)?;
+        let place = build::choice(&mut self.nodes, self.level.alternatives, sequence)?;
         Ok(place)
     }
 
