@@ -57,5 +57,6 @@ pub fn dot_set() -> [u64; 4]
     ensures words { result ≡ dot_words }
     ensures some { HoldsByte result 0 }
 {
-    others(&literal_set(b'\n'))
+    let line_feed = literal_set(b'\n');
+    others(&line_feed)
 }
