@@ -1,7 +1,6 @@
 //! Classes, a symbol at a time.
 
-ghost use Rattle.std.specs.Prelude.{◌≡◌, ◌≤◌, ◌∷◌, ℕ, Bool};
-ghost use Rattle.std.specs.Prelude.{[]};
+ghost use Rattle.std.specs.Prelude.{◌≡◌, ◌≤◌, [], ◌∷◌, ℕ, Bool};
 ghost use Rattle.wb_regex.specs.Sets.{Ranges, in_class};
 ghost use Rattle.wb_regex.specs.Grammar.{one_of};
 ghost use Rattle.wb_regex.specs.ClassMachine.{Spot, words_of, one_step, closing, begin_step, behind_step, tail_step, bound_step, class_step};

@@ -1,11 +1,11 @@
 //! Regular expressions from their text.
 
-ghost use Rattle.std.specs.Prelude.{◌≡◌, ◌<◌, [], ℕ, length, IfOk, IfErr, Ok, Err};
+ghost use Rattle.std.specs.Prelude.{◌≡◌, [], ℕ, length, IfOk, IfErr, Ok, Err};
 ghost use Rattle.wb_regex.specs.Tree.{Tree};
 ghost use Rattle.wb_regex.specs.Matches.{Matches};
 ghost use Rattle.wb_regex.specs.Covers.{Covers};
 ghost use Rattle.wb_regex.specs.Text.{IsRegexText, IsFirstFault};
-ghost use Rattle.wb_regex.specs.Empties.{AreEmpties, empty_of, empty_at, flag};
+ghost use Rattle.wb_regex.specs.Empties.{empty_of, empty_at, flag};
 ghost use Rattle.wb_regex.specs.Reader.{IsRead};
 ghost use Rattle.wb_regex.specs.Answer.{HasCause, IsAnswer};
 ghost use Rattle.wb_regex.specs.declared.refusal.RegexRefusal.TheVariants.{Bad, MatchesEmpty};

@@ -1,13 +1,11 @@
 //! The reader of regular expressions, which goes over the symbols with a stack of open groups.
 
-ghost use Rattle.std.specs.Prelude.{◌≡◌, ◌<◌, ◌+◌, ◌∷◌, [], ℕ, length, List, Option, Some, None, IfOk, OnOk, MatchBool, IsTrue};
+ghost use Rattle.std.specs.Prelude.{◌≡◌, [], ℕ, length, List, Option, IfOk, OnOk};
 ghost use Rattle.wb_regex.specs.Tree.{Tree, Set};
 ghost use Rattle.wb_regex.specs.Matches.{HoldsByte};
-ghost use Rattle.wb_regex.specs.Covers.{Covers};
 ghost use Rattle.wb_regex.specs.Building.{IsMark};
 ghost use Rattle.wb_regex.specs.ClassMachine.{Turn};
-ghost use Rattle.wb_regex.specs.Machine.{State, Before, After, no_level, Level, literal_words, literal_state, step, ended, begun, closed, turned, went, with_piece, with_branch, regex_of};
-ghost use Rattle.wb_regex.specs.Grammar.{literal_of};
+ghost use Rattle.wb_regex.specs.Machine.{State, Before, After, no_level, Level, literal_state, step, ended, begun, closed, turned, went, with_piece, with_branch, regex_of};
 ghost use Rattle.wb_regex.specs.ClassReader.{ShowsTurn};
 ghost use Rattle.wb_regex.specs.Reader.{Stands, HasPiece, Keeps, Took, Finishes, EndsAt};
 

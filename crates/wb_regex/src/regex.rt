@@ -1,3 +1,5 @@
+//! Regular expressions as values. They come from a text alone, by `read`.
+
 ghost use Rattle.std.specs.Prelude.{◌≡◌, [], length, IfOk};
 ghost use Rattle.wb_regex.specs.Matches.{Matches};
 ghost use Rattle.wb_regex.specs.Filled.{Filled};

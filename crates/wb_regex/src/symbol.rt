@@ -1,3 +1,5 @@
+//! The symbols that texts of regular expressions are made of.
+
 ghost use Rattle.std.specs.Prelude.{◌≡◌};
 ghost use Rattle.wb_regex.specs.Grammar.{literal_of};
 
