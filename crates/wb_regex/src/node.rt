@@ -1,3 +1,5 @@
+//! The nodes of regular expressions.
+
 /// A node of a regular expression. The numbers are the places of its parts, which stand before it.
 #[derive(Clone, Copy, Debug, PartialEq, Eq)]
 pub enum RegexNode {
