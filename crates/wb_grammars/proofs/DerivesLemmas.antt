@@ -1,5 +1,6 @@
 -- Laws of derivations.
 use Rattle.std.proofs.Common.{◌≡◌, ℕ, List, [], ◌∷◌, ◌++◌, refl, sym, ◌∙◌, ap, subst, append_assoc, inl, inr, ◌⊎◌}
+use Rattle.std.specs.Prelude.{◌↔◌}
 use Rattle.wb_base.specs.declared.symbol.Symbol.{Symbol}
 use Rattle.wb_base.specs.declared.symbol.Symbol.TheVariants.{Terminal, Nonterminal}
 use Rattle.wb_base.specs.Grammar.{GrammarState}
@@ -124,3 +125,18 @@ Steps-from_derives {g} (expand p a right u v {w} {x} rule r s is) =
     (Steps-then (Steps-inside [] w (Steps-from_derives r))
     (let t = Steps-inside u [] (Steps-from_derives s) in
     subst (λ z. Steps g (u ++ w) z) (append_nil (u ++ v)) (subst (λ z. Steps g z (u ++ v ++ [])) (append_nil (u ++ w)) t))))
+
+-- what begins what a joined list derives is of the first part, or the first part is empty and it is of the second
+pub First-append : (g : GrammarState) (u v : List Symbol) (t : ℕ) → IsFirst g (u ++ v) t ↔ (IsFirst g u t ⊎ (Derives g u [] × IsFirst g v t))
+First-append g u v t = (there, back)
+  where
+    go : (x left right : List Symbol) → Terminal t ∷ x ≡ left ++ right → Derives g u left → Derives g v right → IsFirst g u t ⊎ (Derives g u [] × IsFirst g v t)
+    go x [] right is l r = inr (l, (x, subst (λ z. Derives g v z) (sym is) r))
+    go x (y ∷ left) right is l r = let e : y ≡ Terminal t = cc in inl (left, subst (λ z. Derives g u (z ∷ left)) e l)
+
+    there : IsFirst g (u ++ v) t → IsFirst g u t ⊎ (Derives g u [] × IsFirst g v t)
+    there (x, r) = let s = Derives-split u r in go x s.left s.right s.is s.of_left s.of_right
+
+    back : IsFirst g u t ⊎ (Derives g u [] × IsFirst g v t) → IsFirst g (u ++ v) t
+    back (inl (x, r)) = (x ++ v, Derives-append r (Derives-same g v))
+    back (inr (n, (x, r))) = (x, Derives-append n r)

@@ -5,8 +5,8 @@ use Rattle.wb_base.specs.declared.symbol.Symbol.{Symbol}
 use Rattle.wb_base.specs.declared.symbol.Symbol.TheVariants.{Terminal, Nonterminal}
 use Rattle.wb_base.specs.Grammar.{GrammarState}
 use Rattle.wb_grammars.specs.Rules.{IsRule}
-use Rattle.wb_grammars.specs.Derives.{Derives, done, keep, expand}
-use Rattle.wb_grammars.proofs.DerivesLemmas.{Derives-append, Derives-then, Derives-same, append_nil}
+use Rattle.wb_grammars.specs.Derives.{Derives, done, keep, expand, Steps, DerivesInSteps}
+use Rattle.wb_grammars.proofs.DerivesLemmas.{Derives-append, Derives-then, Derives-same, append_nil, Derives-from_steps, Steps-from_derives}
 use Rattle.wb_grammars.specs.Cycles.{IsUnitCycle, IsUnitRule, DerivesAlone}
 use Rattle.wb_grammars.specs.Walks.{Walk, one, more}
 
@@ -49,3 +49,24 @@ alone_is g a b = (λ (p, right, rule, r). alone_walk a b p [] r refl rule done, 
 
 pub unit_cycle_is : (g : GrammarState) (a : ℕ) → IsUnitCycle g a ↔ Walk (IsUnitRule g) a a
 unit_cycle_is g a = alone_is g a a
+
+-- one symbol as a list with one in the middle
+middle_of_one : (before after : List Symbol) (x y : Symbol) → x ∷ [] ≡ before ++ y ∷ after → (before ≡ []) × (after ≡ []) × (x ≡ y)
+middle_of_one [] [] x y e = (refl, refl, cc)
+middle_of_one [] (z ∷ after) x y e = cc
+middle_of_one (z ∷ []) after x y e = cc
+middle_of_one (z ∷ w ∷ before) after x y e = cc
+
+-- the production of the first step, and the rest
+pub unit_steps : (g : GrammarState) (a : ℕ) → IsUnitCycle g a ↔ DerivesInSteps g (Nonterminal a ∷ []) (Nonterminal a ∷ [])
+unit_steps g a = (
+  λ (p, right, rule, r). ([], [], right, p, a, rule, refl, subst (λ z. Steps g z (Nonterminal a ∷ [])) (sym (append_nil right)) (Steps-from_derives r)),
+  λ (before, after, right, p, b, rule, is, steps). back before after right p b rule is steps,
+)
+  where
+    back : (before after right : List Symbol) (p b : ℕ) → IsRule g p b right → Nonterminal a ∷ [] ≡ before ++ Nonterminal b ∷ after → Steps g (before ++ right ++ after) (Nonterminal a ∷ []) → IsUnitCycle g a
+    back before after right p b rule is steps =
+        let parts = middle_of_one before after (Nonterminal a) (Nonterminal b) is in
+        let same : a ≡ b = (let e : Nonterminal a ≡ Nonterminal b = parts.2 in cc) in
+        let flat : before ++ right ++ after ≡ right = ap (λ z. z ++ right ++ after) parts.0 ∙ (ap (λ z. right ++ z) parts.1 ∙ append_nil right) in
+        (p, right, subst (λ z. IsRule g p z right) (sym same) rule, Derives-from_steps (subst (λ z. Steps g z (Nonterminal a ∷ [])) flat steps))
