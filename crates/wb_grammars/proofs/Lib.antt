@@ -8,5 +8,6 @@ pub mod KernelLemmas
 pub mod LiveLemmas
 pub mod PrefixLemmas
 pub mod RingLemmas
+pub mod RuleLemmas
 pub mod TreeLemmas
 pub mod UnitLemmas

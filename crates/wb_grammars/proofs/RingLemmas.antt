@@ -126,3 +126,8 @@ ring_of_one g a cycle = record { nonempty = omega arith; each = λ b c f. alone 
 pub hidden_ring_member : (g : GrammarState) (list : List ℕ) (ring : IsHiddenRing g list) → Contains list ring.above
 hidden_ring_member g list ring =
     (ring.place.place, slice_get_within list ring.place.place ring.above ring.place.one, get_or_from_slice_get list ring.place.place ring.above ring.above ring.place.one)
+
+-- the first element of a list with one
+pub first_of : (list : List ℕ) → 0 < length list → (a : ℕ) × (slice_get list 0 ≡ Some a)
+first_of [] lt = absurd (omega arith)
+first_of (x ∷ list) lt = (x, refl)

@@ -32,12 +32,12 @@ pub record Grown (g : GrammarState) (w v : List Symbol) : Type 0 where
   pub roots : symbols forest ≡ w
   pub text : (prefix : List Symbol) → text_of (leaves prefix forest) ≡ v
 
-text_left : (u v : List Symbol) → IsText (u ++ v) → IsText u
+pub text_left : (u v : List Symbol) → IsText (u ++ v) → IsText u
 text_left [] v h = empty
 text_left (Terminal t ∷ u) v (next _ h) = next t (text_left u v h)
 text_left (Nonterminal a ∷ u) v h = elim h [ ]
 
-text_right : (u v : List Symbol) → IsText (u ++ v) → IsText v
+pub text_right : (u v : List Symbol) → IsText (u ++ v) → IsText v
 text_right [] v h = h
 text_right (Terminal t ∷ u) v (next _ h) = text_right u v h
 text_right (Nonterminal a ∷ u) v h = elim h [ ]

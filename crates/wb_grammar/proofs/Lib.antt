@@ -1,0 +1,12 @@
+mod BuiltLemmas
+mod CycleLemmas
+mod EdgeLemmas
+mod FirstLemmas
+mod HiddenTestLemmas
+mod PartLemmas
+mod PathLemmas
+mod ReachLemmas
+mod ReducedLemmas
+mod RefusalLemmas
+mod RingByLemmas
+mod SweepLemmas

@@ -1,0 +1,23 @@
+use Rattle.std.proofs.Common.{◌≡◌, List, sym, subst, ap}
+use Rattle.wb_graph.specs.Graphs.{Edge}
+use Rattle.wb_graph.specs.Orders.{IsOrder, IsCycle, IsAnswer}
+use Rattle.wb_grammars.specs.Cycles.{IsUnitRing}
+use Rattle.wb_grammar.specs.declared.part.Part.TheVariants.{Alone}
+use Rattle.wb_grammar.specs.Edges.{AreEdges}
+use Rattle.wb_grammar.proofs.CycleLemmas.{order_no_cycle, cycle_unit_ring}
+use Rattle.wb_grammar.proofs.units.test_unit_cycles.Goals as goal
+
+pub returns-in-Order-clause-ok : goal.returns-in-Order-clause-ok
+returns-in-Order-clause-ok c =
+    let g = c.args.grammar.now in
+    let edges = c.in_ok-edges.edges.items in
+    let order = rw c.in-Order.is at c.in_ok-order_of.ensures.ok in
+    order_no_cycle g c.args.nullable.now edges c.in-Order.field-0.items c.in_ok-edges.ensures.grammar c.requires.nullable c.in_ok-edges.ensures.exact
+    (rw (← c.nonterminals.ensures, ← c.deref.ensures.value) order)
+
+pub returns-clause-refused : goal.returns-clause-refused
+returns-clause-refused c =
+    let g = c.args.grammar.now in
+    let edges = c.in_ok-edges.edges.items in
+    let cycle = rw c.in-Cycle.is at c.in_ok-order_of.ensures.ok in
+    (c.requires.reduced, rw c.from_vec.ensures (cycle_unit_ring g c.args.nullable.now edges c.in-Cycle.list.items c.requires.nullable c.in_ok-edges.ensures.exact (rw (← c.deref.ensures.value) cycle)))
