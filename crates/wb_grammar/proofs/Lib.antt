@@ -3,6 +3,7 @@ mod CycleLemmas
 mod EdgeLemmas
 mod FirstLemmas
 mod HiddenTestLemmas
+mod OrderLemmas
 mod PartLemmas
 mod PathLemmas
 mod ReachLemmas

@@ -1,7 +1,7 @@
 //! The analysis of a grammar: each test in the order in which refusals are shown, and what is known after them.
 
 ghost use Rattle.std.specs.Prelude.{◌≡◌, ◌<◌, ℕ, length, All, IfErr, IfOk};
-ghost use Rattle.wb_base.specs.Grammar.{GrammarState, IsGrammar};
+ghost use Rattle.wb_base.specs.Grammar.{GrammarState};
 ghost use Rattle.wb_grammar.specs.declared.refusal.GrammarRefusal.{GrammarRefusal as Refusal};
 ghost use Rattle.wb_grammar.specs.Facts.{FactsState, AreFacts, IsNullableSet};
 ghost use Rattle.wb_grammar.specs.Refusals.{IsTrueRefusal, IsNoMemory};
@@ -9,11 +9,12 @@ ghost use Rattle.wb_grammar.specs.Refusals.{IsTrueRefusal, IsNoMemory};
 use crate::built::built;
 use crate::first::first_of_all;
 use crate::hidden::test_hidden_left_recursion;
+use crate::order::bottom_up;
 use crate::reduced::test_reduced;
 use crate::units::test_unit_cycles;
 use crate::{Facts, GrammarRefusal};
 use std::alloc::{AllocError, Global};
-use wb_base::{Grammar, push};
+use wb_base::Grammar;
 use wb_termset::TermSet;
 
 /// The facts of a grammar, or why it is refused: it isn't reduced, or has a unit cycle, or has hidden left recursion, in this order.
@@ -24,7 +25,7 @@ pub fn analyse(alloc: Global, grammar: &Grammar) -> Result<Facts, GrammarRefusal
     ensures ok { IfOk result (λ facts. AreFacts grammar.now facts) }
     ensures refused { IfErr result (IsTrueRefusal grammar.now) }
 {
-    let order = from_last(alloc, grammar)?;
+    let order = bottom_up(alloc, grammar)?;
     let nullable = nullable_in(alloc, grammar, &order)?;
     test_reduced(alloc, grammar, &nullable, &order)?;
     test_unit_cycles(alloc, grammar, &nullable)?;
@@ -45,16 +46,4 @@ fn nullable_in(alloc: Global, grammar: &Grammar, order: &[usize]) -> Result<Term
 {
     let nullable = built(alloc, grammar, false, order)?;
     Ok(nullable)
-}
-
-// The productions from the last to the first.
-fn from_last(alloc: Global, grammar: &Grammar) -> Result<Vec<usize>, AllocError>
-    ensures below { IfOk result (λ order. All (λ p. p < length grammar.now.productions) order.items) }
-    ensures grammar { IfOk result (λ _. IsGrammar grammar.now) }
-{
-    let mut order = Vec::new(alloc);
-    'productions: for production in (0..grammar.productions()).rev() {
-        push(&mut order, production)?;
-    }
-    Ok(order)
 }

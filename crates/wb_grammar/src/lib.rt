@@ -11,10 +11,13 @@ mod facts;
 mod first;
 mod first_sets;
 mod hidden;
+mod order;
 mod part;
 mod paths;
 mod reduced;
 mod refusal;
+#[cfg(test)]
+mod tests;
 mod units;
 
 pub use analysis::{analyse, refusals_law};
