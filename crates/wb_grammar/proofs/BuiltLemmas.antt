@@ -1,16 +1,16 @@
 -- Sets of nonterminals that are built from below.
-use Rattle.std.proofs.Common.{◌≡◌, ℕ, ◌+◌, ◌<◌, ◌⊎◌, Bool, true, false, List, [], ◌∷◌, ◌++◌, length, get_or, set, refl, sym, ◌∙◌, ap, subst, inl, inr, arith}
+use Rattle.std.proofs.Common.{◌≡◌, ℕ, ◌<◌, Bool, true, false, List, [], ◌∷◌, ◌++◌, length, set, refl, sym, ◌∙◌, subst, inl, inr, arith}
 use Rattle.std.specs.Prelude.{All, ◌↔◌}
 use Rattle.std.proofs.lemmas.List.Elements.{All-head, All-tail, All-cons, All-nil}
 use Rattle.wb_base.specs.declared.symbol.Symbol.{Symbol}
 use Rattle.wb_base.specs.declared.symbol.Symbol.TheVariants.{Terminal, Nonterminal}
 use Rattle.wb_base.specs.Grammar.{GrammarState, IsSymbolBelow}
-use Rattle.wb_termset.specs.Sets.{Has, IsSubset, Grew}
-use Rattle.wb_termset.proofs.CallerLemmas.{Has-insert, IsSubset-insert, IsSubset-trans}
+use Rattle.wb_termset.specs.Sets.{IsSubset, Grew}
+use Rattle.wb_termset.proofs.CallerLemmas.{Has-insert}
 use Rattle.wb_grammars.specs.Rules.{IsRule}
-use Rattle.wb_grammars.specs.Derives.{Derives, done, keep, expand, IsText, empty, next, IsNullable}
+use Rattle.wb_grammars.specs.Derives.{Derives, done, keep, expand, IsText, empty, next}
 use Rattle.wb_grammars.specs.Shape.{IsProductive}
-use Rattle.wb_grammars.proofs.DerivesLemmas.{nil_parts, append_nil}
+use Rattle.wb_grammars.proofs.DerivesLemmas.{nil_parts}
 use Rattle.wb_grammars.proofs.TreeLemmas.{text_left, text_right}
 use Rattle.wb_grammar.specs.Built.{Builds, nothing, terminal, nonterminal, Holds, IsKnown, AreBuilt, IsClosedAt, IsBuiltSet}
 use Rattle.wb_grammar.specs.Facts.{IsNullableSet}

@@ -1,6 +1,6 @@
 -- Unit cycles by an order or a cycle of the edges to nonterminals beside which all derives the empty text.
-use Rattle.std.proofs.Common.{◌≡◌, ℕ, ◌+◌, ◌-◌, ◌<◌, Bool, true, false, List, [], ◌∷◌, ◌++◌, length, Some, refl, sym, ◌∙◌, ap, subst, inl, inr, arith}
-use Rattle.std.specs.Prelude.{All, Contains, ◌↔◌, slice_get}
+use Rattle.std.proofs.Common.{◌≡◌, ℕ, ◌+◌, ◌-◌, ◌<◌, Bool, true, false, List, [], ◌∷◌, ◌++◌, length, Some, refl, ◌∙◌, ap, subst, inl, inr, arith}
+use Rattle.std.specs.Prelude.{All, Contains, slice_get}
 use Rattle.std.proofs.lemmas.List.Elements.{All-head, All-tail, All-cons, All-nil}
 use Rattle.std.proofs.lemmas.Option.{slice_get-get_or}
 use Rattle.wb_base.specs.declared.symbol.Symbol.{Symbol}
@@ -10,9 +10,9 @@ use Rattle.wb_graph.specs.Graphs.{Edge, IsEdge}
 use Rattle.wb_graph.specs.Orders.{IsOrder, IsCycle}
 use Rattle.wb_grammars.specs.Rules.{IsRule}
 use Rattle.wb_grammars.specs.Derives.{Derives, done}
-use Rattle.wb_grammars.specs.Cycles.{IsUnitCycle, IsUnitRule, IsUnitRing, DerivesAlone, HasNoUnitCycle, IsFollowedBy, IsRing}
+use Rattle.wb_grammars.specs.Cycles.{IsUnitRule, IsUnitRing, DerivesAlone, HasNoUnitCycle, IsFollowedBy, IsRing}
 use Rattle.wb_grammars.specs.Walks.{Walk, one, more}
-use Rattle.wb_grammars.proofs.DerivesLemmas.{Derives-append, Derives-nil, Nullable-parts}
+use Rattle.wb_grammars.proofs.DerivesLemmas.{Derives-append, Nullable-parts}
 use Rattle.wb_grammars.proofs.UnitLemmas.{unit_cycle_is, rule_alone}
 use Rattle.wb_grammars.proofs.RuleLemmas.{rule_below}
 use Rattle.wb_grammar.specs.Built.{Holds}

@@ -1,16 +1,16 @@
 -- The edges that productions make.
-use Rattle.std.proofs.Common.{◌≡◌, ℕ, ◌+◌, ◌<◌, ◌≤◌, ◌⊎◌, zero, suc, Bool, List, [], ◌∷◌, ◌++◌, length, get_or, refl, sym, ◌∙◌, ap, subst, inl, inr, arith}
+use Rattle.std.proofs.Common.{◌≡◌, ℕ, ◌+◌, ◌<◌, ◌≤◌, ◌⊎◌, zero, suc, Bool, List, [], ◌∷◌, ◌++◌, length, get_or, sym, ap, subst, inl, inr, arith}
 use Rattle.std.specs.Prelude.{All, Contains, ◌↔◌}
 use Rattle.std.proofs.lemmas.Bool.{cases_lt}
-use Rattle.std.proofs.lemmas.List.Elements.{All-head, Contains-append_left, Contains-append_right, Contains-append_cases, Contains-get_or, All-get_or, All-contains}
+use Rattle.std.proofs.lemmas.List.Elements.{Contains-append_left, Contains-append_right, Contains-append_cases, Contains-get_or, All-contains}
 use Rattle.wb_base.specs.declared.symbol.Symbol.{Symbol}
 use Rattle.wb_base.specs.declared.symbol.Symbol.TheVariants.{Terminal, Nonterminal}
-use Rattle.wb_base.specs.Grammar.{GrammarState, IsGrammar, IsSymbolBelow, IsProductionBelow}
+use Rattle.wb_base.specs.Grammar.{GrammarState, IsGrammar, IsSymbolBelow}
 use Rattle.wb_graph.specs.Graphs.{Edge, IsEdgeBelow}
 use Rattle.wb_grammars.specs.Rules.{IsRule}
 use Rattle.wb_grammars.proofs.RuleLemmas.{rule_once, rule_within, rule_below}
 use Rattle.wb_grammar.specs.declared.part.Part.{Part}
-use Rattle.wb_grammar.specs.Edges.{Fits, IsPlaced, IsEdgeBy, AreEdges, edges_of}
+use Rattle.wb_grammar.specs.Edges.{IsPlaced, IsEdgeBy, AreEdges, edges_of}
 use Rattle.wb_grammar.proofs.PartLemmas.{placed_within}
 
 edge_cases : (e : Edge) (es : List Edge) (x : Edge) → Contains (e ∷ es) x → (e ≡ x) ⊎ Contains es x

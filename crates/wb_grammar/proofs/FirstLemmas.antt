@@ -1,5 +1,5 @@
 -- First sets: what can begin symbols by them, and when they are First.
-use Rattle.std.proofs.Common.{◌≡◌, ℕ, ◌+◌, ◌-◌, zero, suc, ◌<◌, ◌≤◌, ◌⊎◌, Bool, true, false, List, [], ◌∷◌, ◌++◌, length, get_or, set, drop, replicate, refl, sym, ◌∙◌, ap, subst, get_or-set_same, get_or-set_other, inl, inr, arith, Some}
+use Rattle.std.proofs.Common.{◌≡◌, ℕ, ◌+◌, ◌-◌, zero, suc, ◌<◌, ◌≤◌, ◌⊎◌, Bool, true, false, List, [], ◌∷◌, ◌++◌, length, get_or, set, replicate, refl, sym, ◌∙◌, ap, get_or-set_same, get_or-set_other, inl, inr, arith}
 use Rattle.std.specs.Prelude.{All, ◌↔◌}
 use Rattle.std.proofs.lemmas.List.{get_or-replicate, get_or_past, length-replicate}
 use Rattle.std.proofs.lemmas.List.Elements.{All-head, All-tail}
@@ -7,8 +7,8 @@ use Rattle.std.proofs.lemmas.Bool.{true≢false, cases_eq, cases_lt}
 use Rattle.wb_base.specs.declared.symbol.Symbol.{Symbol}
 use Rattle.wb_base.specs.declared.symbol.Symbol.TheVariants.{Terminal, Nonterminal}
 use Rattle.wb_base.specs.Grammar.{GrammarState}
-use Rattle.wb_termset.specs.Sets.{Has, IsSubset, IsUnion, Grew, members}
-use Rattle.wb_termset.proofs.CallerLemmas.{has_below, IsEmpty-replicate, members_le, members_mono, members_grow}
+use Rattle.wb_termset.specs.Sets.{Has, IsUnion, Grew, members}
+use Rattle.wb_termset.proofs.CallerLemmas.{IsEmpty-replicate, members_le, members_mono, members_grow}
 use Rattle.wb_grammars.specs.Rules.{IsRule}
 use Rattle.wb_grammars.specs.Derives.{Derives, done, keep, expand, IsNullable, IsFirst}
 use Rattle.wb_grammars.proofs.DerivesLemmas.{append_nil, Derives-same, First-of_head, First-of_tail}

@@ -1,15 +1,13 @@
 -- Hidden left recursion by paths of corners from the end of a hidden corner back to where it begins.
-use Rattle.std.proofs.Common.{◌≡◌, ◌≢◌, ℕ, ◌+◌, ◌-◌, ◌<◌, zero, suc, Bool, List, [], ◌∷◌, ◌++◌, length, length-append, Some, refl, sym, ◌∙◌, ap, subst, inl, inr, ◌⊎◌, arith}
-use Rattle.std.specs.Prelude.{Contains, ◌↔◌, slice_get}
+use Rattle.std.proofs.Common.{◌≡◌, ℕ, ◌+◌, ◌-◌, ◌<◌, Bool, List, [], ◌∷◌, ◌++◌, length, length-append, Some, refl, sym, ◌∙◌, ap, subst, inl, inr, arith}
+use Rattle.std.specs.Prelude.{Contains, slice_get}
 use Rattle.std.proofs.lemmas.Option.{slice_get_within}
-use Rattle.wb_base.specs.declared.symbol.Symbol.{Symbol}
 use Rattle.wb_base.specs.declared.symbol.Symbol.TheVariants.{Nonterminal}
 use Rattle.wb_base.specs.Grammar.{GrammarState}
 use Rattle.wb_graph.specs.Graphs as graphs
 use Rattle.wb_graph.specs.Graphs.{Edge, IsEdge, IsReached, stay, step}
 use Rattle.wb_grammars.specs.Rules.{IsRule}
-use Rattle.wb_grammars.specs.Derives.{Derives}
-use Rattle.wb_grammars.specs.Cycles.{IsLeftCorner, IsHiddenCorner, IsHiddenRing, IsRing, IsFollowedBy, HasNoHiddenLeftRecursion}
+use Rattle.wb_grammars.specs.Cycles.{IsLeftCorner, IsHiddenCorner, IsHiddenRing, IsFollowedBy, HasNoHiddenLeftRecursion}
 use Rattle.wb_grammars.specs.Walks.{Walk, one, more, HiddenWalk, last, here, later}
 use Rattle.wb_grammars.proofs.HiddenLemmas.{hidden_is}
 use Rattle.wb_grammar.specs.Facts.{IsNullableSet}

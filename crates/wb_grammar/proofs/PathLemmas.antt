@@ -1,5 +1,5 @@
 -- Trails, the paths that they give, and what is not met by one.
-use Rattle.std.proofs.Common.{◌≡◌, ◌≢◌, ℕ, ◌+◌, ◌-◌, ◌<◌, ◌≤◌, ◌⊎◌, zero, suc, List, [], ◌∷◌, ◌++◌, length, length-append, get_or, set, replicate, Some, None, refl, sym, ◌∙◌, ap, subst, inl, inr, arith, get_or-set_same, get_or-set_other}
+use Rattle.std.proofs.Common.{◌≡◌, ◌≢◌, ℕ, ◌+◌, ◌-◌, ◌<◌, ◌⊎◌, zero, suc, List, [], ◌∷◌, ◌++◌, length, get_or, set, replicate, Some, refl, sym, ◌∙◌, ap, subst, inl, inr, arith, get_or-set_same, get_or-set_other}
 use Rattle.std.specs.Prelude.{Contains, slice_get, slice_index}
 use Rattle.std.proofs.lemmas.Option.{slice_get_within, slice_get-get_or, gets}
 use Rattle.std.proofs.lemmas.Bool.{cases_eq, cases_lt}

@@ -1,17 +1,16 @@
 -- What walks over the edges of all places reach is what the start reaches.
-use Rattle.std.proofs.Common.{◌≡◌, ℕ, ◌<◌, ◌⊎◌, Bool, true, false, zero, suc, List, [], ◌∷◌, ◌++◌, length, get_or, refl, sym, ◌∙◌, ap, subst, append_assoc, inl, inr, arith}
+use Rattle.std.proofs.Common.{◌≡◌, ℕ, Bool, zero, suc, List, [], ◌∷◌, ◌++◌, refl, sym, subst, append_assoc, inl, inr, arith}
 use Rattle.std.specs.Prelude.{Contains, ◌↔◌}
-use Rattle.std.proofs.lemmas.List.Elements.{Contains-append_left, Contains-append_right, Contains-append_cases}
+use Rattle.std.proofs.lemmas.List.Elements.{Contains-append_right, Contains-append_cases}
 use Rattle.wb_base.specs.declared.symbol.Symbol.{Symbol}
-use Rattle.wb_base.specs.declared.symbol.Symbol.TheVariants.{Terminal, Nonterminal}
+use Rattle.wb_base.specs.declared.symbol.Symbol.TheVariants.{Nonterminal}
 use Rattle.wb_base.specs.Grammar.{GrammarState}
-use Rattle.wb_graph.specs.Graphs.{Edge, IsEdge, Walk, stay, step, IsReached, AreReached}
-use Rattle.wb_grammars.specs.Rules.{IsRule}
+use Rattle.wb_graph.specs.Graphs.{Edge, IsEdge, Walk, stay, step, IsReached}
 use Rattle.wb_grammars.specs.Derives.{Derives, done, keep, expand}
 use Rattle.wb_grammars.specs.Shape.{IsReachable}
 use Rattle.wb_grammars.proofs.DerivesLemmas.{Derives-same, Derives-append, Derives-then}
 use Rattle.wb_grammar.specs.declared.part.Part.TheVariants.{Whole}
-use Rattle.wb_grammar.specs.Edges.{IsPlaced, IsEdgeBy, AreEdges}
+use Rattle.wb_grammar.specs.Edges.{AreEdges}
 use Rattle.wb_grammar.proofs.PartLemmas.{whole_is, contains_cases, contains_nil}
 
 -- a walk with one more edge in front

@@ -1,8 +1,5 @@
 -- A true refusal but for want of memory rules facts out.
-use Rattle.std.proofs.Common.{ℕ, ◌<◌, List, length, zero}
-use Rattle.std.specs.Prelude.{slice_get}
 use Rattle.wb_base.specs.Grammar.{GrammarState}
-use Rattle.wb_grammars.specs.Cycles.{IsUnitCycle}
 use Rattle.wb_grammars.proofs.RingLemmas.{unit_ring_is, hidden_ring_is, first_of}
 use Rattle.wb_grammar.specs.declared.refusal.Reason.TheVariants.{Unreachable, Unproductive}
 use Rattle.wb_grammar.specs.declared.refusal.GrammarRefusal.{GrammarRefusal}

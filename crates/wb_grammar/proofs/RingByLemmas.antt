@@ -1,5 +1,5 @@
 -- A search for a ring through each hidden corner.
-use Rattle.std.proofs.Common.{◌≡◌, ℕ, ◌+◌, ◌<◌, ◌≤◌, Bool, true, false, List, [], ◌∷◌, length, get_or, sym, ◌∙◌, ap, subst, inl, inr, arith, Some, None, Option, Vec, Global}
+use Rattle.std.proofs.Common.{◌≡◌, ℕ, ◌+◌, ◌<◌, ◌≤◌, true, false, List, [], ◌∷◌, length, get_or, ◌∙◌, ap, subst, inl, inr, arith, Some, None, Option, Vec, Global}
 use Rattle.std.specs.Prelude.{Contains, MatchOption, is_some, slice_get}
 use Rattle.std.proofs.lemmas.Bool.{cases_lt}
 use Rattle.std.proofs.lemmas.Option.{slice_get-get_or}

@@ -1,8 +1,8 @@
 -- A sweep over edges after which nothing was met leaves the met vertices closed.
-use Rattle.std.proofs.Common.{◌≡◌, ℕ, ◌+◌, ◌<◌, ◌≤◌, List, length, sym, subst, inl, inr, arith}
+use Rattle.std.proofs.Common.{◌≡◌, ℕ, ◌+◌, ◌<◌, ◌≤◌, List, length, subst, inl, inr, arith}
 use Rattle.std.specs.Prelude.{slice_index}
 use Rattle.std.proofs.lemmas.Bool.{cases_lt}
-use Rattle.wb_graph.specs.Graphs.{Edge, IsEdge}
+use Rattle.wb_graph.specs.Graphs.{Edge}
 use Rattle.wb_grammar.specs.Paths.{IsBackClosed}
 use Rattle.wb_grammar.proofs.RingByLemmas.{edge_at, edge_place}
 

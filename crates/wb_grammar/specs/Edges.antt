@@ -1,5 +1,5 @@
 -- Places of nonterminals in right sides, and the edges between nonterminals that they make.
-use Rattle.std.specs.Prelude.{◌≡◌, ◌≢◌, ◌<◌, ◌↔◌, ℕ, suc, Bool, false, List, [], ◌∷◌, ◌++◌, All, Contains}
+use Rattle.std.specs.Prelude.{◌≡◌, ◌≢◌, ◌↔◌, ℕ, suc, Bool, false, List, [], ◌∷◌, ◌++◌, All, Contains}
 use Rattle.wb_base.specs.declared.symbol.Symbol.{Symbol}
 use Rattle.wb_base.specs.declared.symbol.Symbol.TheVariants.{Terminal, Nonterminal}
 use Rattle.wb_base.specs.Grammar.{GrammarState}

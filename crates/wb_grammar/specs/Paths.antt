@@ -1,5 +1,5 @@
 -- Paths between vertices, and a search that goes back from where a path ends.
-use Rattle.std.specs.Prelude.{◌≡◌, ◌≢◌, ◌<◌, ◌+◌, ◌⊎◌, ◌++◌, ◌∷◌, [], ℕ, List, Some, slice_get, slice_index}
+use Rattle.std.specs.Prelude.{◌≡◌, ◌≢◌, ◌<◌, ◌+◌, ◌++◌, ◌∷◌, [], ℕ, List, Some, slice_get, slice_index}
 use Rattle.wb_graph.specs.Graphs.{Edge, IsEdge}
 
 -- the list is a path to the vertex: it begins with `from`, and an edge leads from each to the next

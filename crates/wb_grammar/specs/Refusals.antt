@@ -1,5 +1,5 @@
 -- Why a grammar is refused: each reason with a true example, where no earlier one holds.
-use Rattle.std.specs.Prelude.{◌<◌, ℕ}
+use Rattle.std.specs.Prelude.{◌<◌}
 use Rattle.wb_base.specs.Grammar.{GrammarState}
 use Rattle.wb_grammars.specs.Shape.{IsReduced, IsReachable, IsProductive}
 use Rattle.wb_grammars.specs.Cycles.{HasNoUnitCycle, IsUnitRing, IsHiddenRing}

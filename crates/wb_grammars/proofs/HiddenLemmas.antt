@@ -1,14 +1,14 @@
 -- Hidden left recursion is a cycle of left corners with one that hides something.
-use Rattle.std.proofs.Common.{◌≡◌, ◌≢◌, ℕ, ◌⊎◌, List, [], ◌∷◌, ◌++◌, refl, sym, ◌∙◌, ap, subst, append_assoc, inl, inr}
+use Rattle.std.proofs.Common.{◌≡◌, ◌≢◌, ℕ, ◌⊎◌, List, [], ◌∷◌, ◌++◌, refl, sym, ◌∙◌, subst, append_assoc, inl, inr}
 use Rattle.std.specs.Prelude.{◌↔◌}
 use Rattle.wb_base.specs.declared.symbol.Symbol.{Symbol}
-use Rattle.wb_base.specs.declared.symbol.Symbol.TheVariants.{Terminal, Nonterminal}
+use Rattle.wb_base.specs.declared.symbol.Symbol.TheVariants.{Nonterminal}
 use Rattle.wb_base.specs.Grammar.{GrammarState}
 use Rattle.wb_grammars.specs.Rules.{IsRule}
 use Rattle.wb_grammars.specs.Derives.{Derives, done, keep, expand}
-use Rattle.wb_grammars.specs.Cycles.{IsHiddenLeftRecursive, IsLeftCorner, IsHiddenCorner}
+use Rattle.wb_grammars.specs.Cycles.{IsHiddenLeftRecursive, IsLeftCorner}
 use Rattle.wb_grammars.specs.Walks.{Walk, one, more, HiddenWalk, last, here, later}
-use Rattle.wb_grammars.proofs.DerivesLemmas.{Derives-append, Derives-then, Derives-same, Derives-split, Derives-nil, append_nil, nil_parts}
+use Rattle.wb_grammars.proofs.DerivesLemmas.{Derives-append, Derives-then, Derives-same, Derives-split, nil_parts}
 
 hides_walk : {g : GrammarState} {a b : ℕ} → HiddenWalk g a b → Walk (IsLeftCorner g) a b
 hides_walk (last c) = one c.corner

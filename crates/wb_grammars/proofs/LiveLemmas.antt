@@ -1,5 +1,5 @@
 -- A grammar whose nonterminals are all productive is live.
-use Rattle.std.proofs.Common.{◌≡◌, ℕ, ◌<◌, zero, suc, List, [], ◌∷◌, ◌++◌, sym}
+use Rattle.std.proofs.Common.{ℕ, ◌<◌, zero, suc, List, [], ◌∷◌, ◌++◌, sym}
 use Rattle.std.specs.Prelude.{All}
 use Rattle.std.proofs.lemmas.List.Elements.{All-head, All-tail, All-drop, All-cons, All-nil, All-same}
 use Rattle.wb_base.specs.declared.symbol.Symbol.{Symbol}

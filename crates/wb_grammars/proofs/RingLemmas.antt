@@ -1,12 +1,12 @@
 -- Rings: from each member a walk leads round to each member.
-use Rattle.std.proofs.Common.{◌≡◌, ℕ, ◌<◌, ◌≤◌, ◌+◌, ◌-◌, zero, suc, List, [], ◌∷◌, length, Some, refl, sym, ◌∙◌, ap, subst, inl, inr, ◌⊎◌, arith}
+use Rattle.std.proofs.Common.{◌≡◌, ℕ, ◌<◌, ◌≤◌, ◌+◌, ◌-◌, zero, suc, List, [], ◌∷◌, length, Some, refl, sym, ◌∙◌, subst, inl, inr, arith}
 use Rattle.std.specs.Prelude.{slice_get, All, Contains}
 use Rattle.std.proofs.lemmas.List.Elements.{All-cons, All-nil}
 use Rattle.std.proofs.lemmas.Option.{slice_get_within, get_or_from_slice_get}
 use Rattle.std.proofs.lemmas.Bool.{cases_lt, cases_eq}
 use Rattle.wb_base.specs.Grammar.{GrammarState}
 use Rattle.wb_grammars.specs.Cycles.{DerivesAlone, IsUnitCycle, IsHiddenLeftRecursive, IsLeftCorner, IsFollowedBy, IsRing, IsUnitRing, IsHiddenRing}
-use Rattle.wb_grammars.specs.Walks.{Walk, one, more, HiddenWalk, here}
+use Rattle.wb_grammars.specs.Walks.{Walk, one, more, here}
 use Rattle.wb_grammars.proofs.UnitLemmas.{alone_then}
 use Rattle.wb_grammars.proofs.HiddenLemmas.{hidden_is}
 

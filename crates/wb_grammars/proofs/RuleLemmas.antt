@@ -1,10 +1,10 @@
 -- Productions as they are read from a grammar.
-use Rattle.std.proofs.Common.{◌≡◌, ℕ, ◌<◌, List, Some, length, get_or, refl, sym, ◌∙◌, ap, subst, inl, inr, arith}
-use Rattle.std.specs.Prelude.{slice_get, IfSome, Option, None, All}
+use Rattle.std.proofs.Common.{◌≡◌, ℕ, ◌<◌, List, Some, length, refl, sym, ◌∙◌, ap, subst, inl, inr, arith}
+use Rattle.std.specs.Prelude.{slice_get, IfSome, Option, None}
 use Rattle.std.proofs.lemmas.Option.{slice_get_cases, slice_get_within, get_or_from_slice_get}
 use Rattle.std.proofs.lemmas.List.Elements.{All-get_or}
 use Rattle.wb_base.specs.declared.symbol.Symbol.{Symbol}
-use Rattle.wb_base.specs.Grammar.{GrammarState, Production, IsSymbolBelow, IsProductionBelow, IsGrammar}
+use Rattle.wb_base.specs.Grammar.{GrammarState, Production, IsProductionBelow, IsGrammar}
 use Rattle.wb_grammars.specs.Rules.{IsRule}
 
 none_within : (rs : List Production) (p : ℕ) → p < length rs → slice_get rs p ≡ None → ⊥

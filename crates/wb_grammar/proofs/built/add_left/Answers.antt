@@ -1,9 +1,6 @@
-use Rattle.std.proofs.Common.{sym, subst, arith, ◌≡◌, length, true, ◌↔◌}
-use Rattle.std.specs.Prelude.{All}
-use Rattle.wb_base.specs.Grammar.{IsSymbolBelow}
+use Rattle.std.proofs.Common.{sym, length}
 use Rattle.wb_grammars.proofs.RuleLemmas.{rule_read}
 use Rattle.wb_grammar.proofs.BuiltLemmas.{built_insert, known}
-use Rattle.wb_grammar.specs.Built.{AreBuilt}
 use Rattle.wb_grammar.proofs.built.add_left.Goals as goal
 
 pub holds_all-requires : goal.holds_all-requires

@@ -1,4 +1,4 @@
-use Rattle.std.proofs.Common.{◌≡◌, ◌<◌, ◌≤◌, length, arith, sym, ◌∙◌}
+use Rattle.std.proofs.Common.{◌≡◌, ◌<◌, length, arith, sym, ◌∙◌}
 use Rattle.wb_termset.specs.Sets.{members}
 use Rattle.wb_termset.proofs.CallerLemmas.{members_le, members_grow}
 use Rattle.wb_grammar.proofs.BuiltLemmas.{built_exact}

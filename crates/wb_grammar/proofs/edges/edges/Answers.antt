@@ -1,6 +1,4 @@
 use Rattle.std.proofs.Common.{◌≡◌, rules, ◌<◌, length, ◌+◌, ◌++◌, arith, sym, subst}
-use Rattle.wb_graph.specs.Graphs.{Edge}
-use Rattle.std.specs.Prelude.{List}
 use Rattle.wb_grammars.proofs.RuleLemmas.{rule_read}
 use Rattle.wb_grammar.specs.Edges.{edges_of}
 use Rattle.wb_grammar.proofs.EdgeLemmas.{EdgesBefore, edges_more, edges_exact, edges_below}

@@ -1,4 +1,4 @@
-use Rattle.std.proofs.Common.{◌≡◌, ◌<◌, length, arith, List, Bool, subst, sym}
+use Rattle.std.proofs.Common.{◌<◌, length, arith, subst, sym}
 use Rattle.wb_grammars.proofs.RuleLemmas.{rule_read}
 use Rattle.wb_grammar.specs.Firsts.{AreFirsts}
 use Rattle.wb_grammar.proofs.FirstLemmas.{sound_add}

@@ -1,6 +1,5 @@
-use Rattle.std.proofs.Common.{◌≡◌, ◌+◌, ◌-◌, false, suc, length, drop, take, arith, subst, sym, ap, ◌∙◌}
+use Rattle.std.proofs.Common.{◌+◌, ◌-◌, false, arith, subst, sym}
 use Rattle.std.specs.Prelude.{All}
-use Rattle.std.proofs.lemmas.List.{take_all}
 use Rattle.wb_grammar.specs.Built.{Holds}
 use Rattle.wb_grammar.proofs.PartLemmas.{alone_whole, alone_one, alone_none, rest_of}
 use Rattle.wb_grammar.proofs.part.alone.Goals as goal

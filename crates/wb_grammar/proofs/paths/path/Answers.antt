@@ -1,8 +1,7 @@
-use Rattle.std.proofs.Common.{◌≡◌, ◌≢◌, ◌<◌, ◌-◌, ◌∷◌, [], ℕ, List, length, replicate, arith, subst, sym, ap, ◌∙◌}
+use Rattle.std.proofs.Common.{◌≡◌, ◌≢◌, ◌∷◌, [], ℕ, length, replicate, arith, ap, ◌∙◌}
 use Rattle.std.specs.Prelude.{slice_index}
 use Rattle.std.proofs.lemmas.List.{length-replicate}
 use Rattle.std.proofs.lemmas.Grind.{common_steps}
-use Rattle.wb_grammar.specs.Paths.{IsTrail}
 use Rattle.wb_grammar.proofs.PathLemmas.{trail_start, not_reached, path_of, place_within, zeros}
 use Rattle.wb_grammar.proofs.paths.path.Goals as goal
 

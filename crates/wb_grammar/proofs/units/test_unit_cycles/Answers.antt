@@ -1,9 +1,3 @@
-use Rattle.std.proofs.Common.{◌≡◌, List, sym, subst, ap}
-use Rattle.wb_graph.specs.Graphs.{Edge}
-use Rattle.wb_graph.specs.Orders.{IsOrder, IsCycle, IsAnswer}
-use Rattle.wb_grammars.specs.Cycles.{IsUnitRing}
-use Rattle.wb_grammar.specs.declared.part.Part.TheVariants.{Alone}
-use Rattle.wb_grammar.specs.Edges.{AreEdges}
 use Rattle.wb_grammar.proofs.CycleLemmas.{order_no_cycle, cycle_unit_ring}
 use Rattle.wb_grammar.proofs.units.test_unit_cycles.Goals as goal
 
