@@ -11,3 +11,4 @@ mod ReducedLemmas
 mod RefusalLemmas
 mod RingByLemmas
 mod SweepLemmas
+mod StrictLemmas

@@ -1,5 +1,5 @@
 use Rattle.wb_grammar.proofs.RingByLemmas.{NoneBefore}
-use Rattle.wb_grammar.proofs.hidden.ring_by.Given as goal
+use Rattle.wb_grammar.proofs.hidden.tried.Given as goal
 
 abbrev pub invariant-hidden : goal.invariant-hidden
 invariant-hidden l = NoneBefore l.corners l.hidden l.above-index
