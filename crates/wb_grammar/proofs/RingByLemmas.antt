@@ -5,11 +5,8 @@ use Rattle.std.proofs.lemmas.Bool.{cases_lt}
 use Rattle.std.proofs.lemmas.Option.{slice_get-get_or}
 use Rattle.std.proofs.lemmas.List.Elements.{Contains-get_or}
 use Rattle.wb_graph.specs.Graphs.{Edge, IsEdge, IsReached}
+use Rattle.wb_grammar.specs.Strict.{edge_at}
 use Rattle.wb_grammar.specs.Paths.{IsPathTo}
-
--- the edge at a place
-abbrev pub edge_at : List Edge → ℕ → Edge
-edge_at edges i = get_or edges i (0, 0)
 
 pub at_within : (edges : List Edge) (i : ℕ) → i < length edges → IsEdge edges (edge_at edges i).0 (edge_at edges i).1
 at_within edges i lt = Contains-get_or edges i (0, 0) lt

@@ -6,10 +6,17 @@ use Rattle.std.proofs.lemmas.List.Elements.{Contains-append_left, Contains-push,
 use Rattle.wb_graph.specs.Graphs as graphs
 use Rattle.wb_graph.specs.Graphs.{Edge, IsEdge, IsEdgeBelow, IsReached, stay, step}
 use Rattle.wb_graph.specs.Orders.{IsOrder}
-use Rattle.wb_grammar.specs.Strict.{IsStrict, LeadsDown, edge_at}
+use Rattle.wb_grammar.specs.Strict.{IsStrict, edge_at}
 use Rattle.wb_grammar.proofs.CycleLemmas.{place_of}
 use Rattle.wb_grammar.proofs.RingByLemmas.{edge_place}
 use Rattle.wb_grammar.proofs.OrderLemmas.{All-push}
+
+-- in the order each hidden corner leads downwards, and each corner to another nonterminal too
+pub record LeadsDown (count : ℕ) (corners hidden : List Edge) (order : List ℕ) : Type 0 where
+  pub every : (v : ℕ) → v < count → (i : ℕ) × (slice_get order i ≡ Some v)
+  pub once : (v i j : ℕ) → slice_get order i ≡ Some v → slice_get order j ≡ Some v → i ≡ j
+  pub hidden_down : (u v i : ℕ) → IsEdge hidden u v → slice_get order i ≡ Some u → (j : ℕ) × (j < i) × (slice_get order j ≡ Some v)
+  pub corners_down : (u v i : ℕ) → IsEdge corners u v → u ≢ v → slice_get order i ≡ Some u → (j : ℕ) × (j < i) × (slice_get order j ≡ Some v)
 
 pub strict_start : (count : ℕ) (corners hidden strict : List Edge) → strict ≡ hidden → All (IsEdgeBelow count) hidden → IsStrict count corners hidden strict 0
 strict_start count corners hidden strict is below = record {
