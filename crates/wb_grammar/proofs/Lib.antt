@@ -1,0 +1,14 @@
+mod BuiltLemmas
+mod CycleLemmas
+mod EdgeLemmas
+mod FirstLemmas
+mod HiddenTestLemmas
+mod OrderLemmas
+mod PartLemmas
+mod PathLemmas
+mod ReachLemmas
+mod ReducedLemmas
+mod RefusalLemmas
+mod RingByLemmas
+mod SweepLemmas
+mod StrictLemmas

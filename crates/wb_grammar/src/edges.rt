@@ -1,0 +1,48 @@
+//! Edges between nonterminals: from the left side of each production to nonterminals of its right side.
+
+ghost use Rattle.std.specs.Prelude.{◌≡◌, ◌++◌, All, IfOk, OnOk};
+ghost use Rattle.wb_base.specs.Grammar.{IsGrammar};
+ghost use Rattle.wb_graph.specs.Graphs.{IsEdgeBelow};
+ghost use Rattle.wb_grammar.specs.Facts.{IsNullableSet};
+ghost use Rattle.wb_grammar.specs.Edges.{edges_of, AreEdges};
+
+use crate::part::{Part, part_of};
+use std::alloc::{AllocError, Global};
+use wb_base::{Grammar, Symbol, push};
+use wb_termset::TermSet;
+
+// The edges by all productions, to the nonterminals in this part of each right side.
+pub(crate) fn edges(
+    alloc: Global,
+    grammar: &Grammar,
+    nullable: &TermSet,
+    part: Part,
+) -> Result<Vec<(usize, usize)>, AllocError>
+    requires { IsNullableSet grammar.now nullable.now }
+    ensures exact { IfOk result (λ edges. AreEdges part grammar.now nullable.now edges.items) }
+    ensures grammar { IfOk result (λ _. IsGrammar grammar.now) }
+    ensures below { IfOk result (λ edges. All (IsEdgeBelow grammar.now.nonterminals) edges.items) }
+{
+    let mut edges = Vec::new(alloc);
+    'productions: for production in 0..grammar.productions() {
+        let symbols = part_of(part, grammar.right(production), nullable);
+        add_edges(grammar.left(production), symbols, &mut edges)?;
+    }
+    Ok(edges)
+}
+
+// Adds an edge from the nonterminal on the left to each nonterminal among the symbols.
+fn add_edges(
+    left: usize,
+    symbols: &[Symbol],
+    edges: &mut Vec<(usize, usize)>,
+) -> Result<(), AllocError>
+    ensures { OnOk result (edges.new.items ≡ edges.old.items ++ edges_of left symbols.now) }
+{
+    'symbols: for symbol in symbols {
+        if let Symbol::Nonterminal(below) = *symbol {
+            push(edges, (left, below))?;
+        }
+    }
+    Ok(())
+}

@@ -1,0 +1,164 @@
+//! The terminals that begin what each nonterminal derives, by passes over the productions until no set grows.
+
+ghost use Rattle.std.specs.Prelude.{◌≡◌, ℕ, ◌+◌, ◌<◌, ◌↔◌, false, length, All, IfOk, IsTrue, replicate, slice_set};
+ghost use Rattle.wb_base.specs.Grammar.{IsSymbolBelow};
+ghost use Rattle.wb_termset.specs.Sets.{Has, Grew, IsUnion};
+ghost use Rattle.wb_grammar.specs.Facts.{IsNullableSet, AreSets, AreFirstSets, set_of};
+ghost use Rattle.wb_grammar.specs.Firsts.{CanBegin, AreFirsts, IsFirstClosedAt, SetsWithin, SetsGrew};
+
+use crate::first_sets::FirstSets;
+use std::alloc::{AllocError, Global};
+use wb_base::{Grammar, Symbol};
+use wb_termset::TermSet;
+
+// The set of each nonterminal. The order lists productions; it changes the time alone.
+pub(crate) fn first_of_all(
+    alloc: Global,
+    grammar: &Grammar,
+    nullable: &TermSet,
+    order: &[usize],
+) -> Result<FirstSets, AllocError>
+    requires nullable { IsNullableSet grammar.now nullable.now }
+    requires order { All (λ p. p < length grammar.now.productions) order.now }
+    ensures { IfOk result (λ sets. AreFirstSets grammar.now sets) }
+{
+    let Some(count) = grammar.terminals().checked_add(1) else {
+        return Err(AllocError);
+    };
+    let mut sets = FirstSets::new(alloc, grammar.nonterminals(), count)?;
+    'rounds: while round(alloc, grammar, nullable, order, &mut sets)? {}
+    Ok(sets)
+}
+
+// Goes over the productions in the order, and then over all, and answers whether in the latter a set grew.
+fn round(
+    alloc: Global,
+    grammar: &Grammar,
+    nullable: &TermSet,
+    order: &[usize],
+    sets: &mut FirstSets,
+) -> Result<bool, AllocError>
+    requires nullable { IsNullableSet grammar.now nullable.now }
+    requires order { All (λ p. p < length grammar.now.productions) order.now }
+    requires shape { AreSets grammar.now sets.old }
+    requires sound { AreFirsts grammar.now sets.old }
+    ensures shape { AreSets grammar.now sets.new }
+    ensures sound { AreFirsts grammar.now sets.new }
+    ensures keeps { SetsWithin sets.old sets.new }
+    ensures grew { IfOk result (λ grew. IsTrue grew → SetsGrew sets.old sets.new) }
+    ensures stayed { IfOk result (λ grew. grew ≡ false → (p : ℕ) → IsFirstClosedAt grammar.now nullable.now sets.new p) }
+{
+    go_over(alloc, grammar, nullable, order, sets)?;
+    grow(alloc, grammar, nullable, sets)
+}
+
+// Goes over the productions in the order.
+fn go_over(
+    alloc: Global,
+    grammar: &Grammar,
+    nullable: &TermSet,
+    order: &[usize],
+    sets: &mut FirstSets,
+) -> Result<(), AllocError>
+    requires nullable { IsNullableSet grammar.now nullable.now }
+    requires order { All (λ p. p < length grammar.now.productions) order.now }
+    requires shape { AreSets grammar.now sets.old }
+    requires sound { AreFirsts grammar.now sets.old }
+    ensures shape { AreSets grammar.now sets.new }
+    ensures sound { AreFirsts grammar.now sets.new }
+    ensures keeps { SetsWithin sets.old sets.new }
+{
+    'order: for &production in order {
+        add_first(alloc, grammar, nullable, production, sets)?;
+    }
+    Ok(())
+}
+
+// Goes over all productions, and answers whether a set grew.
+fn grow(
+    alloc: Global,
+    grammar: &Grammar,
+    nullable: &TermSet,
+    sets: &mut FirstSets,
+) -> Result<bool, AllocError>
+    requires nullable { IsNullableSet grammar.now nullable.now }
+    requires shape { AreSets grammar.now sets.old }
+    requires sound { AreFirsts grammar.now sets.old }
+    ensures shape { AreSets grammar.now sets.new }
+    ensures sound { AreFirsts grammar.now sets.new }
+    ensures keeps { SetsWithin sets.old sets.new }
+    ensures grew { IfOk result (λ grew. IsTrue grew → SetsGrew sets.old sets.new) }
+    ensures stayed { IfOk result (λ grew. grew ≡ false → (p : ℕ) → IsFirstClosedAt grammar.now nullable.now sets.new p) }
+{
+    let mut grew = false;
+    'productions: for production in 0..grammar.productions() {
+        if add_first(alloc, grammar, nullable, production, sets)? {
+            grew = true;
+        }
+    }
+    Ok(grew)
+}
+
+// Adds what can begin the right side of a production to the set of its left side, and answers whether that grew.
+fn add_first(
+    alloc: Global,
+    grammar: &Grammar,
+    nullable: &TermSet,
+    production: usize,
+    sets: &mut FirstSets,
+) -> Result<bool, AllocError>
+    requires production { production < length grammar.now.productions }
+    requires nullable { IsNullableSet grammar.now nullable.now }
+    requires shape { AreSets grammar.now sets.old }
+    requires sound { AreFirsts grammar.now sets.old }
+    ensures shape { AreSets grammar.now sets.new }
+    ensures sound { AreFirsts grammar.now sets.new }
+    ensures keeps { SetsWithin sets.old sets.new }
+    ensures grew { IfOk result (λ grew. IsTrue grew → SetsGrew sets.old sets.new) }
+    ensures stayed { IfOk result (λ grew. grew ≡ false → sets.new ≡ sets.old) }
+    ensures closed { IfOk result (λ grew. grew ≡ false → IsFirstClosedAt grammar.now nullable.now sets.new production) }
+{
+    let begin = begin_of(
+        alloc,
+        grammar.terminals(),
+        nullable,
+        sets,
+        grammar.right(production),
+    )?;
+    Ok(sets.add(grammar.left(production), &begin))
+}
+
+// The terminals that can begin the symbols, by the sets.
+fn begin_of(
+    alloc: Global,
+    terminals: usize,
+    nullable: &TermSet,
+    sets: &FirstSets,
+    symbols: &[Symbol],
+) -> Result<TermSet, AllocError>
+    requires sets { All (λ set. length set ≡ terminals + 1) sets.now }
+    requires nullable { length nullable.now ≡ length sets.now }
+    requires symbols { All (IsSymbolBelow terminals (length sets.now)) symbols.now }
+    ensures len { IfOk result (λ set. length set ≡ terminals + 1) }
+    ensures exact { IfOk result (λ set. (t : ℕ) → Has set t ↔ CanBegin nullable.now sets.now symbols.now t) }
+{
+    let Some(count) = terminals.checked_add(1) else {
+        return Err(AllocError);
+    };
+    let mut begin = TermSet::new(alloc, count)?;
+    'symbols: for symbol in symbols {
+        match *symbol {
+            Symbol::Terminal(terminal) => {
+                begin.insert(terminal);
+                return Ok(begin);
+            }
+            Symbol::Nonterminal(nonterminal) => {
+                begin.union_with(sets.set(nonterminal));
+                if !nullable.contains(nonterminal) {
+                    return Ok(begin);
+                }
+            }
+        }
+    }
+    Ok(begin)
+}

@@ -1,0 +1,13 @@
+pub mod ClosureLemmas
+pub mod ContextLemmas
+pub mod DerivesLemmas
+pub mod DotLemmas
+pub mod FlowLemmas
+pub mod HiddenLemmas
+pub mod KernelLemmas
+pub mod LiveLemmas
+pub mod PrefixLemmas
+pub mod RingLemmas
+pub mod RuleLemmas
+pub mod TreeLemmas
+pub mod UnitLemmas

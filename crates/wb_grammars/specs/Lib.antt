@@ -1,0 +1,10 @@
+pub mod Closure
+pub mod Cycles
+pub mod Derives
+pub mod Items
+pub mod Lookaheads
+pub mod Rules
+pub mod Shape
+pub mod States
+pub mod Trees
+pub mod Walks
