@@ -1,0 +1,16 @@
+pub mod Accepts
+pub mod Empties
+pub mod ErasingLemmas
+pub mod Forests
+pub mod JoinLemmas
+pub mod MachineLemmas
+pub mod NodeLemmas
+pub mod OrderLemmas
+pub mod Paths
+pub mod Ranges
+pub mod RootLemmas
+pub mod Runs
+pub mod StateLemmas
+pub mod States
+pub mod Subs
+pub mod Wholes

@@ -1,0 +1,11 @@
+pub mod Linear
+pub mod Positions
+pub mod Sets
+pub mod Nodes
+pub mod Machines
+pub mod Running
+pub mod Roots
+pub mod Order
+pub mod Automata
+pub mod Joined
+pub mod Erasing

@@ -1,0 +1,67 @@
+-- What the steps over a text lead to.
+use Rattle.std.specs.Prelude.{◌≡◌, ℕ, ◌+◌, ◌<◌, ◌≤◌, List, [], ◌∷◌, ◌++◌, Bool, true, false, ◌⊎◌, ◌↔◌, slice_get, slice_index_or, Some, None, Option, length, Contains, All}
+use Rattle.wb_regex.specs.declared.node.RegexNode.{RegexNode}
+use Rattle.wb_automata.specs.Nodes.{row, Covers}
+use Rattle.wb_automata.specs.Linear.{Linear, Matches, empty_of}
+use Rattle.wb_automata.specs.Positions.{Last}
+use Rattle.wb_automata.specs.Sets.{Links, Stands, Ranges, Rest}
+
+-- the expressions cover the nodes, one behind the other
+pub record IsForest (nodes : List RegexNode) (trees : List Linear) (bound : ℕ → ℕ) : Type 0 where
+  pub covers : (k : ℕ) (t : Linear) → slice_get trees k ≡ Some t → Covers nodes (bound k) (bound (k + 1)) t
+  pub rises : (k l : ℕ) → k ≤ l → bound k ≤ bound l
+  pub all : (k : ℕ) → bound k ≤ length nodes
+
+-- the table is that of the expressions
+abbrev pub IsFollow : List RegexNode → List Linear → List (List ℕ) → Type 0
+IsFollow nodes trees follow = (p q : ℕ) → Contains (row follow p) q ↔ Links trees (length nodes) p q
+
+-- a step
+abbrev pub step_of : List (List (Option ℕ)) → Option ℕ → ℕ → Option ℕ
+step_of rows None b = None
+step_of rows (Some s) b = slice_index_or (slice_index_or rows s []) b None
+
+-- the steps over a text
+abbrev pub run : List (List (Option ℕ)) → Option ℕ → List ℕ → Option ℕ
+run rows o [] = o
+run rows o (b ∷ x) = run rows (step_of rows o b) x
+
+-- some expression matches some text that begins so
+pub record GoesOn (holds : ℕ → ℕ → Bool) (trees : List Linear) (x : List ℕ) : Type 0 where
+  pub number : ℕ
+  pub tree : Linear
+  pub at : slice_get trees number ≡ Some tree
+  pub rest : List ℕ
+  pub matches : Matches holds tree (x ++ rest)
+
+-- None comes where nothing goes on, and else the state is that of the text
+abbrev pub Outcome : (ℕ → ℕ → Bool) → List Linear → ℕ → List (List ℕ) → List ℕ → Option ℕ → Type 0
+Outcome holds trees n states x None = GoesOn holds trees x → ⊥
+Outcome holds trees n states x (Some s) = (set : List ℕ) × (slice_get states s ≡ Some set) × Stands holds trees n set x
+
+-- the table says which expressions may end with a leaf
+pub record Ending (nodes : List RegexNode) (trees : List Linear) (p k : ℕ) : Type 0 where
+  pub tree : Linear
+  pub at : slice_get trees k ≡ Some tree
+  pub ends : Last tree p ⊎ ((p ≡ length nodes) × (empty_of tree ≡ true))
+
+abbrev pub IsEnds : List RegexNode → List Linear → List (List ℕ) → Type 0
+IsEnds nodes trees table = (p k : ℕ) → Contains (row table p) k ↔ Ending nodes trees p k
+
+-- the expression with this number matches the text
+pub record Fits (holds : ℕ → ℕ → Bool) (trees : List Linear) (k : ℕ) (x : List ℕ) : Type 0 where
+  pub tree : Linear
+  pub at : slice_get trees k ≡ Some tree
+  pub matches : Matches holds tree x
+
+-- the state stands for the text: it accepts exactly the expressions that match, and something goes on
+pub record IsState (holds : ℕ → ℕ → Bool) (trees : List Linear) (accepted : List ℕ) (x : List ℕ) : Type 0 where
+  pub accepts : (k : ℕ) → Contains accepted k ↔ Fits holds trees k x
+  pub goes : (x ≡ [] → ⊥) → GoesOn holds trees x
+
+-- the roots are the last nodes of the expressions, and the expressions are all of the nodes
+pub record AreRoots (nodes : List RegexNode) (trees : List Linear) (bound : ℕ → ℕ) (roots : List ℕ) : Type 0 where
+  pub len : length roots ≡ length trees
+  pub begin : bound 0 ≡ 0
+  pub whole : bound (length trees) ≡ length nodes
+  pub each : (k : ℕ) → k < length roots → bound (k + 1) ≡ slice_index_or roots k 0 + 1
