@@ -1,4 +1,3 @@
-pub mod Accepts
 pub mod Empties
 pub mod ErasingLemmas
 pub mod Forests
@@ -6,11 +5,11 @@ pub mod JoinLemmas
 pub mod MachineLemmas
 pub mod NodeLemmas
 pub mod OrderLemmas
+pub mod PlaceLemmas
 pub mod Paths
 pub mod Ranges
 pub mod RootLemmas
-pub mod Runs
 pub mod StateLemmas
-pub mod States
+pub mod StandsLemmas
 pub mod Subs
 pub mod Wholes

@@ -10,7 +10,7 @@ use Rattle.wb_regex.specs.declared.node.RegexNode.TheVariants as n
 use Rattle.wb_automata.specs.Nodes.{Covers, one, seq, choice, star, plus, maybe, PartsBelow, AreLasts, row, lasts}
 use Rattle.wb_automata.proofs.NodeLemmas.{covers_lt, covers_spans, lasts_is}
 use Rattle.wb_automata.proofs.Ranges.{last_within}
-use Rattle.wb_automata.proofs.StateLemmas.{all_from}
+use Rattle.wb_automata.proofs.PlaceLemmas.{all_from}
 
 pub record Sub (nodes : List RegexNode) (j : ℕ) : Type 0 where
   pub start : ℕ

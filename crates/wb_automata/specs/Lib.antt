@@ -9,3 +9,5 @@ pub mod Order
 pub mod Automata
 pub mod Joined
 pub mod Erasing
+pub mod Found
+pub mod Exploring

@@ -36,35 +36,3 @@ pub record Ahead (follow : List (List ℕ)) (set : List ℕ) (q : ℕ) : Type 0 
 abbrev pub Reads : List RegexNode → List (List ℕ) → List ℕ → ℕ → ℕ → Type 0
 Reads nodes follow set b q = (holds_of nodes q b ≡ true) × Ahead follow set q
 
--- the move leads nowhere only where no leaf reads the byte, and else to the listed state of those that do
-abbrev pub MoveOk : List RegexNode → List (List ℕ) → List (List ℕ) → List ℕ → ℕ → Option ℕ → Type 0
-MoveOk nodes follow states set b None = (q : ℕ) → Reads nodes follow set b q → ⊥
-MoveOk nodes follow states set b (Some j) = (next : List ℕ) × (slice_get states j ≡ Some next) × ((q : ℕ) → Contains next q ↔ Reads nodes follow set b q) × ((q : ℕ) × Contains next q)
-
--- the first m moves of a row
-abbrev pub AreMoves : List RegexNode → List (List ℕ) → List (List ℕ) → List ℕ → List (Option ℕ) → ℕ → Type 0
-AreMoves nodes follow states set moves m = (b : ℕ) → b < m → MoveOk nodes follow states set b (slice_index_or moves b None)
-
--- states name leaves or the begin
-abbrev pub AreStates : ℕ → List (List ℕ) → Type 0
-AreStates m states = (j : ℕ) (set : List ℕ) → slice_get states j ≡ Some set → All (λ p. p < m) set
-
--- the states are as before, with others behind them
-pub record Grows (old new : List (List ℕ)) : Type 0 where
-  pub keeps : (j : ℕ) (set : List ℕ) → slice_get old j ≡ Some set → slice_get new j ≡ Some set
-  pub len : length old ≤ length new
-
--- the rows are those of the states
-pub record AreRows (nodes : List RegexNode) (follow states : List (List ℕ)) (rows : List (List (Option ℕ))) : Type 0 where
-  pub each : (i : ℕ) (set : List ℕ) → i < length rows → slice_get states i ≡ Some set → AreMoves nodes follow states set (slice_index_or rows i []) 256
-  pub first : slice_get states 0 ≡ Some (length nodes ∷ [])
-  pub states_ok : AreStates (length nodes + 1) states
-
--- a part of a row: the moves from the state i by the bytes below b
-pub record RowPass (nodes : List RegexNode) (follow old states : List (List ℕ)) (i : ℕ) (ahead : List ℕ) (moves : List (Option ℕ)) (b : ℕ) : Type 0 where
-  pub grows : Grows old states
-  pub states_ok : AreStates (length nodes + 1) states
-  pub len : length moves ≡ b
-  pub below : All (λ q. q < length nodes) ahead
-  pub is : (set : List ℕ) → slice_get old i ≡ Some set → (q : ℕ) → Contains ahead q ↔ Ahead follow set q
-  pub lead : (set : List ℕ) → slice_get old i ≡ Some set → AreMoves nodes follow states set moves b

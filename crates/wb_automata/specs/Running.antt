@@ -16,16 +16,6 @@ pub record IsForest (nodes : List RegexNode) (trees : List Linear) (bound : ℕ 
 abbrev pub IsFollow : List RegexNode → List Linear → List (List ℕ) → Type 0
 IsFollow nodes trees follow = (p q : ℕ) → Contains (row follow p) q ↔ Links trees (length nodes) p q
 
--- a step
-abbrev pub step_of : List (List (Option ℕ)) → Option ℕ → ℕ → Option ℕ
-step_of rows None b = None
-step_of rows (Some s) b = slice_index_or (slice_index_or rows s []) b None
-
--- the steps over a text
-abbrev pub run : List (List (Option ℕ)) → Option ℕ → List ℕ → Option ℕ
-run rows o [] = o
-run rows o (b ∷ x) = run rows (step_of rows o b) x
-
 -- some expression matches some text that begins so
 pub record GoesOn (holds : ℕ → ℕ → Bool) (trees : List Linear) (x : List ℕ) : Type 0 where
   pub number : ℕ
@@ -33,11 +23,6 @@ pub record GoesOn (holds : ℕ → ℕ → Bool) (trees : List Linear) (x : List
   pub at : slice_get trees number ≡ Some tree
   pub rest : List ℕ
   pub matches : Matches holds tree (x ++ rest)
-
--- None comes where nothing goes on, and else the state is that of the text
-abbrev pub Outcome : (ℕ → ℕ → Bool) → List Linear → ℕ → List (List ℕ) → List ℕ → Option ℕ → Type 0
-Outcome holds trees n states x None = GoesOn holds trees x → ⊥
-Outcome holds trees n states x (Some s) = (set : List ℕ) × (slice_get states s ≡ Some set) × Stands holds trees n set x
 
 -- the table says which expressions may end with a leaf
 pub record Ending (nodes : List RegexNode) (trees : List Linear) (p k : ℕ) : Type 0 where
@@ -53,11 +38,6 @@ pub record Fits (holds : ℕ → ℕ → Bool) (trees : List Linear) (k : ℕ) (
   pub tree : Linear
   pub at : slice_get trees k ≡ Some tree
   pub matches : Matches holds tree x
-
--- the state stands for the text: it accepts exactly the expressions that match, and something goes on
-pub record IsState (holds : ℕ → ℕ → Bool) (trees : List Linear) (accepted : List ℕ) (x : List ℕ) : Type 0 where
-  pub accepts : (k : ℕ) → Contains accepted k ↔ Fits holds trees k x
-  pub goes : (x ≡ [] → ⊥) → GoesOn holds trees x
 
 -- the roots are the last nodes of the expressions, and the expressions are all of the nodes
 pub record AreRoots (nodes : List RegexNode) (trees : List Linear) (bound : ℕ → ℕ) (roots : List ℕ) : Type 0 where

@@ -1,8 +1,9 @@
 //! The automaton of several regular expressions, texts that two of them share, and the least text of one.
 #![tactic(auto)]
 
-mod automaton;
 mod machine;
+mod origin;
 mod positions;
 mod rows;
+mod states;
 mod terminals;
