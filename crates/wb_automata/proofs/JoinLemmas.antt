@@ -1,8 +1,9 @@
 -- Nodes that are joined are those of expressions with places at their leaves.
-use Rattle.std.proofs.Common.{◌≡◌, ℕ, zero, suc, ◌+◌, ◌≤◌, ◌<◌, List, [], ◌∷◌, ◌++◌, refl, sym, ◌∙◌, ap, subst, arith, Some, length, get_or, add-one, map, length-append, ◌⊎◌, inl, inr}
-use Rattle.std.specs.Prelude.{slice_get, slice_index_or}
+use Rattle.std.proofs.Common.{◌≡◌, ℕ, zero, suc, ◌+◌, ◌≤◌, ◌<◌, List, [], ◌∷◌, ◌++◌, refl, sym, ◌∙◌, ap, subst, arith, Some, length, get_or, add-one, map, length-append, length-take-le, take, append_assoc, ◌^◌, ◌⊎◌, inl, inr}
+use Rattle.std.specs.Prelude.{slice_get, slice_index_or, option_map}
 use Rattle.std.proofs.lemmas.Bool.{cases_lt}
-use Rattle.std.proofs.lemmas.Option.{slice_get-get_or, slice_get_within, same_Some}
+use Rattle.std.proofs.lemmas.List.{get_or_append_left, get_or_push, take_more, map-append, length-map}
+use Rattle.std.proofs.lemmas.Option.{slice_get-get_or, slice_get-map, slice_get_within, same_Some}
 use Rattle.wb_regex.specs.Tree.{Tree}
 use Rattle.wb_regex.specs.Tree as t
 use Rattle.wb_regex.specs.Covers as w
@@ -11,7 +12,10 @@ use Rattle.wb_regex.specs.declared.node.RegexNode.TheVariants as n
 use Rattle.wb_automata.specs.Linear.{Linear, Leaf, Sequence, Choice, Star, Plus, Maybe}
 use Rattle.wb_automata.specs.Erasing.{Erases, leaf, sequence, choice, star, plus, maybe}
 use Rattle.wb_automata.specs.Nodes as c
-use Rattle.wb_automata.specs.Joined.{raised, size_of, bound_of, IsPart, AreJoined}
+use Rattle.wb_automata.specs.Joined.{raised, size_of, bound_of, IsPart, AreJoined, AreAdded}
+use Rattle.wb_regex.specs.Filled.{Filled}
+use Rattle.wb_automata.proofs.NodeLemmas.{parts_more}
+use Rattle.wb_automata.proofs.PlaceLemmas.{slice_get_more}
 
 -- an expression with places at its leaves, of which the nodes are, and the tree is
 pub record IsPlaced (nodes : List RegexNode) (s e : ℕ) (tree : Tree) : Type 0 where
@@ -117,3 +121,55 @@ bound_next (t ∷ ts) zero tree at = let e : t ≡ tree = same_Some t tree at in
     bound_none [] = refl
     bound_none (t ∷ ts) = refl
 bound_next (t ∷ ts) (suc k) tree at = omega (arith, bound_next ts k tree at)
+
+pub slice_get_behind : {X : Type 0} (xs ys : List X) (k : ℕ) → slice_get (xs ++ ys) (length xs + k) ≡ slice_get ys k
+slice_get_behind [] ys k = ap (slice_get ys) (let e : 0 + k ≡ k = omega arith in e)
+slice_get_behind (x ∷ xs) ys k = ap (slice_get (x ∷ (xs ++ ys))) (let e : length (x ∷ xs) + k ≡ suc (length xs + k) = omega arith in e) ∙ slice_get_behind xs ys k
+
+-- the nodes of one tree more
+pub join_step : (trees : List Tree) (old new : List RegexNode) (roots : List ℕ) (i root : ℕ) (tree : Tree) → slice_get trees i ≡ Some tree → AreJoined trees old roots i → AreAdded old new tree root → AreJoined trees new (roots ++ root ∷ []) (i + 1)
+join_step trees old new roots i root tree at h a = record {
+  len = omega (arith, h.len, a.last, next, long, covers_size a.covers);
+  roots_len = omega (arith, h.roots_len, length-append roots (root ∷ []));
+  parts = λ k t lt here. elim (cases_lt k i) [
+    | inl less ↦
+        let p = h.parts k t less here in
+        record { source = p.source; covers = p.covers; filled = p.filled; embeds = λ j node is. subst (λ z. slice_get z (bound_of trees k + j) ≡ Some (raised (bound_of trees k) node)) (sym a.joins) (slice_get_more old (map (raised (length old)) a.source) (bound_of trees k + j) (raised (bound_of trees k) node) (p.embeds j node is)) }
+    | inr past ↦
+        let e : i ≡ k = omega arith in
+        let same : tree ≡ t = same_Some tree t (sym at ∙ ap (slice_get trees) e ∙ here) in
+        let m : length old ≡ bound_of trees k = h.len ∙ ap (bound_of trees) e in
+        record {
+          source = a.source; covers = subst (w.Covers a.source 0 (length a.source)) same a.covers; filled = subst Filled same a.filled;
+          embeds = λ j node is. subst (λ z. slice_get new (z + j) ≡ Some (raised z node)) m (ap (λ z. slice_get z (length old + j)) a.joins ∙ slice_get_behind old (map (raised (length old)) a.source) j ∙ slice_get-map (raised (length old)) a.source j ∙ ap (option_map (raised (length old))) is);
+        }
+  ];
+  roots_at = λ k lt. elim (cases_lt k i) [
+    | inl less ↦ rw (get_or_append_left roots (root ∷ []) 0 k (omega (arith, h.roots_len))) (h.roots_at k less)
+    | inr past ↦
+        let e : k ≡ i = omega arith in
+        subst (λ z. get_or (roots ++ root ∷ []) z 0 + 1 ≡ bound_of trees (z + 1)) (sym e) (rw (get_or_push roots root 0 i h.roots_len) (omega (arith, h.len, a.last, next, long, covers_size a.covers)))
+  ];
+}
+  where
+    next : bound_of trees (i + 1) ≡ bound_of trees i + size_of tree
+    next = ap (bound_of trees) (add-one i) ∙ bound_next trees i tree at
+    long : length new ≡ length old + length a.source
+    long = ap length a.joins ∙ length-append old (map (raised (length old)) a.source) ∙ ap (λ z. length old + z) (length-map a.source (raised (length old)))
+
+pub join_begin : (trees : List Tree) → AreJoined trees [] [] 0
+join_begin trees = record { len = sym (bound_first trees); roots_len = refl; parts = λ k t lt. absurd (omega arith); roots_at = λ k lt. absurd (omega arith) }
+  where
+    bound_first : (ts : List Tree) → bound_of ts 0 ≡ 0
+    bound_first [] = refl
+    bound_first (t ∷ ts) = refl
+
+-- nodes put behind others one by one
+pub raised_more : (old : List RegexNode) (more : List RegexNode) (i : ℕ) (node d : RegexNode) (f : RegexNode → RegexNode) → i < length more → node ≡ get_or more i d → (old ++ map f (take i more)) ++ f node ∷ [] ≡ old ++ map f (take (i + 1) more)
+raised_more old more i node d f lt e = rw (take_more more i d lt, map-append f (take i more) (get_or more i d ∷ []), e) (append_assoc old (map f (take i more)) (f (get_or more i d) ∷ []))
+
+-- the places of parts are small where the nodes before them fit into memory
+pub parts_fit : (old more nodes : List RegexNode) (f : RegexNode → RegexNode) (i : ℕ) → nodes ≡ old ++ map f (take i more) → c.AreParts more → i < length more → length nodes < 2 ^ 63 → c.PartsBelow (2 ^ 63) (get_or more i (n.Set []))
+parts_fit old more nodes f i e h lt small =
+    let long : length nodes ≡ length old + i = ap length e ∙ length-append old (map f (take i more)) ∙ ap (λ z. length old + z) (length-map (take i more) f ∙ length-take-le i more (omega arith)) in
+    parts_more (get_or more i (n.Set [])) i (2 ^ 63) (omega arith) (h i (get_or more i (n.Set [])) (slice_get-get_or more i (n.Set []) lt))

@@ -1,5 +1,5 @@
 -- The nodes of several expressions, one behind the other in one list.
-use Rattle.std.specs.Prelude.{◌≡◌, ◌+◌, ◌<◌, ℕ, zero, suc, List, [], ◌∷◌, Some, slice_get, slice_index_or, length}
+use Rattle.std.specs.Prelude.{◌≡◌, ◌+◌, ◌<◌, ℕ, zero, suc, List, [], ◌∷◌, Some, slice_get, slice_index_or, length, map, ◌++◌}
 use Rattle.wb_regex.specs.Tree.{Tree, Set, Sequence, Choice, Star, Plus, Maybe}
 use Rattle.wb_regex.specs.Covers.{Covers}
 use Rattle.wb_regex.specs.Filled.{Filled}
@@ -29,6 +29,14 @@ abbrev pub bound_of : List Tree → ℕ → ℕ
 bound_of [] k = 0
 bound_of (t ∷ ts) zero = 0
 bound_of (t ∷ ts) (suc k) = size_of t + bound_of ts k
+
+-- the nodes of a tree were put behind others, and the root is the last of them
+pub record AreAdded (old new : List RegexNode) (t : Tree) (root : ℕ) : Type 0 where
+  pub source : List RegexNode
+  pub covers : Covers source 0 (length source) t
+  pub filled : Filled t
+  pub joins : new ≡ old ++ map (raised (length old)) source
+  pub last : root + 1 ≡ length new
 
 -- from the place m on the nodes are those of the tree, raised
 pub record IsPart (nodes : List RegexNode) (m : ℕ) (t : Tree) : Type 0 where

@@ -11,3 +11,6 @@ pub mod Joined
 pub mod Erasing
 pub mod Found
 pub mod Exploring
+pub mod Classes
+pub mod Tables
+pub mod Kept
