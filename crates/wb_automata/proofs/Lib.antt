@@ -4,6 +4,7 @@ pub mod ErasingLemmas
 pub mod FlatLemmas
 pub mod Forests
 pub mod JoinLemmas
+pub mod LeastLemmas
 pub mod MachineLemmas
 pub mod NodeLemmas
 pub mod OrderLemmas
@@ -16,5 +17,7 @@ pub mod StateLemmas
 pub mod StandsLemmas
 pub mod Subs
 pub mod TableLemmas
+pub mod TextLemmas
+pub mod WalkLemmas
 pub mod WholeLemmas
 pub mod Wholes

@@ -28,7 +28,7 @@ use Rattle.wb_automata.proofs.StandsLemmas.{stands_first, stands_next, accepts, 
 forest_ranges : (nodes : List RegexNode) (trees : List Linear) (bound : ℕ → ℕ) → IsForest nodes trees bound → Ranges trees bound
 forest_ranges nodes trees bound h = record { spans = λ k t at. covers_spans (h.covers k t at); rises = h.rises }
 
-blank : (b : ℕ) → node_holds (n.Set []) b ≡ false
+pub blank : (b : ℕ) → node_holds (n.Set []) b ≡ false
 blank b = elim (cases_Bool (b / 256 == 0)) [ inl e ↦ rw (bit_at-zero, e) refl | inr e ↦ rw (bit_at-zero, e) refl ]
 
 outside : (nodes : List RegexNode) (b : ℕ) → holds_of nodes (length nodes) b ≡ true → ⊥

@@ -41,8 +41,3 @@ pub record IsFound (machine : Machine) (text : List ℕ) : Type 0 where
 pub record IsOrdered (machine : Machine) : Type 0 where
   pub sorted : (i j : ℕ) (u v : List ℕ) → i < j → slice_get machine.texts i ≡ Some u → slice_get machine.texts j ≡ Some v → IsBefore u v
   pub every : (text : List ℕ) → GoesOn machine.terminals text → IsFound machine text
-
--- the text matches the expression, and no match is before it
-pub record IsLeastMatch (tree : Tree) (text : List ℕ) : Type 0 where
-  pub matches : Matches tree text
-  pub least : (other : List ℕ) → Matches tree other → IsAtMost text other

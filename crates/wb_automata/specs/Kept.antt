@@ -29,12 +29,12 @@ pub record AreAccepted (ends sets accepted : List (List ℕ)) (i : ℕ) : Type 0
   pub each : (j k : ℕ) (set : List ℕ) → j < i → slice_get sets j ≡ Some set → Contains (row accepted j) k ↔ Ahead ends set k
 
 -- table and lists are those of the machine
-pub record IsAutomaton (machine : Machine) (classes : List ℕ) (width : ℕ) (moves : List (Option ℕ)) (accepted : List (List ℕ)) : Type 0 where
+pub record IsAutomaton (machine : Machine) (start : ℕ) (classes : List ℕ) (width : ℕ) (moves : List (Option ℕ)) (accepted : List (List ℕ)) : Type 0 where
   pub classes_len : length classes ≡ 256
   pub classes_below : (b : ℕ) → b < 256 → slice_index classes b < width
   pub moves_len : length moves ≡ length machine.texts * width
   pub accepted_len : length accepted ≡ length machine.texts
-  pub first : slice_get machine.texts 0 ≡ Some []
+  pub first : slice_get machine.texts start ≡ Some []
   pub steps : (s b : ℕ) (text : List ℕ) → b < 256 → slice_get machine.texts s ≡ Some text → IsStepOf machine text b (slice_index_or moves (s * width + slice_index classes b) None)
   pub accepts : (s k : ℕ) (text : List ℕ) → slice_get machine.texts s ≡ Some text → Contains (row accepted s) k ↔ IsMatch machine.terminals k text
   pub ordered : IsOrdered machine

@@ -14,3 +14,5 @@ pub mod Exploring
 pub mod Classes
 pub mod Tables
 pub mod Kept
+pub mod MachineCode
+pub mod Overlaps
