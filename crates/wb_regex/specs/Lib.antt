@@ -4,3 +4,14 @@ pub mod Matches
 pub mod Filled
 pub mod Covers
 pub mod Whole
+pub mod Sets
+pub mod Grammar
+pub mod Text
+pub mod Answer
+pub mod Scan
+pub mod ClassMachine
+pub mod Machine
+pub mod Building
+pub mod Empties
+pub mod ClassReader
+pub mod Reader

@@ -4,10 +4,20 @@
 //! matches lie in a crate above.
 #![tactic(auto)]
 
+mod build;
+mod class;
 mod node;
+mod read;
+mod reader;
 mod refusal;
 mod regex;
+mod scan;
+mod sets;
+mod symbol;
+#[cfg(test)]
+mod tests;
 
 pub use node::RegexNode;
+pub use read::read_regex;
 pub use refusal::RegexRefusal;
 pub use regex::Regex;

@@ -2,6 +2,7 @@ ghost use Rattle.std.specs.Prelude.{◌≡◌, [], length, IfOk};
 ghost use Rattle.wb_regex.specs.Matches.{Matches};
 ghost use Rattle.wb_regex.specs.Filled.{Filled};
 ghost use Rattle.wb_regex.specs.Covers.{Covers};
+ghost use Rattle.wb_regex.specs.Whole.{tree_of, IsWhole};
 
 use crate::RegexNode;
 use std::alloc::AllocError;
@@ -30,6 +31,15 @@ impl Model for Regex {
 }
 
 impl Regex {
+    // The expression of these nodes. Takes no memory.
+    pub(crate) fn from_nodes(nodes: Vec<RegexNode>) -> Regex
+        requires { IsWhole nodes.items }
+        ensures tree { result ≡ tree_of nodes.items }
+        ensures not_empty { ¬ Matches result [] }
+    {
+        Regex { nodes }
+    }
+
     /// The nodes of the tree, each once: parts before the whole, from left to right, and the root last. Takes no memory.
     pub fn nodes(&self) -> &[RegexNode]
         ensures covers { Covers result.now 0 (length result.now) self.now }
