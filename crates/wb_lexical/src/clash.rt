@@ -39,9 +39,24 @@ pub fn find_clash(
     ensures none { IfOk result (λ found. IsNone found ↔ HasNoClash terminals.now sets.now preferences.now) }
 {
     let automaton = Automaton::build(alloc, terminals)?;
+    let found = clash_in(alloc, &automaton, sets, preferences)?;
+    Ok(found)
+}
+
+/// The same by the automaton of the terminals.
+fn clash_in(
+    alloc: Global,
+    automaton: &Automaton,
+    sets: &[TermSet],
+    preferences: &[(usize, usize)],
+) -> Result<Option<Clash>, AllocError>
+    ensures clash { IfOk result (λ found. IfSome found (λ clash. IsClash automaton.now.terminals sets.now preferences.now clash.set clash.left clash.right clash.text)) }
+    ensures none { IfOk result (λ found. IsNone found → HasNoClash automaton.now.terminals sets.now preferences.now) }
+{
     let count = automaton.states();
     for state in 0..count {
-        if let Some(pair) = undecided_pair(automaton.accepted(state), sets, preferences) {
+        let accepted = automaton.accepted(state);
+        if let Some(pair) = undecided_pair(accepted, sets, preferences) {
             let text = automaton.text(alloc, state)?;
             return Ok(Some(Clash {
                 set: pair.set,

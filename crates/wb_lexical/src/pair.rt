@@ -110,9 +110,15 @@ fn prefers(preferences: &[(usize, usize)], winner: usize, loser: usize) -> bool
     ensures { IsTrue result ↔ Contains preferences.now (winner, loser) }
 {
     for pair in preferences {
-        if pair.0 == winner && pair.1 == loser {
+        if is_pair(*pair, winner, loser) {
             return true;
         }
     }
     false
+}
+
+fn is_pair(pair: (usize, usize), winner: usize, loser: usize) -> bool
+    ensures { IsTrue result ↔ (pair ≡ (winner, loser)) }
+{
+    pair.0 == winner && pair.1 == loser
 }
