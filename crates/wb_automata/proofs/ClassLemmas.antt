@@ -78,8 +78,10 @@ class_step node old of firsts new b class h c = record {
   where
     k : FirstsKept firsts new b
     k = firsts_kept node firsts new b h.small h.rising c.change
+
     before : (d : ℕ) → d < b → get_or (of ++ class ∷ []) d 0 ≡ get_or of d 0
     before d less = get_or_append_left of (class ∷ []) 0 d (omega (arith, h.len))
+
     last : (d : ℕ) → d < b + 1 → b ≤ d → get_or (of ++ class ∷ []) d 0 ≡ class
     last d lt past = let e : d ≡ b = omega arith in subst (λ z. get_or (of ++ class ∷ []) z 0 ≡ class) (sym e) (get_or_push of class 0 b h.len)
 

@@ -1,5 +1,5 @@
 -- Which expressions match the empty text.
-use Rattle.std.proofs.Common.{◌≡◌, ℕ, Bool, true, false, ◌&&◌, ◌||◌, List, [], ◌∷◌, ◌++◌, refl, sym, ◌∙◌, ap, ◌⊎◌, inl, inr}
+use Rattle.std.proofs.Common.{◌≡◌, ℕ, Bool, true, false, ◌&&◌, ◌||◌, List, [], ◌∷◌, ◌++◌, refl, sym, ◌∙◌, ◌⊎◌, inl, inr}
 use Rattle.wb_automata.specs.Linear.{Linear, Leaf, Sequence, Choice, Star, Plus, Maybe, Matches, one, seq, left, right, none, more, once, absent, present, empty_of}
 
 pub nil_left : (u v : List ℕ) → u ++ v ≡ [] → u ≡ []

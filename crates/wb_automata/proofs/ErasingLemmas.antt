@@ -1,11 +1,11 @@
 -- An expression with places at its leaves matches what the tree with the sets of these places matches.
-use Rattle.std.proofs.Common.{◌≡◌, ℕ, ◌+◌, ◌*◌, ◌/◌, ◌%◌, ◌<◌, ◌≤◌, Bool, true, false, ◌&&◌, List, [], ◌∷◌, ◌++◌, refl, sym, ◌∙◌, ap, subst, arith, Some, get_or, eqb, eq-eqb, length}
-use Rattle.std.specs.Prelude.{slice_get, slice_index, All, Contains, ◌==◌}
+use Rattle.std.proofs.Common.{◌≡◌, ℕ, ◌/◌, ◌%◌, ◌<◌, true, List, [], ◌∷◌, ◌++◌, refl, sym, ◌∙◌, ap, subst, arith, Some, eq-eqb, length}
+use Rattle.std.specs.Prelude.{slice_get, slice_index, All}
 use Rattle.std.specs.Int.{bit_at}
 use Rattle.std.proofs.lemmas.Bool.{eqb-true}
 use Rattle.std.proofs.lemmas.Option.{get_or_from_slice_get}
 use Rattle.std.proofs.lemmas.List.Elements.{All-append, All-contains, Contains-append_right, All-nil, All-cons}
-use Rattle.wb_regex.specs.Tree.{Tree, Set}
+use Rattle.wb_regex.specs.Tree.{Tree}
 use Rattle.wb_regex.specs.Matches as w
 use Rattle.wb_regex.specs.Filled as f
 use Rattle.wb_regex.specs.declared.node.RegexNode.{RegexNode}

@@ -1,5 +1,5 @@
 -- Rows put one behind the other, and the lists of accepted terminals.
-use Rattle.std.proofs.Common.{◌≡◌, ℕ, ◌+◌, ◌*◌, ◌≤◌, ◌<◌, List, [], ◌∷◌, ◌++◌, refl, sym, ◌∙◌, ap, subst, arith, ◌⊎◌, inl, inr, Option, Some, None, length, get_or, length-append, suc-mul, zero-mul, mul_comm, add-one, suc}
+use Rattle.std.proofs.Common.{◌≡◌, ℕ, ◌+◌, ◌*◌, ◌<◌, List, [], ◌∷◌, ◌++◌, sym, ◌∙◌, ap, subst, arith, inl, inr, Option, Some, None, length, get_or, length-append, suc-mul, mul_comm, add-one}
 use Rattle.std.specs.Prelude.{slice_get, Contains, ◌↔◌}
 use Rattle.std.proofs.lemmas.Bool.{cases_lt}
 use Rattle.std.proofs.lemmas.List.{get_or_append_left, get_or-append-add, get_or_push}
@@ -21,7 +21,7 @@ flat_step rows width flat moves i e len h = record {
     | inr past ↦
         let same : j ≡ i = omega arith in
         subst (λ z. get_or (flat ++ moves) (z * width + k) None ≡ get_or (get_or rows z []) k None) (sym same)
-          (ap (λ z. get_or (flat ++ moves) (z + k) None) (sym h.len) ∙ get_or-append-add flat moves k None ∙ ap (λ z. get_or z k None) e)
+        (ap (λ z. get_or (flat ++ moves) (z + k) None) (sym h.len) ∙ get_or-append-add flat moves k None ∙ ap (λ z. get_or z k None) e)
   ];
 }
 

@@ -1,12 +1,13 @@
 -- The table over all nodes is that of the expressions.
-use Rattle.std.proofs.Common.{◌≡◌, ℕ, zero, suc, ◌+◌, ◌≤◌, ◌<◌, List, refl, sym, ◌∙◌, ap, subst, arith, ◌⊎◌, inl, inr, Some, length, get_or, add-one}
+use Rattle.std.proofs.Common.{◌≡◌, ℕ, zero, suc, ◌+◌, ◌≤◌, ◌<◌, List, sym, subst, arith, inl, inr, Some, length, get_or, add-one}
 use Rattle.std.specs.Prelude.{slice_get, ◌↔◌}
 use Rattle.std.proofs.lemmas.Bool.{cases_lt}
 use Rattle.std.proofs.lemmas.Option.{slice_get-get_or}
 use Rattle.wb_automata.specs.Linear.{Linear, Leaf}
 use Rattle.wb_automata.specs.Positions.{Follow}
 use Rattle.wb_regex.specs.declared.node.RegexNode.{RegexNode}
-use Rattle.wb_automata.specs.Nodes.{AreFirsts, AreLasts, LinkIn, Covers}
+use Rattle.wb_automata.specs.Nodes.{AreFirsts, AreLasts}
+use Rattle.wb_automata.specs.Follows.{LinkIn}
 use Rattle.wb_automata.specs.Running.{IsForest}
 use Rattle.wb_automata.proofs.NodeLemmas.{link_follow, follow_link, within}
 

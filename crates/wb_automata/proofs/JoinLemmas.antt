@@ -1,18 +1,17 @@
 -- Nodes that are joined are those of expressions with places at their leaves.
-use Rattle.std.proofs.Common.{◌≡◌, ℕ, zero, suc, ◌+◌, ◌≤◌, ◌<◌, List, [], ◌∷◌, ◌++◌, refl, sym, ◌∙◌, ap, subst, arith, Some, length, get_or, add-one, map, length-append, length-take-le, take, append_assoc, ◌^◌, ◌⊎◌, inl, inr}
-use Rattle.std.specs.Prelude.{slice_get, slice_index_or, option_map}
+use Rattle.std.proofs.Common.{◌≡◌, ℕ, zero, suc, ◌+◌, ◌≤◌, ◌<◌, List, [], ◌∷◌, ◌++◌, refl, sym, ◌∙◌, ap, subst, arith, Some, length, get_or, add-one, map, length-append, length-take-le, take, append_assoc, ◌^◌, inl, inr}
+use Rattle.std.specs.Prelude.{slice_get, option_map}
 use Rattle.std.proofs.lemmas.Bool.{cases_lt}
 use Rattle.std.proofs.lemmas.List.{get_or_append_left, get_or_push, take_more, map-append, length-map}
-use Rattle.std.proofs.lemmas.Option.{slice_get-get_or, slice_get-map, slice_get_within, same_Some}
+use Rattle.std.proofs.lemmas.Option.{slice_get-get_or, slice_get-map, same_Some}
 use Rattle.wb_regex.specs.Tree.{Tree}
-use Rattle.wb_regex.specs.Tree as t
 use Rattle.wb_regex.specs.Covers as w
 use Rattle.wb_regex.specs.declared.node.RegexNode.{RegexNode}
 use Rattle.wb_regex.specs.declared.node.RegexNode.TheVariants as n
 use Rattle.wb_automata.specs.Linear.{Linear, Leaf, Sequence, Choice, Star, Plus, Maybe}
 use Rattle.wb_automata.specs.Erasing.{Erases, leaf, sequence, choice, star, plus, maybe}
 use Rattle.wb_automata.specs.Nodes as c
-use Rattle.wb_automata.specs.Joined.{raised, size_of, bound_of, IsPart, AreJoined, AreAdded}
+use Rattle.wb_automata.specs.Joined.{raised, size_of, bound_of, AreJoined, AreAdded}
 use Rattle.wb_regex.specs.Filled.{Filled}
 use Rattle.wb_automata.proofs.NodeLemmas.{parts_more}
 use Rattle.wb_automata.proofs.PlaceLemmas.{slice_get_more}
@@ -140,7 +139,9 @@ join_step trees old new roots i root tree at h a = record {
         let same : tree ≡ t = same_Some tree t (sym at ∙ ap (slice_get trees) e ∙ here) in
         let m : length old ≡ bound_of trees k = h.len ∙ ap (bound_of trees) e in
         record {
-          source = a.source; covers = subst (w.Covers a.source 0 (length a.source)) same a.covers; filled = subst Filled same a.filled;
+          source = a.source;
+          covers = subst (w.Covers a.source 0 (length a.source)) same a.covers;
+          filled = subst Filled same a.filled;
           embeds = λ j node is. subst (λ z. slice_get new (z + j) ≡ Some (raised z node)) m (ap (λ z. slice_get z (length old + j)) a.joins ∙ slice_get_behind old (map (raised (length old)) a.source) j ∙ slice_get-map (raised (length old)) a.source j ∙ ap (option_map (raised (length old))) is);
         }
   ];
@@ -154,6 +155,7 @@ join_step trees old new roots i root tree at h a = record {
   where
     next : bound_of trees (i + 1) ≡ bound_of trees i + size_of tree
     next = ap (bound_of trees) (add-one i) ∙ bound_next trees i tree at
+
     long : length new ≡ length old + length a.source
     long = ap length a.joins ∙ length-append old (map (raised (length old)) a.source) ∙ ap (λ z. length old + z) (length-map a.source (raised (length old)))
 

@@ -1,16 +1,16 @@
 -- The first state that accepts has the least text.
-use Rattle.std.proofs.Common.{◌≡◌, ℕ, ◌+◌, ◌≤◌, ◌<◌, List, [], ◌∷◌, ◌++◌, refl, sym, ◌∙◌, ap, subst, arith, ◌⊎◌, inl, inr, Some, length, get_or, append-nil}
+use Rattle.std.proofs.Common.{◌≡◌, ℕ, ◌+◌, ◌≤◌, ◌<◌, List, [], ◌∷◌, ◌++◌, refl, sym, ◌∙◌, ap, subst, arith, inl, inr, Some, length, get_or, append-nil}
 use Rattle.std.specs.Prelude.{slice_get}
 use Rattle.std.proofs.lemmas.Bool.{cases_eq, cases_lt}
 use Rattle.std.proofs.lemmas.Option.{slice_get-get_or, slice_get_within, same_Some}
 use Rattle.wb_regex.specs.Tree.{Tree, Set, Sequence, Choice, Star, Plus, Maybe}
 use Rattle.wb_regex.specs.Matches as w
 use Rattle.wb_regex.specs.Filled.{Filled}
-use Rattle.wb_automata.specs.Order.{IsBefore, IsAtMost}
-use Rattle.wb_automata.specs.Automata.{Machine, IsMatch, GoesOn, AreAlike, LeadsTo, IsFound, IsOrdered}
+use Rattle.wb_automata.specs.Order.{IsAtMost}
+use Rattle.wb_automata.specs.Automata.{Machine, IsMatch, GoesOn, LeadsTo, IsOrdered}
 use Rattle.wb_automata.specs.Overlaps.{IsLeastMatch, IsLeastShared, IsLeastState, AreApartBelow}
 use Rattle.wb_automata.proofs.OrderLemmas.{at_most_next}
-use Rattle.wb_automata.proofs.WalkLemmas.{alike_same, alike_match}
+use Rattle.wb_automata.proofs.WalkLemmas.{alike_same}
 
 -- an expression whose sets hold bytes matches some text
 pub filled_match : (t : Tree) → Filled t → (x : List ℕ) × w.Matches t x
@@ -34,7 +34,10 @@ least_state machine one other state ordered lt apart both =
     let at : slice_get machine.texts state ≡ Some text = slice_get-get_or machine.texts state [] lt in
     let (m, k) = both text (first_leads machine state text at) in
     record {
-      text = text; at = at; first = m; second = k;
+      text = text;
+      at = at;
+      first = m;
+      second = k;
       least = λ shared p q.
           let f = ordered.every shared (match_goes machine.terminals one shared p) in
           elim (cases_lt f.state state) [
@@ -76,7 +79,8 @@ pub least_of_two : (machine : Machine) (r s : Tree) (state : ℕ) (text : List �
 least_of_two machine r s state text e at l =
     let same : l.text ≡ text = same_Some l.text text (sym l.at ∙ at) in
     subst (IsLeastShared r s) same (record {
-      one = two_left machine.terminals r s l.text e l.first; other = two_right machine.terminals r s l.text e l.second;
+      one = two_left machine.terminals r s l.text e l.first;
+      other = two_right machine.terminals r s l.text e l.second;
       least = λ shared p q. l.least shared (left_two machine.terminals r s shared e p) (right_two machine.terminals r s shared e q);
     })
 

@@ -1,17 +1,17 @@
 -- Tables over the nodes.
-use Rattle.std.proofs.Common.{◌≡◌, ℕ, ◌+◌, ◌≤◌, ◌<◌, Bool, true, false, ◌&&◌, ◌||◌, cond, List, [], ◌∷◌, ◌++◌, refl, sym, ◌∙◌, ap, subst, arith, ◌⊎◌, inl, inr, Some, length, get_or, length-append, set, take, length-set, get_or-set_same, get_or-set_other}
-use Rattle.std.specs.Prelude.{slice_get, ◌↔◌, Contains, All}
-use Rattle.std.proofs.Math.Seq.{get_or-append_seam}
+use Rattle.std.proofs.Common.{◌≡◌, ℕ, ◌+◌, ◌≤◌, ◌<◌, Bool, true, false, cond, List, [], ◌∷◌, ◌++◌, refl, sym, ◌∙◌, ap, subst, arith, ◌⊎◌, inl, inr, Some, length, get_or, length-append, set, take, length-set, get_or-set_same, get_or-set_other}
+use Rattle.std.specs.Prelude.{slice_get, ◌↔◌, Contains}
 use Rattle.std.proofs.lemmas.List.{get_or_append_left, get_or_push, take_more, take_all}
 use Rattle.std.proofs.lemmas.List.Elements.{Contains-append_cases, Contains-append_left, Contains-append_right, Contains-push, Contains-push_cases}
-use Rattle.std.proofs.lemmas.Bool.{cases_eq, cases_lt, cases_Bool}
+use Rattle.std.proofs.lemmas.Bool.{cases_eq, cases_lt}
 use Rattle.std.proofs.lemmas.Option.{same_Some}
 use Rattle.wb_automata.specs.Linear.{Linear, Leaf, Sequence, Choice, Star, Plus, Maybe, empty_of}
 use Rattle.wb_automata.proofs.Ranges.{more_room}
 use Rattle.wb_automata.specs.Positions.{Spans, First, Last, Follow}
 use Rattle.wb_regex.specs.declared.node.RegexNode.{RegexNode}
 use Rattle.wb_regex.specs.declared.node.RegexNode.TheVariants as n
-use Rattle.wb_automata.specs.Nodes.{Covers, one, seq, choice, star, plus, maybe, row, flag, empty_at, first_at, last_at, firsts, lasts, AreEmpties, AreFirsts, AreLasts, LinkAt, LinkIn, AreFollows, PartsBelow}
+use Rattle.wb_automata.specs.Nodes.{Covers, one, seq, choice, star, plus, maybe, row, empty_at, first_at, last_at, firsts, lasts, AreEmpties, AreFirsts, AreLasts, PartsBelow}
+use Rattle.wb_automata.specs.Follows.{LinkAt, LinkIn, AreFollows}
 
 pub covers_lt : {nodes : List RegexNode} {s e : ℕ} {t : Linear} → Covers nodes s e t → s < e
 covers_lt (one words is f) = omega arith

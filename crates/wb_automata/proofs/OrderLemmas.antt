@@ -1,6 +1,6 @@
 -- The order of texts is transitive, and texts keep their order when bytes are put behind them.
-use Rattle.std.proofs.Common.{◌≡◌, ℕ, ◌+◌, ◌≤◌, ◌<◌, List, [], ◌∷◌, ◌++◌, refl, sym, ◌∙◌, ap, subst, arith, ◌⊎◌, inl, inr, length, length-append}
-use Rattle.std.proofs.lemmas.Bool.{cases_eq, cases_lt}
+use Rattle.std.proofs.Common.{ℕ, ◌≤◌, ◌<◌, List, [], ◌∷◌, ◌++◌, refl, sym, ◌∙◌, ap, subst, arith, inl, inr, length-append}
+use Rattle.std.proofs.lemmas.Bool.{cases_eq}
 use Rattle.wb_automata.specs.Order.{IsLessByBytes, IsBefore, IsAtMost}
 
 less_more : (u v : List ℕ) (a b : ℕ) → IsLessByBytes u v → IsLessByBytes (u ++ a ∷ []) (v ++ b ∷ [])

@@ -1,9 +1,9 @@
 -- The position automaton reads exactly the texts that match.
-use Rattle.std.proofs.Common.{◌≡◌, ℕ, ◌≤◌, ◌<◌, Bool, true, false, List, [], ◌∷◌, ◌++◌, refl, sym, ◌∙◌, ap, subst, arith, ◌⊎◌, inl, inr}
-use Rattle.wb_automata.specs.Linear.{Linear, Leaf, Sequence, Choice, Star, Plus, Maybe, Matches, one, seq, left, right, none, more, once, absent, present, empty_of}
+use Rattle.std.proofs.Common.{◌≡◌, ℕ, Bool, true, List, [], ◌∷◌, ◌++◌, refl, sym, ◌∙◌, ap, subst, ◌⊎◌, inl, inr}
+use Rattle.wb_automata.specs.Linear.{Linear, Leaf, Sequence, Choice, Star, Plus, Maybe, Matches, one, seq, left, right, none, more, once, absent, present}
 use Rattle.wb_automata.specs.Positions.{Spans, First, Last, Follow, After, Joined}
 use Rattle.wb_automata.proofs.Empties.{matches_empty, empty_matches, nil_left, nil_right}
-use Rattle.wb_automata.proofs.Ranges.{Within, first_within, last_within, follow_within, after_within, apart}
+use Rattle.wb_automata.proofs.Ranges.{first_within, follow_within, after_within, apart}
 
 -- a joined text that begins with b
 pub record Shorter (u v : List ℕ) (b : ℕ) (w : List ℕ) : Type 0 where

@@ -1,12 +1,12 @@
 -- What is found when a state is listed: the old states stay, and a new one comes behind them in the order of its text.
-use Rattle.std.proofs.Common.{◌≡◌, ℕ, zero, suc, ◌+◌, ◌≤◌, ◌<◌, Bool, true, List, [], ◌∷◌, ◌++◌, refl, sym, ◌∙◌, ap, subst, arith, ◌⊎◌, inl, inr, Some, None, length, get_or, length-append}
+use Rattle.std.proofs.Common.{◌≡◌, ℕ, zero, suc, ◌+◌, ◌<◌, List, [], ◌∷◌, ◌++◌, refl, sym, subst, arith, ◌⊎◌, inl, inr, Some, length, get_or, length-append}
 use Rattle.std.specs.Prelude.{slice_get, ◌↔◌, Contains, All}
-use Rattle.std.proofs.lemmas.List.Elements.{Contains-get_or, All-contains}
+use Rattle.std.proofs.lemmas.List.Elements.{Contains-get_or}
 use Rattle.std.proofs.lemmas.Option.{slice_get-get_or, slice_get_within, same_Some}
 use Rattle.std.proofs.lemmas.Bool.{cases_lt}
 use Rattle.wb_regex.specs.declared.node.RegexNode.{RegexNode}
 use Rattle.wb_automata.specs.declared.origin.Origin.{Origin}
-use Rattle.wb_automata.specs.Machines.{holds_of, Reads}
+use Rattle.wb_automata.specs.Machines.{Reads}
 use Rattle.wb_automata.specs.Order.{IsBefore, IsAtMost}
 use Rattle.wb_automata.specs.Found.{Found, text_by, grown, texts_of, pushed, IsPlaced, AllBefore, IsChild, AreFound, Extends}
 
@@ -53,17 +53,26 @@ pub place_extends : (old new : Found) (set text : List ℕ) (i : ℕ) → IsPlac
 place_extends old new set text i p = elim p.change [
   | inl e ↦ subst (Extends old) (sym e) (extends_same old)
   | inr (at, e) ↦ subst (Extends old) (sym e) (record {
-      sets = λ j s h. slice_get_more old.sets (set ∷ []) j s h;
-      texts = λ j t h. slice_get_more old.texts (text ∷ []) j t h;
-      len = omega (arith, length-append old.sets (set ∷ []));
-    })
+    sets = λ j s h. slice_get_more old.sets (set ∷ []) j s h;
+    texts = λ j t h. slice_get_more old.texts (text ∷ []) j t h;
+    len = omega (arith, length-append old.sets (set ∷ []));
+  })
 ]
 
 -- an earlier state of which the child was found stays
 child_extends : (nodes : List RegexNode) (follow : List (List ℕ)) (old new : Found) (j : ℕ) → Extends old new → IsChild nodes follow old j → IsChild nodes follow new j
 child_extends nodes follow old new j g c = record {
-  from = c.from; byte = c.byte; set = c.set; text = c.text; own = c.own; earlier = c.earlier;
-  at = g.sets c.from c.set c.at; at_text = g.texts c.from c.text c.at_text; here = g.sets j c.own c.here; here_text = g.texts j (c.text ++ c.byte ∷ []) c.here_text; exact = c.exact;
+  from = c.from;
+  byte = c.byte;
+  set = c.set;
+  text = c.text;
+  own = c.own;
+  earlier = c.earlier;
+  at = g.sets c.from c.set c.at;
+  at_text = g.texts c.from c.text c.at_text;
+  here = g.sets j c.own c.here;
+  here_text = g.texts j (c.text ++ c.byte ∷ []) c.here_text;
+  exact = c.exact;
 }
 
 -- what a new state was found from
@@ -93,9 +102,14 @@ push_found nodes follow old own s h =
         | inr past ↦
             let same : j ≡ length old.sets = omega (arith, length-append old.sets (own ∷ [])) in
             record {
-              from = s.from; byte = s.byte; set = s.set; text = s.text; own = own;
+              from = s.from;
+              byte = s.byte;
+              set = s.set;
+              text = s.text;
+              own = own;
               earlier = omega (arith, slice_get_within old.sets s.from s.set s.at);
-              at = more.sets s.from s.set s.at; at_text = more.texts s.from s.text s.at_text;
+              at = more.sets s.from s.set s.at;
+              at_text = more.texts s.from s.text s.at_text;
               here = slice_get_last old.sets own j same;
               here_text = slice_get_last old.texts w j (omega (arith, h.len));
               exact = s.exact;

@@ -1,5 +1,5 @@
 -- Nodes that are joined are those of expressions with places at their leaves, and what their tables need.
-use Rattle.std.proofs.Common.{◌≡◌, ℕ, zero, suc, ◌+◌, ◌≤◌, ◌<◌, List, [], ◌∷◌, refl, sym, ◌∙◌, ap, subst, arith, Some, length, get_or, add-one, ◌⊎◌, inl, inr, replicate}
+use Rattle.std.proofs.Common.{◌≡◌, ℕ, zero, suc, ◌+◌, ◌<◌, List, [], ◌∷◌, refl, sym, ◌∙◌, ap, subst, arith, Some, length, get_or, add-one, ◌⊎◌, inl, inr, replicate}
 use Rattle.std.specs.Prelude.{slice_get, Contains, All, ◌↔◌}
 use Rattle.std.proofs.lemmas.Bool.{cases_lt}
 use Rattle.std.proofs.lemmas.List.{get_or_past, get_or_default, get_or-replicate, length-replicate}
@@ -9,11 +9,12 @@ use Rattle.wb_regex.specs.Tree.{Tree, Set}
 use Rattle.wb_regex.specs.declared.node.RegexNode.{RegexNode}
 use Rattle.wb_automata.specs.Linear.{Linear, Leaf}
 use Rattle.wb_automata.specs.Erasing.{Erases}
-use Rattle.wb_automata.specs.Nodes.{Covers, AreParts, AreBelow, AreLasts, row}
+use Rattle.wb_automata.specs.Nodes.{Covers, AreParts, AreLasts, row}
+use Rattle.wb_automata.specs.Follows.{AreBelow}
 use Rattle.wb_automata.specs.Joined.{size_of, bound_of, IsPart, AreJoined}
-use Rattle.wb_automata.specs.Machines.{holds_of, IsTable}
-use Rattle.wb_automata.specs.Running.{IsForest, IsFollow, IsEnds, AreRoots}
-use Rattle.wb_automata.specs.Sets.{Filled, Links}
+use Rattle.wb_automata.specs.Machines.{holds_of}
+use Rattle.wb_automata.specs.Running.{IsFollow, IsEnds}
+use Rattle.wb_automata.specs.Sets.{Filled}
 use Rattle.wb_automata.specs.Tables.{HasPlaces, IsPlanted}
 use Rattle.wb_automata.proofs.ErasingLemmas.{placed_filled}
 use Rattle.wb_automata.proofs.Forests.{locate}
@@ -91,8 +92,8 @@ planted trees nodes roots h =
         let q = p.each k tree (slice_get-get_or trees k (Set []) lt) in
         let same : q.has.linear ≡ l = same_Some q.has.linear l (sym q.has.at ∙ at) in
         subst (Covers nodes (bound_of trees k) (bound_of trees (k + 1))) same
-          (subst (λ z. Covers nodes z (bound_of trees (k + 1)) q.has.linear) (let e : 0 + bound_of trees k ≡ bound_of trees k = omega arith in e)
-            (subst (λ z. Covers nodes (0 + bound_of trees k) z q.has.linear) (let e : 0 + bound_of trees (suc k) ≡ bound_of trees (k + 1) = ap (λ z. 0 + bound_of trees z) (sym (add-one k)) ∙ (let f : 0 + bound_of trees (k + 1) ≡ bound_of trees (k + 1) = omega arith in f) in e) q.covers))
+        (subst (λ z. Covers nodes z (bound_of trees (k + 1)) q.has.linear) (let e : 0 + bound_of trees k ≡ bound_of trees k = omega arith in e)
+        (subst (λ z. Covers nodes (0 + bound_of trees k) z q.has.linear) (let e : 0 + bound_of trees (suc k) ≡ bound_of trees (k + 1) = ap (λ z. 0 + bound_of trees z) (sym (add-one k)) ∙ (let f : 0 + bound_of trees (k + 1) ≡ bound_of trees (k + 1) = omega arith in f) in e) q.covers))
 
 module _ (trees : List Tree) (nodes : List RegexNode) (roots : List ℕ) (h : IsPlanted trees nodes roots) where
   -- each node is the root of an expression
@@ -119,13 +120,13 @@ module _ (trees : List Tree) (nodes : List RegexNode) (roots : List ℕ) (h : Is
 
   pub planted_follow : (follow : List (List ℕ)) → IsFollow nodes h.linears follow → AreBelow (length nodes) follow
   planted_follow follow is p = all_from (λ q. q < length nodes) (row follow p) (λ q has.
-    let l = (is p q).0 has in
-    let spans = covers_spans (h.forest.covers l.number l.tree l.at) in
-    let le = h.forest.all (l.number + 1) in
-    elim l.link [
-      | inl f ↦ (let (u, v) = follow_within l.tree (bound_of trees l.number) (bound_of trees (l.number + 1)) p q spans f in let b = v.below in omega arith)
-      | inr (e, f) ↦ (let v = first_within l.tree (bound_of trees l.number) (bound_of trees (l.number + 1)) q spans f in let b = v.below in omega arith)
-    ])
+      let l = (is p q).0 has in
+      let spans = covers_spans (h.forest.covers l.number l.tree l.at) in
+      let le = h.forest.all (l.number + 1) in
+      elim l.link [
+        | inl f ↦ (let (u, v) = follow_within l.tree (bound_of trees l.number) (bound_of trees (l.number + 1)) p q spans f in let b = v.below in omega arith)
+        | inr (e, f) ↦ (let v = first_within l.tree (bound_of trees l.number) (bound_of trees (l.number + 1)) q spans f in let b = v.below in omega arith)
+      ])
 
   pub planted_ends : (ends : List (List ℕ)) → IsEnds nodes h.linears ends → AreBelow (length trees) ends
   planted_ends ends is p = all_from (λ k. k < length trees) (row ends p) (λ k has. let x = (is p k).0 has in omega (arith, h.len, slice_get_within h.linears k x.tree x.at))

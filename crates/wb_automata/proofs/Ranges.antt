@@ -1,7 +1,7 @@
 -- Each leaf lies in the range of its expression.
-use Rattle.std.proofs.Common.{◌≡◌, ℕ, ◌≤◌, ◌<◌, Bool, List, arith, ◌⊎◌, inl, inr}
-use Rattle.wb_automata.specs.Linear.{Linear, Leaf, Sequence, Choice, Star, Plus, Maybe, Matches, empty_of}
-use Rattle.wb_automata.specs.Positions.{Spans, First, Last, Follow, After, Joined}
+use Rattle.std.proofs.Common.{ℕ, ◌≤◌, ◌<◌, Bool, List, arith, inl, inr}
+use Rattle.wb_automata.specs.Linear.{Linear, Leaf, Sequence, Choice, Star, Plus, Maybe}
+use Rattle.wb_automata.specs.Positions.{Spans, First, Last, Follow, After}
 
 pub record Within (a b p : ℕ) : Type 0 where
   pub least : a ≤ p

@@ -1,14 +1,13 @@
 -- Sets of leaves read exactly the texts that match.
-use Rattle.std.proofs.Common.{◌≡◌, ℕ, ◌+◌, ◌≤◌, ◌<◌, Bool, true, false, List, [], ◌∷◌, ◌++◌, refl, sym, ◌∙◌, ap, subst, arith, ◌⊎◌, inl, inr, append_assoc, append-nil, Some, length}
+use Rattle.std.proofs.Common.{◌≡◌, ℕ, ◌+◌, ◌≤◌, Bool, true, List, [], ◌∷◌, ◌++◌, refl, sym, ◌∙◌, ap, subst, arith, inl, inr, append_assoc, append-nil, Some}
 use Rattle.std.specs.Prelude.{slice_get, ◌↔◌, Contains}
 use Rattle.std.proofs.lemmas.Bool.{cases_eq, cases_lt}
 use Rattle.std.proofs.lemmas.Option.{same_Some}
-use Rattle.wb_automata.specs.Linear.{Linear, Leaf, Sequence, Choice, Star, Plus, Maybe, Matches, one, seq, left, right, none, more, once, absent, present, empty_of}
-use Rattle.wb_automata.specs.Positions.{Spans, First, Last, Follow, After, Joined}
-use Rattle.wb_automata.specs.Sets.{Ranges, Filled, Links, Rest, Target, IsNext, Stands, Ends}
-
+use Rattle.wb_automata.specs.Linear.{Linear, Leaf, Sequence, Choice, Star, Plus, Maybe, Matches, one, seq, left, none, once, absent}
+use Rattle.wb_automata.specs.Positions.{First, Follow, After}
+use Rattle.wb_automata.specs.Sets.{Ranges, Filled, Rest, IsNext, Stands, Ends}
 use Rattle.wb_automata.proofs.Empties.{matches_empty, empty_matches}
-use Rattle.wb_automata.proofs.Ranges.{Within, first_within, last_within, follow_within, after_within, apart}
+use Rattle.wb_automata.proofs.Ranges.{Within, first_within, follow_within, after_within}
 use Rattle.wb_automata.proofs.Paths.{begun, begins, goes, comes, last_after, after_last}
 
 -- a leaf has one expression

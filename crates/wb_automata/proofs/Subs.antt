@@ -1,10 +1,9 @@
 -- Each node of a tree is the root of a tree.
-use Rattle.std.proofs.Common.{◌≡◌, ℕ, ◌+◌, ◌≤◌, ◌<◌, List, refl, sym, ◌∙◌, ap, subst, arith, ◌⊎◌, inl, inr, Some, length}
+use Rattle.std.proofs.Common.{◌≡◌, ℕ, ◌+◌, ◌≤◌, ◌<◌, List, sym, ◌∙◌, ap, subst, arith, inl, inr, Some, length}
 use Rattle.std.specs.Prelude.{slice_get, Contains, All}
 use Rattle.std.proofs.lemmas.Bool.{cases_lt}
 use Rattle.std.proofs.lemmas.Option.{same_Some}
 use Rattle.wb_automata.specs.Linear.{Linear, Leaf, Sequence, Choice, Star, Plus, Maybe}
-use Rattle.wb_automata.specs.Positions.{Last}
 use Rattle.wb_regex.specs.declared.node.RegexNode.{RegexNode}
 use Rattle.wb_regex.specs.declared.node.RegexNode.TheVariants as n
 use Rattle.wb_automata.specs.Nodes.{Covers, one, seq, choice, star, plus, maybe, PartsBelow, AreLasts, row, lasts}

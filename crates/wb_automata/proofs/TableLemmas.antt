@@ -1,10 +1,11 @@
 -- The tables of the code are those of the expressions.
-use Rattle.std.proofs.Common.{◌≡◌, ℕ, ◌+◌, ◌<◌, List, Bool, length, ◌⊎◌, subst, sym, ◌∙◌}
+use Rattle.std.proofs.Common.{◌≡◌, ℕ, ◌+◌, List, Bool, length, ◌⊎◌}
 use Rattle.std.specs.Prelude.{◌↔◌, Contains}
 use Rattle.wb_regex.specs.Tree.{Tree}
 use Rattle.wb_regex.specs.declared.node.RegexNode.{RegexNode}
 use Rattle.wb_automata.specs.Joined.{AreJoined, bound_of}
-use Rattle.wb_automata.specs.Nodes.{row, LinkIn, AreFirsts, AreLasts, AreEmpties}
+use Rattle.wb_automata.specs.Nodes.{row, AreFirsts, AreLasts, AreEmpties}
+use Rattle.wb_automata.specs.Follows.{LinkIn}
 use Rattle.wb_automata.specs.Roots.{BeginAt, EndAt}
 use Rattle.wb_automata.specs.Running.{IsFollow, IsEnds}
 use Rattle.wb_automata.specs.Tables.{IsPlanted, AreTables}
@@ -28,7 +29,10 @@ tables_whole trees nodes roots empty first last follow ends m =
     let f : IsFollow nodes h.linears follow = follow_whole nodes h.linears (bound_of trees) roots h.forest h.are_roots first last follow m.firsts m.lasts m.follow_exact in
     let e : IsEnds nodes h.linears ends = ends_whole nodes h.linears (bound_of trees) roots h.forest h.are_roots last ends empty m.lasts m.empties m.ends_exact in
     record {
-      roots = roots; planted = h; is_follow = f; is_ends = e;
+      roots = roots;
+      planted = h;
+      is_follow = f;
+      is_ends = e;
       follow_table = record { len = m.follow_len; below = planted_follow trees nodes roots h follow f };
       ends_len = m.ends_len;
       ends_below = planted_ends trees nodes roots h ends e;

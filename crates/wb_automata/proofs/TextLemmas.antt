@@ -1,5 +1,5 @@
 -- The text of a state is that of the state that it was found from, with a byte behind it.
-use Rattle.std.proofs.Common.{◌≡◌, ℕ, zero, suc, ◌+◌, ◌≤◌, ◌<◌, List, [], ◌∷◌, ◌++◌, refl, sym, ◌∙◌, ap, subst, arith, ◌⊎◌, inl, inr, Some, None, length, get_or, length-append, append_assoc, reverse}
+use Rattle.std.proofs.Common.{◌≡◌, ℕ, zero, suc, ◌+◌, ◌≤◌, ◌<◌, List, [], ◌∷◌, ◌++◌, sym, ◌∙◌, ap, subst, arith, Some, length, get_or, length-append, append_assoc, reverse}
 use Rattle.std.proofs.lemmas.List.{reverse-append}
 use Rattle.std.specs.Prelude.{slice_get}
 use Rattle.std.proofs.lemmas.Option.{slice_get-get_or, slice_get_past, same_Some}
@@ -24,7 +24,8 @@ entry texts (p ∷ os) zero o place e at =
     let same : p ≡ o = same_Some p o at in
     let more : List (List ℕ) = texts ++ text_by texts p ∷ [] in
     record {
-      earlier = texts; len = omega arith;
+      earlier = texts;
+      len = omega arith;
       keeps = λ k x h. grown_keeps more os k x (slice_get_more texts (text_by texts p ∷ []) k x h);
       is = grown_keeps more os place (text_by texts o) (subst (λ z. slice_get more place ≡ Some (text_by texts z)) same (slice_get_last texts (text_by texts p) place (omega arith)));
     }
@@ -59,10 +60,13 @@ texts_len os = (let e = grown_len [] os in omega arith)
 
 -- one byte more is read back
 pub text_back : (os : List Origin) (state at : ℕ) (bytes new : List ℕ) (o : Origin) → slice_get os at ≡ Some o → o.from < at → new ≡ bytes ++ o.byte ∷ [] → (at < length os) × ((u : List ℕ) → slice_get (texts_of os) at ≡ Some u → slice_get (texts_of os) state ≡ Some (u ++ reverse bytes)) → (o.from < length os) × ((v : List ℕ) → slice_get (texts_of os) o.from ≡ Some v → slice_get (texts_of os) state ≡ Some (v ++ reverse new))
-text_back os state at bytes new o here lt e (within, before) = (omega arith, λ v is.
-  let u : List ℕ = get_or (texts_of os) at [] in
-  let at_u : slice_get (texts_of os) at ≡ Some u = slice_get-get_or (texts_of os) at [] (omega (arith, texts_len os)) in
-  let (w, is_w, joins) = text_from os at o here lt u at_u in
-  let same : w ≡ v = same_Some w v (sym is_w ∙ is) in
-  let turned : u ++ reverse bytes ≡ v ++ reverse new = ap (λ z. z ++ reverse bytes) (joins ∙ ap (λ z. z ++ o.byte ∷ []) same) ∙ append_assoc v (o.byte ∷ []) (reverse bytes) ∙ sym (ap (λ z. v ++ reverse z) e ∙ ap (λ z. v ++ z) (reverse-append bytes (o.byte ∷ []))) in
-  before u at_u ∙ ap Some turned)
+text_back os state at bytes new o here lt e (within, before) = (
+  omega arith,
+  λ v is.
+      let u : List ℕ = get_or (texts_of os) at [] in
+      let at_u : slice_get (texts_of os) at ≡ Some u = slice_get-get_or (texts_of os) at [] (omega (arith, texts_len os)) in
+      let (w, is_w, joins) = text_from os at o here lt u at_u in
+      let same : w ≡ v = same_Some w v (sym is_w ∙ is) in
+      let turned : u ++ reverse bytes ≡ v ++ reverse new = ap (λ z. z ++ reverse bytes) (joins ∙ ap (λ z. z ++ o.byte ∷ []) same) ∙ append_assoc v (o.byte ∷ []) (reverse bytes) ∙ sym (ap (λ z. v ++ reverse z) e ∙ ap (λ z. v ++ z) (reverse-append bytes (o.byte ∷ []))) in
+      before u at_u ∙ ap Some turned,
+)

@@ -1,5 +1,5 @@
 -- The steps over a text lead to a state whose first text isn't behind it.
-use Rattle.std.proofs.Common.{◌≡◌, ℕ, ◌+◌, ◌*◌, ◌≤◌, ◌<◌, Bool, true, List, [], ◌∷◌, ◌++◌, refl, sym, ◌∙◌, ap, subst, arith, ◌⊎◌, inl, inr, Option, Some, None, length, get_or, append_assoc, append-nil}
+use Rattle.std.proofs.Common.{◌≡◌, ℕ, ◌+◌, ◌*◌, ◌≤◌, ◌<◌, List, [], ◌∷◌, ◌++◌, refl, sym, ◌∙◌, ap, subst, arith, inl, inr, Option, Some, None, length, get_or, append_assoc, append-nil}
 use Rattle.std.specs.Prelude.{slice_get, ◌↔◌, Contains, IfSome, IsNone}
 use Rattle.wb_automata.specs.Nodes.{row}
 use Rattle.std.proofs.lemmas.Bool.{cases_lt, true≢false}
@@ -8,14 +8,14 @@ use Rattle.std.proofs.lemmas.Option.{slice_get-get_or, slice_get_within, same_So
 use Rattle.wb_regex.specs.Tree.{Tree}
 use Rattle.wb_regex.specs.declared.node.RegexNode.{RegexNode}
 use Rattle.wb_regex.specs.declared.node.RegexNode.TheVariants as n
-use Rattle.wb_automata.specs.Machines.{Reads, holds_of, node_holds}
+use Rattle.wb_automata.specs.Machines.{holds_of, node_holds}
 use Rattle.wb_automata.specs.Order.{IsAtMost}
 use Rattle.wb_automata.specs.Found.{Found}
-use Rattle.wb_automata.specs.Exploring.{IsMove, LeadsOn, RowsPass}
+use Rattle.wb_automata.specs.Exploring.{IsMove, RowsPass}
 use Rattle.wb_automata.specs.Classes.{AreClasses}
-use Rattle.wb_automata.specs.Automata.{Machine, IsMatch, GoesOn, AreAlike, LeadsTo, IsFound, IsOrdered}
+use Rattle.wb_automata.specs.Automata.{Machine, IsMatch, GoesOn, AreAlike, LeadsTo, IsFound}
 use Rattle.wb_automata.specs.Tables.{AreTables}
-use Rattle.wb_automata.specs.Kept.{IsStep, IsStepOf, IsFlat, AreAccepted, IsAutomaton}
+use Rattle.wb_automata.specs.Kept.{IsStepOf, IsFlat, AreAccepted, IsAutomaton}
 use Rattle.wb_automata.proofs.ErasingLemmas.{byte_within}
 use Rattle.wb_automata.proofs.FlatLemmas.{place_below}
 use Rattle.wb_automata.proofs.OrderLemmas.{at_most_next, at_most_more, at_most_last}
@@ -60,18 +60,23 @@ walk machine step steps (b ∷ x) done s first at alike least g = moved (λ j ow
   where
     joins : done ++ b ∷ [] ++ x ≡ done ++ (b ∷ x)
     joins = append_assoc done (b ∷ []) x
+
     moved : ((j : ℕ) (own : List ℕ) → slice_get machine.texts j ≡ Some own → AreAlike machine.terminals (done ++ b ∷ []) own → IsAtMost own (done ++ b ∷ []) → GoesOn machine.terminals (done ++ b ∷ [] ++ x) → IsFound machine (done ++ b ∷ [] ++ x)) → (o : Option ℕ) → IsStepOf machine first b o → IsFound machine (done ++ (b ∷ x))
     moved rest None stops = absurd (stops (alike_goes machine.terminals (done ++ b ∷ []) (first ++ b ∷ []) (alike_more machine.terminals done first b alike) (goes_front machine.terminals done x b g)))
     moved rest (Some j) m = subst (IsFound machine) joins (rest j m.own m.at
-      (alike_next machine.terminals (done ++ b ∷ []) (first ++ b ∷ []) m.own (alike_more machine.terminals done first b alike) m.alike)
-      (at_most_next m.own (first ++ b ∷ []) (done ++ b ∷ []) m.least (at_most_more first done b least))
-      (subst (GoesOn machine.terminals) (sym joins) g))
+        (alike_next machine.terminals (done ++ b ∷ []) (first ++ b ∷ []) m.own (alike_more machine.terminals done first b alike) m.alike)
+        (at_most_next m.own (first ++ b ∷ []) (done ++ b ∷ []) m.least (at_most_more first done b least))
+        (subst (GoesOn machine.terminals) (sym joins) g))
 
 -- a byte goes as the first of its class
 class_move : (nodes : List RegexNode) (follow : List (List ℕ)) (found : Found) (set text : List ℕ) (f b : ℕ) (o : Option ℕ) → f ≤ b → ((q : ℕ) → holds_of nodes q b ≡ holds_of nodes q f) → IsMove nodes follow found set text f o → IsMove nodes follow found set text b o
 class_move nodes follow found set text f b None le same none = λ q (holds, a). none q (sym (same q) ∙ holds, a)
 class_move nodes follow found set text f b (Some j) le same m = record {
-  next = m.next; own = m.own; at = m.at; at_text = m.at_text; some = m.some;
+  next = m.next;
+  own = m.own;
+  at = m.at;
+  at_text = m.at_text;
+  some = m.some;
   exact = λ q. (λ has. let (x, y) = (m.exact q).0 has in (same q ∙ x, y), λ (x, y). (m.exact q).1 (sym (same q) ∙ x, y));
   least = at_most_next m.own (text ++ f ∷ []) (text ++ b ∷ []) m.least (at_most_last text f b le);
 }

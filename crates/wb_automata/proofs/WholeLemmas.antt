@@ -1,29 +1,26 @@
 -- What was found is an automaton: each state stands for the texts that lead to it.
-use Rattle.std.proofs.Common.{◌≡◌, ℕ, zero, suc, ◌+◌, ◌*◌, ◌/◌, ◌≤◌, ◌<◌, Bool, true, false, List, [], ◌∷◌, ◌++◌, refl, sym, ◌∙◌, ap, subst, arith, ◌⊎◌, inl, inr, Option, Some, None, length, get_or, append_assoc, append-nil}
-use Rattle.std.specs.Prelude.{slice_get, slice_index, ◌==◌, ◌↔◌, Contains, All}
-use Rattle.std.proofs.lemmas.Bool.{true≢false, cases_Bool, cases_lt}
+use Rattle.std.proofs.Common.{◌≡◌, ℕ, zero, suc, ◌+◌, ◌/◌, ◌<◌, true, false, List, [], ◌∷◌, ◌++◌, refl, sym, ◌∙◌, ap, subst, arith, inl, inr, Option, Some, None, length, get_or}
+use Rattle.std.specs.Prelude.{slice_get, ◌==◌, ◌↔◌, Contains}
+use Rattle.std.proofs.lemmas.Bool.{true≢false, cases_Bool}
 use Rattle.std.proofs.lemmas.List.{get_or_past}
 use Rattle.std.proofs.lemmas.Nat.Bits.{bit_at-zero}
 use Rattle.std.proofs.lemmas.Option.{slice_get-get_or, slice_get_within, same_Some}
 use Rattle.wb_regex.specs.Tree.{Tree, Set}
-use Rattle.wb_regex.specs.Matches as w
 use Rattle.wb_regex.specs.declared.node.RegexNode.{RegexNode}
 use Rattle.wb_regex.specs.declared.node.RegexNode.TheVariants as n
-use Rattle.wb_automata.specs.Linear.{Linear, Leaf, Matches}
+use Rattle.wb_automata.specs.Linear.{Linear, Matches}
 use Rattle.wb_automata.specs.Machines.{Ahead, Reads, holds_of, node_holds}
 use Rattle.wb_automata.specs.Sets.{Stands, Ranges, IsNext, Filled}
-use Rattle.wb_automata.specs.Running.{IsForest, IsFollow, IsEnds}
-use Rattle.wb_automata.specs.Order.{IsBefore, IsAtMost}
+use Rattle.wb_automata.specs.Running.{IsForest, IsFollow}
 use Rattle.wb_automata.specs.Found.{Found, AreFound}
-use Rattle.wb_automata.specs.Exploring.{LeadsOn, IsMove}
-use Rattle.wb_automata.specs.Automata.{Machine, IsMatch, GoesOn, AreAlike, IsFound, IsOrdered, LeadsTo}
-use Rattle.wb_automata.specs.Tables.{HasPlaces, IsPlanted, AreTables}
+use Rattle.wb_automata.specs.Exploring.{IsMove}
+use Rattle.wb_automata.specs.Automata.{IsMatch, GoesOn, AreAlike}
+use Rattle.wb_automata.specs.Tables.{AreTables}
 use Rattle.wb_automata.specs.Joined.{bound_of}
-use Rattle.wb_automata.specs.Kept.{IsStep, IsStepOf}
-use Rattle.wb_automata.proofs.ErasingLemmas.{erased, placed, byte_within}
+use Rattle.wb_automata.specs.Kept.{IsStepOf}
+use Rattle.wb_automata.proofs.ErasingLemmas.{erased, placed}
 use Rattle.wb_automata.proofs.NodeLemmas.{covers_spans}
-use Rattle.wb_automata.proofs.OrderLemmas.{at_most_next, at_most_more}
-use Rattle.wb_automata.proofs.StandsLemmas.{stands_first, stands_next, accepts, dead, alive}
+use Rattle.wb_automata.proofs.StandsLemmas.{stands_first, stands_next, accepts, alive}
 
 forest_ranges : (nodes : List RegexNode) (trees : List Linear) (bound : ℕ → ℕ) → IsForest nodes trees bound → Ranges trees bound
 forest_ranges nodes trees bound h = record { spans = λ k t at. covers_spans (h.covers k t at); rises = h.rises }
@@ -139,7 +136,8 @@ module _ (trees : List Tree) (nodes : List RegexNode) (follow ends : List (List 
   move_step found h set text b (Some j) stands m =
       let (q, has) = m.some in
       record {
-        own = m.own; at = m.at_text;
+        own = m.own;
+        at = m.at_text;
         alike = alike m.next (text ++ b ∷ []) m.own (step_represents set m.next text b stands m.exact) (represents found h j m.next m.own m.at m.at_text);
         goes = goes set m.next text b q stands m.exact has;
         least = m.least;

@@ -1,16 +1,15 @@
 -- The tables of the code are those of the expressions.
-use Rattle.std.proofs.Common.{◌≡◌, ℕ, ◌+◌, ◌≤◌, ◌<◌, Bool, true, List, refl, sym, ◌∙◌, ap, subst, arith, ◌⊎◌, inl, inr, Some, length, get_or}
+use Rattle.std.proofs.Common.{◌≡◌, ℕ, ◌+◌, ◌<◌, Bool, List, sym, ◌∙◌, subst, arith, ◌⊎◌, inl, inr, Some, length, get_or}
 use Rattle.std.specs.Prelude.{slice_get, ◌↔◌, Contains}
 use Rattle.std.proofs.lemmas.Option.{slice_get-get_or, slice_get_within}
 use Rattle.wb_automata.specs.Linear.{Linear, Leaf, empty_of}
-use Rattle.wb_automata.specs.Positions.{First, Last, Follow}
 use Rattle.wb_regex.specs.declared.node.RegexNode.{RegexNode}
-use Rattle.wb_automata.specs.Nodes.{AreFirsts, AreLasts, AreEmpties, LinkIn, Covers, row, flag, firsts, lasts}
+use Rattle.wb_automata.specs.Nodes.{AreFirsts, AreLasts, AreEmpties, Covers, row, flag, firsts, lasts}
+use Rattle.wb_automata.specs.Follows.{LinkIn}
 use Rattle.wb_automata.specs.Roots.{BeginAt, EndAt}
-use Rattle.wb_automata.specs.Sets.{Links}
-use Rattle.wb_automata.specs.Running.{IsForest, IsFollow, IsEnds, Ending, AreRoots}
+use Rattle.wb_automata.specs.Running.{IsForest, IsFollow, IsEnds, AreRoots}
 use Rattle.wb_automata.proofs.NodeLemmas.{firsts_is, lasts_is}
-use Rattle.wb_automata.proofs.Forests.{links_exact, FollowIn}
+use Rattle.wb_automata.proofs.Forests.{links_exact}
 
 module _ (nodes : List RegexNode) (trees : List Linear) (bound : ℕ → ℕ) (roots : List ℕ) (forest : IsForest nodes trees bound) (h : AreRoots nodes trees bound roots) where
   covered : (k : ℕ) (t : Linear) → slice_get trees k ≡ Some t → Covers nodes (bound k) (get_or roots k 0 + 1) t

@@ -1,5 +1,5 @@
 -- What the states of an automaton of several regular expressions say of the texts that lead to them.
-use Rattle.std.specs.Prelude.{◌≡◌, ◌<◌, ◌↔◌, ℕ, List, [], ◌∷◌, ◌++◌, Some, slice_get}
+use Rattle.std.specs.Prelude.{◌≡◌, ◌<◌, ◌↔◌, ℕ, List, ◌++◌, Some, slice_get}
 use Rattle.wb_regex.specs.Tree.{Tree}
 use Rattle.wb_regex.specs.Matches.{Matches}
 use Rattle.wb_automata.specs.Order.{IsBefore, IsAtMost}

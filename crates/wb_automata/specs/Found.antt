@@ -1,9 +1,9 @@
 -- States that are found one after another, each with its leaves and with the first text that leads to it.
-use Rattle.std.specs.Prelude.{◌≡◌, ◌+◌, ◌<◌, ◌≤◌, ◌↔◌, ◌⊎◌, ℕ, Bool, true, Option, Some, None, List, [], ◌∷◌, ◌++◌, All, Contains, length, slice_get, slice_index, slice_index_or}
+use Rattle.std.specs.Prelude.{◌≡◌, ◌+◌, ◌<◌, ◌≤◌, ◌↔◌, ◌⊎◌, ℕ, true, Option, Some, None, List, [], ◌∷◌, ◌++◌, All, Contains, length, slice_get}
 use Rattle.wb_regex.specs.declared.node.RegexNode.{RegexNode}
 use Rattle.wb_automata.specs.declared.origin.Origin.{Origin}
-use Rattle.wb_automata.specs.Machines.{holds_of, Ahead, Reads}
-use Rattle.wb_automata.specs.Order.{IsBefore, IsAtMost}
+use Rattle.wb_automata.specs.Machines.{holds_of, Reads}
+use Rattle.wb_automata.specs.Order.{IsBefore}
 
 -- the leaves of each state, and its first text
 pub record Found : Type 0 where

@@ -1,5 +1,5 @@
 -- A code of machines, by which a proof tells two of them apart: the model of an automaton asks for it.
-use Rattle.std.specs.Prelude.{◌≡◌, ℕ, List, refl}
+use Rattle.std.specs.Prelude.{ℕ, List, refl}
 use Rattle.std.specs.Coded.{Coded, code_by, coded×, coded_list, coded_ℕ}
 use Rattle.wb_regex.specs.Tree.{Tree}
 use Rattle.wb_regex.specs.TreeCode.{coded_tree}

@@ -1,8 +1,9 @@
 -- States as lists of leaves, and where a byte leads from them.
-use Rattle.std.specs.Prelude.{◌≡◌, ℕ, ◌+◌, ◌/◌, ◌%◌, ◌==◌, ◌&&◌, slice_index, ◌<◌, ◌≤◌, List, [], ◌∷◌, ◌++◌, Bool, true, false, ◌⊎◌, ◌↔◌, slice_get, slice_index_or, Some, None, Option, length, Contains, All}
+use Rattle.std.specs.Prelude.{◌≡◌, ℕ, ◌+◌, ◌/◌, ◌%◌, ◌==◌, ◌&&◌, slice_index, List, [], Bool, true, false, slice_index_or, length, Contains}
 use Rattle.wb_regex.specs.declared.node.RegexNode.{RegexNode}
 use Rattle.wb_regex.specs.declared.node.RegexNode.TheVariants as n
-use Rattle.wb_automata.specs.Nodes.{row, AreBelow}
+use Rattle.wb_automata.specs.Nodes.{row}
+use Rattle.wb_automata.specs.Follows.{AreBelow}
 use Rattle.std.specs.Int.{bit_at}
 
 -- the bits of these words say that the byte is in the set
@@ -35,4 +36,3 @@ pub record Ahead (follow : List (List ℕ)) (set : List ℕ) (q : ℕ) : Type 0 
 -- the leaf is where the byte leads from the set
 abbrev pub Reads : List RegexNode → List (List ℕ) → List ℕ → ℕ → ℕ → Type 0
 Reads nodes follow set b q = (holds_of nodes q b ≡ true) × Ahead follow set q
-

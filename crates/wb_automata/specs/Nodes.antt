@@ -1,5 +1,5 @@
 -- Nodes in post-order, and tables with an entry for each node.
-use Rattle.std.specs.Prelude.{Contains, All, ◌↔◌, ◌≡◌, ℕ, ◌+◌, ◌<◌, ◌≤◌, List, [], ◌∷◌, ◌++◌, Bool, true, false, cond, ◌⊎◌, ◌&&◌, ◌||◌, slice_get, slice_index_or, Some, length}
+use Rattle.std.specs.Prelude.{◌≡◌, ℕ, ◌+◌, ◌<◌, List, [], ◌∷◌, ◌++◌, Bool, true, false, cond, ◌&&◌, ◌||◌, slice_get, slice_index_or, Some, length}
 use Rattle.wb_automata.specs.Linear.{Linear, Leaf, Sequence, Choice, Star, Plus, Maybe, empty_of}
 use Rattle.wb_regex.specs.declared.node.RegexNode.{RegexNode}
 use Rattle.wb_regex.specs.declared.node.RegexNode.TheVariants as n
@@ -91,30 +91,3 @@ lasts (Maybe r) = lasts r
 pub record AreLasts (nodes : List RegexNode) (rows : List (List ℕ)) (i : ℕ) : Type 0 where
   pub len : length rows ≡ i
   pub each : (s j : ℕ) (t : Linear) → j < i → Covers nodes s (j + 1) t → row rows j ≡ lasts t
-
--- all leaves in the rows have places below this
-abbrev pub AreBelow : ℕ → List (List ℕ) → Type 0
-AreBelow m rows = (j : ℕ) → All (λ p. p < m) (row rows j)
-
--- by the node itself the leaf q may come behind the leaf p
-abbrev pub LinkAt : List (List ℕ) → List (List ℕ) → RegexNode → ℕ → ℕ → Type 0
-LinkAt first last (n.Set words) p q = ⊥
-LinkAt first last (n.Sequence i j) p q = Contains (row last i) p × Contains (row first j) q
-LinkAt first last (n.Choice i j) p q = ⊥
-LinkAt first last (n.Star i) p q = Contains (row last i) p × Contains (row first i) q
-LinkAt first last (n.Plus i) p q = Contains (row last i) p × Contains (row first i) q
-LinkAt first last (n.Maybe i) p q = ⊥
-
--- by one of the nodes from s on and below e the leaf q may come behind the leaf p
-pub record LinkIn (nodes : List RegexNode) (first last : List (List ℕ)) (s e p q : ℕ) : Type 0 where
-  pub place : ℕ
-  pub node : RegexNode
-  pub least : s ≤ place
-  pub below : place < e
-  pub at : slice_get nodes place ≡ Some node
-  pub link : LinkAt first last node p q
-
--- the table says which leaves may come behind each leaf, by the nodes below i
-pub record AreFollows (nodes : List RegexNode) (first last follow : List (List ℕ)) (m i : ℕ) : Type 0 where
-  pub len : length follow ≡ m
-  pub each : (p q : ℕ) → Contains (row follow p) q ↔ LinkIn nodes first last 0 i p q

@@ -1,5 +1,5 @@
 -- Where the expressions with these roots begin and end.
-use Rattle.std.specs.Prelude.{◌≡◌, ℕ, ◌+◌, ◌<◌, List, [], ◌∷◌, Bool, true, ◌⊎◌, slice_index_or, Contains}
+use Rattle.std.specs.Prelude.{◌≡◌, ℕ, ◌<◌, List, Bool, true, ◌⊎◌, slice_index_or, Contains}
 use Rattle.wb_automata.specs.Nodes.{row, flag}
 
 -- p is the begin, and one of the first i roots begins with q

@@ -1,10 +1,10 @@
--- What the steps over a text lead to.
-use Rattle.std.specs.Prelude.{◌≡◌, ℕ, ◌+◌, ◌<◌, ◌≤◌, List, [], ◌∷◌, ◌++◌, Bool, true, false, ◌⊎◌, ◌↔◌, slice_get, slice_index_or, Some, None, Option, length, Contains, All}
+-- Several expressions over one list of nodes, and the tables that are theirs.
+use Rattle.std.specs.Prelude.{◌≡◌, ℕ, ◌+◌, ◌<◌, ◌≤◌, List, true, ◌⊎◌, ◌↔◌, slice_get, slice_index_or, Some, length, Contains}
 use Rattle.wb_regex.specs.declared.node.RegexNode.{RegexNode}
 use Rattle.wb_automata.specs.Nodes.{row, Covers}
-use Rattle.wb_automata.specs.Linear.{Linear, Matches, empty_of}
+use Rattle.wb_automata.specs.Linear.{Linear, empty_of}
 use Rattle.wb_automata.specs.Positions.{Last}
-use Rattle.wb_automata.specs.Sets.{Links, Stands, Ranges, Rest}
+use Rattle.wb_automata.specs.Sets.{Links}
 
 -- the expressions cover the nodes, one behind the other
 pub record IsForest (nodes : List RegexNode) (trees : List Linear) (bound : ℕ → ℕ) : Type 0 where
@@ -16,14 +16,6 @@ pub record IsForest (nodes : List RegexNode) (trees : List Linear) (bound : ℕ 
 abbrev pub IsFollow : List RegexNode → List Linear → List (List ℕ) → Type 0
 IsFollow nodes trees follow = (p q : ℕ) → Contains (row follow p) q ↔ Links trees (length nodes) p q
 
--- some expression matches some text that begins so
-pub record GoesOn (holds : ℕ → ℕ → Bool) (trees : List Linear) (x : List ℕ) : Type 0 where
-  pub number : ℕ
-  pub tree : Linear
-  pub at : slice_get trees number ≡ Some tree
-  pub rest : List ℕ
-  pub matches : Matches holds tree (x ++ rest)
-
 -- the table says which expressions may end with a leaf
 pub record Ending (nodes : List RegexNode) (trees : List Linear) (p k : ℕ) : Type 0 where
   pub tree : Linear
@@ -32,12 +24,6 @@ pub record Ending (nodes : List RegexNode) (trees : List Linear) (p k : ℕ) : T
 
 abbrev pub IsEnds : List RegexNode → List Linear → List (List ℕ) → Type 0
 IsEnds nodes trees table = (p k : ℕ) → Contains (row table p) k ↔ Ending nodes trees p k
-
--- the expression with this number matches the text
-pub record Fits (holds : ℕ → ℕ → Bool) (trees : List Linear) (k : ℕ) (x : List ℕ) : Type 0 where
-  pub tree : Linear
-  pub at : slice_get trees k ≡ Some tree
-  pub matches : Matches holds tree x
 
 -- the roots are the last nodes of the expressions, and the expressions are all of the nodes
 pub record AreRoots (nodes : List RegexNode) (trees : List Linear) (bound : ℕ → ℕ) (roots : List ℕ) : Type 0 where

@@ -1,8 +1,7 @@
--- Sets of leaves as states.
-use Rattle.std.specs.Prelude.{◌≡◌, ℕ, ◌+◌, ◌≤◌, ◌<◌, List, [], ◌∷◌, ◌++◌, Bool, true, false, ◌⊎◌, ◌↔◌, slice_get, Some, length, Contains}
+-- Sets of leaves as states: what they say of the texts that lead to them.
+use Rattle.std.specs.Prelude.{◌≡◌, ℕ, ◌+◌, ◌≤◌, List, ◌++◌, Bool, true, ◌⊎◌, ◌↔◌, slice_get, Some, Contains}
 use Rattle.wb_automata.specs.Linear.{Linear, Leaf, Sequence, Choice, Star, Plus, Maybe, Matches, empty_of}
 use Rattle.wb_automata.specs.Positions.{Spans, First, Last, Follow, After}
-
 
 -- the expressions have their leaves in ranges of their own, one behind the other
 pub record Ranges (trees : List Linear) (bound : ℕ → ℕ) : Type 0 where

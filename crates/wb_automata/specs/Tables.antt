@@ -1,12 +1,12 @@
 -- The tables of several expressions, over the nodes of all.
-use Rattle.std.specs.Prelude.{◌≡◌, ◌+◌, ℕ, Bool, List, Some, length, slice_get}
+use Rattle.std.specs.Prelude.{◌≡◌, ◌+◌, ℕ, List, Some, length, slice_get}
 use Rattle.wb_regex.specs.Tree.{Tree}
 use Rattle.wb_regex.specs.declared.node.RegexNode.{RegexNode}
 use Rattle.wb_automata.specs.Linear.{Linear}
 use Rattle.wb_automata.specs.Erasing.{Erases}
 use Rattle.wb_automata.specs.Joined.{bound_of}
 use Rattle.wb_automata.specs.Machines.{holds_of, IsTable}
-use Rattle.wb_automata.specs.Nodes.{AreBelow}
+use Rattle.wb_automata.specs.Follows.{AreBelow}
 use Rattle.wb_automata.specs.Running.{IsForest, IsFollow, IsEnds, AreRoots}
 use Rattle.wb_automata.specs.Sets.{Filled}
 

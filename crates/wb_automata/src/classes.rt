@@ -67,7 +67,11 @@ fn class_of(
     ensures class { IfOk result (λ class. IsClassOf node classes.now firsts.old.items firsts.new.items byte class) }
 {
     let old = classes[usize::from(byte)];
-    let place = if holds(node, byte) && old < 256 { old + 256 } else { old };
+    let place = if holds(node, byte) && old < 256 {
+        old + 256
+    } else {
+        old
+    };
     let hint = if place < hints.len() { hints[place] } else { 0 };
     if hint < firsts.len() && is_alike(classes, node, firsts[hint], byte) {
         return Ok(hint);

@@ -1,7 +1,7 @@
 //! The rows of an automaton as one list, and the terminals that its states accept.
 
 ghost use Rattle.std.specs.Prelude.{◌≡◌, ◌+◌, ◌<◌, ℕ, Some, [], All, IfOk, List, length, slice_get, slice_index_or};
-ghost use Rattle.wb_automata.specs.Nodes.{AreBelow};
+ghost use Rattle.wb_automata.specs.Follows.{AreBelow};
 ghost use Rattle.wb_automata.specs.Kept.{IsFlat, AreAccepted};
 
 use crate::machine::gathered;

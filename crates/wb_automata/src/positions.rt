@@ -1,11 +1,12 @@
 //! First, last and follow.
 
 ghost use Rattle.std.specs.Prelude.{◌≡◌, ℕ, ◌<◌, ◌≤◌, ◌++◌, ◌∷◌, [], List, length, IfOk, All, Contains, ◌↔◌, ◌⊎◌};
-ghost use Rattle.wb_automata.specs.Nodes.{AreParts, PartsBelow, empty_at, first_at, AreEmpties, AreFirsts, AreLasts, last_at, row, AreBelow, LinkAt, AreFollows};
+ghost use Rattle.wb_automata.specs.Nodes.{AreParts, PartsBelow, empty_at, first_at, AreEmpties, AreFirsts, AreLasts, last_at, row};
+ghost use Rattle.wb_automata.specs.Follows.{AreBelow, LinkAt, AreFollows};
 
-use wb_regex::RegexNode;
 use crate::rows::{Leaves, Rows};
 use std::alloc::{AllocError, Global};
+use wb_regex::RegexNode;
 
 /// Whether each node matches the empty text.
 pub fn empties(alloc: Global, nodes: &[RegexNode]) -> Result<Vec<bool>, AllocError>

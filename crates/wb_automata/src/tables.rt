@@ -1,7 +1,8 @@
 //! The tables of several expressions: which leaves may come behind each leaf, and which expressions may end with it.
 
 ghost use Rattle.std.specs.Prelude.{◌≡◌, ◌+◌, ◌<◌, ◌↔◌, ◌⊎◌, ℕ, [], All, Contains, IfOk, length, replicate};
-ghost use Rattle.wb_automata.specs.Nodes.{row, AreParts, AreBelow, AreEmpties, LinkIn};
+ghost use Rattle.wb_automata.specs.Nodes.{row, AreParts, AreEmpties};
+ghost use Rattle.wb_automata.specs.Follows.{AreBelow, LinkIn};
 ghost use Rattle.wb_automata.specs.Roots.{BeginAt, EndAt};
 ghost use Rattle.wb_automata.specs.Tables.{AreTables};
 

@@ -1,7 +1,8 @@
 //! Where expressions begin and end.
 
 ghost use Rattle.std.specs.Prelude.{◌≡◌, ℕ, ◌<◌, ◌+◌, ◌⊎◌, ◌↔◌, [], ◌∷◌, List, length, IfOk, IsTrue, All, Contains, true};
-ghost use Rattle.wb_automata.specs.Nodes.{row, AreBelow};
+ghost use Rattle.wb_automata.specs.Nodes.{row};
+ghost use Rattle.wb_automata.specs.Follows.{AreBelow};
 ghost use Rattle.wb_automata.specs.Roots.{BeginAt, EndAt};
 
 use crate::positions::link;
@@ -22,7 +23,13 @@ pub fn begins(follow: &mut Rows, first: &Rows, roots: &[usize], m: usize) -> Res
 }
 
 /// Leaf expression may end with its last leaves, and at the begin if it matches the empty text.
-fn end_by(ends: &mut Rows, last: &[usize], empty: bool, m: usize, k: usize) -> Result<(), AllocError>
+fn end_by(
+    ends: &mut Rows,
+    last: &[usize],
+    empty: bool,
+    m: usize,
+    k: usize,
+) -> Result<(), AllocError>
     requires last { All (λ p. p < length ends.old) last.now }
     requires begin { m < length ends.old }
     ensures len { length ends.new ≡ length ends.old }

@@ -8,11 +8,7 @@ use std::alloc::{AllocError, Global};
 use wb_base::{Bytes, push};
 
 /// The first text of a state.
-pub(crate) fn text_at(
-    alloc: Global,
-    origins: &[Origin],
-    state: usize,
-) -> Result<Bytes, AllocError>
+pub(crate) fn text_at(alloc: Global, origins: &[Origin], state: usize) -> Result<Bytes, AllocError>
     requires { state < length origins.now }
     ensures { IfOk result (λ text. slice_get (texts_of origins.now) state ≡ Some text) }
 {

@@ -1,14 +1,14 @@
 -- No pair that is listed at a state is undecided, so nothing clashes.
-use Rattle.std.proofs.Common.{◌≡◌, ℕ, ◌+◌, ◌≤◌, ◌<◌, Bool, List, refl, sym, ◌∙◌, ap, subst, arith, ◌⊎◌, inl, inr, Option, Some, None, length, get_or}
-use Rattle.std.specs.Prelude.{slice_get, Contains, IfSome, IsNone, ◌↔◌, ◌≢◌}
+use Rattle.std.proofs.Common.{◌≡◌, ℕ, ◌+◌, ◌≤◌, ◌<◌, Bool, List, refl, sym, ◌∙◌, ap, subst, arith, inl, inr, Option, Some, None, length, get_or}
+use Rattle.std.specs.Prelude.{slice_get, Contains, IfSome, IsNone, ◌↔◌}
 use Rattle.std.proofs.lemmas.Bool.{cases_lt}
 use Rattle.std.proofs.lemmas.List.{get_or_default}
 use Rattle.std.proofs.lemmas.Option.{slice_get_within, slice_get-get_or, same_Some, get_or_from_slice_get}
 use Rattle.wb_regex.specs.Tree.{Tree}
 use Rattle.wb_termset.specs.Sets.{Has}
-use Rattle.wb_automata.specs.Automata.{Machine, IsMatch, LeadsTo, IsOrdered, GoesOn}
+use Rattle.wb_automata.specs.Automata.{Machine, IsMatch, LeadsTo, IsOrdered}
 use Rattle.wb_automata.proofs.LeastLemmas.{match_goes, first_leads}
-use Rattle.wb_lexical.specs.Clash.{AreOrdered, IsMember, IsClash, HasNoClash, IsUndecided}
+use Rattle.wb_lexical.specs.Clash.{IsMember, IsClash, HasNoClash, IsUndecided}
 
 -- the pair isn't among the first i
 abbrev pub NoneBelow : List (ℕ × ℕ) → ℕ → ℕ → ℕ → Type 0
@@ -88,7 +88,11 @@ clear_more machine accepted sets preferences n exact decided before s text set l
 
 turned : (terminals : List Tree) (sets : List (List Bool)) (preferences : List (ℕ × ℕ)) (set left right : ℕ) (text : List ℕ) → IsClash terminals sets preferences set left right text → IsClash terminals sets preferences set right left text
 turned terminals sets preferences set left right text c = record {
-  different = λ e. c.different (sym e); left_in = c.right_in; right_in = c.left_in; left_matches = c.right_matches; right_matches = c.left_matches;
+  different = λ e. c.different (sym e);
+  left_in = c.right_in;
+  right_in = c.left_in;
+  left_matches = c.right_matches;
+  right_matches = c.left_matches;
   unordered = λ o. c.unordered (elim o [ inl a ↦ inr a | inr b ↦ inl b ]);
 }
 
@@ -107,8 +111,12 @@ pub clash_at : (machine : Machine) (accepted : List ℕ) (sets : List (List Bool
 clash_at machine accepted sets preferences state set left right text exact at u =
     let l = first_leads machine state text at in
     record {
-      different = λ e. (let less = u.less in omega arith); left_in = u.left_in; right_in = u.right_in;
-      left_matches = (exact left text l).0 u.left_listed; right_matches = (exact right text l).0 u.right_listed; unordered = u.unordered;
+      different = λ e. (let less = u.less in omega arith);
+      left_in = u.left_in;
+      right_in = u.right_in;
+      left_matches = (exact left text l).0 u.left_listed;
+      right_matches = (exact right text l).0 u.right_listed;
+      unordered = u.unordered;
     }
 
 -- what has nothing that could be inside is None

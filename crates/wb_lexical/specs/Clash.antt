@@ -1,5 +1,5 @@
 -- Clashes: two terminals of one set match one text, and no preference says which wins.
-use Rattle.std.specs.Prelude.{◌≡◌, ◌≢◌, ◌<◌, ◌⊎◌, ℕ, Bool, List, Contains, IsSomeAnd, Option, Some, slice_get}
+use Rattle.std.specs.Prelude.{◌≡◌, ◌≢◌, ◌<◌, ◌⊎◌, ℕ, Bool, List, Contains, Some, slice_get}
 use Rattle.wb_regex.specs.Tree.{Tree}
 use Rattle.wb_termset.specs.Sets.{Has}
 use Rattle.wb_automata.specs.Automata.{IsMatch}

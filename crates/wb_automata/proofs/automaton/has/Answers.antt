@@ -1,4 +1,4 @@
-use Rattle.std.proofs.Common.{◌≡◌, eqb}
+use Rattle.std.proofs.Common.{eqb}
 use Rattle.std.proofs.lemmas.Bool.Decides.{Decides-eqb}
 use Rattle.std.proofs.lemmas.List.Elements.{contains_decides, Decides-contains}
 use Rattle.wb_automata.proofs.automaton.has.Goals as goal

@@ -1,4 +1,4 @@
-use Rattle.std.proofs.Common.{◌≡◌, ◌∙◌, ap, [], ◌∷◌, ◌++◌}
+use Rattle.std.proofs.Common.{◌∙◌, ap, [], ◌∷◌, ◌++◌}
 use Rattle.wb_automata.proofs.ClassLemmas.{classes_begin}
 use Rattle.wb_automata.proofs.classes.one_class.Goals as goal
 

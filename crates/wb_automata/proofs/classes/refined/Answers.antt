@@ -1,4 +1,3 @@
-use Rattle.std.proofs.Common.{◌≡◌}
 use Rattle.wb_automata.proofs.ClassLemmas.{class_step}
 use Rattle.wb_automata.proofs.classes.refined.Goals as goal
 

@@ -1,4 +1,3 @@
-use Rattle.std.proofs.Common.{◌≡◌, length}
 use Rattle.wb_automata.specs.Classes.{ClassPass}
 use Rattle.wb_automata.proofs.classes.refined.Given as goal
 

@@ -1,4 +1,4 @@
-use Rattle.std.proofs.Common.{◌≡◌, subst, ℕ, List}
+use Rattle.std.proofs.Common.{subst, ℕ}
 use Rattle.std.specs.Prelude.{Contains, ◌↔◌}
 use Rattle.wb_automata.specs.Machines.{Ahead}
 use Rattle.wb_automata.proofs.FlatLemmas.{accepted_step}

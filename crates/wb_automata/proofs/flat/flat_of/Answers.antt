@@ -1,4 +1,4 @@
-use Rattle.std.proofs.Common.{◌≡◌, ◌∙◌, sym, ap, arith, [], length, get_or, List, ℕ, Option}
+use Rattle.std.proofs.Common.{◌≡◌, ◌∙◌, ap, arith, [], length, get_or}
 use Rattle.std.proofs.lemmas.List.{get_or_default}
 use Rattle.wb_automata.proofs.FlatLemmas.{flat_step}
 use Rattle.wb_automata.proofs.flat.flat_of.Goals as goal

@@ -1,4 +1,4 @@
-use Rattle.std.proofs.Common.{◌≡◌, arith, length}
+use Rattle.std.proofs.Common.{arith, length}
 use Rattle.wb_automata.specs.Joined.{raised}
 use Rattle.wb_automata.proofs.JoinLemmas.{parts_fit}
 use Rattle.wb_automata.proofs.joined.add_raised.Goals as goal

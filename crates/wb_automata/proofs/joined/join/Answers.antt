@@ -1,4 +1,4 @@
-use Rattle.std.proofs.Common.{◌≡◌, arith, length, refl}
+use Rattle.std.proofs.Common.{arith, length, refl}
 use Rattle.std.proofs.lemmas.Option.{slice_get_read}
 use Rattle.wb_automata.proofs.JoinLemmas.{join_begin, join_step}
 use Rattle.wb_automata.proofs.joined.join.Goals as goal

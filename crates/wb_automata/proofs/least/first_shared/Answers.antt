@@ -1,4 +1,4 @@
-use Rattle.std.proofs.Common.{◌≡◌, arith, length}
+use Rattle.std.proofs.Common.{arith}
 use Rattle.wb_automata.proofs.LeastLemmas.{least_state, none_shared, apart_more}
 use Rattle.wb_automata.proofs.least.first_shared.Goals as goal
 

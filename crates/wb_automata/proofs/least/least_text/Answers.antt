@@ -1,5 +1,4 @@
-use Rattle.std.proofs.Common.{◌≡◌, ◌∙◌, ◌∷◌, [], refl, List}
-use Rattle.wb_regex.specs.Tree.{Tree}
+use Rattle.std.proofs.Common.{◌≡◌, ◌∙◌, ◌∷◌, [], refl}
 use Rattle.wb_automata.proofs.LeastLemmas.{filled_match, left_only, least_of_one}
 use Rattle.wb_automata.proofs.least.least_text.Goals as goal
 

@@ -1,4 +1,4 @@
-use Rattle.std.proofs.Common.{◌≡◌, ◌∙◌, ◌∷◌, [], refl, List}
+use Rattle.std.proofs.Common.{◌≡◌, ◌∙◌, ◌∷◌, [], refl}
 use Rattle.wb_automata.proofs.LeastLemmas.{left_two, right_two, least_of_two}
 use Rattle.wb_automata.proofs.least.overlap.Goals as goal
 

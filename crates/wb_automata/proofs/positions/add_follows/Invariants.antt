@@ -1,5 +1,5 @@
 use Rattle.std.proofs.Common.{length}
-use Rattle.wb_automata.specs.Nodes.{AreFollows}
+use Rattle.wb_automata.specs.Follows.{AreFollows}
 use Rattle.wb_automata.proofs.positions.add_follows.Given as goal
 
 abbrev pub invariant-loop-node : goal.invariant-loop-node

@@ -1,7 +1,6 @@
-use Rattle.std.proofs.Common.{◌≡◌, ap, subst, sym, ◌∙◌, [], ◌∷◌, ◌++◌, get_or, arith, length}
+use Rattle.std.proofs.Common.{[], get_or, arith, length}
 use Rattle.std.proofs.lemmas.Option.{slice_get-get_or}
 use Rattle.wb_regex.specs.declared.node.RegexNode.TheVariants as n
-use Rattle.wb_automata.specs.Nodes.{AreLasts}
 use Rattle.wb_automata.proofs.NodeLemmas.{last_step}
 use Rattle.wb_automata.proofs.positions.lasts.Goals as goal
 

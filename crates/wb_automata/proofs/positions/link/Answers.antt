@@ -1,4 +1,4 @@
-use Rattle.std.proofs.Common.{arith, length, get_or}
+use Rattle.std.proofs.Common.{arith}
 use Rattle.wb_automata.proofs.NodeLemmas.{link_begin, link_step, link_end}
 use Rattle.wb_automata.proofs.positions.link.Goals as goal
 

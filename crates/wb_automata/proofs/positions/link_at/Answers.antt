@@ -1,4 +1,3 @@
-use Rattle.std.proofs.Common.{◌≡◌}
 use Rattle.wb_automata.proofs.NodeLemmas.{link_by}
 use Rattle.wb_automata.proofs.positions.link_at.Goals as goal
 

@@ -1,5 +1,5 @@
-use Rattle.std.proofs.Common.{◌≡◌, ◌<◌, length, arith, refl, [], ◌∷◌, ap}
-use Rattle.wb_automata.proofs.StateLemmas.{rows_begin, rows_step}
+use Rattle.std.proofs.Common.{◌<◌, length, arith}
+use Rattle.wb_automata.proofs.StateLemmas.{rows_step}
 use Rattle.wb_automata.proofs.states.explore.Goals as goal
 
 pub states-preserved : goal.states-preserved

@@ -1,4 +1,4 @@
-use Rattle.std.proofs.Common.{◌≡◌, ◌+◌, length}
+use Rattle.std.proofs.Common.{◌+◌, length}
 use Rattle.wb_automata.proofs.PlantLemmas.{from_blank}
 use Rattle.wb_automata.specs.Roots.{EndAt}
 use Rattle.wb_automata.proofs.tables.ends_of.Goals as goal

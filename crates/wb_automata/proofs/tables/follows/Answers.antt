@@ -1,4 +1,4 @@
-use Rattle.std.proofs.Common.{◌≡◌, inl, inr, ◌⊎◌}
+use Rattle.std.proofs.Common.{inl, inr}
 use Rattle.wb_automata.proofs.tables.follows.Goals as goal
 
 pub returns-clause-exact : goal.returns-clause-exact

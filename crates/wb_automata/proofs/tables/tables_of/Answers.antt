@@ -1,4 +1,4 @@
-use Rattle.std.proofs.Common.{◌≡◌, ◌+◌, length, subst, sym, List, ℕ, refl, Bool}
+use Rattle.std.proofs.Common.{length, subst, sym, List, ℕ, Bool}
 use Rattle.wb_regex.specs.Tree.{Tree}
 use Rattle.wb_regex.specs.declared.node.RegexNode.{RegexNode}
 use Rattle.wb_automata.specs.Joined.{AreJoined}
@@ -90,8 +90,13 @@ returns c =
     let empty : List Bool = c.deref-3.result.now in
     let are : AreEmpties nodes empty (length nodes) = subst (λ z. AreEmpties nodes z (length nodes)) (sym c.deref-3.ensures.value) c.in_ok-empty.ensures in
     subst (λ z. AreTables trees z c.in_ok-follow.follow c.in_ok-ends.ends) c.as_slice-nodes.ensures.value
-      (tables_whole trees nodes roots empty c.in_ok-first.first c.in_ok-last.last c.in_ok-follow.follow c.in_ok-ends.ends (record {
-        joined = joined; empties = are; firsts = c.in_ok-first.ensures; lasts = c.in_ok-last.ensures;
-        follow_len = c.in_ok-follow.ensures.len; follow_exact = c.in_ok-follow.ensures.exact;
-        ends_len = c.in_ok-ends.ensures.len; ends_exact = c.in_ok-ends.ensures.exact;
-      }))
+    (tables_whole trees nodes roots empty c.in_ok-first.first c.in_ok-last.last c.in_ok-follow.follow c.in_ok-ends.ends (record {
+      joined = joined;
+      empties = are;
+      firsts = c.in_ok-first.ensures;
+      lasts = c.in_ok-last.ensures;
+      follow_len = c.in_ok-follow.ensures.len;
+      follow_exact = c.in_ok-follow.ensures.exact;
+      ends_len = c.in_ok-ends.ensures.len;
+      ends_exact = c.in_ok-ends.ensures.exact;
+    }))

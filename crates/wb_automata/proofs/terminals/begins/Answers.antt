@@ -1,4 +1,4 @@
-use Rattle.std.proofs.Common.{◌≡◌, refl, length, arith, get_or, [], ◌∷◌, ℕ, subst, ◌⊎◌}
+use Rattle.std.proofs.Common.{◌≡◌, refl, length, arith, [], ◌∷◌, ℕ, subst, ◌⊎◌}
 use Rattle.std.specs.Prelude.{Contains, ◌↔◌}
 use Rattle.wb_automata.specs.Nodes.{row}
 use Rattle.wb_automata.specs.Roots.{BeginAt}

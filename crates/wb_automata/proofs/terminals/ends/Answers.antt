@@ -1,4 +1,4 @@
-use Rattle.std.proofs.Common.{◌≡◌, refl, length, arith, get_or, [], ◌∷◌, ℕ, subst, ◌⊎◌, false}
+use Rattle.std.proofs.Common.{◌≡◌, refl, length, arith, get_or, ℕ, subst, ◌⊎◌, false}
 use Rattle.std.specs.Prelude.{Contains, ◌↔◌}
 use Rattle.wb_automata.specs.Nodes.{row}
 use Rattle.wb_automata.specs.Roots.{EndAt}

@@ -1,4 +1,4 @@
-use Rattle.std.proofs.Common.{◌≡◌, ◌<◌, ◌∙◌, sym, ap, subst, length, arith, get_or, Some, []}
+use Rattle.std.proofs.Common.{◌≡◌, ◌∙◌, sym, ap, get_or, Some, []}
 use Rattle.std.specs.Prelude.{slice_get}
 use Rattle.std.proofs.lemmas.Result.{IfOk-weaker}
 use Rattle.wb_automata.specs.Found.{texts_of}

@@ -1,5 +1,5 @@
-use Rattle.std.proofs.Common.{◌≡◌, arith, length, refl}
-use Rattle.wb_lexical.proofs.ClashLemmas.{clear_more, clear_end, clash_at}
+use Rattle.std.proofs.Common.{arith, refl}
+use Rattle.wb_lexical.proofs.ClashLemmas.{clear_more, clear_end}
 use Rattle.wb_lexical.proofs.clash.clash_in.Goals as goal
 
 pub loop-state-preserved : goal.loop-state-preserved

@@ -1,4 +1,4 @@
-use Rattle.std.proofs.Common.{◌≡◌, subst}
+use Rattle.std.proofs.Common.{subst}
 use Rattle.wb_lexical.specs.Clash.{IsClash, HasNoClash}
 use Rattle.wb_lexical.proofs.ClashLemmas.{none_from}
 use Rattle.wb_lexical.proofs.clash.find_clash.Goals as goal

@@ -1,4 +1,4 @@
-use Rattle.std.proofs.Common.{◌≡◌, sym, ◌∙◌, arith, length, refl}
+use Rattle.std.proofs.Common.{sym, ◌∙◌, arith, length, refl}
 use Rattle.std.proofs.lemmas.Bool.{true≢false}
 use Rattle.std.proofs.lemmas.Option.{slice_get_read}
 use Rattle.wb_lexical.proofs.ClashLemmas.{set_more, set_end}

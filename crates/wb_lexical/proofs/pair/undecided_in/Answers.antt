@@ -1,4 +1,3 @@
-use Rattle.std.proofs.Common.{◌≡◌}
 use Rattle.wb_lexical.proofs.pair.undecided_in.Goals as goal
 
 pub returns-clause-none : goal.returns-clause-none

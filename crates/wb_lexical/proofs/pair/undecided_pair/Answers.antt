@@ -1,4 +1,4 @@
-use Rattle.std.proofs.Common.{◌≡◌, arith, length, refl}
+use Rattle.std.proofs.Common.{arith, refl}
 use Rattle.wb_lexical.proofs.ClashLemmas.{left_more, left_end}
 use Rattle.wb_lexical.proofs.pair.undecided_pair.Goals as goal
 

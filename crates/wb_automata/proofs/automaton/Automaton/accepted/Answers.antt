@@ -1,4 +1,4 @@
-use Rattle.std.proofs.Common.{◌≡◌, subst, ℕ, List}
+use Rattle.std.proofs.Common.{subst, ℕ, List}
 use Rattle.std.specs.Prelude.{Contains, ◌↔◌}
 use Rattle.wb_automata.specs.Nodes.{row}
 use Rattle.wb_automata.specs.Automata.{Machine, LeadsTo, IsMatch}

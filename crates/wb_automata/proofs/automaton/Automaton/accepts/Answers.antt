@@ -1,4 +1,3 @@
-use Rattle.std.proofs.Common.{◌≡◌}
 use Rattle.wb_automata.proofs.automaton.Automaton.accepts.Goals as goal
 
 pub returns : goal.returns

@@ -1,4 +1,4 @@
-use Rattle.std.proofs.Common.{◌≡◌, sym, subst, length, List, ℕ, Option}
+use Rattle.std.proofs.Common.{sym, subst, length, List, ℕ, Option}
 use Rattle.wb_regex.specs.Tree.{Tree}
 use Rattle.wb_regex.specs.declared.node.RegexNode.{RegexNode}
 use Rattle.wb_automata.specs.Classes.{AreClasses}

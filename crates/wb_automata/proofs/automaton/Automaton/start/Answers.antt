@@ -1,4 +1,4 @@
-use Rattle.std.proofs.Common.{◌≡◌, ◌<◌, [], length, subst}
+use Rattle.std.proofs.Common.{◌<◌, [], length, subst}
 use Rattle.std.proofs.lemmas.Option.{slice_get_within}
 use Rattle.wb_automata.specs.Automata.{Machine, LeadsTo}
 use Rattle.wb_automata.proofs.WalkLemmas.{start_means}

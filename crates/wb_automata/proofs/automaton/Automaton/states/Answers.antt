@@ -1,4 +1,4 @@
-use Rattle.std.proofs.Common.{◌≡◌, ◌∙◌, sym, ap, length}
+use Rattle.std.proofs.Common.{◌∙◌, sym, ap, length}
 use Rattle.wb_automata.specs.Automata.{Machine}
 use Rattle.wb_automata.proofs.TextLemmas.{texts_len}
 use Rattle.wb_automata.proofs.automaton.Automaton.states.Goals as goal

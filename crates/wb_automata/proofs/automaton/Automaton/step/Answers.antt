@@ -1,4 +1,4 @@
-use Rattle.std.proofs.Common.{◌≡◌, ◌<◌, sym, subst, length, arith}
+use Rattle.std.proofs.Common.{◌<◌, sym, subst, length, arith}
 use Rattle.wb_automata.specs.Automata.{Machine}
 use Rattle.wb_automata.proofs.WalkLemmas.{StepMeans, step_read}
 use Rattle.wb_automata.proofs.automaton.Automaton.step.Goals as goal

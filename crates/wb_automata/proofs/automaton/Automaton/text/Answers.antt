@@ -1,4 +1,4 @@
-use Rattle.std.proofs.Common.{◌≡◌, ◌<◌, ◌∙◌, sym, ap, subst, length, arith}
+use Rattle.std.proofs.Common.{◌<◌, ◌∙◌, sym, ap, subst, length}
 use Rattle.wb_automata.specs.Automata.{Machine}
 use Rattle.wb_automata.proofs.TextLemmas.{texts_len}
 use Rattle.wb_automata.proofs.automaton.Automaton.text.Goals as goal

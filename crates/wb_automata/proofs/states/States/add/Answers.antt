@@ -1,5 +1,5 @@
-use Rattle.std.proofs.Common.{◌≡◌, ap, sym, refl, [], ◌∷◌, ◌++◌}
-use Rattle.wb_automata.specs.Found.{Found, text_by, texts_of}
+use Rattle.std.proofs.Common.{◌≡◌, ap, refl}
+use Rattle.wb_automata.specs.Found.{Found, texts_of}
 use Rattle.wb_automata.proofs.PlaceLemmas.{texts_more}
 use Rattle.wb_automata.proofs.states.States.add.Goals as goal
 

@@ -1,4 +1,3 @@
-use Rattle.std.proofs.Common.{◌≡◌, []}
 use Rattle.wb_automata.proofs.PlaceLemmas.{texts_none}
 use Rattle.wb_automata.proofs.states.States.new.Goals as goal
 
