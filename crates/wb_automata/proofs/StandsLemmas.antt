@@ -1,0 +1,153 @@
+-- Sets of leaves read exactly the texts that match.
+use Rattle.std.proofs.Common.{◌≡◌, ℕ, ◌+◌, ◌≤◌, Bool, true, List, [], ◌∷◌, ◌++◌, refl, sym, ◌∙◌, ap, subst, arith, inl, inr, append_assoc, append-nil, Some}
+use Rattle.std.specs.Prelude.{slice_get, ◌↔◌, Contains}
+use Rattle.std.proofs.lemmas.Bool.{cases_eq, cases_lt}
+use Rattle.std.proofs.lemmas.Option.{same_Some}
+use Rattle.wb_automata.specs.Linear.{Linear, Leaf, Sequence, Choice, Star, Plus, Maybe, Matches, one, seq, left, none, once, absent}
+use Rattle.wb_automata.specs.Positions.{First, Follow, After}
+use Rattle.wb_automata.specs.Sets.{Ranges, Filled, Rest, IsNext, Stands, Ends}
+use Rattle.wb_automata.proofs.Empties.{matches_empty, empty_matches}
+use Rattle.wb_automata.proofs.Ranges.{Within, first_within, follow_within, after_within}
+use Rattle.wb_automata.proofs.Paths.{begun, begins, goes, comes, last_after, after_last}
+
+-- a leaf has one expression
+same_number : (trees : List Linear) (bound : ℕ → ℕ) (k l p : ℕ) → Ranges trees bound → Within (bound k) (bound (k + 1)) p → Within (bound l) (bound (l + 1)) p → k ≡ l
+same_number trees bound k l p h u v =
+    elim (cases_eq k l) [
+      | inl same ↦ same
+      | inr other ↦ elim (cases_lt k l) [
+        | inl less ↦ let e = h.rises (k + 1) l (omega arith) in absurd (omega arith)
+        | inr past ↦ let e = h.rises (l + 1) k (omega arith) in absurd (omega arith)
+      ]
+    ]
+
+same_tree : (trees : List Linear) (bound : ℕ → ℕ) (k l p : ℕ) (s t : Linear) → Ranges trees bound → slice_get trees k ≡ Some s → slice_get trees l ≡ Some t → Within (bound k) (bound (k + 1)) p → Within (bound l) (bound (l + 1)) p → s ≡ t
+same_tree trees bound k l p s t h e f u v = same_Some s t (sym e ∙ ap (slice_get trees) (same_number trees bound k l p h u v) ∙ f)
+
+module _ (holds : ℕ → ℕ → Bool) (trees : List Linear) (bound : ℕ → ℕ) (n : ℕ) (h : Ranges trees bound) (outside : (b : ℕ) → holds n b ≡ true → ⊥) where
+  forth : (set next : List ℕ) (b k : ℕ) (t : Linear) (w : List ℕ) → IsNext holds trees n set b next → slice_get trees k ≡ Some t → Rest holds n next t w → Rest holds n set t (b ∷ w)
+  forth set next b k t w is at r =
+      let target = (is r.leaf).0 r.has in
+      let l = target.links in
+      record {
+        leaf = target.from;
+        has = target.has;
+        is = elim r.is [
+          | inr (e, m) ↦ absurd (outside b (subst (λ o. holds o b ≡ true) e target.byte))
+          | inl after ↦
+              let spans = h.spans k t at in
+              let here : Within (bound k) (bound (k + 1)) r.leaf = after_within holds t (bound k) (bound (k + 1)) r.leaf w spans after in
+              elim l.link [
+                | inl f ↦
+                    let (u, v) = follow_within l.tree (bound l.number) (bound (l.number + 1)) target.from r.leaf (h.spans l.number l.tree l.at) f in
+                    let same : l.tree ≡ t = same_tree trees bound l.number k r.leaf l.tree t h l.at at v here in
+                    inl (comes holds t (bound k) (bound (k + 1)) target.from r.leaf b w spans (subst (λ s. Follow s target.from r.leaf) same f) target.byte after)
+                | inr (e, f) ↦
+                    let v = first_within l.tree (bound l.number) (bound (l.number + 1)) r.leaf (h.spans l.number l.tree l.at) f in
+                    let same : l.tree ≡ t = same_tree trees bound l.number k r.leaf l.tree t h l.at at v here in
+                    inr (e, begins holds t (bound k) (bound (k + 1)) b r.leaf w spans (subst (λ s. First s r.leaf) same f) target.byte after)
+              ]
+        ];
+      }
+
+  back : (set next : List ℕ) (b k : ℕ) (t : Linear) (w : List ℕ) → IsNext holds trees n set b next → slice_get trees k ≡ Some t → Rest holds n set t (b ∷ w) → Rest holds n next t w
+  back set next b k t w is at r = elim r.is [
+    | inl after ↦
+        let d = goes holds t r.leaf b (b ∷ w) w after refl in
+        record { leaf = d.at; has = (is d.at).1 (record { byte = d.byte; from = r.leaf; has = r.has; links = record { number = k; tree = t; at = at; link = inl d.follow } }); is = inl d.after }
+    | inr (e, m) ↦
+        let d = begun holds b w m refl in
+        record { leaf = d.at; has = (is d.at).1 (record { byte = d.byte; from = r.leaf; has = r.has; links = record { number = k; tree = t; at = at; link = inr (e, d.first) } }); is = inl d.after }
+  ]
+
+  -- the begin
+  pub stands_first : (set : List ℕ) → ((p : ℕ) → Contains set p ↔ (p ≡ n)) → ((k : ℕ) (t : Linear) → slice_get trees k ≡ Some t → bound (k + 1) ≤ n) → Stands holds trees n set []
+  stands_first set is below k t at w = (
+    λ r. elim r.is [
+      | inl after ↦ let v = after_within holds t (bound k) (bound (k + 1)) r.leaf w (h.spans k t at) after in let e : r.leaf ≡ n = (is r.leaf).0 r.has in let u = below k t at in absurd (omega arith)
+      | inr (e, m) ↦ m
+    ],
+    λ m. record { leaf = n; has = (is n).1 refl; is = inr (refl, m) },
+  )
+
+  -- a step
+  pub stands_next : (set next : List ℕ) (b : ℕ) (x : List ℕ) → Stands holds trees n set x → IsNext holds trees n set b next → Stands holds trees n next (x ++ b ∷ [])
+  stands_next set next b x stands is k t at w = (
+    λ r. subst (Matches holds t) (sym (append_assoc x (b ∷ []) w)) ((stands k t at (b ∷ w)).0 (forth set next b k t w is at r)),
+    λ m. back set next b k t w is at ((stands k t at (b ∷ w)).1 (subst (Matches holds t) (append_assoc x (b ∷ []) w) m)),
+  )
+
+  -- it accepts exactly what matches
+  pub accepts : (set : List ℕ) (x : List ℕ) → Stands holds trees n set x → (k : ℕ) (t : Linear) → slice_get trees k ≡ Some t → Ends n set t ↔ Matches holds t x
+  accepts set x stands k t at = (
+    λ e. subst (Matches holds t) (append-nil x) ((stands k t at []).0 (record { leaf = e.leaf; has = e.has; is = elim e.is [ inl l ↦ inl (last_after holds t e.leaf l) | inr (same, empty) ↦ inr (same, empty_matches t empty) ] })),
+    λ m. let r = (stands k t at []).1 (subst (Matches holds t) (sym (append-nil x)) m) in record { leaf = r.leaf; has = r.has; is = elim r.is [ inl after ↦ inl (after_last holds t r.leaf [] after refl) | inr (same, m) ↦ inr (same, matches_empty m refl) ] },
+  )
+
+  -- the empty set is left by nothing
+  pub dead : (set : List ℕ) (x : List ℕ) → Stands holds trees n set x → ((p : ℕ) → Contains set p → ⊥) → (k : ℕ) (t : Linear) (w : List ℕ) → slice_get trees k ≡ Some t → Matches holds t (x ++ w) → ⊥
+  dead set x stands empty k t w at m = let r = (stands k t at w).1 m in empty r.leaf r.has
+
+-- every other set can go on
+pub record SomeText (holds : ℕ → ℕ → Bool) (t : Linear) : Type 0 where
+  pub text : List ℕ
+  pub matches : Matches holds t text
+
+pub some_text : (holds : ℕ → ℕ → Bool) (t : Linear) → Filled holds t → SomeText holds t
+some_text holds (Leaf p) (b, h) = record { text = b ∷ []; matches = one {b = b} h refl }
+some_text holds (Sequence r s) (f, g) = let u = some_text holds r f in let v = some_text holds s g in record { text = u.text ++ v.text; matches = seq u.matches v.matches refl }
+some_text holds (Choice r s) (f, g) = let u = some_text holds r f in record { text = u.text; matches = left u.matches }
+some_text holds (Star r) f = record { text = []; matches = none refl }
+some_text holds (Plus r) f = let u = some_text holds r f in record { text = u.text ++ []; matches = once u.matches (none refl) refl }
+some_text holds (Maybe r) f = record { text = []; matches = absent refl }
+
+pub record Completed (holds : ℕ → ℕ → Bool) (t : Linear) (p : ℕ) : Type 0 where
+  pub text : List ℕ
+  pub after : After holds t p text
+
+around_text : (holds : ℕ → ℕ → Bool) (r : Linear) (p : ℕ) → Completed holds r p → Completed holds (Star r) p
+around_text holds r p c = record { text = c.text ++ []; after = record { front = c.text; rest = []; before = c.after; behind = none refl; joins = refl } }
+
+seq_left : (holds : ℕ → ℕ → Bool) (r s : Linear) (p : ℕ) → SomeText holds s → Completed holds r p → Completed holds (Sequence r s) p
+seq_left holds r s p m c = record { text = c.text ++ m.text; after = inl (record { front = c.text; rest = m.text; before = c.after; behind = m.matches; joins = refl }) }
+
+seq_right : (holds : ℕ → ℕ → Bool) (r s : Linear) (p : ℕ) → Completed holds s p → Completed holds (Sequence r s) p
+seq_right holds r s p c = record { text = c.text; after = inr c.after }
+
+pub first_goes : (holds : ℕ → ℕ → Bool) (t : Linear) (p : ℕ) → Filled holds t → First t p → Completed holds t p
+first_goes holds (Leaf q) p f e = record { text = []; after = (e, refl) }
+first_goes holds (Sequence r s) p (f, g) (inl i) = seq_left holds r s p (some_text holds s g) (first_goes holds r p f i)
+first_goes holds (Sequence r s) p (f, g) (inr (e, i)) = seq_right holds r s p (first_goes holds s p g i)
+first_goes holds (Choice r s) p (f, g) (inl i) = let c = first_goes holds r p f i in record { text = c.text; after = inl c.after }
+first_goes holds (Choice r s) p (f, g) (inr i) = let c = first_goes holds s p g i in record { text = c.text; after = inr c.after }
+first_goes holds (Star r) p f i = around_text holds r p (first_goes holds r p f i)
+first_goes holds (Plus r) p f i = let c = around_text holds r p (first_goes holds r p f i) in record { text = c.text; after = c.after }
+first_goes holds (Maybe r) p f i = let c = first_goes holds r p f i in record { text = c.text; after = c.after }
+
+pub follow_goes : (holds : ℕ → ℕ → Bool) (t : Linear) (p q : ℕ) → Filled holds t → Follow t p q → Completed holds t q
+follow_goes holds (Leaf o) p q f e = elim e [ ]
+follow_goes holds (Sequence r s) p q (f, g) (inl (inl i)) = seq_left holds r s q (some_text holds s g) (follow_goes holds r p q f i)
+follow_goes holds (Sequence r s) p q (f, g) (inl (inr i)) = seq_right holds r s q (follow_goes holds s p q g i)
+follow_goes holds (Sequence r s) p q (f, g) (inr (l, i)) = seq_right holds r s q (first_goes holds s q g i)
+follow_goes holds (Choice r s) p q (f, g) (inl i) = let c = follow_goes holds r p q f i in record { text = c.text; after = inl c.after }
+follow_goes holds (Choice r s) p q (f, g) (inr i) = let c = follow_goes holds s p q g i in record { text = c.text; after = inr c.after }
+follow_goes holds (Star r) p q f (inl i) = around_text holds r q (follow_goes holds r p q f i)
+follow_goes holds (Star r) p q f (inr (l, i)) = around_text holds r q (first_goes holds r q f i)
+follow_goes holds (Plus r) p q f (inl i) = let c = around_text holds r q (follow_goes holds r p q f i) in record { text = c.text; after = c.after }
+follow_goes holds (Plus r) p q f (inr (l, i)) = let c = around_text holds r q (first_goes holds r q f i) in record { text = c.text; after = c.after }
+follow_goes holds (Maybe r) p q f i = let c = follow_goes holds r p q f i in record { text = c.text; after = c.after }
+
+-- an expression that is left by some text
+pub record Alive (holds : ℕ → ℕ → Bool) (trees : List Linear) (n : ℕ) (set : List ℕ) : Type 0 where
+  pub number : ℕ
+  pub tree : Linear
+  pub at : slice_get trees number ≡ Some tree
+  pub text : List ℕ
+  pub rest : Rest holds n set tree text
+
+pub alive : (holds : ℕ → ℕ → Bool) (trees : List Linear) (n : ℕ) (set next : List ℕ) (b q : ℕ) → ((k : ℕ) (t : Linear) → slice_get trees k ≡ Some t → Filled holds t) → IsNext holds trees n set b next → Contains next q → Alive holds trees n next
+alive holds trees n set next b q filled is has =
+    let target = (is q).0 has in
+    let l = target.links in
+    let c : Completed holds l.tree q = elim l.link [ inl f ↦ follow_goes holds l.tree target.from q (filled l.number l.tree l.at) f | inr (e, f) ↦ first_goes holds l.tree q (filled l.number l.tree l.at) f ] in
+    record { number = l.number; tree = l.tree; at = l.at; text = c.text; rest = record { leaf = q; has = has; is = inl c.after } }

@@ -1,0 +1,33 @@
+-- Several expressions over one list of nodes, and the tables that are theirs.
+use Rattle.std.specs.Prelude.{◌≡◌, ℕ, ◌+◌, ◌<◌, ◌≤◌, List, true, ◌⊎◌, ◌↔◌, slice_get, slice_index_or, Some, length, Contains}
+use Rattle.wb_regex.specs.declared.node.RegexNode.{RegexNode}
+use Rattle.wb_automata.specs.Nodes.{row, Covers}
+use Rattle.wb_automata.specs.Linear.{Linear, empty_of}
+use Rattle.wb_automata.specs.Positions.{Last}
+use Rattle.wb_automata.specs.Sets.{Links}
+
+-- the expressions cover the nodes, one behind the other
+pub record IsForest (nodes : List RegexNode) (trees : List Linear) (bound : ℕ → ℕ) : Type 0 where
+  pub covers : (k : ℕ) (t : Linear) → slice_get trees k ≡ Some t → Covers nodes (bound k) (bound (k + 1)) t
+  pub rises : (k l : ℕ) → k ≤ l → bound k ≤ bound l
+  pub all : (k : ℕ) → bound k ≤ length nodes
+
+-- the table is that of the expressions
+abbrev pub IsFollow : List RegexNode → List Linear → List (List ℕ) → Type 0
+IsFollow nodes trees follow = (p q : ℕ) → Contains (row follow p) q ↔ Links trees (length nodes) p q
+
+-- the table says which expressions may end with a leaf
+pub record Ending (nodes : List RegexNode) (trees : List Linear) (p k : ℕ) : Type 0 where
+  pub tree : Linear
+  pub at : slice_get trees k ≡ Some tree
+  pub ends : Last tree p ⊎ ((p ≡ length nodes) × (empty_of tree ≡ true))
+
+abbrev pub IsEnds : List RegexNode → List Linear → List (List ℕ) → Type 0
+IsEnds nodes trees table = (p k : ℕ) → Contains (row table p) k ↔ Ending nodes trees p k
+
+-- the roots are the last nodes of the expressions, and the expressions are all of the nodes
+pub record AreRoots (nodes : List RegexNode) (trees : List Linear) (bound : ℕ → ℕ) (roots : List ℕ) : Type 0 where
+  pub len : length roots ≡ length trees
+  pub begin : bound 0 ≡ 0
+  pub whole : bound (length trees) ≡ length nodes
+  pub each : (k : ℕ) → k < length roots → bound (k + 1) ≡ slice_index_or roots k 0 + 1

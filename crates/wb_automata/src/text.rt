@@ -1,0 +1,23 @@
+//! The text of a state, read back along the states that it was found from.
+
+ghost use Rattle.std.specs.Prelude.{◌≡◌, ◌<◌, IfOk, Some, length, slice_get, reverse};
+ghost use Rattle.wb_automata.specs.Found.{texts_of};
+
+use crate::origin::Origin;
+use std::alloc::{AllocError, Global};
+use wb_base::{Bytes, push};
+
+/// The first text of a state.
+pub(crate) fn text_at(alloc: Global, origins: &[Origin], state: usize) -> Result<Bytes, AllocError>
+    requires { state < length origins.now }
+    ensures { IfOk result (λ text. slice_get (texts_of origins.now) state ≡ Some text) }
+{
+    let mut bytes = Vec::new(alloc);
+    let mut at = state;
+    'back: while origins[at].from < at {
+        push(&mut bytes, origins[at].byte)?;
+        at = origins[at].from;
+    }
+    bytes.reverse();
+    Bytes::from_slice(alloc, &bytes)
+}

@@ -1,0 +1,11 @@
+//! Whether preferences decide every choice between terminals that match the same text, and whether they form a cycle.
+#![tactic(auto)]
+
+mod clash;
+mod cycle;
+mod pair;
+#[cfg(test)]
+mod tests;
+
+pub use clash::{Clash, find_clash};
+pub use cycle::preference_cycle;
