@@ -26,9 +26,9 @@ use Rattle.wb_terms.proofs.TreeLemmas.{each_some, each_both, built_numbered, one
 -- of the nodes that were ended the least is the least of the term
 least_of_term : (P : ℕ → List ℕ → ℕ → List Argument → Type 0) (t : Term) (place : ℕ) → IsLeast (λ at. SomeEnded (P at) (term_onto t [])) place → IsLeast (λ at. SomeNode (P at) t) place
 least_of_term P t place l = record {
-    here = either (λ s. s) absurd (some_in (P place) t [] l.here);
-    least = λ at s. l.least at (some_out (P at) t [] (inl s));
-  }
+  here = either (λ s. s) absurd (some_in (P place) t [] l.here);
+  least = λ at s. l.least at (some_out (P at) t [] (inl s));
+}
 
 module _ (ss : List Signature) (ts : List Tree) (t : Term) (b : Builder) (h : Holds ss ts (term_onto t []) b) where
   -- an unknown name
@@ -63,11 +63,11 @@ module _ (ss : List Signature) (ts : List Tree) (t : Term) (b : Builder) (h : Ho
   root_of (Text s ∷ xs) is zipped = absurd (zipped.0.built)
   root_of (Stored id ∷ x ∷ xs) is zipped = absurd zipped.1
   root_of (Stored id ∷ []) is zipped = record {
-      id = id;
-      is = is;
-      within = zipped.0.within;
-      tree = λ known fits. record { numbered = built_numbered ss t (tree_in ts id.0) zipped.0.built (all_known known); fit = all_fit known fits };
-    }
+    id = id;
+    is = is;
+    within = zipped.0.within;
+    tree = λ known fits. record { numbered = built_numbered ss t (tree_in ts id.0) zipped.0.built (all_known known); fit = all_fit known fits };
+  }
 
   pub root : Root
   root = root_of b.values.items refl (subst (λ z. AllZip (IsStored ss ts) (all_met z) b.values.items) (term_met t []) h.values)

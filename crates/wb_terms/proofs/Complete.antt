@@ -46,6 +46,7 @@ complete_head name place w rest f a b (owned {owner = owner} {second = second} {
 
 mutual
   unfolding term_rights
+
   -- a term
   pub complete_term : {t : Term} {w rest : Tokens} (f : Row) (a b : List Event) → IsTerm t w rest → Gives f rest (term_onto t a) b → Gives (Nonterminal Part.Term ∷ f) w a b
   complete_term {w = w} f a b (whole {name = name} {place = place} {arguments = arguments} {inner = inner} {rest = rest} {opening = opening} {closing = closing} head opens inside closes) d =

@@ -103,8 +103,8 @@ pub ended_ok : {X E : Type 0} (ss : List Signature) (ts more : List Tree) (b c d
     → count ≡ length b.values.items - f.start → id.0 ≡ length ts → more ≡ ts ++ node f.production (values_in ts (drop (length b.values.items - count) b.values.items)) ∷ []
     → c.values.items ≡ take (length b.values.items - count) b.values.items → c.places.items ≡ take f.start b.places.items → c.frames.items ≡ fs → OnOk r (AddsValue (Stored id) f.at c d)
     → ((events : List Event) (name : List ℕ) (arguments : List Argument) (outer : Zipper) → zipper events ≡ inside name f.at arguments outer → IsNumberOf ss name f.production
-      → AllZip (IsStored ss ts) arguments (drop f.start b.values.items) → map place_of arguments ≡ drop f.start b.places.items → FindsUnknown ss events b.faults.unknown → FindsWrong ss events b.faults.wrong
-      → FindsUnknown ss (End ∷ events) c.faults.unknown × FindsWrong ss (End ∷ events) c.faults.wrong)
+    → AllZip (IsStored ss ts) arguments (drop f.start b.values.items) → map place_of arguments ≡ drop f.start b.places.items → FindsUnknown ss events b.faults.unknown → FindsWrong ss events b.faults.wrong
+    → FindsUnknown ss (End ∷ events) c.faults.unknown × FindsWrong ss (End ∷ events) c.faults.wrong)
     → OnOk r ((events : List Event) → Holds ss ts events b → Holds ss more (End ∷ events) d)
 ended_ok ss ts more b c d f fs id count (Err x) frame counted number grown values places frames adds faults = tt
 ended_ok ss ts more b c d f fs id count (Ok x) frame counted number grown values places frames adds faults = λ events h.

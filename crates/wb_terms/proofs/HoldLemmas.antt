@@ -43,9 +43,9 @@ in_more m n (Stored t) h = omega (arith, h)
 -- an argument's value stays so among more trees
 stored_stable : (ss : List Signature) (ts r : List Tree) (a : Argument) (x : Value) → IsStored ss ts a x → IsStored ss (ts ++ r) a x
 stored_stable ss ts r a x s = record {
-    within = subst (λ n. IsIn n x) (sym (length-append ts r)) (in_more (length ts) (length r) x s.within);
-    built = subst (λ y. IsBuiltValue ss a y) (sym (value_stable ts r x s.within)) s.built;
-  }
+  within = subst (λ n. IsIn n x) (sym (length-append ts r)) (in_more (length ts) (length r) x s.within);
+  built = subst (λ y. IsBuiltValue ss a y) (sym (value_stable ts r x s.within)) s.built;
+}
 
 -- values of arguments are built
 are_built : (ss : List Signature) (ts : List Tree) (arguments : List Argument) (xs : List Value) → AllZip (IsStored ss ts) arguments xs → AreBuilt ss (arguments_of arguments) (values_in ts xs)
@@ -76,19 +76,19 @@ met_with a (inside name place met outer) = sym (append_assoc (all_met outer) met
 pub shape_with : (ss : List Signature) (ts : List Tree) (z : Zipper) (values : List Value) (places : List ℕ) (frames : List Frame) (a : Argument) (x : Value) (at : ℕ) → Shape ss ts z values places frames → IsStored ss ts a x → place_of a ≡ at
     → Shape ss ts (with_argument a z) (values ++ x ∷ []) (places ++ at ∷ []) frames
 shape_with ss ts z values places frames a x at s stored here = record {
-    framed = frames_with ss a z frames s.framed;
-    valued = subst (λ met. AllZip (IsStored ss ts) met (values ++ x ∷ [])) (sym (met_with a z)) (all_zipped_more (IsStored ss ts) (all_met z) values a x s.valued stored);
-    placed = ap (map place_of) (met_with a z) ∙ (map-append place_of (all_met z) (a ∷ []) ∙ (ap (λ l. l ++ place_of a ∷ []) s.placed ∙ ap (λ n. places ++ n ∷ []) here));
-  }
+  framed = frames_with ss a z frames s.framed;
+  valued = subst (λ met. AllZip (IsStored ss ts) met (values ++ x ∷ [])) (sym (met_with a z)) (all_zipped_more (IsStored ss ts) (all_met z) values a x s.valued stored);
+  placed = ap (map place_of) (met_with a z) ∙ (map-append place_of (all_met z) (a ∷ []) ∙ (ap (λ l. l ++ place_of a ∷ []) s.placed ∙ ap (λ n. places ++ n ∷ []) here));
+}
 
 -- a node is begun
 pub shape_begun : (ss : List Signature) (ts : List Tree) (z : Zipper) (values : List Value) (places : List ℕ) (frames : List Frame) (name : List ℕ) (f : Frame) → Shape ss ts z values places frames → IsNumberOf ss name f.production → f.start ≡ length values
     → Shape ss ts (inside name f.at [] z) values places (f ∷ frames)
 shape_begun ss ts z values places frames name f s number start = record {
-    framed = (number, refl, start ∙ AllZip-long (IsStored ss ts) (all_met z) values s.valued, s.framed);
-    valued = subst (λ met. AllZip (IsStored ss ts) met values) (sym (append-nil (all_met z))) s.valued;
-    placed = ap (map place_of) (append-nil (all_met z)) ∙ s.placed;
-  }
+  framed = (number, refl, start ∙ AllZip-long (IsStored ss ts) (all_met z) values s.valued, s.framed);
+  valued = subst (λ met. AllZip (IsStored ss ts) met values) (sym (append-nil (all_met z))) s.valued;
+  placed = ap (map place_of) (append-nil (all_met z)) ∙ s.placed;
+}
 
 -- the innermost node's own arguments
 pub record Innermost (ss : List Signature) (ts : List Tree) (name : List ℕ) (place : ℕ) (met : List Argument) (values : List Value) (places : List ℕ) (f : Frame) : Type 0 where
@@ -110,19 +110,19 @@ module _ (ss : List Signature) (ts : List Tree) (name : List ℕ) (place : ℕ) 
   -- the innermost node
   pub innermost_shape : Innermost ss ts name place met values places f
   innermost_shape = record {
-      number = s.framed.0;
-      here = s.framed.1;
-      valued = subst (λ n. AllZip (IsStored ss ts) met (drop n values)) (sym start) (zip_back (IsStored ss ts) (all_met outer) met values s.valued);
-      placed = subst (λ n. map place_of met ≡ drop n places) (sym long) (subst (λ l. map place_of met ≡ drop (length (map place_of (all_met outer))) l) apart (sym (drop-append_seam (map place_of (all_met outer)) (map place_of met))));
-    }
+    number = s.framed.0;
+    here = s.framed.1;
+    valued = subst (λ n. AllZip (IsStored ss ts) met (drop n values)) (sym start) (zip_back (IsStored ss ts) (all_met outer) met values s.valued);
+    placed = subst (λ n. map place_of met ≡ drop n places) (sym long) (subst (λ l. map place_of met ≡ drop (length (map place_of (all_met outer))) l) apart (sym (drop-append_seam (map place_of (all_met outer)) (map place_of met))));
+  }
 
   -- what is outside of it
   pub outer_shape : Shape ss ts outer (take f.start values) (take f.start places) frames
   outer_shape = record {
-      framed = s.framed.3;
-      valued = subst (λ n. AllZip (IsStored ss ts) (all_met outer) (take n values)) (sym start) (zip_front (IsStored ss ts) (all_met outer) met values s.valued);
-      placed = subst (λ n. map place_of (all_met outer) ≡ take n places) (sym long) (subst (λ l. map place_of (all_met outer) ≡ take (length (map place_of (all_met outer))) l) apart (sym (take-append_seam (map place_of (all_met outer)) (map place_of met))));
-    }
+    framed = s.framed.3;
+    valued = subst (λ n. AllZip (IsStored ss ts) (all_met outer) (take n values)) (sym start) (zip_front (IsStored ss ts) (all_met outer) met values s.valued);
+    placed = subst (λ n. map place_of (all_met outer) ≡ take n places) (sym long) (subst (λ l. map place_of (all_met outer) ≡ take (length (map place_of (all_met outer))) l) apart (sym (take-append_seam (map place_of (all_met outer)) (map place_of met))));
+  }
 
   -- the sizes
   pub start_within : f.start + length met ≡ length values

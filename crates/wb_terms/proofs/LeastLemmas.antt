@@ -23,17 +23,17 @@ pub noted_least : (P Q : ℕ → Type 0) (F G : Type 0) (counts : Bool) (place :
     → ((at : ℕ) → Q at → P at ⊎ ((counts ≡ true) × (place ≤ at))) → FindsLeast Q G (noted counts place o)
 noted_least P Q F G false place None finds fact keeps new only = (fact finds.0 refl, λ at q. either (finds.1 at) (λ b. let wrong : false ≡ true = b.0 in absurd (cc)) (only at q))
 noted_least P Q F G false place (Some m) finds fact keeps new only = record {
-    here = keeps m finds.here;
-    least = λ at q. either (finds.least at) (λ b. let wrong : false ≡ true = b.0 in absurd (cc)) (only at q);
-  }
+  here = keeps m finds.here;
+  least = λ at q. either (finds.least at) (λ b. let wrong : false ≡ true = b.0 in absurd (cc)) (only at q);
+}
 noted_least P Q F G true place None finds fact keeps new only = record {
-    here = new refl;
-    least = λ at q. either (λ p. absurd (finds.1 at p)) (λ b. b.1) (only at q);
-  }
+  here = new refl;
+  least = λ at q. either (λ p. absurd (finds.1 at p)) (λ b. b.1) (only at q);
+}
 noted_least P Q F G true place (Some m) finds fact keeps new only = record {
-    here = of_min Q m place (keeps m finds.here) (new refl);
-    least = λ at q. either (λ p. let le = finds.least at p in omega (arith, le, min-le_left m place)) (λ b. omega (arith, b.1, min-le_right m place)) (only at q);
-  }
+  here = of_min Q m place (keeps m finds.here) (new refl);
+  least = λ at q. either (λ p. let le = finds.least at p in omega (arith, le, min-le_left m place)) (λ b. omega (arith, b.1, min-le_right m place)) (only at q);
+}
 
 -- two properties together
 pub lesser_least : (P Q : ℕ → Type 0) (F G : Type 0) (other o : Option ℕ) → FindsLeast Q G other → FindsLeast P F o → FindsLeast (λ at. Q at ⊎ P at) (G × F) (lesser other o)

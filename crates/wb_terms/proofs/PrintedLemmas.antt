@@ -25,19 +25,6 @@ name_past [] n le = refl
 name_past (s ∷ ss) zero le = absurd (omega (arith, le))
 name_past (s ∷ ss) (suc n) le = name_past ss n (omega (arith, le))
 
--- a cut sum
-pub capped_sum : (a b c n : ℕ) → a ≡ capped b → n ≡ capped (a + c) → n ≡ capped (b + c)
-capped_sum a b c n e f = omega (arith, e, f)
-
-pub capped_both : (a b c d n : ℕ) → a ≡ capped b → c ≡ capped d → n ≡ capped (a + c) → n ≡ capped (b + d)
-capped_both a b c d n e f g = omega (arith, e, f, g)
-
--- one byte more of a string
-pub byte_more : (text : List ℕ) (i b : ℕ) → i < length text → b ≡ get_or text i 0 → length (flat_map printed_byte (take (i + 1) text)) ≡ length (flat_map printed_byte (take i text)) + length (printed_byte b)
-byte_more text i b lt is =
-    let e : take (i + 1) text ≡ take i text ++ b ∷ [] = take_more text i 0 lt ∙ ap (λ x. take i text ++ x ∷ []) (sym is) in
-    ap (λ l. length (flat_map printed_byte l)) e ∙ (ap length (flat_map-append printed_byte (take i text) (b ∷ [])) ∙ (length-append (flat_map printed_byte (take i text)) (flat_map printed_byte (b ∷ [])) ∙ ap (λ n. length (flat_map printed_byte (take i text)) + n) (ap length (append-nil (printed_byte b)))))
-
 -- the separator behind children
 abbrev pub separator : List Stored → List ℕ
 separator [] = []

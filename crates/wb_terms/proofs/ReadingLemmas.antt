@@ -60,15 +60,15 @@ term_reading bytes (Whole events) r =
     let t = term_of_text r.tokens events r.text in
     (t.0, record { tokens = r.tokens; to = r.to; at = r.at; spelled = r.spelled; ended = r.ended; whole = t.1 }, t.2)
 term_reading bytes (Stopped at) f = record {
-    front = f.front;
-    from = f.from;
-    next = f.next;
-    spelled = f.spelled;
-    before = can_begin f.front f.before;
-    stands = f.stands;
-    fault = cannot_follow f.front f.next f.fault;
-    here = f.place;
-  }
+  front = f.front;
+  from = f.from;
+  next = f.next;
+  spelled = f.spelled;
+  before = can_begin f.front f.before;
+  stands = f.stands;
+  fault = cannot_follow f.front f.next f.fault;
+  here = f.place;
+}
 
 -- a term text is an outcome of the table
 whole_outcome : (bytes : List ℕ) (term : Term) → IsTermText bytes term → R.IsOutcome term_grammar (IsNextIn Plain bytes) [] (Whole (term_onto term []))
@@ -77,15 +77,15 @@ whole_outcome bytes term t = record { tokens = t.tokens; to = t.to; at = t.at; s
 -- and so is a first fault
 stopped_outcome : (bytes : List ℕ) (at : ℕ) → IsFirstFault bytes at → R.IsOutcome term_grammar (IsNextIn Plain bytes) [] (Stopped at)
 stopped_outcome bytes at f = record {
-    front = f.front;
-    from = f.from;
-    next = f.next;
-    spelled = f.spelled;
-    before = can_start f.front f.before;
-    stands = f.stands;
-    fault = cant_follow f.front f.next f.fault;
-    place = f.here;
-  }
+  front = f.front;
+  from = f.from;
+  next = f.next;
+  spelled = f.spelled;
+  before = can_start f.front f.before;
+  stands = f.stands;
+  fault = cant_follow f.front f.next f.fault;
+  place = f.here;
+}
 
 one : (bytes : List ℕ) (o p : Outcome (List Event)) → R.IsOutcome term_grammar (IsNextIn Plain bytes) [] o → R.IsOutcome term_grammar (IsNextIn Plain bytes) [] p → o ≡ p
 one bytes o p r s = one_outcome (sameb the_type) (λ a b. (same_true the_type tt a b, true_same the_type a b)) Kind.End term_entries term_grammar term_decided term_ends (IsNextIn Plain bytes) (one_next Plain bytes) [] o r p s

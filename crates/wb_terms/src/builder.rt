@@ -96,7 +96,14 @@ impl Faults {
             FindsUnknown signatures.now (End ∷ events) result.unknown × FindsWrong signatures.now (End ∷ events) result.wrong }
     {
         let unknown = unknown_in(signatures, frame.production, frame.at);
-        let wrong = wrong_in(signatures, store, frame.production, frame.at, values, places);
+        let wrong = wrong_in(
+            signatures,
+            store,
+            frame.production,
+            frame.at,
+            values,
+            places,
+        );
         Faults {
             unknown: lesser(self.unknown, unknown),
             wrong: lesser(self.wrong, wrong),
@@ -121,12 +128,7 @@ impl Builder {
     }
 
     // A node begins.
-    fn begin(
-        &mut self,
-        signatures: &Signatures,
-        name: &Bytes,
-        at: usize,
-    ) -> Result<(), AllocError>
+    fn begin(&mut self, signatures: &Signatures, name: &Bytes, at: usize) -> Result<(), AllocError>
         ensures ok { OnOk result ((trees : List Tree) (events : List Event) → Holds signatures.now trees events self.old →
             Holds signatures.now trees (Begin name.now at ∷ events) self.new) }
     {
@@ -171,7 +173,8 @@ impl Builder {
     {
         let values = &self.values[frame.start..];
         let places = &self.places[frame.start..];
-        self.faults.with_node(signatures, store, frame, values, places)
+        self.faults
+            .with_node(signatures, store, frame, values, places)
     }
 
     // The innermost node ends.
@@ -216,7 +219,11 @@ impl Builder {
     }
 
     /// The tree of the whole term, or the fault of the term that comes first.
-    pub fn into_tree(mut self, signatures: &Signatures, store: &TreeStore) -> Result<TreeId, TermRefusal>
+    pub fn into_tree(
+        mut self,
+        signatures: &Signatures,
+        store: &TreeStore,
+    ) -> Result<TreeId, TermRefusal>
         requires { HoldsTerm signatures.now store.now self }
         ensures ok { IfOk result (λ id. (term : Term) → Holds signatures.now store.now (term_onto term []) self →
             IsTreeOf signatures.now term (tree_in store.now id.0)) }

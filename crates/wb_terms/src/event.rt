@@ -4,25 +4,13 @@ use wb_base::Bytes;
 #[derive(Debug, Drop)]
 pub enum Event {
     /// A name, with which a node begins.
-    Begin {
-        name: Bytes,
-        at: usize,
-    },
+    Begin { name: Bytes, at: usize },
     /// A number.
-    Int {
-        value: i64,
-        at: usize,
-    },
+    Int { value: i64, at: usize },
     /// A truth value.
-    Bool {
-        value: bool,
-        at: usize,
-    },
+    Bool { value: bool, at: usize },
     /// A text.
-    Text {
-        value: Bytes,
-        at: usize,
-    },
+    Text { value: Bytes, at: usize },
     /// A node ends.
     End,
 }

@@ -68,13 +68,7 @@ fn value_length(value: &Value, lengths: &[usize]) -> usize
 {
     match value {
         Value::Int(number) => sum(int_length(*number), 0),
-        Value::Bool(truth) => {
-            if *truth {
-                4
-            } else {
-                5
-            }
-        }
+        Value::Bool(truth) => { if *truth { 4 } else { 5 } }
         Value::Text(text) => text_length(text.as_slice()),
         Value::Tree(tree) => lengths[tree.0],
     }

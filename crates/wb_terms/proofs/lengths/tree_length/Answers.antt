@@ -17,9 +17,10 @@ loop-child-init c =
 pub loop-child-preserved : goal.loop-child-preserved
 loop-child-preserved c =
     let v = c.value_length.ensures c.args.signatures.now c.args.store.now c.requires.are in
-    let m = child_length c.args.signatures.now c.args.store.now c.children-children.result.now c.loop-child.child-index c.child-item.result c.loop-child-test.true c.child-item.is in
-    (separator_more c.children-children.result.now c.loop-child.child-index c.loop-child-test.true,
-    omega (arith, v, m, c.sum.ensures, c.sum-length-in-loop-child.ensures, c.loop-child.invariant.0, c.loop-child.invariant.1))
+    let m = child_length c.args.signatures.now c.args.store.now c.children-children.result.now c.loop-child.child-index c.child-item.result c.loop-child-test.true c.child-item.is in (
+      separator_more c.children-children.result.now c.loop-child.child-index c.loop-child-test.true,
+      omega (arith, v, m, c.sum.ensures, c.sum-length-in-loop-child.ensures, c.loop-child.invariant.0, c.loop-child.invariant.1),
+    )
 
 pub returns : goal.returns
 returns c =

@@ -2,7 +2,7 @@ use Rattle.std.proofs.Common.{◌≡◌, All, length, List, false, drop, refl, s
 use Rattle.wb_values.specs.ValuesIn.{IsIn}
 use Rattle.wb_values.specs.declared.value.Value.{Value}
 use Rattle.wb_terms.proofs.EndLemmas.{to_end}
-use Rattle.wb_terms.proofs.PendingLemmas.{pushed_in, others_in, split_first, child_begun, child_weight}
+use Rattle.wb_terms.proofs.PendingLemmas.{pushed_in, others_in}
 use Rattle.wb_terms.proofs.print.print_next.Goals as goal
 
 pub begin_value-requires-clause-pending : goal.begin_value-requires-clause-pending

@@ -14,17 +14,18 @@ meet-requires c = record { events = reverse (take c.loop-event.event-index c.arg
 
 pub loop-event-preserved : goal.loop-event-preserved
 loop-event-preserved c = (
-    subst (λ (v : List Event). Holds c.args.signatures.now c.meet.new.store v c.meet.new.self)
-    (sym (met_more c.args.events.now c.loop-event.event-index c.event-item.result c.loop-event-test.true c.event-item.is))
-    (c.in_ok-meet.ensures.ok (reverse (take c.loop-event.event-index c.args.events.now)) c.loop-event.invariant.0),
-    trees_more c.args.store.now c.loop-event.store c.meet.new.store c.loop-event.invariant.1 c.in_ok-meet.ensures.grown)
+  subst (λ (v : List Event). Holds c.args.signatures.now c.meet.new.store v c.meet.new.self)
+      (sym (met_more c.args.events.now c.loop-event.event-index c.event-item.result c.loop-event-test.true c.event-item.is))
+      (c.in_ok-meet.ensures.ok (reverse (take c.loop-event.event-index c.args.events.now)) c.loop-event.invariant.0),
+  trees_more c.args.store.now c.loop-event.store c.meet.new.store c.loop-event.invariant.1 c.in_ok-meet.ensures.grown,
+)
 
 pub into_tree-requires : goal.into_tree-requires
 into_tree-requires c = record {
-    term = c.requires.0;
-    holds = subst (λ (v : List Event). Holds c.args.signatures.now c.loop-event.store v c.loop-event.builder)
-    (ap reverse (take_all c.loop-event.event-index c.args.events.now c.loop-event-test.false) ∙ sym c.requires.1) c.loop-event.invariant.0;
-  }
+  term = c.requires.0;
+  holds = subst (λ (v : List Event). Holds c.args.signatures.now c.loop-event.store v c.loop-event.builder)
+      (ap reverse (take_all c.loop-event.event-index c.args.events.now c.loop-event-test.false) ∙ sym c.requires.1) c.loop-event.invariant.0;
+}
 
 pub returns-clause-ok : goal.returns-clause-ok
 returns-clause-ok c =

@@ -13,13 +13,21 @@ faults_with-self-requires-clause-places c =
 
 pub faults_with-self-requires-clause-start : goal.faults_with-self-requires-clause-start
 faults_with-self-requires-clause-start c =
-    omega (arith, (sizes c.args.signatures.now c.args.store.now c.requires.events c.args.self.now.values.items c.args.self.now.places.items c.in-Some.frame c.pop.new.self.items
-    (popped c.args.signatures.now c.args.store.now c.requires.events c.args.self.now c.in-Some.frame c.pop.new.self.items c.in-Some.ensures.items c.requires.holds)).0)
+    omega (
+      arith,
+      (sizes c.args.signatures.now c.args.store.now c.requires.events c.args.self.now.values.items c.args.self.now.places.items c.in-Some.frame c.pop.new.self.items
+          (popped c.args.signatures.now c.args.store.now c.requires.events c.args.self.now c.in-Some.frame c.pop.new.self.items c.in-Some.ensures.items c.requires.holds)).0,
+    )
 
 pub overflow_sub-count : goal.overflow_sub-count
 overflow_sub-count c =
-    omega (arith, c.len.ensures, c.args.self.now.values.ok.0, (sizes c.args.signatures.now c.args.store.now c.requires.events c.args.self.now.values.items c.args.self.now.places.items c.in-Some.frame c.pop.new.self.items
-    (popped c.args.signatures.now c.args.store.now c.requires.events c.args.self.now c.in-Some.frame c.pop.new.self.items c.in-Some.ensures.items c.requires.holds)).0)
+    omega (
+      arith,
+      c.len.ensures,
+      c.args.self.now.values.ok.0,
+      (sizes c.args.signatures.now c.args.store.now c.requires.events c.args.self.now.values.items c.args.self.now.places.items c.in-Some.frame c.pop.new.self.items
+          (popped c.args.signatures.now c.args.store.now c.requires.events c.args.self.now c.in-Some.frame c.pop.new.self.items c.in-Some.ensures.items c.requires.holds)).0,
+    )
 
 pub build_from-requires-clause-children : goal.build_from-requires-clause-children
 build_from-requires-clause-children c =

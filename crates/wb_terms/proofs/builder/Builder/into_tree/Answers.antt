@@ -9,8 +9,9 @@ returns-in-Some-clause-refused c = λ term h. unknown_least c.args.signatures.no
 
 pub returns-in-Some-wrong-clause-refused : goal.returns-in-Some-wrong-clause-refused
 returns-in-Some-wrong-clause-refused c = λ term h. (
-    all_known c.args.signatures.now c.args.store.now term c.args.self h c.in_default.is,
-    wrong_least c.args.signatures.now c.args.store.now term c.args.self h c.in-Some-wrong.at c.in-Some-wrong.is)
+  all_known c.args.signatures.now c.args.store.now term c.args.self h c.in_default.is,
+  wrong_least c.args.signatures.now c.args.store.now term c.args.self h c.in-Some-wrong.at c.in-Some-wrong.is,
+)
 
 pub unreachable-requires : goal.unreachable-requires
 unreachable-requires c =
