@@ -1,21 +1,20 @@
 -- The answer for some bytes: what a builder that holds the whole term says of it, and that there is one answer.
-use Rattle.std.proofs.Common.{◌≡◌, ◌⊎◌, ◌<◌, ◌≤◌, ◌-◌, inl, inr, ℕ, List, [], ◌∷◌, ◌++◌, Option, Some, None, length, map, get_or, refl, sym, ap, ◌∙◌, subst, arith}
+use Rattle.std.proofs.Common.{◌≡◌, ◌<◌, ◌-◌, inl, ℕ, List, [], ◌∷◌, Option, Some, None, length, get_or, refl, sym, ap, ◌∙◌, subst, arith}
 use Rattle.std.specs.List.{AllZip}
 use Rattle.wb_values.specs.Signature.{Signature}
 use Rattle.wb_values.specs.Tree.{Tree}
-use Rattle.wb_values.specs.Tree as v
-use Rattle.wb_values.specs.ValuesIn.{tree_in, value_in}
+use Rattle.wb_values.specs.ValuesIn.{tree_in}
 use Rattle.wb_values.specs.declared.value.Value.{Value}
 use Rattle.wb_values.specs.declared.value.Value.TheVariants.{Int, Bool, Text, Tree as Stored}
 use Rattle.wb_values.specs.declared.value.TreeId.{TreeId}
 use Rattle.wb_terms.specs.declared.builder.Builder.{Builder}
-use Rattle.wb_terms.specs.Term.{Term, Argument, named, plain, term}
-use Rattle.wb_terms.specs.TermText.{IsTermText, IsFirstFault}
-use Rattle.wb_terms.specs.Nodes.{SomeNode, EachNode, IsLeast, FindsLeast}
+use Rattle.wb_terms.specs.Term.{Term, Argument, term}
+use Rattle.wb_terms.specs.TermText.{IsTermText}
+use Rattle.wb_terms.specs.Nodes.{SomeNode, EachNode, IsLeast}
 use Rattle.wb_terms.specs.Events.{term_onto}
 use Rattle.wb_terms.specs.TreeOf.{HasFirst, FitsNode, IsTreeOf, IsUnknown, IsWrong}
 use Rattle.wb_terms.specs.TermAnswer.{Answer, stands, bad, unknown, wrong, IsTermOf, HasUnknown, HasWrongChild, IsAnswer}
-use Rattle.wb_terms.specs.Zipper.{Zipper, outside, zipper, all_met, SomeEnded, EachEnded}
+use Rattle.wb_terms.specs.Zipper.{all_met, SomeEnded}
 use Rattle.wb_terms.specs.Built.{IsStored, IsKnown, FitsIfKnown, FindsUnknown, FindsWrong}
 use Rattle.wb_terms.specs.Holding.{Holds}
 use Rattle.wb_terms.proofs.LeastLemmas.{either, one_least}

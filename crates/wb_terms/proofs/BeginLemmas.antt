@@ -1,5 +1,5 @@
 -- What a builder holds once a node is begun.
-use Rattle.std.proofs.Common.{◌≡◌, ℕ, List, [], ◌∷◌, ◌++◌, Result, Ok, Err, length, map, reverse, refl, sym, ap, ◌∙◌, subst}
+use Rattle.std.proofs.Common.{◌≡◌, ℕ, List, [], ◌∷◌, ◌++◌, Result, Ok, Err, length, reverse, sym, ap, ◌∙◌, subst}
 use Rattle.std.specs.List.{AllZip}
 use Rattle.std.specs.Result.{OnOk}
 use Rattle.std.proofs.lemmas.List.{reverse-append}
@@ -12,7 +12,7 @@ use Rattle.wb_terms.specs.declared.builder.Builder.{Builder}
 use Rattle.wb_terms.specs.Zipper.{zipper, all_met}
 use Rattle.wb_terms.specs.Built.{IsNumberOf, IsStored, FindsUnknown, FindsWrong}
 use Rattle.wb_terms.specs.Holding.{AreFrames, Holds}
-use Rattle.wb_terms.proofs.HoldLemmas.{Shape, shape_of, shape_begun}
+use Rattle.wb_terms.proofs.HoldLemmas.{shape_of, shape_begun}
 
 pub begun : {X E : Type 0} (ss : List Signature) (name : List ℕ) (at production start : ℕ) (b c : Builder) (r : Result X E) → c.values ≡ b.values → c.places ≡ b.places → c.faults ≡ b.faults → IsNumberOf ss name production → start ≡ length b.values.items
     → OnOk r (c.frames.items ≡ b.frames.items ++ record { production = production; at = at; start = start } ∷ [])

@@ -1,17 +1,17 @@
 -- What is a term by its grammar is derived by the table, which makes of what was met before what is met in the term behind it.
-use Rattle.std.proofs.Common.{◌≡◌, ℕ, List, [], ◌∷◌, ◌++◌, Some, true, false, refl, sym, ap, subst}
+use Rattle.std.proofs.Common.{◌≡◌, ℕ, List, ◌∷◌, true, false, refl, sym, subst}
 use Rattle.wb_predictive.specs.declared.symbol.Symbol.{Symbol}
-use Rattle.wb_predictive.specs.declared.symbol.Symbol.TheVariants.{Token, Nonterminal, Act}
+use Rattle.wb_predictive.specs.declared.symbol.Symbol.TheVariants.{Token, Nonterminal}
 use Rattle.wb_predictive.specs.declared.table.Placed.{Placed}
-use Rattle.wb_predictive.specs.Grammar.{Derives, done, token, expand, act}
+use Rattle.wb_predictive.specs.Grammar.{Derives, token, expand, act}
 use Rattle.wb_tokens.specs.declared.token.Token.{Token as Lexeme}
 use Rattle.wb_tokens.specs.declared.token.Token.TheVariants as t
 use Rattle.wb_terms.specs.declared.event.Event.{Event}
-use Rattle.wb_terms.specs.declared.event.Event.TheVariants.{Begin, Int, Bool, Text, End}
+use Rattle.wb_terms.specs.declared.event.Event.TheVariants.{Begin, Int, Bool, Text}
 use Rattle.wb_terms.specs.declared.rules.Kind.{Kind}
 use Rattle.wb_terms.specs.declared.rules.Part.{Part}
 use Rattle.wb_terms.specs.declared.rules.Action.{Action}
-use Rattle.wb_terms.specs.Term.{Term, Argument, Arguments, named, plain, term, empty, more}
+use Rattle.wb_terms.specs.Term.{Term, Argument, Arguments}
 use Rattle.wb_terms.specs.TermGrammar.{Tokens, Is, IsHead, IsTerm, AreArguments, AreMore, IsArgument, simple, owned, whole, nothing, some, ended, next, number, string, truth, untruth, below}
 use Rattle.wb_terms.specs.Events.{shift, qualified_name, term_onto, argument_onto, arguments_onto}
 use Rattle.wb_terms.specs.TermTable.{kind_of, term_rights, term_grammar}

@@ -1,9 +1,9 @@
 -- What a builder holds: how it goes on with each thing that is met.
-use Rattle.std.proofs.Common.{◌≡◌, ◌+◌, ◌<◌, ◌⊎◌, inl, inr, ℕ, List, [], ◌∷◌, ◌++◌, Option, None, All, map, length, take, drop, reverse, get_or, refl, sym, ap, ◌∙◌, subst, arith, append_assoc, append-nil, length-append}
+use Rattle.std.proofs.Common.{◌≡◌, ◌+◌, ◌⊎◌, inr, ℕ, List, [], ◌∷◌, ◌++◌, Option, map, length, take, drop, reverse, refl, sym, ap, ◌∙◌, subst, arith, append_assoc, append-nil, length-append}
 use Rattle.std.specs.List.{AllZip}
 use Rattle.std.proofs.Math.Seq.{take-append_seam, drop-append_seam, get_or-append_seam}
 use Rattle.std.proofs.Math.ListN.{get_or-append}
-use Rattle.std.proofs.lemmas.List.{map-append, reverse-append, length-map}
+use Rattle.std.proofs.lemmas.List.{map-append, length-map}
 use Rattle.std.proofs.lemmas.Slice.Zip.{AllZip-long, all_zipped_more}
 use Rattle.wb_values.specs.Signature.{Signature}
 use Rattle.wb_values.specs.Tree.{Tree, node, empty, int, bool, text}
@@ -16,15 +16,15 @@ use Rattle.wb_terms.specs.declared.event.Event.{Event}
 use Rattle.wb_terms.specs.declared.event.Event.TheVariants as e
 use Rattle.wb_terms.specs.declared.builder.Frame.{Frame}
 use Rattle.wb_terms.specs.declared.builder.Builder.{Builder}
-use Rattle.wb_terms.specs.Term.{Term, Argument, Arguments, named, plain, term, more, place_of}
+use Rattle.wb_terms.specs.Term.{Argument, named, term, place_of}
 use Rattle.wb_terms.specs.Nodes.{FindsLeast}
 use Rattle.wb_terms.specs.TreeOf.{IsUnknown, IsWrong}
-use Rattle.wb_terms.specs.Zipper.{Zipper, outside, inside, with_argument, arguments_of, closed, zipper, all_met, OfInnermost, SomeEnded, EachEnded}
+use Rattle.wb_terms.specs.Zipper.{Zipper, outside, inside, with_argument, arguments_of, zipper, all_met, OfInnermost, SomeEnded, EachEnded}
 use Rattle.wb_terms.specs.Noted.{lesser}
 use Rattle.wb_terms.specs.Built.{IsNumberOf, IsBuiltValue, AreBuilt, IsStored, IsKnown, FitsIfKnown, FindsUnknown, FindsWrong}
 use Rattle.wb_terms.specs.Holding.{AreFrames, Holds, AddsValue}
 use Rattle.wb_terms.proofs.LeastLemmas.{either, lesser_least, same_least}
-use Rattle.wb_terms.proofs.ZipLemmas.{zip_weaker, zip_front, zip_back, zip_all}
+use Rattle.wb_terms.proofs.ZipLemmas.{zip_weaker, zip_front, zip_back}
 
 -- a value stands for the same among more trees
 value_stable : (ts r : List Tree) (x : Value) → IsIn (length ts) x → value_in (ts ++ r) x ≡ value_in ts x

@@ -1,25 +1,23 @@
 -- How the children of a node are tested, and what that says of it.
-use Rattle.std.proofs.Common.{◌≡◌, ◌≢◌, ◌+◌, ◌<◌, ◌≤◌, ◌⊎◌, ◌↔◌, inl, inr, ℕ, zero, suc, List, [], ◌∷◌, ◌++◌, Option, Some, None, Bool, true, false, not, eqb, All, IsTrue, map, length, take, get_or, slice_get, IfSome, refl, sym, ap, ◌∙◌, subst, arith}
+use Rattle.std.proofs.Common.{◌≡◌, ◌≢◌, ◌+◌, ◌<◌, ◌≤◌, ◌⊎◌, ◌↔◌, inl, inr, ℕ, zero, suc, List, [], ◌∷◌, Option, Some, None, Bool, true, false, not, eqb, IsTrue, map, length, get_or, slice_get, IfSome, refl, sym, ap, ◌∙◌, subst, arith}
 use Rattle.std.specs.List.{AllZip}
 use Rattle.std.specs.Prelude.{min}
 use Rattle.std.proofs.lemmas.Option.{slice_get_read, slice_get_within, get_or_from_slice_get, slice_get-get_or}
 use Rattle.std.proofs.lemmas.List.{get_or-take, get_or-map, length-take-le}
 use Rattle.std.specs.Option.{IsSomeAnd}
-use Rattle.std.proofs.lemmas.Slice.Zip.{AllZip-long}
 use Rattle.wb_base.specs.declared.symbol.Kind.{Kind}
 use Rattle.wb_base.specs.declared.symbol.Kind.TheVariants as k
 use Rattle.wb_values.specs.Signature.{Signature, IsFirst, HasNone}
 use Rattle.wb_values.specs.Tree.{Tree, Value, int, bool, text, node, production_of}
 use Rattle.wb_values.specs.Tree as v
-use Rattle.wb_values.specs.ValuesIn.{tree_in}
 use Rattle.wb_values.specs.declared.value.Value.{Value as Stored}
-use Rattle.wb_terms.specs.Term.{Term, Argument, Arguments, named, plain, term, place_of}
+use Rattle.wb_terms.specs.Term.{Argument, named, plain, term, place_of}
 use Rattle.wb_terms.specs.Nodes.{FindsLeast}
 use Rattle.wb_terms.specs.Noted.{noted}
 use Rattle.wb_terms.specs.TreeOf.{HasFirst, IsOfNonterminal, IsOfKind, IsWrong, IsWrongChild}
-use Rattle.wb_terms.specs.Built.{IsNumberOf, IsBuilt, IsBuiltValue, IsStored, FitsIfKnown}
+use Rattle.wb_terms.specs.Built.{IsNumberOf, IsBuiltValue, IsStored, FitsIfKnown}
 use Rattle.wb_terms.specs.KindsFit.{IsOfLeft, FirstFit, KindsFit, IsWrongAmong}
-use Rattle.wb_terms.proofs.LeastLemmas.{either, noted_least, same_least}
+use Rattle.wb_terms.proofs.LeastLemmas.{noted_least, same_least}
 
 -- nothing is there past the end
 past_end : (signatures : List Signature) (n : ℕ) (s : Signature) → n ≡ length signatures → slice_get signatures n ≡ Some s → ⊥

@@ -1,5 +1,5 @@
 -- What a builder holds once a plain value is met.
-use Rattle.std.proofs.Common.{◌≡◌, ℕ, List, ◌∷◌, Result, Ok, Err, Bool, ℤ, refl, sym, ap, ◌∙◌, subst}
+use Rattle.std.proofs.Common.{◌≡◌, ℕ, List, ◌∷◌, Result, Ok, Err, Bool, ℤ, refl, sym, ap, subst}
 use Rattle.std.specs.Result.{OnOk}
 use Rattle.wb_values.specs.Signature.{Signature}
 use Rattle.wb_values.specs.Tree.{Tree, int, bool, text}

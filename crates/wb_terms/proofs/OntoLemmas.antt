@@ -1,8 +1,8 @@
 -- What is met in a term: it is that term, and its nodes are those that were ended.
 use Rattle.std.proofs.Common.{◌≡◌, ◌⊎◌, inl, inr, ℕ, List, [], ◌∷◌, ◌++◌, refl, sym, ap, ◌∙◌, subst, append_assoc, append-nil}
-use Rattle.wb_values.specs.Tree.{Plain, int, bool, text}
+use Rattle.wb_values.specs.Tree.{int, bool, text}
 use Rattle.wb_terms.specs.declared.event.Event.{Event}
-use Rattle.wb_terms.specs.declared.event.Event.TheVariants.{Begin, Int, Bool, Text, End}
+use Rattle.wb_terms.specs.declared.event.Event.TheVariants.{Begin}
 use Rattle.wb_terms.specs.Term.{Term, Argument, Arguments, named, plain, term, empty, more, list_of}
 use Rattle.wb_terms.specs.Nodes.{SomeNode, SomeInArgument, SomeInArguments, EachNode, EachInArgument, EachInArguments}
 use Rattle.wb_terms.specs.Events.{term_onto, argument_onto, arguments_onto}

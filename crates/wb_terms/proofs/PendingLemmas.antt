@@ -1,14 +1,14 @@
 -- What is still to be printed, once a tree is begun.
-use Rattle.std.proofs.Common.{◌≡◌, ◌+◌, ◌<◌, ◌≤◌, ℕ, zero, suc, List, [], ◌∷◌, ◌++◌, Result, Ok, Err, Bool, true, false, All, length, drop, reverse, get_or, refl, sym, ap, ◌∙◌, subst, arith, append_assoc, append-nil}
+use Rattle.std.proofs.Common.{◌≡◌, ℕ, suc, List, [], ◌∷◌, ◌++◌, Result, Ok, Err, true, All, drop, reverse, sym, ap, ◌∙◌, subst, arith, append_assoc}
 use Rattle.std.specs.Result.{OnOk}
 use Rattle.std.proofs.lemmas.List.{reverse-append}
 use Rattle.wb_values.specs.Signature.{Signature}
-use Rattle.wb_values.specs.Tree.{Tree, node, Value, plain, tree, Values, empty, more, production_of, children_of}
-use Rattle.wb_values.specs.ValuesIn.{value_in, values_in, tree_in, IsIn}
+use Rattle.wb_values.specs.Tree.{Tree, node, Values, production_of, children_of}
+use Rattle.wb_values.specs.ValuesIn.{values_in, IsIn}
 use Rattle.wb_values.specs.declared.value.Value.{Value as Stored}
 use Rattle.wb_terms.specs.declared.print.Pending.{Pending}
-use Rattle.wb_terms.specs.Printed.{name_of, printed_tree, printed_value, printed_children, printed_others}
-use Rattle.wb_terms.specs.Pending.{before, children_text, pending_text, tree_weight, value_weight, children_weight, pending_weight, ArePendingIn}
+use Rattle.wb_terms.specs.Printed.{name_of, printed_tree, printed_children}
+use Rattle.wb_terms.specs.Pending.{children_text, pending_text, ArePendingIn}
 
 -- one more on the stack
 pub pushed : (ps qs : List Pending) (p : Pending) → qs ≡ ps ++ p ∷ [] → reverse qs ≡ p ∷ reverse ps

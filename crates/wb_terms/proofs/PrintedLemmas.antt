@@ -1,17 +1,11 @@
 -- Printed texts, piece by piece, and their lengths.
-use Rattle.std.proofs.Common.{◌≡◌, ◌+◌, ◌<◌, ◌≤◌, ℕ, zero, suc, List, [], ◌∷◌, ◌++◌, Option, Some, IfSome, Result, Ok, Err, Bool, true, false, length, take, reverse, get_or, slice_get, refl, sym, ap, ◌∙◌, subst, arith, append_assoc, append-nil, length-append, add-one}
-use Rattle.std.specs.Prelude.{min}
-use Rattle.std.specs.Result.{OnOk}
-use Rattle.std.specs.List.{flat_map}
-use Rattle.std.proofs.lemmas.Grind.{flat_map-append}
-use Rattle.std.proofs.lemmas.List.{take_more, reverse-append}
-use Rattle.wb_tokens.specs.Printing.{printed_byte, printed_text}
+use Rattle.std.proofs.Common.{◌≡◌, ◌+◌, ◌<◌, ◌≤◌, ℕ, zero, suc, List, [], ◌∷◌, ◌++◌, IfSome, length, take, get_or, slice_get, refl, sym, ap, ◌∙◌, subst, arith, append_assoc, append-nil, length-append, add-one}
+use Rattle.std.proofs.lemmas.List.{take_more}
 use Rattle.wb_values.specs.Signature.{Signature}
-use Rattle.wb_values.specs.Tree.{Tree, node, Value, plain, tree, Values, empty, more, production_of, children_of}
-use Rattle.wb_values.specs.ValuesIn.{value_in, values_in, tree_in}
+use Rattle.wb_values.specs.Tree.{Tree, node, Values, production_of, children_of}
+use Rattle.wb_values.specs.ValuesIn.{value_in, values_in}
 use Rattle.wb_values.specs.declared.value.Value.{Value as Stored}
 use Rattle.wb_terms.specs.Printed.{name_of, printed_tree, printed_value, printed_children, printed_others}
-use Rattle.wb_terms.specs.Lengths.{capped}
 
 -- the name of a production that is there
 pub name_there : (ss : List Signature) (n : ℕ) (x : List ℕ) → n < length ss → IfSome (slice_get ss n) (λ (s : Signature). x ≡ s.name) → x ≡ name_of ss n

@@ -1,5 +1,5 @@
 -- A reading by the table is one by the grammar of terms.
-use Rattle.std.proofs.Common.{◌≡◌, ℕ, List, [], ◌∷◌, ◌++◌, refl, sym, ap, ◌∙◌, subst}
+use Rattle.std.proofs.Common.{◌≡◌, ℕ, List, [], ◌++◌, refl}
 use denote.Enum.Bare.{sameb, same_true, true_same}
 use Rattle.wb_terms.specs.contracts.rules.Kind.{the_type}
 use Rattle.wb_terms.specs.declared.rules.Kind.TheVariants as Kind

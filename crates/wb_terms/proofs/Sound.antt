@@ -1,10 +1,9 @@
 -- What the table derives is a term by its grammar.
-use Rattle.std.proofs.Common.{◌≡◌, ◌⊎◌, inl, inr, ℕ, zero, suc, List, [], ◌∷◌, ◌++◌, Some, true, false, ℤ, refl, sym, ap, ◌∙◌, subst}
+use Rattle.std.proofs.Common.{◌≡◌, ◌⊎◌, inl, inr, ℕ, zero, suc, List, [], ◌∷◌, ◌++◌, Some, ℤ, refl, ap, ◌∙◌, subst}
 use Rattle.std.specs.Prelude.{slice_get}
-use Rattle.wb_predictive.specs.declared.symbol.Symbol.{Symbol}
 use Rattle.wb_predictive.specs.declared.symbol.Symbol.TheVariants.{Token, Nonterminal, Act}
 use Rattle.wb_predictive.specs.declared.table.Placed.{Placed}
-use Rattle.wb_predictive.specs.Grammar.{Derives, done, token, expand, act}
+use Rattle.wb_predictive.specs.Grammar.{done, token, expand, act}
 use Rattle.wb_tokens.specs.declared.token.Token.{Token as Lexeme}
 use Rattle.wb_tokens.specs.declared.token.Token.TheVariants as t
 use Rattle.wb_tokens.specs.declared.word.Word.{Word}
@@ -15,10 +14,10 @@ use Rattle.wb_terms.specs.declared.event.Event.{Event}
 use Rattle.wb_terms.specs.declared.rules.Kind.{Kind}
 use Rattle.wb_terms.specs.declared.rules.Part.{Part}
 use Rattle.wb_terms.specs.declared.rules.Action.{Action}
-use Rattle.wb_terms.specs.Term.{Term, Argument, Arguments, named, plain, term, empty, more}
+use Rattle.wb_terms.specs.Term.{Term, Argument, Arguments}
 use Rattle.wb_terms.specs.TermGrammar.{Tokens, Is, IsHead, IsTerm, AreArguments, AreMore, IsArgument, simple, owned, whole, nothing, some, ended, next, number, string, truth, untruth, below}
 use Rattle.wb_terms.specs.Events.{qualified_name}
-use Rattle.wb_terms.specs.TermTable.{kind_of, mark_kind, word_kind, term_rights, term_grammar}
+use Rattle.wb_terms.specs.TermTable.{kind_of, mark_kind, word_kind, term_rights}
 use Rattle.wb_terms.proofs.Complete.{Row, Gives}
 
 -- what a part of the grammar is: the first of the tokens are one, and these are left

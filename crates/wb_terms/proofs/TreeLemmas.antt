@@ -1,15 +1,13 @@
 -- Nodes and trees of a term: what holds of each and of some, and which tree it is.
-use Rattle.std.proofs.Common.{◌≡◌, ◌≢◌, ◌⊎◌, inl, inr, ℕ, List, [], ◌∷◌, length, refl, sym, ap, ◌∙◌, subst}
+use Rattle.std.proofs.Common.{◌≡◌, ◌≢◌, ◌⊎◌, inl, inr, ℕ, List, length, refl, sym, ap, ◌∙◌, subst}
 use Rattle.std.specs.List.{AllZip}
-use Rattle.std.specs.Prelude.{slice_get, Some}
 use Rattle.std.proofs.lemmas.Slice.Zip.{AllZip-long}
-use Rattle.wb_base.specs.declared.symbol.Kind.{Kind}
 use Rattle.wb_values.specs.Signature.{Signature, IsFirst}
 use Rattle.wb_values.specs.Tree.{Tree, Value, Values}
 use Rattle.wb_values.specs.Tree as v
 use Rattle.wb_terms.specs.Term.{Term, Argument, Arguments, named, plain, term, empty, more, list_of}
 use Rattle.wb_terms.specs.Nodes.{SomeNode, SomeInArgument, SomeInArguments, EachNode, EachInArgument, EachInArguments}
-use Rattle.wb_terms.specs.TreeOf.{HasFirst, IsOfKind, FitsNode, IsNumbered, IsNumberedValue, AreNumbered, IsTreeOf, IsUnknown, IsWrong, IsWrongChild}
+use Rattle.wb_terms.specs.TreeOf.{HasFirst, IsOfKind, FitsNode, IsNumbered, IsNumberedValue, AreNumbered, IsUnknown, IsWrong, IsWrongChild}
 use Rattle.wb_terms.specs.Built.{IsNumberOf, IsBuilt, IsBuiltValue, AreBuilt, IsKnown, FitsIfKnown}
 use Rattle.wb_terms.proofs.KindLemmas.{one_first, one_signature, first_or_none, zip_both_at}
 

@@ -1,17 +1,16 @@
 -- What a builder holds of the part of a term that was met.
-use Rattle.std.specs.Prelude.{◌≡◌, ◌⊎◌, ℕ, List, [], ◌∷◌, Option, length, map, reverse}
+use Rattle.std.specs.Prelude.{◌≡◌, ◌⊎◌, ℕ, List, Option, length}
 use Rattle.std.specs.List.{AllZip}
-use Rattle.wb_base.specs.declared.symbol.Kind.{Kind}
 use Rattle.wb_values.specs.Signature.{Signature, IsFirst, HasNone}
 use Rattle.wb_values.specs.Tree.{Tree, Values}
 use Rattle.wb_values.specs.Tree as v
 use Rattle.wb_values.specs.ValuesIn.{value_in, IsIn}
 use Rattle.wb_values.specs.declared.value.Value.{Value}
 use Rattle.wb_terms.specs.declared.event.Event.{Event}
-use Rattle.wb_terms.specs.Term.{Term, Argument, Arguments, named, plain, term, empty, more, place_of}
+use Rattle.wb_terms.specs.Term.{Term, Argument, Arguments, named, plain, term, empty, more}
 use Rattle.wb_terms.specs.Nodes.{FindsLeast}
 use Rattle.wb_terms.specs.TreeOf.{HasFirst, IsOfKind, IsUnknown, IsWrong}
-use Rattle.wb_terms.specs.Zipper.{Zipper, outside, inside, zipper, all_met, SomeEnded, EachEnded}
+use Rattle.wb_terms.specs.Zipper.{SomeEnded, EachEnded}
 
 -- the number stands for the name: that of its first production, or the count of the signatures where it has none
 abbrev pub IsNumberOf : List Signature → List ℕ → ℕ → Type 0

@@ -1,5 +1,5 @@
 -- Lengths of printed texts, cut off behind the most that is printed.
-use Rattle.std.specs.Prelude.{◌≡◌, ◌<◌, ◌≤◌, ℕ, List, length, min, slice_index}
+use Rattle.std.specs.Prelude.{◌≡◌, ◌<◌, ℕ, List, length, min, slice_index}
 use Rattle.wb_values.specs.Signature.{Signature}
 use Rattle.wb_values.specs.Tree.{Tree}
 use Rattle.wb_values.specs.ValuesIn.{tree_in}

@@ -1,5 +1,5 @@
 -- The nodes of a term, and how the least place of some is found.
-use Rattle.std.specs.Prelude.{◌≡◌, ◌≤◌, ◌⊎◌, ℕ, List, Option, MatchOption}
+use Rattle.std.specs.Prelude.{◌≤◌, ◌⊎◌, ℕ, List, Option, MatchOption}
 use Rattle.wb_terms.specs.Term.{Term, Argument, Arguments, named, plain, term, empty, more, list_of}
 
 module _ (Holds : List ℕ → ℕ → List Argument → Type 0) where

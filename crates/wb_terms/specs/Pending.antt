@@ -1,9 +1,8 @@
 -- What is still to be printed.
-use Rattle.std.specs.Prelude.{ℕ, ◌+◌, List, [], ◌∷◌, ◌++◌, length, All, true, false, Bool}
+use Rattle.std.specs.Prelude.{ℕ, ◌+◌, List, [], ◌∷◌, ◌++◌, All, true, false, Bool}
 use Rattle.wb_values.specs.Signature.{Signature}
 use Rattle.wb_values.specs.Tree.{Tree, node, Value, plain, tree, Values, empty, more}
 use Rattle.wb_values.specs.ValuesIn.{values_in, IsIn}
-use Rattle.wb_values.specs.declared.value.Value.{Value as Stored}
 use Rattle.wb_terms.specs.declared.print.Pending.{Pending}
 use Rattle.wb_terms.specs.Printed.{printed_children, printed_others}
 

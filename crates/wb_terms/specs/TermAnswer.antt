@@ -1,5 +1,5 @@
 -- What the answer is for some bytes as a term of given signatures.
-use Rattle.std.specs.Prelude.{◌≡◌, ℕ, List, Option, Some, None}
+use Rattle.std.specs.Prelude.{ℕ, List, Option, Some, None}
 use Rattle.wb_values.specs.Signature.{Signature}
 use Rattle.wb_values.specs.Tree.{Tree}
 use Rattle.wb_terms.specs.declared.refusal.TermRefusal.{TermRefusal}

@@ -1,5 +1,5 @@
 -- The grammar of terms: which tokens are a term. Each relation says that the first of some tokens are the part, and which are left.
-use Rattle.std.specs.Prelude.{◌≡◌, ℕ, ◌++◌, List, [], ◌∷◌, ℤ, true, false}
+use Rattle.std.specs.Prelude.{◌≡◌, ℕ, ◌++◌, List, ◌∷◌, ℤ, true, false}
 use Rattle.wb_predictive.specs.declared.table.Placed.{Placed}
 use Rattle.wb_tokens.specs.declared.token.Token.{Token}
 use Rattle.wb_tokens.specs.declared.token.Token.TheVariants as t

@@ -1,5 +1,5 @@
 -- A term of which a part was met: the nodes that were begun, each with the arguments that were met whole.
-use Rattle.std.specs.Prelude.{◌≡◌, ◌⊎◌, ℕ, List, [], ◌∷◌, ◌++◌}
+use Rattle.std.specs.Prelude.{◌⊎◌, ℕ, List, [], ◌∷◌, ◌++◌}
 use Rattle.wb_values.specs.Tree.{int, bool, text}
 use Rattle.wb_terms.specs.declared.event.Event.{Event}
 use Rattle.wb_terms.specs.declared.event.Event.TheVariants.{Begin, Int, Bool, Text, End}

@@ -1,10 +1,9 @@
-use Rattle.std.proofs.Common.{subst, sym, ap, ◌∙◌}
+use Rattle.std.proofs.Common.{subst, sym}
 use Rattle.std.specs.Prelude.{◌↔◌}
 use Rattle.std.specs.Bool.{IsTrue}
 use Rattle.wb_base.specs.declared.symbol.Kind.{Kind}
 use Rattle.wb_values.specs.declared.value.Value.{Value}
 use Rattle.wb_values.specs.ValuesIn.{value_in, tree_in}
-use Rattle.wb_values.specs.Tree as v
 use Rattle.wb_terms.specs.TreeOf.{IsOfKind}
 use Rattle.wb_terms.specs.Built.{IsBuiltValue}
 use Rattle.wb_terms.proofs.KindLemmas.{tree_kind}

@@ -1,4 +1,4 @@
-use Rattle.std.proofs.Common.{◌<◌, length, arith, sym, ◌∙◌, refl, subst}
+use Rattle.std.proofs.Common.{◌<◌, length, arith, sym, refl}
 use Rattle.std.proofs.lemmas.Slice.Zip.{AllZip-long}
 use Rattle.wb_terms.specs.Built.{IsStored}
 use Rattle.wb_terms.proofs.KindLemmas.{child_tested, kinds_tested, kinds_untested}

@@ -1,9 +1,9 @@
-use Rattle.std.proofs.Common.{◌≡◌, ◌≢◌, length, not, eqb, true, false, arith, sym, ◌∙◌, refl, subst, ℕ}
+use Rattle.std.proofs.Common.{length, arith, sym, ◌∙◌, subst}
 use Rattle.std.proofs.lemmas.Slice.Zip.{AllZip-long}
 use Rattle.wb_terms.specs.Nodes.{FindsLeast}
 use Rattle.wb_terms.specs.TreeOf.{IsWrong}
 use Rattle.wb_terms.specs.Built.{IsStored, FitsIfKnown}
-use Rattle.wb_terms.proofs.KindLemmas.{absent_node, node_tested, signature_at, equal, unequal}
+use Rattle.wb_terms.proofs.KindLemmas.{node_tested, signature_at, equal, unequal}
 use Rattle.wb_terms.proofs.kinds.wrong_in.Goals as goal
 
 pub returns : goal.returns

@@ -1,4 +1,4 @@
-use Rattle.std.proofs.Common.{◌∙◌, arith, ap, sym, subst}
+use Rattle.std.proofs.Common.{arith}
 use Rattle.wb_terms.proofs.PrintedLemmas.{name_there, name_past}
 use Rattle.wb_terms.proofs.name.printed_name.Goals as goal
 

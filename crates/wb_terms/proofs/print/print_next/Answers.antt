@@ -1,4 +1,4 @@
-use Rattle.std.proofs.Common.{◌≡◌, All, length, List, false, drop, refl, sym, subst, ◌∙◌, arith}
+use Rattle.std.proofs.Common.{All, length, List, sym, subst}
 use Rattle.wb_values.specs.ValuesIn.{IsIn}
 use Rattle.wb_values.specs.declared.value.Value.{Value}
 use Rattle.wb_terms.proofs.EndLemmas.{to_end}

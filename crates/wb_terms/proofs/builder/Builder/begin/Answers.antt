@@ -1,5 +1,4 @@
-use Rattle.std.proofs.Common.{◌≡◌, List, ◌∷◌, ◌++◌, [], Result, Ok, Err, reverse, refl, sym, subst, ◌∙◌}
-use Rattle.std.specs.Result.{OnOk}
+use Rattle.std.proofs.Common.{refl, subst, ◌∙◌}
 use Rattle.wb_terms.specs.Built.{IsNumberOf}
 use Rattle.wb_terms.proofs.BeginLemmas.{begun}
 use Rattle.wb_terms.proofs.builder.Builder.begin.Goals as goal

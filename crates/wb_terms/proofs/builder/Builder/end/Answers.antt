@@ -1,6 +1,6 @@
-use Rattle.std.proofs.Common.{◌∙◌, refl, ap, sym, arith}
+use Rattle.std.proofs.Common.{◌∙◌, refl, ap, arith}
 use Rattle.std.specs.Prelude.{◌-◌}
-use Rattle.wb_terms.proofs.EndLemmas.{popped, none_begun, all_within, sizes, children_within, ended_ok}
+use Rattle.wb_terms.proofs.EndLemmas.{popped, all_within, sizes, children_within, ended_ok}
 use Rattle.wb_terms.proofs.builder.Builder.end.Goals as goal
 
 pub faults_with-self-requires-clause-within : goal.faults_with-self-requires-clause-within

@@ -1,4 +1,4 @@
-use Rattle.std.proofs.Common.{◌≡◌, ◌-◌, List, length, take, drop, map, sym, ap, ◌∙◌, subst}
+use Rattle.std.proofs.Common.{List, drop, sym, ap, ◌∙◌, subst}
 use Rattle.std.specs.List.{AllZip}
 use Rattle.wb_values.specs.declared.value.Value.{Value}
 use Rattle.wb_terms.specs.Built.{IsStored}

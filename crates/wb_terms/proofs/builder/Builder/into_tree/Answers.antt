@@ -1,4 +1,4 @@
-use Rattle.std.proofs.Common.{◌≡◌, ◌<◌, length, Some, None, subst, sym, ap, ◌∙◌}
+use Rattle.std.proofs.Common.{◌<◌, length, subst}
 use Rattle.wb_values.specs.ValuesIn.{tree_in}
 use Rattle.wb_terms.specs.TreeOf.{IsTreeOf}
 use Rattle.wb_terms.proofs.AnswerLemmas.{unknown_least, wrong_least, all_known, root, root_popped, root_id}

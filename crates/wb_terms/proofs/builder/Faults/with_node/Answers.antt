@@ -1,5 +1,4 @@
 use Rattle.std.proofs.Common.{sym, subst, Option, ℕ}
-use Rattle.wb_terms.specs.declared.event.Event.{Event}
 use Rattle.wb_terms.specs.declared.event.Event.TheVariants.{End}
 use Rattle.wb_terms.specs.Built.{FindsUnknown, FindsWrong}
 use Rattle.std.proofs.Common.{◌∷◌}
