@@ -1,0 +1,16 @@
+pub mod AnswerLemmas
+pub mod BeginLemmas
+pub mod Complete
+pub mod EndLemmas
+pub mod HoldLemmas
+pub mod KindLemmas
+pub mod LeastLemmas
+pub mod MeetLemmas
+pub mod OntoLemmas
+pub mod PendingLemmas
+pub mod PrintedLemmas
+pub mod ReadLemmas
+pub mod ReadingLemmas
+pub mod Sound
+pub mod TreeLemmas
+pub mod ZipLemmas

@@ -1,0 +1,12 @@
+use Rattle.std.proofs.Common.{List, subst}
+use Rattle.wb_predictive.specs.Reading.{IsOutcome}
+use Rattle.wb_tokens.specs.declared.token.Layout.TheVariants.{Plain}
+use Rattle.wb_terms.specs.declared.event.Event.{Event}
+use Rattle.wb_terms.specs.Next.{IsNextIn}
+use Rattle.wb_terms.specs.TermTable.{term_grammar}
+use Rattle.wb_terms.proofs.ReadingLemmas.{term_reading}
+use Rattle.wb_terms.proofs.reading.read_events.Goals as goal
+
+pub returns : goal.returns
+returns c =
+    record { ok = term_reading c.args.bytes.now c.in_ok-outcome.outcome (subst (λ (v : List Event). IsOutcome term_grammar (IsNextIn Plain c.args.bytes.now) v c.in_ok-outcome.outcome) c.new-events.ensures c.in_ok-outcome.ensures.ok) }

@@ -1,0 +1,166 @@
+//! How a value is printed, with an explicit stack.
+
+ghost use Rattle.std.specs.Prelude.{◌≡◌, ◌+◌, ◌<◌, ◌≤◌, ◌++◌, ◌∷◌, [], All, List, length, reverse, true, false, IfErr, IfOk, OnOk};
+ghost use Rattle.wb_values.specs.ValuesIn.{value_in, values_in, IsIn};
+ghost use Rattle.wb_values.specs.Tree.{bool};
+ghost use Rattle.wb_terms.specs.Printed.{name_of, printed_plain, printed_value};
+ghost use Rattle.wb_terms.specs.Lengths.{IsTooLong};
+ghost use Rattle.wb_terms.specs.Pending.{before, children_text, pending_text, pending_weight, value_weight, children_weight, ArePendingIn};
+
+use crate::lengths::{LIMIT, printed_length};
+use crate::name::printed_name;
+use crate::refusal::PrintRefusal;
+use std::alloc::{AllocError, Global};
+use wb_base::push;
+use wb_tokens::{print_int, print_text};
+use wb_values::{Signatures, TreeStore, Value};
+
+/// The children of a node that are still to be printed.
+#[derive(Clone, Copy)]
+pub(crate) struct Pending<'a> {
+    /// Whether the next child is the node's first.
+    pub first: bool,
+    pub values: &'a [Value],
+}
+
+// Appends the printed name of a production and an opening parenthesis.
+fn print_name(
+    out: &mut Vec<u8>,
+    signatures: &Signatures,
+    production: usize,
+) -> Result<(), AllocError>
+    ensures { OnOk result (out.new.items ≡ out.old.items ++ name_of signatures.now production ++ 40 ∷ []) }
+{
+    out.extend_from_slice(printed_name(signatures, production))?;
+    push(out, b'(')
+}
+
+// Appends a truth value.
+fn print_bool(out: &mut Vec<u8>, truth: bool) -> Result<(), AllocError>
+    ensures { OnOk result (out.new.items ≡ out.old.items ++ printed_plain (bool truth)) }
+{
+    if truth {
+        out.extend_from_slice(b"true")
+    } else {
+        out.extend_from_slice(b"false")
+    }
+}
+
+// Appends what stands before a child: nothing before the first one.
+fn print_separator(out: &mut Vec<u8>, first: bool) -> Result<(), AllocError>
+    ensures { OnOk result (out.new.items ≡ out.old.items ++ before first) }
+{
+    if first {
+        Ok(())
+    } else {
+        out.extend_from_slice(b", ")
+    }
+}
+
+// Appends a plain value, or what stands before the children of a tree, which are then to be printed first.
+fn begin_value<'a>(
+    out: &mut Vec<u8>,
+    stack: &mut Vec<Pending<'a>>,
+    value: &Value,
+    signatures: &Signatures,
+    store: &'a TreeStore,
+) -> Result<(), AllocError>
+    requires within { IsIn (length store.now) value.now }
+    requires pending { ArePendingIn (length store.now) (reverse stack.old.items) }
+    ensures text { OnOk result (out.new.items ++ pending_text signatures.now store.now (reverse stack.new.items)
+        ≡ out.old.items ++ (printed_value signatures.now (value_in store.now value.now) ++ pending_text signatures.now store.now (reverse stack.old.items))) }
+    ensures weight { OnOk result (pending_weight store.now (reverse stack.new.items)
+        ≡ value_weight (value_in store.now value.now) + pending_weight store.now (reverse stack.old.items)) }
+    ensures pending { OnOk result (ArePendingIn (length store.now) (reverse stack.new.items)) }
+{
+    match value {
+        Value::Int(number) => print_int(out, *number),
+        Value::Bool(truth) => print_bool(out, *truth),
+        Value::Text(text) => print_text(out, text.as_slice()),
+        Value::Tree(tree) => {
+            print_name(out, signatures, store.production(*tree))?;
+            let values = store.children(*tree);
+            push(
+                stack,
+                Pending {
+                    first: true,
+                    values,
+                },
+            )
+        }
+    }
+}
+
+// Appends the next child of a node, or its end.
+fn print_next<'a>(
+    out: &mut Vec<u8>,
+    stack: &mut Vec<Pending<'a>>,
+    next: Pending<'a>,
+    signatures: &Signatures,
+    store: &'a TreeStore,
+) -> Result<(), AllocError>
+    requires next { All (IsIn (length store.now)) next.values.now }
+    requires pending { ArePendingIn (length store.now) (reverse stack.old.items) }
+    ensures text { OnOk result (out.new.items ++ pending_text signatures.now store.now (reverse stack.new.items)
+        ≡ out.old.items ++ (children_text next.entry.first signatures.now (values_in store.now next.entry.values.now) ++ 41 ∷ pending_text signatures.now store.now (reverse stack.old.items))) }
+    ensures weight { OnOk result (pending_weight store.now (reverse stack.new.items)
+        < children_weight (values_in store.now next.entry.values.now) + pending_weight store.now (reverse stack.old.items)) }
+    ensures pending { OnOk result (ArePendingIn (length store.now) (reverse stack.new.items)) }
+{
+    match next.values {
+        [] => push(out, b')'),
+        [child, others @ ..] => {
+            print_separator(out, next.first)?;
+            push(
+                stack,
+                Pending {
+                    first: false,
+                    values: others,
+                },
+            )?;
+            begin_value(out, stack, child, signatures, store)
+        }
+    }
+}
+
+// The printed text of a value.
+fn printed(
+    alloc: Global,
+    value: &Value,
+    signatures: &Signatures,
+    store: &TreeStore,
+) -> Result<Vec<u8>, AllocError>
+    requires { IsIn (length store.now) value.now }
+    ensures { IfOk result (λ text. text.items ≡ printed_value signatures.now (value_in store.now value.now)) }
+{
+    let mut out = Vec::new(alloc);
+    let mut stack = Vec::new(alloc);
+    begin_value(&mut out, &mut stack, value, signatures, store)?;
+    'print: while let Some(next) = stack.pop() {
+        print_next(&mut out, &mut stack, next, signatures, store)?;
+    }
+    Ok(out)
+}
+
+/// The printed text of a value, whose trees are those of the store.
+///
+/// A production without signature is printed with an empty name. `TooLong` comes exactly where the text has more than 16,777,216
+/// bytes; nothing is printed then, since its length is found first. No clause bounds the work: it is linear in the nodes of the
+/// store up to the value's and in the text, and nothing recurses.
+pub fn print_value(
+    alloc: Global,
+    value: &Value,
+    signatures: &Signatures,
+    store: &TreeStore,
+) -> Result<Vec<u8>, PrintRefusal>
+    requires { IsIn (length store.now) value.now }
+    ensures ok { IfOk result (λ text. text.items ≡ printed_value signatures.now (value_in store.now value.now)) }
+    ensures short { IfOk result (λ text. length text.items ≤ 16777216) }
+    ensures refused { IfErr result (IsTooLong (printed_value signatures.now (value_in store.now value.now))) }
+{
+    if printed_length(alloc, value, signatures, store)? > LIMIT {
+        return Err(PrintRefusal::TooLong);
+    }
+    let text = printed(alloc, value, signatures, store)?;
+    Ok(text)
+}
