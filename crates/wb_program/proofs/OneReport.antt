@@ -4,7 +4,7 @@ use Rattle.wb_world.specs.Shelf.{Files}
 use Rattle.wb_small.specs.declared.numbered.SmallSpec.{SmallSpec}
 use Rattle.wb_small.specs.declared.term.SmallTerm.{SmallTerm}
 use Rattle.wb_small.specs.SmallSpec.{IsSmallSpec}
-use Rattle.wb_reader.proofs.CallerLemmas.{one_host_text, one_term_text}
+use Rattle.wb_small_reader.proofs.CallerLemmas.{one_host_text, one_term_text}
 use Rattle.wb_eval.specs.declared.answer.SmallAnswer.{SmallAnswer}
 use Rattle.wb_eval.specs.declared.answer.SmallAnswer.TheVariants.{Value, Fault}
 use Rattle.wb_eval.specs.Answer.{IsAnswer}

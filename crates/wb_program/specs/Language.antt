@@ -2,8 +2,8 @@
 use Rattle.std.specs.Prelude.{ℕ, List}
 use Rattle.wb_small.specs.declared.numbered.SmallSpec.{SmallSpec}
 use Rattle.wb_small.specs.declared.term.SmallTerm.{SmallTerm}
-use Rattle.wb_reader.specs.SmallHostText.{IsSmallHostText}
-use Rattle.wb_reader.specs.SmallTermText.{IsSmallTermText}
+use Rattle.wb_small_reader.specs.SmallHostText.{IsSmallHostText}
+use Rattle.wb_small_reader.specs.SmallTermText.{IsSmallTermText}
 
 -- the contents are a small host with this reading
 abbrev pub IsHost : SmallSpec → List ℕ → Type 0

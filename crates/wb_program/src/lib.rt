@@ -2,7 +2,7 @@
 //!
 //! `workbench` reads the words, then the files in the order in which they are tested, makes the whole report, and
 //! writes it. Its contract holds for every shelf and sink, and gives each status its cause. What hosts and terms are
-//! is read in `wb_reader`, and attributes are evaluated in `wb_eval`.
+//! is read in `wb_small_reader`, and attributes are evaluated in `wb_eval`.
 #![tactic(auto)]
 
 mod answer;

@@ -1,7 +1,7 @@
 //! Small hosts and small terms as values: with names as they are written, with numbers, and the rules that they must meet.
 //!
 //! A small host has nonterminals, synthesized attributes of kind int, occurrences without needs, and abstract productions
-//! with an equation for each attribute of their left side. The texts are read in `wb_reader`.
+//! with an equation for each attribute of their left side. The texts are read in `wb_small_reader`.
 #![tactic(auto)]
 
 mod host;
