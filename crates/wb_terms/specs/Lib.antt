@@ -3,8 +3,6 @@ pub mod Events
 pub mod Holding
 pub mod KindsFit
 pub mod Lengths
-pub mod Next
-pub mod NextLaws
 pub mod Nodes
 pub mod Noted
 pub mod Pending

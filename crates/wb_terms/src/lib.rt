@@ -12,7 +12,6 @@ mod kinds;
 mod least;
 mod lengths;
 mod name;
-mod next;
 mod print;
 mod read;
 mod reading;

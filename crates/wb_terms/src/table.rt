@@ -6,17 +6,16 @@ ghost use Rattle.wb_terms.specs.contracts.rules.Kind.{the_type};
 ghost use Rattle.wb_terms.specs.Events.{shift_word};
 ghost use Rattle.wb_terms.specs.TermTable.{mark_kind, word_kind, term_grammar};
 ghost use Rattle.wb_terms.specs.TermEntries.{term_entries};
-ghost use Rattle.wb_terms.specs.Next.{IsNextIn};
-ghost use Rattle.wb_terms.specs.NextLaws.{one_next, advances};
+ghost use Rattle.wb_tokens.specs.Placed.{IsNextIn};
+ghost use Rattle.wb_tokens.proofs.PlacedLaws.{one_next, advances};
 ghost use Rattle.wb_terms.specs.TermLaws.{term_sampled, term_decided, term_ends};
 
 use crate::event::Event;
 use crate::events::Events;
-use crate::next::next_in;
 use crate::rules::{ARGUMENT, ARGUMENTS, Action, Kind, MORE, OWNER, Part, TERM};
 use std::alloc::{AllocError, Global};
 use wb_predictive::{Next, Rule, Table};
-use wb_tokens::{Layout, Punctuation, Token, Word};
+use wb_tokens::{Layout, Punctuation, Token, Word, next_in};
 
 // The kind of a punctuation mark.
 fn mark_kind(mark: Punctuation) -> Kind
