@@ -1,0 +1,20 @@
+mod Classes
+mod EquationComplete
+mod EquationSound
+pub mod Excluding
+mod ExpressionComplete
+mod ExpressionSound
+pub mod FormatLemmas
+mod Giving
+mod ItemComplete
+mod ItemSound
+mod Joins
+mod Many
+mod Nodes
+pub mod OneText
+mod PartComplete
+mod PartSound
+pub mod PatternLemmas
+mod Taking
+pub mod TextLemmas
+mod WholeSound

@@ -1,0 +1,163 @@
+-- Regular expressions of items: where they stand, and which is the first that isn't taken.
+use Rattle.std.proofs.Common.{Result, Ok, Err, IfErr, ◌≡◌, ◌≤◌, ◌<◌, ◌+◌, ℕ, List, [], ◌∷◌, ◌++◌, ◌⊎◌, inl, inr, refl, sym, ap, ◌∙◌, subst, length, arith, All, MatchOption, Option, Some, None}
+use Rattle.std.specs.List.{AllZip, slice_range}
+use Rattle.std.specs.Result.{IsErrAnd}
+use Rattle.std.proofs.lemmas.Slice.Zip.{AllZip-long}
+use Rattle.std.proofs.lemmas.List.{append_assoc, length-append, length-take, length-drop}
+use Rattle.std.specs.Prelude.{take, drop, ◌-◌, min}
+use Rattle.std.proofs.lemmas.List.Elements.{All-nil, All-cons}
+use Rattle.wb_predictive.specs.declared.table.Next.TheVariants.{Found}
+use Rattle.wb_predictive.specs.Reading.{Spells, none, next}
+use Rattle.wb_tokens.specs.declared.token.Layout.TheVariants.{WithComments}
+use Rattle.wb_tokens.specs.declared.token.Token.{Token}
+use Rattle.wb_tokens.specs.declared.token.Token.TheVariants as t
+use Rattle.wb_tokens.specs.NextToken.{IsTokenAt, NextToken}
+use Rattle.wb_tokens.specs.Spelling.{Spells as SpellsToken}
+use Rattle.wb_tokens.specs.Placed.{IsNextIn}
+use Rattle.wb_regex.specs.Tree.{Tree}
+use Rattle.wb_regex.proofs.CallerLemmas.{one}
+use Rattle.wb_syntax.specs.declared.item.Item.{Item}
+use Rattle.wb_syntax.specs.declared.pattern.Role.{Role}
+use Rattle.wb_syntax.specs.declared.written.WrittenItem.{WrittenItem}
+use Rattle.wb_syntax.specs.declared.written.WrittenItem.TheVariants.{Pattern, Plain}
+use Rattle.wb_syntax.specs.declared.written.WrittenSpec.{WrittenSpec}
+use Rattle.wb_syntax.specs.Tokens.{Lexeme, IsRegex}
+use Rattle.wb_syntax.specs.ItemGrammar as grammar
+use Rattle.wb_syntax.specs.ItemGrammar.{IsItem, AreItems, IsSpecification}
+use Rattle.wb_syntax.specs.SpecText.{SpecState, IsWrittenText, IsReadAs, IsReadSpec, IsSpecText, pattern_item}
+use Rattle.wb_reader.specs.declared.refusal.SpecRefusal.{SpecRefusal}
+use Rattle.wb_reader.specs.declared.refusal.SpecRefusal.TheVariants.{TooLong, WrongFormat, Syntax, BadRegex, MatchesEmpty, NoMemory}
+use Rattle.wb_reader.specs.Refusals.{IsShort, IsTaken}
+use Rattle.wb_reader.specs.Patterns.{IsPlaced, OnItem, OnItems}
+
+-- items that are read are taken
+one_taken : (item : WrittenItem) (read : Item) → IsReadAs item read → IsTaken item
+one_taken (Pattern offset role name bytes at) read r = (r.0, r.1)
+one_taken (Plain item) read r = tt
+
+pub all_taken : (items : List WrittenItem) (read : List Item) → AllZip IsReadAs items read → All IsTaken items
+all_taken [] read r = All-nil IsTaken
+all_taken (item ∷ items) [] r = absurd r
+all_taken (item ∷ items) (x ∷ xs) r = All-cons IsTaken item items (one_taken item x r.0) (all_taken items xs r.1)
+
+-- no item is refused so
+not_on : (item : WrittenItem) (refusal : SpecRefusal) → (refusal ≡ TooLong) ⊎ (refusal ≡ WrongFormat) → ¬ OnItem item refusal
+not_on (Pattern offset role name bytes at) refusal (inl e) r = subst (λ x. OnItem (Pattern offset role name bytes at) x) e r
+not_on (Pattern offset role name bytes at) refusal (inr e) r = subst (λ x. OnItem (Pattern offset role name bytes at) x) e r
+not_on (Plain item) refusal (inl e) r = subst (λ x. OnItem (Plain item) x) e r
+not_on (Plain item) refusal (inr e) r = subst (λ x. OnItem (Plain item) x) e r
+
+not_syntax : (item : WrittenItem) (at : ℕ) → ¬ OnItem item (Syntax at)
+not_syntax (Pattern offset role name bytes place) at r = r
+not_syntax (Plain item) at r = r
+
+-- the item behind those that were read is the first that is refused
+pub first_refused : (items before : List WrittenItem) (item : WrittenItem) (after : List WrittenItem) (read : List Item) (refusal : SpecRefusal) → items ≡ before ++ item ∷ after → AllZip IsReadAs before read → OnItem item refusal → OnItems items refusal
+first_refused items before item after read TooLong e z r = not_on item TooLong (inl refl) r
+first_refused items before item after read WrongFormat e z r = not_on item WrongFormat (inr refl) r
+first_refused items before item after read (Syntax at) e z r = not_syntax item at r
+first_refused items before item after read (BadRegex at) e z r = record { before = before; after = after; item = item; split = e; taken = all_taken before read z; refused = r }
+first_refused items before item after read (MatchesEmpty name) e z r = record { before = before; after = after; item = item; split = e; taken = all_taken before read z; refused = r }
+first_refused items before item after read (NoMemory error) e z r = tt
+
+-- a list of lexemes that each fit
+abbrev pub AllFit : (Lexeme → Type 0) → List Lexeme → Type 0
+AllFit P [] = Unit {0}
+AllFit P (x ∷ xs) = P x × AllFit P xs
+
+fit_left : (P : Lexeme → Type 0) (u v : List Lexeme) → AllFit P (u ++ v) → AllFit P u
+fit_left P [] v h = tt
+fit_left P (x ∷ u) v h = (h.0, fit_left P u v h.1)
+
+fit_right : (P : Lexeme → Type 0) (u v : List Lexeme) → AllFit P (u ++ v) → AllFit P v
+fit_right P [] v h = h
+fit_right P (x ∷ u) v h = fit_right P u v h.1
+
+-- a regular expression stands with its slashes within the bytes
+abbrev Fits : Lexeme → Type 0
+Fits x = (bytes : List ℕ) → IsRegex bytes x → x.at + length bytes + 2 ≤ 1048576
+
+one_fits : (text : List ℕ) (from : ℕ) (x : Lexeme) → IsShort text → NextToken WithComments text from x.token x.at x.end → Fits x
+one_fits text from x short r bytes e =
+    let s : SpellsToken (t.Regex bytes) (slice_range text x.at x.end) = subst (λ y. SpellsToken y (slice_range text x.at x.end)) e r.stands.spelled in
+    let l : length (slice_range text x.at x.end) ≡ length (47 ∷ (bytes ++ 47 ∷ [])) = ap length s.0 in
+    let k = length-append bytes (47 ∷ []) in
+    let m : length (slice_range text x.at x.end) ≡ min (x.end - x.at) (length (drop x.at text)) = length-take (x.end - x.at) (drop x.at text) in
+    let d = length-drop x.at text in
+    let o = r.stands.ordered in
+    let w = r.stands.within in
+    omega (arith, l, k, m, d, o, w, short)
+
+all_fit : (text : List ℕ) (from : ℕ) (xs : List Lexeme) (to : ℕ) → IsShort text → Spells (IsNextIn WithComments text) from xs to → AllFit Fits xs
+all_fit text from [] to short s = tt
+all_fit text from (x ∷ xs) to short (next i r) = (one_fits text from x short i, all_fit text x.end xs to short r)
+
+item_placed : (w : List Lexeme) (item : WrittenItem) → IsItem w item → AllFit Fits w → IsPlaced item
+item_placed w item (grammar.pattern {bytes = bytes} h i j k) f = f.1.1.0 bytes j
+item_placed w item (grammar.prefer h i j k l) f = tt
+item_placed w item (grammar.nonterminal h i j) f = tt
+item_placed w item (grammar.start h i j) f = tt
+item_placed w item (grammar.extensible h i j) f = tt
+item_placed w item (grammar.synthesized s h i j k l e) f = tt
+item_placed w item (grammar.inherited s h i j k l e) f = tt
+item_placed w item (grammar.occurs s h i j k l m e) f = tt
+item_placed w item (grammar.forward_on s h i j k l e) f = tt
+item_placed w item (grammar.concrete h i) f = tt
+item_placed w item (grammar.abstracted h i) f = tt
+item_placed w item (grammar.aspect h i j) f = tt
+
+items_placed : (w : List Lexeme) (items : List WrittenItem) → AreItems w items → AllFit Fits w → All IsPlaced items
+items_placed w items grammar.nothing f = All-nil IsPlaced
+items_placed w items (grammar.next {u = u} {v = v} {item = item} {rest = rest} h r e) f =
+    let g = subst (AllFit Fits) e f in
+    All-cons IsPlaced item rest (item_placed u item h (fit_left Fits u v g)) (items_placed v rest r (fit_right Fits u v g))
+
+spec_placed : (w : List Lexeme) (spec : WrittenSpec) → IsSpecification w spec → AllFit Fits w → All IsPlaced spec.items
+spec_placed w spec (grammar.whole {f = x} {n = n} {s = s} {u = u} {v = v} {items = items} h i j k r e) f =
+    let g = subst (AllFit Fits) e f in
+    items_placed v items r (fit_right Fits u v g.1.1.1)
+
+-- the regular expressions of a text stand within it
+pub text_placed : (text : List ℕ) (spec : WrittenSpec) → IsShort text → IsWrittenText text spec → All IsPlaced spec.items
+text_placed text spec short r = spec_placed r.tokens spec r.specification (all_fit text 0 r.tokens r.to short r.spelled)
+
+-- a written item is one item
+one_read : (item : WrittenItem) (x y : Item) → IsReadAs item x → IsReadAs item y → x ≡ y
+one_read (Pattern offset role name bytes at) x y r s =
+    r.2 ∙ (ap (λ tree. pattern_item role offset name bytes tree) (one bytes r.0 s.0 r.1.text s.1.text) ∙ sym s.2)
+one_read (Plain item) x y r s = r ∙ sym s
+
+all_read : (items : List WrittenItem) (xs ys : List Item) → AllZip IsReadAs items xs → AllZip IsReadAs items ys → xs ≡ ys
+all_read [] [] [] r s = refl
+all_read [] [] (y ∷ ys) r s = absurd s
+all_read [] (x ∷ xs) ys r s = absurd r
+all_read (i ∷ items) [] ys r s = absurd r
+all_read (i ∷ items) (x ∷ xs) [] r s = absurd s
+all_read (i ∷ items) (x ∷ xs) (y ∷ ys) r s = ap (λ z. z ∷ xs) (one_read i x y r.0 s.0) ∙ ap (λ zs. y ∷ zs) (all_read items xs ys r.1 s.1)
+
+-- a written specification is one specification
+pub one_spec : (written : WrittenSpec) (a b : SpecState) → IsReadSpec written a → IsReadSpec written b → a ≡ b
+one_spec written a b r s =
+    let f : a.format ≡ b.format = r.format ∙ sym s.format in
+    let h : a.host ≡ b.host = r.host ∙ sym s.host in
+    let n : a.name ≡ b.name = r.name ∙ sym s.name in
+    let o : a.for_host ≡ b.for_host = r.for_host ∙ sym s.for_host in
+    let i : a.items ≡ b.items = all_read written.items a.items b.items r.items s.items in
+    ap (λ x. record a { format = x }) f ∙ (ap (λ x. record a { format = b.format; host = x }) h ∙ (ap (λ x. record a { format = b.format; host = b.host; name = x }) n
+    ∙ (ap (λ x. record a { format = b.format; host = b.host; name = b.name; for_host = x }) o ∙ ap (λ x. record a { format = b.format; host = b.host; name = b.name; for_host = b.for_host; items = x }) i)))
+
+-- what was read of bytes is their one specification
+pub read_text : (bytes : List ℕ) (written : WrittenSpec) (items : List Item) → IsWrittenText bytes written → AllZip IsReadAs written.items items → IsSpecText bytes (record { format = written.format; host = written.host; name = written.name; for_host = written.for_host; items = items })
+read_text bytes written items r z = record { written = written; text = r; read = record { format = refl; host = refl; name = refl; for_host = refl; items = z } }
+
+-- a refusal of an item that is handed on
+pub item_handed_on : {X : Type 0} (items before : List WrittenItem) (item : WrittenItem) (after : List WrittenItem) (read : List Item) (r : Result X SpecRefusal) (e : SpecRefusal) → IsErrAnd r (λ f. f ≡ e) → items ≡ before ++ item ∷ after → AllZip IsReadAs before read → OnItem item e → IfErr r (OnItems items)
+item_handed_on items before item after read (Ok x) e is split z on = tt
+item_handed_on items before item after read (Err f) e is split z on = first_refused items before item after read f split z (subst (OnItem item) (sym is) on)
+
+-- one more item that is read
+pub one_more : (before : List WrittenItem) (item : WrittenItem) (read : List Item) (x : Item) → AllZip IsReadAs before read → IsReadAs item x → AllZip IsReadAs (before ++ item ∷ []) (read ++ x ∷ [])
+one_more [] item [] x z r = (r, tt)
+one_more [] item (y ∷ ys) x z r = absurd z
+one_more (i ∷ before) item [] x z r = absurd z
+one_more (i ∷ before) item (y ∷ ys) x z r = (z.0, one_more before item ys x z.1 r)

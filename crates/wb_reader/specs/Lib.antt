@@ -1,0 +1,12 @@
+pub mod BuildExpressions
+pub mod BuildItems
+pub mod BuildParts
+pub mod Builder
+pub mod Entries
+pub mod Kinds
+pub mod Laws
+pub mod OneAnswer
+pub mod Patterns
+pub mod Refusals
+pub mod Rights
+pub mod Table

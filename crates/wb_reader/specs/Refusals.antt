@@ -1,0 +1,120 @@
+-- Why bytes are no specification that is taken.
+use Rattle.std.specs.Prelude.{◌≡◌, ◌≢◌, ◌≤◌, ◌<◌, ◌+◌, ℕ, ℤ, pos, List, [], ◌∷◌, ◌++◌, All, length}
+use Rattle.wb_predictive.specs.declared.table.Next.{Next}
+use Rattle.wb_predictive.specs.declared.table.Next.TheVariants.{Found, End, NoToken}
+use Rattle.wb_predictive.specs.Reading.{Spells, place_of}
+use Rattle.wb_tokens.specs.declared.token.Layout.TheVariants.{WithComments}
+use Rattle.wb_tokens.specs.declared.token.Token.{Token}
+use Rattle.wb_tokens.specs.declared.token.Token.TheVariants as t
+use Rattle.wb_tokens.specs.declared.word.Word.TheVariants as w
+use Rattle.wb_tokens.specs.declared.punctuation.Punctuation.TheVariants as p
+use Rattle.wb_tokens.specs.Placed.{IsNextIn}
+use Rattle.wb_regex.specs.Tree.{Tree}
+use Rattle.wb_regex.specs.Text.{IsFirstFault}
+use Rattle.wb_regex.specs.Answer.{IsEmptyRegex}
+use Rattle.wb_syntax.specs.declared.pattern.Role.{Role}
+use Rattle.wb_syntax.specs.declared.written.WrittenItem.{WrittenItem}
+use Rattle.wb_syntax.specs.declared.written.WrittenItem.TheVariants.{Pattern, Plain}
+use Rattle.wb_syntax.specs.declared.written.WrittenSpec.{WrittenSpec}
+use Rattle.wb_syntax.specs.Tokens.{Lexeme, IsWord, IsMark}
+use Rattle.wb_syntax.specs.ItemGrammar.{IsSpecification}
+use Rattle.wb_syntax.specs.SpecText.{SpecState, IsWrittenText, IsPattern, IsSpecText}
+use Rattle.wb_reader.specs.declared.refusal.SpecRefusal.{SpecRefusal}
+use Rattle.wb_reader.specs.declared.refusal.SpecRefusal.TheVariants.{TooLong, WrongFormat, Syntax, BadRegex, MatchesEmpty, NoMemory}
+
+-- the bytes are at most so many as a file may have
+abbrev pub IsShort : List ℕ → Type 0
+IsShort bytes = length bytes ≤ 1048576
+
+-- the token is an integer other than 1
+abbrev pub IsOtherNumber : Token → Type 0
+IsOtherNumber token = (value : ℤ) × (token ≡ t.Int value) × (value ≢ pos 1)
+
+-- the bytes begin with `format`, an integer other than 1, and `;`
+pub record IsOtherFormat (bytes : List ℕ) : Type 0 where
+  pub word : Lexeme
+  pub number : Lexeme
+  pub mark : Lexeme
+  pub to : ℕ
+  pub spelled : Spells (IsNextIn WithComments bytes) 0 (word ∷ number ∷ mark ∷ []) to
+  pub is_format : IsWord w.Format word
+  pub is_other : IsOtherNumber number.token
+  pub is_semicolon : IsMark p.Semicolon mark
+
+-- some specification begins with these tokens
+pub record CanBegin (front : List Lexeme) : Type 0 where
+  pub rest : List Lexeme
+  pub spec : WrittenSpec
+  pub specification : IsSpecification (front ++ rest) spec
+
+-- what stands next can't follow these tokens: a token with which no specification begins, the end where they are none, or no token
+abbrev pub CannotFollow : List Lexeme → Next Token → Type 0
+CannotFollow front (Found x) = ¬ CanBegin (front ++ x ∷ [])
+CannotFollow front (End at) = (spec : WrittenSpec) → ¬ IsSpecification front spec
+CannotFollow front (NoToken at) = Unit {0}
+
+-- at this place stands the first thing that can't follow the tokens before it, with which some specification begins
+pub record IsSyntaxFault (bytes : List ℕ) (at : ℕ) : Type 0 where
+  pub front : List Lexeme
+  pub from : ℕ
+  pub next : Next Token
+  pub spelled : Spells (IsNextIn WithComments bytes) 0 front from
+  pub before : CanBegin front
+  pub stands : IsNextIn WithComments bytes from next
+  pub fault : CannotFollow front next
+  pub place : place_of next ≡ at
+
+-- the item has no regular expression, or one that is taken
+abbrev pub IsTaken : WrittenItem → Type 0
+IsTaken (Pattern offset role name bytes at) = (tree : Tree) × IsPattern bytes tree
+IsTaken (Plain item) = Unit {0}
+
+-- the bytes stand in the grammar, and this regular expression is the first that may not be taken: those before it are
+pub record HasPattern (text name bytes : List ℕ) (at : ℕ) : Type 0 where
+  pub spec : WrittenSpec
+  pub written : IsWrittenText text spec
+  pub before : List WrittenItem
+  pub after : List WrittenItem
+  pub offset : ℕ
+  pub role : Role
+  pub items : spec.items ≡ before ++ Pattern offset role name bytes at ∷ after
+  pub taken : All IsTaken before
+
+-- the first regular expression that isn't taken is none, and at this place of the text it goes wrong
+pub record IsBadRegex (text : List ℕ) (place : ℕ) : Type 0 where
+  pub name : List ℕ
+  pub bytes : List ℕ
+  pub at : ℕ
+  pub pattern : HasPattern text name bytes at
+  pub offset : ℕ
+  pub fault : IsFirstFault bytes offset
+  pub is : place ≡ at + 1 + offset
+
+-- the first regular expression that isn't taken matches the empty text, and is that of this name
+pub record IsEmptyPattern (text name : List ℕ) : Type 0 where
+  pub bytes : List ℕ
+  pub at : ℕ
+  pub pattern : HasPattern text name bytes at
+  pub empty : IsEmptyRegex bytes
+
+-- why bytes are refused, the first cause in this order; memory may run out at any bytes
+abbrev pub HasCause : List ℕ → SpecRefusal → Type 0
+HasCause bytes TooLong = 1048576 < length bytes
+HasCause bytes WrongFormat = IsShort bytes × IsOtherFormat bytes
+HasCause bytes (Syntax at) = IsShort bytes × (¬ IsOtherFormat bytes) × IsSyntaxFault bytes at
+HasCause bytes (BadRegex at) = IsShort bytes × IsBadRegex bytes at
+HasCause bytes (MatchesEmpty name) = IsShort bytes × IsEmptyPattern bytes name
+HasCause bytes (NoMemory error) = Unit {0}
+
+-- the bytes are a specification that is taken
+abbrev pub IsAcceptedText : List ℕ → SpecState → Type 0
+IsAcceptedText bytes spec = IsShort bytes × IsSpecText bytes spec
+
+-- of the refusals only that of what can't follow, and want of memory
+abbrev pub OnSyntax : List ℕ → SpecRefusal → Type 0
+OnSyntax bytes TooLong = ⊥
+OnSyntax bytes WrongFormat = ⊥
+OnSyntax bytes (Syntax at) = IsSyntaxFault bytes at
+OnSyntax bytes (BadRegex at) = ⊥
+OnSyntax bytes (MatchesEmpty name) = ⊥
+OnSyntax bytes (NoMemory error) = Unit {0}

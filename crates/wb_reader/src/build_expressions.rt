@@ -1,0 +1,180 @@
+//! What actions make of the parts of expressions. Each does nothing more where a part is missing, which no reading meets.
+
+ghost use Rattle.std.specs.Prelude.{◌≡◌, OnOk};
+ghost use Rattle.wb_syntax.specs.declared.expression.Node.TheVariants as n;
+ghost use Rattle.wb_reader.specs.BuildExpressions.{with_node, with_number, with_string, with_label, with_read, with_placed_read, with_arguments, with_argument, with_call, with_if};
+
+use crate::builder::SpecBuilder;
+use std::alloc::{AllocError, Global};
+use wb_lists::List;
+use wb_syntax::Node;
+
+impl SpecBuilder {
+    /// The node goes behind the others of its expression. The only error is want of memory.
+    pub fn add_node(&mut self, node: Node) -> Result<(), AllocError>
+        ensures ok { OnOk result (self.new ≡ with_node node self.old) }
+    {
+        let Some(mut nodes) = self.nodes.pop() else {
+            return Ok(());
+        };
+        let place = nodes.len();
+        nodes.push(node)?;
+        self.nodes.push(nodes)?;
+        self.roots.push(place)
+    }
+
+    /// The last integer is a part. The only error is want of memory.
+    pub fn add_number(&mut self) -> Result<(), AllocError>
+        ensures ok { OnOk result (self.new ≡ with_number self.old) }
+    {
+        let Some(value) = self.integers.pop() else {
+            return Ok(());
+        };
+        self.add_node(Node::Int(value))
+    }
+
+    /// The last string is a part. The only error is want of memory.
+    pub fn add_string(&mut self) -> Result<(), AllocError>
+        ensures ok { OnOk result (self.new ≡ with_string self.old) }
+    {
+        let Some(text) = self.texts.pop() else {
+            return Ok(());
+        };
+        self.add_node(Node::Text(text))
+    }
+
+    /// The last name is a part. The only error is want of memory.
+    pub fn add_label(&mut self) -> Result<(), AllocError>
+        ensures ok { OnOk result (self.new ≡ with_label (λ l. n.Label l) self.old) }
+    {
+        let Some(name) = self.names.pop() else {
+            return Ok(());
+        };
+        self.add_node(Node::Label(name.bytes))
+    }
+
+    /// The text of the child of the last name is a part. The only error is want of memory.
+    pub fn add_lexeme(&mut self) -> Result<(), AllocError>
+        ensures ok { OnOk result (self.new ≡ with_label (λ l. n.Lexeme l) self.old) }
+    {
+        let Some(name) = self.names.pop() else {
+            return Ok(());
+        };
+        self.add_node(Node::Lexeme(name.bytes))
+    }
+
+    /// An attribute of a child or local is a part. The only error is want of memory.
+    pub fn add_read(&mut self) -> Result<(), AllocError>
+        ensures ok { OnOk result (self.new ≡ with_read self.old) }
+    {
+        let Some(attribute) = self.names.pop() else {
+            return Ok(());
+        };
+        let Some(label) = self.names.pop() else {
+            return Ok(());
+        };
+        self.add_node(Node::Read {
+            label: label.bytes,
+            attribute: attribute.bytes,
+        })
+    }
+
+    /// An attribute of the top is a part. The only error is want of memory.
+    pub fn add_top(&mut self) -> Result<(), AllocError>
+        ensures ok { OnOk result (self.new ≡ with_placed_read (λ a. n.Top a) self.old) }
+    {
+        let Some(_) = self.places.pop() else {
+            return Ok(());
+        };
+        let Some(name) = self.names.pop() else {
+            return Ok(());
+        };
+        self.add_node(Node::Top(name.bytes))
+    }
+
+    /// An attribute of the forwarded tree is a part. The only error is want of memory.
+    pub fn add_forward(&mut self) -> Result<(), AllocError>
+        ensures ok { OnOk result (self.new ≡ with_placed_read (λ a. n.Forward a) self.old) }
+    {
+        let Some(_) = self.places.pop() else {
+            return Ok(());
+        };
+        let Some(name) = self.names.pop() else {
+            return Ok(());
+        };
+        self.add_node(Node::Forward(name.bytes))
+    }
+
+    /// Arguments begin. The only error is want of memory.
+    pub fn begin_arguments(&mut self, alloc: Global) -> Result<(), AllocError>
+        ensures ok { OnOk result (self.new ≡ with_arguments self.old) }
+    {
+        self.arguments.push(List::new(alloc))
+    }
+
+    /// The last part is an argument. The only error is want of memory.
+    pub fn add_argument(&mut self) -> Result<(), AllocError>
+        ensures ok { OnOk result (self.new ≡ with_argument self.old) }
+    {
+        let Some(root) = self.roots.pop() else {
+            return Ok(());
+        };
+        let Some(mut arguments) = self.arguments.pop() else {
+            return Ok(());
+        };
+        arguments.push(root)?;
+        self.arguments.push(arguments)
+    }
+
+    /// A tree of a production is a part. The only error is want of memory.
+    pub fn add_build(&mut self) -> Result<(), AllocError>
+        ensures ok { OnOk result (self.new ≡ with_call (λ name list. n.Build name list) self.old) }
+    {
+        let Some(arguments) = self.arguments.pop() else {
+            return Ok(());
+        };
+        let Some(name) = self.names.pop() else {
+            return Ok(());
+        };
+        self.add_node(Node::Build {
+            production: name.bytes,
+            children: arguments.into_sequence(),
+        })
+    }
+
+    /// The result of an operation is a part. The only error is want of memory.
+    pub fn add_call(&mut self) -> Result<(), AllocError>
+        ensures ok { OnOk result (self.new ≡ with_call (λ name list. n.Call name list) self.old) }
+    {
+        let Some(arguments) = self.arguments.pop() else {
+            return Ok(());
+        };
+        let Some(name) = self.names.pop() else {
+            return Ok(());
+        };
+        self.add_node(Node::Call {
+            operation: name.bytes,
+            arguments: arguments.into_sequence(),
+        })
+    }
+
+    /// A choice is a part. The only error is want of memory.
+    pub fn add_if(&mut self) -> Result<(), AllocError>
+        ensures ok { OnOk result (self.new ≡ with_if self.old) }
+    {
+        let Some(fails) = self.roots.pop() else {
+            return Ok(());
+        };
+        let Some(holds) = self.roots.pop() else {
+            return Ok(());
+        };
+        let Some(condition) = self.roots.pop() else {
+            return Ok(());
+        };
+        self.add_node(Node::If {
+            condition,
+            holds,
+            fails,
+        })
+    }
+}

@@ -1,0 +1,203 @@
+//! What actions make of kinds, flow types, children, productions and equations. Each does nothing more where a part is missing, which
+//! no reading meets.
+
+ghost use Rattle.std.specs.Prelude.{◌≡◌, OnOk};
+ghost use Rattle.wb_syntax.specs.declared.expression.Target.TheVariants as g;
+ghost use Rattle.wb_reader.specs.BuildParts.{with_kind, with_named_kind, with_no_needs, with_needs, with_names, with_listed, with_child, with_equations, with_target, with_label_target, with_local_target, with_forwards_to, with_nodes, with_equation};
+
+use crate::builder::{PlacedTarget, SpecBuilder};
+use std::alloc::{AllocError, Global};
+use wb_lists::List;
+use wb_syntax::{Child, Equation, NamedKind, Target};
+
+impl SpecBuilder {
+    /// A kind without a name was read. The only error is want of memory.
+    pub fn add_kind(&mut self, kind: NamedKind) -> Result<(), AllocError>
+        ensures ok { OnOk result (self.new ≡ with_kind kind self.old) }
+    {
+        self.kinds.push(kind)
+    }
+
+    /// The last name is a kind. The only error is want of memory.
+    pub fn add_named_kind(&mut self) -> Result<(), AllocError>
+        ensures ok { OnOk result (self.new ≡ with_named_kind self.old) }
+    {
+        let Some(name) = self.names.pop() else {
+            return Ok(());
+        };
+        self.kinds.push(NamedKind::Name(name.bytes))
+    }
+
+    /// No flow type is written. The only error is want of memory.
+    pub fn add_no_needs(&mut self) -> Result<(), AllocError>
+        ensures ok { OnOk result (self.new ≡ with_no_needs self.old) }
+    {
+        self.needs.push(None)
+    }
+
+    /// A flow type is whole. The only error is want of memory.
+    pub fn add_needs(&mut self) -> Result<(), AllocError>
+        ensures ok { OnOk result (self.new ≡ with_needs self.old) }
+    {
+        let Some(names) = self.lists.pop() else {
+            return Ok(());
+        };
+        self.needs.push(Some(names.into_sequence()))
+    }
+
+    /// A list of names begins. The only error is want of memory.
+    pub fn begin_names(&mut self, alloc: Global) -> Result<(), AllocError>
+        ensures ok { OnOk result (self.new ≡ with_names self.old) }
+    {
+        self.lists.push(List::new(alloc))
+    }
+
+    /// The last name goes to the end of its list. The only error is want of memory.
+    pub fn add_name(&mut self) -> Result<(), AllocError>
+        ensures ok { OnOk result (self.new ≡ with_listed self.old) }
+    {
+        let Some(name) = self.names.pop() else {
+            return Ok(());
+        };
+        let Some(mut list) = self.lists.pop() else {
+            return Ok(());
+        };
+        list.push(name.bytes)?;
+        self.lists.push(list)
+    }
+
+    /// A child is whole. The only error is want of memory.
+    pub fn add_child(&mut self) -> Result<(), AllocError>
+        ensures ok { OnOk result (self.new ≡ with_child self.old) }
+    {
+        let Some(kind) = self.kinds.pop() else {
+            return Ok(());
+        };
+        let Some(name) = self.names.pop() else {
+            return Ok(());
+        };
+        let Some(mut children) = self.children.pop() else {
+            return Ok(());
+        };
+        children.push(Child {
+            label: name.bytes,
+            kind,
+        })?;
+        self.children.push(children)
+    }
+
+    /// Equations begin. The only error is want of memory.
+    pub fn begin_equations(&mut self, alloc: Global) -> Result<(), AllocError>
+        ensures ok { OnOk result (self.new ≡ with_equations self.old) }
+    {
+        self.equations.push(List::new(alloc))
+    }
+
+    /// An equation for an attribute of the top begins. The only error is want of memory.
+    pub fn begin_top(&mut self) -> Result<(), AllocError>
+        ensures ok { OnOk result (self.new ≡ with_target (λ a. g.Top a) self.old) }
+    {
+        let Some(name) = self.names.pop() else {
+            return Ok(());
+        };
+        let Some(at) = self.places.pop() else {
+            return Ok(());
+        };
+        let target = Target::Top(name.bytes);
+        self.targets.push(PlacedTarget { target, at })
+    }
+
+    /// An equation for an attribute of the forwarded tree begins. The only error is want of memory.
+    pub fn begin_forward(&mut self) -> Result<(), AllocError>
+        ensures ok { OnOk result (self.new ≡ with_target (λ a. g.Forward a) self.old) }
+    {
+        let Some(name) = self.names.pop() else {
+            return Ok(());
+        };
+        let Some(at) = self.places.pop() else {
+            return Ok(());
+        };
+        let target = Target::Forward(name.bytes);
+        self.targets.push(PlacedTarget { target, at })
+    }
+
+    /// An equation for an attribute of a child or local begins. The only error is want of memory.
+    pub fn begin_label(&mut self) -> Result<(), AllocError>
+        ensures ok { OnOk result (self.new ≡ with_label_target self.old) }
+    {
+        let Some(attribute) = self.names.pop() else {
+            return Ok(());
+        };
+        let Some(label) = self.names.pop() else {
+            return Ok(());
+        };
+        let at = label.at;
+        let target = Target::Label {
+            label: label.bytes,
+            attribute: attribute.bytes,
+        };
+        self.targets.push(PlacedTarget { target, at })
+    }
+
+    /// An equation for a local begins. The only error is want of memory.
+    pub fn begin_local(&mut self) -> Result<(), AllocError>
+        ensures ok { OnOk result (self.new ≡ with_local_target self.old) }
+    {
+        let Some(nonterminal) = self.names.pop() else {
+            return Ok(());
+        };
+        let Some(label) = self.names.pop() else {
+            return Ok(());
+        };
+        let Some(at) = self.places.pop() else {
+            return Ok(());
+        };
+        let target = Target::Local {
+            label: label.bytes,
+            nonterminal: nonterminal.bytes,
+        };
+        self.targets.push(PlacedTarget { target, at })
+    }
+
+    /// An equation for the forwarded tree begins. The only error is want of memory.
+    pub fn begin_forwards_to(&mut self) -> Result<(), AllocError>
+        ensures ok { OnOk result (self.new ≡ with_forwards_to self.old) }
+    {
+        let Some(at) = self.places.pop() else {
+            return Ok(());
+        };
+        let target = Target::ForwardsTo;
+        self.targets.push(PlacedTarget { target, at })
+    }
+
+    /// An expression begins. The only error is want of memory.
+    pub fn begin_nodes(&mut self, alloc: Global) -> Result<(), AllocError>
+        ensures ok { OnOk result (self.new ≡ with_nodes self.old) }
+    {
+        self.nodes.push(List::new(alloc))
+    }
+
+    /// An equation is whole. The only error is want of memory.
+    pub fn add_equation(&mut self) -> Result<(), AllocError>
+        ensures ok { OnOk result (self.new ≡ with_equation self.old) }
+    {
+        let Some(_) = self.roots.pop() else {
+            return Ok(());
+        };
+        let Some(nodes) = self.nodes.pop() else {
+            return Ok(());
+        };
+        let Some(target) = self.targets.pop() else {
+            return Ok(());
+        };
+        let Some(mut equations) = self.equations.pop() else {
+            return Ok(());
+        };
+        equations.push(Equation {
+            offset: target.at,
+            target: target.target,
+            nodes: nodes.into_sequence(),
+        })?;
+        self.equations.push(equations)
+    }
+}

@@ -1,0 +1,25 @@
+//! Specifications, read exactly from bytes.
+#![tactic(auto)]
+
+mod acting;
+mod build_expressions;
+mod build_items;
+mod build_parts;
+mod builder;
+mod expression_rules;
+mod format;
+mod header;
+mod item_rules;
+mod kind;
+mod laws;
+mod part;
+mod part_rules;
+mod patterns;
+mod refusal;
+mod spec;
+mod table;
+mod written;
+
+pub use laws::one_answer_law;
+pub use refusal::SpecRefusal;
+pub use spec::read_spec;

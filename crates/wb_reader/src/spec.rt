@@ -1,0 +1,44 @@
+//! Specifications, from their bytes.
+
+ghost use Rattle.std.specs.Prelude.{◌≡◌, IfOk, IfErr};
+ghost use Rattle.wb_syntax.specs.SpecText.{SpecState};
+ghost use Rattle.wb_reader.specs.Refusals.{HasCause, IsAcceptedText};
+
+use crate::format::is_other_format;
+use crate::patterns::read_items;
+use crate::refusal::SpecRefusal;
+use crate::written::read_written;
+use std::alloc::Global;
+use wb_base::Sequence;
+use wb_syntax::Spec;
+
+/// The most bytes that a specification may have.
+const LIMIT: usize = 1_048_576;
+
+/// The specification that the bytes are.
+///
+/// A refusal is the first that holds, in this order: `TooLong`, `WrongFormat`, `Syntax`, and then, for the first regular expression
+/// that isn't taken, `BadRegex` or `MatchesEmpty`. Offsets count bytes from the beginning of the file. The time is linear in the
+/// bytes, and nothing recurses.
+pub fn read_spec(alloc: Global, bytes: &[u8]) -> Result<Spec, SpecRefusal>
+    ensures ok { IfOk result (λ spec. IsAcceptedText bytes.now spec) }
+    ensures only { IfOk result (λ spec. (other : SpecState) → IsAcceptedText bytes.now other → other ≡ spec) }
+    ensures refused { IfErr result (HasCause bytes.now) }
+{
+    if bytes.len() > LIMIT {
+        return Err(SpecRefusal::TooLong);
+    }
+    if is_other_format(alloc, bytes)? {
+        return Err(SpecRefusal::WrongFormat);
+    }
+    let written = read_written(alloc, bytes)?;
+    let items = read_items(alloc, written.items.into_vec())?;
+    Ok(Spec::new(
+        alloc,
+        written.format,
+        written.host,
+        written.name,
+        written.for_host,
+        Sequence::from_vec(items),
+    ))
+}
