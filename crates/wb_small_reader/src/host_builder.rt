@@ -6,7 +6,7 @@ ghost use Rattle.wb_small_reader.specs.HostParts.{empty, named, with_nonterminal
 use std::alloc::{AllocError, Global};
 use std::mem::replace;
 use wb_base::Bytes;
-use wb_lists::{List, List, Stack, Stack};
+use wb_lists::{List, Stack};
 use wb_small::{NamedChild, NamedEquation, NamedHost, NamedNode, NamedOccurrence, NamedProduction};
 
 /// The parts of a host that were read, and those of what is being read.

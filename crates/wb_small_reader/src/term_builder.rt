@@ -6,7 +6,7 @@ ghost use Rattle.wb_small_reader.specs.TermParts.{empty, named, qualified, with_
 use std::alloc::{AllocError, Global};
 use std::mem::replace;
 use wb_base::Bytes;
-use wb_lists::{List, List, Stack, Stack};
+use wb_lists::{List, Stack};
 use wb_small::{NamedTerm, NamedTermNode, SmallValue};
 
 /// A node of which not all children were read.
