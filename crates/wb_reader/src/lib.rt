@@ -18,6 +18,8 @@ mod patterns;
 mod refusal;
 mod spec;
 mod table;
+#[cfg(test)]
+mod tests;
 mod written;
 
 pub use laws::one_answer_law;

@@ -1,0 +1,134 @@
+use crate::{SpecRefusal, read_spec};
+use std::alloc::{AllocError, Global};
+use std::test::Fail;
+use wb_syntax::{Item, NamedKind, Node, Target};
+
+// What becomes of a text: the number of its items, or the code of its refusal with its place, or with 0 where it has none.
+fn outcome(alloc: Global, text: &[u8]) -> Result<(&'static str, usize), AllocError> {
+    match read_spec(alloc, text) {
+        Ok(spec) => Ok(("items", spec.items().len())),
+        Err(SpecRefusal::TooLong) => Ok(("S2", 0)),
+        Err(SpecRefusal::WrongFormat) => Ok(("S3", 0)),
+        Err(SpecRefusal::Syntax(at)) => Ok(("S1", at)),
+        Err(SpecRefusal::BadRegex(at)) => Ok(("R1", at)),
+        Err(SpecRefusal::MatchesEmpty(name)) => Ok(("R2", name.as_slice().len())),
+        Err(SpecRefusal::NoMemory(error)) => Err(error),
+    }
+}
+
+#[test]
+fn each_text_has_its_outcome(rt: HostRuntime) -> Result<(), Fail> {
+    let cases = [
+        ("", "S1", 0),
+        ("  // c", "S1", 6),
+        ("format 1; host h;", "items", 0),
+        ("format 01; host h; // c", "items", 0),
+        ("format 1; host", "S1", 14),
+        ("format 1; host host;", "S1", 15),
+        ("format 3; host a;", "S3", 0),
+        ("format 3", "S1", 7),
+        ("format 3 host a;", "S1", 7),
+        ("format -1 ; x", "S3", 0),
+        ("format 9223372036854775808;", "S1", 7),
+        ("format 1; host a; host b;", "S1", 18),
+        ("format 1; extension e for h; prefer A over B;", "items", 1),
+        ("format 1; extension e;", "S1", 21),
+        ("format 1; host r; terminal T /a(/;", "R1", 32),
+        ("format 1; host h; terminal T /a*/;", "R2", 1),
+        ("format 1; host h; terminal Tt /b?/; ignore U /(/;", "R2", 2),
+        (
+            "format 1; host h; ignore U /(/; terminal Tt /b?/;",
+            "R1",
+            29,
+        ),
+        ("format 1; host h; terminal T /(/; x", "S1", 34),
+        ("format 1; host h; terminal T /a\\//;", "items", 1),
+        ("format 1; host h; terminal T //;", "S1", 32),
+        ("format 1; host h; syn v : real int;", "S1", 31),
+        ("format 1; host h; forward on N;", "S1", 30),
+        ("format 1; host h; forward on N needs { };", "items", 1),
+        ("format 1; host h; occurs a on N needs { b, };", "S1", 43),
+        ("format 1; host h; concrete p : N ::= { }", "items", 1),
+        ("format 1; host h; concrete p : N ::= { };", "S1", 40),
+        ("format 1; host h; aspect p { top.a = f(); }", "items", 1),
+        ("format 1; host h; aspect p { top.a = (1); }", "S1", 37),
+        ("format 1; host h; aspect p { a.b.c = 1; }", "S1", 32),
+    ];
+    for (text, code, at) in cases {
+        let answer = outcome(rt.alloc(), text.as_bytes())?;
+        assert!(rt;
+            answer == (code, at),
+            "{text:?} is {} at {}",
+            answer.0,
+            answer.1
+        );
+    }
+    Ok(())
+}
+
+#[test]
+fn a_specification_has_its_parts_in_order(rt: HostRuntime) -> Result<(), Fail> {
+    let text =
+        b"format 1; extension e for h; abstract p : N ::= a : int b : M {\n  b.i = if a then f(b.s, \"x\") else @g(); }";
+    match read_spec(rt.alloc(), text) {
+        Ok(spec) => {
+            assert!(rt; spec.format() == 1 && !spec.is_host());
+            assert!(rt; spec.name() == b"e".as_slice() && spec.for_host() == b"h".as_slice());
+            for item in spec.items() {
+                match item {
+                    Item::Abstract { offset, production } => {
+                        assert_eq!(rt; *offset, 29);
+                        assert_eq!(rt; production.children.len(), 2);
+                        for child in production.children.as_slice() {
+                            let named = matches!(&child.kind, NamedKind::Name(_));
+                            assert!(rt; named == (child.label.as_slice() == b"b".as_slice()));
+                        }
+                        for equation in production.equations.as_slice() {
+                            assert_eq!(rt; equation.offset, 66);
+                            assert!(rt;
+                                matches!(
+                                    &equation.target,
+                                    Target::Label {
+                                        label: _,
+                                        attribute: _
+                                    }
+                                )
+                            );
+                            assert_eq!(rt; equation.nodes.len(), 6);
+                            for (place, node) in equation.nodes.as_slice().iter().enumerate() {
+                                let right = match node {
+                                    Node::Label(_) => place == 0,
+                                    Node::Read {
+                                        label: _,
+                                        attribute: _,
+                                    } => place == 1,
+                                    Node::Text(_) => place == 2,
+                                    Node::Build {
+                                        production: _,
+                                        children,
+                                    } => { place == 3 && children.as_slice() == [1, 2].as_slice() }
+                                    Node::Call {
+                                        operation: _,
+                                        arguments,
+                                    } => { place == 4 && arguments.is_empty() }
+                                    Node::If {
+                                        condition,
+                                        holds,
+                                        fails,
+                                    } => {
+                                        place == 5 && *condition == 0 && *holds == 3 && *fails == 4
+                                    }
+                                    _ => false,
+                                };
+                                assert!(rt; right, "the node at {place}");
+                            }
+                        }
+                    }
+                    _ => assert!(rt; false, "it is an abstract production"),
+                }
+            }
+        }
+        Err(_) => assert!(rt; false, "it is a specification"),
+    }
+    Ok(())
+}
