@@ -1,7 +1,7 @@
 use crate::{SpecRefusal, read_spec};
 use std::alloc::{AllocError, Global};
 use std::test::Fail;
-use wb_syntax::{Item, NamedKind, Node, Target};
+use wb_syntax::{Item, Node};
 
 // What becomes of a text: the number of its items, or the code of its refusal with its place, or with 0 where it has none.
 fn outcome(alloc: Global, text: &[u8]) -> Result<(&'static str, usize), AllocError> {
@@ -17,7 +17,7 @@ fn outcome(alloc: Global, text: &[u8]) -> Result<(&'static str, usize), AllocErr
 }
 
 #[test]
-fn each_text_has_its_outcome(rt: HostRuntime) -> Result<(), Fail> {
+fn a_header_has_its_outcome(rt: HostRuntime) -> Result<(), Fail> {
     let cases = [
         ("", "S1", 0),
         ("  // c", "S1", 6),
@@ -33,6 +33,22 @@ fn each_text_has_its_outcome(rt: HostRuntime) -> Result<(), Fail> {
         ("format 1; host a; host b;", "S1", 18),
         ("format 1; extension e for h; prefer A over B;", "items", 1),
         ("format 1; extension e;", "S1", 21),
+    ];
+    for (text, code, at) in cases {
+        let answer = outcome(rt.alloc(), text.as_bytes())?;
+        assert!(rt;
+            answer == (code, at),
+            "{text:?} is {} at {}",
+            answer.0,
+            answer.1
+        );
+    }
+    Ok(())
+}
+
+#[test]
+fn a_pattern_or_an_item_has_its_outcome(rt: HostRuntime) -> Result<(), Fail> {
+    let cases = [
         ("format 1; host r; terminal T /a(/;", "R1", 32),
         ("format 1; host h; terminal T /a*/;", "R2", 1),
         ("format 1; host h; terminal Tt /b?/; ignore U /(/;", "R2", 2),
@@ -66,6 +82,47 @@ fn each_text_has_its_outcome(rt: HostRuntime) -> Result<(), Fail> {
     Ok(())
 }
 
+// Whether the node of the equation below stands at its place.
+fn is_right(place: usize, node: &Node) -> bool {
+    match node {
+        Node::Label(_) => place == 0,
+        Node::Read {
+            label: _,
+            attribute: _,
+        } => place == 1,
+        Node::Text(_) => place == 2,
+        Node::Build {
+            production: _,
+            children,
+        } => place == 3 && children.as_slice() == [1, 2].as_slice(),
+        Node::Call {
+            operation: _,
+            arguments,
+        } => place == 4 && arguments.is_empty(),
+        Node::If {
+            condition,
+            holds,
+            fails,
+        } => place == 5 && *condition == 0 && *holds == 3 && *fails == 4,
+        _ => false,
+    }
+}
+
+// Whether an item is the production below.
+fn is_production(item: &Item) -> bool {
+    let Item::Abstract { offset, production } = item else {
+        return false;
+    };
+    let mut right = *offset == 29 && production.children.len() == 2;
+    for equation in production.equations.as_slice() {
+        right = right && equation.offset == 66 && equation.nodes.len() == 6;
+        for (place, node) in equation.nodes.as_slice().iter().enumerate() {
+            right = right && is_right(place, node);
+        }
+    }
+    right && production.equations.len() == 1
+}
+
 #[test]
 fn a_specification_has_its_parts_in_order(rt: HostRuntime) -> Result<(), Fail> {
     let text =
@@ -74,58 +131,9 @@ fn a_specification_has_its_parts_in_order(rt: HostRuntime) -> Result<(), Fail> {
         Ok(spec) => {
             assert!(rt; spec.format() == 1 && !spec.is_host());
             assert!(rt; spec.name() == b"e".as_slice() && spec.for_host() == b"h".as_slice());
+            assert_eq!(rt; spec.items().len(), 1);
             for item in spec.items() {
-                match item {
-                    Item::Abstract { offset, production } => {
-                        assert_eq!(rt; *offset, 29);
-                        assert_eq!(rt; production.children.len(), 2);
-                        for child in production.children.as_slice() {
-                            let named = matches!(&child.kind, NamedKind::Name(_));
-                            assert!(rt; named == (child.label.as_slice() == b"b".as_slice()));
-                        }
-                        for equation in production.equations.as_slice() {
-                            assert_eq!(rt; equation.offset, 66);
-                            assert!(rt;
-                                matches!(
-                                    &equation.target,
-                                    Target::Label {
-                                        label: _,
-                                        attribute: _
-                                    }
-                                )
-                            );
-                            assert_eq!(rt; equation.nodes.len(), 6);
-                            for (place, node) in equation.nodes.as_slice().iter().enumerate() {
-                                let right = match node {
-                                    Node::Label(_) => place == 0,
-                                    Node::Read {
-                                        label: _,
-                                        attribute: _,
-                                    } => place == 1,
-                                    Node::Text(_) => place == 2,
-                                    Node::Build {
-                                        production: _,
-                                        children,
-                                    } => { place == 3 && children.as_slice() == [1, 2].as_slice() }
-                                    Node::Call {
-                                        operation: _,
-                                        arguments,
-                                    } => { place == 4 && arguments.is_empty() }
-                                    Node::If {
-                                        condition,
-                                        holds,
-                                        fails,
-                                    } => {
-                                        place == 5 && *condition == 0 && *holds == 3 && *fails == 4
-                                    }
-                                    _ => false,
-                                };
-                                assert!(rt; right, "the node at {place}");
-                            }
-                        }
-                    }
-                    _ => assert!(rt; false, "it is an abstract production"),
-                }
+                assert!(rt; is_production(item));
             }
         }
         Err(_) => assert!(rt; false, "it is a specification"),
