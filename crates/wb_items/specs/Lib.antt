@@ -1,0 +1,5 @@
+pub mod Closing
+pub mod Found
+pub mod Kernels
+pub mod Lookaheads
+pub mod Table
