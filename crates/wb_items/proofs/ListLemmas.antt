@@ -43,4 +43,4 @@ pub at_default : {X : Type 0} (xs : List X) (j : ℕ) (d : X) → j < length xs 
 at_default xs j d lt = slice_get-get_or xs j d lt
 
 pub default_at : {X : Type 0} (xs : List X) (j : ℕ) (d z : X) → slice_get xs j ≡ Some z → slice_index_or xs j d ≡ z
-default_at xs j d z e = get_or_from_slice_get xs j d z e
+default_at xs j d z e = same_Some (slice_index_or xs j d) z (sym (slice_get-get_or xs j d (slice_get_within xs j z e)) ∙ e)

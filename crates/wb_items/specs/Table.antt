@@ -1,10 +1,10 @@
 -- Kernels as they are kept: what was found by following symbols from the kernel of the empty prefix.
-use Rattle.std.specs.Prelude.{◌≡◌, ◌↔◌, ◌⊎◌, ◌≤◌, ℕ, ◌<◌, List, [], ◌∷◌, ◌++◌, length, Some, Contains, slice_get, slice_index_or, map}
+use Rattle.std.specs.Prelude.{◌≡◌, ◌↔◌, ◌⊎◌, ℕ, ◌<◌, List, [], ◌∷◌, ◌++◌, length, Some, Contains, slice_get, slice_index_or, map}
 use Rattle.wb_base.specs.declared.symbol.Symbol.{Symbol}
 use Rattle.wb_base.specs.Grammar.{GrammarState}
 use Rattle.wb_grammars.specs.declared.item.Item.{Item}
 use Rattle.wb_grammars.specs.Rules.{IsRule}
-use Rattle.wb_grammars.specs.Items.{after_dot, advance, opening, HasItem, IsViablePrefix, SameKernel}
+use Rattle.wb_grammars.specs.Items.{after_dot, advance, HasItem, IsViablePrefix, SameKernel}
 use Rattle.wb_grammars.specs.Shape.{IsLive}
 use Rattle.wb_items.specs.declared.row.Move.{Move}
 use Rattle.wb_items.specs.Found.{FoundState}
@@ -33,17 +33,13 @@ pub record AreRules (g : GrammarState) (rows : List (List ℕ)) : Type 0 where
   pub len : length rows ≡ g.nonterminals
   pub each : (b : ℕ) (numbers : List ℕ) → slice_get rows b ≡ Some numbers → AreRulesOf g b numbers
 
--- no item of the list is the opening of a production of the grammar
-abbrev pub AreNoOpenings : GrammarState → List Item → Type 0
-AreNoOpenings g items = (q b : ℕ) (right : List Symbol) → IsRule g q b right → ¬ Contains items (opening q)
-
 -- each kernel is that of its prefix, in order, and no two are the same
 pub record AreKernelsOf (g : GrammarState) (prefixes : List (List Symbol)) (kernels : List (List Item)) : Type 0 where
   pub len : length kernels ≡ length prefixes
   pub first : slice_get prefixes 0 ≡ Some []
   pub viable : (s : ℕ) (prefix : List Symbol) → slice_get prefixes s ≡ Some prefix → IsViablePrefix g prefix
   pub exact : (s : ℕ) (prefix : List Symbol) (kernel : List Item) → slice_get prefixes s ≡ Some prefix → slice_get kernels s ≡ Some kernel → ListsKernel g prefix kernel
-  pub in_order : (s : ℕ) (kernel : List Item) → slice_get kernels s ≡ Some kernel → AreInOrder kernel
+  pub sorted : (s : ℕ) (kernel : List Item) → slice_get kernels s ≡ Some kernel → AreInOrder kernel
   pub once : (s t : ℕ) (kernel other : List Item) → slice_get kernels s ≡ Some kernel → slice_get kernels t ≡ Some other → SameItems kernel other → s ≡ t
 
 -- the symbol leads from the one prefix to the other, up to its kernel

@@ -8,6 +8,7 @@ ghost use Rattle.wb_items.specs.Lookaheads.{AreLookaheadsOf, AreEmpty, ChangesAt
 
 use crate::Kernels;
 use crate::looks::{Looks, Row};
+use crate::symbol::is_item;
 use std::alloc::{AllocError, Global};
 use std::marker::Model;
 use wb_base::{Grammar, push};
@@ -117,7 +118,7 @@ fn place_in(row: &[Looks], item: Item) -> usize
     ensures { slice_get (items_in row.now) result ≡ Some item }
 {
     'places: for (place, looks) in row.iter().enumerate() {
-        if looks.item == item {
+        if is_item(looks.item, item) {
             return place;
         }
     }

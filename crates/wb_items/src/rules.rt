@@ -1,6 +1,7 @@
 //! The productions of each nonterminal.
 
-ghost use Rattle.std.specs.Prelude.{◌≡◌, ◌<◌, IfOk};
+ghost use Rattle.std.specs.Prelude.{◌<◌, ◌+◌, IfOk, OnOk, length};
+ghost use Rattle.wb_items.specs.Passes.{RulesUpTo};
 ghost use Rattle.wb_items.specs.Table.{AreRulesOf, AreRules};
 
 use std::alloc::{AllocError, Global};
@@ -27,9 +28,25 @@ fn rules_of(
 {
     let mut numbers = Vec::new(alloc);
     'productions: for production in 0..grammar.productions() {
-        if grammar.left(production) == nonterminal {
-            push(&mut numbers, production)?;
-        }
+        add_rule(grammar, nonterminal, production, &mut numbers)?;
     }
     Ok(Sequence::from_vec(numbers))
+}
+
+// Adds a production, if it is one of the nonterminal.
+fn add_rule(
+    grammar: &Grammar,
+    nonterminal: usize,
+    production: usize,
+    numbers: &mut Vec<usize>,
+) -> Result<(), AllocError>
+    requires production { production < length grammar.now.productions }
+    requires before { RulesUpTo grammar.now nonterminal numbers.old.items production }
+    ensures { OnOk result (RulesUpTo grammar.now nonterminal numbers.new.items (production + 1)) }
+{
+    let _right = grammar.right(production);
+    if grammar.left(production) == nonterminal {
+        push(numbers, production)?;
+    }
+    Ok(())
 }

@@ -7,6 +7,7 @@ ghost use Rattle.wb_grammars.specs.Items.{after_dot, start_item};
 ghost use Rattle.wb_grammars.specs.Shape.{IsLive};
 ghost use Rattle.wb_items.specs.Kernels.{AreInOrder, ListsItems};
 ghost use Rattle.wb_items.specs.declared.row.Move.{Move};
+ghost use Rattle.wb_items.specs.Passes.{MovesUpTo};
 ghost use Rattle.wb_items.specs.Table.{AreKernelsOf, AreFollowed, AreMoves, AreRules, Grows, IsKernelFor, IsRow, IsTable, Leads};
 
 use crate::close::close;
@@ -14,7 +15,7 @@ use crate::found::Found;
 use crate::moved::moved;
 use crate::row::{Move, find_move};
 use crate::rules::rules;
-use crate::symbol::symbol_after;
+use crate::symbol::{item_at, symbol_after};
 use std::alloc::{AllocError, Global};
 use wb_base::{Grammar, Sequence, Symbol, push};
 use wb_grammars::Item;
@@ -102,12 +103,33 @@ fn moves(
     ensures row { IfOk result (λ row. IsRow grammar.now found.new.prefixes closure.now state row) }
 {
     let mut row = Vec::new(alloc);
-    'items: for &item in closure {
-        if let Some(symbol) = symbol_after(grammar, item) {
-            add_move(alloc, grammar, state, closure, symbol, found, &mut row)?;
-        }
+    'places: for place in 0..closure.len() {
+        follow_item(alloc, grammar, state, closure, place, found, &mut row)?;
     }
     Ok(Sequence::from_vec(row))
+}
+
+// Adds the move by the symbol behind the dot of the item at a place.
+fn follow_item(
+    alloc: Global,
+    grammar: &Grammar,
+    state: usize,
+    closure: &[Item],
+    place: usize,
+    found: &mut Found,
+    row: &mut Vec<Move>,
+) -> Result<(), AllocError>
+    requires live { IsLive grammar.now }
+    requires in_order { AreInOrder closure.now }
+    requires place { place < length closure.now }
+    requires before { MovesUpTo grammar.now found.old found.old closure.now state row.old.items place }
+    ensures { OnOk result (MovesUpTo grammar.now found.old found.new closure.now state row.new.items (place + 1)) }
+{
+    let item = item_at(closure, place);
+    if let Some(symbol) = symbol_after(grammar, item) {
+        add_move(alloc, grammar, state, closure, symbol, found, row)?;
+    }
+    Ok(())
 }
 
 // The move by a symbol before which an item has its dot, where the row has none by it, and the kernel that it leads to.
@@ -144,7 +166,8 @@ fn add_move(
             symbol,
             state: next,
         },
-    )
+    )?;
+    Ok(())
 }
 
 // The number of the kernel that a symbol leads to, which is added where it is new.
