@@ -1,8 +1,11 @@
 -- Items in order.
-use Rattle.std.proofs.Common.{◌≡◌, ◌≢◌, ℕ, ◌+◌, ◌-◌, ◌<◌, ◌≤◌, ◌⊎◌, zero, suc, List, [], ◌∷◌, ◌++◌, length, Some, refl, sym, ◌∙◌, ap, subst, inl, inr, arith}
+use Rattle.std.proofs.Common.{◌≡◌, ◌≢◌, ℕ, ◌+◌, ◌-◌, ◌<◌, ◌≤◌, ◌⊎◌, zero, suc, true, false, List, [], ◌∷◌, ◌++◌, length, Some, refl, sym, ◌∙◌, ap, subst, inl, inr, arith}
 use Rattle.std.specs.Prelude.{slice_get, slice_index_or, Contains, ◌↔◌}
 use Rattle.std.proofs.lemmas.Option.{slice_get_within, slice_get-get_or}
-use Rattle.std.proofs.lemmas.Bool.{cases_eq, cases_lt}
+use Rattle.std.proofs.lemmas.Bool.{cases_eq, cases_lt, true≢false}
+use Rattle.std.specs.Ordering.{is_lt, ordering_then, nat_cmp}
+use Rattle.std.specs.declared.cmp.Ordering.TheVariants.{Less, Equal}
+use Rattle.std.specs.Cmp.{nat_cmp_is}
 use Rattle.wb_base.specs.declared.symbol.Symbol.{Symbol}
 use Rattle.wb_base.specs.Grammar.{GrammarState}
 use Rattle.wb_grammars.specs.declared.item.Item.{Item}
@@ -10,7 +13,7 @@ use Rattle.wb_grammars.specs.Items.{after_dot, advance}
 use Rattle.wb_items.specs.Kernels.{Precedes, AreInOrder}
 use Rattle.wb_items.specs.Table.{IsMoved}
 use Rattle.wb_items.specs.Passes.{AreRising, StrictUpTo, MovedUpTo}
-use Rattle.wb_items.proofs.ListLemmas.{at_cases, at_stays, at_end, at_once, Contains-at, at_Contains}
+use Rattle.wb_items.proofs.ListLemmas.{default_at, at_cases, at_stays, at_end, at_once, Contains-at, at_Contains}
 
 same_item : (a b : Item) → a.production ≡ b.production → a.dot ≡ b.dot → a ≡ b
 same_item a b p q i = record { production = p i; dot = q i }
@@ -190,3 +193,14 @@ moved_done g closure x items n past h moved = (
   λ k. (let (j, i, r, lt, at, stands, e) = h.sound moved k in record { item = i; rest = r; listed = Contains-at closure j i at; before_dot = stands; is = e }),
   λ m. (let (j, at) = at_Contains closure m.item m.listed in
     subst (Contains items) (sym m.is) (h.complete j m.item m.rest (let lt = slice_get_within closure j m.item at in omega (arith, lt)) at m.before_dot)))
+
+less_by : (b a : Item) → Precedes b a → is_lt (ordering_then (nat_cmp b.production a.production) (nat_cmp b.dot a.dot)) ≡ true
+less_by b a (inl p) = ap (λ o. is_lt (ordering_then o (nat_cmp b.dot a.dot))) (sym (nat_cmp_is b.production a.production Less p))
+less_by b a (inr p) = ap (λ o. is_lt (ordering_then o (nat_cmp b.dot a.dot))) (sym (nat_cmp_is b.production a.production Equal p.0)) ∙ ap is_lt (sym (nat_cmp_is b.dot a.dot Less p.1))
+
+-- a sorted list rises
+pub sorted_rises : (items : List Item) → ((k : ℕ) (d : Item) → 0 ≤ k → k + 1 < length items → is_lt (ordering_then (nat_cmp (slice_index_or items (k + 1) d).production (slice_index_or items k d).production) (nat_cmp (slice_index_or items (k + 1) d).dot (slice_index_or items k d).dot)) ≡ false) → AreRising items
+sorted_rises items sorted k a b at at' less =
+    let here : slice_index_or items k a ≡ a = default_at items k a a at in
+    let there : slice_index_or items (k + 1) a ≡ b = default_at items (k + 1) a b at' in
+    true≢false (sym (less_by (slice_index_or items (k + 1) a) (slice_index_or items k a) (subst (λ z. Precedes z (slice_index_or items k a)) (sym there) (subst (Precedes b) (sym here) less))) ∙ sorted k a (omega arith) (slice_get_within items (k + 1) b at'))

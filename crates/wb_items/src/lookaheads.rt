@@ -4,7 +4,7 @@ ghost use Rattle.std.specs.Prelude.{◌≡◌, ◌<◌, ◌↔◌, ℕ, List, Bo
 ghost use Rattle.wb_termset.specs.Sets.{Has, IsUnion, Grew};
 ghost use Rattle.wb_grammars.specs.declared.item.Item.{Item};
 ghost use Rattle.wb_items.specs.declared.looks.Looks.{Looks};
-ghost use Rattle.wb_items.specs.Lookaheads.{AreLookaheadsOf, AreEmpty, ChangesAt, IsSetOf, items_in, row_of};
+ghost use Rattle.wb_items.specs.Lookaheads.{AreLookaheadsOf, AreEmpty, ChangesAt, Inserts, IsSetOf, items_in, row_of};
 
 use crate::Kernels;
 use crate::looks::{Looks, Row};
@@ -44,7 +44,9 @@ impl Lookaheads {
         ensures items { IfOk result (AreLookaheadsOf kernels.now) }
         ensures empty { IfOk result AreEmpty }
     {
-        let count = grammar.terminals() + 1;
+        let Some(count) = grammar.terminals().checked_add(1) else {
+            return Err(AllocError);
+        };
         let mut rows = Vec::new(alloc);
         'states: for state in 0..kernels.count() {
             push(&mut rows, Row::new(alloc, kernels.closure(state), count)?)?;
@@ -93,8 +95,7 @@ impl Lookaheads {
         requires state { state < length self.old }
         requires item { Contains (items_in (row_of self.old state)) item }
         requires terminal { (set : List Bool) → IsSetOf self.old state item set → terminal < length set }
-        ensures after { (place : ℕ) × (slice_get (items_in (row_of self.old state)) place ≡ Some item) × ChangesAt self.old state place (λ set. slice_set set terminal true) self.new }
-        ensures new { (set : List Bool) → IsSetOf self.old state item set → IsTrue result ↔ (¬ Has set terminal) }
+        ensures { Inserts self.old state item terminal self.new result }
     {
         let place = self.place(state, item);
         self.insert_at(state, place, terminal)

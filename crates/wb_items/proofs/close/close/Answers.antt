@@ -6,6 +6,8 @@ use Rattle.wb_base.specs.declared.symbol.Symbol.{Symbol}
 use Rattle.wb_grammars.specs.declared.item.Item.{Item}
 use Rattle.std.proofs.lemmas.List.Sorted.{Contains-permutation, IsPermutation-sym}
 use Rattle.wb_items.specs.Closing.{IsClosing}
+use Rattle.wb_items.specs.Passes.{AreRising}
+use Rattle.wb_items.proofs.OrderLemmas.{sorted_rises}
 use Rattle.wb_items.proofs.ClosingLemmas.{closing_start, closing_done}
 use Rattle.wb_items.proofs.close.close.Goals as goal
 
@@ -16,7 +18,7 @@ places-init c =
     (subst (λ closure. IsClosing g c.args.kernel.now (replicate g.nonterminals false) closure 0) (sym c.in_ok-closure.ensures.items) (closing_start g c.args.kernel.now))
 
 pub strictly-requires : goal.strictly-requires
-strictly-requires c = c.in_ok-sort.ensures.sorted
+strictly-requires c = subst AreRising (sym c.deref.ensures.value) (sorted_rises c.sort.new.self.items c.in_ok-sort.ensures.sorted)
 
 pub returns-clause-exact : goal.returns-clause-exact
 returns-clause-exact c =
