@@ -97,15 +97,15 @@ closing_more g items flags closure place item b rest numbers here before lt rule
         subst (InClosure g (Contains items)) (sym is) (opened item b rest q right (h.sound place item here) before rule)
   ];
   closed = λ p z c more lt' at is.
-    let inside : p < length closure = (let w = slice_get_within closure place item here in omega arith) in
-    let old = at_left closure (map opening numbers) p z inside at in
-    elim (cases_eq p place) [
-      | inl same ↦
-          let e : item ≡ z = at_once closure place item z here (subst (λ k. slice_get closure k ≡ Some z) same old) in
-          let f : b ≡ c = nonterminal_same b c rest more (sym before ∙ ap (after_dot g) e ∙ is) in
-          subst (Has (set flags b true)) f (Has-insert_same flags b lt)
-      | inr ne ↦ IsSubset-insert flags b c (h.closed p z c more (omega arith) old is)
-    ];
+      let inside : p < length closure = (let w = slice_get_within closure place item here in omega arith) in
+      let old = at_left closure (map opening numbers) p z inside at in
+      elim (cases_eq p place) [
+        | inl same ↦
+            let e : item ≡ z = at_once closure place item z here (subst (λ k. slice_get closure k ≡ Some z) same old) in
+            let f : b ≡ c = nonterminal_same b c rest more (sym before ∙ ap (after_dot g) e ∙ is) in
+            subst (Has (set flags b true)) f (Has-insert_same flags b lt)
+        | inr ne ↦ IsSubset-insert flags b c (h.closed p z c more (omega arith) old is)
+      ];
 }
 
 closing_back : (g : GrammarState) (items : List Item) (flags : List Bool) (closure : List Item) (place : ℕ) → length closure ≤ place → IsClosing g items flags closure place → {item : Item} → InClosure g (Contains items) item → Contains closure item

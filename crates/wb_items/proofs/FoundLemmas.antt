@@ -98,10 +98,11 @@ walked steps kernels h number at step symbols more e is pos (lt, whole) =
     let within : at - 1 < length steps = omega (arith, h.len, lt) in
     let there : slice_get steps (at - 1) ≡ Some step = slice_get-get_or steps (at - 1) step within ∙ ap Some (sym is) in
     let n : at - 1 + 1 ≡ at = omega arith in
-    let back = ap (λ k. slice_index_or (prefixes_of steps) k []) (sym n) ∙ step_back steps kernels (at - 1) step h there in
-    ((let b = h.back (at - 1) step there in omega (arith, b, lt)),
-     walk_more (slice_index_or (prefixes_of steps) at []) (slice_index_or (prefixes_of steps) step.from []) symbols step.symbol (slice_index_or (prefixes_of steps) number []) whole back
-     ∙ ap (λ m. slice_index_or (prefixes_of steps) step.from [] ++ reverse m) (sym e))
+    let back = ap (λ k. slice_index_or (prefixes_of steps) k []) (sym n) ∙ step_back steps kernels (at - 1) step h there in (
+      (let b = h.back (at - 1) step there in omega (arith, b, lt)),
+      walk_more (slice_index_or (prefixes_of steps) at []) (slice_index_or (prefixes_of steps) step.from []) symbols step.symbol (slice_index_or (prefixes_of steps) number []) whole back
+          ∙ ap (λ m. slice_index_or (prefixes_of steps) step.from [] ++ reverse m) (sym e),
+    )
 
 -- it has come to the empty prefix
 pub arrived : (steps : List Step) (number at : ℕ) (symbols : List Symbol) → at ≡ 0 → slice_index_or (prefixes_of steps) number [] ≡ slice_index_or (prefixes_of steps) at [] ++ reverse symbols → reverse symbols ≡ slice_index_or (prefixes_of steps) number []

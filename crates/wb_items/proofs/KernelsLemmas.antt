@@ -52,10 +52,12 @@ closure_sorted {closures = closures} h s = elim (cases_lt s (length closures)) [
 pub leads_next : {g : GrammarState} (found : FoundState) (s : ℕ) (x : Symbol) (next : ℕ) → Leads g found.prefixes s x next → IsNext g (length found.prefixes) (at found) s x next
 leads_next {g} found s x next l =
     let here : at found s ≡ l.prefix = default_at found.prefixes s [] l.prefix l.at in
-    let there : at found next ≡ l.other = default_at found.prefixes next [] l.other l.to in
-    (slice_get_within found.prefixes s l.prefix l.at, slice_get_within found.prefixes next l.other l.to,
-     subst (λ p. IsViablePrefix g (p ++ x ∷ [])) (sym here) l.viable,
-     subst (λ p. SameKernel g (at found next) (p ++ x ∷ [])) (sym here) (subst (λ p. SameKernel g p (l.prefix ++ x ∷ [])) (sym there) l.same))
+    let there : at found next ≡ l.other = default_at found.prefixes next [] l.other l.to in (
+      slice_get_within found.prefixes s l.prefix l.at,
+      slice_get_within found.prefixes next l.other l.to,
+      subst (λ p. IsViablePrefix g (p ++ x ∷ [])) (sym here) l.viable,
+      subst (λ p. SameKernel g (at found next) (p ++ x ∷ [])) (sym here) (subst (λ p. SameKernel g p (l.prefix ++ x ∷ [])) (sym there) l.same),
+    )
 
 row_there : {g : GrammarState} {found : FoundState} {closures : List (List Item)} {rows : List (List Move)} → IsTable g found closures rows → (s : ℕ) (row : List Move) → s < length found.prefixes → slice_get rows s ≡ Some row → IsRow g found.prefixes (slice_index_or closures s []) s row
 row_there {closures = closures} h s row lt there = h.followed.moves s (slice_index_or closures s []) row (closure_there h s lt) there
@@ -81,12 +83,12 @@ whole g found closures rows h = record {
     first = default_at found.prefixes 0 [] [] h.kernels.first;
     prefixes = λ s lt. h.kernels.viable s (at found s) (prefix_there h s lt);
     each_once = λ s t lt lt' same.
-      let one = slice_get-get_or found.kernels s [] (omega (arith, h.kernels.len)) in
-      let two = slice_get-get_or found.kernels t [] (omega (arith, h.kernels.len)) in
-      let first = kernel_is h s (slice_index_or found.kernels s []) lt one in
-      let second = kernel_is h t (slice_index_or found.kernels t []) lt' two in
-      h.kernels.once s t (slice_index_or found.kernels s []) (slice_index_or found.kernels t []) one two
-      (λ item. (λ k. (second item).1 ((same item).0 ((first item).0 k)), λ k. (first item).1 ((same item).1 ((second item).0 k))));
+        let one = slice_get-get_or found.kernels s [] (omega (arith, h.kernels.len)) in
+        let two = slice_get-get_or found.kernels t [] (omega (arith, h.kernels.len)) in
+        let first = kernel_is h s (slice_index_or found.kernels s []) lt one in
+        let second = kernel_is h t (slice_index_or found.kernels t []) lt' two in
+        h.kernels.once s t (slice_index_or found.kernels s []) (slice_index_or found.kernels t []) one two
+        (λ item. (λ k. (second item).1 ((same item).0 ((first item).0 k)), λ k. (first item).1 ((same item).1 ((second item).0 k))));
     all = λ prefix viable. all_there h viable.2;
     next = λ s x next. (λ n. n, λ n. n);
   };
@@ -125,13 +127,14 @@ find_some g found closures rows h items None k = tt
 find_some g found closures rows h items (Some s) k = found_lists h items s k
 
 pub find_none : (g : GrammarState) (found : FoundState) (closures : List (List Item)) (rows : List (List Move)) → IsTable g found closures rows → (items : List Item) (r : Option ℕ) → IfSome r (IsFoundAt found items) → IfNone r ((s : ℕ) (kernel : List Item) → slice_get found.kernels s ≡ Some kernel → ¬ SameItems kernel items) → IsNone r ↔ ((prefix : List Symbol) → IsViablePrefix g prefix → ¬ ListsKernel g prefix items)
-find_none g found closures rows h items None k n =
-    (λ _ prefix viable lists.
+find_none g found closures rows h items None k n = (
+  λ _ prefix viable lists.
       let (s, lt, same) = all_there h viable.2 in
       let there = slice_get-get_or found.kernels s [] (omega (arith, h.kernels.len)) in
       let kernel = kernel_is h s (slice_index_or found.kernels s []) lt there in
       n s (slice_index_or found.kernels s []) there (λ item. (λ c. (lists item).1 ((same item).0 ((kernel item).0 c)), λ c. (kernel item).1 ((same item).1 ((lists item).0 c)))),
-     λ _. refl)
+  λ _. refl,
+)
 find_none g found closures rows h items (Some s) k n =
     let (lt, lists) = found_lists h items s k in
     (λ e. absurd (true≢false e), λ without. absurd (without (at found s) (h.kernels.viable s (at found s) (prefix_there h s lt)) lists))

@@ -33,11 +33,12 @@ place_there row item n past before k =
 pub looks_more : (looks more : List Looks) (items : List Item) (n count : ℕ) (d : Item) (set : List Bool) → n < length items → set ≡ replicate count false → more ≡ looks ++ record { item = slice_index_or items n d; set = set } ∷ [] → (items_in looks ++ drop n items ≡ items) × All (λ l. length l.set ≡ count) looks × All (λ l. IsEmpty l.set) looks → (items_in more ++ drop (n + 1) items ≡ items) × All (λ l. length l.set ≡ count) more × All (λ l. IsEmpty l.set) more
 looks_more looks more items n count d set lt is e (front, widths, empty) =
     let entry : Looks = record { item = slice_index_or items n d; set = set } in
-    let n' : n + 1 ≡ suc n = omega arith in
-    (ap (λ l. items_in l ++ drop (n + 1) items) e ∙ ap (λ l. l ++ drop (n + 1) items) (map-append (λ (l : Looks). l.item) looks (entry ∷ [])) ∙ append_assoc (items_in looks) (slice_index_or items n d ∷ []) (drop (n + 1) items)
-     ∙ ap (λ k. items_in looks ++ (slice_index_or items n d ∷ drop k items)) n' ∙ ap (λ l. items_in looks ++ l) (sym (drop-cons items n d lt)) ∙ front,
-     subst (All (λ (l : Looks). length l.set ≡ count)) (sym e) (All-push (λ (l : Looks). length l.set ≡ count) looks entry widths (ap length is ∙ length-replicate count false)),
-     subst (All (λ (l : Looks). IsEmpty l.set)) (sym e) (All-push (λ (l : Looks). IsEmpty l.set) looks entry empty (subst IsEmpty (sym is) (IsEmpty-replicate count))))
+    let n' : n + 1 ≡ suc n = omega arith in (
+      ap (λ l. items_in l ++ drop (n + 1) items) e ∙ ap (λ l. l ++ drop (n + 1) items) (map-append (λ (l : Looks). l.item) looks (entry ∷ [])) ∙ append_assoc (items_in looks) (slice_index_or items n d ∷ []) (drop (n + 1) items)
+          ∙ ap (λ k. items_in looks ++ (slice_index_or items n d ∷ drop k items)) n' ∙ ap (λ l. items_in looks ++ l) (sym (drop-cons items n d lt)) ∙ front,
+      subst (All (λ (l : Looks). length l.set ≡ count)) (sym e) (All-push (λ (l : Looks). length l.set ≡ count) looks entry widths (ap length is ∙ length-replicate count false)),
+      subst (All (λ (l : Looks). IsEmpty l.set)) (sym e) (All-push (λ (l : Looks). IsEmpty l.set) looks entry empty (subst IsEmpty (sym is) (IsEmpty-replicate count))),
+    )
 
 -- the item at a place is that of the entry there
 pub item_there : (row : List Looks) (n : ℕ) (looks : Looks) (item : Item) → slice_get row n ≡ Some looks → slice_get (items_in row) n ≡ Some item → looks.item ≡ item

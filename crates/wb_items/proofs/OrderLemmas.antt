@@ -92,9 +92,9 @@ strict_pass items list m a b at here is h = record {
   ];
   sorted = h.sorted;
   last = λ k c z e at' there.
-    let n : k ≡ m + 1 = omega arith in
-    let f : c ≡ a = at_once items (m + 1) c b (subst (λ k. slice_get items k ≡ Some c) n at') here ∙ is in
-    subst (λ y. Precedes z y ⊎ (z ≡ y)) (sym f) (h.last m a z refl at there);
+      let n : k ≡ m + 1 = omega arith in
+      let f : c ≡ a = at_once items (m + 1) c b (subst (λ k. slice_get items k ≡ Some c) n at') here ∙ is in
+      subst (λ y. Precedes z y ⊎ (z ≡ y)) (sym f) (h.last m a z refl at there);
 }
 
 -- an item that all others precede
@@ -110,12 +110,12 @@ strict_take items list n b here all h = record {
   ];
   sorted = order_push list b h.sorted all;
   last = λ m a z e at k.
-    let n' : m ≡ n = omega arith in
-    let f : b ≡ a = at_once items n b a here (subst (λ k. slice_get items k ≡ Some a) n' at) in
-    elim (Contains_cases list b z k) [
-      | inl old ↦ inl (subst (Precedes z) f (all z old))
-      | inr is ↦ inr (sym is ∙ f)
-    ];
+      let n' : m ≡ n = omega arith in
+      let f : b ≡ a = at_once items n b a here (subst (λ k. slice_get items k ≡ Some a) n' at) in
+      elim (Contains_cases list b z k) [
+        | inl old ↦ inl (subst (Precedes z) f (all z old))
+        | inr is ↦ inr (sym is ∙ f)
+      ];
 }
 
 -- it is preceded by all where it differs from the one before, which doesn't follow it
@@ -150,7 +150,8 @@ strict_take_at items list more place b rising here is ne h =
 pub strict_done : (items list : List Item) (n : ℕ) → length items ≤ n → StrictUpTo items list n → (item : Item) → Contains list item ↔ Contains items item
 strict_done items list n past h item = (
   λ k. (let (j, lt, at) = h.sound item k in Contains-at items j item at),
-  λ k. (let (j, at) = at_Contains items item k in h.complete j item (let w = slice_get_within items j item at in omega (arith, w, past)) at))
+  λ k. (let (j, at) = at_Contains items item k in h.complete j item (let w = slice_get_within items j item at in omega (arith, w, past)) at),
+)
 
 pub moved_start : (g : GrammarState) (closure : List Item) (x : Symbol) → MovedUpTo g closure x [] 0
 moved_start g closure x = record {
@@ -174,8 +175,8 @@ moved_take g closure x items n item rest sorted here is h = record {
     | inr ne ↦ Contains_stays items (advance item) (advance other) (h.complete j other r (omega arith) at before)
   ];
   sorted = order_push items (advance item) h.sorted (λ z k.
-    let (j, i, r, lt, at, stands, e) = h.sound z k in
-    subst (λ y. Precedes y (advance item)) (sym e) (advance_precedes i item (sorted j n i item lt at here)));
+      let (j, i, r, lt, at, stands, e) = h.sound z k in
+      subst (λ y. Precedes y (advance item)) (sym e) (advance_precedes i item (sorted j n i item lt at here)));
 }
 
 pub moved_pass : (g : GrammarState) (closure : List Item) (x : Symbol) (items : List Item) (n : ℕ) (item : Item) → slice_get closure n ≡ Some item → ((rest : List Symbol) → after_dot g item ≡ x ∷ rest → ⊥) → MovedUpTo g closure x items n → MovedUpTo g closure x items (n + 1)
@@ -192,7 +193,8 @@ pub moved_done : (g : GrammarState) (closure : List Item) (x : Symbol) (items : 
 moved_done g closure x items n past h moved = (
   λ k. (let (j, i, r, lt, at, stands, e) = h.sound moved k in record { item = i; rest = r; listed = Contains-at closure j i at; before_dot = stands; is = e }),
   λ m. (let (j, at) = at_Contains closure m.item m.listed in
-    subst (Contains items) (sym m.is) (h.complete j m.item m.rest (let lt = slice_get_within closure j m.item at in omega (arith, lt)) at m.before_dot)))
+      subst (Contains items) (sym m.is) (h.complete j m.item m.rest (let lt = slice_get_within closure j m.item at in omega (arith, lt)) at m.before_dot)),
+)
 
 less_by : (b a : Item) → Precedes b a → is_lt (ordering_then (nat_cmp b.production a.production) (nat_cmp b.dot a.dot)) ≡ true
 less_by b a (inl p) = ap (λ o. is_lt (ordering_then o (nat_cmp b.dot a.dot))) (sym (nat_cmp_is b.production a.production Less p))

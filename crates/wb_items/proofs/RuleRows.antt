@@ -76,4 +76,5 @@ rows_more g rows n numbers (len, each) row = (
   λ b other at. elim (at_cases rows numbers b other at) [
     | inl old ↦ each b other old
     | inr last ↦ subst (AreRulesOf g b) last.1 (subst (λ z. AreRulesOf g z numbers) (sym (last.0 ∙ len)) row)
-  ])
+  ],
+)

@@ -34,9 +34,10 @@ first_found g = record {
 }
   where
     lists : ListsKernel g [] (start_item g ∷ [])
-    lists item =
-        (λ (k : Contains (start_item g ∷ []) item). let (j, at) = at_Contains (start_item g ∷ []) item k in (first_kernel g item).1 (sym (at_one (start_item g) item j at).1),
-         λ is. subst (Contains (start_item g ∷ [])) (sym ((first_kernel g item).0 is)) (Contains-at (start_item g ∷ []) 0 (start_item g) refl))
+    lists item = (
+      λ (k : Contains (start_item g ∷ []) item). let (j, at) = at_Contains (start_item g ∷ []) item k in (first_kernel g item).1 (sym (at_one (start_item g) item j at).1),
+      λ is. subst (Contains (start_item g ∷ [])) (sym ((first_kernel g item).0 is)) (Contains-at (start_item g ∷ []) 0 (start_item g) refl),
+    )
 
     one_in_order : AreInOrder (start_item g ∷ [])
     one_in_order i j a b lt p q = absurd (omega (arith, (at_one (start_item g) a i p).0, (at_one (start_item g) b j q).0))
@@ -102,9 +103,10 @@ leads_known g prefixes kernels s x prefix new next items h at k there same =
       at = at;
       to = to;
       viable = k.viable;
-      same = λ item.
-          (λ is. (k.exact item).0 ((same item).0 ((h.exact next other items to there item).1 is)),
-           λ is. (h.exact next other items to there item).0 ((same item).1 ((k.exact item).1 is)));
+      same = λ item. (
+        λ is. (k.exact item).0 ((same item).0 ((h.exact next other items to there item).1 is)),
+        λ is. (h.exact next other items to there item).0 ((same item).1 ((k.exact item).1 is)),
+      );
     }
 
 -- the kernel was put last
@@ -133,7 +135,8 @@ moved_kernel g live prefix x closure items lists exact in_order (first, rest, th
     λ listed. let m = (exact item).0 listed in let (t, v) = (lists m.item).0 m.listed in
         (moves_exact g live prefix x item).1 (record { item = m.item; rest = m.rest; within = closure_complete v; before_dot = m.before_dot; is = m.is }),
     λ is. let m = (moves_exact g live prefix x item).0 is in
-        (exact item).1 (record { item = m.item; rest = m.rest; listed = (lists m.item).1 (closure_sound prefix live m.within); before_dot = m.before_dot; is = m.is }));
+        (exact item).1 (record { item = m.item; rest = m.rest; listed = (lists m.item).1 (closure_sound prefix live m.within); before_dot = m.before_dot; is = m.is }),
+  );
   sorted = in_order;
 }
 
@@ -149,7 +152,8 @@ closure_from prefix items f (opened item b rest q right c is rule) = opened item
 pub closure_lists : (g : GrammarState) → IsLive g → (prefix : List Symbol) (items closure : List Item) → ListsKernel g prefix items → ((item : Item) → Contains closure item ↔ InClosure g (Contains items) item) → ListsItems g prefix closure
 closure_lists g live prefix items closure lists exact item = (
   λ there. closure_sound prefix live (closure_by prefix items (λ i k. (lists i).0 k) ((exact item).0 there)),
-  λ (t, v). (exact item).1 (closure_from prefix items (λ i k. (lists i).1 k) (closure_complete v)))
+  λ (t, v). (exact item).1 (closure_from prefix items (λ i k. (lists i).1 k) (closure_complete v)),
+)
 
 -- nothing has been followed yet
 pub none_followed : (g : GrammarState) (prefixes : List (List Symbol)) → AreFollowed g prefixes [] []

@@ -16,6 +16,8 @@ mod rules;
 mod search;
 mod symbol;
 mod table;
+#[cfg(test)]
+mod tests;
 
 pub use kernels::Kernels;
 pub use lookaheads::Lookaheads;

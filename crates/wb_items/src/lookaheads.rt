@@ -111,6 +111,17 @@ impl Lookaheads {
     {
         self.rows[state].insert(place, terminal)
     }
+
+    /// Adds each member of a set to the set at the place of an item, and answers whether one was new. Takes no memory.
+    pub fn unite_at(&mut self, state: usize, place: usize, set: &TermSet) -> bool
+        requires state { state < length self.old }
+        requires place { place < length (row_of self.old state) }
+        requires len { (looks : Looks) → slice_get (row_of self.old state) place ≡ Some looks → length looks.set ≡ length set.now }
+        ensures after { (looks : Looks) × (union : List Bool) × (slice_get (row_of self.old state) place ≡ Some looks) × IsUnion looks.set set.now union × (IsTrue result → Grew looks.set union) × (self.new ≡ slice_set self.old state (slice_set (row_of self.old state) place (record looks { set = union }))) }
+        ensures stayed { result ≡ false → self.new ≡ self.old }
+    {
+        self.rows[state].unite(place, set)
+    }
 }
 
 // The place of an item that stands in the row.

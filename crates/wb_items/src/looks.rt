@@ -63,4 +63,14 @@ impl Row {
     {
         self.looks[place].set.insert(terminal)
     }
+
+    // Adds each member of a set to the set at a place, and answers whether one was new.
+    pub(crate) fn unite(&mut self, place: usize, set: &TermSet) -> bool
+        requires place { place < length self.old }
+        requires len { (looks : Looks) → slice_get self.old place ≡ Some looks → length looks.set ≡ length set.now }
+        ensures after { (looks : Looks) × (union : List Bool) × (slice_get self.old place ≡ Some looks) × IsUnion looks.set set.now union × (IsTrue result → Grew looks.set union) × (self.new ≡ slice_set self.old place (record looks { set = union })) }
+        ensures stayed { result ≡ false → self.new ≡ self.old }
+    {
+        self.looks[place].set.union_with(set)
+    }
 }

@@ -32,8 +32,8 @@ returns-clause-followed c =
     rw (c.in_ok-push.ensures, c.in_ok-push-2.ensures)
     (followed_more g old new closures c.args.table.now.rows.items prefix c.in_ok-closure.closure c.in_ok-row.row grows
     (λ s p lt there.
-      let (p0, at0) = prefix_at c.requires.kernels s (omega (arith, lt, e, within)) in
-      subst (λ z. slice_get old.prefixes s ≡ Some z) (at_once new.prefixes s p0 p (grows.prefixes s p0 at0) there) at0)
+    let (p0, at0) = prefix_at c.requires.kernels s (omega (arith, lt, e, within)) in
+    subst (λ z. slice_get old.prefixes s ≡ Some z) (at_once new.prefixes s p0 p (grows.prefixes s p0 at0) there) at0)
     (subst (λ k. slice_get new.prefixes k ≡ Some prefix) e (grows.prefixes state prefix at))
     c.requires.followed
     (closure_lists g c.requires.live prefix c.kernel.result.now c.in_ok-closure.closure (c.requires.kernels.exact state prefix c.kernel.result.now at c.kernel.ensures) c.in_ok-closure.ensures.exact)
