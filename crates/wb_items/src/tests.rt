@@ -27,6 +27,11 @@ fn pointers(alloc: Global) -> Result<Grammar, AllocError> {
     Ok(grammar)
 }
 
+// Whether a kernel has these items in its closure.
+fn is_closure(kernels: &Kernels, state: usize, items: &[Item]) -> bool {
+    state < kernels.count() && kernels.closure(state) == items
+}
+
 // S -> if id, S -> id
 fn keywords(alloc: Global) -> Result<Grammar, AllocError> {
     let mut grammar = Grammar::new(alloc, 2, 1, 0);
@@ -97,7 +102,8 @@ fn kernels_of_pointers_are_those_on_paper(rt: HostRuntime) -> Result<(), Fail> {
             assert!(rt; has(&kernels, next(&kernels, equal, R), &[at(0, 3)]));
             assert_eq!(rt; next(&kernels, star, STAR), star);
             assert_eq!(rt; next(&kernels, first, EQ), None);
-            assert_eq!(rt; kernels.find(&[at(4, 1), at(0, 1), at(4, 1)]), left);
+            let repeated = [at(4, 1), at(0, 1), at(4, 1)];
+            assert_eq!(rt; kernels.find(&repeated), left);
             assert_eq!(rt; kernels.find(&[at(0, 1)]), None);
             assert_eq!(rt; kernels.find(&[]), None);
         }
@@ -124,7 +130,7 @@ fn kernels_of_small_grammars_are_those_on_paper(rt: HostRuntime) -> Result<(), F
     match kernels_of(rt.alloc(), &list)? {
         Some(kernels) => {
             assert_eq!(rt; kernels.count(), 3);
-            assert!(rt; kernels.closure(0) == [at(0, 0), at(1, 0), at(2, 0)]);
+            assert!(rt; is_closure(&kernels, 0, &[at(0, 0), at(1, 0), at(2, 0)]));
             let some = next(&kernels, Some(0), S);
             assert!(rt; has(&kernels, some, &[at(1, 1), at(2, 1)]));
             assert!(rt; has(&kernels, next(&kernels, some, STAR), &[at(1, 2)]));
