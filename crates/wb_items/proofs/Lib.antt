@@ -1,0 +1,11 @@
+pub mod ClosingLemmas
+pub mod FoundLemmas
+pub mod KernelsLemmas
+pub mod ListLemmas
+pub mod LooksLemmas
+pub mod MoveLemmas
+pub mod OrderLemmas
+pub mod RuleRows
+pub mod SameLemmas
+pub mod SymbolLemmas
+pub mod TableLemmas

@@ -1,0 +1,69 @@
+-- Items with sets: places of items, and rows with one more.
+use Rattle.std.proofs.Common.{◌≡◌, ℕ, ◌+◌, ◌<◌, ◌≤◌, suc, Bool, false, List, [], ◌∷◌, ◌++◌, All, length, get_or, map, drop, replicate, Some, refl, sym, ◌∙◌, ap, subst, inl, inr, arith, drop-cons}
+use Rattle.std.specs.Prelude.{slice_get, slice_index_or, Contains}
+use Rattle.std.specs.Option.{option_map}
+use Rattle.std.proofs.lemmas.Option.{slice_get-map, slice_get-get_or, slice_get_within}
+use Rattle.std.proofs.lemmas.List.{length-map, map-append, append_assoc, append-nil, drop_all, length-replicate}
+use Rattle.std.proofs.lemmas.List.Elements.{All-push, All-nil}
+use Rattle.std.proofs.lemmas.Bool.{cases_eq}
+use Rattle.wb_termset.specs.Sets.{IsEmpty}
+use Rattle.wb_termset.proofs.CallerLemmas.{IsEmpty-replicate}
+use Rattle.wb_grammars.specs.declared.item.Item.{Item}
+use Rattle.wb_items.specs.declared.looks.Looks.{Looks}
+use Rattle.wb_items.specs.Lookaheads.{items_in}
+use Rattle.wb_items.proofs.ListLemmas.{at_once, at_Contains}
+
+pub at_item : (row : List Looks) (n : ℕ) (looks : Looks) → n < length row → looks ≡ slice_index_or row n looks → slice_get (items_in row) n ≡ Some looks.item
+at_item row n looks lt e = slice_get-map (λ (l : Looks). l.item) row n ∙ ap (option_map (λ (l : Looks). l.item)) (slice_get-get_or row n looks lt ∙ ap Some (sym e))
+
+-- the item stands at no place before, nor here
+pub place_more : (row : List Looks) (item : Item) (n : ℕ) (looks : Looks) → n < length row → looks ≡ slice_index_or row n looks → (looks.item ≡ item → ⊥) → ((p : ℕ) → p < n → slice_get (items_in row) p ≡ Some item → ⊥) → (p : ℕ) → p < n + 1 → slice_get (items_in row) p ≡ Some item → ⊥
+place_more row item n looks lt e ne before p less at = elim (cases_eq p n) [
+  | inl same ↦ ne (at_once (items_in row) n looks.item item (at_item row n looks lt e) (subst (λ k. slice_get (items_in row) k ≡ Some item) same at))
+  | inr other ↦ before p (omega arith) at
+]
+
+-- it stands somewhere
+pub place_there : (row : List Looks) (item : Item) (n : ℕ) → length row ≤ n → ((p : ℕ) → p < n → slice_get (items_in row) p ≡ Some item → ⊥) → Contains (items_in row) item → ⊥
+place_there row item n past before k =
+    let (j, at) = at_Contains (items_in row) item k in
+    before j (let w = slice_get_within (items_in row) j item at in omega (arith, w, past, length-map row (λ (l : Looks). l.item))) at
+
+-- a row with an empty set more
+pub looks_more : (looks more : List Looks) (items : List Item) (n count : ℕ) (d : Item) (set : List Bool) → n < length items → set ≡ replicate count false → more ≡ looks ++ record { item = slice_index_or items n d; set = set } ∷ [] → (items_in looks ++ drop n items ≡ items) × All (λ l. length l.set ≡ count) looks × All (λ l. IsEmpty l.set) looks → (items_in more ++ drop (n + 1) items ≡ items) × All (λ l. length l.set ≡ count) more × All (λ l. IsEmpty l.set) more
+looks_more looks more items n count d set lt is e (front, widths, empty) =
+    let entry : Looks = record { item = slice_index_or items n d; set = set } in
+    let n' : n + 1 ≡ suc n = omega arith in (
+      ap (λ l. items_in l ++ drop (n + 1) items) e ∙ ap (λ l. l ++ drop (n + 1) items) (map-append (λ (l : Looks). l.item) looks (entry ∷ [])) ∙ append_assoc (items_in looks) (slice_index_or items n d ∷ []) (drop (n + 1) items)
+          ∙ ap (λ k. items_in looks ++ (slice_index_or items n d ∷ drop k items)) n' ∙ ap (λ l. items_in looks ++ l) (sym (drop-cons items n d lt)) ∙ front,
+      subst (All (λ (l : Looks). length l.set ≡ count)) (sym e) (All-push (λ (l : Looks). length l.set ≡ count) looks entry widths (ap length is ∙ length-replicate count false)),
+      subst (All (λ (l : Looks). IsEmpty l.set)) (sym e) (All-push (λ (l : Looks). IsEmpty l.set) looks entry empty (subst IsEmpty (sym is) (IsEmpty-replicate count))),
+    )
+
+-- the item at a place is that of the entry there
+pub item_there : (row : List Looks) (n : ℕ) (looks : Looks) (item : Item) → slice_get row n ≡ Some looks → slice_get (items_in row) n ≡ Some item → looks.item ≡ item
+item_there row n looks item at there =
+    at_once (items_in row) n looks.item item (slice_get-map (λ (l : Looks). l.item) row n ∙ ap (option_map (λ (l : Looks). l.item)) at) there
+
+-- the rows of the first kernels
+pub record RowsUpTo (closures : List (List Item)) (count : ℕ) (rows : List (List Looks)) (n : ℕ) : Type 0 where
+  pub front : map items_in rows ++ drop n closures ≡ closures
+  pub widths : All (All (λ looks. length looks.set ≡ count)) rows
+  pub empty : All (All (λ looks. IsEmpty looks.set)) rows
+
+pub looks_start : (closures : List (List Item)) (count : ℕ) → RowsUpTo closures count [] 0
+looks_start closures count = record { front = refl; widths = All-nil (All (λ (l : Looks). length l.set ≡ count)); empty = All-nil (All (λ (l : Looks). IsEmpty l.set)) }
+
+pub looks_row : (closures : List (List Item)) (count : ℕ) (rows more : List (List Looks)) (n : ℕ) (row : List Looks) → n < length closures → items_in row ≡ slice_index_or closures n [] → All (λ looks. length looks.set ≡ count) row → All (λ looks. IsEmpty looks.set) row → more ≡ rows ++ row ∷ [] → RowsUpTo closures count rows n → RowsUpTo closures count more (n + 1)
+looks_row closures count rows more n row lt is wide none_in e h =
+    let n' : n + 1 ≡ suc n = omega arith in
+    record {
+      front =
+          ap (λ r. map items_in r ++ drop (n + 1) closures) e ∙ ap (λ l. l ++ drop (n + 1) closures) (map-append items_in rows (row ∷ [])) ∙ append_assoc (map items_in rows) (items_in row ∷ []) (drop (n + 1) closures)
+          ∙ ap (λ k. map items_in rows ++ (items_in row ∷ drop k closures)) n' ∙ ap (λ i. map items_in rows ++ (i ∷ drop (suc n) closures)) is ∙ ap (λ l. map items_in rows ++ l) (sym (drop-cons closures n [] lt)) ∙ h.front;
+      widths = subst (All (All (λ (l : Looks). length l.set ≡ count))) (sym e) (All-push (All (λ (l : Looks). length l.set ≡ count)) rows row h.widths wide);
+      empty = subst (All (All (λ (l : Looks). IsEmpty l.set))) (sym e) (All-push (All (λ (l : Looks). IsEmpty l.set)) rows row h.empty none_in);
+    }
+
+pub looks_done : (closures : List (List Item)) (count : ℕ) (rows : List (List Looks)) (n : ℕ) → length closures ≤ n → RowsUpTo closures count rows n → map items_in rows ≡ closures
+looks_done closures count rows n past h = sym (append-nil (map items_in rows)) ∙ ap (λ l. map items_in rows ++ l) (sym (drop_all n closures past)) ∙ h.front

@@ -1,0 +1,14 @@
+use Rattle.std.proofs.Common.{◌≡◌, ◌<◌, ◌≤◌, ◌+◌, ◌-◌, ◌++◌, ◌∷◌, [], ℕ, List, Some, length, map, set, true, false, sym, ◌∙◌, ap, subst, arith}
+use Rattle.std.specs.Prelude.{slice_get, slice_index_or, Contains}
+use Rattle.std.proofs.lemmas.Bool.{true≢false}
+use Rattle.std.proofs.lemmas.Option.{slice_get_within}
+use Rattle.wb_base.specs.declared.symbol.Symbol.{Symbol}
+use Rattle.wb_grammars.specs.declared.item.Item.{Item}
+use Rattle.wb_items.proofs.OrderLemmas.{strict_start, strict_done}
+use Rattle.wb_items.proofs.close.strictly.Goals as goal
+
+pub places-init : goal.places-init
+places-init c = rw c.new-list.ensures.items (strict_start c.args.items.now)
+
+pub returns-clause-same : goal.returns-clause-same
+returns-clause-same c = rw c.from_vec.ensures (strict_done c.args.items.now c.places.list.items c.places.place (omega arith) c.places.invariant)

@@ -1,0 +1,10 @@
+use Rattle.std.proofs.Common.{◌≡◌, ◌<◌, length, sym, ◌∙◌, ap, subst, arith, Some, List, [], ◌∷◌}
+use Rattle.std.specs.Prelude.{slice_get, slice_index_or, IfSome, IfNone, IsNone, ◌↔◌}
+use Rattle.wb_items.specs.Kernels.{KernelsState, AreKernels, AreInOrder, ListsKernel, ListsItems, HasNoneBefore, LeadsTo, count_of, prefix_of, closure_of}
+use Rattle.wb_items.proofs.KernelsLemmas.{kernel_is}
+use Rattle.wb_items.proofs.kernels.Kernels.kernel.Goals as goal
+
+pub returns-clause-exact : goal.returns-clause-exact
+returns-clause-exact c =
+    let within = subst (λ (k : KernelsState). c.args.state < count_of k) (sym c.self.view_is) c.requires in
+    subst (λ (k : KernelsState). ListsKernel k.grammar (prefix_of k c.args.state) c.kernel.result.now) c.self.view_is (kernel_is c.self.invariant c.args.state c.kernel.result.now within c.kernel.ensures)

@@ -1,0 +1,21 @@
+use Rattle.std.proofs.Common.{◌≡◌, ◌<◌, ◌≤◌, ◌+◌, ◌-◌, ◌++◌, ◌∷◌, [], ℕ, List, Some, length, map, set, replicate, true, false, sym, ◌∙◌, ap, subst, arith, length-append}
+use Rattle.std.specs.Prelude.{slice_get, slice_index_or, Contains}
+use Rattle.std.proofs.lemmas.Bool.{true≢false}
+use Rattle.std.proofs.lemmas.Option.{slice_get_within}
+use Rattle.wb_base.specs.declared.symbol.Symbol.{Symbol}
+use Rattle.wb_grammars.specs.declared.item.Item.{Item}
+use Rattle.wb_items.proofs.LooksLemmas.{item_there}
+use Rattle.wb_items.specs.Lookaheads.{row_of}
+use Rattle.wb_items.proofs.lookaheads.Lookaheads.insert.Goals as goal
+
+pub returns : goal.returns
+returns c =
+    let (looks, at, after) = c.insert_at.ensures.after in
+    record {
+      place = c.place-place.result;
+      looks = looks;
+      at = at;
+      is = item_there (row_of c.args.self.now c.args.state) c.place-place.result looks c.args.item at c.place-place.ensures;
+      after = after;
+      was_new = c.insert_at.ensures.new looks at;
+    }

@@ -1,0 +1,11 @@
+use Rattle.std.proofs.Common.{◌≡◌, ◌<◌, ◌≤◌, ◌+◌, ◌-◌, ◌++◌, ◌∷◌, [], ℕ, List, Some, length, map, set, replicate, true, false, sym, ◌∙◌, ap, subst, arith, length-append}
+use Rattle.std.specs.Prelude.{slice_get, slice_index_or, Contains}
+use Rattle.std.proofs.lemmas.Bool.{true≢false}
+use Rattle.std.proofs.lemmas.Option.{slice_get_within}
+use Rattle.wb_base.specs.declared.symbol.Symbol.{Symbol}
+use Rattle.wb_grammars.specs.declared.item.Item.{Item}
+use Rattle.wb_items.proofs.LooksLemmas.{looks_more}
+use Rattle.wb_items.proofs.looks.Row.new.Goals as goal
+
+pub items-preserved : goal.items-preserved
+items-preserved c = looks_more c.items.looks.items c.push.new.list.items c.args.items.now c.items.item-index c.args.count _ c.in_ok-set.set c.items-test.true c.in_ok-set.ensures c.in_ok-push.ensures c.items.invariant

@@ -1,0 +1,22 @@
+use Rattle.std.proofs.Common.{◌≡◌, ◌<◌, ◌≤◌, ◌+◌, ◌-◌, ◌++◌, ◌∷◌, [], ℕ, List, Some, length, map, set, replicate, true, false, sym, ◌∙◌, ap, subst, arith, length-append}
+use Rattle.std.specs.Prelude.{slice_get, slice_index_or, Contains}
+use Rattle.std.proofs.lemmas.Bool.{true≢false}
+use Rattle.std.proofs.lemmas.Option.{slice_get_within}
+use Rattle.wb_base.specs.declared.symbol.Symbol.{Symbol}
+use Rattle.wb_grammars.specs.declared.item.Item.{Item}
+use Rattle.wb_grammars.specs.Items.{start_item}
+use Rattle.wb_items.specs.Found.{FoundState}
+use Rattle.wb_items.specs.Table.{AreKernelsOf}
+use Rattle.wb_items.proofs.TableLemmas.{first_found, none_followed}
+use Rattle.wb_items.proofs.table.build_table.Goals as goal
+
+pub states-init : goal.states-init
+states-init c =
+    let g = c.args.grammar.now in
+    let e : c.in_ok-new.field-0 ≡ record { prefixes = [] ∷ []; kernels = (start_item g ∷ []) ∷ [] } =
+    c.in_ok-new.ensures ∙ (λ i. record { prefixes = [] ∷ []; kernels = c.in_ok-first_kernel.ensures i ∷ [] }) in
+    record {
+      kernels = subst (λ (f : FoundState). AreKernelsOf g f.prefixes f.kernels) (sym e) (first_found g);
+      followed = rw (c.new-2.ensures.items, c.new-3.ensures.items) (none_followed g c.in_ok-new.field-0.prefixes);
+      within = rw c.new-2.ensures.items (omega arith);
+    }

@@ -1,0 +1,6 @@
+pub mod Closing
+pub mod Found
+pub mod Kernels
+pub mod Lookaheads
+pub mod Passes
+pub mod Table

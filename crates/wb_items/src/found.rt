@@ -1,0 +1,106 @@
+//! Kernels as they are found, each with the step that leads to it.
+
+ghost use Rattle.std.specs.Prelude.{◌≡◌, ◌<◌, ◌++◌, ◌∷◌, [], ℕ, List, IfOk, IfSome, IfNone, OnOk, Some, length, slice_get, slice_index_or};
+ghost use Rattle.wb_grammars.specs.declared.item.Item.{Item};
+ghost use Rattle.wb_items.specs.Table.{SameItems};
+
+use crate::search::find;
+use std::alloc::{AllocError, Global};
+use std::marker::Model;
+use wb_base::{Sequence, Symbol, push};
+use wb_grammars::Item;
+
+// A prefix goes on from that of an earlier number by a symbol.
+#[derive(Clone, Copy, Drop)]
+pub(crate) struct Step {
+    pub(crate) from: usize,
+    pub(crate) symbol: Symbol,
+}
+
+// Step n leads to the prefix of the number n + 1.
+#[derive(Drop)]
+pub(crate) struct Found {
+    steps: Vec<Step>,
+    kernels: Vec<Sequence<Item>>,
+}
+
+impl Model for Found {
+    ghost use Rattle.wb_items.specs.Found.{FoundState, prefixes_of, AreSteps};
+
+    ghost Value = { FoundState };
+
+    ghost view = { λ f. record { prefixes = prefixes_of f.steps.items; kernels = f.kernels.items } };
+
+    ghost invariant = { λ f. AreSteps f.steps.items f.kernels.items };
+}
+
+impl Found {
+    // The empty prefix with its items.
+    pub(crate) fn new(alloc: Global, kernel: Sequence<Item>) -> Result<Found, AllocError>
+        ensures { IfOk result (λ found. found ≡ record { prefixes = [] ∷ []; kernels = kernel ∷ [] }) }
+    {
+        let mut kernels = Vec::new(alloc);
+        push(&mut kernels, kernel)?;
+        Ok(Found {
+            steps: Vec::new(alloc),
+            kernels,
+        })
+    }
+
+    // How many there are.
+    pub(crate) fn len(&self) -> usize
+        ensures kernels { result ≡ length self.now.kernels }
+        ensures prefixes { result ≡ length self.now.prefixes }
+    {
+        self.kernels.len()
+    }
+
+    // The items of this number.
+    pub(crate) fn kernel(&self, number: usize) -> &[Item]
+        requires { number < length self.now.kernels }
+        ensures { slice_get self.now.kernels number ≡ Some result.now }
+    {
+        self.kernels[number].as_slice()
+    }
+
+    // The number with these items.
+    pub(crate) fn find(&self, items: &[Item]) -> Option<usize>
+        ensures found { IfSome result (λ s. (kernel : List Item) × (slice_get self.now.kernels s ≡ Some kernel) × SameItems kernel items.now) }
+        ensures none { IfNone result ((s : ℕ) (kernel : List Item) → slice_get self.now.kernels s ≡ Some kernel → ¬ SameItems kernel items.now) }
+    {
+        find(&self.kernels, items)
+    }
+
+    // Adds a prefix, which goes on from that of a number by a symbol, with its items.
+    pub(crate) fn add(
+        &mut self,
+        from: usize,
+        symbol: Symbol,
+        kernel: Sequence<Item>,
+    ) -> Result<(), AllocError>
+        requires { from < length self.old.kernels }
+        ensures { OnOk result (self.new ≡ record { prefixes = self.old.prefixes ++ (slice_index_or self.old.prefixes from [] ++ symbol ∷ []) ∷ []; kernels = self.old.kernels ++ kernel ∷ [] }) }
+    {
+        self.steps.reserve(1)?;
+        self.kernels.reserve(1)?;
+        self.steps.push_reserved(Step { from, symbol });
+        self.kernels.push_reserved(kernel);
+        Ok(())
+    }
+
+    // The prefix of this number.
+    pub(crate) fn prefix(&self, alloc: Global, number: usize) -> Result<Vec<Symbol>, AllocError>
+        requires { number < length self.now.kernels }
+        ensures { IfOk result (λ prefix. prefix.items ≡ slice_index_or self.now.prefixes number []) }
+    {
+        let mut symbols = Vec::new(alloc);
+        let mut at = number;
+        'steps: while at > 0 {
+            let step = self.steps[at - 1];
+            push(&mut symbols, step.symbol)?;
+            at = step.from;
+        }
+        symbols.reverse();
+        Ok(symbols)
+    }
+}

@@ -1,0 +1,108 @@
+ghost use Rattle.std.specs.Prelude.{◌≡◌, ◌<◌, ◌↔◌, ℕ, List, IfOk, IfSome, IfNone, IsNone, Contains, length};
+ghost use Rattle.wb_base.specs.declared.symbol.Symbol.{Symbol};
+ghost use Rattle.wb_grammars.specs.Items.{IsViablePrefix};
+ghost use Rattle.wb_grammar.specs.Facts.{AreFacts};
+ghost use Rattle.wb_items.specs.Kernels.{AreKernels, AreInOrder, HasNoneBefore, LeadsTo, ListsItems, ListsKernel, closure_of, count_of, prefix_of};
+
+use crate::found::Found;
+use crate::row::{Move, find_move};
+use crate::table::build_table;
+use std::alloc::{AllocError, Global};
+use std::marker::Model;
+use wb_base::{Grammar, Sequence, Symbol};
+use wb_grammar::Facts;
+use wb_grammars::Item;
+
+/// The kernels of a grammar's prefixes.
+///
+/// They are numbered from 0, in the order in which they are found from that of the empty prefix. Each number stands for a prefix
+/// that has the kernel. Contracts see the grammar, these prefixes, and the items of each.
+#[derive(Drop)]
+pub struct Kernels {
+    grammar: Grammar,
+    found: Found,
+    closures: Vec<Sequence<Item>>,
+    rows: Vec<Sequence<Move>>,
+}
+
+impl Model for Kernels {
+    ghost use Rattle.wb_items.specs.Kernels.{KernelsState};
+    ghost use Rattle.wb_items.specs.Table.{IsTable};
+
+    ghost Value = { KernelsState };
+
+    ghost view = { λ k. record { grammar = k.grammar; prefixes = k.found.prefixes; closures = k.closures.items } };
+
+    ghost invariant = { λ k. IsTable k.grammar k.found k.closures.items k.rows.items };
+}
+
+impl Kernels {
+    /// The kernels of a grammar that passed its analysis. The only error is want of memory.
+    ///
+    /// No clause bounds the time or how many kernels there are.
+    pub fn build(alloc: Global, grammar: &Grammar, facts: &Facts) -> Result<Kernels, AllocError>
+        requires { AreFacts grammar.now facts.now }
+        ensures grammar { IfOk result (λ kernels. kernels.grammar ≡ grammar.now) }
+        ensures exact { IfOk result (λ kernels. AreKernels kernels) }
+    {
+        let table = build_table(alloc, grammar)?;
+        Ok(Kernels {
+            grammar: grammar.copy()?,
+            found: table.found,
+            closures: table.closures,
+            rows: table.rows,
+        })
+    }
+
+    /// How many kernels there are.
+    pub fn count(&self) -> usize
+        ensures count { result ≡ count_of self.now }
+        ensures exact { AreKernels self.now }
+    {
+        self.found.len()
+    }
+
+    /// The items of a kernel, by production and then by dot. Takes no memory.
+    pub fn kernel(&self, state: usize) -> &[Item]
+        requires { state < count_of self.now }
+        ensures exact { ListsKernel self.now.grammar (prefix_of self.now state) result.now }
+        ensures in_order { AreInOrder result.now }
+    {
+        self.found.kernel(state)
+    }
+
+    /// The items of the prefixes that have a kernel, by production and then by dot. Takes no memory.
+    pub fn closure(&self, state: usize) -> &[Item]
+        requires { state < count_of self.now }
+        ensures is { result.now ≡ closure_of self.now state }
+        ensures exact { ListsItems self.now.grammar (prefix_of self.now state) result.now }
+        ensures in_order { AreInOrder result.now }
+    {
+        self.closures[state].as_slice()
+    }
+
+    /// The kernel of the prefix with one more symbol, where some item has its dot before the symbol. Takes no memory.
+    pub fn next(&self, state: usize, symbol: Symbol) -> Option<usize>
+        requires { state < count_of self.now }
+        ensures some { IfSome result (LeadsTo self.now state symbol) }
+        ensures none { IsNone result ↔ HasNoneBefore self.now.grammar (prefix_of self.now state) symbol }
+    {
+        find_move(self.rows[state].as_slice(), symbol)
+    }
+
+    /// The number of the kernel with these items, in any order and also where an item repeats. Takes no memory.
+    pub fn find(&self, items: &[Item]) -> Option<usize>
+        ensures some { IfSome result (λ state. (state < count_of self.now) × ListsKernel self.now.grammar (prefix_of self.now state) items.now) }
+        ensures none { IsNone result ↔ ((prefix : List Symbol) → IsViablePrefix self.now.grammar prefix → ¬ ListsKernel self.now.grammar prefix items.now) }
+    {
+        self.found.find(items)
+    }
+
+    /// The prefix that a number stands for. The only error is want of memory.
+    pub fn prefix(&self, alloc: Global, state: usize) -> Result<Vec<Symbol>, AllocError>
+        requires { state < count_of self.now }
+        ensures { IfOk result (λ prefix. prefix.items ≡ prefix_of self.now state) }
+    {
+        self.found.prefix(alloc, state)
+    }
+}

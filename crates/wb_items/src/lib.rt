@@ -1,0 +1,25 @@
+//! The kernels of a grammar's prefixes, with their items and moves, and sets of terminals for these items.
+//!
+//! A parser is at a kernel after each symbol. The kernels are numbered as they are found from that of the empty prefix, and each
+//! number stands for a prefix that has it. What the words mean is in `wb_grammars`. Which terminals are lookaheads is found in the
+//! crates above.
+#![tactic(auto)]
+
+mod close;
+mod found;
+mod kernels;
+mod lookaheads;
+mod looks;
+mod moved;
+mod row;
+mod rules;
+mod search;
+mod symbol;
+mod table;
+#[cfg(test)]
+mod tests;
+
+pub use kernels::Kernels;
+pub use lookaheads::Lookaheads;
+pub use looks::Looks;
+pub use wb_grammars::Item;

@@ -1,0 +1,138 @@
+//! Sets of terminals for the items of each kernel.
+
+ghost use Rattle.std.specs.Prelude.{◌≡◌, ◌<◌, ◌↔◌, ℕ, List, Bool, IsTrue, true, false, IfOk, Some, length, Contains, slice_get, slice_index_or, slice_set};
+ghost use Rattle.wb_termset.specs.Sets.{Has, IsUnion, Grew};
+ghost use Rattle.wb_grammars.specs.declared.item.Item.{Item};
+ghost use Rattle.wb_items.specs.declared.looks.Looks.{Looks};
+ghost use Rattle.wb_items.specs.Lookaheads.{AreLookaheadsOf, AreEmpty, ChangesAt, Inserts, IsSetOf, items_in, row_of};
+
+use crate::Kernels;
+use crate::looks::{Looks, Row};
+use crate::symbol::is_item;
+use std::alloc::{AllocError, Global};
+use std::marker::Model;
+use wb_base::{Grammar, push};
+use wb_grammars::Item;
+use wb_termset::TermSet;
+
+/// A set of terminals for each kernel and each of its items.
+///
+/// Kernels have their numbers, and the place of an item is that in the kernel's closure. A set is one of numbers up to the number
+/// of terminals, which stands for the end of a text. Contracts see for each kernel the list of its items with their sets.
+#[derive(Drop)]
+pub struct Lookaheads {
+    rows: Vec<Row>,
+}
+
+impl Model for Lookaheads {
+    ghost use Rattle.std.specs.Prelude.{List};
+    ghost use Rattle.wb_items.specs.declared.looks.Looks.{Looks};
+
+    ghost Value = { List (List Looks) };
+
+    ghost view = { λ l. l.rows.items };
+}
+
+impl Lookaheads {
+    /// Empty sets. The only error is want of memory.
+    pub fn new(
+        alloc: Global,
+        grammar: &Grammar,
+        kernels: &Kernels,
+    ) -> Result<Lookaheads, AllocError>
+        requires { kernels.now.grammar ≡ grammar.now }
+        ensures items { IfOk result (AreLookaheadsOf kernels.now) }
+        ensures empty { IfOk result AreEmpty }
+    {
+        let Some(count) = grammar.terminals().checked_add(1) else {
+            return Err(AllocError);
+        };
+        let mut rows = Vec::new(alloc);
+        'states: for state in 0..kernels.count() {
+            push(&mut rows, Row::new(alloc, kernels.closure(state), count)?)?;
+        }
+        Ok(Lookaheads { rows })
+    }
+
+    /// The items of a kernel with their sets, in the order of the kernel's closure. Takes no memory.
+    pub fn row(&self, state: usize) -> &[Looks]
+        requires { state < length self.now }
+        ensures { result.now ≡ row_of self.now state }
+    {
+        self.rows[state].as_slice()
+    }
+
+    /// The place of an item. Takes no memory.
+    pub fn place(&self, state: usize, item: Item) -> usize
+        requires state { state < length self.now }
+        requires item { Contains (items_in (row_of self.now state)) item }
+        ensures { slice_get (items_in (row_of self.now state)) result ≡ Some item }
+    {
+        place_in(self.rows[state].as_slice(), item)
+    }
+
+    /// The set at an item. Takes no memory.
+    pub fn of(&self, state: usize, item: Item) -> &TermSet
+        requires state { state < length self.now }
+        requires item { Contains (items_in (row_of self.now state)) item }
+        ensures { IsSetOf self.now state item result.now }
+    {
+        let place = self.place(state, item);
+        self.at(state, place)
+    }
+
+    /// The set at the place of an item. Takes no memory.
+    pub fn at(&self, state: usize, place: usize) -> &TermSet
+        requires state { state < length self.now }
+        requires place { place < length (row_of self.now state) }
+        ensures { (looks : Looks) × (slice_get (row_of self.now state) place ≡ Some looks) × (result.now ≡ looks.set) }
+    {
+        &self.row(state)[place].set
+    }
+
+    /// Adds a terminal, or the end, to the set at an item, and answers whether it was new. Takes no memory.
+    pub fn insert(&mut self, state: usize, item: Item, terminal: usize) -> bool
+        requires state { state < length self.old }
+        requires item { Contains (items_in (row_of self.old state)) item }
+        requires terminal { (set : List Bool) → IsSetOf self.old state item set → terminal < length set }
+        ensures { Inserts self.old state item terminal self.new result }
+    {
+        let place = self.place(state, item);
+        self.insert_at(state, place, terminal)
+    }
+
+    /// The same by the item's place.
+    pub fn insert_at(&mut self, state: usize, place: usize, terminal: usize) -> bool
+        requires state { state < length self.old }
+        requires place { place < length (row_of self.old state) }
+        requires terminal { (looks : Looks) → slice_get (row_of self.old state) place ≡ Some looks → terminal < length looks.set }
+        ensures after { ChangesAt self.old state place (λ set. slice_set set terminal true) self.new }
+        ensures new { (looks : Looks) → slice_get (row_of self.old state) place ≡ Some looks → IsTrue result ↔ (¬ Has looks.set terminal) }
+    {
+        self.rows[state].insert(place, terminal)
+    }
+
+    /// Adds each member of a set to the set at the place of an item, and answers whether one was new. Takes no memory.
+    pub fn unite_at(&mut self, state: usize, place: usize, set: &TermSet) -> bool
+        requires state { state < length self.old }
+        requires place { place < length (row_of self.old state) }
+        requires len { (looks : Looks) → slice_get (row_of self.old state) place ≡ Some looks → length looks.set ≡ length set.now }
+        ensures after { (looks : Looks) × (union : List Bool) × (slice_get (row_of self.old state) place ≡ Some looks) × IsUnion looks.set set.now union × (IsTrue result → Grew looks.set union) × (self.new ≡ slice_set self.old state (slice_set (row_of self.old state) place (record looks { set = union }))) }
+        ensures stayed { result ≡ false → self.new ≡ self.old }
+    {
+        self.rows[state].unite(place, set)
+    }
+}
+
+// The place of an item that stands in the row.
+fn place_in(row: &[Looks], item: Item) -> usize
+    requires { Contains (items_in row.now) item }
+    ensures { slice_get (items_in row.now) result ≡ Some item }
+{
+    'places: for (place, looks) in row.iter().enumerate() {
+        if is_item(looks.item, item) {
+            return place;
+        }
+    }
+    unreachable!()
+}

@@ -1,0 +1,195 @@
+//! All kernels of a grammar, found by following each symbol from each.
+
+ghost use Rattle.std.specs.Prelude.{◌≡◌, ◌<◌, ◌≤◌, ◌+◌, ◌++◌, ◌∷◌, [], ℕ, List, IfOk, OnOk, Contains, Some, length, slice_get, vec_len};
+ghost use Rattle.wb_base.specs.declared.symbol.Symbol.{Symbol};
+ghost use Rattle.wb_grammars.specs.declared.item.Item.{Item};
+ghost use Rattle.wb_grammars.specs.Items.{after_dot, start_item};
+ghost use Rattle.wb_grammars.specs.Shape.{IsLive};
+ghost use Rattle.wb_items.specs.Kernels.{AreInOrder, ListsItems};
+ghost use Rattle.wb_items.specs.declared.row.Move.{Move};
+ghost use Rattle.wb_items.specs.Passes.{MovesUpTo};
+ghost use Rattle.wb_items.specs.Table.{AreKernelsOf, AreFollowed, AreMoves, AreRules, Grows, IsKernelFor, IsRow, IsTable, Leads};
+
+use crate::close::close;
+use crate::found::Found;
+use crate::moved::moved;
+use crate::row::{Move, find_move};
+use crate::rules::rules;
+use crate::symbol::{item_at, symbol_after};
+use std::alloc::{AllocError, Global};
+use wb_base::{Grammar, Sequence, Symbol, push};
+use wb_grammars::Item;
+
+// The kernels with their items and moves.
+#[derive(Drop)]
+pub(crate) struct Table {
+    pub(crate) found: Found,
+    pub(crate) closures: Vec<Sequence<Item>>,
+    pub(crate) rows: Vec<Sequence<Move>>,
+}
+
+// All kernels of the grammar.
+pub(crate) fn build_table(alloc: Global, grammar: &Grammar) -> Result<Table, AllocError>
+    requires { IsLive grammar.now }
+    ensures { IfOk result (λ table. IsTable grammar.now table.found table.closures.items table.rows.items) }
+{
+    let rules = rules(alloc, grammar)?;
+    let mut table = Table {
+        found: Found::new(alloc, first_kernel(alloc, grammar)?)?,
+        closures: Vec::new(alloc),
+        rows: Vec::new(alloc),
+    };
+    'states: while table.closures.len() < table.found.len() {
+        follow(alloc, grammar, &rules, &mut table)?;
+    }
+    Ok(table)
+}
+
+// The kernel of the empty prefix.
+fn first_kernel(alloc: Global, grammar: &Grammar) -> Result<Sequence<Item>, AllocError>
+    ensures { IfOk result (λ kernel. kernel ≡ start_item grammar.now ∷ []) }
+{
+    let mut kernel = Vec::new(alloc);
+    push(
+        &mut kernel,
+        Item {
+            production: grammar.productions(),
+            dot: 0,
+        },
+    )?;
+    Ok(Sequence::from_vec(kernel))
+}
+
+// Adds the items and the moves of the next kernel, and the kernels that these lead to.
+fn follow(
+    alloc: Global,
+    grammar: &Grammar,
+    rules: &[Sequence<usize>],
+    table: &mut Table,
+) -> Result<(), AllocError>
+    requires live { IsLive grammar.now }
+    requires rules { AreRules grammar.now rules.now }
+    requires within { vec_len table.old.closures < length table.old.found.kernels }
+    requires kernels { AreKernelsOf grammar.now table.old.found.prefixes table.old.found.kernels }
+    requires followed { AreFollowed grammar.now table.old.found.prefixes table.old.closures.items table.old.rows.items }
+    ensures kernels { OnOk result (AreKernelsOf grammar.now table.new.found.prefixes table.new.found.kernels) }
+    ensures followed { OnOk result (AreFollowed grammar.now table.new.found.prefixes table.new.closures.items table.new.rows.items) }
+    ensures within { OnOk result (length table.new.closures.items ≤ length table.new.found.kernels) }
+    ensures more { OnOk result (length table.new.closures.items ≡ length table.old.closures.items + 1) }
+{
+    let state = table.closures.len();
+    let closure = close(alloc, grammar, rules, table.found.kernel(state))?;
+    let row = moves(alloc, grammar, state, closure.as_slice(), &mut table.found)?;
+    push(&mut table.closures, closure)?;
+    push(&mut table.rows, row)?;
+    Ok(())
+}
+
+// The moves from a kernel with these items, and the kernels that they lead to.
+fn moves(
+    alloc: Global,
+    grammar: &Grammar,
+    state: usize,
+    closure: &[Item],
+    found: &mut Found,
+) -> Result<Sequence<Move>, AllocError>
+    requires live { IsLive grammar.now }
+    requires state { state < length found.old.kernels }
+    requires exact { (prefix : List Symbol) → slice_get found.old.prefixes state ≡ Some prefix → ListsItems grammar.now prefix closure.now }
+    requires in_order { AreInOrder closure.now }
+    requires kernels { AreKernelsOf grammar.now found.old.prefixes found.old.kernels }
+    ensures kernels { OnOk result (AreKernelsOf grammar.now found.new.prefixes found.new.kernels) }
+    ensures grows { OnOk result (Grows found.old found.new) }
+    ensures row { IfOk result (λ row. IsRow grammar.now found.new.prefixes closure.now state row) }
+{
+    let mut row = Vec::new(alloc);
+    'places: for place in 0..closure.len() {
+        follow_item(alloc, grammar, state, closure, place, found, &mut row)?;
+    }
+    Ok(Sequence::from_vec(row))
+}
+
+// Adds the move by the symbol behind the dot of the item at a place.
+fn follow_item(
+    alloc: Global,
+    grammar: &Grammar,
+    state: usize,
+    closure: &[Item],
+    place: usize,
+    found: &mut Found,
+    row: &mut Vec<Move>,
+) -> Result<(), AllocError>
+    requires live { IsLive grammar.now }
+    requires in_order { AreInOrder closure.now }
+    requires place { place < length closure.now }
+    requires before { MovesUpTo grammar.now found.old found.old closure.now state row.old.items place }
+    ensures { OnOk result (MovesUpTo grammar.now found.old found.new closure.now state row.new.items (place + 1)) }
+{
+    let item = item_at(closure, place);
+    if let Some(symbol) = symbol_after(grammar, item) {
+        add_move(alloc, grammar, state, closure, symbol, found, row)?;
+    }
+    Ok(())
+}
+
+// The move by a symbol before which an item has its dot, where the row has none by it, and the kernel that it leads to.
+fn add_move(
+    alloc: Global,
+    grammar: &Grammar,
+    state: usize,
+    closure: &[Item],
+    symbol: Symbol,
+    found: &mut Found,
+    row: &mut Vec<Move>,
+) -> Result<(), AllocError>
+    requires live { IsLive grammar.now }
+    requires state { state < length found.old.kernels }
+    requires exact { (prefix : List Symbol) → slice_get found.old.prefixes state ≡ Some prefix → ListsItems grammar.now prefix closure.now }
+    requires in_order { AreInOrder closure.now }
+    requires occurs { (item : Item) × (rest : List Symbol) × Contains closure.now item × (after_dot grammar.now item ≡ symbol ∷ rest) }
+    requires kernels { AreKernelsOf grammar.now found.old.prefixes found.old.kernels }
+    requires row { AreMoves grammar.now found.old.prefixes state row.old.items }
+    ensures kernels { OnOk result (AreKernelsOf grammar.now found.new.prefixes found.new.kernels) }
+    ensures grows { OnOk result (Grows found.old found.new) }
+    ensures row { OnOk result (AreMoves grammar.now found.new.prefixes state row.new.items) }
+    ensures keeps { OnOk result ((move : Move) → Contains row.old.items move → Contains row.new.items move) }
+    ensures has { OnOk result ((next : ℕ) × Contains row.new.items (record { symbol = symbol; state = next })) }
+{
+    if find_move(row, symbol).is_some() {
+        return Ok(());
+    }
+    let kernel = moved(alloc, grammar, closure, symbol)?;
+    let next = number_of(grammar, state, symbol, kernel, found)?;
+    push(
+        row,
+        Move {
+            symbol,
+            state: next,
+        },
+    )?;
+    Ok(())
+}
+
+// The number of the kernel that a symbol leads to, which is added where it is new.
+fn number_of(
+    grammar: &Grammar,
+    state: usize,
+    symbol: Symbol,
+    kernel: Sequence<Item>,
+    found: &mut Found,
+) -> Result<usize, AllocError>
+    requires live { IsLive grammar.now }
+    requires state { state < length found.old.kernels }
+    requires kernel { (prefix : List Symbol) → slice_get found.old.prefixes state ≡ Some prefix → IsKernelFor grammar.now (prefix ++ symbol ∷ []) kernel }
+    requires kernels { AreKernelsOf grammar.now found.old.prefixes found.old.kernels }
+    ensures kernels { OnOk result (AreKernelsOf grammar.now found.new.prefixes found.new.kernels) }
+    ensures grows { OnOk result (Grows found.old found.new) }
+    ensures leads { IfOk result (Leads grammar.now found.new.prefixes state symbol) }
+{
+    if let Some(next) = found.find(kernel.as_slice()) {
+        return Ok(next);
+    }
+    let next = found.len();
+    found.add(state, symbol, kernel)?;
+    Ok(next)
+}
