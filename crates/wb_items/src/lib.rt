@@ -16,8 +16,6 @@ mod rules;
 mod search;
 mod symbol;
 mod table;
-#[cfg(test)]
-mod tests;
 
 pub use kernels::Kernels;
 pub use lookaheads::Lookaheads;

@@ -16,69 +16,71 @@ fn outcome(alloc: Global, text: &[u8]) -> Result<(&'static str, usize), AllocErr
     }
 }
 
+// The first text, of those with their code and place, that has another outcome.
+fn first_wrong<'a>(
+    alloc: Global,
+    cases: &[(&'a str, &str, usize)],
+) -> Result<Option<&'a str>, AllocError> {
+    for (text, code, at) in cases {
+        let (is, place) = outcome(alloc, text.as_bytes())?;
+        if is != *code || place != *at {
+            return Ok(Some(*text));
+        }
+    }
+    Ok(None)
+}
+
+const HEADERS: [(&str, &str, usize); 14] = [
+    ("", "S1", 0),
+    ("  // c", "S1", 6),
+    ("format 1; host h;", "items", 0),
+    ("format 01; host h; // c", "items", 0),
+    ("format 1; host", "S1", 14),
+    ("format 1; host host;", "S1", 15),
+    ("format 3; host a;", "S3", 0),
+    ("format 3", "S1", 7),
+    ("format 3 host a;", "S1", 7),
+    ("format -1 ; x", "S3", 0),
+    ("format 9223372036854775808;", "S1", 7),
+    ("format 1; host a; host b;", "S1", 18),
+    ("format 1; extension e for h; prefer A over B;", "items", 1),
+    ("format 1; extension e;", "S1", 21),
+];
+
+const ITEMS: [(&str, &str, usize); 16] = [
+    ("format 1; host r; terminal T /a(/;", "R1", 32),
+    ("format 1; host h; terminal T /a*/;", "R2", 1),
+    ("format 1; host h; terminal Tt /b?/; ignore U /(/;", "R2", 2),
+    (
+        "format 1; host h; ignore U /(/; terminal Tt /b?/;",
+        "R1",
+        29,
+    ),
+    ("format 1; host h; terminal T /(/; x", "S1", 34),
+    ("format 1; host h; terminal T /a\\//;", "items", 1),
+    ("format 1; host h; terminal T //;", "S1", 32),
+    ("format 1; host h; syn v : real int;", "S1", 31),
+    ("format 1; host h; forward on N;", "S1", 30),
+    ("format 1; host h; forward on N needs { };", "items", 1),
+    ("format 1; host h; occurs a on N needs { b, };", "S1", 43),
+    ("format 1; host h; concrete p : N ::= { }", "items", 1),
+    ("format 1; host h; concrete p : N ::= { };", "S1", 40),
+    ("format 1; host h; aspect p { top.a = f(); }", "items", 1),
+    ("format 1; host h; aspect p { top.a = (1); }", "S1", 37),
+    ("format 1; host h; aspect p { a.b.c = 1; }", "S1", 32),
+];
+
 #[test]
 fn a_header_has_its_outcome(rt: HostRuntime) -> Result<(), Fail> {
-    let cases = [
-        ("", "S1", 0),
-        ("  // c", "S1", 6),
-        ("format 1; host h;", "items", 0),
-        ("format 01; host h; // c", "items", 0),
-        ("format 1; host", "S1", 14),
-        ("format 1; host host;", "S1", 15),
-        ("format 3; host a;", "S3", 0),
-        ("format 3", "S1", 7),
-        ("format 3 host a;", "S1", 7),
-        ("format -1 ; x", "S3", 0),
-        ("format 9223372036854775808;", "S1", 7),
-        ("format 1; host a; host b;", "S1", 18),
-        ("format 1; extension e for h; prefer A over B;", "items", 1),
-        ("format 1; extension e;", "S1", 21),
-    ];
-    for (text, code, at) in cases {
-        let answer = outcome(rt.alloc(), text.as_bytes())?;
-        assert!(rt;
-            answer == (code, at),
-            "{text:?} is {} at {}",
-            answer.0,
-            answer.1
-        );
-    }
+    let wrong = first_wrong(rt.alloc(), &HEADERS)?;
+    assert!(rt; wrong.is_none(), "{wrong:?}");
     Ok(())
 }
 
 #[test]
 fn a_pattern_or_an_item_has_its_outcome(rt: HostRuntime) -> Result<(), Fail> {
-    let cases = [
-        ("format 1; host r; terminal T /a(/;", "R1", 32),
-        ("format 1; host h; terminal T /a*/;", "R2", 1),
-        ("format 1; host h; terminal Tt /b?/; ignore U /(/;", "R2", 2),
-        (
-            "format 1; host h; ignore U /(/; terminal Tt /b?/;",
-            "R1",
-            29,
-        ),
-        ("format 1; host h; terminal T /(/; x", "S1", 34),
-        ("format 1; host h; terminal T /a\\//;", "items", 1),
-        ("format 1; host h; terminal T //;", "S1", 32),
-        ("format 1; host h; syn v : real int;", "S1", 31),
-        ("format 1; host h; forward on N;", "S1", 30),
-        ("format 1; host h; forward on N needs { };", "items", 1),
-        ("format 1; host h; occurs a on N needs { b, };", "S1", 43),
-        ("format 1; host h; concrete p : N ::= { }", "items", 1),
-        ("format 1; host h; concrete p : N ::= { };", "S1", 40),
-        ("format 1; host h; aspect p { top.a = f(); }", "items", 1),
-        ("format 1; host h; aspect p { top.a = (1); }", "S1", 37),
-        ("format 1; host h; aspect p { a.b.c = 1; }", "S1", 32),
-    ];
-    for (text, code, at) in cases {
-        let answer = outcome(rt.alloc(), text.as_bytes())?;
-        assert!(rt;
-            answer == (code, at),
-            "{text:?} is {} at {}",
-            answer.0,
-            answer.1
-        );
-    }
+    let wrong = first_wrong(rt.alloc(), &ITEMS)?;
+    assert!(rt; wrong.is_none(), "{wrong:?}");
     Ok(())
 }
 
