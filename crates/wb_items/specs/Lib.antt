@@ -1,6 +1,7 @@
 pub mod Closing
 pub mod Found
 pub mod Kernels
+pub mod LookaheadSets
 pub mod Lookaheads
 pub mod Passes
 pub mod Table

@@ -12,8 +12,16 @@ use Rattle.wb_eval.specs.Asked.{IsAskedAttribute, root_of}
 use Rattle.wb_eval.proofs.Uniqueness.{one_answer_at}
 use Rattle.wb_program.specs.Files.{FileIs, KnownFile, IsTooLongOr}
 use Rattle.wb_program.specs.Language.{IsHost, IsNoHost, IsTerm, IsNoTerm}
-use Rattle.wb_program.specs.Lines.{usage_line, refused_line, unknown_line, fault_line, value_line}
-use Rattle.wb_program.specs.Words.{OnValue, InCommandSet}
+use Rattle.wb_program.specs.Lines.{usage_line, refused_line, unknown_line, fault_line, value_line, spec_refused_line}
+use Rattle.wb_syntax.specs.SpecText.{SpecState}
+use Rattle.wb_syntax.specs.Canonical.{IsCanonical}
+use Rattle.wb_reader.specs.Refusals.{HasCause, IsAcceptedText}
+use Rattle.wb_reader.specs.Patterns.{IsNoMemory}
+use Rattle.wb_reader.proofs.Excluding.{none_refused, one_refusal as one_refusal_of}
+use Rattle.wb_reader.proofs.OneText.{one_text}
+use Rattle.wb_printer.proofs.CallerLemmas.{one_canonical}
+use Rattle.wb_program.specs.ShowReport.{ShowReport}
+use Rattle.wb_program.specs.Words.{OnValue, OnShow, InCommandSet}
 use Rattle.wb_program.specs.Report.{OnHost, OnTerm, RefusesHost, RefusesTerm, RootHas, GivesValue, GivesFault, LacksAttribute, TermReport, RefusalReport, ValueReport, IsReport}
 use Rattle.wb_program.specs.declared.status.Status.{Status}
 use Rattle.wb_program.specs.declared.status.Status.TheVariants.{Done, Usage, SpecRefused, OperationFault, Absent, ReadFault, WriteFault, NoMemory, UnknownAttribute}
@@ -38,7 +46,7 @@ in_set [] P p = absurd p
 in_set (command ∷ []) P p = absurd p
 in_set (command ∷ host ∷ []) P p = absurd p
 in_set (command ∷ host ∷ term ∷ []) P p = absurd p
-in_set (command ∷ host ∷ term ∷ attribute ∷ []) P p = (p.0, tt)
+in_set (command ∷ host ∷ term ∷ attribute ∷ []) P p = inl (p.0, tt)
 in_set (command ∷ host ∷ term ∷ attribute ∷ word ∷ words) P p = absurd p
 
 -- a small host is none that is refused
@@ -153,10 +161,51 @@ module _ (files : Files) (host term attribute : List ℕ) where
   one_value_report s t bytes others (inr a) (inl b) = absurd (not_both s others bytes b.1 a)
   one_value_report s t bytes others (inr a) (inr b) = one_term_report s t bytes others a b
 
+-- words that show a file are in the command set
+shown_in_set : (words : List (List ℕ)) (P : List ℕ → Type 0) → OnShow words P → InCommandSet words
+shown_in_set [] P p = absurd p
+shown_in_set (command ∷ []) P p = absurd p
+shown_in_set (command ∷ file ∷ []) P p = inr (p.0, tt)
+shown_in_set (command ∷ file ∷ word ∷ words) P p = absurd p
+
+-- two facts of words are facts of one file
+on_show : (words : List (List ℕ)) (P Q : List ℕ → Type 0) (R : Type 0) → ((file : List ℕ) → P file → Q file → R) → OnShow words P → OnShow words Q → R
+on_show [] P Q R both p q = absurd p
+on_show (command ∷ []) P Q R both p q = absurd p
+on_show (command ∷ file ∷ []) P Q R both p q = both file p.1 q.1
+on_show (command ∷ file ∷ word ∷ words) P Q R both p q = absurd p
+
+-- words of one command are none of the other
+not_shown : (words : List (List ℕ)) (P : List ℕ → List ℕ → List ℕ → Type 0) (Q : List ℕ → Type 0) → OnValue words P → ¬ OnShow words Q
+not_shown [] P Q p q = p
+not_shown (command ∷ []) P Q p q = p
+not_shown (command ∷ host ∷ []) P Q p q = p
+not_shown (command ∷ host ∷ term ∷ []) P Q p q = p
+not_shown (command ∷ host ∷ term ∷ attribute ∷ []) P Q p q = q
+not_shown (command ∷ host ∷ term ∷ attribute ∷ word ∷ words) P Q p q = p
+
+module _ (files : Files) (file : List ℕ) (s t : Status) (bytes others : List ℕ) where
+  -- two reports of a file that is shown are one
+  one_show : ShowReport (Some files) s bytes file → ShowReport (Some files) t others file → (s ≡ t) × (bytes ≡ others)
+  one_show (inl a) (inl b) =
+      let same : a.1.spec ≡ b.1.spec = on_file (files file) (λ c. IsAcceptedText c a.1.spec) (λ c. IsAcceptedText c b.1.spec) (a.1.spec ≡ b.1.spec) (λ c p q. one_text c a.1.spec b.1.spec p.1 q.1) a.1.read b.1.read in
+      (a.0 ∙ sym b.0, one_canonical b.1.spec bytes others (subst (λ (x : SpecState). IsCanonical x bytes) same a.1.text) b.1.text)
+  one_show (inl a) (inr b) = absurd (b.1.told_of (on_file (files file) (λ c. IsAcceptedText c a.1.spec) (λ c. HasCause c b.1.refusal) (IsNoMemory b.1.refusal) (λ c p q. none_refused c a.1.spec b.1.refusal p q) a.1.read b.1.cause))
+  one_show (inr a) (inl b) = absurd (a.1.told_of (on_file (files file) (λ c. IsAcceptedText c b.1.spec) (λ c. HasCause c a.1.refusal) (IsNoMemory a.1.refusal) (λ c p q. none_refused c b.1.spec a.1.refusal p q) b.1.read a.1.cause))
+  one_show (inr a) (inr b) =
+      let same : a.1.refusal ≡ b.1.refusal = on_file (files file) (λ c. HasCause c a.1.refusal) (λ c. HasCause c b.1.refusal) (a.1.refusal ≡ b.1.refusal) (λ c p q. one_refusal_of c a.1.refusal b.1.refusal p q a.1.told_of b.1.told_of) a.1.cause b.1.cause in
+      (a.0 ∙ sym b.0, a.1.line ∙ (ap (spec_refused_line file) same ∙ sym b.1.line))
+
 -- words and told files have one report
 pub one_report : (words : List (List ℕ)) (files : Files) (s t : Status) (bytes others : List ℕ) → IsReport words (Some files) s bytes → IsReport words (Some files) t others → (s ≡ t) × (bytes ≡ others)
 one_report words files s t bytes others (inl a) (inl b) = (a.0 ∙ sym b.0, a.2 ∙ sym b.2)
-one_report words files s t bytes others (inl a) (inr b) = absurd (a.1 (in_set words (ValueReport (Some files) t others) b))
-one_report words files s t bytes others (inr a) (inl b) = absurd (b.1 (in_set words (ValueReport (Some files) s bytes) a))
-one_report words files s t bytes others (inr a) (inr b) =
+one_report words files s t bytes others (inl a) (inr (inl b)) = absurd (a.1 (in_set words (ValueReport (Some files) t others) b))
+one_report words files s t bytes others (inl a) (inr (inr b)) = absurd (a.1 (shown_in_set words (ShowReport (Some files) t others) b))
+one_report words files s t bytes others (inr (inl a)) (inl b) = absurd (b.1 (in_set words (ValueReport (Some files) s bytes) a))
+one_report words files s t bytes others (inr (inr a)) (inl b) = absurd (b.1 (shown_in_set words (ShowReport (Some files) s bytes) a))
+one_report words files s t bytes others (inr (inl a)) (inr (inl b)) =
     on_value words (ValueReport (Some files) s bytes) (ValueReport (Some files) t others) ((s ≡ t) × (bytes ≡ others)) (λ host term attribute p q. one_value_report files host term attribute s t bytes others p q) a b
+one_report words files s t bytes others (inr (inl a)) (inr (inr b)) = absurd (not_shown words (ValueReport (Some files) s bytes) (ShowReport (Some files) t others) a b)
+one_report words files s t bytes others (inr (inr a)) (inr (inl b)) = absurd (not_shown words (ValueReport (Some files) t others) (ShowReport (Some files) s bytes) b a)
+one_report words files s t bytes others (inr (inr a)) (inr (inr b)) =
+    on_show words (ShowReport (Some files) s bytes) (ShowReport (Some files) t others) ((s ≡ t) × (bytes ≡ others)) (λ file p q. one_show files file s t bytes others p q) a b

@@ -5,6 +5,8 @@ pub mod Files
 pub mod Language
 pub mod Lines
 pub mod Report
+pub mod ShowReport
+pub mod Shown
 pub mod StatusNumber
 pub mod Words
 pub mod Written

@@ -10,7 +10,8 @@ use Rattle.wb_eval.specs.Asked.{IsAskedAttribute, root_of}
 use Rattle.wb_program.specs.Files.{KnownFile, IsTooLongOr}
 use Rattle.wb_program.specs.Language.{IsHost, IsNoHost, IsTerm, IsNoTerm}
 use Rattle.wb_program.specs.Lines.{usage_line, refused_line, unknown_line, fault_line, value_line}
-use Rattle.wb_program.specs.Words.{InCommandSet, OnValue}
+use Rattle.wb_program.specs.ShowReport.{ShowReport}
+use Rattle.wb_program.specs.Words.{InCommandSet, OnValue, OnShow}
 use Rattle.wb_program.specs.declared.status.Status.{Status}
 use Rattle.wb_program.specs.declared.status.Status.TheVariants.{Done, Usage, SpecRefused, OperationFault, Absent, ReadFault, WriteFault, NoMemory, UnknownAttribute}
 
@@ -88,3 +89,4 @@ abbrev pub IsReport : List (List ℕ) → Option Files → Status → List ℕ �
 IsReport words told status bytes =
     ((status ≡ Usage) × (¬ InCommandSet words) × (bytes ≡ usage_line))
     ⊎ OnValue words (ValueReport told status bytes)
+    ⊎ OnShow words (ShowReport told status bytes)

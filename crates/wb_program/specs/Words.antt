@@ -1,5 +1,5 @@
 -- The command set, as lists of texts.
-use Rattle.std.specs.Prelude.{◌≡◌, ◌≢◌, ℕ, List, [], ◌∷◌, map, String, string_bytes}
+use Rattle.std.specs.Prelude.{◌≡◌, ◌≢◌, ◌⊎◌, ℕ, List, [], ◌∷◌, map, String, string_bytes}
 use Rattle.std.specs.declared.alloc.Global.{Global}
 use lib.Chars.{codes}
 
@@ -28,6 +28,16 @@ abbrev pub OnValue : List (List ℕ) → (List ℕ → List ℕ → List ℕ →
 OnValue (command ∷ host ∷ term ∷ attribute ∷ []) P = IsValue command host term attribute × P host term attribute
 OnValue words P = ⊥
 
+-- the words of `show SPEC`
+pub record IsShow (command file : List ℕ) : Type 0 where
+  pub command_is : command ≡ codes "show"
+  pub file_is : IsPositional file
+
+-- the words are `show SPEC`, and the file meets this
+abbrev pub OnShow : List (List ℕ) → (List ℕ → Type 0) → Type 0
+OnShow (command ∷ file ∷ []) P = IsShow command file × P file
+OnShow words P = ⊥
+
 -- the words are one of the commands
 abbrev pub InCommandSet : List (List ℕ) → Type 0
-InCommandSet words = OnValue words (λ host term attribute. Unit {0})
+InCommandSet words = OnValue words (λ host term attribute. Unit {0}) ⊎ OnShow words (λ file. Unit {0})

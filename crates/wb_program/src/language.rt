@@ -9,8 +9,8 @@ ghost use Rattle.wb_program.specs.Language.{IsHost, IsNoHost, IsTerm, IsNoTerm};
 
 use crate::reading::{Contents, Stop, read_file};
 use std::alloc::{AllocError, Global};
-use wb_small_reader::{read_small_spec, read_small_term};
 use wb_small::{SmallRefusal, SmallSpec, SmallTerm};
+use wb_small_reader::{read_small_spec, read_small_term};
 use wb_world::Shelf;
 
 /// Reads the host of a file, where it has one.

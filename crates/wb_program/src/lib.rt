@@ -9,6 +9,7 @@ mod answer;
 mod language;
 mod lines;
 mod reading;
+mod show;
 mod status;
 mod top;
 mod words;

@@ -7,6 +7,7 @@ ghost use Rattle.wb_program.specs.Written.{Wrote};
 
 use crate::answer::{Answer, answer_value, usage};
 use crate::reading::Stop;
+use crate::show::answer_show;
 use crate::status::Status;
 use crate::words::{Command, command_of};
 use crate::writing::write_report;
@@ -62,6 +63,7 @@ fn answer<S: Shelf>(alloc: Global, words: &[String], shelf: &mut S) -> Result<An
                 attribute,
             },
         ) => answer_value(alloc, shelf, host, term, attribute),
+        Some(Command::Show { file }) => answer_show(alloc, shelf, file),
         None => Ok(usage(alloc)?),
     }
 }

@@ -1,6 +1,6 @@
 //! The words of the command line, read as a command.
 ghost use Rattle.std.specs.Prelude.{◌↔◌, IsTrue, IfSome, IfNone};
-ghost use Rattle.wb_program.specs.Words.{texts, IsPositional, InCommandSet};
+ghost use Rattle.wb_program.specs.Words.{texts, IsPositional, InCommandSet, OnValue, OnShow};
 ghost use Rattle.wb_program.specs.Commands.{IsCommand};
 
 /// A command with its words.
@@ -11,12 +11,26 @@ pub enum Command<'a> {
         term: &'a str,
         attribute: &'a str,
     },
+    Show {
+        file: &'a str,
+    },
 }
 
 /// The command that the words are, where they are one.
 pub fn command_of(words: &[String]) -> Option<Command<'_>>
     ensures some { IfSome result (λ command. IsCommand command (texts words.now)) }
     ensures none { IfNone result (¬ InCommandSet (texts words.now)) }
+{
+    match value_of(words) {
+        Some(command) => Some(command),
+        None => show_of(words),
+    }
+}
+
+// The words as `value HOST TERM ATTR`.
+fn value_of(words: &[String]) -> Option<Command<'_>>
+    ensures some { IfSome result (λ command. IsCommand command (texts words.now)) }
+    ensures none { IfNone result (¬ OnValue (texts words.now) (λ host term attribute. Unit {0})) }
 {
     let [command, host, term, attribute] = words else {
         return None;
@@ -34,6 +48,22 @@ pub fn command_of(words: &[String]) -> Option<Command<'_>>
             term,
             attribute,
         })
+    } else {
+        None
+    }
+}
+
+// The words as `show SPEC`.
+fn show_of(words: &[String]) -> Option<Command<'_>>
+    ensures some { IfSome result (λ command. IsCommand command (texts words.now)) }
+    ensures none { IfNone result (¬ OnShow (texts words.now) (λ file. Unit {0})) }
+{
+    let [command, file] = words else {
+        return None;
+    };
+    let file = file.as_str();
+    if command.as_str() == "show" && is_positional(file) {
+        Some(Command::Show { file })
     } else {
         None
     }

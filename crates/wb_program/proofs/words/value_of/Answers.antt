@@ -2,7 +2,7 @@
 use Rattle.std.proofs.Common.{rules, string_bytes, refl, ◌≡◌, List, [], ◌∷◌, length, get_or, arith, sym, ◌∙◌, ap}
 use lib.Chars.{codes}
 use Rattle.wb_program.specs.Words.{texts}
-use Rattle.wb_program.proofs.words.command_of.Goals as goal
+use Rattle.wb_program.proofs.words.value_of.Goals as goal
 
 -- a list of four is its four elements
 four : {X : Type 0} (xs : List X) (a b c d : X) → length xs ≡ 4 → a ≡ get_or xs 0 a → b ≡ get_or xs 1 b → c ≡ get_or xs 2 c → d ≡ get_or xs 3 d → xs ≡ a ∷ b ∷ c ∷ d ∷ []

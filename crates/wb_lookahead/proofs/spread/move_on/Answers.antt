@@ -1,0 +1,22 @@
+use Rattle.std.proofs.Common.{◌≡◌, ◌+◌, ◌<◌, List, Ok, Err, length, refl, sym, subst, arith, rules}
+use Rattle.wb_grammars.specs.States.{move}
+use Rattle.wb_lookahead.specs.Spreading.{Lists}
+use Rattle.wb_lookahead.proofs.StepLemmas.{step_has, step_once}
+use Rattle.std.proofs.lemmas.Result.{on_ok_weaker}
+use Rattle.wb_lookahead.proofs.spread.move_on.Goals as goal
+
+pub spread-requires-clause-place : goal.spread-requires-clause-place
+spread-requires-clause-place c =
+    let (rest, is) = c.requires.symbol in
+    record { state = c.in-Some.ensures.some.1; has = step_has c.requires.kernels c.args.place.state c.args.symbol c.in-Some.state c.args.place.item rest c.in-Some.ensures.some c.requires.place.has is }
+
+pub spread-requires-clause-flows : goal.spread-requires-clause-flows
+spread-requires-clause-flows c =
+    let (rest, is) = c.requires.symbol in
+    λ t h. move c.args.place.item c.args.symbol rest c.args.place.state (c.requires.flows t h) is c.in-Some.ensures.some refl
+
+pub returns-clause-lists : goal.returns-clause-lists
+returns-clause-lists c =
+    on_ok_weaker c.spread.result
+    (λ lists t next leads h. subst (λ z. Lists c.spread.new.lookaheads z (record { production = c.args.place.item.production; dot = c.args.place.item.dot + 1 }) t) (step_once c.requires.kernels c.args.place.state c.args.symbol c.in-Some.state next c.in-Some.ensures.some leads) (lists t h))
+    c.spread.ensures.lists

@@ -1,0 +1,80 @@
+//! How what is listed at an item is passed on from there.
+
+ghost use Rattle.std.specs.Prelude.{◌≡◌, ◌+◌, ◌<◌, ◌∷◌, ◌++◌, [], ℕ, List, OnOk, length};
+ghost use Rattle.wb_base.specs.declared.symbol.Symbol.{Symbol};
+ghost use Rattle.wb_base.specs.declared.symbol.Symbol.TheVariants.{Terminal, Nonterminal};
+ghost use Rattle.wb_termset.specs.Sets.{Has};
+ghost use Rattle.wb_grammars.specs.Rules.{IsRule};
+ghost use Rattle.wb_grammars.specs.Derives.{IsFirst};
+ghost use Rattle.wb_grammars.specs.Items.{after_dot, opening};
+ghost use Rattle.wb_grammar.specs.Facts.{AreFacts};
+ghost use Rattle.wb_items.specs.Kernels.{AreKernels};
+ghost use Rattle.wb_lookahead.specs.Spreading.{AreSound, FlowsTo, IsPassedOn, IsPlace, Lists, Spreads};
+
+use crate::begins::begin_of;
+use crate::behind::{rest_behind, symbol_behind};
+use crate::spread::{Place, move_on, open_all};
+use std::alloc::{AllocError, Global};
+use wb_base::{Grammar, Symbol};
+use wb_grammar::Facts;
+use wb_items::{Kernels, Lookaheads};
+use wb_termset::TermSet;
+
+// Spreads what is listed at a place to each item that it flows to from there.
+pub(crate) fn pass_on(
+    alloc: Global,
+    grammar: &Grammar,
+    facts: &Facts,
+    kernels: &Kernels,
+    place: Place,
+    lookaheads: &mut Lookaheads,
+    waiting: &mut Vec<Place>,
+) -> Result<(), AllocError>
+    requires kernels { AreKernels kernels.now }
+    requires grammar { kernels.now.grammar ≡ grammar.now }
+    requires facts { AreFacts grammar.now facts.now }
+    requires place { IsPlace kernels.now place }
+    requires sound { AreSound kernels.now lookaheads.old waiting.old.items }
+    ensures sound { OnOk result (AreSound kernels.now lookaheads.new waiting.new.items) }
+    ensures spreads { OnOk result (Spreads lookaheads.old waiting.old.items lookaheads.new waiting.new.items) }
+    ensures passed { OnOk result ((t : ℕ) → Lists lookaheads.old place.state place.item t → IsPassedOn kernels.now lookaheads.new place.state place.item t) }
+{
+    let Some(symbol) = symbol_behind(grammar, place.item) else {
+        return Ok(());
+    };
+    let set = lookaheads.of(place.state, place.item).copy()?;
+    move_on(kernels, place, symbol, &set, lookaheads, waiting)?;
+    open_behind(alloc, grammar, facts, kernels, place, symbol, &set, lookaheads, waiting)
+}
+
+// Spreads what begins the symbols behind a nonterminal to the openings of its productions.
+fn open_behind(
+    alloc: Global,
+    grammar: &Grammar,
+    facts: &Facts,
+    kernels: &Kernels,
+    place: Place,
+    symbol: Symbol,
+    set: &TermSet,
+    lookaheads: &mut Lookaheads,
+    waiting: &mut Vec<Place>,
+) -> Result<(), AllocError>
+    requires kernels { AreKernels kernels.now }
+    requires grammar { kernels.now.grammar ≡ grammar.now }
+    requires facts { AreFacts grammar.now facts.now }
+    requires place { IsPlace kernels.now place }
+    requires symbol { (rest : List Symbol) × (after_dot grammar.now place.item ≡ symbol ∷ rest) }
+    requires len { length set.now ≡ kernels.now.grammar.terminals + 1 }
+    requires flows { (t : ℕ) → Has set.now t → FlowsTo kernels.now place.state place.item t }
+    requires sound { AreSound kernels.now lookaheads.old waiting.old.items }
+    ensures sound { OnOk result (AreSound kernels.now lookaheads.new waiting.new.items) }
+    ensures spreads { OnOk result (Spreads lookaheads.old waiting.old.items lookaheads.new waiting.new.items) }
+    ensures lists { OnOk result ((t u b q : ℕ) (rest right : List Symbol) → after_dot grammar.now place.item ≡ Nonterminal b ∷ rest → IsRule grammar.now q b right → Has set.now t → IsFirst grammar.now (rest ++ Terminal t ∷ []) u → Lists lookaheads.new place.state (opening q) u) }
+{
+    let Symbol::Nonterminal(nonterminal) = symbol else {
+        return Ok(());
+    };
+    let rest = rest_behind(grammar, place.item);
+    let begin = begin_of(alloc, grammar, facts, rest, set)?;
+    open_all(grammar, kernels, nonterminal, place.state, &begin, lookaheads, waiting)
+}

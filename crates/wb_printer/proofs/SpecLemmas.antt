@@ -1,0 +1,70 @@
+-- The whole text of a specification.
+use Rattle.std.proofs.Common.{◌≡◌, ℕ, ℤ, pos, Bool, true, List, [], ◌∷◌, ◌++◌, refl, sym, ap, ◌∙◌, subst, append_assoc}
+use Rattle.std.specs.Prelude.{codes}
+use Rattle.std.specs.Fmt.{digits}
+use Rattle.wb_tokens.specs.declared.token.Token.{Token}
+use Rattle.wb_tokens.specs.declared.token.Token.TheVariants as t
+use Rattle.wb_tokens.specs.declared.word.Word.TheVariants as w
+use Rattle.wb_tokens.specs.declared.punctuation.Punctuation.TheVariants as p
+use Rattle.wb_syntax.specs.declared.written.WrittenSpec.{WrittenSpec}
+use Rattle.wb_syntax.specs.Tokens.{Lexeme}
+use Rattle.wb_syntax.specs.ItemGrammar as item
+use Rattle.wb_syntax.specs.ItemGrammar.{IsHeader, IsSpecification}
+use Rattle.wb_syntax.specs.SpecText.{SpecState, HasText}
+use Rattle.wb_syntax.specs.Canonical.{line_of, IsCanonical}
+use Rattle.wb_printer.specs.Output.{Output, put, after, ended, after_lines}
+use Rattle.wb_printer.specs.ItemTokens.{header_tokens, AreLinesOf}
+use Rattle.wb_printer.proofs.GrammarTokens.{tokens, of_header}
+use Rattle.wb_printer.proofs.CanonicalLemmas.{text_lines, text_of, ended_line, ended_closely, after_all}
+
+-- the header of a specification
+header_of : (xs : List Lexeme) (written : WrittenSpec) → IsSpecification xs written → (u : List Lexeme) × IsHeader u written.host written.name written.for_host
+header_of xs written (item.whole {u = u} h i j header k e) = (u, header)
+
+spec_header : (spec : SpecState) → HasText spec → (u : List Lexeme) × IsHeader u spec.host spec.name spec.for_host
+spec_header spec (bytes, r) =
+    let h = header_of r.text.tokens r.written r.text.specification in (
+      h.0,
+      subst (λ (b : Bool). IsHeader h.0 b spec.name spec.for_host) (sym r.read.host)
+          (subst (λ (n : List ℕ). IsHeader h.0 r.written.host n spec.for_host) (sym r.read.name)
+          (subst (λ (n : List ℕ). IsHeader h.0 r.written.host r.written.name n) (sym r.read.for_host) h.1)),
+    )
+
+-- the tokens of the first line
+abbrev pub format_tokens : List Token
+format_tokens = t.Word w.Format ∷ t.Int (pos 1) ∷ t.Punctuation p.Semicolon ∷ []
+
+format_line : line_of format_tokens ≡ codes "format 1;"
+unfolding digits
+format_line = refl
+
+-- lines one behind the other
+three_parts : (a b c : List ℕ) → (([] ++ a ++ 10 ∷ []) ++ b ++ 10 ∷ []) ++ c ≡ a ++ 10 ∷ (b ++ 10 ∷ c)
+three_parts a b c = simp append_assoc
+
+-- what is written so is the canonical text
+pub canonical_text : (spec : SpecState) (h : HasText spec) (o a b c : Output) (lines : List (List Token)) → lines ≡ (text_lines spec h).lines → o ≡ record { text = []; closely = true }
+    → a ≡ ended (after o format_tokens) → b ≡ ended (after a (header_tokens spec.host spec.name spec.for_host)) → c ≡ after_lines b lines → IsCanonical spec c.text
+canonical_text spec h o a b c lines here begun first second third =
+    let u = spec_header spec h in
+    let l = text_lines spec h in
+    let closely : o.closely ≡ true = ap (λ (x : Output). x.closely) begun in
+    let front : a.text ≡ [] ++ line_of format_tokens ++ 10 ∷ []
+    = ap (λ (x : Output). x.text) first ∙ (ended_line o format_tokens closely ∙ ap (λ (x : Output). x.text ++ line_of format_tokens ++ 10 ∷ []) begun) in
+    let begins : a.closely ≡ true = ap (λ (x : Output). x.closely) first ∙ ended_closely (after o format_tokens) in
+    let same : line_of (header_tokens spec.host spec.name spec.for_host) ≡ line_of (tokens u.0) = ap line_of (sym (of_header u.0 spec.host spec.name spec.for_host u.1)) in
+    let middle : b.text ≡ a.text ++ line_of (tokens u.0) ++ 10 ∷ []
+    = ap (λ (x : Output). x.text) second ∙ (ended_line a (header_tokens spec.host spec.name spec.for_host) begins ∙ ap (λ (x : List ℕ). a.text ++ x ++ 10 ∷ []) same) in
+    let stands : b.closely ≡ true = ap (λ (x : Output). x.closely) second ∙ ended_closely (after a (header_tokens spec.host spec.name spec.for_host)) in
+    let last : c.text ≡ b.text ++ text_of l.lines
+    = ap (λ (x : Output). x.text) third ∙ (after_all b lines stands ∙ ap (λ (x : List (List Token)). b.text ++ text_of x) here) in
+    record {
+      lexemes = u.0;
+      header = line_of (tokens u.0);
+      items = text_of l.lines;
+      is_header = u.1;
+      header_line = refl;
+      item_lines = l.text;
+      whole = last ∙ (ap (λ (x : List ℕ). x ++ text_of l.lines) (middle ∙ ap (λ (x : List ℕ). x ++ line_of (tokens u.0) ++ 10 ∷ []) front)
+          ∙ (three_parts (line_of format_tokens) (line_of (tokens u.0)) (text_of l.lines) ∙ ap (λ (x : List ℕ). x ++ 10 ∷ (line_of (tokens u.0) ++ 10 ∷ text_of l.lines)) format_line));
+    }

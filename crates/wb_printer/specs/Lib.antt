@@ -1,0 +1,4 @@
+pub mod Output
+pub mod ExpressionTokens
+pub mod ItemTokens
+pub mod Walk

@@ -1,0 +1,80 @@
+-- Expressions in a list of nodes, and what of them is still to come.
+use Rattle.std.specs.Prelude.{◌≡◌, ℕ, ℤ, ◌+◌, ◌<◌, Bool, true, false, List, [], ◌∷◌, ◌++◌, length, slice_index_or}
+use Rattle.wb_tokens.specs.declared.token.Token.{Token}
+use Rattle.wb_tokens.specs.declared.token.Token.TheVariants as t
+use Rattle.wb_tokens.specs.declared.word.Word.TheVariants as w
+use Rattle.wb_tokens.specs.declared.punctuation.Punctuation.TheVariants as p
+use Rattle.wb_syntax.specs.declared.expression.Node.{Node}
+use Rattle.wb_syntax.specs.declared.expression.Node.TheVariants as n
+use Rattle.wb_syntax.specs.Expression.{Expression, Expressions, Int, Text, Truth, Label, Read, Lexeme, Top, Forward, Build, Call, If, none, more, size, size_of_all}
+use Rattle.wb_printer.specs.ExpressionTokens.{expression_tokens, arguments_tokens, further_tokens}
+use Rattle.wb_printer.specs.declared.expressions.Waiting.{Waiting}
+use Rattle.wb_printer.specs.declared.expressions.Waiting.TheVariants.{Whole, Arguments, Then, Else}
+use Rattle.wb_printer.specs.Output.{Output, after}
+
+-- the node stands at this place
+pub record HasNode (nodes : List Node) (at : ℕ) (node : Node) : Type 0 where
+  pub within : at < length nodes
+  pub is : (default : Node) → slice_index_or nodes at default ≡ node
+
+mutual
+  -- the expression stands in the nodes, and its whole at this place
+  pub data Stands (nodes : List Node) : ℕ → Expression → Type 0 where
+    int : {at : ℕ} {z : ℤ} → HasNode nodes at (n.Int z) → Stands nodes at (Int z)
+    text : {at : ℕ} {s : List ℕ} → HasNode nodes at (n.Text s) → Stands nodes at (Text s)
+    truth : {at : ℕ} {b : Bool} → HasNode nodes at (n.Bool b) → Stands nodes at (Truth b)
+    label : {at : ℕ} {l : List ℕ} → HasNode nodes at (n.Label l) → Stands nodes at (Label l)
+    read : {at : ℕ} {l a : List ℕ} → HasNode nodes at (n.Read l a) → Stands nodes at (Read l a)
+    lexeme : {at : ℕ} {l : List ℕ} → HasNode nodes at (n.Lexeme l) → Stands nodes at (Lexeme l)
+    top : {at : ℕ} {a : List ℕ} → HasNode nodes at (n.Top a) → Stands nodes at (Top a)
+    forward : {at : ℕ} {a : List ℕ} → HasNode nodes at (n.Forward a) → Stands nodes at (Forward a)
+    build : {at : ℕ} {name : List ℕ} {places : List ℕ} {es : Expressions} → HasNode nodes at (n.Build name places) → AllStand nodes places es
+        → Stands nodes at (Build name es)
+    call : {at : ℕ} {name : List ℕ} {places : List ℕ} {es : Expressions} → HasNode nodes at (n.Call name places) → AllStand nodes places es
+        → Stands nodes at (Call name es)
+    if_then : {at c h f : ℕ} {condition holds fails : Expression} → HasNode nodes at (n.If c h f) → Stands nodes c condition → Stands nodes h holds
+        → Stands nodes f fails → Stands nodes at (If condition holds fails)
+
+  -- the expressions stand in the nodes, and their wholes at these places
+  pub data AllStand (nodes : List Node) : List ℕ → Expressions → Type 0 where
+    nothing : AllStand nodes [] none
+    next : {at : ℕ} {places : List ℕ} {e : Expression} {es : Expressions} → Stands nodes at e → AllStand nodes places es → AllStand nodes (at ∷ places) (more e es)
+
+-- what stands before an argument: nothing before the first one
+abbrev pub separator : Bool → List Token
+separator true = []
+separator false = t.Punctuation p.Comma ∷ []
+
+-- the arguments that are left, the first of which has no comma before it or has one
+abbrev pub left_tokens : Bool → Expressions → List Token
+left_tokens true es = arguments_tokens es
+left_tokens false es = further_tokens es
+
+-- these tokens are still to come of an expression that has begun, or of one that has not, with this many nodes
+abbrev pub Comes : List Node → Waiting → List Token → ℕ → Type 0
+Comes nodes (Whole place) tokens count = (e : Expression) × Stands nodes place e × (tokens ≡ expression_tokens e) × (count ≡ size e)
+Comes nodes (Arguments first places) tokens count =
+    (es : Expressions) × AllStand nodes places.now es × (tokens ≡ left_tokens first es ++ t.Punctuation p.CloseParenthesis ∷ []) × (count ≡ size_of_all es)
+Comes nodes (Then holds fails) tokens count =
+    (one : Expression) × (other : Expression) × Stands nodes holds one × Stands nodes fails other
+    × (tokens ≡ t.Word w.Then ∷ (expression_tokens one ++ t.Word w.Else ∷ expression_tokens other)) × (count ≡ size one + size other)
+Comes nodes (Else fails) tokens count =
+    (other : Expression) × Stands nodes fails other × (tokens ≡ t.Word w.Else ∷ expression_tokens other) × (count ≡ size other)
+
+-- these tokens are still to come of expressions, the innermost first, with this many nodes
+abbrev pub AreToCome : List Node → List Waiting → List Token → ℕ → Type 0
+AreToCome nodes [] tokens count = (tokens ≡ []) × (count ≡ 0)
+AreToCome nodes (first ∷ rest) tokens count =
+    (a : List Token) × (b : List Token) × (c : ℕ) × (d : ℕ) × Comes nodes first a c × AreToCome nodes rest b d × (tokens ≡ a ++ b) × (count ≡ c + d)
+
+-- what was to come then is what is put since and is to come now, but for this many nodes
+abbrev pub Continues : List Node → Output → List Waiting → Output → List Waiting → ℕ → Type 0
+Continues nodes before then_waiting behind waiting visited =
+    (tokens : List Token) (count : ℕ) → AreToCome nodes then_waiting tokens count
+    → (more : List Token) × (left : ℕ) × AreToCome nodes waiting more left × (left + visited ≡ count) × (after behind more ≡ after before tokens)
+
+-- the whole at this place and what is to come behind it are what is left of the expression, of which this many nodes were visited
+abbrev pub IsVisiting : List Node → Output → Output → ℕ → List Waiting → ℕ → Expression → Type 0
+IsVisiting nodes before behind place stack visited e =
+    (tokens : List Token) × (count : ℕ) × AreToCome nodes (Whole place ∷ stack) tokens count × (count + visited ≡ length nodes)
+    × (after behind tokens ≡ after before (expression_tokens e))

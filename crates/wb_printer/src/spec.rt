@@ -1,0 +1,60 @@
+//! The canonical text of a specification.
+
+ghost use Rattle.std.specs.Prelude.{◌≡◌, List, OnOk, IfOk};
+ghost use Rattle.wb_tokens.specs.declared.token.Token.{Token};
+ghost use Rattle.wb_syntax.specs.Canonical.{IsCanonical};
+ghost use Rattle.wb_printer.specs.Output.{after, after_lines};
+ghost use Rattle.wb_printer.specs.ItemTokens.{header_tokens, AreLinesOf};
+
+use crate::items::{write_item, write_named, write_pair};
+use crate::line::Line;
+use std::alloc::{AllocError, Global};
+use wb_syntax::{Item, Spec};
+use wb_tokens::{Punctuation, Word};
+
+// Writes the header.
+fn write_header(line: &mut Line, spec: &Spec) -> Result<(), AllocError>
+    ensures { OnOk result (line.new ≡ after line.old (header_tokens spec.now.host spec.now.name spec.now.for_host)) }
+{
+    if spec.is_host() {
+        write_named(line, Word::Host, spec.name())
+    } else {
+        write_pair(
+            line,
+            Word::Extension,
+            spec.name(),
+            Word::For,
+            spec.for_host(),
+        )
+    }
+}
+
+// Writes items, each on a line of its own.
+fn write_items(alloc: Global, line: &mut Line, items: &[Item]) -> Result<(), AllocError>
+    requires { (lines : List (List Token)) × AreLinesOf items.now lines }
+    ensures { OnOk result ((lines : List (List Token)) → AreLinesOf items.now lines → line.new ≡ after_lines line.old lines) }
+{
+    'items: for item in items {
+        write_item(alloc, line, item)?;
+        line.end()?;
+    }
+    Ok(())
+}
+
+/// The canonical text of a specification. The only error is want of memory.
+///
+/// An absent `needs` stays absent, and a regular expression keeps its bytes. No clause bounds the work: it is linear in the text, and
+/// nothing recurses.
+pub fn print_spec(alloc: Global, spec: &Spec) -> Result<Vec<u8>, AllocError>
+    ensures canonical { IfOk result (λ text. IsCanonical spec.now text.items) }
+{
+    let mut line = Line::new(Vec::new(alloc));
+    line.word(Word::Format)?;
+    line.int(1)?;
+    line.mark(Punctuation::Semicolon)?;
+    line.end()?;
+    write_header(&mut line, spec)?;
+    line.end()?;
+    write_items(alloc, &mut line, spec.items())?;
+    Ok(line.into_text())
+}
