@@ -49,9 +49,9 @@ rest_within g item right lt e x rest is =
 pub rest_past : (g : GrammarState) (item : Item) → length g.productions ≤ item.production → (x : Symbol) (rest : List Symbol) → after_dot g item ≡ x ∷ rest → ◌≡◌ {A = List Symbol} [] rest
 rest_past g item le x rest is = elim (cases_eq item.production (length g.productions)) [
   | inl last ↦ elim (cases_eq item.dot 0) [
-      | inl left ↦ (let e = symbol_last g item last left in cc)
-      | inr other ↦ (let e = symbol_end g item last other in cc)
-    ]
+    | inl left ↦ (let e = symbol_last g item last left in cc)
+    | inr other ↦ (let e = symbol_end g item last other in cc)
+  ]
   | inr past ↦ (let e = symbol_none g item (omega arith) in cc)
 ]
 
@@ -118,11 +118,11 @@ pub passed_here : (kernels : KernelsState) {g : GrammarState} {old new : List (L
     → IsPassedOn kernels new place.state place.item t
 passed_here kernels {g} same place x rest is t spreads moves opens = record {
   moves = λ y more next here leads.
-    let there : x ∷ rest ≡ y ∷ more = sym is ∙ sym (ap (λ z. after_dot z place.item) same) ∙ here in
-    let first : y ≡ x = cc in
-    spreads.keeps next (advance place.item) t (moves next (subst (λ z. LeadsTo kernels place.state z next) first leads));
+      let there : x ∷ rest ≡ y ∷ more = sym is ∙ sym (ap (λ z. after_dot z place.item) same) ∙ here in
+      let first : y ≡ x = cc in
+      spreads.keeps next (advance place.item) t (moves next (subst (λ z. LeadsTo kernels place.state z next) first leads));
   opens = λ b more q u right here rule first.
-    opens u b q more right (sym (ap (λ z. after_dot z place.item) same) ∙ here) (subst (λ z. IsRule z q b right) same rule) (subst (λ z. IsFirst z (more ++ Terminal t ∷ []) u) same first);
+      opens u b q more right (sym (ap (λ z. after_dot z place.item) same) ∙ here) (subst (λ z. IsRule z q b right) same rule) (subst (λ z. IsFirst z (more ++ Terminal t ∷ []) u) same first);
 }
 
 -- the openings of a nonterminal behind a dot are there

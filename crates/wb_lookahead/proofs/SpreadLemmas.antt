@@ -49,12 +49,12 @@ same_place : (a b : Place) → (a ≡ b) ⊎ (a ≡ b → ⊥)
 same_place a b = elim (cases_eq a.state b.state) [
   | inr s ↦ inr (λ e. s (ap (λ (z : Place). z.state) e))
   | inl s ↦ elim (cases_eq a.item.production b.item.production) [
-      | inr p ↦ inr (λ e. p (ap (λ (z : Place). z.item.production) e))
-      | inl p ↦ elim (cases_eq a.item.dot b.item.dot) [
-          | inr d ↦ inr (λ e. d (ap (λ (z : Place). z.item.dot) e))
-          | inl d ↦ inl (place_parts a b s (item_parts a.item b.item p d))
-        ]
+    | inr p ↦ inr (λ e. p (ap (λ (z : Place). z.item.production) e))
+    | inl p ↦ elim (cases_eq a.item.dot b.item.dot) [
+      | inr d ↦ inr (λ e. d (ap (λ (z : Place). z.item.dot) e))
+      | inl d ↦ inl (place_parts a b s (item_parts a.item b.item p d))
     ]
+  ]
 ]
 
 module _ {kernels : KernelsState} {old new : List (List Looks)} {place : Place} {added : List Bool} {b : Bool} {w : List Place} where

@@ -118,7 +118,7 @@ shape_kept {kernels} {old} {new} {s} u lt h =
     subst wide (looks_at u.in_row u.in_row.looks) (All-get_or wide (row_of old s) u.place u.in_row.looks (place_within u.in_row) row_wide) in
     record {
       items = ap (map items_in) u.is ∙ map-set items_in old s u.row
-        ∙ ap (set (map items_in old) s) (items_kept u.in_row ∙ sym (get_or-map items_in old s [] [] lt))
-        ∙ set-get_or (map items_in old) s [] ∙ h.items;
+          ∙ ap (set (map items_in old) s) (items_kept u.in_row ∙ sym (get_or-map items_in old s [] [] lt))
+          ∙ set-get_or (map items_in old) s [] ∙ h.items;
       widths = subst (All (All wide)) (sym u.is) (All-set (All wide) old s u.row (subst (All wide) (sym u.in_row.is) (All-set wide (row_of old s) u.place (changed u.in_row) (u.in_row.joined.len ∙ looks_wide) row_wide)) h.widths);
     }

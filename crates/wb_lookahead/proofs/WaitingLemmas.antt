@@ -64,14 +64,12 @@ all_passed {kernels} {lookaheads} {waiting} h sound waits none = record { shape 
     at place (inl there) = (let nothing : Contains [] place = subst (λ z. Contains z place) none there in absurd (omega (arith, nothing.1)))
     at place (inr closed) = closed
 
-
     passed : (s : ℕ) (item : Item) (t : ℕ) → Lists lookaheads s item t → IsPassedOn kernels lookaheads s item t
     passed s item t l = at (record { state = s; item = item }) (waits.each (record { state = s; item = item })) t l
 
     exact : (s : ℕ) (item : Item) (a : List Bool) (t : ℕ) → s < count_of kernels → IsSetOf lookaheads s item a → Has a t ↔ IsLookahead kernels.grammar (prefix_of kernels s) item t
     exact s item a t lt set_is =
-        let laws = flows_exact kernels.grammar (count_of kernels) (prefix_of kernels) (LeadsTo kernels) h.live h.states s lt item t in
-        (
+        let laws = flows_exact kernels.grammar (count_of kernels) (prefix_of kernels) (LeadsTo kernels) h.live h.states s lt item t in (
           λ has. laws.0 (sound.sound s item t (a, set_is, has)),
           λ look. (let (b, other, has) = flows_listed waits.start passed (laws.1 look) in subst (λ z. Has z t) (set_once h lookaheads sound.shape s lt item b a other set_is) has),
         )

@@ -44,7 +44,9 @@ pub(crate) fn pass_on(
     };
     let set = lookaheads.of(place.state, place.item).copy()?;
     move_on(kernels, place, symbol, &set, lookaheads, waiting)?;
-    open_behind(alloc, grammar, facts, kernels, place, symbol, &set, lookaheads, waiting)
+    open_behind(
+        alloc, grammar, facts, kernels, place, symbol, &set, lookaheads, waiting,
+    )
 }
 
 // Spreads what begins the symbols behind a nonterminal to the openings of its productions.
@@ -76,5 +78,13 @@ fn open_behind(
     };
     let rest = rest_behind(grammar, place.item);
     let begin = begin_of(alloc, grammar, facts, rest, set)?;
-    open_all(grammar, kernels, nonterminal, place.state, &begin, lookaheads, waiting)
+    open_all(
+        grammar,
+        kernels,
+        nonterminal,
+        place.state,
+        &begin,
+        lookaheads,
+        waiting,
+    )
 }

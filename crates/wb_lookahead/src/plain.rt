@@ -34,7 +34,15 @@ pub fn plain_lookaheads(
     let mut waiting = Vec::new(alloc);
     begin(alloc, grammar, kernels, &mut lookaheads, &mut waiting)?;
     'waiting: while let Some(place) = waiting.pop() {
-        pass_on(alloc, grammar, facts, kernels, place, &mut lookaheads, &mut waiting)?;
+        pass_on(
+            alloc,
+            grammar,
+            facts,
+            kernels,
+            place,
+            &mut lookaheads,
+            &mut waiting,
+        )?;
     }
     Ok(lookaheads)
 }

@@ -144,7 +144,15 @@ pub(crate) fn open_all(
     ensures lists { OnOk result ((item : Item) (t : ℕ) → HasItem grammar.now (prefix_of kernels.now state) item → IsOpeningOf grammar.now nonterminal item → Has set.now t → Lists lookaheads.new state item t) }
 {
     'items: for &item in kernels.closure(state) {
-        open_one(grammar, kernels, nonterminal, Place { state, item }, set, lookaheads, waiting)?;
+        open_one(
+            grammar,
+            kernels,
+            nonterminal,
+            Place { state, item },
+            set,
+            lookaheads,
+            waiting,
+        )?;
     }
     Ok(())
 }

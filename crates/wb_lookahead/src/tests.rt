@@ -7,7 +7,7 @@ use std::alloc::{AllocError, Global};
 use std::test::Fail;
 use wb_base::{Grammar, Symbol};
 use wb_grammar::analyse;
-use wb_items::{Kernels, Looks, Lookaheads};
+use wb_items::{Kernels, Lookaheads, Looks};
 use wb_termset::TermSet;
 
 const A: Symbol = Symbol::Nonterminal(0);
@@ -25,6 +25,12 @@ const T2: Symbol = Symbol::Terminal(2);
 const T3: Symbol = Symbol::Terminal(3);
 
 const T4: Symbol = Symbol::Terminal(4);
+
+// The symbols that lead to a kernel, and a mask of the lookaheads for each item of its closure.
+struct Expected {
+    prefix: &'static [Symbol],
+    masks: &'static [u64],
+}
 
 // The kernel after these symbols.
 fn after(kernels: &Kernels, prefix: &[Symbol]) -> Option<usize> {
@@ -65,13 +71,35 @@ fn are_masks(row: &[Looks], masks: &[u64]) -> bool {
 }
 
 // Whether the sets of the kernel after these symbols are those of the masks, in the order of its closure.
-fn looks(kernels: &Kernels, lookaheads: &Lookaheads, prefix: &[Symbol], masks: &[u64]) -> bool
+fn looks(kernels: &Kernels, lookaheads: &Lookaheads, row: &Expected) -> bool
     requires { AreLookaheadsOf kernels.now lookaheads.now }
 {
-    match after(kernels, prefix) {
-        Some(state) => state < kernels.count() && are_masks(lookaheads.row(state), masks),
+    match after(kernels, row.prefix) {
+        Some(state) => state < kernels.count() && are_masks(lookaheads.row(state), row.masks),
         None => false,
     }
+}
+
+// Whether the rows are those of the kernels after their symbols.
+fn are_all(kernels: &Kernels, lookaheads: &Lookaheads, rows: &[Expected]) -> bool
+    requires { AreLookaheadsOf kernels.now lookaheads.now }
+{
+    for row in rows {
+        if !looks(kernels, lookaheads, row) {
+            return false;
+        }
+    }
+    true
+}
+
+// Whether the grammar passes its analysis, and its lookaheads are those of the rows.
+fn agree(alloc: Global, grammar: &Grammar, rows: &[Expected]) -> Result<bool, AllocError> {
+    let Ok(facts) = analyse(alloc, grammar) else {
+        return Ok(false);
+    };
+    let kernels = Kernels::build(alloc, grammar, &facts)?;
+    let lookaheads = plain_lookaheads(alloc, grammar, &facts, &kernels)?;
+    Ok(are_all(&kernels, &lookaheads, rows))
 }
 
 // A -> B t1 C, A -> C, B -> t0 C, B -> t2, C -> B
@@ -85,22 +113,53 @@ fn pointers(alloc: Global) -> Result<Grammar, AllocError> {
     Ok(grammar)
 }
 
+static POINTERS: [Expected; 10] = [
+    Expected {
+        prefix: &[],
+        masks: &[8, 8, 10, 10, 8, 8],
+    },
+    Expected {
+        prefix: &[A],
+        masks: &[8],
+    },
+    Expected {
+        prefix: &[B],
+        masks: &[8, 8],
+    },
+    Expected {
+        prefix: &[C],
+        masks: &[8],
+    },
+    Expected {
+        prefix: &[T0],
+        masks: &[10, 10, 10, 10],
+    },
+    Expected {
+        prefix: &[T2],
+        masks: &[10],
+    },
+    Expected {
+        prefix: &[B, T1],
+        masks: &[8, 8, 8, 8],
+    },
+    Expected {
+        prefix: &[T0, B],
+        masks: &[10],
+    },
+    Expected {
+        prefix: &[T0, C],
+        masks: &[10],
+    },
+    Expected {
+        prefix: &[B, T1, C],
+        masks: &[8],
+    },
+];
+
 #[test]
 fn lookaheads_of_pointers_are_those_of_merged_sets(rt: HostRuntime) -> Result<(), Fail> {
     let grammar = pointers(rt.alloc())?;
-    let facts = analyse(rt.alloc(), &grammar).ok().ok_or("refused")?;
-    let kernels = Kernels::build(rt.alloc(), &grammar, &facts)?;
-    let found = plain_lookaheads(rt.alloc(), &grammar, &facts, &kernels)?;
-    assert!(rt; looks(&kernels, &found, &[], &[8, 8, 10, 10, 8, 8]));
-    assert!(rt; looks(&kernels, &found, &[A], &[8]));
-    assert!(rt; looks(&kernels, &found, &[B], &[8, 8]));
-    assert!(rt; looks(&kernels, &found, &[C], &[8]));
-    assert!(rt; looks(&kernels, &found, &[T0], &[10, 10, 10, 10]));
-    assert!(rt; looks(&kernels, &found, &[T2], &[10]));
-    assert!(rt; looks(&kernels, &found, &[B, T1], &[8, 8, 8, 8]));
-    assert!(rt; looks(&kernels, &found, &[T0, B], &[10]));
-    assert!(rt; looks(&kernels, &found, &[T0, C], &[10]));
-    assert!(rt; looks(&kernels, &found, &[B, T1, C], &[8]));
+    assert!(rt; agree(rt.alloc(), &grammar, &POINTERS)?);
     Ok(())
 }
 
@@ -112,15 +171,25 @@ fn numbers(alloc: Global) -> Result<Grammar, AllocError> {
     Ok(grammar)
 }
 
+static NUMBERS: [Expected; 3] = [
+    Expected {
+        prefix: &[],
+        masks: &[3, 3, 2],
+    },
+    Expected {
+        prefix: &[A],
+        masks: &[3, 2],
+    },
+    Expected {
+        prefix: &[A, T0],
+        masks: &[3],
+    },
+];
+
 #[test]
 fn lookaheads_of_a_list_are_those_of_merged_sets(rt: HostRuntime) -> Result<(), Fail> {
     let grammar = numbers(rt.alloc())?;
-    let facts = analyse(rt.alloc(), &grammar).ok().ok_or("refused")?;
-    let kernels = Kernels::build(rt.alloc(), &grammar, &facts)?;
-    let found = plain_lookaheads(rt.alloc(), &grammar, &facts, &kernels)?;
-    assert!(rt; looks(&kernels, &found, &[], &[3, 3, 2]));
-    assert!(rt; looks(&kernels, &found, &[A], &[3, 2]));
-    assert!(rt; looks(&kernels, &found, &[A, T0], &[3]));
+    assert!(rt; agree(rt.alloc(), &grammar, &NUMBERS)?);
     Ok(())
 }
 
@@ -134,19 +203,41 @@ fn with_empty(alloc: Global) -> Result<Grammar, AllocError> {
     Ok(grammar)
 }
 
+static WITH_EMPTY: [Expected; 7] = [
+    Expected {
+        prefix: &[],
+        masks: &[8, 6, 8],
+    },
+    Expected {
+        prefix: &[A],
+        masks: &[8],
+    },
+    Expected {
+        prefix: &[B],
+        masks: &[8, 4, 4],
+    },
+    Expected {
+        prefix: &[T0],
+        masks: &[6],
+    },
+    Expected {
+        prefix: &[B, C],
+        masks: &[8],
+    },
+    Expected {
+        prefix: &[B, T1],
+        masks: &[4],
+    },
+    Expected {
+        prefix: &[B, C, T2],
+        masks: &[8],
+    },
+];
+
 #[test]
 fn lookaheads_through_an_empty_nonterminal_are_found(rt: HostRuntime) -> Result<(), Fail> {
     let grammar = with_empty(rt.alloc())?;
-    let facts = analyse(rt.alloc(), &grammar).ok().ok_or("refused")?;
-    let kernels = Kernels::build(rt.alloc(), &grammar, &facts)?;
-    let found = plain_lookaheads(rt.alloc(), &grammar, &facts, &kernels)?;
-    assert!(rt; looks(&kernels, &found, &[], &[8, 6, 8]));
-    assert!(rt; looks(&kernels, &found, &[A], &[8]));
-    assert!(rt; looks(&kernels, &found, &[B], &[8, 4, 4]));
-    assert!(rt; looks(&kernels, &found, &[T0], &[6]));
-    assert!(rt; looks(&kernels, &found, &[B, C], &[8]));
-    assert!(rt; looks(&kernels, &found, &[B, T1], &[4]));
-    assert!(rt; looks(&kernels, &found, &[B, C, T2], &[8]));
+    assert!(rt; agree(rt.alloc(), &grammar, &WITH_EMPTY)?);
     Ok(())
 }
 
@@ -162,18 +253,40 @@ fn merging(alloc: Global) -> Result<Grammar, AllocError> {
     Ok(grammar)
 }
 
+static MERGING: [Expected; 7] = [
+    Expected {
+        prefix: &[],
+        masks: &[32, 32, 32, 32, 32],
+    },
+    Expected {
+        prefix: &[T0],
+        masks: &[32, 32, 4, 8],
+    },
+    Expected {
+        prefix: &[T1],
+        masks: &[32, 32, 8, 4],
+    },
+    Expected {
+        prefix: &[T0, T4],
+        masks: &[12, 12],
+    },
+    Expected {
+        prefix: &[T1, T4],
+        masks: &[12, 12],
+    },
+    Expected {
+        prefix: &[T0, C],
+        masks: &[32],
+    },
+    Expected {
+        prefix: &[T1, C, T2],
+        masks: &[32],
+    },
+];
+
 #[test]
 fn lookaheads_of_kernels_that_merge_are_joined(rt: HostRuntime) -> Result<(), Fail> {
     let grammar = merging(rt.alloc())?;
-    let facts = analyse(rt.alloc(), &grammar).ok().ok_or("refused")?;
-    let kernels = Kernels::build(rt.alloc(), &grammar, &facts)?;
-    let found = plain_lookaheads(rt.alloc(), &grammar, &facts, &kernels)?;
-    assert!(rt; looks(&kernels, &found, &[], &[32, 32, 32, 32, 32]));
-    assert!(rt; looks(&kernels, &found, &[T0], &[32, 32, 4, 8]));
-    assert!(rt; looks(&kernels, &found, &[T1], &[32, 32, 8, 4]));
-    assert!(rt; looks(&kernels, &found, &[T0, T4], &[12, 12]));
-    assert!(rt; looks(&kernels, &found, &[T1, T4], &[12, 12]));
-    assert!(rt; looks(&kernels, &found, &[T0, C], &[32]));
-    assert!(rt; looks(&kernels, &found, &[T1, C, T2], &[32]));
+    assert!(rt; agree(rt.alloc(), &grammar, &MERGING)?);
     Ok(())
 }

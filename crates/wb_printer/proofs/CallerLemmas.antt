@@ -1,5 +1,5 @@
 -- A specification has one canonical text.
-use Rattle.std.proofs.Common.{◌≡◌, ◌≤◌, ◌<◌, ◌+◌, ℕ, ℤ, pos, zero, suc, true, false, Bool, List, [], ◌∷◌, ◌++◌, map, refl, sym, ap, ◌∙◌, subst, arith, get_or}
+use Rattle.std.proofs.Common.{◌≡◌, ◌≤◌, ◌+◌, ℕ, pos, zero, suc, List, [], ◌∷◌, ◌++◌, map, refl, sym, ap, ◌∙◌, arith, get_or}
 use Rattle.std.specs.Prelude.{codes}
 use Rattle.wb_tokens.specs.declared.token.Token.{Token}
 use Rattle.wb_tokens.specs.declared.token.Token.TheVariants as t
@@ -7,7 +7,6 @@ use Rattle.wb_tokens.specs.declared.punctuation.Punctuation.TheVariants as p
 use Rattle.wb_syntax.specs.declared.expression.Node.{Node}
 use Rattle.wb_syntax.specs.declared.expression.Node.TheVariants as n
 use Rattle.wb_syntax.specs.declared.expression.Equation.{Equation}
-use Rattle.wb_syntax.specs.declared.expression.Target.{Target}
 use Rattle.wb_syntax.specs.declared.item.Item.{Item}
 use Rattle.wb_syntax.specs.declared.item.Item.TheVariants as i
 use Rattle.wb_syntax.specs.Expression.{Expression, Expressions, Int, Text, Truth, Label, Read, Lexeme, Top, Forward, Build, Call, If, none, more, size, size_of_all, nodes_of}
@@ -18,8 +17,9 @@ use Rattle.wb_syntax.specs.Canonical.{line_of, IsItemLine, AreItemLines, IsCanon
 use Rattle.wb_printer.specs.Walk as walk
 use Rattle.wb_printer.specs.Walk.{HasNode, Stands, AllStand}
 use Rattle.wb_printer.specs.ExpressionTokens.{expression_tokens}
-use Rattle.wb_printer.specs.ItemTokens as tokens_of
-use Rattle.wb_printer.specs.ItemTokens.{AreEquationTokens, target_tokens, item_tokens, equations_of, AreItemTokens}
+use Rattle.wb_printer.specs.PartTokens as tokens_of
+use Rattle.wb_printer.specs.ItemTokens.{item_tokens, equations_of, AreItemTokens}
+use Rattle.wb_printer.specs.PartTokens.{AreEquationTokens, target_tokens}
 use Rattle.wb_printer.proofs.NodeLemmas.{whole_stands, size_some}
 use Rattle.wb_printer.proofs.GrammarTokens.{tokens, of_item, of_header}
 

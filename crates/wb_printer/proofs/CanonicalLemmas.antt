@@ -1,5 +1,5 @@
 -- What is written line by line is the canonical text.
-use Rattle.std.proofs.Common.{◌≡◌, ℕ, ◌||◌, Bool, true, false, cond, List, [], ◌∷◌, ◌++◌, refl, sym, ap, ◌∙◌, subst}
+use Rattle.std.proofs.Common.{◌≡◌, ℕ, ◌||◌, true, List, [], ◌∷◌, ◌++◌, refl, sym, ap, ◌∙◌}
 use Rattle.std.specs.Prelude.{if◌then◌else◌}
 use Rattle.std.specs.List.{AllZip}
 use Rattle.std.proofs.lemmas.List.{append_assoc, append-nil}
@@ -10,7 +10,7 @@ use Rattle.wb_syntax.specs.declared.written.WrittenSpec.{WrittenSpec}
 use Rattle.wb_syntax.specs.Tokens.{Lexeme}
 use Rattle.wb_syntax.specs.ItemGrammar as item
 use Rattle.wb_syntax.specs.ItemGrammar.{AreItems, IsSpecification}
-use Rattle.wb_syntax.specs.SpecText.{SpecState, IsReadAs, IsSpecText, HasText}
+use Rattle.wb_syntax.specs.SpecText.{SpecState, IsReadAs, HasText}
 use Rattle.wb_syntax.specs.Canonical as canonical
 use Rattle.wb_syntax.specs.Canonical.{printed, follows_closely, leads_closely, line_of, AreItemLines}
 use Rattle.wb_printer.specs.Output.{Output, put, after, ended, after_lines}

@@ -1,9 +1,8 @@
 -- The tokens of expressions, items and headers that stand in the grammar.
-use Rattle.std.proofs.Common.{◌≡◌, ℕ, Bool, true, false, List, [], ◌∷◌, ◌++◌, map, refl, sym, ap, ◌∙◌, subst, Option, Some, None}
+use Rattle.std.proofs.Common.{◌≡◌, ℕ, Bool, List, [], ◌∷◌, ◌++◌, map, refl, sym, ap, ◌∙◌, subst, Option}
 use Rattle.std.proofs.lemmas.List.{map-append, append_assoc}
 use Rattle.wb_tokens.specs.declared.token.Token.{Token}
 use Rattle.wb_tokens.specs.declared.token.Token.TheVariants as t
-use Rattle.wb_tokens.specs.declared.word.Word.TheVariants as word
 use Rattle.wb_tokens.specs.declared.punctuation.Punctuation.TheVariants as p
 use Rattle.wb_syntax.specs.declared.item.NamedKind.{NamedKind}
 use Rattle.wb_syntax.specs.declared.item.Child.{Child}
@@ -17,7 +16,7 @@ use Rattle.wb_syntax.specs.declared.pattern.Role.TheVariants as r
 use Rattle.wb_syntax.specs.declared.written.WrittenItem.{WrittenItem}
 use Rattle.wb_syntax.specs.declared.written.WrittenItem.TheVariants.{Pattern, Plain}
 use Rattle.wb_syntax.specs.Tokens.{Lexeme}
-use Rattle.wb_syntax.specs.Expression.{Expression, Expressions, nodes_of}
+use Rattle.wb_syntax.specs.Expression.{Expression, Expressions}
 use Rattle.wb_syntax.specs.ExpressionGrammar as e
 use Rattle.wb_syntax.specs.ExpressionGrammar.{IsExpression, AreArguments, AreFurther}
 use Rattle.wb_syntax.specs.PartGrammar as part
@@ -26,8 +25,9 @@ use Rattle.wb_syntax.specs.ItemGrammar as item
 use Rattle.wb_syntax.specs.ItemGrammar.{IsProduction, IsItem, IsHeader, IsRole}
 use Rattle.wb_syntax.specs.SpecText.{IsReadAs}
 use Rattle.wb_printer.specs.ExpressionTokens.{expression_tokens, arguments_tokens, further_tokens}
-use Rattle.wb_printer.specs.ItemTokens as tokens_of
-use Rattle.wb_printer.specs.ItemTokens.{kind_token, further_names, names_tokens, needs_tokens, optional_needs_tokens, children_tokens, target_tokens, AreEquationTokens, block_tokens, production_tokens, item_tokens, equations_of, AreItemTokens, header_tokens}
+use Rattle.wb_printer.specs.PartTokens as tokens_of
+use Rattle.wb_printer.specs.ItemTokens.{production_tokens, item_tokens, equations_of, AreItemTokens, header_tokens}
+use Rattle.wb_printer.specs.PartTokens.{kind_token, further_names, names_tokens, needs_tokens, optional_needs_tokens, children_tokens, target_tokens, AreEquationTokens, block_tokens}
 
 -- the tokens of lexemes
 abbrev pub tokens : List Lexeme → List Token

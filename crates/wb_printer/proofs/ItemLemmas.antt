@@ -1,5 +1,5 @@
 -- Parts of items, one behind the other.
-use Rattle.std.proofs.Common.{◌≡◌, ◌+◌, ◌<◌, ◌≤◌, ℕ, suc, ◌++◌, ◌∷◌, [], List, ap, ◌∙◌, refl, sym, subst, arith, append_assoc, length, get_or, drop, add-one}
+use Rattle.std.proofs.Common.{◌≡◌, ◌+◌, ◌<◌, ◌≤◌, ℕ, suc, ◌++◌, ◌∷◌, [], List, ap, ◌∙◌, refl, sym, subst, arith, length, get_or, drop, add-one}
 use Rattle.std.proofs.Math.Seq.{drop-cons}
 use Rattle.std.proofs.lemmas.List.{length-drop}
 use Rattle.wb_tokens.specs.declared.token.Token.{Token}
@@ -8,10 +8,10 @@ use Rattle.wb_tokens.specs.declared.punctuation.Punctuation.TheVariants as p
 use Rattle.wb_syntax.specs.declared.expression.Equation.{Equation}
 use Rattle.wb_syntax.specs.declared.item.Item.{Item}
 use Rattle.wb_syntax.specs.Expression.{Expression, nodes_of}
-use Rattle.wb_printer.specs.Output.{Output, put, after, ended, after_lines}
+use Rattle.wb_printer.specs.Output.{Output, put, after}
 use Rattle.wb_printer.specs.ExpressionTokens.{expression_tokens}
-use Rattle.wb_printer.specs.ItemTokens as s
-use Rattle.wb_printer.specs.ItemTokens.{AreEquationTokens, target_tokens, AreLinesOf, AreItemTokens}
+use Rattle.wb_printer.specs.ItemTokens.{AreLinesOf, AreItemTokens}
+use Rattle.wb_printer.specs.PartTokens.{AreEquationTokens, target_tokens}
 use Rattle.wb_printer.proofs.OutputLemmas.{after_both}
 
 -- three parts

@@ -1,5 +1,5 @@
 -- Tokens added one behind the other.
-use Rattle.std.proofs.Common.{◌≡◌, ◌++◌, ◌∷◌, [], List, ap, ◌∙◌, refl, sym}
+use Rattle.std.proofs.Common.{◌≡◌, ◌++◌, ◌∷◌, [], List, refl}
 use Rattle.wb_tokens.specs.declared.token.Token.{Token}
 use Rattle.wb_printer.specs.Output.{Output, put, after}
 

@@ -1,5 +1,5 @@
 -- The whole text of a specification.
-use Rattle.std.proofs.Common.{◌≡◌, ℕ, ℤ, pos, Bool, true, List, [], ◌∷◌, ◌++◌, refl, sym, ap, ◌∙◌, subst, append_assoc}
+use Rattle.std.proofs.Common.{◌≡◌, ℕ, pos, Bool, true, List, [], ◌∷◌, ◌++◌, refl, sym, ap, ◌∙◌, subst, append_assoc}
 use Rattle.std.specs.Prelude.{codes}
 use Rattle.std.specs.Fmt.{digits}
 use Rattle.wb_tokens.specs.declared.token.Token.{Token}
@@ -12,8 +12,8 @@ use Rattle.wb_syntax.specs.ItemGrammar as item
 use Rattle.wb_syntax.specs.ItemGrammar.{IsHeader, IsSpecification}
 use Rattle.wb_syntax.specs.SpecText.{SpecState, HasText}
 use Rattle.wb_syntax.specs.Canonical.{line_of, IsCanonical}
-use Rattle.wb_printer.specs.Output.{Output, put, after, ended, after_lines}
-use Rattle.wb_printer.specs.ItemTokens.{header_tokens, AreLinesOf}
+use Rattle.wb_printer.specs.Output.{Output, after, ended, after_lines}
+use Rattle.wb_printer.specs.ItemTokens.{header_tokens}
 use Rattle.wb_printer.proofs.GrammarTokens.{tokens, of_header}
 use Rattle.wb_printer.proofs.CanonicalLemmas.{text_lines, text_of, ended_line, ended_closely, after_all}
 

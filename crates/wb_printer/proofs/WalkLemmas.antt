@@ -11,11 +11,10 @@ use Rattle.wb_syntax.specs.declared.expression.Node.TheVariants as n
 use Rattle.wb_syntax.specs.Expression.{Expression, Expressions, Int, Text, Truth, Label, Read, Lexeme, Top, Forward, Build, Call, If, none, more, size, size_of_all}
 use Rattle.wb_printer.specs.Output.{Output, put, after}
 use Rattle.wb_printer.proofs.OutputLemmas.{after_both}
-use Rattle.wb_printer.specs.ExpressionTokens.{expression_tokens, arguments_tokens, further_tokens, truth_token, dotted}
-use Rattle.wb_printer.specs.Walk as s
-use Rattle.wb_printer.specs.Walk.{HasNode, Stands, AllStand, Comes, AreToCome, Continues, left_tokens, separator, IsVisiting}
+use Rattle.wb_printer.specs.ExpressionTokens.{expression_tokens, arguments_tokens, further_tokens}
+use Rattle.wb_printer.specs.Walk.{HasNode, Stands, AllStand, Comes, Continues, left_tokens, separator, IsVisiting}
 use Rattle.wb_printer.specs.declared.expressions.Waiting.{Waiting}
-use Rattle.wb_printer.specs.declared.expressions.Waiting.TheVariants.{Whole, Arguments, Then, Else}
+use Rattle.wb_printer.specs.declared.expressions.Waiting.TheVariants.{Whole, Then, Else}
 
 module _ (nodes : List Node) where
   -- an expression by the node of its whole

@@ -1,4 +1,5 @@
-pub mod Output
 pub mod ExpressionTokens
 pub mod ItemTokens
+pub mod Output
+pub mod PartTokens
 pub mod Walk

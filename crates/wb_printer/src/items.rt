@@ -6,7 +6,8 @@ ghost use Rattle.wb_tokens.specs.declared.token.Token.TheVariants as t;
 ghost use Rattle.wb_tokens.specs.declared.punctuation.Punctuation.TheVariants as p;
 ghost use Rattle.wb_tokens.specs.declared.word.Word.TheVariants as w;
 ghost use Rattle.wb_printer.specs.Output.{after};
-ghost use Rattle.wb_printer.specs.ItemTokens.{needs_tokens, optional_needs_tokens, named, pair_tokens, pattern_tokens, attribute_tokens, symbol_tokens, plain_tokens, block_tokens, production_tokens, AreEquationTokens, AreItemTokens};
+ghost use Rattle.wb_printer.specs.ItemTokens.{named, pair_tokens, pattern_tokens, attribute_tokens, symbol_tokens, plain_tokens, production_tokens, AreItemTokens};
+ghost use Rattle.wb_printer.specs.PartTokens.{needs_tokens, optional_needs_tokens, block_tokens, AreEquationTokens};
 
 use crate::line::Line;
 use crate::parts::{write_block, write_children, write_kind, write_needs};
@@ -65,20 +66,17 @@ fn write_attribute(
     line.mark(Punctuation::Semicolon)
 }
 
-// Writes needs where there are some, and the end of an item.
-fn write_occurrence_end(line: &mut Line, needs: &Option<Sequence<Bytes>>) -> Result<(), AllocError>
-    ensures { OnOk result (line.new ≡ after line.old (optional_needs_tokens needs.now ++ t.Punctuation p.Semicolon ∷ [])) }
+// Writes needs where they are written.
+fn write_optional_needs(line: &mut Line, needs: &Option<Sequence<Bytes>>) -> Result<(), AllocError>
+    ensures { OnOk result (line.new ≡ after line.old (optional_needs_tokens needs.now)) }
 {
     match needs {
-        Some(names) => {
-            write_needs(line, names.as_slice())?;
-            line.mark(Punctuation::Semicolon)
-        }
-        None => line.mark(Punctuation::Semicolon),
+        Some(names) => write_needs(line, names.as_slice()),
+        None => Ok(()),
     }
 }
 
-// Writes what follows the first word of an occurrence.
+// Writes that an attribute occurs on a nonterminal.
 fn write_occurrence(
     line: &mut Line,
     attribute: &[u8],
@@ -92,7 +90,8 @@ fn write_occurrence(
     line.name(attribute)?;
     line.word(Word::On)?;
     line.name(nonterminal)?;
-    write_occurrence_end(line, needs)
+    write_optional_needs(line, needs)?;
+    line.mark(Punctuation::Semicolon)
 }
 
 // Writes the needs of what the productions of a nonterminal forward to.

@@ -7,7 +7,7 @@ ghost use Rattle.wb_tokens.specs.declared.token.Token.TheVariants as t;
 ghost use Rattle.wb_tokens.specs.declared.punctuation.Punctuation.TheVariants as p;
 ghost use Rattle.wb_printer.specs.Output.{put, after};
 ghost use Rattle.wb_printer.specs.ExpressionTokens.{expression_tokens};
-ghost use Rattle.wb_printer.specs.ItemTokens.{kind_token, further_names, names_tokens, needs_tokens, children_tokens, target_tokens, AreEquationTokens, block_tokens};
+ghost use Rattle.wb_printer.specs.PartTokens.{kind_token, further_names, names_tokens, needs_tokens, children_tokens, target_tokens, AreEquationTokens, block_tokens};
 
 use crate::expressions::write_expression;
 use crate::line::Line;

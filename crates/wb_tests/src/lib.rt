@@ -2,4 +2,10 @@
 #![tactic(auto)]
 
 #[cfg(test)]
+mod prefixes;
+#[cfg(test)]
+mod show;
+#[cfg(test)]
+mod specifications;
+#[cfg(test)]
 mod value;

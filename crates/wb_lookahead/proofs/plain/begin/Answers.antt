@@ -22,7 +22,7 @@ spread-requires-clause-flows c =
     let top : c.productions.result ≡ length c.args.kernels.now.grammar.productions = c.productions.ensures.count ∙ ap (λ (g : GrammarState). length g.productions) (sym c.requires.grammar) in
     let last : c.terminals-2.result ≡ end_of c.args.kernels.now.grammar = c.terminals-2.ensures ∙ ap (λ (g : GrammarState). g.terminals) (sym c.requires.grammar) in
     λ t has. subst (λ p. FlowsTo c.args.kernels.now 0 (opening p) t) (sym top)
-      (subst (FlowsTo c.args.kernels.now 0 (opening (length c.args.kernels.now.grammar.productions))) (sym (one_member c.in-Some.count c.terminals-2.result c.in_ok-end.end c.insert.new.self c.in_ok-end.ensures c.insert.ensures.after t has ∙ last)) start)
+    (subst (FlowsTo c.args.kernels.now 0 (opening (length c.args.kernels.now.grammar.productions))) (sym (one_member c.in-Some.count c.terminals-2.result c.in_ok-end.end c.insert.new.self c.in_ok-end.ensures c.insert.ensures.after t has ∙ last)) start)
 
 pub returns-clause-waiting : goal.returns-clause-waiting
 returns-clause-waiting c =
@@ -32,5 +32,5 @@ returns-clause-waiting c =
     let has : Has c.insert.new.self (end_of c.args.kernels.now.grammar) = subst (Has c.insert.new.self) last (subst (λ z. Has z c.terminals-2.result) (sym c.insert.ensures.after) (Has-insert_same c.in_ok-end.end c.terminals-2.result fits)) in
     on_ok_two c.spread.result
     (λ lists spreads. begun_waiting c.args.lookaheads.now c.args.waiting.now.items c.requires.empty spreads
-      (subst (λ p. Lists c.spread.new.lookaheads 0 (opening p) (end_of c.args.kernels.now.grammar)) top (lists (end_of c.args.kernels.now.grammar) has)))
+    (subst (λ p. Lists c.spread.new.lookaheads 0 (opening p) (end_of c.args.kernels.now.grammar)) top (lists (end_of c.args.kernels.now.grammar) has)))
     c.spread.ensures.lists c.spread.ensures.spreads

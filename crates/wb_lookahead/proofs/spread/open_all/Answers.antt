@@ -24,5 +24,5 @@ items-preserved c = record {
 
 pub returns-clause-lists : goal.returns-clause-lists
 returns-clause-lists c = λ item t has opening in_set.
-  let there = (c.closure-item-items.ensures.exact item).1 (subst (λ z. HasItem z (prefix_of c.args.kernels.now c.args.state) item) (sym c.requires.grammar) has) in
-  c.items.invariant.lists item t (contains_all c.closure-item-items.result.now c.items.item-index item c.items-test.false there) opening in_set
+    let there = (c.closure-item-items.ensures.exact item).1 (subst (λ z. HasItem z (prefix_of c.args.kernels.now c.args.state) item) (sym c.requires.grammar) has) in
+    c.items.invariant.lists item t (contains_all c.closure-item-items.result.now c.items.item-index item c.items-test.false there) opening in_set

@@ -3,8 +3,8 @@ use Rattle.std.specs.Prelude.{IfOk, MatchOption}
 use Rattle.wb_syntax.specs.declared.expression.Node.{Node}
 use Rattle.wb_printer.specs.Walk.{Continues}
 use Rattle.wb_printer.specs.declared.expressions.Waiting.{Waiting}
-use Rattle.wb_printer.specs.declared.expressions.Waiting.TheVariants.{Whole, Then, Else}
-use Rattle.wb_printer.proofs.WalkLemmas.{same, then_begun, else_begun, moved_stack}
+use Rattle.wb_printer.specs.declared.expressions.Waiting.TheVariants.{Whole, Then}
+use Rattle.wb_printer.proofs.WalkLemmas.{same, then_begun, else_begun}
 use Rattle.wb_printer.proofs.expressions.resume.Goals as goal
 
 pub returns-in-Whole : goal.returns-in-Whole

@@ -1,16 +1,15 @@
-use Rattle.std.proofs.Common.{◌≡◌, ◌∙◌, ◌∷◌, [], List, ℕ, ℤ, w64, refl, sym, ap, subst, rules}
+use Rattle.std.proofs.Common.{◌∙◌, ◌∷◌, [], List, ℕ, ℤ, w64, refl, sym, ap, subst, rules}
 use Rattle.std.specs.Prelude.{FitsSigned}
 use Rattle.std.proofs.lemmas.Int.{to_z-of_z}
 use Rattle.std.proofs.lemmas.Result.{on_ok_weaker}
 use Rattle.wb_tokens.specs.declared.token.Token.TheVariants as t
 use Rattle.wb_tokens.specs.declared.punctuation.Punctuation.TheVariants as p
-use Rattle.wb_syntax.specs.declared.expression.Node.{Node}
 use Rattle.wb_syntax.specs.declared.expression.Node.TheVariants as n
 use Rattle.wb_syntax.specs.Expression.{Int, Text, Truth, Label, Read, Lexeme, Top, Forward}
 use Rattle.wb_tokens.specs.declared.word.Word.TheVariants as w
 use Rattle.wb_printer.specs.ExpressionTokens.{dotted}
 use Rattle.wb_printer.specs.Output.{Output, put, after}
-use Rattle.wb_printer.specs.Walk.{HasNode, AllStand}
+use Rattle.wb_printer.specs.Walk.{AllStand}
 use Rattle.wb_printer.proofs.WalkLemmas.{leaf_of, build_put, call_put, if_put}
 use Rattle.wb_printer.proofs.expressions.visit.Goals as goal
 

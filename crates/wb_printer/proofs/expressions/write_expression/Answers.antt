@@ -1,4 +1,4 @@
-use Rattle.std.proofs.Common.{◌≡◌, ◌-◌, ℕ, List, [], length, refl, sym, subst, arith}
+use Rattle.std.proofs.Common.{◌-◌, List, length, sym, subst, arith}
 use Rattle.wb_printer.specs.Walk.{IsVisiting}
 use Rattle.wb_printer.specs.declared.expressions.Waiting.{Waiting}
 use Rattle.wb_printer.proofs.NodeLemmas.{whole_stands, size_some}

@@ -1,12 +1,10 @@
-use Rattle.std.proofs.Common.{◌≡◌, ◌∙◌, ◌∷◌, [], List, ap, sym, subst, rules}
+use Rattle.std.proofs.Common.{◌≡◌, ◌∷◌, [], List, sym, subst, rules}
 use Rattle.std.proofs.lemmas.Result.{on_ok_weaker}
-use Rattle.wb_tokens.specs.declared.token.Token.{Token}
 use Rattle.wb_tokens.specs.declared.token.Token.TheVariants as t
-use Rattle.wb_tokens.specs.declared.word.Word.TheVariants as w
 use Rattle.wb_tokens.specs.declared.punctuation.Punctuation.TheVariants as p
-use Rattle.wb_printer.specs.Output.{Output, put, after}
+use Rattle.wb_printer.specs.Output.{after}
 use Rattle.wb_syntax.specs.declared.expression.Equation.{Equation}
-use Rattle.wb_printer.specs.ItemTokens.{children_tokens, block_tokens, AreEquationTokens}
+use Rattle.wb_printer.specs.PartTokens.{children_tokens, block_tokens, AreEquationTokens}
 use Rattle.wb_printer.proofs.ItemLemmas.{in_turn}
 use Rattle.wb_printer.proofs.items.write_production.Goals as goal
 
