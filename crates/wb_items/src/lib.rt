@@ -20,4 +20,5 @@ mod table;
 pub use kernels::Kernels;
 pub use lookaheads::Lookaheads;
 pub use looks::Looks;
+pub use symbol::symbol_after;
 pub use wb_grammars::Item;
