@@ -15,16 +15,25 @@ pub enum Wrong {
     At(usize),
 }
 
-// How `show h` ends and what it writes, where the file has these bytes.
-fn shown(alloc: Global, text: &[u8]) -> Result<(Status, Vec<u8>), AllocError> {
+// How `show h` ends and what it writes to the sink, where the file has these bytes.
+fn shown_to(
+    alloc: Global,
+    text: &[u8],
+    sink: &mut MemorySink,
+) -> Result<(Status, Vec<u8>), AllocError> {
     let mut shelf = MemoryShelf::new(alloc);
     shelf.add_file("h", text)?;
-    let mut sink = MemorySink::new(alloc, 20_000, 1_000)?;
     let mut words = Vec::new(alloc);
     words.push(String::from_str(alloc, "show")?)?;
     words.push(String::from_str(alloc, "h")?)?;
-    let status = workbench(alloc, &words, &mut shelf, &mut sink);
+    let status = workbench(alloc, &words, &mut shelf, sink);
     Ok((status, sink.bytes().to_vec(alloc)?))
+}
+
+// How `show h` ends and what it writes, where the file has these bytes.
+fn shown(alloc: Global, text: &[u8]) -> Result<(Status, Vec<u8>), AllocError> {
+    let mut sink = MemorySink::new(alloc, 20_000, 1_000)?;
+    shown_to(alloc, text, &mut sink)
 }
 
 // The first text, of those with their reports, that has another one. A report that begins with `refused` has status 3.
@@ -150,5 +159,25 @@ fn what_is_shown_is_shown_again(rt: HostRuntime) -> Result<(), Fail> {
 fn each_prefix_goes_wrong_at_its_place(rt: HostRuntime) -> Result<(), Fail> {
     let wrong = first_prefix(rt.alloc(), MINI.as_bytes(), &MINI_PREFIXES)?;
     assert!(rt; wrong.is_none(), "{wrong:?}");
+    Ok(())
+}
+
+#[test]
+fn a_write_that_fails_leaves_a_front_of_the_text(rt: HostRuntime) -> Result<(), Fail> {
+    let mut sink = MemorySink::new(rt.alloc(), 20_000, 8)?;
+    sink.fail_at(2)?;
+    let (status, bytes) = shown_to(rt.alloc(), MINI.as_bytes(), &mut sink)?;
+    assert_eq!(rt; status, Status::WriteFault);
+    assert_eq!(rt; bytes.as_slice(), b"format 1".as_slice());
+    Ok(())
+}
+
+#[test]
+fn a_file_past_the_limit_is_too_long(rt: HostRuntime) -> Result<(), Fail> {
+    let mut text = Vec::new(rt.alloc());
+    text.resize(1_048_577, b' ')?;
+    let (status, bytes) = shown(rt.alloc(), &text)?;
+    assert_eq!(rt; status, Status::SpecRefused);
+    assert_eq!(rt; bytes.as_slice(), b"refused h S2\n".as_slice());
     Ok(())
 }
