@@ -1,6 +1,5 @@
 -- Lexemes with the same tokens at other places: their heads, and their parts.
-use Rattle.std.proofs.Common.{◌≡◌, List, [], ◌∷◌, ◌++◌, refl, sym, ap, ◌∙◌, subst}
-use Rattle.wb_tokens.specs.declared.token.Token.{Token}
+use Rattle.std.proofs.Common.{◌≡◌, List, [], ◌∷◌, ◌++◌, refl, ap, ◌∙◌, subst}
 use Rattle.wb_syntax.specs.Tokens.{Lexeme}
 use Rattle.wb_printer.proofs.GrammarTokens.{tokens}
 
@@ -27,6 +26,7 @@ pub record Headed (x : Lexeme) (xs ys : List Lexeme) : Type 0 where
   pub others : Alike xs tail
   pub whole : ys ≡ head ∷ tail
 
+-- what is like a list with a first one has it
 pub headed : (x : Lexeme) (xs ys : List Lexeme) → Alike (x ∷ xs) ys → Headed x xs ys
 headed x xs ys (step {y = y} {ys = rest} q r) = record { head = y; tail = rest; same = q; others = r; whole = refl }
 
@@ -38,6 +38,7 @@ pub record Halves (u v ys : List Lexeme) : Type 0 where
   pub second : Alike v right
   pub whole : ys ≡ left ++ right
 
+-- what is like two lists is two lists
 pub halves : (u v ys : List Lexeme) → Alike (u ++ v) ys → Halves u v ys
 halves [] v ys a = record { left = []; right = ys; first = done; second = a; whole = refl }
 halves (x ∷ u) v ys (step {y = y} {ys = rest} q r) =
@@ -54,6 +55,7 @@ pub record Parted (u : List Lexeme) (c : Lexeme) (v ys : List Lexeme) : Type 0 w
   pub second : Alike v right
   pub whole : ys ≡ left ++ middle ∷ right
 
+-- what is like two lists with one between them is so
 pub parted : (u : List Lexeme) (c : Lexeme) (v ys : List Lexeme) → Alike (u ++ c ∷ v) ys → Parted u c v ys
 parted u c v ys a =
     let h = halves u (c ∷ v) ys a in
@@ -72,6 +74,7 @@ pub record Closed (u : List Lexeme) (c : Lexeme) (ys : List Lexeme) : Type 0 whe
   pub same : last.token ≡ c.token
   pub whole : ys ≡ inner ++ last ∷ []
 
+-- what is like a list with a last one is so
 pub closed : (u : List Lexeme) (c : Lexeme) (ys : List Lexeme) → Alike (u ++ c ∷ []) ys → Closed u c ys
 closed u c ys a =
     let h = parted u c [] ys a in

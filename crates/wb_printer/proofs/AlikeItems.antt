@@ -3,7 +3,6 @@ use Rattle.std.proofs.Common.{◌≡◌, ℕ, List, [], ◌∷◌, ◌++◌, ref
 use Rattle.wb_tokens.specs.declared.token.Token.TheVariants as t
 use Rattle.wb_tokens.specs.declared.punctuation.Punctuation.TheVariants as p
 use Rattle.wb_regex.specs.Tree.{Tree}
-use Rattle.wb_syntax.specs.declared.expression.Equation.{Equation}
 use Rattle.wb_syntax.specs.declared.item.Production.{Production}
 use Rattle.wb_syntax.specs.declared.item.Item.{Item}
 use Rattle.wb_syntax.specs.declared.item.Item.TheVariants as i
@@ -15,9 +14,9 @@ use Rattle.wb_syntax.specs.Tokens.{Lexeme}
 use Rattle.wb_syntax.specs.ItemGrammar as item
 use Rattle.wb_syntax.specs.ItemGrammar.{IsProduction, IsItem, IsRole}
 use Rattle.wb_syntax.specs.SpecText.{IsReadAs, pattern_item}
-use Rattle.wb_syntax.specs.Offsets.{unplaced, unplaced_equation, unplaced_production}
-use Rattle.wb_printer.proofs.Alike.{Alike, done, step, Headed, headed, Halves, halves, Closed, closed, alike_as}
-use Rattle.wb_printer.proofs.AlikeParts.{kind_alike, needs_alike, optional_alike, children_alike, HasBlock, block_alike}
+use Rattle.wb_syntax.specs.Offsets.{unplaced, unplaced_production}
+use Rattle.wb_printer.proofs.Alike.{Alike, done, step, headed, halves, closed, alike_as}
+use Rattle.wb_printer.proofs.AlikeParts.{kind_alike, needs_alike, optional_alike, children_alike, block_alike}
 
 -- the lexemes are a production that is this one but for places
 record HasProduction (ys : List Lexeme) (q : Production) : Type 0 where
@@ -25,6 +24,7 @@ record HasProduction (ys : List Lexeme) (q : Production) : Type 0 where
   is : IsProduction ys other
   same : unplaced_production other ≡ unplaced_production q
 
+-- a production
 production_alike : (xs : List Lexeme) (q : Production) → IsProduction xs q → (ys : List Lexeme) → Alike xs ys → HasProduction ys q
 production_alike xs q (item.whole {n = n} {c = c} {l = l} {b = m} {u = u} {v = v} {name = name} {left = left} {children = cs} {equations = es} h j k o s f g) ys a =
     let b = headed n (c ∷ l ∷ m ∷ (u ++ v)) ys (alike_as xs _ ys g a) in
@@ -32,12 +32,12 @@ production_alike xs q (item.whole {n = n} {c = c} {l = l} {b = m} {u = u} {v = v
     let e = headed l (m ∷ (u ++ v)) d.tail d.others in
     let w = headed m (u ++ v) e.tail e.others in
     let z = halves u v w.tail w.others in
-    let k2 = block_alike v es f z.right z.second in
+    let block = block_alike v es f z.right z.second in
     record {
-      other = record { name = name; left = left; children = cs; equations = k2.others };
-      is = item.whole (b.same ∙ h) (d.same ∙ j) (e.same ∙ k) (w.same ∙ o) (children_alike u cs s z.left z.first) k2.is
+      other = record { name = name; left = left; children = cs; equations = block.others };
+      is = item.whole (b.same ∙ h) (d.same ∙ j) (e.same ∙ k) (w.same ∙ o) (children_alike u cs s z.left z.first) block.is
           (b.whole ∙ ap (λ y. b.head ∷ y) (d.whole ∙ ap (λ y. d.head ∷ y) (e.whole ∙ ap (λ y. e.head ∷ y) (w.whole ∙ ap (λ y. w.head ∷ y) z.whole))));
-      same = ap (λ y. record { name = name; left = left; children = cs; equations = y }) k2.same;
+      same = ap (λ y. record { name = name; left = left; children = cs; equations = y }) block.same;
     }
 
 -- the lexemes are an item, and once it is read it is this one but for places
@@ -52,6 +52,7 @@ pub record HasItem (ys : List Lexeme) (one : Item) : Type 0 where
 plain : (ys : List Lexeme) (other one : Item) → IsItem ys (Plain other) → unplaced other ≡ unplaced one → HasItem ys one
 plain ys other one h e = record { written = Plain other; other = other; grammar = h; read = refl; same = e }
 
+-- the same tokens are the same such item but for places
 plain_alike : (xs : List Lexeme) (one : Item) → IsItem xs (Plain one) → (ys : List Lexeme) → Alike xs ys → HasItem ys one
 plain_alike xs one (item.prefer {first = f} {second = g} h j k l m) ys (step {y = x} q (step r (step s (step u (step v done))))) =
     plain ys (i.Prefer x.at f g) one (item.prefer (q ∙ h) (r ∙ j) (s ∙ k) (u ∙ l) (v ∙ m)) refl
@@ -64,14 +65,14 @@ plain_alike xs one (item.synthesized {x = x} {n = n} {c = c} s {u = u} {name = n
     let e = headed c (u ++ s ∷ []) d.tail d.others in
     let f = closed u s e.tail e.others in
     plain ys (i.Synthesized b.head.at name kind) one (item.synthesized f.last (b.same ∙ h) (d.same ∙ j) (e.same ∙ k) (kind_alike u kind l f.inner f.first) (f.same ∙ m)
-        (b.whole ∙ ap (λ y. b.head ∷ y) (d.whole ∙ ap (λ y. d.head ∷ y) (e.whole ∙ ap (λ y. e.head ∷ y) f.whole)))) refl
+    (b.whole ∙ ap (λ y. b.head ∷ y) (d.whole ∙ ap (λ y. d.head ∷ y) (e.whole ∙ ap (λ y. e.head ∷ y) f.whole)))) refl
 plain_alike xs one (item.inherited {x = x} {n = n} {c = c} s {u = u} {name = name} {kind = kind} h j k l m g) ys a =
     let b = headed x (n ∷ c ∷ (u ++ s ∷ [])) ys (alike_as xs _ ys g a) in
     let d = headed n (c ∷ (u ++ s ∷ [])) b.tail b.others in
     let e = headed c (u ++ s ∷ []) d.tail d.others in
     let f = closed u s e.tail e.others in
     plain ys (i.Inherited b.head.at name kind) one (item.inherited f.last (b.same ∙ h) (d.same ∙ j) (e.same ∙ k) (kind_alike u kind l f.inner f.first) (f.same ∙ m)
-        (b.whole ∙ ap (λ y. b.head ∷ y) (d.whole ∙ ap (λ y. d.head ∷ y) (e.whole ∙ ap (λ y. e.head ∷ y) f.whole)))) refl
+    (b.whole ∙ ap (λ y. b.head ∷ y) (d.whole ∙ ap (λ y. d.head ∷ y) (e.whole ∙ ap (λ y. e.head ∷ y) f.whole)))) refl
 plain_alike xs one (item.occurs {x = x} {a = m} {o = o} {n = n} s {u = u} {attribute = attribute} {nonterminal = nonterminal} {needs = needs} h j k l w q g) ys a =
     let b = headed x (m ∷ o ∷ n ∷ (u ++ s ∷ [])) ys (alike_as xs _ ys g a) in
     let d = headed m (o ∷ n ∷ (u ++ s ∷ [])) b.tail b.others in
@@ -79,16 +80,16 @@ plain_alike xs one (item.occurs {x = x} {a = m} {o = o} {n = n} s {u = u} {attri
     let z = headed n (u ++ s ∷ []) e.tail e.others in
     let f = closed u s z.tail z.others in
     plain ys (i.Occurs b.head.at attribute nonterminal needs) one
-        (item.occurs f.last (b.same ∙ h) (d.same ∙ j) (e.same ∙ k) (z.same ∙ l) (optional_alike u needs w f.inner f.first) (f.same ∙ q)
-        (b.whole ∙ ap (λ y. b.head ∷ y) (d.whole ∙ ap (λ y. d.head ∷ y) (e.whole ∙ ap (λ y. e.head ∷ y) (z.whole ∙ ap (λ y. z.head ∷ y) f.whole))))) refl
+    (item.occurs f.last (b.same ∙ h) (d.same ∙ j) (e.same ∙ k) (z.same ∙ l) (optional_alike u needs w f.inner f.first) (f.same ∙ q)
+    (b.whole ∙ ap (λ y. b.head ∷ y) (d.whole ∙ ap (λ y. d.head ∷ y) (e.whole ∙ ap (λ y. e.head ∷ y) (z.whole ∙ ap (λ y. z.head ∷ y) f.whole))))) refl
 plain_alike xs one (item.forward_on {x = x} {o = o} {n = n} s {u = u} {nonterminal = nonterminal} {needs = needs} h j k l m g) ys a =
     let b = headed x (o ∷ n ∷ (u ++ s ∷ [])) ys (alike_as xs _ ys g a) in
     let d = headed o (n ∷ (u ++ s ∷ [])) b.tail b.others in
     let e = headed n (u ++ s ∷ []) d.tail d.others in
     let f = closed u s e.tail e.others in
     plain ys (i.ForwardOn b.head.at nonterminal needs) one
-        (item.forward_on f.last (b.same ∙ h) (d.same ∙ j) (e.same ∙ k) (needs_alike u needs l f.inner f.first) (f.same ∙ m)
-        (b.whole ∙ ap (λ y. b.head ∷ y) (d.whole ∙ ap (λ y. d.head ∷ y) (e.whole ∙ ap (λ y. e.head ∷ y) f.whole)))) refl
+    (item.forward_on f.last (b.same ∙ h) (d.same ∙ j) (e.same ∙ k) (needs_alike u needs l f.inner f.first) (f.same ∙ m)
+    (b.whole ∙ ap (λ y. b.head ∷ y) (d.whole ∙ ap (λ y. d.head ∷ y) (e.whole ∙ ap (λ y. e.head ∷ y) f.whole)))) refl
 plain_alike xs one (item.concrete {u = u} {production = production} h s) ys (step {y = x} {ys = zs} q a) =
     let m = production_alike u production s zs a in
     plain ys (i.Concrete x.at m.other) one (item.concrete (q ∙ h) m.is) (ap (λ y. i.Concrete 0 y) m.same)
@@ -111,6 +112,7 @@ pattern_unplaced r.Terminal a b name bytes tree = refl
 pattern_unplaced r.Ignore a b name bytes tree = refl
 pattern_unplaced r.Marking a b name bytes tree = refl
 
+-- an item with a regular expression
 pattern_alike : (x n y s : Lexeme) (role : Role) (name bytes : List ℕ) (one : Item) → IsRole role x → n.token ≡ t.Name name → y.token ≡ t.Regex bytes → s.token ≡ t.Punctuation p.Semicolon
     → IsReadAs (Pattern x.at role name bytes y.at) one → (ys : List Lexeme) → Alike (x ∷ n ∷ y ∷ s ∷ []) ys → HasItem ys one
 pattern_alike x n y s role name bytes one h j k l read ys (step {y = a} q (step v (step {y = c} u (step o done)))) = record {

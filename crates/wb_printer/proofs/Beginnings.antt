@@ -25,20 +25,25 @@ begins_layout b = is_blank b || eqb b 47
 abbrev IsClear : List ℕ → Type 0
 IsClear x = begins_layout (get_or x 0 0) ≡ false
 
+-- a letter or `_` begins none
 letter_clear : (b : ℕ) → is_letter b ≡ true → begins_layout b ≡ false
 letter_clear b h = grind (arith, h)
 
+-- a digit begins none
 digit_clear : (b : ℕ) → 48 ≤ b → b ≤ 57 → begins_layout b ≡ false
 digit_clear b low high = grind (arith, low, high)
 
+-- digits begin with a digit
 numeral_clear : (x : List ℕ) → IsNumeral 10 x → IsClear x
 numeral_clear [] h = absurd (omega (arith, h.0))
 numeral_clear (c ∷ cs) h = let r = digit_from_value c h.1.0 in digit_clear c r.0 r.1
 
+-- an integer begins with a digit or a minus
 integer_clear : (x : List ℕ) {z : ℤ} → IsInteger x z → IsClear x
 integer_clear x (IsInteger.positive n e) = numeral_clear x n
 integer_clear x (IsInteger.negative n e f) = subst IsClear (sym e) refl
 
+-- no reserved word begins so
 word_clear : (word : Word) → IsClear (word_text word)
 word_clear w.Abstract = refl
 word_clear w.Aspect = refl
@@ -76,6 +81,7 @@ word_clear w.To = refl
 word_clear w.Top = refl
 word_clear w.True = refl
 
+-- no mark begins so
 mark_clear : (mark : Punctuation) → IsClear (punctuation_text mark)
 mark_clear p.Semicolon = refl
 mark_clear p.Colon = refl
@@ -117,7 +123,7 @@ regex_piece text at body rest first second some stands behind (blank within is a
 regex_piece text at [] rest first second some stands behind (comment layout k) = some refl
 regex_piece text at (d ∷ body) rest first second some stands behind (comment layout k) = no_slash d body stands (sym second ∙ k.second.is)
 
--- the byte behind the front of a text
+-- the first byte behind the front of a text
 second_byte : (text front y : List ℕ) (at : ℕ) → text ≡ front ++ y → at ≡ length front → get_or text at 0 ≡ get_or y 0 0
 second_byte text front y at e f =
     let same : at ≡ length front + 0 = omega (arith, f) in
@@ -130,6 +136,7 @@ front_piece text front [] rest at e f some clear behind piece = omega (arith, so
 front_piece text front (c ∷ x) rest at e f some clear behind piece =
     clear_piece text at (ap begins_layout (second_byte text front (c ∷ (x ++ rest)) at e f) ∙ clear) behind piece
 
+-- a name begins with a letter or `_`
 name_clear : (name : List ℕ) → IsIdentifier name → IsClear name
 name_clear [] s = absurd s
 name_clear (b ∷ x) s = letter_clear b s.0

@@ -1,5 +1,5 @@
 -- Printed tokens with blanks before them are read as those tokens.
-use Rattle.std.proofs.Common.{◌≡◌, ◌<◌, ◌+◌, ℕ, List, [], ◌∷◌, ◌++◌, Bool, true, false, ◌&&◌, ◌||◌, cond, eqb, length, get_or, refl, sym, ap, ◌∙◌, subst, arith, length-append, append_assoc}
+use Rattle.std.proofs.Common.{◌≡◌, ◌+◌, ℕ, List, [], ◌∷◌, ◌++◌, Bool, true, false, ◌&&◌, length, get_or, refl, sym, ap, ◌∙◌, subst, arith, length-append, append_assoc}
 use Rattle.std.specs.List.{list_all}
 use Rattle.std.proofs.lemmas.List.{get_or_at, append-nil}
 use Rattle.std.proofs.lemmas.List.Folds.{list_all-append}
@@ -52,7 +52,7 @@ skips text before (b ∷ gap) rest from at e f g h none_there =
     let both = both_true (is_blank b) (list_all is_blank gap) h in
     let here : get_or text from 0 ≡ b = ap (λ l. get_or l from 0) e ∙ get_or_at before b (gap ++ rest) 0 from (sym f) in
     skip {behind = from + 1} (blank (omega (arith, f, ap length e, length-append before (b ∷ (gap ++ rest)))) (ap is_blank here ∙ both.0) refl)
-        (skips text (before ++ b ∷ []) gap rest (from + 1) at (e ∙ sym (append_assoc before (b ∷ []) (gap ++ rest))) (omega (arith, f, length-append before (b ∷ []))) (omega (arith, g)) both.1 none_there)
+    (skips text (before ++ b ∷ []) gap rest (from + 1) at (e ∙ sym (append_assoc before (b ∷ []) (gap ++ rest))) (omega (arith, f, length-append before (b ∷ []))) (omega (arith, g)) both.1 none_there)
 
 -- at the end of a text is no layout
 end_piece : (text : List ℕ) (behind : ℕ) → ¬ IsLayoutPiece WithComments text (length text) behind

@@ -1,5 +1,5 @@
 -- The tokens of a text of bytes are printed as what they are.
-use Rattle.std.proofs.Common.{◌≡◌, ◌<◌, ◌+◌, ◌-◌, ◌*◌, ℕ, List, [], ◌∷◌, ◌++◌, Option, Some, None, Bool, true, false, ◌&&◌, cond, eqb, leb, length, get_or, take, drop, refl, sym, ap, ◌∙◌, subst, arith}
+use Rattle.std.proofs.Common.{◌≡◌, ◌<◌, ◌-◌, ℕ, List, [], ◌∷◌, ◌++◌, Option, Some, None, Bool, true, false, ◌&&◌, cond, eqb, leb, length, take, drop, refl, sym, subst, arith}
 use Rattle.std.specs.List.{All}
 use Rattle.std.proofs.lemmas.List.Elements.{All-take, All-drop, All-nil, All-cons}
 use Rattle.std.proofs.Math.Seq.{take-append_seam, drop-append_seam}
@@ -20,10 +20,11 @@ use Rattle.wb_printer.proofs.GrammarTokens.{tokens}
 abbrev pub AreBytes : List ℕ → Type 0
 AreBytes x = All (λ b. b < 256) x
 
--- the front of bytes, and what stands behind it
+-- the front of bytes is bytes
 front_bytes : (x y : List ℕ) → AreBytes (x ++ y) → AreBytes x
 front_bytes x y h = subst AreBytes (take-append_seam x y) (All-take (λ b. b < 256) (length x) (x ++ y) h)
 
+-- and what stands behind it
 back_bytes : (x y : List ℕ) → AreBytes (x ++ y) → AreBytes y
 back_bytes x y h = subst AreBytes (drop-append_seam x y) (All-drop (λ b. b < 256) (length x) (x ++ y) h)
 
@@ -32,6 +33,7 @@ either_below : (t : Bool) (bound n b : ℕ) (other : Option ℕ) → cond t (Som
 either_below true bound n b other h l k = let e : n ≡ b = cc in omega (arith, e, l refl)
 either_below false bound n b other h l k = k h
 
+-- no value
 none_below : (b bound : ℕ) → None ≡ Some b → b < bound
 none_below b bound h = absurd (cc)
 
@@ -44,16 +46,19 @@ escaped_below e b h0 =
     either_below (eqb e 116) 256 9 b _ h3 (λ _. omega arith) (λ h4.
     either_below (eqb e 114) 256 13 b _ h4 (λ _. omega arith) (λ h5. none_below b 256 h5)))))
 
--- the value of a hexadecimal digit
+-- what a digit from `0` to `9` is worth
 decimal_below : (d : ℕ) → (leb 48 d && leb d 57) ≡ true → d - 48 < 16
 decimal_below d h = grind (arith, h)
 
+-- what a digit from `a` to `f` is worth
 lower_below : (d : ℕ) → (leb 97 d && leb d 102) ≡ true → d - 87 < 16
 lower_below d h = grind (arith, h)
 
+-- what a digit from `A` to `F` is worth
 upper_below : (d : ℕ) → (leb 65 d && leb d 70) ≡ true → d - 55 < 16
 upper_below d h = grind (arith, h)
 
+-- what a hexadecimal digit is worth
 hex_below : (d m : ℕ) → hex_value d ≡ Some m → m < 16
 hex_below d m h0 =
     either_below (leb 48 d && leb d 57) 16 (d - 48) m _ h0 (decimal_below d) (λ h1.
@@ -107,11 +112,12 @@ tokens_printed text from to xs small (none e) = tt
 tokens_printed text from to xs small (next {x = x} {xs = rest} h r) =
     (token_printed text x.token x.at x.end small h.stands, tokens_printed text x.end to rest small r)
 
--- some tokens, and others
+-- the first of them are
 pub printed_front : (ts us : List Token) → ArePrinted (ts ++ us) → ArePrinted ts
 printed_front [] us h = tt
 printed_front (a ∷ ts) us h = (h.0, printed_front ts us h.1)
 
+-- and the others
 pub printed_back : (ts us : List Token) → ArePrinted (ts ++ us) → ArePrinted us
 printed_back [] us h = h
 printed_back (a ∷ ts) us h = printed_back ts us h.1

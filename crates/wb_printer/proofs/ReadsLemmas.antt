@@ -17,10 +17,10 @@ use Rattle.wb_printer.proofs.CanonicalLemmas.{text_of}
 use Rattle.wb_printer.proofs.SpecLemmas.{format_tokens, format_line}
 use Rattle.wb_printer.proofs.CallerLemmas.{one_canonical}
 use Rattle.wb_printer.proofs.PrintedTokens.{ArePrinted, tokens_printed}
-use Rattle.wb_printer.proofs.Flows.{AreRead, flows_read}
+use Rattle.wb_printer.proofs.Flows.{flows_read}
 use Rattle.wb_printer.proofs.LineFlows.{joined, lines_flow}
-use Rattle.wb_printer.proofs.Alike.{Alike, done, step, alike, Headed, headed, Halves, halves, alike_as}
-use Rattle.wb_printer.proofs.AlikeItems.{HasItem, item_alike}
+use Rattle.wb_printer.proofs.Alike.{Alike, done, step, alike, headed, halves, alike_as}
+use Rattle.wb_printer.proofs.AlikeItems.{item_alike}
 
 -- the lines of items, with the tokens of their lexemes
 record HaveLexemes (v : List Lexeme) (items : List Item) : Type 0 where
@@ -28,6 +28,7 @@ record HaveLexemes (v : List Lexeme) (items : List Item) : Type 0 where
   same : tokens v ≡ joined lines
   text : AreItemLines items (text_of lines)
 
+-- items of the grammar, once they are read, have lines
 items_lines : (v : List Lexeme) (written : List WrittenItem) (items : List Item) → AreItems v written → AllZip IsReadAs written items → HaveLexemes v items
 items_lines v written [] item.nothing z = record { lines = []; same = refl; text = canonical.nothing }
 items_lines v written (x ∷ xs) item.nothing z = absurd z
@@ -46,6 +47,7 @@ record HasLines (xs : List Lexeme) (spec : SpecState) : Type 0 where
   same : tokens xs ≡ joined lines
   is : IsCanonical spec (text_of lines)
 
+-- a specification of the grammar, once it is read, has lines
 spec_lines : (xs : List Lexeme) (written : WrittenSpec) (spec : SpecState) → IsSpecification xs written → IsReadSpec written spec → HasLines xs spec
 spec_lines xs written spec (item.whole {f = f} {n = n} {s = s} {u = u} {v = v} {host = host} {name = name} {host_name = host_name} {items = ws} h j k l r e) read =
     let i = items_lines v ws spec.items r read.items in
@@ -74,6 +76,7 @@ record HaveItems (ys : List Lexeme) (items : List Item) : Type 0 where
   read : AllZip IsReadAs written others
   same : map unplaced others ≡ map unplaced items
 
+-- the same tokens are the same items but for places
 items_alike : (xs : List Lexeme) (written : List WrittenItem) (items : List Item) → AreItems xs written → AllZip IsReadAs written items → (ys : List Lexeme) → Alike xs ys → HaveItems ys items
 items_alike xs written [] item.nothing z ys done = record { written = []; others = []; are = item.nothing; read = tt; same = refl }
 items_alike xs written (x ∷ rest) item.nothing z ys a = absurd z
@@ -90,6 +93,7 @@ items_alike xs written (x ∷ more) (item.next {u = u} {v = v} {item = one} {res
       same = ap (λ y. y ∷ map unplaced i.others) m.same ∙ ap (λ y. unplaced x ∷ y) i.same;
     }
 
+-- the same tokens are the same header
 header_alike : (xs : List Lexeme) (host : Bool) (name for_host : List ℕ) → IsHeader xs host name for_host → (ys : List Lexeme) → Alike xs ys → IsHeader ys host name for_host
 header_alike xs host name for_host (item.host h j k) ys (step q (step r (step s done))) = item.host (q ∙ h) (r ∙ j) (s ∙ k)
 header_alike xs host name for_host (item.extension h j k l m) ys (step q (step r (step s (step u (step v done))))) = item.extension (q ∙ h) (r ∙ j) (s ∙ k) (u ∙ l) (v ∙ m)
@@ -102,6 +106,7 @@ record HasSpec (ys : List Lexeme) (spec : SpecState) : Type 0 where
   read : IsReadSpec written other
   same : AreSameButPlaces other spec
 
+-- the same tokens are the same specification but for places
 spec_alike : (xs : List Lexeme) (written : WrittenSpec) (spec : SpecState) → IsSpecification xs written → IsReadSpec written spec → (ys : List Lexeme) → Alike xs ys → HasSpec ys spec
 spec_alike xs written spec (item.whole {f = f} {n = n} {s = s} {u = u} {v = v} {host = host} {name = name} {host_name = host_name} {items = ws} h j k l r e) read ys a =
     let b = headed f (n ∷ s ∷ (u ++ v)) ys (alike_as xs _ ys e a) in
