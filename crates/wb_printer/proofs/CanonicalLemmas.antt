@@ -19,14 +19,14 @@ use Rattle.wb_printer.specs.ItemTokens.{AreLinesOf}
 use Rattle.wb_printer.proofs.GrammarTokens.{tokens, of_item}
 
 -- the text behind a token on its line
-abbrev gap : Token → Token → List ℕ
+abbrev pub gap : Token → Token → List ℕ
 gap a b = if leads_closely a || follows_closely b then [] else 32 ∷ []
 
-abbrev behind : Token → List Token → List ℕ
+abbrev pub behind : Token → List Token → List ℕ
 behind a [] = []
 behind a (b ∷ rest) = (gap a b ++ printed b) ++ behind b rest
 
-behind_line : (a : Token) (ts : List Token) → line_of (a ∷ ts) ≡ printed a ++ behind a ts
+pub behind_line : (a : Token) (ts : List Token) → line_of (a ∷ ts) ≡ printed a ++ behind a ts
 behind_line a [] = sym (append-nil (printed a))
 behind_line a (b ∷ rest) = ap (λ y. (printed a ++ gap a b) ++ y) (behind_line b rest) ∙ (append_assoc (printed a) (gap a b) (printed b ++ behind b rest) ∙ ap (λ y. printed a ++ y) (sym (append_assoc (gap a b) (printed b) (behind b rest))))
 
@@ -82,4 +82,4 @@ of_spec w written items (item.whole {v = v} {items = ws} h j k l r e) z = lines_
 
 -- the items of a specification have lines
 pub text_lines : (spec : SpecState) → HasText spec → HaveLines spec.items
-text_lines spec (bytes, r) = of_spec r.text.tokens r.written spec.items r.text.specification r.read.items
+text_lines spec (bytes, small, r) = of_spec r.text.tokens r.written spec.items r.text.specification r.read.items

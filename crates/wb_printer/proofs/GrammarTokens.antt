@@ -33,7 +33,7 @@ use Rattle.wb_printer.specs.PartTokens.{kind_token, further_names, names_tokens,
 abbrev pub tokens : List Lexeme → List Token
 tokens xs = map (λ x. x.token) xs
 
-tokens_append : (u v : List Lexeme) → tokens (u ++ v) ≡ tokens u ++ tokens v
+pub tokens_append : (u v : List Lexeme) → tokens (u ++ v) ≡ tokens u ++ tokens v
 tokens_append u v = map-append (λ x. x.token) u v
 
 mutual

@@ -1,8 +1,17 @@
+pub mod Alike
+pub mod AlikeExpressions
+pub mod AlikeItems
+pub mod AlikeParts
+pub mod Beginnings
 pub mod CallerLemmas
 pub mod CanonicalLemmas
+pub mod Flows
 pub mod GrammarTokens
 pub mod ItemLemmas
+pub mod LineFlows
 pub mod NodeLemmas
 pub mod OutputLemmas
+pub mod PrintedTokens
+pub mod ReadsLemmas
 pub mod SpecLemmas
 pub mod WalkLemmas

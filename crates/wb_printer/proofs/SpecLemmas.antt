@@ -22,7 +22,7 @@ header_of : (xs : List Lexeme) (written : WrittenSpec) → IsSpecification xs wr
 header_of xs written (item.whole {u = u} h i j header k e) = (u, header)
 
 spec_header : (spec : SpecState) → HasText spec → (u : List Lexeme) × IsHeader u spec.host spec.name spec.for_host
-spec_header spec (bytes, r) =
+spec_header spec (bytes, small, r) =
     let h = header_of r.text.tokens r.written r.text.specification in (
       h.0,
       subst (λ (b : Bool). IsHeader h.0 b spec.name spec.for_host) (sym r.read.host)
@@ -34,7 +34,7 @@ spec_header spec (bytes, r) =
 abbrev pub format_tokens : List Token
 format_tokens = t.Word w.Format ∷ t.Int (pos 1) ∷ t.Punctuation p.Semicolon ∷ []
 
-format_line : line_of format_tokens ≡ codes "format 1;"
+pub format_line : line_of format_tokens ≡ codes "format 1;"
 unfolding digits
 format_line = refl
 

@@ -2,6 +2,8 @@
 
 ghost use Rattle.std.specs.Prelude.{◌≡◌, List, OnOk, IfOk};
 ghost use Rattle.wb_tokens.specs.declared.token.Token.{Token};
+ghost use Rattle.wb_syntax.specs.SpecText.{SpecState};
+ghost use Rattle.wb_syntax.specs.Offsets.{AreSameButPlaces, ReadsBack};
 ghost use Rattle.wb_syntax.specs.Canonical.{IsCanonical};
 ghost use Rattle.wb_printer.specs.Output.{after, after_lines};
 ghost use Rattle.wb_printer.specs.ItemTokens.{header_tokens, AreLinesOf};
@@ -43,10 +45,14 @@ fn write_items(alloc: Global, line: &mut Line, items: &[Item]) -> Result<(), All
 
 /// The canonical text of a specification. The only error is want of memory.
 ///
-/// An absent `needs` stays absent, and a regular expression keeps its bytes. No clause bounds the work: it is linear in the text, and
-/// nothing recurses.
+/// The text reads back as the same specification but for places, and is the canonical text of each such specification. An absent
+/// `needs` stays absent, and a regular expression keeps its bytes. No clause bounds the work: it is linear in the text, and nothing
+/// recurses.
 pub fn print_spec(alloc: Global, spec: &Spec) -> Result<Vec<u8>, AllocError>
     ensures canonical { IfOk result (λ text. IsCanonical spec.now text.items) }
+    ensures reads { IfOk result (λ text. ReadsBack spec.now text.items) }
+    ensures again { IfOk result (λ text.
+        (other : SpecState) → AreSameButPlaces other spec.now → IsCanonical other text.items) }
 {
     let mut line = Line::new(Vec::new(alloc));
     line.word(Word::Format)?;

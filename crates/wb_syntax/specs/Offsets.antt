@@ -4,7 +4,7 @@ use Rattle.wb_syntax.specs.declared.expression.Equation.{Equation}
 use Rattle.wb_syntax.specs.declared.item.Production.{Production}
 use Rattle.wb_syntax.specs.declared.item.Item.{Item}
 use Rattle.wb_syntax.specs.declared.item.Item.TheVariants as i
-use Rattle.wb_syntax.specs.SpecText.{SpecState}
+use Rattle.wb_syntax.specs.SpecText.{SpecState, IsSpecText}
 
 -- the equation without its place
 abbrev pub unplaced_equation : Equation → Equation
@@ -38,3 +38,9 @@ pub record AreSameButPlaces (one other : SpecState) : Type 0 where
   pub name : one.name ≡ other.name
   pub for_host : one.for_host ≡ other.for_host
   pub items : map unplaced one.items ≡ map unplaced other.items
+
+-- the text is a specification that is the same as this one but for places
+pub record ReadsBack (spec : SpecState) (text : List ℕ) : Type 0 where
+  pub other : SpecState
+  pub read : IsSpecText text other
+  pub same : AreSameButPlaces other spec

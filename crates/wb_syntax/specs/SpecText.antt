@@ -1,6 +1,6 @@
 -- Which bytes are a specification, and which one.
-use Rattle.std.specs.Prelude.{◌≡◌, ℕ, Bool, List, []}
-use Rattle.std.specs.List.{AllZip}
+use Rattle.std.specs.Prelude.{◌≡◌, ℕ, ◌<◌, Bool, List, []}
+use Rattle.std.specs.List.{All, AllZip}
 use Rattle.wb_predictive.specs.declared.table.Next.TheVariants.{End}
 use Rattle.wb_predictive.specs.Reading.{Spells}
 use Rattle.wb_tokens.specs.declared.token.Layout.TheVariants.{WithComments}
@@ -65,6 +65,6 @@ pub record IsSpecText (bytes : List ℕ) (spec : SpecState) : Type 0 where
   pub text : IsWrittenText bytes written
   pub read : IsReadSpec written spec
 
--- some text is this specification
+-- some text of bytes is this specification
 abbrev pub HasText : SpecState → Type 0
-HasText spec = (bytes : List ℕ) × IsSpecText bytes spec
+HasText spec = (bytes : List ℕ) × All (λ b. b < 256) bytes × IsSpecText bytes spec

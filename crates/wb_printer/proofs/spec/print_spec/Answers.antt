@@ -6,6 +6,7 @@ use Rattle.wb_syntax.specs.Canonical.{IsCanonical}
 use Rattle.wb_printer.specs.Output.{Output, put, after, ended}
 use Rattle.wb_printer.specs.ItemTokens.{AreLinesOf}
 use Rattle.wb_printer.proofs.CanonicalLemmas.{text_lines}
+use Rattle.wb_printer.proofs.ReadsLemmas.{reads_back, canonical_again}
 use Rattle.wb_printer.proofs.SpecLemmas.{canonical_text, format_tokens}
 use Rattle.wb_printer.proofs.spec.print_spec.Goals as goal
 
@@ -21,8 +22,12 @@ returns c =
     let begun : c.new-line.result ≡ record { text = []; closely = true } = c.new-line.ensures ∙ ap (λ (l : List ℕ). record { text = l; closely = true }) c.new.ensures.items in
     let first : c.mark.new.self ≡ after c.new-line.result format_tokens
     = c.in_ok-mark.ensures ∙ ap (λ (o : Output). put o (t.Punctuation p.Semicolon)) (c.in_ok-int.ensures ∙ ap (λ (o : Output). put o (t.Int (pos 1))) c.in_ok-word.ensures) in
+    let is : IsCanonical c.args.spec.now c.into_text.result.items
+    = subst (λ (l : List ℕ). IsCanonical c.args.spec.now l) (sym c.into_text.ensures)
+    (canonical_text c.args.spec.now c.items.ensures.text c.new-line.result c.end.new.self c.end-2.new.self c.write_items.new.line h.lines refl begun
+    (c.in_ok-end.ensures ∙ ap ended first) (c.in_ok-end-2.ensures ∙ ap ended c.in_ok-write_header.ensures) (c.in_ok-write_items.ensures h.lines are)) in
     record {
-      canonical = subst (λ (l : List ℕ). IsCanonical c.args.spec.now l) (sym c.into_text.ensures)
-          (canonical_text c.args.spec.now c.items.ensures.text c.new-line.result c.end.new.self c.end-2.new.self c.write_items.new.line h.lines refl begun
-          (c.in_ok-end.ensures ∙ ap ended first) (c.in_ok-end-2.ensures ∙ ap ended c.in_ok-write_header.ensures) (c.in_ok-write_items.ensures h.lines are));
+      canonical = is;
+      reads = reads_back c.args.spec.now c.items.ensures.text c.into_text.result.items is;
+      again = canonical_again c.args.spec.now c.into_text.result.items is;
     }
