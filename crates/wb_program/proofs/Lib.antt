@@ -2,3 +2,4 @@ mod CauseLemmas
 mod Known
 pub mod OneReport
 mod Pieces
+pub mod ShownAgain

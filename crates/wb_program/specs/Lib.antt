@@ -7,6 +7,7 @@ pub mod Lines
 pub mod Report
 pub mod ShowReport
 pub mod Shown
+pub mod ShownAgain
 pub mod StatusNumber
 pub mod Words
 pub mod Written

@@ -7,6 +7,7 @@
 
 mod answer;
 mod language;
+mod laws;
 mod lines;
 mod reading;
 mod show;
@@ -15,5 +16,6 @@ mod top;
 mod words;
 mod writing;
 
+pub use laws::shown_again_law;
 pub use status::Status;
 pub use top::workbench;
