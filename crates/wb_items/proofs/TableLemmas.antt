@@ -22,6 +22,10 @@ use Rattle.wb_items.proofs.ListLemmas.{at_cases, at_old, at_end, at_stays, at_on
 pub prefix_at : {g : GrammarState} {prefixes : List (List Symbol)} {kernels : List (List Item)} → AreKernelsOf g prefixes kernels → (s : ℕ) → s < length kernels → (prefix : List Symbol) × (slice_get prefixes s ≡ Some prefix)
 prefix_at {prefixes = prefixes} h s lt = (slice_index_or prefixes s [], slice_get-get_or prefixes s [] (omega (arith, h.len)))
 
+-- one item is in order
+pub one_in_order : (item : Item) → AreInOrder (item ∷ [])
+one_in_order item i j a b lt p q = absurd (omega (arith, (at_one item a i p).0, (at_one item b j q).0))
+
 -- the kernel of the empty prefix alone
 pub first_found : (g : GrammarState) → AreKernelsOf g ([] ∷ []) ((start_item g ∷ []) ∷ [])
 first_found g = record {
@@ -29,7 +33,7 @@ first_found g = record {
   first = refl;
   viable = λ s prefix at. subst (IsViablePrefix g) (at_one [] prefix s at).1 (start_item g, end_of g, valid.start);
   exact = λ s prefix items at there. subst (λ z. ListsKernel g z items) (at_one [] prefix s at).1 (subst (ListsKernel g []) (at_one (start_item g ∷ []) items s there).1 lists);
-  sorted = λ s items there. subst AreInOrder (at_one (start_item g ∷ []) items s there).1 one_in_order;
+  sorted = λ s items there. subst AreInOrder (at_one (start_item g ∷ []) items s there).1 (one_in_order (start_item g));
   once = λ s t items other one two same. (at_one (start_item g ∷ []) items s one).0 ∙ sym (at_one (start_item g ∷ []) other t two).0;
 }
   where
@@ -38,9 +42,6 @@ first_found g = record {
       λ (k : Contains (start_item g ∷ []) item). let (j, at) = at_Contains (start_item g ∷ []) item k in (first_kernel g item).1 (sym (at_one (start_item g) item j at).1),
       λ is. subst (Contains (start_item g ∷ [])) (sym ((first_kernel g item).0 is)) (Contains-at (start_item g ∷ []) 0 (start_item g) refl),
     )
-
-    one_in_order : AreInOrder (start_item g ∷ [])
-    one_in_order i j a b lt p q = absurd (omega (arith, (at_one (start_item g) a i p).0, (at_one (start_item g) b j q).0))
 
 turned : (items other : List Item) → SameItems items other → SameItems other items
 turned items other same item = ((same item).1, (same item).0)

@@ -6,6 +6,7 @@
 #![tactic(auto)]
 
 mod close;
+mod compare;
 mod found;
 mod kernels;
 mod lookaheads;
