@@ -1,6 +1,8 @@
+pub mod AdvanceLemmas
 pub mod ClosingLemmas
 pub mod CompareLemmas
 pub mod FoundLemmas
+pub mod HalvesLemmas
 pub mod IndexLemmas
 pub mod KernelsLemmas
 pub mod ListLemmas
@@ -9,4 +11,5 @@ pub mod MoveLemmas
 pub mod OrderLemmas
 pub mod RuleRows
 pub mod SymbolLemmas
+pub mod SymbolOrder
 pub mod TableLemmas

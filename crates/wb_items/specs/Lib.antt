@@ -1,3 +1,4 @@
+pub mod Advances
 pub mod Closing
 pub mod Found
 pub mod Kernels

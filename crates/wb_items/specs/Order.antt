@@ -1,7 +1,16 @@
--- Lists of items as sets in order, and the numbers of kernels by this order.
+-- Symbols in order, lists of items as sets in order, and the numbers of kernels by this order.
 use Rattle.std.specs.Prelude.{◌≡◌, ◌↔◌, ℕ, ◌+◌, ◌<◌, ◌≤◌, List, Option, Some, None, length, Contains, slice_get}
+use Rattle.wb_base.specs.declared.symbol.Symbol.{Symbol}
+use Rattle.wb_base.specs.declared.symbol.Symbol.TheVariants.{Terminal, Nonterminal}
 use Rattle.wb_grammars.specs.declared.item.Item.{Item}
 use Rattle.wb_items.specs.Kernels.{AreInOrder, Precedes}
+
+-- the one symbol stands before the other: terminals before nonterminals, and each by number
+abbrev pub SymbolPrecedes : Symbol → Symbol → Type 0
+SymbolPrecedes (Terminal t) (Terminal u) = t < u
+SymbolPrecedes (Terminal t) (Nonterminal b) = Unit {0}
+SymbolPrecedes (Nonterminal a) (Terminal u) = ⊥
+SymbolPrecedes (Nonterminal a) (Nonterminal b) = a < b
 
 -- the one set has the least item in which it differs from the other
 pub record ComesFirst (items other : List Item) : Type 0 where
