@@ -36,6 +36,11 @@ pub record RulesUpTo (g : GrammarState) (b : ℕ) (numbers : List ℕ) (n : ℕ)
   pub complete : (q : ℕ) (right : List Symbol) → q < n → IsRule g q b right → Contains numbers q
   pub rising : (i j p q : ℕ) → i < j → slice_get numbers i ≡ Some p → slice_get numbers j ≡ Some q → p < q
 
+-- each nonterminal's row has its productions below a number, in order
+pub record RowsUpTo (g : GrammarState) (rows : List (List ℕ)) (n : ℕ) : Type 0 where
+  pub len : length rows ≡ g.nonterminals
+  pub each : (b : ℕ) (numbers : List ℕ) → slice_get rows b ≡ Some numbers → RulesUpTo g b numbers n
+
 -- the moves by the symbols at the first places are there, and later places have later symbols
 pub record MovesUpTo (g : GrammarState) (old now : FoundState) (list : List Advance) (s : ℕ) (row : List Move) (n : ℕ) : Type 0 where
   pub kernels : AreKernelsOf g now.prefixes now.kernels

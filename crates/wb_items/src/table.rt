@@ -16,7 +16,7 @@ use crate::advance::{Advance, advances, symbol_at};
 use crate::close::close;
 use crate::found::Found;
 use crate::row::Move;
-use crate::rules::rules;
+use crate::rules::{Numbers, rules};
 use crate::run::{kernel_of, run_end, run_of};
 use std::alloc::{AllocError, Global};
 use wb_base::{Grammar, Sequence, Symbol, push};
@@ -66,7 +66,7 @@ fn first_kernel(alloc: Global, grammar: &Grammar) -> Result<Sequence<Item>, Allo
 fn follow(
     alloc: Global,
     grammar: &Grammar,
-    rules: &[Sequence<usize>],
+    rules: &[Numbers],
     table: &mut Table,
 ) -> Result<(), AllocError>
     requires live { IsLive grammar.now }
