@@ -7,7 +7,11 @@ use Rattle.std.proofs.lemmas.List.{append_assoc, reverse-append}
 use Rattle.wb_base.specs.declared.symbol.Symbol.{Symbol}
 use Rattle.wb_grammars.specs.declared.item.Item.{Item}
 use Rattle.wb_items.specs.declared.found.Step.{Step}
-use Rattle.wb_items.specs.Found.{FoundState, prefixes_behind, prefixes_of, AreSteps}
+use Rattle.wb_items.specs.Found.{FoundState, IsFound, prefixes_behind, prefixes_of, AreSteps}
+use Rattle.std.specs.List.{insert}
+use Rattle.wb_items.specs.Kernels.{AreInOrder}
+use Rattle.wb_items.specs.Order.{IsIndex, LiesWithin}
+use Rattle.wb_items.proofs.IndexLemmas.{index_more}
 use Rattle.wb_items.proofs.ListLemmas.{at_cases, at_old, at_end, default_at}
 
 -- the prefix of a step
@@ -82,6 +86,13 @@ steps_more steps kernels step kernel h lt = record {
     | inl old ↦ h.back s other old
     | inr (last, same) ↦ subst (λ (z : Step). z.from ≤ s) same (omega (arith, h.len))
   ];
+}
+
+-- so does a number more in the order
+pub found_more : (steps steps' : List Step) (kernels kernels' : List (List Item)) (order order' : List ℕ) (step : Step) (kernel : List Item) (place n : ℕ) → IsFound steps kernels order → step.from < length kernels → LiesWithin kernels order kernel place place → AreInOrder kernel → steps' ≡ steps ++ step ∷ [] → kernels' ≡ kernels ++ kernel ∷ [] → order' ≡ insert order place n → n ≡ length kernels → IsFound steps' kernels' order'
+found_more steps steps' kernels kernels' order order' step kernel place n h lt lies sorted e f k last = record {
+  back = subst (λ s. AreSteps s kernels') (sym e) (subst (AreSteps (steps ++ step ∷ [])) (sym f) (steps_more steps kernels step kernel h.back lt));
+  index = subst (λ o. IsIndex o kernels') (sym (k ∙ ap (insert order place) last)) (subst (IsIndex (insert order place (length kernels))) (sym f) (index_more kernels order kernel place h.index lies sorted));
 }
 
 -- what is shown after a further step

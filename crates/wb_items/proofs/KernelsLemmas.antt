@@ -15,7 +15,7 @@ use Rattle.wb_grammars.proofs.FlowLemmas.{same_itself, same_back, same_then}
 use Rattle.wb_items.specs.declared.row.Move.{Move}
 use Rattle.wb_items.specs.Found.{FoundState}
 use Rattle.wb_items.specs.Kernels.{KernelsState, AreKernels, AreInOrder, ListsKernel, ListsItems, HasNoneBefore}
-use Rattle.wb_items.specs.Table.{SameItems, IsTable, IsRow, Leads}
+use Rattle.wb_items.specs.Table.{AreMovesInOrder, SameItems, IsTable, IsRow, Leads}
 use Rattle.wb_items.proofs.ListLemmas.{at_once, default_at}
 use Rattle.wb_items.proofs.OrderLemmas.{order_nil}
 
@@ -61,6 +61,10 @@ leads_next {g} found s x next l =
 
 row_there : {g : GrammarState} {found : FoundState} {closures : List (List Item)} {rows : List (List Move)} → IsTable g found closures rows → (s : ℕ) (row : List Move) → s < length found.prefixes → slice_get rows s ≡ Some row → IsRow g found.prefixes (slice_index_or closures s []) s row
 row_there {closures = closures} h s row lt there = h.followed.moves s (slice_index_or closures s []) row (closure_there h s lt) there
+
+-- the moves of a kernel are in order
+pub moves_ordered : (g : GrammarState) (found : FoundState) (closures : List (List Item)) (rows : List (List Move)) → IsTable g found closures rows → (s : ℕ) (row : List Move) → s < length found.prefixes → slice_get rows s ≡ Some row → AreMovesInOrder row
+moves_ordered g found closures rows h s row lt there = (row_there h s row lt there).ordered
 
 -- a prefix with an item has its number
 pub all_there : {g : GrammarState} {found : FoundState} {closures : List (List Item)} {rows : List (List Move)} → IsTable g found closures rows → {prefix : List Symbol} {item : Item} {t : ℕ} → IsValidItem g prefix item t → (s : ℕ) × (s < length found.prefixes) × SameKernel g (at found s) prefix

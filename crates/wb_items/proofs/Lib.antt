@@ -1,11 +1,15 @@
+pub mod AdvanceLemmas
 pub mod ClosingLemmas
+pub mod CompareLemmas
 pub mod FoundLemmas
+pub mod HalvesLemmas
+pub mod IndexLemmas
 pub mod KernelsLemmas
 pub mod ListLemmas
 pub mod LooksLemmas
 pub mod MoveLemmas
 pub mod OrderLemmas
 pub mod RuleRows
-pub mod SameLemmas
 pub mod SymbolLemmas
+pub mod SymbolOrder
 pub mod TableLemmas

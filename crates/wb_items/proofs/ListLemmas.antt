@@ -44,3 +44,9 @@ at_default xs j d lt = slice_get-get_or xs j d lt
 
 pub default_at : {X : Type 0} (xs : List X) (j : ℕ) (d z : X) → slice_get xs j ≡ Some z → slice_index_or xs j d ≡ z
 default_at xs j d z e = same_Some (slice_index_or xs j d) z (sym (slice_get-get_or xs j d (slice_get_within xs j z e)) ∙ e)
+
+-- a place within has an element
+pub at_some : {X : Type 0} (xs : List X) (j : ℕ) → j < length xs → (x : X) × (slice_get xs j ≡ Some x)
+at_some [] j lt = absurd (omega arith)
+at_some (x ∷ xs) zero lt = (x, refl)
+at_some (x ∷ xs) (suc j) lt = at_some xs j (omega arith)

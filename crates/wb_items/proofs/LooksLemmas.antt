@@ -1,8 +1,8 @@
 -- Items with sets: places of items, and rows with one more.
-use Rattle.std.proofs.Common.{◌≡◌, ℕ, ◌+◌, ◌<◌, ◌≤◌, suc, Bool, false, List, [], ◌∷◌, ◌++◌, All, length, get_or, map, drop, replicate, Some, refl, sym, ◌∙◌, ap, subst, inl, inr, arith, drop-cons}
-use Rattle.std.specs.Prelude.{slice_get, slice_index_or, Contains}
+use Rattle.std.proofs.Common.{◌≡◌, ℕ, ◌+◌, ◌<◌, ◌≤◌, zero, suc, Bool, false, List, [], ◌∷◌, ◌++◌, All, length, get_or, map, drop, replicate, Some, refl, sym, ◌∙◌, ap, subst, inl, inr, arith, drop-cons}
+use Rattle.std.specs.Prelude.{slice_get, slice_index_or, slice_set, Contains}
 use Rattle.std.specs.Option.{option_map}
-use Rattle.std.proofs.lemmas.Option.{slice_get-map, slice_get-get_or, slice_get_within}
+use Rattle.std.proofs.lemmas.Option.{slice_get-map, slice_get-get_or, slice_get_within, same_Some}
 use Rattle.std.proofs.lemmas.List.{length-map, map-append, append_assoc, append-nil, drop_all, length-replicate}
 use Rattle.std.proofs.lemmas.List.Elements.{All-push, All-nil}
 use Rattle.std.proofs.lemmas.Bool.{cases_eq}
@@ -15,19 +15,6 @@ use Rattle.wb_items.proofs.ListLemmas.{at_once, at_Contains}
 
 pub at_item : (row : List Looks) (n : ℕ) (looks : Looks) → n < length row → looks ≡ slice_index_or row n looks → slice_get (items_in row) n ≡ Some looks.item
 at_item row n looks lt e = slice_get-map (λ (l : Looks). l.item) row n ∙ ap (option_map (λ (l : Looks). l.item)) (slice_get-get_or row n looks lt ∙ ap Some (sym e))
-
--- the item stands at no place before, nor here
-pub place_more : (row : List Looks) (item : Item) (n : ℕ) (looks : Looks) → n < length row → looks ≡ slice_index_or row n looks → (looks.item ≡ item → ⊥) → ((p : ℕ) → p < n → slice_get (items_in row) p ≡ Some item → ⊥) → (p : ℕ) → p < n + 1 → slice_get (items_in row) p ≡ Some item → ⊥
-place_more row item n looks lt e ne before p less at = elim (cases_eq p n) [
-  | inl same ↦ ne (at_once (items_in row) n looks.item item (at_item row n looks lt e) (subst (λ k. slice_get (items_in row) k ≡ Some item) same at))
-  | inr other ↦ before p (omega arith) at
-]
-
--- it stands somewhere
-pub place_there : (row : List Looks) (item : Item) (n : ℕ) → length row ≤ n → ((p : ℕ) → p < n → slice_get (items_in row) p ≡ Some item → ⊥) → Contains (items_in row) item → ⊥
-place_there row item n past before k =
-    let (j, at) = at_Contains (items_in row) item k in
-    before j (let w = slice_get_within (items_in row) j item at in omega (arith, w, past, length-map row (λ (l : Looks). l.item))) at
 
 -- a row with an empty set more
 pub looks_more : (looks more : List Looks) (items : List Item) (n count : ℕ) (d : Item) (set : List Bool) → n < length items → set ≡ replicate count false → more ≡ looks ++ record { item = slice_index_or items n d; set = set } ∷ [] → (items_in looks ++ drop n items ≡ items) × All (λ l. length l.set ≡ count) looks × All (λ l. IsEmpty l.set) looks → (items_in more ++ drop (n + 1) items ≡ items) × All (λ l. length l.set ≡ count) more × All (λ l. IsEmpty l.set) more
@@ -67,3 +54,9 @@ looks_row closures count rows more n row lt is wide none_in e h =
 
 pub looks_done : (closures : List (List Item)) (count : ℕ) (rows : List (List Looks)) (n : ℕ) → length closures ≤ n → RowsUpTo closures count rows n → map items_in rows ≡ closures
 looks_done closures count rows n past h = sym (append-nil (map items_in rows)) ∙ ap (λ l. map items_in rows ++ l) (sym (drop_all n closures past)) ∙ h.front
+
+-- a change of a set keeps the items
+pub items_stay : (row : List Looks) (n : ℕ) (looks : Looks) (set : List Bool) → slice_get row n ≡ Some looks → items_in (slice_set row n (record looks { set = set })) ≡ items_in row
+items_stay [] n looks set at = cc
+items_stay (first ∷ row) zero looks set at = ap (λ z. z ∷ items_in row) (sym (ap (λ (l : Looks). l.item) (same_Some first looks at)))
+items_stay (first ∷ row) (suc n) looks set at = ap (λ l. first.item ∷ l) (items_stay row n looks set at)

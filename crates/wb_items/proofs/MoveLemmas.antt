@@ -1,87 +1,116 @@
--- A row of moves, as a loop over items makes it.
-use Rattle.std.proofs.Common.{◌≡◌, ℕ, ◌+◌, ◌<◌, ◌≤◌, List, [], ◌∷◌, ◌++◌, length, Some, refl, sym, ◌∙◌, subst, arith, inl, inr}
-use Rattle.std.specs.Prelude.{slice_get, Contains}
+-- A row of moves, as a loop over the runs of a list makes it.
+use Rattle.std.proofs.Common.{◌≡◌, ℕ, ◌+◌, ◌<◌, ◌≤◌, List, [], ◌∷◌, ◌++◌, length, Some, refl, sym, ◌∙◌, ap, subst, arith, inl, inr}
+use Rattle.std.specs.Prelude.{slice_get, Contains, ◌↔◌}
 use Rattle.std.proofs.lemmas.Option.{slice_get_within}
-use Rattle.std.proofs.lemmas.Bool.{cases_eq}
+use Rattle.std.proofs.lemmas.Bool.{cases_lt}
 use Rattle.wb_base.specs.declared.symbol.Symbol.{Symbol}
 use Rattle.wb_base.specs.Grammar.{GrammarState}
 use Rattle.wb_grammars.specs.declared.item.Item.{Item}
-use Rattle.wb_grammars.specs.Items.{after_dot}
+use Rattle.wb_grammars.specs.Items.{after_dot, advance}
+use Rattle.wb_grammars.specs.Shape.{IsLive}
+use Rattle.std.specs.List.{between}
+use Rattle.wb_items.specs.declared.advance.Advance.{Advance}
 use Rattle.wb_items.specs.declared.row.Move.{Move}
+use Rattle.wb_items.specs.Advances.{AreAdvancesRising, HasAdvance, IsRun, ListsAdvances, items_of, symbol_of}
+use Rattle.wb_items.specs.Kernels.{AreInOrder}
 use Rattle.wb_items.specs.Found.{FoundState}
-use Rattle.wb_items.specs.Kernels.{ListsItems}
+use Rattle.wb_items.specs.Order.{SymbolPrecedes}
 use Rattle.wb_items.specs.Passes.{MovesUpTo}
-use Rattle.wb_items.specs.Table.{AreKernelsOf, AreMoves, Grows, IsRow, Leads}
-use Rattle.wb_items.proofs.ListLemmas.{at_once, at_Contains}
-use Rattle.wb_items.proofs.TableLemmas.{prefix_at, grows_then, grows_none}
+use Rattle.wb_items.specs.Table.{AreKernelsOf, AreMoves, AreMovesInOrder, Grows, IsKernelFor, IsMoved, IsRow, Leads}
+use Rattle.wb_items.proofs.ListLemmas.{at_cases, at_once, at_Contains, Contains-at}
+use Rattle.wb_items.proofs.AdvanceLemmas.{run_exact}
+use Rattle.wb_items.proofs.TableLemmas.{prefix_at, moved_kernel, grows_then, grows_none, moves_grow}
 use Rattle.wb_items.proofs.OrderLemmas.{Contains_cases, Contains_stays, Contains_last}
+use Rattle.wb_items.proofs.SymbolOrder.{symbol_not_itself}
 
-pub moves_start : (g : GrammarState) (old : FoundState) (closure : List Item) (s : ℕ) → AreKernelsOf g old.prefixes old.kernels → s < length old.kernels → ((prefix : List Symbol) → slice_get old.prefixes s ≡ Some prefix → ListsItems g prefix closure) → MovesUpTo g old old closure s [] 0
-moves_start g old closure s kernels within exact = record {
+pub moves_start : (g : GrammarState) (old : FoundState) (list : List Advance) (s : ℕ) → AreKernelsOf g old.prefixes old.kernels → s < length old.kernels → ((prefix : List Symbol) → slice_get old.prefixes s ≡ Some prefix → ListsAdvances g prefix list) → MovesUpTo g old old list s [] 0
+moves_start g old list s kernels within lists = record {
   kernels = kernels;
   grows = grows_none old;
   within = within;
-  exact = exact;
+  lists = lists;
   sound = λ step k. absurd (omega (arith, k.1));
-  complete = λ j item x rest lt at is. absurd (omega arith);
+  ordered = λ i j a b lt p q. cc;
+  complete = λ j a lt at. absurd (omega arith);
+  apart = λ step j a k le at. absurd (omega (arith, k.1));
 }
 
--- an item with nothing behind its dot
-pub moves_pass : (g : GrammarState) (old now : FoundState) (closure : List Item) (s : ℕ) (row : List Move) (n : ℕ) (item : Item) → slice_get closure n ≡ Some item → after_dot g item ≡ [] → MovesUpTo g old now closure s row n → MovesUpTo g old now closure s row (n + 1)
-moves_pass g old now closure s row n item here nothing h = record {
-  kernels = h.kernels;
-  grows = h.grows;
-  within = h.within;
-  exact = h.exact;
-  sound = h.sound;
-  complete = λ j other x rest lt at is. elim (cases_eq j n) [
-    | inl alike ↦ absurd (no_symbol x rest (sym nothing ∙ subst (λ z. after_dot g z ≡ x ∷ rest) (at_once closure n other item (subst (λ k. slice_get closure k ≡ Some other) alike at) here) is))
-    | inr ne ↦ h.complete j other x rest (omega arith) at is
-  ];
-}
+-- no earlier place has the symbol of a place
+pub moves_apart : (g : GrammarState) (old now : FoundState) (list : List Advance) (s : ℕ) (row : List Move) (n : ℕ) (x : Symbol) (b : Advance) → MovesUpTo g old now list s row n → slice_get list n ≡ Some b → symbol_of b ≡ x → (j : ℕ) (a : Advance) → j < n → slice_get list j ≡ Some a → symbol_of a ≡ x → ⊥
+moves_apart g old now list s row n x b h here is j a lt at over =
+    let (next, k) = h.complete j a lt at in
+    symbol_not_itself x (subst (λ z. SymbolPrecedes z x) over (subst (SymbolPrecedes (symbol_of a)) is (h.apart (record { symbol = symbol_of a; state = next }) n b k (omega arith) here)))
+
+-- the items of a run are the kernel that its symbol leads to
+pub run_kernel : (g : GrammarState) → IsLive g → (old now : FoundState) (list : List Advance) (s : ℕ) (row : List Move) (n end : ℕ) (x : Symbol) (b : Advance) (prefix : List Symbol) (kernel : List Item) → slice_get list n ≡ Some b → symbol_of b ≡ x → AreAdvancesRising list → IsRun list x n end → MovesUpTo g old now list s row n → slice_get now.prefixes s ≡ Some prefix → ((item : Item) → Contains kernel item ↔ Contains (items_of (between n end list)) item) → AreInOrder kernel → IsKernelFor g (prefix ++ x ∷ []) kernel
+run_kernel g live old now list s row n end x b prefix kernel here is rising run h at same in_order =
+    moved_kernel g live prefix x kernel b.item (λ item.
+    let lists = h.lists prefix at x item in
+    let part = exact item in
+    (λ k. lists.0 (part.0 ((same item).0 k)), λ m. (same item).1 (part.1 (lists.1 m)))) in_order
+    ((same b.item).1 ((exact b.item).1 (record { advance = b; listed = Contains-at list n b here; over = is; is = refl })))
   where
-    no_symbol : (x : Symbol) (rest : List Symbol) → [] ≡ x ∷ rest → ⊥
-    no_symbol x rest e = cc
+    exact : (item : Item) → Contains (items_of (between n end list)) item ↔ HasAdvance list x item
+    exact = run_exact list x n end rising run (moves_apart g old now list s row n x b h here is)
 
--- an item with a symbol behind its dot, by which there is a move now
-pub moves_take : (g : GrammarState) (old now new : FoundState) (closure : List Item) (s : ℕ) (row more : List Move) (n : ℕ) (item : Item) (x : Symbol) (rest : List Symbol) → slice_get closure n ≡ Some item → after_dot g item ≡ x ∷ rest → MovesUpTo g old now closure s row n → AreKernelsOf g new.prefixes new.kernels → Grows now new → AreMoves g new.prefixes s more → ((step : Move) → Contains row step → Contains more step) → (next : ℕ) × Contains more (record { symbol = x; state = next }) → MovesUpTo g old new closure s more (n + 1)
-moves_take g old now new closure s row more n item x rest here is h kernels grows sound keeps has =
+-- a move by the symbol of a run goes behind the others
+pub moves_more : (g : GrammarState) (old now new : FoundState) (list : List Advance) (s : ℕ) (row more : List Move) (n end : ℕ) (x : Symbol) (b : Advance) (next : ℕ) → slice_get list n ≡ Some b → symbol_of b ≡ x → IsRun list x n end → MovesUpTo g old now list s row n → AreKernelsOf g new.prefixes new.kernels → Grows now new → Leads g new.prefixes s x next → more ≡ row ++ record { symbol = x; state = next } ∷ [] → MovesUpTo g old new list s more end
+moves_more g old now new list s row more n end x b next here is run h kernels grows leads e =
     let (prefix, there) = prefix_at h.kernels s h.within in
     let there' = grows.prefixes s prefix there in
-    record {
+    let step : Move = record { symbol = x; state = next } in
+    let earlier : (move : Move) → Contains row move → SymbolPrecedes move.symbol x = λ (move : Move) (k : Contains row move). subst (SymbolPrecedes move.symbol) is (h.apart move n b k (omega arith) here) in
+    subst (λ r. MovesUpTo g old new list s r end) (sym e) (record {
       kernels = kernels;
       grows = grows_then h.grows grows;
       within = (let w = slice_get_within new.prefixes s prefix there' in omega (arith, w, kernels.len));
-      exact = λ p at. subst (λ z. ListsItems g z closure) (at_once new.prefixes s prefix p there' at) (h.exact prefix there);
-      sound = sound;
-      complete = λ j other y more' lt at before. elim (cases_eq j n) [
-        | inl alike ↦
-            let e : other ≡ item = at_once closure n other item (subst (λ k. slice_get closure k ≡ Some other) alike at) here in
-            let f : x ≡ y = first_same x y rest more' (sym is ∙ subst (λ z. after_dot g z ≡ y ∷ more') e before) in
-            subst (λ z. (next : ℕ) × Contains more (record { symbol = z; state = next })) f has
-        | inr ne ↦ let (next, k) = h.complete j other y more' (omega arith) at before in (next, keeps (record { symbol = y; state = next }) k)
+      lists = λ p at. subst (λ z. ListsAdvances g z list) (at_once new.prefixes s prefix p there' at) (h.lists prefix there);
+      sound = row_more g new.prefixes s row x next (moves_grow now new s row grows h.sound) leads;
+      ordered = row_ordered row step h.ordered earlier;
+      complete = λ j a lt at. elim (cases_lt j n) [
+        | inl less ↦ let (to, k) = h.complete j a less at in (to, Contains_stays row step (record { symbol = symbol_of a; state = to }) k)
+        | inr ge ↦ (next, subst (λ z. Contains (row ++ step ∷ []) (record { symbol = z; state = next })) (sym (run.same j a ge lt at)) (Contains_last row step))
       ];
-    }
+      apart = λ move j a k le at. elim (Contains_cases row step move k) [
+        | inl old' ↦ h.apart move j a old' (let after = run.after in omega (arith, after)) at
+        | inr same ↦ subst (λ (z : Move). SymbolPrecedes z.symbol (symbol_of a)) same (run.beyond j a le at)
+      ];
+    })
   where
-    first_same : (x y : Symbol) (rest more : List Symbol) → x ∷ rest ≡ y ∷ more → x ≡ y
-    first_same x y rest more e = cc
+    -- a row with one move more
+    row_more : (g : GrammarState) (prefixes : List (List Symbol)) (s : ℕ) (row : List Move) (x : Symbol) (next : ℕ) → AreMoves g prefixes s row → Leads g prefixes s x next → AreMoves g prefixes s (row ++ record { symbol = x; state = next } ∷ [])
+    row_more g prefixes s row x next h leads step k = elim (Contains_cases row (record { symbol = x; state = next }) step k) [
+      | inl old ↦ h step old
+      | inr is ↦ subst (λ (z : Move). Leads g prefixes s z.symbol z.state) is leads
+    ]
 
-pub moves_done : (g : GrammarState) (old now : FoundState) (closure : List Item) (s : ℕ) (row : List Move) (n : ℕ) → length closure ≤ n → MovesUpTo g old now closure s row n → IsRow g now.prefixes closure s row
-moves_done g old now closure s row n past h = record {
+    row_ordered : (row : List Move) (step : Move) → AreMovesInOrder row → ((move : Move) → Contains row move → SymbolPrecedes move.symbol step.symbol) → AreMovesInOrder (row ++ step ∷ [])
+    row_ordered row step h all i j a b lt one two = elim (at_cases row step i a one) [
+      | inl old ↦ elim (at_cases row step j b two) [
+        | inl old' ↦ h i j a b lt old old'
+        | inr last ↦ subst (λ (z : Move). SymbolPrecedes a.symbol z.symbol) last.1 (all a (Contains-at row i a old))
+      ]
+      | inr last ↦ elim (at_cases row step j b two) [
+        | inl old' ↦ absurd (let w = slice_get_within row j b old' in omega (arith, last.0, w))
+        | inr last' ↦ absurd (omega (arith, last.0, last'.0))
+      ]
+    ]
+
+-- each place has its move
+pub moves_done : (g : GrammarState) (old now : FoundState) (closure : List Item) (list : List Advance) (s : ℕ) (row : List Move) (n : ℕ) → length list ≤ n → ((x : Symbol) (item : Item) → HasAdvance list x item ↔ IsMoved g closure x item) → MovesUpTo g old now list s row n → IsRow g now.prefixes closure s row
+moves_done g old now closure list s row n past exact h = record {
   sound = h.sound;
-  complete = λ item x rest k is. (let (j, at) = at_Contains closure item k in h.complete j item x rest (let w = slice_get_within closure j item at in omega (arith, w, past)) at is);
+  ordered = h.ordered;
+  complete = λ item x rest k is.
+      let has = (exact x (advance item)).1 (record { item = item; rest = rest; listed = k; before_dot = is; is = refl }) in
+      let (j, at) = at_Contains list has.advance has.listed in
+      let (next, there) = h.complete j has.advance (let w = slice_get_within list j has.advance at in omega (arith, w, past)) at in
+      (next, subst (λ z. Contains row (record { symbol = z; state = next })) has.over there);
 }
 
--- a row with one move more
-pub row_more : (g : GrammarState) (prefixes : List (List Symbol)) (s : ℕ) (row : List Move) (x : Symbol) (next : ℕ) → AreMoves g prefixes s row → Leads g prefixes s x next → AreMoves g prefixes s (row ++ record { symbol = x; state = next } ∷ [])
-row_more g prefixes s row x next h leads step k = elim (Contains_cases row (record { symbol = x; state = next }) step k) [
-  | inl old ↦ h step old
-  | inr is ↦ subst (λ (z : Move). Leads g prefixes s z.symbol z.state) is leads
-]
-
 -- a pass goes on from what is there
-pub moves_now : (g : GrammarState) (old now : FoundState) (closure : List Item) (s : ℕ) (row : List Move) (n : ℕ) → MovesUpTo g old now closure s row n → MovesUpTo g now now closure s row n
-moves_now g old now closure s row n h = record { kernels = h.kernels; grows = grows_none now; within = h.within; exact = h.exact; sound = h.sound; complete = h.complete }
+pub moves_now : (g : GrammarState) (old now : FoundState) (list : List Advance) (s : ℕ) (row : List Move) (n : ℕ) → MovesUpTo g old now list s row n → MovesUpTo g now now list s row n
+moves_now g old now list s row n h = record { kernels = h.kernels; grows = grows_none now; within = h.within; lists = h.lists; sound = h.sound; ordered = h.ordered; complete = h.complete; apart = h.apart }
 
-pub moves_then : (g : GrammarState) (old now new : FoundState) (closure : List Item) (s : ℕ) (row : List Move) (n : ℕ) → Grows old now → MovesUpTo g now new closure s row n → MovesUpTo g old new closure s row n
-moves_then g old now new closure s row n first h = record { kernels = h.kernels; grows = grows_then first h.grows; within = h.within; exact = h.exact; sound = h.sound; complete = h.complete }
+pub moves_then : (g : GrammarState) (old now new : FoundState) (list : List Advance) (s : ℕ) (row : List Move) (n : ℕ) → Grows old now → MovesUpTo g now new list s row n → MovesUpTo g old new list s row n
+moves_then g old now new list s row n first h = record { kernels = h.kernels; grows = grows_then first h.grows; within = h.within; lists = h.lists; sound = h.sound; ordered = h.ordered; complete = h.complete; apart = h.apart }

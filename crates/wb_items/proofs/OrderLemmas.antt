@@ -6,13 +6,9 @@ use Rattle.std.proofs.lemmas.Bool.{cases_eq, cases_lt, true≢false}
 use Rattle.std.specs.Ordering.{is_lt, ordering_then, nat_cmp}
 use Rattle.std.specs.declared.cmp.Ordering.TheVariants.{Less, Equal}
 use Rattle.std.specs.Cmp.{nat_cmp_is}
-use Rattle.wb_base.specs.declared.symbol.Symbol.{Symbol}
-use Rattle.wb_base.specs.Grammar.{GrammarState}
 use Rattle.wb_grammars.specs.declared.item.Item.{Item}
-use Rattle.wb_grammars.specs.Items.{after_dot, advance}
 use Rattle.wb_items.specs.Kernels.{Precedes, AreInOrder}
-use Rattle.wb_items.specs.Table.{IsMoved}
-use Rattle.wb_items.specs.Passes.{AreRising, StrictUpTo, MovedUpTo}
+use Rattle.wb_items.specs.Passes.{AreRising, StrictUpTo}
 use Rattle.wb_items.proofs.ListLemmas.{default_at, at_cases, at_stays, at_end, at_once, Contains-at, at_Contains}
 
 same_item : (a b : Item) → a.production ≡ b.production → a.dot ≡ b.dot → a ≡ b
@@ -153,50 +149,7 @@ strict_done items list n past h item = (
   λ k. (let (j, at) = at_Contains items item k in h.complete j item (let w = slice_get_within items j item at in omega (arith, w, past)) at),
 )
 
-pub moved_start : (g : GrammarState) (closure : List Item) (x : Symbol) → MovedUpTo g closure x [] 0
-moved_start g closure x = record {
-  sound = λ moved k. absurd (omega (arith, k.1));
-  complete = λ j item rest lt at is. absurd (omega arith);
-  sorted = order_nil;
-}
-
-advance_precedes : (a b : Item) → Precedes a b → Precedes (advance a) (advance b)
-advance_precedes a b (inl p) = inl p
-advance_precedes a b (inr p) = inr (p.0, omega (arith, p.1))
-
-pub moved_take : (g : GrammarState) (closure : List Item) (x : Symbol) (items : List Item) (n : ℕ) (item : Item) (rest : List Symbol) → AreInOrder closure → slice_get closure n ≡ Some item → after_dot g item ≡ x ∷ rest → MovedUpTo g closure x items n → MovedUpTo g closure x (items ++ advance item ∷ []) (n + 1)
-moved_take g closure x items n item rest sorted here is h = record {
-  sound = λ moved k. elim (Contains_cases items (advance item) moved k) [
-    | inl old ↦ (let (j, i, r, lt, at, stands, e) = h.sound moved old in (j, i, r, omega (arith, lt), at, stands, e))
-    | inr e ↦ (n, item, rest, omega arith, here, is, sym e)
-  ];
-  complete = λ j other r lt at before. elim (cases_eq j n) [
-    | inl same ↦ subst (λ z. Contains (items ++ advance item ∷ []) (advance z)) (at_once closure n item other here (subst (λ k. slice_get closure k ≡ Some other) same at)) (Contains_last items (advance item))
-    | inr ne ↦ Contains_stays items (advance item) (advance other) (h.complete j other r (omega arith) at before)
-  ];
-  sorted = order_push items (advance item) h.sorted (λ z k.
-      let (j, i, r, lt, at, stands, e) = h.sound z k in
-      subst (λ y. Precedes y (advance item)) (sym e) (advance_precedes i item (sorted j n i item lt at here)));
-}
-
-pub moved_pass : (g : GrammarState) (closure : List Item) (x : Symbol) (items : List Item) (n : ℕ) (item : Item) → slice_get closure n ≡ Some item → ((rest : List Symbol) → after_dot g item ≡ x ∷ rest → ⊥) → MovedUpTo g closure x items n → MovedUpTo g closure x items (n + 1)
-moved_pass g closure x items n item here none' h = record {
-  sound = λ moved k. (let (j, i, r, lt, at, stands, e) = h.sound moved k in (j, i, r, omega (arith, lt), at, stands, e));
-  complete = λ j other r lt at before. elim (cases_eq j n) [
-    | inl same ↦ absurd (none' r (subst (λ z. after_dot g z ≡ x ∷ r) (at_once closure n other item (subst (λ k. slice_get closure k ≡ Some other) same at) here) before))
-    | inr ne ↦ h.complete j other r (omega arith) at before
-  ];
-  sorted = h.sorted;
-}
-
-pub moved_done : (g : GrammarState) (closure : List Item) (x : Symbol) (items : List Item) (n : ℕ) → length closure ≤ n → MovedUpTo g closure x items n → (item : Item) → Contains items item ↔ IsMoved g closure x item
-moved_done g closure x items n past h moved = (
-  λ k. (let (j, i, r, lt, at, stands, e) = h.sound moved k in record { item = i; rest = r; listed = Contains-at closure j i at; before_dot = stands; is = e }),
-  λ m. (let (j, at) = at_Contains closure m.item m.listed in
-      subst (Contains items) (sym m.is) (h.complete j m.item m.rest (let lt = slice_get_within closure j m.item at in omega (arith, lt)) at m.before_dot)),
-)
-
-less_by : (b a : Item) → Precedes b a → is_lt (ordering_then (nat_cmp b.production a.production) (nat_cmp b.dot a.dot)) ≡ true
+pub less_by : (b a : Item) → Precedes b a → is_lt (ordering_then (nat_cmp b.production a.production) (nat_cmp b.dot a.dot)) ≡ true
 less_by b a (inl p) = ap (λ o. is_lt (ordering_then o (nat_cmp b.dot a.dot))) (sym (nat_cmp_is b.production a.production Less p))
 less_by b a (inr p) = ap (λ o. is_lt (ordering_then o (nat_cmp b.dot a.dot))) (sym (nat_cmp_is b.production a.production Equal p.0)) ∙ ap is_lt (sym (nat_cmp_is b.dot a.dot Less p.1))
 

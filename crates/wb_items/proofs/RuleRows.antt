@@ -1,18 +1,19 @@
 -- The productions of a nonterminal, as a loop over all productions gathers them.
-use Rattle.std.proofs.Common.{◌≡◌, ◌≢◌, ℕ, ◌+◌, ◌<◌, ◌≤◌, ◌⊎◌, List, [], ◌∷◌, ◌++◌, length, Some, refl, sym, ◌∙◌, ap, subst, inl, inr, arith, length-append}
-use Rattle.std.specs.Prelude.{slice_get, Contains}
-use Rattle.std.proofs.lemmas.Option.{slice_get_within}
+use Rattle.std.proofs.Common.{◌≡◌, ◌≢◌, ℕ, ◌+◌, ◌<◌, ◌≤◌, ◌⊎◌, zero, suc, List, [], ◌∷◌, ◌++◌, length, Some, refl, sym, ◌∙◌, ap, subst, inl, inr, arith, replicate, length-set}
+use Rattle.std.specs.Prelude.{slice_get, slice_set, Contains}
+use Rattle.std.proofs.lemmas.Option.{slice_get_within, same_Some}
+use Rattle.std.proofs.lemmas.List.{length-replicate}
 use Rattle.std.proofs.lemmas.Bool.{cases_eq}
 use Rattle.wb_base.specs.declared.symbol.Symbol.{Symbol}
 use Rattle.wb_base.specs.Grammar.{GrammarState}
 use Rattle.wb_grammars.specs.Rules.{IsRule}
 use Rattle.wb_grammars.proofs.RuleLemmas.{rule_once, rule_within}
 use Rattle.wb_items.specs.Table.{AreRulesOf, AreRules}
-use Rattle.wb_items.specs.Passes.{RulesUpTo}
+use Rattle.wb_items.specs.Passes.{RulesUpTo, RowsUpTo}
 use Rattle.wb_items.proofs.OrderLemmas.{Contains_cases, Contains_stays}
 use Rattle.wb_items.proofs.ListLemmas.{at_cases, at_stays, at_end, Contains-at, at_Contains}
 
-pub rules_start : (g : GrammarState) (b : ℕ) → RulesUpTo g b [] 0
+rules_start : (g : GrammarState) (b : ℕ) → RulesUpTo g b [] 0
 rules_start g b = record {
   below = λ q k. absurd (omega (arith, k.1));
   sound = λ q k. absurd (omega (arith, k.1));
@@ -21,7 +22,7 @@ rules_start g b = record {
 }
 
 -- one more production, which is of the nonterminal
-pub rules_take : (g : GrammarState) (b : ℕ) (numbers : List ℕ) (n : ℕ) (right : List Symbol) → RulesUpTo g b numbers n → IsRule g n b right → RulesUpTo g b (numbers ++ n ∷ []) (n + 1)
+rules_take : (g : GrammarState) (b : ℕ) (numbers : List ℕ) (n : ℕ) (right : List Symbol) → RulesUpTo g b numbers n → IsRule g n b right → RulesUpTo g b (numbers ++ n ∷ []) (n + 1)
 rules_take g b numbers n right h rule = record {
   below = λ q k. elim (Contains_cases numbers n q k) [
     | inl old ↦ (let lt = h.below q old in omega (arith, lt))
@@ -48,7 +49,7 @@ rules_take g b numbers n right h rule = record {
 }
 
 -- one more production, which isn't
-pub rules_pass : (g : GrammarState) (a b : ℕ) (numbers : List ℕ) (n : ℕ) (right : List Symbol) → RulesUpTo g b numbers n → IsRule g n a right → (a ≡ b → ⊥) → RulesUpTo g b numbers (n + 1)
+rules_pass : (g : GrammarState) (a b : ℕ) (numbers : List ℕ) (n : ℕ) (right : List Symbol) → RulesUpTo g b numbers n → IsRule g n a right → (a ≡ b → ⊥) → RulesUpTo g b numbers (n + 1)
 rules_pass g a b numbers n right h rule ne = record {
   below = λ q k. (let lt = h.below q k in omega (arith, lt));
   sound = h.sound;
@@ -59,22 +60,49 @@ rules_pass g a b numbers n right h rule ne = record {
   rising = h.rising;
 }
 
-pub rules_done : (g : GrammarState) (b : ℕ) (numbers : List ℕ) (n : ℕ) → length g.productions ≤ n → RulesUpTo g b numbers n → AreRulesOf g b numbers
+rules_done : (g : GrammarState) (b : ℕ) (numbers : List ℕ) (n : ℕ) → length g.productions ≤ n → RulesUpTo g b numbers n → AreRulesOf g b numbers
 rules_done g b numbers n past h = record {
   sound = h.sound;
   complete = λ q right rule. h.complete q right (let lt = rule_within g q b right rule in omega (arith, lt)) rule;
   rising = h.rising;
 }
 
--- rows for the first nonterminals
-abbrev pub RowsUpTo : GrammarState → List (List ℕ) → ℕ → Type 0
-RowsUpTo g rows n = (length rows ≡ n) × ((b : ℕ) (numbers : List ℕ) → slice_get rows b ≡ Some numbers → AreRulesOf g b numbers)
+empty_at : (count b : ℕ) (numbers : List ℕ) → slice_get (replicate count []) b ≡ Some numbers → numbers ≡ []
+empty_at zero b numbers at = cc
+empty_at (suc count) zero numbers at = sym (same_Some [] numbers at)
+empty_at (suc count) (suc b) numbers at = empty_at count b numbers at
 
-pub rows_more : (g : GrammarState) (rows : List (List ℕ)) (n : ℕ) (numbers : List ℕ) → RowsUpTo g rows n → AreRulesOf g n numbers → RowsUpTo g (rows ++ numbers ∷ []) (n + 1)
-rows_more g rows n numbers (len, each) row = (
-  omega (arith, length-append {A = List ℕ} rows (numbers ∷ [])),
-  λ b other at. elim (at_cases rows numbers b other at) [
-    | inl old ↦ each b other old
-    | inr last ↦ subst (AreRulesOf g b) last.1 (subst (λ z. AreRulesOf g z numbers) (sym (last.0 ∙ len)) row)
-  ],
-)
+-- empty rows
+pub rows_start : (g : GrammarState) → RowsUpTo g (replicate g.nonterminals []) 0
+rows_start g = record {
+  len = length-replicate {A = List ℕ} g.nonterminals [];
+  each = λ b numbers at. subst (λ z. RulesUpTo g b z 0) (sym (empty_at g.nonterminals b numbers at)) (rules_start g b);
+}
+
+-- one more production goes to the row of its left side
+pub rows_more : (g : GrammarState) (rows : List (List ℕ)) (n left : ℕ) (right : List Symbol) (numbers : List ℕ) → IsRule g n left right → slice_get rows left ≡ Some numbers → RowsUpTo g rows n → RowsUpTo g (slice_set rows left (numbers ++ n ∷ [])) (n + 1)
+rows_more g rows n left right numbers rule here h = record {
+  len = length-set {A = List ℕ} rows left (numbers ++ n ∷ []) ∙ h.len;
+  each = λ b other at. elim (cases_eq b left) [
+    | inl same ↦
+        let e : numbers ++ n ∷ [] ≡ other = set_here rows left (numbers ++ n ∷ []) other (slice_get_within rows left numbers here) (subst (λ k. slice_get (slice_set rows left (numbers ++ n ∷ [])) k ≡ Some other) same at) in
+        subst (λ z. RulesUpTo g b z (n + 1)) e (subst (λ k. RulesUpTo g k (numbers ++ n ∷ []) (n + 1)) (sym same) (rules_take g left numbers n right (h.each left numbers here) rule))
+    | inr ne ↦ rules_pass g left b other n right (h.each b other (set_elsewhere rows left b (numbers ++ n ∷ []) other ne at)) rule (λ same. ne (sym same))
+  ];
+}
+  where
+    set_here : (rows : List (List ℕ)) (j : ℕ) (new other : List ℕ) → j < length rows → slice_get (slice_set rows j new) j ≡ Some other → new ≡ other
+    set_here [] j new other lt at = absurd (omega arith)
+    set_here (row ∷ rows) zero new other lt at = same_Some new other at
+    set_here (row ∷ rows) (suc j) new other lt at = set_here rows j new other (omega arith) at
+
+    set_elsewhere : (rows : List (List ℕ)) (j b : ℕ) (new other : List ℕ) → b ≢ j → slice_get (slice_set rows j new) b ≡ Some other → slice_get rows b ≡ Some other
+    set_elsewhere [] j b new other ne at = at
+    set_elsewhere (row ∷ rows) zero zero new other ne at = absurd (ne refl)
+    set_elsewhere (row ∷ rows) zero (suc b) new other ne at = at
+    set_elsewhere (row ∷ rows) (suc j) zero new other ne at = at
+    set_elsewhere (row ∷ rows) (suc j) (suc b) new other ne at = set_elsewhere rows j b new other (λ same. ne (ap suc same)) at
+
+-- all productions have been gone over
+pub rows_done : (g : GrammarState) (rows : List (List ℕ)) (n : ℕ) → length g.productions ≤ n → RowsUpTo g rows n → AreRules g rows
+rows_done g rows n past h = record { len = h.len; each = λ b numbers at. rules_done g b numbers n past (h.each b numbers at) }

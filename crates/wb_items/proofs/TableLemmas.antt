@@ -15,12 +15,16 @@ use Rattle.wb_grammars.proofs.FlowLemmas.{same_itself, same_back, same_then}
 use Rattle.wb_items.specs.declared.row.Move.{Move}
 use Rattle.wb_items.specs.Found.{FoundState}
 use Rattle.wb_items.specs.Kernels.{AreInOrder, ListsKernel, ListsItems}
-use Rattle.wb_items.specs.Table.{SameItems, IsMoved, AreKernelsOf, AreMoves, IsKernelFor, Grows, IsRow, Leads, AreFollowed}
+use Rattle.wb_items.specs.Table.{SameItems, AreKernelsOf, AreMoves, IsKernelFor, Grows, IsRow, Leads, AreFollowed}
 use Rattle.wb_items.proofs.ListLemmas.{at_cases, at_old, at_end, at_stays, at_once, at_one, Contains-at, at_Contains}
 
 -- a number of kernels has its prefix
 pub prefix_at : {g : GrammarState} {prefixes : List (List Symbol)} {kernels : List (List Item)} → AreKernelsOf g prefixes kernels → (s : ℕ) → s < length kernels → (prefix : List Symbol) × (slice_get prefixes s ≡ Some prefix)
 prefix_at {prefixes = prefixes} h s lt = (slice_index_or prefixes s [], slice_get-get_or prefixes s [] (omega (arith, h.len)))
+
+-- one item is in order
+pub one_in_order : (item : Item) → AreInOrder (item ∷ [])
+one_in_order item i j a b lt p q = absurd (omega (arith, (at_one item a i p).0, (at_one item b j q).0))
 
 -- the kernel of the empty prefix alone
 pub first_found : (g : GrammarState) → AreKernelsOf g ([] ∷ []) ((start_item g ∷ []) ∷ [])
@@ -29,7 +33,7 @@ first_found g = record {
   first = refl;
   viable = λ s prefix at. subst (IsViablePrefix g) (at_one [] prefix s at).1 (start_item g, end_of g, valid.start);
   exact = λ s prefix items at there. subst (λ z. ListsKernel g z items) (at_one [] prefix s at).1 (subst (ListsKernel g []) (at_one (start_item g ∷ []) items s there).1 lists);
-  sorted = λ s items there. subst AreInOrder (at_one (start_item g ∷ []) items s there).1 one_in_order;
+  sorted = λ s items there. subst AreInOrder (at_one (start_item g ∷ []) items s there).1 (one_in_order (start_item g));
   once = λ s t items other one two same. (at_one (start_item g ∷ []) items s one).0 ∙ sym (at_one (start_item g ∷ []) other t two).0;
 }
   where
@@ -38,9 +42,6 @@ first_found g = record {
       λ (k : Contains (start_item g ∷ []) item). let (j, at) = at_Contains (start_item g ∷ []) item k in (first_kernel g item).1 (sym (at_one (start_item g) item j at).1),
       λ is. subst (Contains (start_item g ∷ [])) (sym ((first_kernel g item).0 is)) (Contains-at (start_item g ∷ []) 0 (start_item g) refl),
     )
-
-    one_in_order : AreInOrder (start_item g ∷ [])
-    one_in_order i j a b lt p q = absurd (omega (arith, (at_one (start_item g) a i p).0, (at_one (start_item g) b j q).0))
 
 turned : (items other : List Item) → SameItems items other → SameItems other items
 turned items other same item = ((same item).1, (same item).0)
@@ -128,14 +129,12 @@ pub moves_grow : {g : GrammarState} (old new : FoundState) (s : ℕ) (row : List
 moves_grow old new s row h moves step there = leads_grows old new h (moves step there)
 
 -- the items that move over a symbol are the kernel of the longer prefix
-pub moved_kernel : (g : GrammarState) → IsLive g → (prefix : List Symbol) (x : Symbol) (closure items : List Item) → ListsItems g prefix closure → ((item : Item) → Contains items item ↔ IsMoved g closure x item) → AreInOrder items → (item : Item) × (rest : List Symbol) × Contains closure item × (after_dot g item ≡ x ∷ rest) → IsKernelFor g (prefix ++ x ∷ []) items
-moved_kernel g live prefix x closure items lists exact in_order (first, rest, there, before) = record {
-  viable = let (t, v) = (lists first).0 there in (advance first, t, move first x rest prefix v before refl refl);
+pub moved_kernel : (g : GrammarState) → IsLive g → (prefix : List Symbol) (x : Symbol) (items : List Item) (first : Item) → ((item : Item) → Contains items item ↔ MovesTo g (IsKernelItem g prefix) x item) → AreInOrder items → Contains items first → IsKernelFor g (prefix ++ x ∷ []) items
+moved_kernel g live prefix x items first exact in_order there = record {
+  viable = (let ((t, v), _) = (moves_exact g live prefix x first).1 ((exact first).0 there) in (first, t, v));
   exact = λ item. (
-    λ listed. let m = (exact item).0 listed in let (t, v) = (lists m.item).0 m.listed in
-        (moves_exact g live prefix x item).1 (record { item = m.item; rest = m.rest; within = closure_complete v; before_dot = m.before_dot; is = m.is }),
-    λ is. let m = (moves_exact g live prefix x item).0 is in
-        (exact item).1 (record { item = m.item; rest = m.rest; listed = (lists m.item).1 (closure_sound prefix live m.within); before_dot = m.before_dot; is = m.is }),
+    λ listed. (moves_exact g live prefix x item).1 ((exact item).0 listed),
+    λ is. (exact item).1 ((moves_exact g live prefix x item).0 is),
   );
   sorted = in_order;
 }
@@ -189,7 +188,7 @@ followed_more g old new closures rows prefix closure row grows back here h lists
 }
   where
     row_grows : (s : ℕ) (items : List Item) (moves : List Move) → IsRow g old.prefixes items s moves → IsRow g new.prefixes items s moves
-    row_grows s items moves r = record { sound = moves_grow old new s moves grows r.sound; complete = r.complete }
+    row_grows s items moves r = record { sound = moves_grow old new s moves grows r.sound; ordered = r.ordered; complete = r.complete }
 
 -- a new kernel is found
 pub record IsAdded (g : GrammarState) (old new : FoundState) (s : ℕ) (x : Symbol) (next : ℕ) : Type 0 where

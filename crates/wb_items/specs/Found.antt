@@ -3,6 +3,7 @@ use Rattle.std.specs.Prelude.{◌≡◌, ◌≤◌, ◌+◌, ℕ, List, [], ◌�
 use Rattle.wb_base.specs.declared.symbol.Symbol.{Symbol}
 use Rattle.wb_grammars.specs.declared.item.Item.{Item}
 use Rattle.wb_items.specs.declared.found.Step.{Step}
+use Rattle.wb_items.specs.Order.{IsIndex}
 
 -- prefixes by numbers, and a list of items for each
 pub record FoundState : Type 0 where
@@ -22,3 +23,8 @@ prefixes_of steps = prefixes_behind ([] ∷ []) steps
 pub record AreSteps (steps : List Step) (kernels : List (List Item)) : Type 0 where
   pub len : length kernels ≡ length steps + 1
   pub back : (s : ℕ) (step : Step) → slice_get steps s ≡ Some step → step.from ≤ s
+
+-- the steps lead to one prefix for each list of items, and the order has the numbers of the lists
+pub record IsFound (steps : List Step) (kernels : List (List Item)) (order : List ℕ) : Type 0 where
+  pub back : AreSteps steps kernels
+  pub index : IsIndex order kernels

@@ -1,7 +1,9 @@
+pub mod Advances
 pub mod Closing
 pub mod Found
 pub mod Kernels
 pub mod LookaheadSets
 pub mod Lookaheads
+pub mod Order
 pub mod Passes
 pub mod Table

@@ -1,14 +1,17 @@
 -- Lists in the middle of a pass over another list.
-use Rattle.std.specs.Prelude.{◌≡◌, ◌⊎◌, ◌+◌, ℕ, ◌<◌, List, ◌∷◌, length, Some, Contains, slice_get}
+use Rattle.std.specs.Prelude.{◌≡◌, ◌⊎◌, ◌+◌, ℕ, ◌<◌, ◌≤◌, List, ◌∷◌, length, Some, Contains, slice_get}
 use Rattle.wb_base.specs.declared.symbol.Symbol.{Symbol}
 use Rattle.wb_base.specs.Grammar.{GrammarState}
 use Rattle.wb_grammars.specs.declared.item.Item.{Item}
 use Rattle.wb_grammars.specs.Rules.{IsRule}
 use Rattle.wb_grammars.specs.Items.{after_dot, advance}
 use Rattle.wb_items.specs.declared.row.Move.{Move}
+use Rattle.wb_items.specs.declared.advance.Advance.{Advance}
+use Rattle.wb_items.specs.Advances.{HasAdvance, ListsAdvances, symbol_of}
 use Rattle.wb_items.specs.Found.{FoundState}
-use Rattle.wb_items.specs.Kernels.{Precedes, AreInOrder, ListsItems}
-use Rattle.wb_items.specs.Table.{AreKernelsOf, AreMoves, Grows}
+use Rattle.wb_items.specs.Kernels.{Precedes, AreInOrder}
+use Rattle.wb_items.specs.Order.{SymbolPrecedes}
+use Rattle.wb_items.specs.Table.{AreKernelsOf, AreMoves, AreMovesInOrder, Grows}
 
 -- no item precedes the one before it
 abbrev pub AreRising : List Item → Type 0
@@ -21,11 +24,10 @@ pub record StrictUpTo (items list : List Item) (n : ℕ) : Type 0 where
   pub sorted : AreInOrder list
   pub last : (m : ℕ) (a z : Item) → n ≡ m + 1 → slice_get items m ≡ Some a → Contains list z → Precedes z a ⊎ (z ≡ a)
 
--- the items that move over a symbol, of those at the first places
-pub record MovedUpTo (g : GrammarState) (closure : List Item) (x : Symbol) (items : List Item) (n : ℕ) : Type 0 where
-  pub sound : (moved : Item) → Contains items moved → (j : ℕ) × (item : Item) × (rest : List Symbol) × (j < n) × (slice_get closure j ≡ Some item) × (after_dot g item ≡ x ∷ rest) × (moved ≡ advance item)
-  pub complete : (j : ℕ) (item : Item) (rest : List Symbol) → j < n → slice_get closure j ≡ Some item → after_dot g item ≡ x ∷ rest → Contains items (advance item)
-  pub sorted : AreInOrder items
+-- the items at the first places are listed with the symbols behind their dots, each with its dot behind the symbol
+pub record AdvancesUpTo (g : GrammarState) (closure : List Item) (list : List Advance) (n : ℕ) : Type 0 where
+  pub sound : (a : Advance) → Contains list a → (j : ℕ) × (item : Item) × (rest : List Symbol) × (j < n) × (slice_get closure j ≡ Some item) × (after_dot g item ≡ symbol_of a ∷ rest) × (a.item ≡ advance item)
+  pub complete : (j : ℕ) (item : Item) (x : Symbol) (rest : List Symbol) → j < n → slice_get closure j ≡ Some item → after_dot g item ≡ x ∷ rest → HasAdvance list x (advance item)
 
 -- the list has the productions of the nonterminal below a number, in order
 pub record RulesUpTo (g : GrammarState) (b : ℕ) (numbers : List ℕ) (n : ℕ) : Type 0 where
@@ -34,11 +36,18 @@ pub record RulesUpTo (g : GrammarState) (b : ℕ) (numbers : List ℕ) (n : ℕ)
   pub complete : (q : ℕ) (right : List Symbol) → q < n → IsRule g q b right → Contains numbers q
   pub rising : (i j p q : ℕ) → i < j → slice_get numbers i ≡ Some p → slice_get numbers j ≡ Some q → p < q
 
--- the moves of the items at the first places are there
-pub record MovesUpTo (g : GrammarState) (old now : FoundState) (closure : List Item) (s : ℕ) (row : List Move) (n : ℕ) : Type 0 where
+-- each nonterminal's row has its productions below a number, in order
+pub record RowsUpTo (g : GrammarState) (rows : List (List ℕ)) (n : ℕ) : Type 0 where
+  pub len : length rows ≡ g.nonterminals
+  pub each : (b : ℕ) (numbers : List ℕ) → slice_get rows b ≡ Some numbers → RulesUpTo g b numbers n
+
+-- the moves by the symbols at the first places are there, and later places have later symbols
+pub record MovesUpTo (g : GrammarState) (old now : FoundState) (list : List Advance) (s : ℕ) (row : List Move) (n : ℕ) : Type 0 where
   pub kernels : AreKernelsOf g now.prefixes now.kernels
   pub grows : Grows old now
   pub within : s < length now.kernels
-  pub exact : (prefix : List Symbol) → slice_get now.prefixes s ≡ Some prefix → ListsItems g prefix closure
+  pub lists : (prefix : List Symbol) → slice_get now.prefixes s ≡ Some prefix → ListsAdvances g prefix list
   pub sound : AreMoves g now.prefixes s row
-  pub complete : (j : ℕ) (item : Item) (x : Symbol) (rest : List Symbol) → j < n → slice_get closure j ≡ Some item → after_dot g item ≡ x ∷ rest → (next : ℕ) × Contains row (record { symbol = x; state = next })
+  pub ordered : AreMovesInOrder row
+  pub complete : (j : ℕ) (a : Advance) → j < n → slice_get list j ≡ Some a → (next : ℕ) × Contains row (record { symbol = symbol_of a; state = next })
+  pub apart : (move : Move) (j : ℕ) (a : Advance) → Contains row move → n ≤ j → slice_get list j ≡ Some a → SymbolPrecedes move.symbol (symbol_of a)

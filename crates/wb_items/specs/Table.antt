@@ -9,6 +9,7 @@ use Rattle.wb_grammars.specs.Shape.{IsLive}
 use Rattle.wb_items.specs.declared.row.Move.{Move}
 use Rattle.wb_items.specs.Found.{FoundState}
 use Rattle.wb_items.specs.Kernels.{AreInOrder, ListsKernel, ListsItems}
+use Rattle.wb_items.specs.Order.{SymbolPrecedes}
 
 -- both lists have the same items
 abbrev pub SameItems : List Item → List Item → Type 0
@@ -66,9 +67,14 @@ pub record Grows (old new : FoundState) : Type 0 where
   pub prefixes : (s : ℕ) (prefix : List Symbol) → slice_get old.prefixes s ≡ Some prefix → slice_get new.prefixes s ≡ Some prefix
   pub kernels : (s : ℕ) (kernel : List Item) → slice_get old.kernels s ≡ Some kernel → slice_get new.kernels s ≡ Some kernel
 
--- each move of the row leads where it says, and the row has a move by each symbol before which one of the items has its dot
+-- the moves are in the order of their symbols
+abbrev pub AreMovesInOrder : List Move → Type 0
+AreMovesInOrder row = (i j : ℕ) (a b : Move) → i < j → slice_get row i ≡ Some a → slice_get row j ≡ Some b → SymbolPrecedes a.symbol b.symbol
+
+-- each move of the row leads where it says, in the order of symbols, and the row has a move by each symbol before which one of the items has its dot
 pub record IsRow (g : GrammarState) (prefixes : List (List Symbol)) (closure : List Item) (s : ℕ) (row : List Move) : Type 0 where
   pub sound : AreMoves g prefixes s row
+  pub ordered : AreMovesInOrder row
   pub complete : (item : Item) (x : Symbol) (rest : List Symbol) → Contains closure item → after_dot g item ≡ x ∷ rest → (next : ℕ) × Contains row (record { symbol = x; state = next })
 
 -- the kernels of the first numbers have been followed: their items and their rows of moves are there

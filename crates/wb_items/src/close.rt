@@ -9,6 +9,7 @@ ghost use Rattle.wb_items.specs.Kernels.{AreInOrder};
 ghost use Rattle.wb_items.specs.Passes.{AreRising, StrictUpTo};
 ghost use Rattle.wb_items.specs.Table.{AreRules};
 
+use crate::rules::Numbers;
 use crate::symbol::{is_item, item_at, nonterminal_after};
 use std::alloc::{AllocError, Global};
 use wb_base::{Grammar, Sequence, push};
@@ -19,7 +20,7 @@ use wb_termset::TermSet;
 pub(crate) fn close(
     alloc: Global,
     grammar: &Grammar,
-    rules: &[Sequence<usize>],
+    rules: &[Numbers],
     kernel: &[Item],
 ) -> Result<Sequence<Item>, AllocError>
     requires { AreRules grammar.now rules.now }
@@ -72,7 +73,7 @@ fn add_item(items: &[Item], place: usize, list: &mut Vec<Item>) -> Result<(), Al
 // Adds the openings of the nonterminal behind the dot at a place, unless they are there.
 fn open(
     grammar: &Grammar,
-    rules: &[Sequence<usize>],
+    rules: &[Numbers],
     kernel: &[Item],
     place: usize,
     opened: &mut TermSet,
@@ -93,7 +94,7 @@ fn open(
 }
 
 // The productions of a nonterminal.
-fn numbers_at(rules: &[Sequence<usize>], nonterminal: usize) -> &[usize]
+fn numbers_at(rules: &[Numbers], nonterminal: usize) -> &[usize]
     requires { nonterminal < length rules.now }
     ensures { slice_get rules.now nonterminal ≡ Some result.now }
 {

@@ -1,10 +1,12 @@
 //! Kernels as they are found, each with the step that leads to it.
 
-ghost use Rattle.std.specs.Prelude.{◌≡◌, ◌<◌, ◌++◌, ◌∷◌, [], ℕ, List, IfOk, IfSome, IfNone, OnOk, Some, length, slice_get, slice_index_or};
+ghost use Rattle.std.specs.List.{insert};
+ghost use Rattle.std.specs.Prelude.{◌≡◌, ◌<◌, ◌≤◌, ◌++◌, ◌∷◌, [], ℕ, List, IfOk, IfSome, IfNone, OnErr, OnOk, Some, length, slice_get, slice_index_or};
 ghost use Rattle.wb_grammars.specs.declared.item.Item.{Item};
+ghost use Rattle.wb_items.specs.Kernels.{AreInOrder};
 ghost use Rattle.wb_items.specs.Table.{SameItems};
 
-use crate::search::find;
+use crate::search::locate;
 use std::alloc::{AllocError, Global};
 use std::marker::Model;
 use wb_base::{Sequence, Symbol, push};
@@ -17,33 +19,38 @@ pub(crate) struct Step {
     pub(crate) symbol: Symbol,
 }
 
-// Step n leads to the prefix of the number n + 1.
+// Step n leads to the prefix of the number n + 1, and the order has the numbers by their kernels.
 #[derive(Drop)]
 pub(crate) struct Found {
     steps: Vec<Step>,
     kernels: Vec<Sequence<Item>>,
+    order: Vec<usize>,
 }
 
 impl Model for Found {
-    ghost use Rattle.wb_items.specs.Found.{FoundState, prefixes_of, AreSteps};
+    ghost use Rattle.wb_items.specs.Found.{FoundState, IsFound, prefixes_of};
 
     ghost Value = { FoundState };
 
     ghost view = { λ f. record { prefixes = prefixes_of f.steps.items; kernels = f.kernels.items } };
 
-    ghost invariant = { λ f. AreSteps f.steps.items f.kernels.items };
+    ghost invariant = { λ f. IsFound f.steps.items f.kernels.items f.order.items };
 }
 
 impl Found {
     // The empty prefix with its items.
     pub(crate) fn new(alloc: Global, kernel: Sequence<Item>) -> Result<Found, AllocError>
+        requires { AreInOrder kernel }
         ensures { IfOk result (λ found. found ≡ record { prefixes = [] ∷ []; kernels = kernel ∷ [] }) }
     {
         let mut kernels = Vec::new(alloc);
         push(&mut kernels, kernel)?;
+        let mut order = Vec::new(alloc);
+        push(&mut order, 0)?;
         Ok(Found {
             steps: Vec::new(alloc),
             kernels,
+            order,
         })
     }
 
@@ -68,21 +75,30 @@ impl Found {
         ensures found { IfSome result (λ s. (kernel : List Item) × (slice_get self.now.kernels s ≡ Some kernel) × SameItems kernel items.now) }
         ensures none { IfNone result ((s : ℕ) (kernel : List Item) → slice_get self.now.kernels s ≡ Some kernel → ¬ SameItems kernel items.now) }
     {
-        find(&self.kernels, items)
+        match locate(&self.kernels, &self.order, items) {
+            Ok(number) => Some(number),
+            Err(_) => None,
+        }
     }
 
-    // Adds a prefix, which goes on from that of a number by a symbol, with its items.
+    // Adds a prefix, which goes on from that of a number by a symbol, with its items, which are new.
     pub(crate) fn add(
         &mut self,
         from: usize,
         symbol: Symbol,
         kernel: Sequence<Item>,
     ) -> Result<(), AllocError>
-        requires { from < length self.old.kernels }
+        requires from { from < length self.old.kernels }
+        requires in_order { AreInOrder kernel }
+        requires new { (s : ℕ) (other : List Item) → slice_get self.old.kernels s ≡ Some other → ¬ SameItems other kernel }
         ensures { OnOk result (self.new ≡ record { prefixes = self.old.prefixes ++ (slice_index_or self.old.prefixes from [] ++ symbol ∷ []) ∷ []; kernels = self.old.kernels ++ kernel ∷ [] }) }
     {
+        let Err(place) = locate(&self.kernels, &self.order, kernel.as_slice()) else {
+            unreachable!()
+        };
         self.steps.reserve(1)?;
         self.kernels.reserve(1)?;
+        insert(&mut self.order, place, self.kernels.len())?;
         self.steps.push_reserved(Step { from, symbol });
         self.kernels.push_reserved(kernel);
         Ok(())
@@ -103,4 +119,14 @@ impl Found {
         symbols.reverse();
         Ok(symbols)
     }
+}
+
+// Puts a number at a place of a list.
+fn insert(list: &mut Vec<usize>, place: usize, number: usize) -> Result<(), AllocError>
+    requires { place ≤ length list.old.items }
+    ensures ok { OnOk result (list.new.items ≡ insert list.old.items place number) }
+    ensures err { OnErr result (list.new.items ≡ list.old.items) }
+{
+    list.insert(place, number)?;
+    Ok(())
 }

@@ -5,14 +5,16 @@
 //! crates above.
 #![tactic(auto)]
 
+mod advance;
 mod close;
+mod compare;
 mod found;
 mod kernels;
 mod lookaheads;
 mod looks;
-mod moved;
 mod row;
 mod rules;
+mod run;
 mod search;
 mod symbol;
 mod table;

@@ -8,7 +8,6 @@ ghost use Rattle.wb_items.specs.Lookaheads.{AreLookaheadsOf, AreEmpty, ChangesAt
 
 use crate::Kernels;
 use crate::looks::{Looks, Row};
-use crate::symbol::is_item;
 use std::alloc::{AllocError, Global};
 use std::marker::Model;
 use wb_base::{Grammar, push};
@@ -68,7 +67,7 @@ impl Lookaheads {
         requires item { Contains (items_in (row_of self.now state)) item }
         ensures { slice_get (items_in (row_of self.now state)) result ≡ Some item }
     {
-        place_in(self.rows[state].as_slice(), item)
+        self.rows[state].place(item)
     }
 
     /// The set at an item. Takes no memory.
@@ -122,17 +121,4 @@ impl Lookaheads {
     {
         self.rows[state].unite(place, set)
     }
-}
-
-// The place of an item that stands in the row.
-fn place_in(row: &[Looks], item: Item) -> usize
-    requires { Contains (items_in row.now) item }
-    ensures { slice_get (items_in row.now) result ≡ Some item }
-{
-    'places: for (place, looks) in row.iter().enumerate() {
-        if is_item(looks.item, item) {
-            return place;
-        }
-    }
-    unreachable!()
 }

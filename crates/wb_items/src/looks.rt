@@ -2,9 +2,12 @@
 
 ghost use Rattle.std.specs.Prelude.{◌≡◌, ◌<◌, ◌↔◌, ℕ, List, Bool, IsTrue, true, false, IfOk, Some, length, All, Contains, replicate, map, slice_get, slice_set};
 ghost use Rattle.wb_termset.specs.Sets.{Has, IsEmpty, IsUnion, Grew};
+ghost use Rattle.wb_grammars.specs.declared.item.Item.{Item};
 ghost use Rattle.wb_items.specs.declared.looks.Looks.{Looks};
+ghost use Rattle.wb_items.specs.Kernels.{AreInOrder};
 ghost use Rattle.wb_items.specs.Lookaheads.{items_in};
 
+use crate::compare::precedes;
 use std::alloc::{AllocError, Global};
 use std::marker::Model;
 use wb_base::push;
@@ -18,6 +21,7 @@ pub struct Looks {
     pub set: TermSet,
 }
 
+// The items in order.
 #[derive(Drop)]
 pub(crate) struct Row {
     looks: Vec<Looks>,
@@ -26,15 +30,20 @@ pub(crate) struct Row {
 impl Model for Row {
     ghost use Rattle.std.specs.Prelude.{List};
     ghost use Rattle.wb_items.specs.declared.looks.Looks.{Looks};
+    ghost use Rattle.wb_items.specs.Kernels.{AreInOrder};
+    ghost use Rattle.wb_items.specs.Lookaheads.{items_in};
 
     ghost Value = { List Looks };
 
     ghost view = { λ r. r.looks.items };
+
+    ghost invariant = { λ r. AreInOrder (items_in r.looks.items) };
 }
 
 impl Row {
     // These items with empty sets of numbers below the count.
     pub(crate) fn new(alloc: Global, items: &[Item], count: usize) -> Result<Row, AllocError>
+        requires { AreInOrder items.now }
         ensures items { IfOk result (λ row. items_in row ≡ items.now) }
         ensures widths { IfOk result (λ row. All (λ looks. length looks.set ≡ count) row) }
         ensures empty { IfOk result (λ row. All (λ looks. IsEmpty looks.set) row) }
@@ -52,6 +61,14 @@ impl Row {
         ensures { result.now ≡ self.now }
     {
         &self.looks
+    }
+
+    // The place of an item that stands in the row.
+    pub(crate) fn place(&self, item: Item) -> usize
+        requires { Contains (items_in self.now) item }
+        ensures { slice_get (items_in self.now) result ≡ Some item }
+    {
+        place_in(&self.looks, item)
     }
 
     // Adds a terminal to the set at a place, and answers whether it was new.
@@ -73,4 +90,34 @@ impl Row {
     {
         self.looks[place].set.union_with(set)
     }
+}
+
+// The place of an item that stands in the list, found by halves.
+fn place_in(row: &[Looks], item: Item) -> usize
+    requires in_order { AreInOrder (items_in row.now) }
+    requires there { Contains (items_in row.now) item }
+    ensures { slice_get (items_in row.now) result ≡ Some item }
+{
+    let mut low = 0;
+    let mut high = row.len();
+    'halves: while low < high {
+        let middle = low + (high - low) / 2;
+        let found = item_in(row, middle);
+        if precedes(found, item) {
+            low = middle + 1;
+        } else if precedes(item, found) {
+            high = middle;
+        } else {
+            return middle;
+        }
+    }
+    unreachable!()
+}
+
+// The item at a place.
+fn item_in(row: &[Looks], place: usize) -> Item
+    requires { place < length row.now }
+    ensures { slice_get (items_in row.now) place ≡ Some result }
+{
+    row[place].item
 }

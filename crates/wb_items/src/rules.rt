@@ -1,52 +1,82 @@
 //! The productions of each nonterminal.
 
-ghost use Rattle.std.specs.Prelude.{◌<◌, ◌+◌, IfOk, OnOk, length};
-ghost use Rattle.wb_items.specs.Passes.{RulesUpTo};
-ghost use Rattle.wb_items.specs.Table.{AreRulesOf, AreRules};
+ghost use Rattle.std.specs.Prelude.{◌≡◌, ◌<◌, ◌+◌, ◌++◌, ◌∷◌, [], IfOk, OnOk, length, replicate};
+ghost use Rattle.wb_items.specs.Passes.{RowsUpTo};
+ghost use Rattle.wb_items.specs.Table.{AreRules};
 
 use std::alloc::{AllocError, Global};
-use wb_base::{Grammar, Sequence, push};
+use std::marker::Model;
+use wb_base::{Grammar, push};
+
+// Numbers of productions.
+#[derive(Drop)]
+pub(crate) struct Numbers {
+    numbers: Vec<usize>,
+}
+
+impl Model for Numbers {
+    ghost use Rattle.std.specs.Prelude.{List, ℕ};
+
+    ghost Value = { List ℕ };
+
+    ghost view = { λ n. n.numbers.items };
+}
+
+impl Numbers {
+    fn new(alloc: Global) -> Numbers
+        ensures { result ≡ [] }
+    {
+        Numbers {
+            numbers: Vec::new(alloc),
+        }
+    }
+
+    fn push(&mut self, number: usize) -> Result<(), AllocError>
+        ensures { OnOk result (self.new ≡ self.old ++ number ∷ []) }
+    {
+        push(&mut self.numbers, number)
+    }
+
+    pub(crate) fn as_slice(&self) -> &[usize]
+        ensures { result.now ≡ self.now }
+    {
+        &self.numbers
+    }
+}
 
 // The numbers of the productions of each nonterminal, in order.
-pub(crate) fn rules(alloc: Global, grammar: &Grammar) -> Result<Vec<Sequence<usize>>, AllocError>
+pub(crate) fn rules(alloc: Global, grammar: &Grammar) -> Result<Vec<Numbers>, AllocError>
     ensures { IfOk result (λ rows. AreRules grammar.now rows.items) }
 {
-    let mut rows = Vec::new(alloc);
-    'nonterminals: for nonterminal in 0..grammar.nonterminals() {
-        push(&mut rows, rules_of(alloc, grammar, nonterminal)?)?;
+    let mut rows = empty_rows(alloc, grammar.nonterminals())?;
+    'productions: for production in 0..grammar.productions() {
+        add_rule(grammar, production, &mut rows)?;
     }
     Ok(rows)
 }
 
-// The numbers of the productions of one nonterminal, in order.
-fn rules_of(
-    alloc: Global,
-    grammar: &Grammar,
-    nonterminal: usize,
-) -> Result<Sequence<usize>, AllocError>
-    ensures { IfOk result (AreRulesOf grammar.now nonterminal) }
+// So many empty rows.
+fn empty_rows(alloc: Global, count: usize) -> Result<Vec<Numbers>, AllocError>
+    ensures { IfOk result (λ rows. rows.items ≡ replicate count []) }
 {
-    let mut numbers = Vec::new(alloc);
-    'productions: for production in 0..grammar.productions() {
-        add_rule(grammar, nonterminal, production, &mut numbers)?;
+    let mut rows = Vec::new(alloc);
+    'rows: for _row in 0..count {
+        push(&mut rows, Numbers::new(alloc))?;
     }
-    Ok(Sequence::from_vec(numbers))
+    Ok(rows)
 }
 
-// Adds a production, if it is one of the nonterminal.
+// Adds a production to the row of its left side.
 fn add_rule(
     grammar: &Grammar,
-    nonterminal: usize,
     production: usize,
-    numbers: &mut Vec<usize>,
+    rows: &mut [Numbers],
 ) -> Result<(), AllocError>
     requires production { production < length grammar.now.productions }
-    requires before { RulesUpTo grammar.now nonterminal numbers.old.items production }
-    ensures { OnOk result (RulesUpTo grammar.now nonterminal numbers.new.items (production + 1)) }
+    requires before { RowsUpTo grammar.now rows.old production }
+    ensures { OnOk result (RowsUpTo grammar.now rows.new (production + 1)) }
 {
     let _right = grammar.right(production);
-    if grammar.left(production) == nonterminal {
-        push(numbers, production)?;
-    }
+    rows[grammar.left(production)].push(production)?;
     Ok(())
 }

@@ -1,23 +1,45 @@
-//! Looking for a list with the same items.
+//! Looking for a kernel with the same items, by halves.
 
-ghost use Rattle.std.specs.Prelude.{◌≡◌, ◌<◌, ◌↔◌, ℕ, List, IsTrue, IfSome, IfNone, Some, length, slice_get, Contains};
+ghost use Rattle.std.specs.Prelude.{◌≡◌, ◌<◌, List, IfOk, IfErr, Some, length, slice_get};
 ghost use Rattle.wb_grammars.specs.declared.item.Item.{Item};
+ghost use Rattle.wb_items.specs.Order.{IsIndex, LiesWithin};
 ghost use Rattle.wb_items.specs.Table.{SameItems};
 
+use crate::compare::compare;
+use std::cmp::Ordering;
 use wb_base::Sequence;
 use wb_grammars::Item;
 
-// The place of a list with these items.
-pub(crate) fn find(kernels: &[Sequence<Item>], items: &[Item]) -> Option<usize>
-    ensures found { IfSome result (λ s. (kernel : List Item) × (slice_get kernels.now s ≡ Some kernel) × SameItems kernel items.now) }
-    ensures none { IfNone result ((s : ℕ) (kernel : List Item) → slice_get kernels.now s ≡ Some kernel → ¬ SameItems kernel items.now) }
+// The number of the kernel with these items, or else the place in the order where such a kernel would stand.
+pub(crate) fn locate(
+    kernels: &[Sequence<Item>],
+    order: &[usize],
+    items: &[Item],
+) -> Result<usize, usize>
+    requires { IsIndex order.now kernels.now }
+    ensures ok { IfOk result (λ s. (kernel : List Item) × (slice_get kernels.now s ≡ Some kernel) × SameItems kernel items.now) }
+    ensures err { IfErr result (λ place. LiesWithin kernels.now order.now items.now place place) }
 {
-    'kernels: for place in 0..kernels.len() {
-        if are_same(items_at(kernels, place), items) {
-            return Some(place);
+    let mut low = 0;
+    let mut high = order.len();
+    'halves: while low < high {
+        let middle = low + (high - low) / 2;
+        let number = number_at(order, middle);
+        match compare(items_at(kernels, number), items) {
+            Ordering::Less => low = middle + 1,
+            Ordering::Equal => return Ok(number),
+            Ordering::Greater => high = middle,
         }
     }
-    None
+    Err(low)
+}
+
+// The number at a place.
+fn number_at(order: &[usize], place: usize) -> usize
+    requires { place < length order.now }
+    ensures { slice_get order.now place ≡ Some result }
+{
+    order[place]
 }
 
 // The list at a place.
@@ -26,35 +48,4 @@ fn items_at(kernels: &[Sequence<Item>], place: usize) -> &[Item]
     ensures { slice_get kernels.now place ≡ Some result.now }
 {
     kernels[place].as_slice()
-}
-
-// Whether both lists have the same items.
-fn are_same(items: &[Item], others: &[Item]) -> bool
-    ensures { IsTrue result ↔ SameItems items.now others.now }
-{
-    are_within(items, others) && are_within(others, items)
-}
-
-// Whether each item of the one stands in the other.
-fn are_within(items: &[Item], others: &[Item]) -> bool
-    ensures { IsTrue result ↔ ((item : Item) → Contains items.now item → Contains others.now item) }
-{
-    'items: for &item in items {
-        if !contains(others, item) {
-            return false;
-        }
-    }
-    true
-}
-
-// Whether the item stands in the list.
-fn contains(items: &[Item], item: Item) -> bool
-    ensures { IsTrue result ↔ Contains items.now item }
-{
-    'items: for &other in items {
-        if other == item {
-            return true;
-        }
-    }
-    false
 }

@@ -7,15 +7,17 @@ ghost use Rattle.wb_grammars.specs.Items.{after_dot, start_item};
 ghost use Rattle.wb_grammars.specs.Shape.{IsLive};
 ghost use Rattle.wb_items.specs.Kernels.{AreInOrder, ListsItems};
 ghost use Rattle.wb_items.specs.declared.row.Move.{Move};
+ghost use Rattle.wb_items.specs.declared.advance.Advance.{Advance};
+ghost use Rattle.wb_items.specs.Advances.{AreAdvancesRising};
 ghost use Rattle.wb_items.specs.Passes.{MovesUpTo};
 ghost use Rattle.wb_items.specs.Table.{AreKernelsOf, AreFollowed, AreMoves, AreRules, Grows, IsKernelFor, IsRow, IsTable, Leads};
 
+use crate::advance::{Advance, advances, symbol_at};
 use crate::close::close;
 use crate::found::Found;
-use crate::moved::moved;
-use crate::row::{Move, find_move};
-use crate::rules::rules;
-use crate::symbol::{item_at, symbol_after};
+use crate::row::Move;
+use crate::rules::{Numbers, rules};
+use crate::run::{kernel_of, run_end, run_of};
 use std::alloc::{AllocError, Global};
 use wb_base::{Grammar, Sequence, Symbol, push};
 use wb_grammars::Item;
@@ -64,7 +66,7 @@ fn first_kernel(alloc: Global, grammar: &Grammar) -> Result<Sequence<Item>, Allo
 fn follow(
     alloc: Global,
     grammar: &Grammar,
-    rules: &[Sequence<usize>],
+    rules: &[Numbers],
     table: &mut Table,
 ) -> Result<(), AllocError>
     requires live { IsLive grammar.now }
@@ -96,69 +98,40 @@ fn moves(
     requires live { IsLive grammar.now }
     requires state { state < length found.old.kernels }
     requires exact { (prefix : List Symbol) → slice_get found.old.prefixes state ≡ Some prefix → ListsItems grammar.now prefix closure.now }
-    requires in_order { AreInOrder closure.now }
     requires kernels { AreKernelsOf grammar.now found.old.prefixes found.old.kernels }
     ensures kernels { OnOk result (AreKernelsOf grammar.now found.new.prefixes found.new.kernels) }
     ensures grows { OnOk result (Grows found.old found.new) }
     ensures row { IfOk result (λ row. IsRow grammar.now found.new.prefixes closure.now state row) }
 {
+    let list = advances(alloc, grammar, closure)?;
     let mut row = Vec::new(alloc);
-    'places: for place in 0..closure.len() {
-        follow_item(alloc, grammar, state, closure, place, found, &mut row)?;
+    let mut place = 0;
+    'runs: while place < list.len() {
+        place = add_move(alloc, grammar, state, &list, place, found, &mut row)?;
     }
     Ok(Sequence::from_vec(row))
 }
 
-// Adds the move by the symbol behind the dot of the item at a place.
-fn follow_item(
-    alloc: Global,
-    grammar: &Grammar,
-    state: usize,
-    closure: &[Item],
-    place: usize,
-    found: &mut Found,
-    row: &mut Vec<Move>,
-) -> Result<(), AllocError>
-    requires live { IsLive grammar.now }
-    requires in_order { AreInOrder closure.now }
-    requires place { place < length closure.now }
-    requires before { MovesUpTo grammar.now found.old found.old closure.now state row.old.items place }
-    ensures { OnOk result (MovesUpTo grammar.now found.old found.new closure.now state row.new.items (place + 1)) }
-{
-    let item = item_at(closure, place);
-    if let Some(symbol) = symbol_after(grammar, item) {
-        add_move(alloc, grammar, state, closure, symbol, found, row)?;
-    }
-    Ok(())
-}
-
-// The move by a symbol before which an item has its dot, where the row has none by it, and the kernel that it leads to.
+// The move by the symbol at a place, and the kernel that it leads to. The answer is the place behind all that have the symbol.
 fn add_move(
     alloc: Global,
     grammar: &Grammar,
     state: usize,
-    closure: &[Item],
-    symbol: Symbol,
+    list: &[Advance],
+    place: usize,
     found: &mut Found,
     row: &mut Vec<Move>,
-) -> Result<(), AllocError>
+) -> Result<usize, AllocError>
     requires live { IsLive grammar.now }
-    requires state { state < length found.old.kernels }
-    requires exact { (prefix : List Symbol) → slice_get found.old.prefixes state ≡ Some prefix → ListsItems grammar.now prefix closure.now }
-    requires in_order { AreInOrder closure.now }
-    requires occurs { (item : Item) × (rest : List Symbol) × Contains closure.now item × (after_dot grammar.now item ≡ symbol ∷ rest) }
-    requires kernels { AreKernelsOf grammar.now found.old.prefixes found.old.kernels }
-    requires row { AreMoves grammar.now found.old.prefixes state row.old.items }
-    ensures kernels { OnOk result (AreKernelsOf grammar.now found.new.prefixes found.new.kernels) }
-    ensures grows { OnOk result (Grows found.old found.new) }
-    ensures row { OnOk result (AreMoves grammar.now found.new.prefixes state row.new.items) }
-    ensures keeps { OnOk result ((move : Move) → Contains row.old.items move → Contains row.new.items move) }
-    ensures has { OnOk result ((next : ℕ) × Contains row.new.items (record { symbol = symbol; state = next })) }
+    requires rising { AreAdvancesRising list.now }
+    requires place { place < length list.now }
+    requires before { MovesUpTo grammar.now found.old found.old list.now state row.old.items place }
+    ensures moves { IfOk result (λ end. MovesUpTo grammar.now found.old found.new list.now state row.new.items end) }
+    ensures after { IfOk result (λ end. (place < end) × (end ≤ length list.now)) }
 {
-    if find_move(row, symbol).is_some() {
-        return Ok(());
-    }
-    let kernel = moved(alloc, grammar, closure, symbol)?;
+    let symbol = symbol_at(list, place);
+    let end = run_end(list, place, symbol);
+    let kernel = kernel_of(alloc, run_of(list, place, end))?;
     let next = number_of(grammar, state, symbol, kernel, found)?;
     push(
         row,
@@ -167,7 +140,7 @@ fn add_move(
             state: next,
         },
     )?;
-    Ok(())
+    Ok(end)
 }
 
 // The number of the kernel that a symbol leads to, which is added where it is new.

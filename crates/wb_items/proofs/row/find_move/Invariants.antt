@@ -1,7 +1,11 @@
-use Rattle.std.proofs.Common.{◌≡◌, ℕ, ◌<◌, Some}
-use Rattle.std.specs.Prelude.{slice_get}
+use Rattle.std.proofs.Common.{◌-◌}
 use Rattle.wb_items.specs.declared.row.Move.{Move}
+use Rattle.wb_items.specs.Order.{SymbolPrecedes}
+use Rattle.wb_items.proofs.HalvesLemmas.{LiesBetween}
 use Rattle.wb_items.proofs.row.find_move.Given as goal
 
-abbrev pub invariant-moves : goal.invariant-moves
-invariant-moves l = (p : ℕ) (move : Move) → p < l.found-index → slice_get l.row p ≡ Some move → move.symbol ≡ l.symbol → ⊥
+abbrev pub invariant-halves : goal.invariant-halves
+invariant-halves l = LiesBetween (λ (move : Move). SymbolPrecedes move.symbol l.symbol) (λ (move : Move). SymbolPrecedes l.symbol move.symbol) l.row l.low l.high
+
+abbrev pub decreases-halves : goal.decreases-halves
+decreases-halves l = l.high - l.low

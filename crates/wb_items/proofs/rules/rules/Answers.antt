@@ -1,10 +1,9 @@
-use Rattle.std.proofs.Common.{arith, sym, subst, ◌≡◌, ◌+◌, ◌++◌, ◌∷◌, [], rules}
-use Rattle.wb_items.proofs.RuleRows.{rows_more, RowsUpTo}
+use Rattle.std.proofs.Common.{arith}
+use Rattle.wb_items.proofs.RuleRows.{rows_start, rows_done}
 use Rattle.wb_items.proofs.rules.rules.Goals as goal
 
-pub nonterminals-preserved : goal.nonterminals-preserved
-nonterminals-preserved c =
-    let g = c.args.grammar.now in
-    let is : c.push.new.list.items ≡ c.nonterminals.rows.items ++ c.in_ok-rules_of.field-0 ∷ [] = search rules in
-    subst (λ rows. RowsUpTo g rows (c.nonterminals.nonterminal + 1)) (sym is)
-    (rows_more g c.nonterminals.rows.items c.nonterminals.nonterminal c.in_ok-rules_of.field-0 c.nonterminals.invariant c.in_ok-rules_of.ensures)
+pub productions-init : goal.productions-init
+productions-init c = rw (c.in_ok-rows.ensures, c.nonterminals.ensures) (rows_start c.args.grammar.now)
+
+pub returns : goal.returns
+returns c = rows_done c.args.grammar.now c.productions.rows.items c.productions.production (omega arith) c.productions.invariant

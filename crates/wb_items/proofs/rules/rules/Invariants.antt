@@ -1,5 +1,5 @@
-use Rattle.wb_items.proofs.RuleRows.{RowsUpTo}
+use Rattle.wb_items.specs.Passes.{RowsUpTo}
 use Rattle.wb_items.proofs.rules.rules.Given as goal
 
-abbrev pub invariant-nonterminals : goal.invariant-nonterminals
-invariant-nonterminals l = RowsUpTo l.grammar l.rows.items l.nonterminal
+abbrev pub invariant-productions : goal.invariant-productions
+invariant-productions l = RowsUpTo l.grammar l.rows.items l.production

@@ -1,23 +1,26 @@
-use Rattle.std.proofs.Common.{◌≡◌, ◌<◌, ◌≤◌, ◌+◌, ◌-◌, ◌++◌, ◌∷◌, [], ℕ, List, Some, length, map, set, true, false, sym, ◌∙◌, ap, subst, arith}
-use Rattle.std.specs.Prelude.{slice_get, slice_index_or, Contains}
-use Rattle.std.proofs.lemmas.Bool.{true≢false}
-use Rattle.std.proofs.lemmas.Option.{slice_get_within}
-use Rattle.wb_base.specs.declared.symbol.Symbol.{Symbol}
+use Rattle.std.proofs.Common.{sym, subst, arith}
+use Rattle.std.specs.Prelude.{Contains, ◌↔◌}
+use Rattle.std.specs.List.{between}
 use Rattle.wb_grammars.specs.declared.item.Item.{Item}
-use Rattle.wb_items.proofs.TableLemmas.{moved_kernel, moves_grow}
-use Rattle.wb_items.proofs.MoveLemmas.{row_more}
-use Rattle.wb_items.proofs.OrderLemmas.{Contains_last}
+use Rattle.wb_items.specs.Advances.{items_of}
+use Rattle.wb_items.specs.Passes.{AreRising}
+use Rattle.wb_items.proofs.ListLemmas.{at_some}
+use Rattle.wb_items.proofs.AdvanceLemmas.{run_rises}
+use Rattle.wb_items.proofs.MoveLemmas.{run_kernel, moves_more}
 use Rattle.wb_items.proofs.table.add_move.Goals as goal
+
+pub kernel_of-requires : goal.kernel_of-requires
+kernel_of-requires c = subst (λ run. AreRising (items_of run)) (sym c.run_of.ensures) (run_rises c.args.list.now c.symbol_at-symbol.result c.args.place c.run_end-end.result c.requires.rising c.run_end-end.ensures)
 
 pub number_of-requires-clause-kernel : goal.number_of-requires-clause-kernel
 number_of-requires-clause-kernel c = λ prefix at.
-    moved_kernel c.args.grammar.now c.requires.live prefix c.args.symbol c.args.closure.now c.in_ok-kernel.kernel (c.requires.exact prefix at) c.in_ok-kernel.ensures.exact c.in_ok-kernel.ensures.in_order c.requires.occurs
+    let (b, here) = at_some c.args.list.now c.args.place c.requires.place in
+    run_kernel c.args.grammar.now c.requires.live c.args.found.now c.args.found.now c.args.list.now c.args.state c.args.row.now.items c.args.place c.run_end-end.result c.symbol_at-symbol.result b prefix c.in_ok-kernel.kernel
+    here (c.symbol_at-symbol.ensures b here) c.requires.rising c.run_end-end.ensures c.requires.before at
+    (subst (λ run. (item : Item) → Contains c.in_ok-kernel.kernel item ↔ Contains (items_of run) item) c.run_of.ensures c.in_ok-kernel.ensures.same) c.in_ok-kernel.ensures.in_order
 
-pub returns-clause-row : goal.returns-clause-row
-returns-clause-row c =
-    rw c.in_ok-push.ensures
-    (row_more c.args.grammar.now c.number_of.new.found.prefixes c.args.state c.args.row.now.items c.args.symbol c.in_ok-next.next
-    (moves_grow c.args.found.now c.number_of.new.found c.args.state c.args.row.now.items c.in_ok-next.ensures.grows c.requires.row) c.in_ok-next.ensures.leads)
-
-pub returns-clause-has : goal.returns-clause-has
-returns-clause-has c = (c.in_ok-next.next, rw c.in_ok-push.ensures (Contains_last c.args.row.now.items (record { symbol = c.args.symbol; state = c.in_ok-next.next })))
+pub returns-clause-moves : goal.returns-clause-moves
+returns-clause-moves c =
+    let (b, here) = at_some c.args.list.now c.args.place c.requires.place in
+    moves_more c.args.grammar.now c.args.found.now c.args.found.now c.number_of.new.found c.args.list.now c.args.state c.args.row.now.items c.push.new.list.items c.args.place c.run_end-end.result c.symbol_at-symbol.result b c.in_ok-next.next
+    here (c.symbol_at-symbol.ensures b here) c.run_end-end.ensures c.requires.before c.in_ok-next.ensures.kernels c.in_ok-next.ensures.grows c.in_ok-next.ensures.leads c.in_ok-push.ensures

@@ -1,20 +1,34 @@
-use Rattle.std.proofs.Common.{◌≡◌, ◌<◌, ◌≤◌, ◌+◌, ◌-◌, ◌++◌, ◌∷◌, [], ℕ, List, Some, length, map, set, true, false, sym, ◌∙◌, ap, subst, arith}
-use Rattle.std.specs.Prelude.{slice_get, slice_index_or, Contains}
-use Rattle.std.proofs.lemmas.Bool.{true≢false}
-use Rattle.std.proofs.lemmas.Option.{slice_get_within}
-use Rattle.wb_base.specs.declared.symbol.Symbol.{Symbol}
-use Rattle.wb_grammars.specs.declared.item.Item.{Item}
+use Rattle.std.proofs.Common.{◌≡◌, ◌≤◌, List, length, arith, subst, sym}
+use Rattle.wb_items.specs.declared.advance.Advance.{Advance}
+use Rattle.wb_items.specs.Advances.{AreAdvancesRising}
+use Rattle.wb_items.specs.Passes.{MovesUpTo}
+use Rattle.wb_items.proofs.AdvanceLemmas.{advances_list}
 use Rattle.wb_items.proofs.MoveLemmas.{moves_start, moves_now, moves_then, moves_done}
 use Rattle.wb_items.proofs.table.moves.Goals as goal
 
-pub places-init : goal.places-init
-places-init c = rw c.new-row.ensures.items (moves_start c.args.grammar.now c.args.found.now c.args.closure.now c.args.state c.requires.kernels c.requires.state c.requires.exact)
-
-pub follow_item-requires-clause-before : goal.follow_item-requires-clause-before
-follow_item-requires-clause-before c = moves_now c.args.grammar.now c.args.found.now c.places.found c.args.closure.now c.args.state c.places.row.items c.places.place c.places.invariant
-
-pub places-preserved : goal.places-preserved
-places-preserved c = moves_then c.args.grammar.now c.args.found.now c.places.found c.follow_item.new.found c.args.closure.now c.args.state c.follow_item.new.row.items (c.places.place + 1) c.places.invariant.grows c.in_ok-follow_item.ensures
+pub runs-init : goal.runs-init
+runs-init c = record {
+  moves = rw c.new-row.ensures.items (moves_start c.args.grammar.now c.args.found.now c.in_ok-list.list.items c.args.state c.requires.kernels c.requires.state
+      (λ prefix at. advances_list c.args.grammar.now c.requires.live prefix c.args.closure.now c.in_ok-list.list.items (c.requires.exact prefix at) c.in_ok-list.ensures.exact));
+  within = omega arith;
+}
 
 pub returns-clause-row : goal.returns-clause-row
-returns-clause-row c = rw c.from_vec.ensures (moves_done c.args.grammar.now c.args.found.now c.places.found c.args.closure.now c.args.state c.places.row.items c.places.place (omega arith) c.places.invariant)
+returns-clause-row c =
+    rw c.from_vec.ensures
+    (moves_done c.args.grammar.now c.args.found.now c.runs.found c.args.closure.now c.in_ok-list.list.items c.args.state c.runs.row.items c.runs.place (omega arith) c.in_ok-list.ensures.exact c.runs.invariant.moves)
+
+pub add_move-requires-clause-rising : goal.add_move-requires-clause-rising
+add_move-requires-clause-rising c = subst AreAdvancesRising (sym c.deref.ensures.value) c.in_ok-list.ensures.rising
+
+pub add_move-requires-clause-before : goal.add_move-requires-clause-before
+add_move-requires-clause-before c =
+    subst (λ list. MovesUpTo c.args.grammar.now c.runs.found c.runs.found list c.args.state c.runs.row.items c.runs.place) (sym c.deref.ensures.value)
+    (moves_now c.args.grammar.now c.args.found.now c.runs.found c.in_ok-list.list.items c.args.state c.runs.row.items c.runs.place c.runs.invariant.moves)
+
+pub runs-preserved : goal.runs-preserved
+runs-preserved c = record {
+  moves = moves_then c.args.grammar.now c.args.found.now c.runs.found c.add_move.new.found c.in_ok-list.list.items c.args.state c.add_move.new.row.items c.in_ok-place.place c.runs.invariant.moves.grows
+      (subst (λ list. MovesUpTo c.args.grammar.now c.runs.found c.add_move.new.found list c.args.state c.add_move.new.row.items c.in_ok-place.place) c.deref.ensures.value c.in_ok-place.ensures.moves);
+  within = subst (λ (list : List Advance). c.in_ok-place.place ≤ length list) c.deref.ensures.value c.in_ok-place.ensures.after.1;
+}

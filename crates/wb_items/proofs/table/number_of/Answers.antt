@@ -28,3 +28,6 @@ returns-clause-grows c = (is_new c).grows
 
 pub returns-clause-leads : goal.returns-clause-leads
 returns-clause-leads c = (is_new c).leads
+
+pub add-requires-clause-new : goal.add-requires-clause-new
+add-requires-clause-new c = λ s other at same. c.in_default.ensures.none s other at (subst (SameItems other) (sym c.as_slice.ensures) same)

@@ -1,0 +1,23 @@
+use Rattle.std.proofs.Common.{◌≡◌, ◌<◌, ◌≤◌, ◌+◌, ◌-◌, ◌++◌, ◌∷◌, [], ℕ, List, Some, length, map, set, true, false, sym, ◌∙◌, ap, subst, arith}
+use Rattle.std.specs.Prelude.{slice_get, slice_index_or, Contains}
+use Rattle.std.proofs.lemmas.Bool.{true≢false}
+use Rattle.std.proofs.lemmas.Option.{slice_get_within}
+use Rattle.wb_base.specs.declared.symbol.Symbol.{Symbol}
+use Rattle.wb_grammars.specs.declared.item.Item.{Item}
+use Rattle.wb_items.specs.Advances.{items_of}
+use Rattle.wb_items.proofs.ListLemmas.{at_once}
+use Rattle.wb_items.proofs.OrderLemmas.{strict_pass_at, strict_take_at}
+use Rattle.wb_items.proofs.run.add_to_kernel.Goals as goal
+use Rattle.wb_items.proofs.run.add_to_kernel.Goals.{then-place-gt0+else-is_item, else-place-gt0}
+
+pub returns-then-is_item : goal.returns-then-is_item
+returns-then-is_item c =
+    strict_pass_at (items_of c.args.run.now) c.args.kernel.now.items c.args.place c.advanced_at-before.result c.advanced_at-item.result c.if-place-gt0.true c.advanced_at-before.ensures c.advanced_at-item.ensures (c.is_item.ensures.0 c.if-is_item.true) c.requires.before
+
+pub returns : goal.returns
+returns c =
+    strict_take_at (items_of c.args.run.now) c.args.kernel.now.items c.push.new.list.items c.args.place c.advanced_at-item.result c.requires.rising c.advanced_at-item.ensures c.in_ok-push.ensures
+    (λ pos a at same. elim c.if-place-gt0.branch [
+      | then-place-gt0+else-is_item w ↦ true≢false (sym (w.is_item.ensures.1 (at_once (items_of c.args.run.now) (c.args.place - 1) w.advanced_at-before.result a w.advanced_at-before.ensures at ∙ same)) ∙ w.if-is_item.false)
+      | else-place-gt0 w ↦ absurd (omega (arith, pos, w.if-place-gt0.false))
+    ]) c.requires.before
