@@ -2,6 +2,10 @@
 #![tactic(auto)]
 
 #[cfg(test)]
+mod grammars;
+#[cfg(test)]
+mod kernels;
+#[cfg(test)]
 mod prefixes;
 #[cfg(test)]
 mod show;

@@ -1,0 +1,263 @@
+//! Small grammars with the kernels of their prefixes, which another program found from the definition of valid items.
+
+use std::alloc::{AllocError, Global};
+use wb_base::{Grammar, Symbol};
+
+/// An item: its production, and how many symbols stand before its dot.
+pub type Place = (usize, usize);
+
+/// What is expected of a kernel.
+pub struct Row {
+    /// Symbols that lead to it from the kernel of the empty prefix.
+    pub prefix: &'static [Symbol],
+    pub kernel: &'static [Place],
+    pub closure: &'static [Place],
+    /// The symbols that lead on, each with the row that it leads to.
+    pub moves: &'static [(Symbol, usize)],
+}
+
+const A: Symbol = Symbol::Nonterminal(0);
+
+const B: Symbol = Symbol::Nonterminal(1);
+
+const C: Symbol = Symbol::Nonterminal(2);
+
+const T0: Symbol = Symbol::Terminal(0);
+
+const T1: Symbol = Symbol::Terminal(1);
+
+const T2: Symbol = Symbol::Terminal(2);
+
+/// The symbols of these grammars, and some that stand in none of them.
+pub static SYMBOLS: [Symbol; 8] = [
+    A,
+    B,
+    C,
+    Symbol::Nonterminal(3),
+    T0,
+    T1,
+    T2,
+    Symbol::Terminal(3),
+];
+
+/// A -> B t1 C, A -> C, B -> t0 C, B -> t2, C -> B
+pub fn pointers(alloc: Global) -> Result<Grammar, AllocError> {
+    let mut grammar = Grammar::new(alloc, 3, 3, 0);
+    grammar.add(0, &[B, T1, C])?;
+    grammar.add(0, &[C])?;
+    grammar.add(1, &[T0, C])?;
+    grammar.add(1, &[T2])?;
+    grammar.add(2, &[B])?;
+    Ok(grammar)
+}
+
+/// Its kernels.
+pub static POINTERS: [Row; 10] = [
+    Row {
+        prefix: &[],
+        kernel: &[(5, 0)],
+        closure: &[(0, 0), (1, 0), (2, 0), (3, 0), (4, 0), (5, 0)],
+        moves: &[(A, 1), (B, 2), (C, 3), (T0, 4), (T2, 5)],
+    },
+    Row {
+        prefix: &[A],
+        kernel: &[(5, 1)],
+        closure: &[(5, 1)],
+        moves: &[],
+    },
+    Row {
+        prefix: &[B],
+        kernel: &[(0, 1), (4, 1)],
+        closure: &[(0, 1), (4, 1)],
+        moves: &[(T1, 6)],
+    },
+    Row {
+        prefix: &[C],
+        kernel: &[(1, 1)],
+        closure: &[(1, 1)],
+        moves: &[],
+    },
+    Row {
+        prefix: &[T0],
+        kernel: &[(2, 1)],
+        closure: &[(2, 0), (2, 1), (3, 0), (4, 0)],
+        moves: &[(B, 7), (C, 8), (T0, 4), (T2, 5)],
+    },
+    Row {
+        prefix: &[T2],
+        kernel: &[(3, 1)],
+        closure: &[(3, 1)],
+        moves: &[],
+    },
+    Row {
+        prefix: &[B, T1],
+        kernel: &[(0, 2)],
+        closure: &[(0, 2), (2, 0), (3, 0), (4, 0)],
+        moves: &[(B, 7), (C, 9), (T0, 4), (T2, 5)],
+    },
+    Row {
+        prefix: &[T0, B],
+        kernel: &[(4, 1)],
+        closure: &[(4, 1)],
+        moves: &[],
+    },
+    Row {
+        prefix: &[T0, C],
+        kernel: &[(2, 2)],
+        closure: &[(2, 2)],
+        moves: &[],
+    },
+    Row {
+        prefix: &[B, T1, C],
+        kernel: &[(0, 3)],
+        closure: &[(0, 3)],
+        moves: &[],
+    },
+];
+
+/// Items that are no kernel of it.
+pub static NOT_POINTERS: [&[Place]; 7] = [
+    &[],
+    &[(0, 0)],
+    &[(0, 1)],
+    &[(0, 1), (1, 1), (4, 1)],
+    &[(0, 0), (5, 0)],
+    &[(1, 2)],
+    &[(6, 0)],
+];
+
+/// A -> t0 t1, A -> t1
+pub fn words(alloc: Global) -> Result<Grammar, AllocError> {
+    let mut grammar = Grammar::new(alloc, 2, 1, 0);
+    grammar.add(0, &[T0, T1])?;
+    grammar.add(0, &[T1])?;
+    Ok(grammar)
+}
+
+/// Its kernels.
+pub static WORDS: [Row; 5] = [
+    Row {
+        prefix: &[],
+        kernel: &[(2, 0)],
+        closure: &[(0, 0), (1, 0), (2, 0)],
+        moves: &[(A, 1), (T0, 2), (T1, 3)],
+    },
+    Row {
+        prefix: &[A],
+        kernel: &[(2, 1)],
+        closure: &[(2, 1)],
+        moves: &[],
+    },
+    Row {
+        prefix: &[T0],
+        kernel: &[(0, 1)],
+        closure: &[(0, 1)],
+        moves: &[(T1, 4)],
+    },
+    Row {
+        prefix: &[T1],
+        kernel: &[(1, 1)],
+        closure: &[(1, 1)],
+        moves: &[],
+    },
+    Row {
+        prefix: &[T0, T1],
+        kernel: &[(0, 2)],
+        closure: &[(0, 2)],
+        moves: &[],
+    },
+];
+
+/// Items that are no kernel of it.
+pub static NOT_WORDS: [&[Place]; 4] = [&[], &[(1, 0)], &[(0, 1), (1, 1)], &[(3, 0)]];
+
+/// A -> , A -> A t0
+pub fn list(alloc: Global) -> Result<Grammar, AllocError> {
+    let mut grammar = Grammar::new(alloc, 1, 1, 0);
+    grammar.add(0, &[])?;
+    grammar.add(0, &[A, T0])?;
+    Ok(grammar)
+}
+
+/// Its kernels.
+pub static LIST: [Row; 3] = [
+    Row {
+        prefix: &[],
+        kernel: &[(2, 0)],
+        closure: &[(0, 0), (1, 0), (2, 0)],
+        moves: &[(A, 1)],
+    },
+    Row {
+        prefix: &[A],
+        kernel: &[(1, 1), (2, 1)],
+        closure: &[(1, 1), (2, 1)],
+        moves: &[(T0, 2)],
+    },
+    Row {
+        prefix: &[A, T0],
+        kernel: &[(1, 2)],
+        closure: &[(1, 2)],
+        moves: &[],
+    },
+];
+
+/// Items that are no kernel of it.
+pub static NOT_LIST: [&[Place]; 5] = [&[], &[(0, 0)], &[(1, 1)], &[(2, 1)], &[(0, 0), (2, 0)]];
+
+/// A -> A t1 B, A -> B, B -> t0
+pub fn sums(alloc: Global) -> Result<Grammar, AllocError> {
+    let mut grammar = Grammar::new(alloc, 2, 2, 0);
+    grammar.add(0, &[A, T1, B])?;
+    grammar.add(0, &[B])?;
+    grammar.add(1, &[T0])?;
+    Ok(grammar)
+}
+
+/// Its kernels.
+pub static SUMS: [Row; 6] = [
+    Row {
+        prefix: &[],
+        kernel: &[(3, 0)],
+        closure: &[(0, 0), (1, 0), (2, 0), (3, 0)],
+        moves: &[(A, 1), (B, 2), (T0, 3)],
+    },
+    Row {
+        prefix: &[A],
+        kernel: &[(0, 1), (3, 1)],
+        closure: &[(0, 1), (3, 1)],
+        moves: &[(T1, 4)],
+    },
+    Row {
+        prefix: &[B],
+        kernel: &[(1, 1)],
+        closure: &[(1, 1)],
+        moves: &[],
+    },
+    Row {
+        prefix: &[T0],
+        kernel: &[(2, 1)],
+        closure: &[(2, 1)],
+        moves: &[],
+    },
+    Row {
+        prefix: &[A, T1],
+        kernel: &[(0, 2)],
+        closure: &[(0, 2), (2, 0)],
+        moves: &[(B, 5), (T0, 3)],
+    },
+    Row {
+        prefix: &[A, T1, B],
+        kernel: &[(0, 3)],
+        closure: &[(0, 3)],
+        moves: &[],
+    },
+];
+
+/// Items that are no kernel of it.
+pub static NOT_SUMS: [&[Place]; 5] = [
+    &[],
+    &[(2, 0)],
+    &[(3, 1)],
+    &[(0, 2), (2, 0)],
+    &[(1, 1), (2, 1)],
+];
