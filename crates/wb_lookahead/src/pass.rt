@@ -12,12 +12,12 @@ ghost use Rattle.wb_items.specs.Kernels.{AreKernels};
 ghost use Rattle.wb_lookahead.specs.Spreading.{AreSound, FlowsTo, IsPassedOn, IsPlace, Lists, Spreads};
 
 use crate::begins::begin_of;
-use crate::behind::{rest_behind, symbol_behind};
+use crate::behind::rest_behind;
 use crate::spread::{Place, move_on, open_all};
 use std::alloc::{AllocError, Global};
 use wb_base::{Grammar, Symbol};
 use wb_grammar::Facts;
-use wb_items::{Kernels, Lookaheads};
+use wb_items::{Kernels, Lookaheads, symbol_after};
 use wb_termset::TermSet;
 
 // Spreads what is listed at a place to each item that it flows to from there.
@@ -39,7 +39,7 @@ pub(crate) fn pass_on(
     ensures spreads { OnOk result (Spreads lookaheads.old waiting.old.items lookaheads.new waiting.new.items) }
     ensures passed { OnOk result ((t : ℕ) → Lists lookaheads.old place.state place.item t → IsPassedOn kernels.now lookaheads.new place.state place.item t) }
 {
-    let Some(symbol) = symbol_behind(grammar, place.item) else {
+    let Some(symbol) = symbol_after(grammar, place.item) else {
         return Ok(());
     };
     let set = lookaheads.of(place.state, place.item).copy()?;
