@@ -1,13 +1,12 @@
 -- When nothing waits, the sets are the lookaheads.
-use Rattle.std.proofs.Common.{◌≡◌, ℕ, ◌+◌, ◌<◌, ◌⊎◌, Bool, List, [], ◌∷◌, ◌++◌, length, Some, refl, sym, ◌∙◌, ap, subst, inl, inr, arith}
+use Rattle.std.proofs.Common.{◌≡◌, ℕ, ◌<◌, ◌⊎◌, Bool, List, [], ◌∷◌, ◌++◌, length, Some, refl, sym, subst, inl, inr, arith}
 use Rattle.std.specs.Prelude.{Contains, ◌↔◌}
 use Rattle.std.proofs.lemmas.List.Elements.{All-pop, Contains-push_cases}
-use Rattle.wb_base.specs.declared.symbol.Symbol.{Symbol}
 use Rattle.wb_termset.specs.Sets.{Has}
 use Rattle.wb_grammars.specs.declared.item.Item.{Item}
 use Rattle.wb_grammars.specs.Items.{start_item}
 use Rattle.wb_grammars.specs.Rules.{end_of}
-use Rattle.wb_grammars.specs.States.{Flows, start, close, move}
+use Rattle.wb_grammars.specs.States.{start, close, move}
 use Rattle.wb_grammars.specs.Items.{advance, opening}
 use Rattle.wb_grammars.specs.Lookaheads.{IsLookahead}
 use Rattle.wb_grammars.proofs.FlowLemmas.{flows_exact}

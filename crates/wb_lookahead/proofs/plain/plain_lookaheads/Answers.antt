@@ -1,4 +1,4 @@
-use Rattle.std.proofs.Common.{◌≡◌, ◌++◌, ◌∷◌, List, [], length, vec_len, sym, ◌∙◌, ap, subst, arith, rules}
+use Rattle.std.proofs.Common.{◌≡◌, length, arith}
 use Rattle.std.proofs.lemmas.Grind.{common_steps}
 use Rattle.wb_lookahead.proofs.WaitingLemmas.{all_passed, no_items, passed_waiting, sound_popped}
 use Rattle.wb_lookahead.proofs.plain.plain_lookaheads.Goals as goal

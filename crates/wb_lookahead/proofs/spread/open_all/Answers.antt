@@ -1,7 +1,5 @@
-use Rattle.std.proofs.Common.{◌≡◌, ◌+◌, ◌<◌, ◌≤◌, List, length, get_or, take, refl, sym, subst, inl, inr, arith}
-use Rattle.std.specs.Prelude.{Contains}
+use Rattle.std.proofs.Common.{get_or, sym, subst, inl, inr}
 use Rattle.std.proofs.lemmas.List.Elements.{Contains-get_or}
-use Rattle.wb_termset.specs.Sets.{Has}
 use Rattle.wb_grammars.specs.Items.{HasItem}
 use Rattle.wb_items.specs.Kernels.{prefix_of}
 use Rattle.wb_lookahead.specs.Spreading.{IsOpeningOf, Lists}

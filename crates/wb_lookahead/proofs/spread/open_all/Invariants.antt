@@ -1,4 +1,4 @@
-use Rattle.std.proofs.Common.{ℕ, ◌<◌, get_or}
+use Rattle.std.proofs.Common.{ℕ}
 use Rattle.wb_grammars.specs.declared.item.Item.{Item}
 use Rattle.std.specs.Prelude.{Contains}
 use Rattle.std.proofs.Common.{take}

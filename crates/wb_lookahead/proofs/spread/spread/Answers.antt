@@ -1,6 +1,5 @@
-use Rattle.std.proofs.Common.{◌≡◌, ◌<◌, List, length, sym, subst, arith, rules}
-use Rattle.wb_items.specs.declared.looks.Looks.{Looks}
-use Rattle.wb_lookahead.specs.Spreading.{AreSound, Lists, Spreads}
+use Rattle.std.proofs.Common.{◌<◌, length, sym, subst, arith, rules}
+use Rattle.wb_lookahead.specs.Spreading.{AreSound, Spreads}
 use Rattle.wb_lookahead.proofs.SpreadLemmas.{spread_sound, spread_spreads, spreads_none}
 use Rattle.wb_lookahead.proofs.StepLemmas.{row_has, rows_within}
 use Rattle.wb_lookahead.proofs.UnionLemmas.{lists_added}
