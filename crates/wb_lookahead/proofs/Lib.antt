@@ -7,5 +7,6 @@ pub mod RowLemmas
 pub mod SpreadLemmas
 pub mod StandLemmas
 pub mod StepLemmas
+pub mod TableLaws
 pub mod UnionLemmas
 pub mod WaitingLemmas

@@ -16,7 +16,10 @@ mod parts;
 mod pass;
 mod plain;
 mod rows;
+mod rules;
 mod spread;
+#[cfg(test)]
+mod table_tests;
 #[cfg(test)]
 mod tests;
 
