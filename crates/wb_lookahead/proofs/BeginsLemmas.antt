@@ -1,12 +1,12 @@
 -- What begins symbols with a terminal of a set behind them.
-use Rattle.std.proofs.Common.{◌≡◌, ℕ, ◌⊎◌, Bool, List, [], ◌∷◌, ◌++◌, refl, sym, subst, inl, inr, arith}
+use Rattle.std.proofs.Common.{◌≡◌, ℕ, ◌⊎◌, Bool, List, [], ◌∷◌, ◌++◌, refl, sym, subst, inl, inr}
 use Rattle.std.specs.Prelude.{◌↔◌}
 use Rattle.wb_base.specs.declared.symbol.Symbol.{Symbol}
 use Rattle.wb_base.specs.declared.symbol.Symbol.TheVariants.{Terminal, Nonterminal}
 use Rattle.wb_base.specs.Grammar.{GrammarState}
 use Rattle.wb_termset.specs.Sets.{Has}
-use Rattle.wb_grammars.specs.Derives.{Derives, done, keep, expand, IsFirst}
-use Rattle.wb_grammars.proofs.DerivesLemmas.{Derives-same, First-cons, First-of_head, First-of_tail, Terminal-not_nullable}
+use Rattle.wb_grammars.specs.Derives.{keep, IsFirst}
+use Rattle.wb_grammars.proofs.DerivesLemmas.{Derives-same, First-cons, First-of_head, First-of_tail}
 use Rattle.wb_lookahead.specs.Begins.{Begins}
 
 -- what begins all symbols is in the set, or begins those that are left

@@ -1,7 +1,12 @@
 pub mod BeginsLemmas
+pub mod GridLemmas
+pub mod PartLemmas
 pub mod PassLemmas
 pub mod RoomLemmas
+pub mod RowLemmas
 pub mod SpreadLemmas
+pub mod StandLemmas
 pub mod StepLemmas
+pub mod TableLaws
 pub mod UnionLemmas
 pub mod WaitingLemmas

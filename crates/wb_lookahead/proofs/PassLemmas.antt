@@ -1,5 +1,5 @@
 -- How what is listed at an item is passed on.
-use Rattle.std.proofs.Common.{◌≡◌, ℕ, ◌+◌, ◌-◌, ◌<◌, ◌≤◌, ◌⊎◌, Bool, true, false, List, [], ◌∷◌, ◌++◌, length, get_or, take, drop, map, replicate, set, Some, Result, Ok, Err, refl, sym, ◌∙◌, ap, subst, inl, inr, arith, length-drop}
+use Rattle.std.proofs.Common.{◌≡◌, ℕ, ◌+◌, ◌-◌, ◌<◌, ◌≤◌, Bool, true, false, List, [], ◌∷◌, ◌++◌, length, get_or, take, drop, replicate, set, Some, Result, Ok, Err, refl, sym, ◌∙◌, ap, subst, inl, inr, arith, length-drop}
 use Rattle.std.specs.Prelude.{All, Contains, OnOk, IfSome, slice_get, option_map}
 use Rattle.std.proofs.lemmas.Bool.{cases_eq, cases_lt}
 use Rattle.std.proofs.lemmas.List.{take_all, get_or_past}
@@ -15,11 +15,11 @@ use Rattle.wb_grammars.specs.Rules.{IsRule, right_of, end_of}
 use Rattle.wb_grammars.specs.Derives.{IsFirst}
 use Rattle.wb_grammars.specs.Items.{after_dot, advance, opening, HasItem, start_item}
 use Rattle.wb_grammars.specs.Items as valid
-use Rattle.wb_grammars.specs.States.{Flows, start, close}
+use Rattle.wb_grammars.specs.States.{close}
 use Rattle.wb_grammars.proofs.DotLemmas.{after_opening, after_advance}
 use Rattle.wb_grammars.proofs.FlowLemmas.{flows_complete, same_itself, zero_state}
 use Rattle.wb_items.specs.declared.looks.Looks.{Looks}
-use Rattle.wb_items.specs.Kernels.{KernelsState, AreKernels, AreInOrder, LeadsTo, Precedes, closure_of, count_of, prefix_of}
+use Rattle.wb_items.specs.Kernels.{KernelsState, AreKernels, LeadsTo, Precedes, closure_of, count_of, prefix_of}
 use Rattle.wb_items.specs.Lookaheads.{AreEmpty, AreLookaheadsOf, IsSetOf, items_in, row_of}
 use Rattle.wb_items.proofs.SymbolLemmas.{symbol_last, symbol_end, symbol_none}
 use Rattle.wb_lookahead.specs.declared.spread.Place.{Place}

@@ -1,14 +1,11 @@
 -- A set that grows leaves less room.
-use Rattle.std.proofs.Common.{◌≡◌, ℕ, ◌+◌, ◌-◌, ◌<◌, ◌≤◌, Bool, true, false, List, [], length, get_or, set, sym, ◌∙◌, ap, subst, arith}
-use Rattle.std.specs.Prelude.{slice_get}
-use Rattle.std.proofs.lemmas.List.{set-get_or}
+use Rattle.std.proofs.Common.{◌≡◌, ℕ, ◌-◌, ◌<◌, Bool, true, List, [], length, get_or, set, sym, ap, arith}
 use Rattle.std.proofs.lemmas.List.Sums.{sum_by-set}
 use Rattle.std.proofs.lemmas.Option.{slice_get_within, get_or_from_slice_get}
 use Rattle.wb_grammars.specs.declared.item.Item.{Item}
-use Rattle.wb_termset.specs.Sets.{Has, IsUnion, Grew, members}
+use Rattle.wb_termset.specs.Sets.{members}
 use Rattle.wb_termset.proofs.CallerLemmas.{IsUnion-left, members_le, members_grow}
 use Rattle.wb_items.specs.declared.looks.Looks.{Looks}
-use Rattle.wb_items.specs.Lookaheads.{row_of}
 use Rattle.wb_lookahead.specs.Unions.{UnitesIn, Unites}
 use Rattle.wb_lookahead.specs.Spreading.{room, row_room}
 

@@ -1,18 +1,17 @@
 -- How spreading goes on, one step after another.
-use Rattle.std.proofs.Common.{◌≡◌, ℕ, ◌+◌, ◌*◌, ◌<◌, ◌≤◌, ◌⊎◌, Bool, true, false, List, [], ◌∷◌, ◌++◌, length, get_or, take, refl, sym, ◌∙◌, ap, subst, inl, inr, arith, length-append}
-use Rattle.std.specs.Prelude.{All, Contains}
+use Rattle.std.proofs.Common.{◌≡◌, ℕ, ◌+◌, ◌<◌, ◌≤◌, ◌⊎◌, Bool, true, List, [], ◌∷◌, ◌++◌, length, get_or, take, sym, ◌∙◌, ap, subst, inl, inr, arith, length-append}
+use Rattle.std.specs.Prelude.{Contains}
 use Rattle.std.proofs.lemmas.List.{take_more, take_all}
 use Rattle.std.proofs.lemmas.List.Elements.{All-push, Contains-append_left, Contains-push, Contains-push_cases}
 use Rattle.std.proofs.lemmas.Bool.{cases_eq}
-use Rattle.wb_base.specs.declared.symbol.Symbol.{Symbol}
 use Rattle.wb_grammars.specs.declared.item.Item.{Item}
 use Rattle.wb_termset.specs.Sets.{Has}
 use Rattle.wb_items.specs.declared.looks.Looks.{Looks}
 use Rattle.wb_items.specs.Kernels.{KernelsState, AreKernels}
 use Rattle.wb_lookahead.specs.Unions.{Unites}
 use Rattle.wb_lookahead.specs.declared.spread.Place.{Place}
-use Rattle.wb_lookahead.specs.Spreading.{AreSound, FlowsTo, IsPlace, Lists, Spreads, room}
-use Rattle.wb_lookahead.proofs.UnionLemmas.{lists_kept, lists_new, lists_added, shape_kept}
+use Rattle.wb_lookahead.specs.Spreading.{AreSound, FlowsTo, IsPlace, Lists, Spreads}
+use Rattle.wb_lookahead.proofs.UnionLemmas.{lists_kept, lists_new, shape_kept}
 use Rattle.wb_lookahead.proofs.RoomLemmas.{room_less}
 use Rattle.wb_lookahead.proofs.StepLemmas.{rows_within}
 

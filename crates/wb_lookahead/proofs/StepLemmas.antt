@@ -1,5 +1,5 @@
 -- Steps between kernels, and the items that they lead to.
-use Rattle.std.proofs.Common.{◌≡◌, ℕ, ◌+◌, ◌<◌, List, [], ◌∷◌, ◌++◌, length, get_or, map, refl, sym, ◌∙◌, ap, subst, arith}
+use Rattle.std.proofs.Common.{◌≡◌, ℕ, ◌+◌, ◌<◌, List, [], ◌∷◌, length, get_or, refl, sym, ◌∙◌, ap, subst, arith}
 use Rattle.std.specs.Prelude.{All, Contains}
 use Rattle.std.proofs.lemmas.List.{get_or-map, length-map}
 use Rattle.std.proofs.lemmas.List.Elements.{All-get_or}
@@ -9,7 +9,6 @@ use Rattle.wb_grammars.specs.declared.item.Item.{Item}
 use Rattle.wb_grammars.specs.Items as valid
 use Rattle.wb_grammars.specs.Items.{after_dot, advance, opening, HasItem, IsValidItem}
 use Rattle.wb_grammars.specs.Rules.{IsRule}
-use Rattle.wb_grammars.specs.States.{AreStates, IsNext}
 use Rattle.wb_grammars.proofs.KernelLemmas.{kernel_decides}
 use Rattle.wb_grammars.proofs.FlowLemmas.{same_back, same_then}
 use Rattle.wb_items.specs.declared.looks.Looks.{Looks}

@@ -1,14 +1,14 @@
 -- What a union at an item leaves in the sets.
-use Rattle.std.proofs.Common.{◌≡◌, ℕ, ◌+◌, ◌<◌, ◌⊎◌, Bool, List, [], ◌∷◌, length, get_or, set, map, Some, refl, sym, ◌∙◌, ap, subst, inl, inr, arith, length-set, get_or-set_same, get_or-set_other}
+use Rattle.std.proofs.Common.{◌≡◌, ℕ, ◌+◌, ◌<◌, ◌⊎◌, Bool, List, [], length, get_or, set, map, Some, sym, ◌∙◌, ap, subst, inl, inr, arith, length-set, get_or-set_same, get_or-set_other}
 use Rattle.std.specs.Prelude.{All, Contains, slice_get, option_map}
 use Rattle.std.proofs.lemmas.Bool.{cases_eq}
-use Rattle.std.proofs.lemmas.List.{get_or-map, length-map, map-set, set-get_or}
+use Rattle.std.proofs.lemmas.List.{get_or-map, map-set, set-get_or}
 use Rattle.std.proofs.lemmas.List.Elements.{All-set, All-get_or}
 use Rattle.std.proofs.lemmas.Option.{slice_get-map, slice_get_within, get_or_from_slice_get, same_Some}
 use Rattle.wb_grammars.specs.declared.item.Item.{Item}
-use Rattle.wb_termset.specs.Sets.{Has, IsUnion}
+use Rattle.wb_termset.specs.Sets.{Has}
 use Rattle.wb_items.specs.declared.looks.Looks.{Looks}
-use Rattle.wb_items.specs.Kernels.{KernelsState, count_of}
+use Rattle.wb_items.specs.Kernels.{KernelsState}
 use Rattle.wb_items.specs.Lookaheads.{AreLookaheadsOf, items_in, row_of}
 use Rattle.wb_lookahead.specs.Unions.{UnitesIn, Unites}
 use Rattle.wb_lookahead.specs.Spreading.{Lists}

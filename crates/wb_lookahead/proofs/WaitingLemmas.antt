@@ -1,13 +1,11 @@
 -- When nothing waits, the sets are the lookaheads.
-use Rattle.std.proofs.Common.{◌≡◌, ℕ, ◌+◌, ◌<◌, ◌⊎◌, Bool, List, [], ◌∷◌, ◌++◌, length, Some, refl, sym, ◌∙◌, ap, subst, inl, inr, arith}
-use Rattle.std.specs.Prelude.{Contains, ◌↔◌}
-use Rattle.std.proofs.lemmas.List.Elements.{All-pop, Contains-push_cases}
-use Rattle.wb_base.specs.declared.symbol.Symbol.{Symbol}
+use Rattle.std.proofs.Common.{◌≡◌, ℕ, zero, suc, ◌<◌, ◌⊎◌, Bool, List, [], ◌∷◌, ◌++◌, length, Some, refl, sym, subst, inl, inr, arith}
+use Rattle.std.specs.Prelude.{All, Contains, ◌↔◌}
 use Rattle.wb_termset.specs.Sets.{Has}
 use Rattle.wb_grammars.specs.declared.item.Item.{Item}
 use Rattle.wb_grammars.specs.Items.{start_item}
 use Rattle.wb_grammars.specs.Rules.{end_of}
-use Rattle.wb_grammars.specs.States.{Flows, start, close, move}
+use Rattle.wb_grammars.specs.States.{start, close, move}
 use Rattle.wb_grammars.specs.Items.{advance, opening}
 use Rattle.wb_grammars.specs.Lookaheads.{IsLookahead}
 use Rattle.wb_grammars.proofs.FlowLemmas.{flows_exact}
@@ -33,16 +31,21 @@ passed_kept {s = s} {item} {t} keeps p = record {
   opens = λ b rest q u right is rule first. keeps s (opening q) u (p.opens b rest q u right is rule first);
 }
 
--- a place that waited last has been passed on
-pub passed_waiting : {kernels : KernelsState} {old new : List (List Looks)} {all v : List Place} (w : List Place) (place : Place) → all ≡ w ++ place ∷ [] → AreWaiting kernels old all → Spreads old w new v → ((t : ℕ) → Lists old place.state place.item t → IsPassedOn kernels new place.state place.item t) → AreWaiting kernels new v
+-- an element is the first, or one behind it
+contains_cases : {A : Type 0} (x z : A) (xs : List A) → Contains (x ∷ xs) z → (x ≡ z) ⊎ Contains xs z
+contains_cases x z xs (zero, lt, is) = inl is
+contains_cases x z xs (suc k, lt, is) = inr (k, omega arith, is)
+
+-- a place that waited first has been passed on
+pub passed_waiting : {kernels : KernelsState} {old new : List (List Looks)} {all v : List Place} (w : List Place) (place : Place) → all ≡ place ∷ w → AreWaiting kernels old all → Spreads old w new v → ((t : ℕ) → Lists old place.state place.item t → IsPassedOn kernels new place.state place.item t) → AreWaiting kernels new v
 passed_waiting {kernels} {old} {new} {all} {v} w place is h spreads passed = record { start = spreads.keeps 0 (start_item kernels.grammar) (end_of kernels.grammar) h.start; each = λ one. grown one (spreads.grew one) }
   where
-    waited : (one : Place) → ((t : ℕ) → Lists new one.state one.item t → Lists old one.state one.item t) → Contains w one ⊎ (place ≡ one) → Contains v one ⊎ ((t : ℕ) → Lists new one.state one.item t → IsPassedOn kernels new one.state one.item t)
-    waited one before (inl earlier) = inl (spreads.waits one earlier)
-    waited one before (inr same) = inr (λ t l. subst (λ (z : Place). IsPassedOn kernels new z.state z.item t) same (passed t (subst (λ (z : Place). Lists old z.state z.item t) (sym same) (before t l))))
+    waited : (one : Place) → ((t : ℕ) → Lists new one.state one.item t → Lists old one.state one.item t) → (place ≡ one) ⊎ Contains w one → Contains v one ⊎ ((t : ℕ) → Lists new one.state one.item t → IsPassedOn kernels new one.state one.item t)
+    waited one before (inr later) = inl (spreads.waits one later)
+    waited one before (inl same) = inr (λ t l. subst (λ (z : Place). IsPassedOn kernels new z.state z.item t) same (passed t (subst (λ (z : Place). Lists old z.state z.item t) (sym same) (before t l))))
 
     kept : (one : Place) → ((t : ℕ) → Lists new one.state one.item t → Lists old one.state one.item t) → Contains all one ⊎ ((t : ℕ) → Lists old one.state one.item t → IsPassedOn kernels old one.state one.item t) → Contains v one ⊎ ((t : ℕ) → Lists new one.state one.item t → IsPassedOn kernels new one.state one.item t)
-    kept one before (inl there) = waited one before (Contains-push_cases w place one (subst (λ z. Contains z one) is there))
+    kept one before (inl there) = waited one before (contains_cases place one w (subst (λ z. Contains z one) is there))
     kept one before (inr closed) = inr (λ t l. passed_kept spreads.keeps (closed t (before t l)))
 
     grown : (one : Place) → Contains v one ⊎ ((t : ℕ) → Lists new one.state one.item t → Lists old one.state one.item t) → Contains v one ⊎ ((t : ℕ) → Lists new one.state one.item t → IsPassedOn kernels new one.state one.item t)
@@ -79,6 +82,10 @@ pub no_items : {A : Type 0} (xs : List A) → length xs ≡ 0 → xs ≡ []
 no_items [] e = refl
 no_items (x ∷ xs) e = absurd (omega arith)
 
--- without the last that waits, the sets are as sound
-pub sound_popped : {kernels : KernelsState} {lookaheads : List (List Looks)} {all w : List Place} (place : Place) → AreSound kernels lookaheads all → all ≡ w ++ place ∷ [] → AreSound kernels lookaheads w
-sound_popped {kernels} {lookaheads} {all} {w} place h is = record { shape = h.shape; sound = h.sound; places = (All-pop (IsPlace kernels) all w (Some place) is h.places).0 }
+-- without the first that waits, the sets are as sound
+pub sound_popped : {kernels : KernelsState} {lookaheads : List (List Looks)} {all w : List Place} (place : Place) → AreSound kernels lookaheads all → all ≡ place ∷ w → AreSound kernels lookaheads w
+sound_popped {kernels} {lookaheads} {all} {w} place h is = (let places : All (IsPlace kernels) (place ∷ w) = subst (All (IsPlace kernels)) is h.places in record { shape = h.shape; sound = h.sound; places = λ k d lt. places (suc k) d (omega arith) })
+
+-- the first that waits is a place
+pub first_place : {kernels : KernelsState} {lookaheads : List (List Looks)} {all w : List Place} (place : Place) → AreSound kernels lookaheads all → all ≡ place ∷ w → IsPlace kernels place
+first_place {kernels} {lookaheads} {all} {w} place h is = (let places : All (IsPlace kernels) (place ∷ w) = subst (All (IsPlace kernels)) is h.places in places 0 place (omega arith))

@@ -1,3 +1,9 @@
 pub mod Begins
+pub mod Codes
+pub mod Contents
+pub mod Grids
+pub mod Parts
+pub mod Rows
 pub mod Spreading
+pub mod Tables
 pub mod Unions

@@ -1,15 +1,29 @@
-//! The lookaheads of a grammar's items: which terminals can come behind what an item describes.
+//! The lookaheads of a grammar's items, and the tables by which a parser runs.
 //!
 //! A parser reduces by a production only before a lookahead of its complete item. Prefixes with the same kernel share their
-//! lookaheads. The kernels are in `wb_items`, and what the words mean is in `wb_grammars`.
+//! lookaheads. Tables have at most one action for each kernel and terminal; a grammar with a conflict has none. The kernels are in
+//! `wb_items`, and what the words mean is in `wb_grammars`.
 #![tactic(auto)]
 
+mod action;
 mod begins;
 mod behind;
+mod cells;
+mod codes;
+mod contents;
+mod grid;
+mod parts;
 mod pass;
 mod plain;
+mod rows;
+mod rules;
 mod spread;
+#[cfg(test)]
+mod table_tests;
 #[cfg(test)]
 mod tests;
 
+pub use action::{Action, TableRefusal};
+pub use contents::Tables;
+pub use parts::tables;
 pub use plain::plain_lookaheads;

@@ -3,21 +3,25 @@
 ghost use Rattle.std.specs.Prelude.{◌≡◌, ◌+◌, ◌<◌, ◌∷◌, ◌++◌, [], ℕ, List, OnOk, length};
 ghost use Rattle.wb_base.specs.declared.symbol.Symbol.{Symbol};
 ghost use Rattle.wb_base.specs.declared.symbol.Symbol.TheVariants.{Terminal, Nonterminal};
+ghost use Rattle.wb_base.specs.Grammar.{IsSymbolBelow};
 ghost use Rattle.wb_termset.specs.Sets.{Has};
 ghost use Rattle.wb_grammars.specs.Rules.{IsRule};
 ghost use Rattle.wb_grammars.specs.Derives.{IsFirst};
 ghost use Rattle.wb_grammars.specs.Items.{after_dot, opening};
 ghost use Rattle.wb_grammar.specs.Facts.{AreFacts};
 ghost use Rattle.wb_items.specs.Kernels.{AreKernels};
+ghost use Rattle.wb_items.specs.Table.{AreRules};
 ghost use Rattle.wb_lookahead.specs.Spreading.{AreSound, FlowsTo, IsPassedOn, IsPlace, Lists, Spreads};
 
 use crate::begins::begin_of;
-use crate::behind::{rest_behind, symbol_behind};
+use crate::behind::rest_behind;
+use crate::rules::numbers_of;
 use crate::spread::{Place, move_on, open_all};
 use std::alloc::{AllocError, Global};
-use wb_base::{Grammar, Symbol};
+use std::collections::VecDeque;
+use wb_base::{Grammar, Sequence, Symbol};
 use wb_grammar::Facts;
-use wb_items::{Kernels, Lookaheads};
+use wb_items::{Kernels, Lookaheads, symbol_after};
 use wb_termset::TermSet;
 
 // Spreads what is listed at a place to each item that it flows to from there.
@@ -25,27 +29,29 @@ pub(crate) fn pass_on(
     alloc: Global,
     grammar: &Grammar,
     facts: &Facts,
+    rules: &[Sequence<usize>],
     kernels: &Kernels,
     place: Place,
     lookaheads: &mut Lookaheads,
-    waiting: &mut Vec<Place>,
+    waiting: &mut VecDeque<Place>,
 ) -> Result<(), AllocError>
     requires kernels { AreKernels kernels.now }
     requires grammar { kernels.now.grammar ≡ grammar.now }
     requires facts { AreFacts grammar.now facts.now }
+    requires rules { AreRules grammar.now rules.now }
     requires place { IsPlace kernels.now place }
     requires sound { AreSound kernels.now lookaheads.old waiting.old.items }
     ensures sound { OnOk result (AreSound kernels.now lookaheads.new waiting.new.items) }
     ensures spreads { OnOk result (Spreads lookaheads.old waiting.old.items lookaheads.new waiting.new.items) }
     ensures passed { OnOk result ((t : ℕ) → Lists lookaheads.old place.state place.item t → IsPassedOn kernels.now lookaheads.new place.state place.item t) }
 {
-    let Some(symbol) = symbol_behind(grammar, place.item) else {
+    let Some(symbol) = symbol_after(grammar, place.item) else {
         return Ok(());
     };
     let set = lookaheads.of(place.state, place.item).copy()?;
     move_on(kernels, place, symbol, &set, lookaheads, waiting)?;
     open_behind(
-        alloc, grammar, facts, kernels, place, symbol, &set, lookaheads, waiting,
+        alloc, grammar, facts, rules, kernels, place, symbol, &set, lookaheads, waiting,
     )
 }
 
@@ -54,18 +60,21 @@ fn open_behind(
     alloc: Global,
     grammar: &Grammar,
     facts: &Facts,
+    rules: &[Sequence<usize>],
     kernels: &Kernels,
     place: Place,
     symbol: Symbol,
     set: &TermSet,
     lookaheads: &mut Lookaheads,
-    waiting: &mut Vec<Place>,
+    waiting: &mut VecDeque<Place>,
 ) -> Result<(), AllocError>
     requires kernels { AreKernels kernels.now }
     requires grammar { kernels.now.grammar ≡ grammar.now }
     requires facts { AreFacts grammar.now facts.now }
+    requires rules { AreRules grammar.now rules.now }
     requires place { IsPlace kernels.now place }
     requires symbol { (rest : List Symbol) × (after_dot grammar.now place.item ≡ symbol ∷ rest) }
+    requires below { IsSymbolBelow grammar.now.terminals grammar.now.nonterminals symbol }
     requires len { length set.now ≡ kernels.now.grammar.terminals + 1 }
     requires flows { (t : ℕ) → Has set.now t → FlowsTo kernels.now place.state place.item t }
     requires sound { AreSound kernels.now lookaheads.old waiting.old.items }
@@ -79,9 +88,8 @@ fn open_behind(
     let rest = rest_behind(grammar, place.item);
     let begin = begin_of(alloc, grammar, facts, rest, set)?;
     open_all(
-        grammar,
         kernels,
-        nonterminal,
+        numbers_of(rules, nonterminal),
         place.state,
         &begin,
         lookaheads,

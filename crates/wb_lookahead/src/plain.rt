@@ -9,7 +9,9 @@ ghost use Rattle.wb_lookahead.specs.Spreading.{AreSound, AreWaiting};
 
 use crate::pass::pass_on;
 use crate::spread::{Place, spread};
+use crate::rules::rules;
 use std::alloc::{AllocError, Global};
+use std::collections::VecDeque;
 use wb_base::Grammar;
 use wb_grammar::Facts;
 use wb_items::{Item, Kernels, Lookaheads};
@@ -18,7 +20,7 @@ use wb_termset::TermSet;
 /// The lookaheads of every item of every kernel. The only error is want of memory.
 ///
 /// Prefixes with the same kernel share their lookaheads: these are the sets of the merged kernels. The sets are found by passing
-/// on, from each item whose set grew, what flows from there to other items. No clause bounds the time.
+/// on, from each item whose set grew and in the order in which they grew, what flows from there to other items. No clause bounds the time.
 pub fn plain_lookaheads(
     alloc: Global,
     grammar: &Grammar,
@@ -31,13 +33,15 @@ pub fn plain_lookaheads(
 {
     let _count = kernels.count();
     let mut lookaheads = Lookaheads::new(alloc, grammar, kernels)?;
-    let mut waiting = Vec::new(alloc);
+    let rules = rules(alloc, grammar)?;
+    let mut waiting = VecDeque::new(alloc);
     begin(alloc, grammar, kernels, &mut lookaheads, &mut waiting)?;
-    'waiting: while let Some(place) = waiting.pop() {
+    'waiting: while let Some(place) = waiting.pop_front() {
         pass_on(
             alloc,
             grammar,
             facts,
+            &rules,
             kernels,
             place,
             &mut lookaheads,
@@ -53,7 +57,7 @@ fn begin(
     grammar: &Grammar,
     kernels: &Kernels,
     lookaheads: &mut Lookaheads,
-    waiting: &mut Vec<Place>,
+    waiting: &mut VecDeque<Place>,
 ) -> Result<(), AllocError>
     requires kernels { AreKernels kernels.now }
     requires grammar { kernels.now.grammar ≡ grammar.now }

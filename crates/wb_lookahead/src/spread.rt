@@ -1,11 +1,11 @@
 //! How sets of terminals spread from an item to those that it leads to.
 
-ghost use Rattle.std.specs.Prelude.{◌≡◌, ◌+◌, ◌<◌, ◌^◌, ◌↔◌, ◌∷◌, ℕ, List, All, Contains, IsTrue, OnOk, length};
+ghost use Rattle.std.specs.Prelude.{◌≡◌, ◌+◌, ◌<◌, ◌^◌, ◌∷◌, ◌++◌, [], ℕ, List, All, Contains, OnOk, length};
 ghost use Rattle.wb_base.specs.declared.symbol.Symbol.{Symbol};
 ghost use Rattle.wb_base.specs.declared.symbol.Symbol.TheVariants.{Nonterminal};
 ghost use Rattle.wb_termset.specs.Sets.{Has};
 ghost use Rattle.wb_grammars.specs.Rules.{IsRule};
-ghost use Rattle.wb_grammars.specs.Items.{after_dot, advance, HasItem};
+ghost use Rattle.wb_grammars.specs.Items.{after_dot, advance, opening};
 ghost use Rattle.wb_grammars.specs.declared.item.Item.{Item};
 ghost use Rattle.wb_items.specs.Kernels.{AreKernels, LeadsTo, prefix_of};
 ghost use Rattle.wb_items.specs.Lookaheads.{items_in, row_of};
@@ -13,7 +13,8 @@ ghost use Rattle.wb_lookahead.specs.Unions.{Unites};
 ghost use Rattle.wb_lookahead.specs.Spreading.{AreSound, FlowsTo, IsOpeningOf, IsPassedOn, IsPlace, Lists, Spreads};
 
 use std::alloc::{AllocError, Global};
-use wb_base::{Grammar, Symbol, push};
+use std::collections::VecDeque;
+use wb_base::Symbol;
 use wb_items::{Item, Kernels, Lookaheads};
 use wb_termset::TermSet;
 
@@ -30,7 +31,7 @@ pub(crate) fn spread(
     place: Place,
     set: &TermSet,
     lookaheads: &mut Lookaheads,
-    waiting: &mut Vec<Place>,
+    waiting: &mut VecDeque<Place>,
 ) -> Result<(), AllocError>
     requires kernels { AreKernels kernels.now }
     requires place { IsPlace kernels.now place }
@@ -42,8 +43,16 @@ pub(crate) fn spread(
     ensures lists { OnOk result ((t : ℕ) → Has set.now t → Lists lookaheads.new place.state place.item t) }
 {
     if unite(place, set, lookaheads) {
-        push(waiting, place)?;
+        wait(waiting, place)?;
     }
+    Ok(())
+}
+
+// Puts a place behind the others that wait.
+fn wait(waiting: &mut VecDeque<Place>, place: Place) -> Result<(), AllocError>
+    ensures { OnOk result (waiting.new.items ≡ waiting.old.items ++ place ∷ []) }
+{
+    waiting.push_back(place)?;
     Ok(())
 }
 
@@ -65,7 +74,7 @@ pub(crate) fn move_on(
     symbol: Symbol,
     set: &TermSet,
     lookaheads: &mut Lookaheads,
-    waiting: &mut Vec<Place>,
+    waiting: &mut VecDeque<Place>,
 ) -> Result<(), AllocError>
     requires kernels { AreKernels kernels.now }
     requires place { IsPlace kernels.now place }
@@ -88,71 +97,27 @@ pub(crate) fn move_on(
     spread(kernels, Place { state, item }, set, lookaheads, waiting)
 }
 
-// Whether the item is the opening of a production of the nonterminal.
-fn opens(grammar: &Grammar, nonterminal: usize, item: Item) -> bool
-    ensures { IsTrue result ↔ IsOpeningOf grammar.now nonterminal item }
-{
-    item.dot == 0
-        && item.production < grammar.productions()
-        && grammar.left(item.production) == nonterminal
-}
-
-// Spreads the terminals to the item if it is the opening of a production of the nonterminal.
-fn open_one(
-    grammar: &Grammar,
-    kernels: &Kernels,
-    nonterminal: usize,
-    place: Place,
-    set: &TermSet,
-    lookaheads: &mut Lookaheads,
-    waiting: &mut Vec<Place>,
-) -> Result<(), AllocError>
-    requires kernels { AreKernels kernels.now }
-    requires grammar { kernels.now.grammar ≡ grammar.now }
-    requires place { IsPlace kernels.now place }
-    requires len { length set.now ≡ kernels.now.grammar.terminals + 1 }
-    requires flows { (t : ℕ) → IsOpeningOf grammar.now nonterminal place.item → Has set.now t → FlowsTo kernels.now place.state place.item t }
-    requires sound { AreSound kernels.now lookaheads.old waiting.old.items }
-    ensures sound { OnOk result (AreSound kernels.now lookaheads.new waiting.new.items) }
-    ensures spreads { OnOk result (Spreads lookaheads.old waiting.old.items lookaheads.new waiting.new.items) }
-    ensures lists { OnOk result ((t : ℕ) → IsOpeningOf grammar.now nonterminal place.item → Has set.now t → Lists lookaheads.new place.state place.item t) }
-{
-    if opens(grammar, nonterminal, place.item) {
-        return spread(kernels, place, set, lookaheads, waiting);
-    }
-    Ok(())
-}
-
-// Spreads the terminals to the openings of the nonterminal's productions.
+// Spreads the terminals to the openings of these productions.
 pub(crate) fn open_all(
-    grammar: &Grammar,
     kernels: &Kernels,
-    nonterminal: usize,
+    productions: &[usize],
     state: usize,
     set: &TermSet,
     lookaheads: &mut Lookaheads,
-    waiting: &mut Vec<Place>,
+    waiting: &mut VecDeque<Place>,
 ) -> Result<(), AllocError>
     requires kernels { AreKernels kernels.now }
-    requires grammar { kernels.now.grammar ≡ grammar.now }
-    requires state { state < length kernels.now.prefixes }
+    requires places { (q : ℕ) → Contains productions.now q → IsPlace kernels.now (record { state = state; item = opening q }) }
     requires len { length set.now ≡ kernels.now.grammar.terminals + 1 }
-    requires flows { (item : Item) (t : ℕ) → IsOpeningOf grammar.now nonterminal item → Has set.now t → FlowsTo kernels.now state item t }
+    requires flows { (q t : ℕ) → Contains productions.now q → Has set.now t → FlowsTo kernels.now state (opening q) t }
     requires sound { AreSound kernels.now lookaheads.old waiting.old.items }
     ensures sound { OnOk result (AreSound kernels.now lookaheads.new waiting.new.items) }
     ensures spreads { OnOk result (Spreads lookaheads.old waiting.old.items lookaheads.new waiting.new.items) }
-    ensures lists { OnOk result ((item : Item) (t : ℕ) → HasItem grammar.now (prefix_of kernels.now state) item → IsOpeningOf grammar.now nonterminal item → Has set.now t → Lists lookaheads.new state item t) }
+    ensures lists { OnOk result ((q t : ℕ) → Contains productions.now q → Has set.now t → Lists lookaheads.new state (opening q) t) }
 {
-    'items: for &item in kernels.closure(state) {
-        open_one(
-            grammar,
-            kernels,
-            nonterminal,
-            Place { state, item },
-            set,
-            lookaheads,
-            waiting,
-        )?;
+    'productions: for &production in productions {
+        let item = Item { production, dot: 0 };
+        spread(kernels, Place { state, item }, set, lookaheads, waiting)?;
     }
     Ok(())
 }

@@ -48,7 +48,7 @@ fn after(kernels: &Kernels, prefix: &[Symbol]) -> Option<usize> {
 }
 
 // Whether the members of a set are the bits of the mask.
-fn is_mask(set: &TermSet, mask: u64) -> bool {
+pub(crate) fn is_mask(set: &TermSet, mask: u64) -> bool {
     for n in 0..set.count() {
         if n >= 64 || set.contains(n) != (mask & (1 << n) != 0) {
             return false;

@@ -1,4 +1,4 @@
-use Rattle.std.proofs.Common.{◌≡◌, List, [], ◌∷◌, arith}
+use Rattle.std.proofs.Common.{arith}
 use Rattle.wb_items.proofs.SymbolLemmas.{symbol_past}
 use Rattle.wb_lookahead.proofs.PassLemmas.{rest_past, rest_within}
 use Rattle.wb_lookahead.proofs.behind.rest_behind.Goals as goal

@@ -1,10 +1,6 @@
-use Rattle.std.proofs.Common.{◌≡◌, ◌∷◌, List, [], refl, sym, ◌∙◌, ap, subst}
+use Rattle.std.proofs.Common.{sym, ◌∙◌, subst}
 use Rattle.std.proofs.lemmas.Result.{on_ok_weaker}
-use Rattle.wb_base.specs.declared.symbol.Symbol.{Symbol}
-use Rattle.wb_base.specs.declared.symbol.Symbol.TheVariants.{Terminal, Nonterminal}
 use Rattle.wb_termset.specs.Sets.{Has}
-use Rattle.wb_grammars.specs.Items.{advance}
-use Rattle.wb_lookahead.specs.Spreading.{IsPassedOn}
 use Rattle.wb_lookahead.proofs.PassLemmas.{on_ok_two, passed_here, set_once}
 use Rattle.wb_lookahead.proofs.SpreadLemmas.{spreads_then}
 use Rattle.wb_lookahead.proofs.StepLemmas.{row_has}

@@ -1,4 +1,4 @@
-use Rattle.std.proofs.Common.{◌≡◌, ℕ, ◌⊎◌, ◌∷◌, List, [], length, refl, sym, ◌∙◌, ap, subst, inl, inr, arith, rules, ◌<◌}
+use Rattle.std.proofs.Common.{◌≡◌, length, sym, ◌∙◌, ap, subst, arith, ◌<◌}
 use Rattle.std.proofs.lemmas.Grind.{common_steps}
 use Rattle.wb_base.specs.Grammar.{GrammarState}
 use Rattle.wb_termset.specs.Sets.{Has}

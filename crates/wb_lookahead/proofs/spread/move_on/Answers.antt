@@ -1,4 +1,4 @@
-use Rattle.std.proofs.Common.{◌≡◌, ◌+◌, ◌<◌, List, Ok, Err, length, refl, sym, subst, arith, rules}
+use Rattle.std.proofs.Common.{◌+◌, refl, subst}
 use Rattle.wb_grammars.specs.States.{move}
 use Rattle.wb_lookahead.specs.Spreading.{Lists}
 use Rattle.wb_lookahead.proofs.StepLemmas.{step_has, step_once}

@@ -1,6 +1,5 @@
-use Rattle.std.proofs.Common.{◌≡◌, ◌<◌, List, length, sym, subst, arith, rules}
-use Rattle.wb_items.specs.declared.looks.Looks.{Looks}
-use Rattle.wb_lookahead.specs.Spreading.{AreSound, Lists, Spreads}
+use Rattle.std.proofs.Common.{◌<◌, length, sym, subst, arith, rules}
+use Rattle.wb_lookahead.specs.Spreading.{AreSound, Spreads}
 use Rattle.wb_lookahead.proofs.SpreadLemmas.{spread_sound, spread_spreads, spreads_none}
 use Rattle.wb_lookahead.proofs.StepLemmas.{row_has, rows_within}
 use Rattle.wb_lookahead.proofs.UnionLemmas.{lists_added}
@@ -9,16 +8,16 @@ use Rattle.wb_lookahead.proofs.spread.spread.Goals as goal
 pub unite-requires-clause-item : goal.unite-requires-clause-item
 unite-requires-clause-item c = row_has c.requires.kernels c.args.lookaheads.now c.requires.sound.shape c.args.place.state c.args.place.item c.requires.place.state c.requires.place.has
 
-pub returns-in_ok-push-clause-sound : goal.returns-in_ok-push-clause-sound
-returns-in_ok-push-clause-sound c = subst (AreSound c.args.kernels.now c.unite.new.lookaheads) (sym (search rules)) (spread_sound c.requires.kernels c.requires.place c.unite.ensures c.requires.sound c.requires.flows)
+pub returns-in_ok-wait-clause-sound : goal.returns-in_ok-wait-clause-sound
+returns-in_ok-wait-clause-sound c = subst (AreSound c.args.kernels.now c.unite.new.lookaheads) (sym (search rules)) (spread_sound c.requires.kernels c.requires.place c.unite.ensures c.requires.sound c.requires.flows)
 
-pub returns-in_ok-push-clause-spreads : goal.returns-in_ok-push-clause-spreads
-returns-in_ok-push-clause-spreads c =
+pub returns-in_ok-wait-clause-spreads : goal.returns-in_ok-wait-clause-spreads
+returns-in_ok-wait-clause-spreads c =
     let lt : c.args.place.state < length c.args.lookaheads.now = (let e = rows_within c.requires.kernels c.args.lookaheads.now c.requires.sound.shape in let f = c.requires.place.state in omega arith) in
     subst (Spreads c.args.lookaheads.now c.args.waiting.now.items c.unite.new.lookaheads) (sym (search rules)) (spread_spreads lt c.unite.ensures c.if-unite.true)
 
-pub returns-in_ok-push-clause-lists : goal.returns-in_ok-push-clause-lists
-returns-in_ok-push-clause-lists c =
+pub returns-in_ok-wait-clause-lists : goal.returns-in_ok-wait-clause-lists
+returns-in_ok-wait-clause-lists c =
     let lt : c.args.place.state < length c.args.lookaheads.now = (let e = rows_within c.requires.kernels c.args.lookaheads.now c.requires.sound.shape in let f = c.requires.place.state in omega arith) in
     lists_added c.unite.ensures lt
 

@@ -1,4 +1,4 @@
-use Rattle.std.proofs.Common.{◌≡◌, refl}
+use Rattle.std.proofs.Common.{refl}
 use Rattle.std.specs.Prelude.{slice_set}
 use Rattle.wb_items.specs.Lookaheads.{row_of}
 use Rattle.wb_lookahead.proofs.spread.unite.Goals as goal

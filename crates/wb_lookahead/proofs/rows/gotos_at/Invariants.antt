@@ -1,0 +1,5 @@
+use Rattle.wb_lookahead.specs.Rows.{AreGotos}
+use Rattle.wb_lookahead.proofs.rows.gotos_at.Given as goal
+
+abbrev pub invariant-nonterminals : goal.invariant-nonterminals
+invariant-nonterminals l = AreGotos l.kernels l.state l.row.items l.nonterminal

@@ -1,0 +1,12 @@
+-- Rows of one length in one list.
+use Rattle.std.specs.Prelude.{ℕ, zero, suc, List, [], ◌∷◌, take, drop}
+
+-- rows, each of this many numbers
+pub record GridState : Type 0 where
+  pub width : ℕ
+  pub rows : List (List ℕ)
+
+-- the first so many rows of this length
+unfoldable pub rows_of : ℕ → ℕ → List ℕ → List (List ℕ)
+rows_of zero width codes = []
+rows_of (suc height) width codes = take width codes ∷ rows_of height width (drop width codes)

@@ -1,0 +1,82 @@
+//! Actions and kernels behind nonterminals as numbers of 32 bits.
+
+ghost use Rattle.std.specs.Prelude.{◌≡◌, ◌<◌, ◌/◌, ◌%◌, IfOk, map};
+ghost use Rattle.wb_lookahead.specs.Codes.{action_at, goto_at};
+
+use crate::action::Action;
+use std::alloc::{AllocError, Global};
+use wb_base::push;
+
+// Numbers from here on have no code, which is want of memory.
+const LIMIT: usize = 1 << 30;
+
+// The codes of the actions.
+pub(crate) fn codes_of(alloc: Global, actions: &[Action]) -> Result<Vec<u32>, AllocError>
+    ensures { IfOk result (λ codes. map action_at codes.items ≡ actions.now) }
+{
+    let mut codes = Vec::new(alloc);
+    'actions: for &action in actions {
+        push(&mut codes, code_of(action)?)?;
+    }
+    Ok(codes)
+}
+
+// The code of an action.
+fn code_of(action: Action) -> Result<u32, AllocError>
+    ensures { IfOk result (λ code. action_at code ≡ action) }
+{
+    match action {
+        Action::Shift(state) => code(state, 1),
+        Action::Reduce(production) => code(production, 2),
+        Action::Accept => Ok(3),
+        Action::None => Ok(0),
+    }
+}
+
+// The code of a kind with a number.
+fn code(number: usize, kind: u32) -> Result<u32, AllocError>
+    requires { kind < 4 }
+    ensures number { IfOk result (λ code. code / 4 ≡ number) }
+    ensures kind { IfOk result (λ code. code % 4 ≡ kind) }
+{
+    if number >= LIMIT {
+        return Err(AllocError);
+    }
+    Ok(number as u32 * 4 + kind)
+}
+
+// The action of a code.
+pub(crate) fn action_from(code: u32) -> Action
+    ensures { result ≡ action_at code }
+{
+    let number = (code / 4) as usize;
+    match code % 4 {
+        0 => Action::None,
+        1 => Action::Shift(number),
+        2 => Action::Reduce(number),
+        _ => Action::Accept,
+    }
+}
+
+// The code of a kernel behind a nonterminal, or of none.
+pub(crate) fn goto_code(goto: Option<usize>) -> Result<u32, AllocError>
+    ensures { IfOk result (λ code. goto_at code ≡ goto) }
+{
+    let Some(state) = goto else {
+        return Ok(0);
+    };
+    if state >= LIMIT {
+        return Err(AllocError);
+    }
+    Ok(state as u32 + 1)
+}
+
+// The kernel of a code, where there is one.
+pub(crate) fn goto_from(code: u32) -> Option<usize>
+    ensures { result ≡ goto_at code }
+{
+    if code == 0 {
+        return None;
+    }
+    Some((code - 1) as usize)
+}

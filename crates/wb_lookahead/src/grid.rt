@@ -1,0 +1,60 @@
+//! Rows of numbers of one length, in one block of memory.
+
+ghost use Rattle.std.specs.Prelude.{◌≡◌, ◌<◌, ◌++◌, ◌∷◌, [], OnOk, length, slice_index, slice_index_or};
+
+use std::alloc::{AllocError, Global};
+use std::marker::Model;
+
+#[derive(Drop)]
+pub(crate) struct Grid {
+    width: usize,
+    height: usize,
+    codes: Vec<u32>,
+}
+
+impl Model for Grid {
+    ghost use Rattle.std.specs.Prelude.{◌≡◌, ◌*◌, length};
+    ghost use Rattle.wb_lookahead.specs.Grids.{GridState, rows_of};
+
+    ghost Value = { GridState };
+
+    ghost view = { λ g. record { width = g.width; rows = rows_of g.height g.width g.codes.items } };
+
+    ghost invariant = { λ g. length g.codes.items ≡ g.height * g.width };
+}
+
+impl Grid {
+    // No rows.
+    pub(crate) fn new(alloc: Global, width: usize) -> Grid
+        ensures { result ≡ record { width = width; rows = [] } }
+    {
+        Grid {
+            width,
+            height: 0,
+            codes: Vec::new(alloc),
+        }
+    }
+
+    // Adds a row behind the others.
+    pub(crate) fn add(&mut self, row: &[u32]) -> Result<(), AllocError>
+        requires { length row.now ≡ self.old.width }
+        ensures { OnOk result (self.new ≡ record { width = self.old.width; rows = self.old.rows ++ row.now ∷ [] }) }
+    {
+        let Some(height) = self.height.checked_add(1) else {
+            return Err(AllocError);
+        };
+        self.codes.extend_from_slice(row)?;
+        self.height = height;
+        Ok(())
+    }
+
+    // The number at a place of a row.
+    pub(crate) fn at(&self, row: usize, place: usize) -> u32
+        requires row { row < length self.now.rows }
+        requires place { place < self.now.width }
+        ensures is { result ≡ slice_index (slice_index_or self.now.rows row []) place }
+        ensures within { place < length (slice_index_or self.now.rows row []) }
+    {
+        self.codes[row * self.width + place]
+    }
+}
