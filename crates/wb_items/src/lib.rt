@@ -22,5 +22,6 @@ mod table;
 pub use kernels::Kernels;
 pub use lookaheads::Lookaheads;
 pub use looks::Looks;
+pub use rules::{Numbers, production_numbers};
 pub use symbol::symbol_after;
 pub use wb_grammars::Item;

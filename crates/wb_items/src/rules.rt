@@ -8,9 +8,9 @@ use std::alloc::{AllocError, Global};
 use std::marker::Model;
 use wb_base::{Grammar, push};
 
-// Numbers of productions.
+/// Numbers of productions, in order.
 #[derive(Drop)]
-pub(crate) struct Numbers {
+pub struct Numbers {
     numbers: Vec<usize>,
 }
 
@@ -37,15 +37,16 @@ impl Numbers {
         push(&mut self.numbers, number)
     }
 
-    pub(crate) fn as_slice(&self) -> &[usize]
+    /// The numbers. Takes no memory.
+    pub fn as_slice(&self) -> &[usize]
         ensures { result.now ≡ self.now }
     {
         &self.numbers
     }
 }
 
-// The numbers of the productions of each nonterminal, in order.
-pub(crate) fn rules(alloc: Global, grammar: &Grammar) -> Result<Vec<Numbers>, AllocError>
+/// The numbers of the productions of each nonterminal, in order. The only error is want of memory.
+pub fn production_numbers(alloc: Global, grammar: &Grammar) -> Result<Vec<Numbers>, AllocError>
     ensures { IfOk result (λ rows. AreRules grammar.now rows.items) }
 {
     let mut rows = empty_rows(alloc, grammar.nonterminals())?;

@@ -16,7 +16,7 @@ use crate::advance::{Advance, advances, symbol_at};
 use crate::close::close;
 use crate::found::Found;
 use crate::row::Move;
-use crate::rules::{Numbers, rules};
+use crate::rules::{Numbers, production_numbers};
 use crate::run::{kernel_of, run_end, run_of};
 use std::alloc::{AllocError, Global};
 use wb_base::{Grammar, Sequence, Symbol, push};
@@ -35,7 +35,7 @@ pub(crate) fn build_table(alloc: Global, grammar: &Grammar) -> Result<Table, All
     requires { IsLive grammar.now }
     ensures { IfOk result (λ table. IsTable grammar.now table.found table.closures.items table.rows.items) }
 {
-    let rules = rules(alloc, grammar)?;
+    let rules = production_numbers(alloc, grammar)?;
     let mut table = Table {
         found: Found::new(alloc, first_kernel(alloc, grammar)?)?,
         closures: Vec::new(alloc),

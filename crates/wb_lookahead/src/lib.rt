@@ -16,7 +16,6 @@ mod parts;
 mod pass;
 mod plain;
 mod rows;
-mod rules;
 mod spread;
 #[cfg(test)]
 mod table_tests;

@@ -1,6 +1,6 @@
 //! How what is listed at an item is passed on from there.
 
-ghost use Rattle.std.specs.Prelude.{◌≡◌, ◌+◌, ◌<◌, ◌∷◌, ◌++◌, [], ℕ, List, OnOk, length};
+ghost use Rattle.std.specs.Prelude.{◌≡◌, ◌+◌, ◌<◌, ◌∷◌, ◌++◌, [], ℕ, List, OnOk, length, slice_get, Some};
 ghost use Rattle.wb_base.specs.declared.symbol.Symbol.{Symbol};
 ghost use Rattle.wb_base.specs.declared.symbol.Symbol.TheVariants.{Terminal, Nonterminal};
 ghost use Rattle.wb_base.specs.Grammar.{IsSymbolBelow};
@@ -15,13 +15,12 @@ ghost use Rattle.wb_lookahead.specs.Spreading.{AreSound, FlowsTo, IsPassedOn, Is
 
 use crate::begins::begin_of;
 use crate::behind::rest_behind;
-use crate::rules::numbers_of;
 use crate::spread::{Place, move_on, open_all};
 use std::alloc::{AllocError, Global};
 use std::collections::VecDeque;
-use wb_base::{Grammar, Sequence, Symbol};
+use wb_base::{Grammar, Symbol};
 use wb_grammar::Facts;
-use wb_items::{Kernels, Lookaheads, symbol_after};
+use wb_items::{Kernels, Lookaheads, Numbers, symbol_after};
 use wb_termset::TermSet;
 
 // Spreads what is listed at a place to each item that it flows to from there.
@@ -29,7 +28,7 @@ pub(crate) fn pass_on(
     alloc: Global,
     grammar: &Grammar,
     facts: &Facts,
-    rules: &[Sequence<usize>],
+    rules: &[Numbers],
     kernels: &Kernels,
     place: Place,
     lookaheads: &mut Lookaheads,
@@ -60,7 +59,7 @@ fn open_behind(
     alloc: Global,
     grammar: &Grammar,
     facts: &Facts,
-    rules: &[Sequence<usize>],
+    rules: &[Numbers],
     kernels: &Kernels,
     place: Place,
     symbol: Symbol,
@@ -95,4 +94,12 @@ fn open_behind(
         lookaheads,
         waiting,
     )
+}
+
+// The numbers of a nonterminal's productions, of these.
+fn numbers_of(rules: &[Numbers], nonterminal: usize) -> &[usize]
+    requires { nonterminal < length rules.now }
+    ensures { slice_get rules.now nonterminal ≡ Some result.now }
+{
+    rules[nonterminal].as_slice()
 }

@@ -9,12 +9,11 @@ ghost use Rattle.wb_lookahead.specs.Spreading.{AreSound, AreWaiting};
 
 use crate::pass::pass_on;
 use crate::spread::{Place, spread};
-use crate::rules::rules;
 use std::alloc::{AllocError, Global};
 use std::collections::VecDeque;
 use wb_base::Grammar;
 use wb_grammar::Facts;
-use wb_items::{Item, Kernels, Lookaheads};
+use wb_items::{Item, Kernels, Lookaheads, production_numbers};
 use wb_termset::TermSet;
 
 /// The lookaheads of every item of every kernel. The only error is want of memory.
@@ -33,7 +32,7 @@ pub fn plain_lookaheads(
 {
     let _count = kernels.count();
     let mut lookaheads = Lookaheads::new(alloc, grammar, kernels)?;
-    let rules = rules(alloc, grammar)?;
+    let rules = production_numbers(alloc, grammar)?;
     let mut waiting = VecDeque::new(alloc);
     begin(alloc, grammar, kernels, &mut lookaheads, &mut waiting)?;
     'waiting: while let Some(place) = waiting.pop_front() {

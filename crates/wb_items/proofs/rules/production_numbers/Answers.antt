@@ -1,6 +1,6 @@
 use Rattle.std.proofs.Common.{arith}
 use Rattle.wb_items.proofs.RuleRows.{rows_start, rows_done}
-use Rattle.wb_items.proofs.rules.rules.Goals as goal
+use Rattle.wb_items.proofs.rules.production_numbers.Goals as goal
 
 pub productions-init : goal.productions-init
 productions-init c = rw (c.in_ok-rows.ensures, c.nonterminals.ensures) (rows_start c.args.grammar.now)
