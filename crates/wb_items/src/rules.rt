@@ -23,6 +23,7 @@ impl Model for Numbers {
 }
 
 impl Numbers {
+    // No number.
     fn new(alloc: Global) -> Numbers
         ensures { result ≡ [] }
     {
@@ -31,6 +32,7 @@ impl Numbers {
         }
     }
 
+    // Puts a number behind the others.
     fn push(&mut self, number: usize) -> Result<(), AllocError>
         ensures { OnOk result (self.new ≡ self.old ++ number ∷ []) }
     {
@@ -68,11 +70,7 @@ fn empty_rows(alloc: Global, count: usize) -> Result<Vec<Numbers>, AllocError>
 }
 
 // Adds a production to the row of its left side.
-fn add_rule(
-    grammar: &Grammar,
-    production: usize,
-    rows: &mut [Numbers],
-) -> Result<(), AllocError>
+fn add_rule(grammar: &Grammar, production: usize, rows: &mut [Numbers]) -> Result<(), AllocError>
     requires production { production < length grammar.now.productions }
     requires before { RowsUpTo grammar.now rows.old production }
     ensures { OnOk result (RowsUpTo grammar.now rows.new (production + 1)) }

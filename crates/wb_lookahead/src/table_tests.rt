@@ -71,12 +71,14 @@ fn is_sum_refused(alloc: Global) -> Result<bool, AllocError> {
     match tables_of(alloc, &grammar) {
         Ok(_) => Ok(false),
         Err(TableRefusal::NoMemory(error)) => Err(error),
-        Err(TableRefusal::Conflict {
-            state: _,
-            terminal,
-            first,
-            second,
-        }) => {
+        Err(
+            TableRefusal::Conflict {
+                state: _,
+                terminal,
+                first,
+                second,
+            },
+        ) => {
             let is_shift = match first {
                 Action::Shift(_) => true,
                 _ => false,
@@ -162,9 +164,11 @@ fn are_numbers_right(alloc: Global) -> Result<bool, AllocError> {
     }
     let list = goto(&grammar, &made, 0, 0);
     let reduce = Action::Reduce(0);
-    Ok(action(&grammar, &made, 0, 0) == reduce
-        && action(&grammar, &made, 0, 1) == reduce
-        && action(&grammar, &made, list, 1) == Action::Accept)
+    Ok(
+        action(&grammar, &made, 0, 0) == reduce
+            && action(&grammar, &made, 0, 1) == reduce
+            && action(&grammar, &made, list, 1) == Action::Accept,
+    )
 }
 
 #[test]
