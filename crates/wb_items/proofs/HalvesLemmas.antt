@@ -13,15 +13,6 @@ pub record LiesBetween {X : Type 0} (Before Behind : X → Type 0) (xs : List X)
   pub behind : (i : ℕ) (x : X) → high ≤ i → slice_get xs i ≡ Some x → Behind x
 
 module _ {X : Type 0} (Before Behind : X → Type 0) (xs : List X) where
-  -- the whole list is left
-  pub halves_start : (n : ℕ) → n ≡ length xs → LiesBetween Before Behind xs 0 n
-  halves_start n e = record {
-    rises = omega arith;
-    ends = omega (arith, e);
-    before = λ i x lt at. absurd (omega arith);
-    behind = λ i x le at. absurd (let lt = slice_get_within xs i x at in omega (arith, lt, e));
-  }
-
   -- what stands in the middle comes before, and so does all before it
   pub halves_above : (low high middle : ℕ) (here : X) → slice_get xs middle ≡ Some here → middle < high → Before here → ((i : ℕ) (x : X) → i < middle → slice_get xs i ≡ Some x → Before x) → LiesBetween Before Behind xs low high → LiesBetween Before Behind xs (middle + 1) high
   halves_above low high middle here at lt first all h = record {

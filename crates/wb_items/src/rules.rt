@@ -67,11 +67,7 @@ fn empty_rows(alloc: Global, count: usize) -> Result<Vec<Numbers>, AllocError>
 }
 
 // Adds a production to the row of its left side.
-fn add_rule(
-    grammar: &Grammar,
-    production: usize,
-    rows: &mut [Numbers],
-) -> Result<(), AllocError>
+fn add_rule(grammar: &Grammar, production: usize, rows: &mut [Numbers]) -> Result<(), AllocError>
     requires production { production < length grammar.now.productions }
     requires before { RowsUpTo grammar.now rows.old production }
     ensures { OnOk result (RowsUpTo grammar.now rows.new (production + 1)) }

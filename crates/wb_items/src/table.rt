@@ -1,16 +1,16 @@
 //! All kernels of a grammar, found by following each symbol from each.
 
-ghost use Rattle.std.specs.Prelude.{◌≡◌, ◌<◌, ◌≤◌, ◌+◌, ◌++◌, ◌∷◌, [], ℕ, List, IfOk, OnOk, Contains, Some, length, slice_get, vec_len};
+ghost use Rattle.std.specs.Prelude.{◌≡◌, ◌<◌, ◌≤◌, ◌+◌, ◌++◌, ◌∷◌, [], List, IfOk, OnOk, Some, length, slice_get, vec_len};
 ghost use Rattle.wb_base.specs.declared.symbol.Symbol.{Symbol};
 ghost use Rattle.wb_grammars.specs.declared.item.Item.{Item};
-ghost use Rattle.wb_grammars.specs.Items.{after_dot, start_item};
+ghost use Rattle.wb_grammars.specs.Items.{start_item};
 ghost use Rattle.wb_grammars.specs.Shape.{IsLive};
-ghost use Rattle.wb_items.specs.Kernels.{AreInOrder, ListsItems};
+ghost use Rattle.wb_items.specs.Kernels.{ListsItems};
 ghost use Rattle.wb_items.specs.declared.row.Move.{Move};
 ghost use Rattle.wb_items.specs.declared.advance.Advance.{Advance};
 ghost use Rattle.wb_items.specs.Advances.{AreAdvancesRising};
 ghost use Rattle.wb_items.specs.Passes.{MovesUpTo};
-ghost use Rattle.wb_items.specs.Table.{AreKernelsOf, AreFollowed, AreMoves, AreRules, Grows, IsKernelFor, IsRow, IsTable, Leads};
+ghost use Rattle.wb_items.specs.Table.{AreKernelsOf, AreFollowed, AreRules, Grows, IsKernelFor, IsRow, IsTable, Leads};
 
 use crate::advance::{Advance, advances, symbol_at};
 use crate::close::close;

@@ -1,10 +1,5 @@
-use Rattle.std.proofs.Common.{◌≡◌, ◌<◌, ◌≤◌, ◌+◌, ◌-◌, ◌++◌, ◌∷◌, [], ℕ, List, Some, length, map, set, true, false, sym, ◌∙◌, ap, subst, arith}
-use Rattle.std.specs.Prelude.{slice_get, slice_index_or, Contains}
-use Rattle.std.proofs.lemmas.Bool.{true≢false}
-use Rattle.std.proofs.lemmas.Option.{slice_get_within}
-use Rattle.wb_base.specs.declared.symbol.Symbol.{Symbol}
-use Rattle.wb_grammars.specs.declared.item.Item.{Item}
-use Rattle.wb_items.specs.Table.{SameItems, IsKernelFor, Leads, Grows, AreKernelsOf}
+use Rattle.std.proofs.Common.{sym, subst}
+use Rattle.wb_items.specs.Table.{SameItems}
 use Rattle.wb_items.proofs.TableLemmas.{prefix_at, leads_known, IsAdded, is_added}
 use Rattle.wb_items.proofs.table.number_of.Goals as goal
 
