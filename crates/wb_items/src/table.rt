@@ -37,7 +37,7 @@ pub(crate) fn build_table(alloc: Global, grammar: &Grammar) -> Result<Table, All
 {
     let rules = rules(alloc, grammar)?;
     let mut table = Table {
-        found: Found::new(alloc, first_kernel(alloc, grammar)?)?,
+        found: Found::new(alloc, grammar, first_kernel(alloc, grammar)?)?,
         closures: Vec::new(alloc),
         rows: Vec::new(alloc),
     };
@@ -145,6 +145,30 @@ fn add_move(
 
 // The number of the kernel that a symbol leads to, which is added where it is new.
 fn number_of(
+    grammar: &Grammar,
+    state: usize,
+    symbol: Symbol,
+    kernel: Sequence<Item>,
+    found: &mut Found,
+) -> Result<usize, AllocError>
+    requires live { IsLive grammar.now }
+    requires state { state < length found.old.kernels }
+    requires kernel { (prefix : List Symbol) → slice_get found.old.prefixes state ≡ Some prefix → IsKernelFor grammar.now (prefix ++ symbol ∷ []) kernel }
+    requires kernels { AreKernelsOf grammar.now found.old.prefixes found.old.kernels }
+    ensures kernels { OnOk result (AreKernelsOf grammar.now found.new.prefixes found.new.kernels) }
+    ensures grows { OnOk result (Grows found.old found.new) }
+    ensures leads { IfOk result (Leads grammar.now found.new.prefixes state symbol) }
+{
+    if let Some(next) = found.recall(symbol, kernel.as_slice()) {
+        return Ok(next);
+    }
+    let next = find_or_add(grammar, state, symbol, kernel, found)?;
+    found.note(symbol, next);
+    Ok(next)
+}
+
+// The same, where the symbol led to another kernel before.
+fn find_or_add(
     grammar: &Grammar,
     state: usize,
     symbol: Symbol,
