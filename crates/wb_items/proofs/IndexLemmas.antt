@@ -1,5 +1,5 @@
 -- Numbers of kernels by the order of the kernels: the search by halves, and a number more.
-use Rattle.std.proofs.Common.{◌≡◌, ℕ, ◌+◌, ◌-◌, ◌<◌, ◌≤◌, List, [], ◌∷◌, ◌++◌, length, get_or, Some, refl, sym, ◌∙◌, ap, subst, inl, inr, arith, length-append}
+use Rattle.std.proofs.Common.{◌≡◌, ℕ, ◌+◌, ◌-◌, ◌<◌, ◌≤◌, List, [], ◌∷◌, ◌++◌, length, get_or, Some, sym, ◌∙◌, ap, subst, inl, inr, arith, length-append}
 use Rattle.std.specs.List.{insert}
 use Rattle.std.specs.Prelude.{slice_get, Contains}
 use Rattle.std.proofs.lemmas.Option.{slice_get_within, slice_get-get_or}
@@ -9,7 +9,7 @@ use Rattle.wb_grammars.specs.declared.item.Item.{Item}
 use Rattle.wb_items.specs.Kernels.{AreInOrder}
 use Rattle.wb_items.specs.Order.{ComesFirst, IsIndex, LiesWithin}
 use Rattle.wb_items.specs.Table.{SameItems}
-use Rattle.wb_items.proofs.ListLemmas.{at_once, at_cases, at_one, default_at, Contains-at, at_Contains}
+use Rattle.wb_items.proofs.ListLemmas.{at_once, at_cases, default_at, Contains-at, at_Contains}
 use Rattle.wb_items.proofs.CompareLemmas.{first_then, first_not_same, first_not_turned}
 
 module _ (kernels : List (List Item)) (order : List ℕ) (items : List Item) (low high middle number : ℕ) (kernel : List Item) (index : IsIndex order kernels) (at : slice_get order middle ≡ Some number) (there : slice_get kernels number ≡ Some kernel) (h : LiesWithin kernels order items low high) where

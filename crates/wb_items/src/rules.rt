@@ -23,6 +23,7 @@ impl Model for Numbers {
 }
 
 impl Numbers {
+    // No number.
     fn new(alloc: Global) -> Numbers
         ensures { result ≡ [] }
     {
@@ -31,12 +32,14 @@ impl Numbers {
         }
     }
 
+    // Puts a number behind the others.
     fn push(&mut self, number: usize) -> Result<(), AllocError>
         ensures { OnOk result (self.new ≡ self.old ++ number ∷ []) }
     {
         push(&mut self.numbers, number)
     }
 
+    // All numbers.
     pub(crate) fn as_slice(&self) -> &[usize]
         ensures { result.now ≡ self.now }
     {
