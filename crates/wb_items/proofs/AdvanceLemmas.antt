@@ -1,5 +1,5 @@
 -- The list of the items that move over symbols: how it is made, and what a run of it has.
-use Rattle.std.proofs.Common.{◌≡◌, ℕ, ◌+◌, ◌-◌, ◌<◌, ◌≤◌, ◌⊎◌, Bool, true, false, List, [], ◌∷◌, ◌++◌, length, get_or, take, drop, map, Some, refl, sym, ◌∙◌, ap, subst, inl, inr, arith}
+use Rattle.std.proofs.Common.{◌≡◌, ℕ, ◌+◌, ◌-◌, ◌<◌, ◌≤◌, ◌⊎◌, Bool, true, false, List, [], ◌∷◌, ◌++◌, length, get_or, Some, refl, sym, ◌∙◌, ap, subst, inl, inr, arith}
 use Rattle.std.proofs.lemmas.List.{length-map}
 use Rattle.std.specs.Prelude.{slice_get, slice_index_or, Contains, ◌↔◌}
 use Rattle.std.specs.List.{between}
@@ -11,12 +11,10 @@ use Rattle.std.proofs.lemmas.Bool.{cases_eq, cases_lt, true≢false}
 use Rattle.std.proofs.lemmas.Option.{slice_get_within, slice_get-get_or, slice_get-map}
 use Rattle.std.proofs.lemmas.List.Edits.{length-between, get_or-between}
 use Rattle.wb_base.specs.declared.symbol.Symbol.{Symbol}
-use Rattle.wb_base.specs.declared.symbol.Symbol.TheVariants.{Terminal, Nonterminal}
 use Rattle.wb_base.specs.Grammar.{GrammarState}
 use Rattle.wb_grammars.specs.declared.item.Item.{Item}
-use Rattle.wb_grammars.specs.Items.{after_dot, advance, IsKernelItem}
+use Rattle.wb_grammars.specs.Items.{after_dot, advance}
 use Rattle.wb_grammars.specs.Shape.{IsLive}
-use Rattle.wb_grammars.specs.Closure.{MovesTo}
 use Rattle.wb_grammars.proofs.ClosureLemmas.{closure_sound, closure_complete}
 use Rattle.wb_items.specs.declared.advance.Advance.{Advance}
 use Rattle.wb_items.specs.Advances.{AreAdvancesRising, AdvancePrecedes, HasAdvance, IsRun, ListsAdvances, items_of, symbol_by, symbol_of}

@@ -1,5 +1,5 @@
 -- The order of sets of items, and how two sets are compared item by item.
-use Rattle.std.proofs.Common.{◌≡◌, ℕ, ◌+◌, ◌-◌, ◌<◌, ◌≤◌, ◌⊎◌, List, length, Option, Some, None, refl, sym, ◌∙◌, ap, subst, inl, inr, arith}
+use Rattle.std.proofs.Common.{◌≡◌, ℕ, ◌+◌, ◌-◌, ◌≤◌, ◌⊎◌, List, length, Some, None, sym, ◌∙◌, subst, inl, inr, arith}
 use Rattle.std.specs.Prelude.{slice_get, slice_index_or, Contains, ◌↔◌}
 use Rattle.std.proofs.lemmas.Option.{slice_get_within, slice_get-get_or}
 use Rattle.std.proofs.lemmas.Bool.{cases_eq, cases_lt}
@@ -167,10 +167,6 @@ module _ (kernel items : List Item) (place : ℕ) (sorted : AreInOrder kernel) (
     | inl h ↦ (λ there. absurd (absent z h there), λ there. absurd (none_behind kernel place items least z h there))
     | inr not_behind ↦ agree z not_behind
   ]
-
--- no item precedes the first place
-pub agree_none : (kernel items : List Item) → AgreeUpTo kernel items 0
-agree_none kernel items z past = absurd (past (λ m a e at. absurd (omega arith)))
 
 -- a lesser item at one place more is the least
 pub least_lesser : (kernel items : List Item) (place n : ℕ) (item m : Item) → IsLeastBehind kernel place items n (Some m) → slice_get items n ≡ Some item → IsBehind kernel place item → Precedes item m → IsLeastBehind kernel place items (n + 1) (Some item)

@@ -1,7 +1,7 @@
 -- Prefixes as steps: what a further step adds, and the way back.
-use Rattle.std.proofs.Common.{◌≡◌, ℕ, ◌+◌, ◌-◌, ◌<◌, ◌≤◌, zero, suc, List, [], ◌∷◌, ◌++◌, length, get_or, reverse, Some, refl, sym, ◌∙◌, ap, subst, arith, inl, inr, length-append}
+use Rattle.std.proofs.Common.{◌≡◌, ℕ, ◌+◌, ◌-◌, ◌<◌, ◌≤◌, zero, suc, List, [], ◌∷◌, ◌++◌, length, reverse, Some, refl, sym, ◌∙◌, ap, subst, arith, inl, inr, length-append}
 use Rattle.std.specs.Prelude.{slice_get, slice_index_or}
-use Rattle.std.proofs.lemmas.Option.{gets, same_Some, slice_get_within, slice_get-get_or}
+use Rattle.std.proofs.lemmas.Option.{gets, same_Some, slice_get-get_or}
 use Rattle.std.proofs.lemmas.Grind.{common_steps}
 use Rattle.std.proofs.lemmas.List.{append_assoc, reverse-append}
 use Rattle.wb_base.specs.declared.symbol.Symbol.{Symbol}
@@ -12,7 +12,7 @@ use Rattle.std.specs.List.{insert}
 use Rattle.wb_items.specs.Kernels.{AreInOrder}
 use Rattle.wb_items.specs.Order.{IsIndex, LiesWithin}
 use Rattle.wb_items.proofs.IndexLemmas.{index_more}
-use Rattle.wb_items.proofs.ListLemmas.{at_cases, at_old, at_end, default_at}
+use Rattle.wb_items.proofs.ListLemmas.{at_cases}
 
 -- the prefix of a step
 abbrev pub prefix_by : List (List Symbol) → Step → List Symbol

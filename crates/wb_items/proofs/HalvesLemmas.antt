@@ -1,7 +1,6 @@
 -- A search by halves in a list, of which a front comes before what is sought and the rest behind it.
 use Rattle.std.proofs.Common.{◌≡◌, ℕ, ◌+◌, ◌<◌, ◌≤◌, List, length, Some, subst, inl, inr, arith}
 use Rattle.std.specs.Prelude.{slice_get}
-use Rattle.std.proofs.lemmas.Option.{slice_get_within}
 use Rattle.std.proofs.lemmas.Bool.{cases_eq, cases_lt}
 use Rattle.wb_items.proofs.ListLemmas.{at_once}
 
@@ -13,15 +12,6 @@ pub record LiesBetween {X : Type 0} (Before Behind : X → Type 0) (xs : List X)
   pub behind : (i : ℕ) (x : X) → high ≤ i → slice_get xs i ≡ Some x → Behind x
 
 module _ {X : Type 0} (Before Behind : X → Type 0) (xs : List X) where
-  -- the whole list is left
-  pub halves_start : (n : ℕ) → n ≡ length xs → LiesBetween Before Behind xs 0 n
-  halves_start n e = record {
-    rises = omega arith;
-    ends = omega (arith, e);
-    before = λ i x lt at. absurd (omega arith);
-    behind = λ i x le at. absurd (let lt = slice_get_within xs i x at in omega (arith, lt, e));
-  }
-
   -- what stands in the middle comes before, and so does all before it
   pub halves_above : (low high middle : ℕ) (here : X) → slice_get xs middle ≡ Some here → middle < high → Before here → ((i : ℕ) (x : X) → i < middle → slice_get xs i ≡ Some x → Before x) → LiesBetween Before Behind xs low high → LiesBetween Before Behind xs (middle + 1) high
   halves_above low high middle here at lt first all h = record {

@@ -1,7 +1,7 @@
 -- Numbers of kernels by the order of the kernels: the search by halves, and a number more.
-use Rattle.std.proofs.Common.{◌≡◌, ℕ, ◌+◌, ◌-◌, ◌<◌, ◌≤◌, ◌⊎◌, List, [], ◌∷◌, ◌++◌, length, get_or, Some, refl, sym, ◌∙◌, ap, subst, inl, inr, arith, length-append}
+use Rattle.std.proofs.Common.{◌≡◌, ℕ, ◌+◌, ◌-◌, ◌<◌, ◌≤◌, List, [], ◌∷◌, ◌++◌, length, get_or, Some, sym, ◌∙◌, ap, subst, inl, inr, arith, length-append}
 use Rattle.std.specs.List.{insert}
-use Rattle.std.specs.Prelude.{slice_get, slice_index_or, Contains}
+use Rattle.std.specs.Prelude.{slice_get, Contains}
 use Rattle.std.proofs.lemmas.Option.{slice_get_within, slice_get-get_or}
 use Rattle.std.proofs.lemmas.Bool.{cases_eq, cases_lt}
 use Rattle.std.proofs.lemmas.List.Edits.{length-insert, get_or-insert_below, get_or-insert_at, get_or-insert_above}
@@ -9,17 +9,8 @@ use Rattle.wb_grammars.specs.declared.item.Item.{Item}
 use Rattle.wb_items.specs.Kernels.{AreInOrder}
 use Rattle.wb_items.specs.Order.{ComesFirst, IsIndex, LiesWithin}
 use Rattle.wb_items.specs.Table.{SameItems}
-use Rattle.wb_items.proofs.ListLemmas.{at_once, at_cases, at_one, default_at, Contains-at, at_Contains}
+use Rattle.wb_items.proofs.ListLemmas.{at_once, at_cases, default_at, Contains-at, at_Contains}
 use Rattle.wb_items.proofs.CompareLemmas.{first_then, first_not_same, first_not_turned}
-
--- all numbers are left to search
-pub search_start : (kernels : List (List Item)) (order : List ℕ) (items : List Item) (n : ℕ) → n ≡ length order → LiesWithin kernels order items 0 n
-search_start kernels order items n e = record {
-  rises = omega arith;
-  ends = omega (arith, e);
-  before = λ i s kernel lt at there. absurd (omega arith);
-  behind = λ i s kernel le at there. absurd (let lt = slice_get_within order i s at in omega (arith, lt, e));
-}
 
 module _ (kernels : List (List Item)) (order : List ℕ) (items : List Item) (low high middle number : ℕ) (kernel : List Item) (index : IsIndex order kernels) (at : slice_get order middle ≡ Some number) (there : slice_get kernels number ≡ Some kernel) (h : LiesWithin kernels order items low high) where
   -- the kernel in the middle comes before
@@ -94,15 +85,6 @@ stays xs i y z le k =
       | inl less ↦ Contains-at (insert xs i y) j z (slice_get-get_or (insert xs i y) j z (omega arith) ∙ ap Some (get_or-insert_below xs i y z j less le ∙ is))
       | inr ge ↦ Contains-at (insert xs i y) (j + 1) z (slice_get-get_or (insert xs i y) (j + 1) z (omega arith) ∙ ap Some (get_or-insert_above xs i y z j ge le ∙ is))
     ]
-
--- one kernel alone
-pub index_one : (kernel : List Item) → AreInOrder kernel → IsIndex (0 ∷ []) (kernel ∷ [])
-index_one kernel sorted = record {
-  sorted = λ s other there. subst AreInOrder (at_one kernel other s there).1 sorted;
-  below = λ i s at. (let e = (at_one 0 s i at).1 in omega (arith, e));
-  all = λ s lt. (let e : 0 ≡ s = omega arith in subst (Contains (0 ∷ [])) e (Contains-at (0 ∷ []) 0 0 refl));
-  rising = λ i j s t one other lt p q one_at other_at. absurd (omega (arith, (at_one 0 s i p).0, (at_one 0 t j q).0));
-}
 
 module _ (kernels : List (List Item)) (order : List ℕ) (new : List Item) (place : ℕ) (index : IsIndex order kernels) (lies : LiesWithin kernels order new place place) (sorted : AreInOrder new) where
   old_at : (s : ℕ) (kernel : List Item) → s < length kernels → slice_get (kernels ++ new ∷ []) s ≡ Some kernel → slice_get kernels s ≡ Some kernel

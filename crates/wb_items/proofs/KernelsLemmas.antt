@@ -1,5 +1,5 @@
 -- What a table of kernels shows to callers.
-use Rattle.std.proofs.Common.{◌≡◌, ℕ, ◌+◌, ◌<◌, ◌≤◌, ◌⊎◌, zero, suc, List, [], ◌∷◌, ◌++◌, length, Option, Some, None, refl, sym, ◌∙◌, ap, subst, inl, inr, arith}
+use Rattle.std.proofs.Common.{◌≡◌, ℕ, ◌<◌, List, [], ◌∷◌, ◌++◌, length, Option, Some, None, refl, sym, ◌∙◌, subst, inl, inr, arith}
 use Rattle.std.specs.Prelude.{slice_get, slice_index_or, Contains, ◌↔◌, IfSome, IfNone, IsNone}
 use Rattle.std.proofs.lemmas.Option.{slice_get_within, slice_get-get_or}
 use Rattle.std.proofs.lemmas.Bool.{true≢false, cases_lt}
@@ -7,16 +7,15 @@ use Rattle.std.proofs.lemmas.List.{get_or_past}
 use Rattle.wb_base.specs.declared.symbol.Symbol.{Symbol}
 use Rattle.wb_base.specs.Grammar.{GrammarState}
 use Rattle.wb_grammars.specs.declared.item.Item.{Item}
-use Rattle.wb_grammars.specs.Items.{after_dot, advance, IsValidItem, start, close, move, HasItem, IsKernelItem, IsViablePrefix, SameKernel, start_item}
-use Rattle.wb_grammars.specs.Shape.{IsLive}
-use Rattle.wb_grammars.specs.States.{AreStates, IsNext}
+use Rattle.wb_grammars.specs.Items.{after_dot, IsValidItem, start, close, move, HasItem, IsViablePrefix, SameKernel}
+use Rattle.wb_grammars.specs.States.{IsNext}
 use Rattle.wb_grammars.proofs.KernelLemmas.{kernel_decides, same_move, snoc_parts, snoc_not_nil}
 use Rattle.wb_grammars.proofs.FlowLemmas.{same_itself, same_back, same_then}
 use Rattle.wb_items.specs.declared.row.Move.{Move}
 use Rattle.wb_items.specs.Found.{FoundState}
-use Rattle.wb_items.specs.Kernels.{KernelsState, AreKernels, AreInOrder, ListsKernel, ListsItems, HasNoneBefore}
+use Rattle.wb_items.specs.Kernels.{AreKernels, AreInOrder, ListsKernel, ListsItems, HasNoneBefore}
 use Rattle.wb_items.specs.Table.{AreMovesInOrder, SameItems, IsTable, IsRow, Leads}
-use Rattle.wb_items.proofs.ListLemmas.{at_once, default_at}
+use Rattle.wb_items.proofs.ListLemmas.{default_at}
 use Rattle.wb_items.proofs.OrderLemmas.{order_nil}
 
 -- an item of a longer prefix came over its last symbol

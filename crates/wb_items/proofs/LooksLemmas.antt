@@ -1,20 +1,16 @@
 -- Items with sets: places of items, and rows with one more.
-use Rattle.std.proofs.Common.{◌≡◌, ℕ, ◌+◌, ◌<◌, ◌≤◌, zero, suc, Bool, false, List, [], ◌∷◌, ◌++◌, All, length, get_or, map, drop, replicate, Some, refl, sym, ◌∙◌, ap, subst, inl, inr, arith, drop-cons}
-use Rattle.std.specs.Prelude.{slice_get, slice_index_or, slice_set, Contains}
+use Rattle.std.proofs.Common.{◌≡◌, ℕ, ◌+◌, ◌<◌, ◌≤◌, zero, suc, Bool, false, List, [], ◌∷◌, ◌++◌, All, length, map, drop, replicate, Some, refl, sym, ◌∙◌, ap, subst, arith, drop-cons}
+use Rattle.std.specs.Prelude.{slice_get, slice_index_or, slice_set}
 use Rattle.std.specs.Option.{option_map}
-use Rattle.std.proofs.lemmas.Option.{slice_get-map, slice_get-get_or, slice_get_within, same_Some}
-use Rattle.std.proofs.lemmas.List.{length-map, map-append, append_assoc, append-nil, drop_all, length-replicate}
+use Rattle.std.proofs.lemmas.Option.{slice_get-map, same_Some}
+use Rattle.std.proofs.lemmas.List.{map-append, append_assoc, append-nil, drop_all, length-replicate}
 use Rattle.std.proofs.lemmas.List.Elements.{All-push, All-nil}
-use Rattle.std.proofs.lemmas.Bool.{cases_eq}
 use Rattle.wb_termset.specs.Sets.{IsEmpty}
 use Rattle.wb_termset.proofs.CallerLemmas.{IsEmpty-replicate}
 use Rattle.wb_grammars.specs.declared.item.Item.{Item}
 use Rattle.wb_items.specs.declared.looks.Looks.{Looks}
 use Rattle.wb_items.specs.Lookaheads.{items_in}
-use Rattle.wb_items.proofs.ListLemmas.{at_once, at_Contains}
-
-pub at_item : (row : List Looks) (n : ℕ) (looks : Looks) → n < length row → looks ≡ slice_index_or row n looks → slice_get (items_in row) n ≡ Some looks.item
-at_item row n looks lt e = slice_get-map (λ (l : Looks). l.item) row n ∙ ap (option_map (λ (l : Looks). l.item)) (slice_get-get_or row n looks lt ∙ ap Some (sym e))
+use Rattle.wb_items.proofs.ListLemmas.{at_once}
 
 -- a row with an empty set more
 pub looks_more : (looks more : List Looks) (items : List Item) (n count : ℕ) (d : Item) (set : List Bool) → n < length items → set ≡ replicate count false → more ≡ looks ++ record { item = slice_index_or items n d; set = set } ∷ [] → (items_in looks ++ drop n items ≡ items) × All (λ l. length l.set ≡ count) looks × All (λ l. IsEmpty l.set) looks → (items_in more ++ drop (n + 1) items ≡ items) × All (λ l. length l.set ≡ count) more × All (λ l. IsEmpty l.set) more

@@ -1,5 +1,5 @@
 -- The productions of a nonterminal, as a loop over all productions gathers them.
-use Rattle.std.proofs.Common.{◌≡◌, ◌≢◌, ℕ, ◌+◌, ◌<◌, ◌≤◌, ◌⊎◌, zero, suc, List, [], ◌∷◌, ◌++◌, length, Some, refl, sym, ◌∙◌, ap, subst, inl, inr, arith, replicate, length-set}
+use Rattle.std.proofs.Common.{◌≡◌, ◌≢◌, ℕ, ◌+◌, ◌<◌, ◌≤◌, zero, suc, List, [], ◌∷◌, ◌++◌, length, Some, refl, sym, ◌∙◌, ap, subst, inl, inr, arith, replicate, length-set}
 use Rattle.std.specs.Prelude.{slice_get, slice_set, Contains}
 use Rattle.std.proofs.lemmas.Option.{slice_get_within, same_Some}
 use Rattle.std.proofs.lemmas.List.{length-replicate}
@@ -11,7 +11,7 @@ use Rattle.wb_grammars.proofs.RuleLemmas.{rule_once, rule_within}
 use Rattle.wb_items.specs.Table.{AreRulesOf, AreRules}
 use Rattle.wb_items.specs.Passes.{RulesUpTo, RowsUpTo}
 use Rattle.wb_items.proofs.OrderLemmas.{Contains_cases, Contains_stays}
-use Rattle.wb_items.proofs.ListLemmas.{at_cases, at_stays, at_end, Contains-at, at_Contains}
+use Rattle.wb_items.proofs.ListLemmas.{at_cases, at_end, Contains-at}
 
 rules_start : (g : GrammarState) (b : ℕ) → RulesUpTo g b [] 0
 rules_start g b = record {

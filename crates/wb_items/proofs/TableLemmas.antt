@@ -1,22 +1,22 @@
 -- Kernels that are found one after another.
-use Rattle.std.proofs.Common.{◌≡◌, ◌≢◌, ℕ, ◌+◌, ◌<◌, ◌≤◌, ◌⊎◌, zero, suc, List, [], ◌∷◌, ◌++◌, length, Some, refl, sym, ◌∙◌, ap, subst, inl, inr, arith, length-append}
+use Rattle.std.proofs.Common.{◌≡◌, ℕ, ◌<◌, List, [], ◌∷◌, ◌++◌, length, Some, refl, sym, ◌∙◌, ap, subst, inl, inr, arith, length-append}
 use Rattle.std.specs.Prelude.{slice_get, slice_index_or, Contains, ◌↔◌}
-use Rattle.std.proofs.lemmas.Option.{slice_get_within, slice_get-get_or, get_or_from_slice_get}
+use Rattle.std.proofs.lemmas.Option.{slice_get_within, slice_get-get_or}
 use Rattle.wb_base.specs.declared.symbol.Symbol.{Symbol}
 use Rattle.wb_base.specs.Grammar.{GrammarState}
 use Rattle.wb_grammars.specs.declared.item.Item.{Item}
-use Rattle.wb_grammars.specs.Rules.{IsRule, end_of}
+use Rattle.wb_grammars.specs.Rules.{end_of}
 use Rattle.wb_grammars.specs.Items.{after_dot, advance, opening, IsValidItem, move, HasItem, IsKernelItem, IsViablePrefix, SameKernel, start_item}
 use Rattle.wb_grammars.specs.Items as valid
 use Rattle.wb_grammars.specs.Shape.{IsLive}
 use Rattle.wb_grammars.specs.Closure.{InClosure, kernel, opened, MovesTo}
 use Rattle.wb_grammars.proofs.ClosureLemmas.{closure_sound, closure_complete, moves_exact, first_kernel}
-use Rattle.wb_grammars.proofs.FlowLemmas.{same_itself, same_back, same_then}
+use Rattle.wb_grammars.proofs.FlowLemmas.{same_itself}
 use Rattle.wb_items.specs.declared.row.Move.{Move}
 use Rattle.wb_items.specs.Found.{FoundState}
 use Rattle.wb_items.specs.Kernels.{AreInOrder, ListsKernel, ListsItems}
 use Rattle.wb_items.specs.Table.{SameItems, AreKernelsOf, AreMoves, IsKernelFor, Grows, IsRow, Leads, AreFollowed}
-use Rattle.wb_items.proofs.ListLemmas.{at_cases, at_old, at_end, at_stays, at_once, at_one, Contains-at, at_Contains}
+use Rattle.wb_items.proofs.ListLemmas.{at_cases, at_end, at_stays, at_once, at_one, Contains-at, at_Contains}
 
 -- a number of kernels has its prefix
 pub prefix_at : {g : GrammarState} {prefixes : List (List Symbol)} {kernels : List (List Item)} → AreKernelsOf g prefixes kernels → (s : ℕ) → s < length kernels → (prefix : List Symbol) × (slice_get prefixes s ≡ Some prefix)

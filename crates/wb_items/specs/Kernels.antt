@@ -3,7 +3,7 @@ use Rattle.std.specs.Prelude.{◌≡◌, ◌≢◌, ◌↔◌, ◌⊎◌, ℕ, �
 use Rattle.wb_base.specs.declared.symbol.Symbol.{Symbol}
 use Rattle.wb_base.specs.Grammar.{GrammarState}
 use Rattle.wb_grammars.specs.declared.item.Item.{Item}
-use Rattle.wb_grammars.specs.Items.{after_dot, HasItem, IsKernelItem, IsViablePrefix}
+use Rattle.wb_grammars.specs.Items.{after_dot, HasItem, IsKernelItem}
 use Rattle.wb_grammars.specs.Shape.{IsLive}
 use Rattle.wb_grammars.specs.States.{AreStates, IsNext}
 

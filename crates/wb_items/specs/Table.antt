@@ -1,10 +1,10 @@
 -- Kernels as they are kept: what was found by following symbols from the kernel of the empty prefix.
-use Rattle.std.specs.Prelude.{◌≡◌, ◌↔◌, ◌⊎◌, ℕ, ◌<◌, List, [], ◌∷◌, ◌++◌, length, Some, Contains, slice_get, slice_index_or, map}
+use Rattle.std.specs.Prelude.{◌≡◌, ◌↔◌, ℕ, ◌<◌, List, [], ◌∷◌, ◌++◌, length, Some, Contains, slice_get}
 use Rattle.wb_base.specs.declared.symbol.Symbol.{Symbol}
 use Rattle.wb_base.specs.Grammar.{GrammarState}
 use Rattle.wb_grammars.specs.declared.item.Item.{Item}
 use Rattle.wb_grammars.specs.Rules.{IsRule}
-use Rattle.wb_grammars.specs.Items.{after_dot, advance, HasItem, IsViablePrefix, SameKernel}
+use Rattle.wb_grammars.specs.Items.{after_dot, advance, IsViablePrefix, SameKernel}
 use Rattle.wb_grammars.specs.Shape.{IsLive}
 use Rattle.wb_items.specs.declared.row.Move.{Move}
 use Rattle.wb_items.specs.Found.{FoundState}

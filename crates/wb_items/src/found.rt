@@ -6,10 +6,11 @@ ghost use Rattle.wb_grammars.specs.declared.item.Item.{Item};
 ghost use Rattle.wb_items.specs.Kernels.{AreInOrder};
 ghost use Rattle.wb_items.specs.Table.{SameItems};
 
-use crate::search::locate;
+use crate::hints::Hints;
+use crate::search::{is_number_of, locate};
 use std::alloc::{AllocError, Global};
 use std::marker::Model;
-use wb_base::{Sequence, Symbol, push};
+use wb_base::{Grammar, Sequence, Symbol, push};
 use wb_grammars::Item;
 
 // A prefix goes on from that of an earlier number by a symbol.
@@ -25,6 +26,7 @@ pub(crate) struct Found {
     steps: Vec<Step>,
     kernels: Vec<Sequence<Item>>,
     order: Vec<usize>,
+    hints: Hints,
 }
 
 impl Model for Found {
@@ -39,7 +41,11 @@ impl Model for Found {
 
 impl Found {
     // The empty prefix with its items.
-    pub(crate) fn new(alloc: Global, kernel: Sequence<Item>) -> Result<Found, AllocError>
+    pub(crate) fn new(
+        alloc: Global,
+        grammar: &Grammar,
+        kernel: Sequence<Item>,
+    ) -> Result<Found, AllocError>
         requires { AreInOrder kernel }
         ensures { IfOk result (λ found. found ≡ record { prefixes = [] ∷ []; kernels = kernel ∷ [] }) }
     {
@@ -51,6 +57,7 @@ impl Found {
             steps: Vec::new(alloc),
             kernels,
             order,
+            hints: Hints::new(alloc, grammar)?,
         })
     }
 
@@ -79,6 +86,25 @@ impl Found {
             Ok(number) => Some(number),
             Err(_) => None,
         }
+    }
+
+    // The number that was noted last for the symbol, if it has these items.
+    pub(crate) fn recall(&self, symbol: Symbol, items: &[Item]) -> Option<usize>
+        ensures { IfSome result (λ s. (kernel : List Item) × (slice_get self.now.kernels s ≡ Some kernel) × SameItems kernel items.now) }
+    {
+        let number = self.hints.get(symbol);
+        if is_number_of(&self.kernels, number, items) {
+            Some(number)
+        } else {
+            None
+        }
+    }
+
+    // Notes a number for the symbol.
+    pub(crate) fn note(&mut self, symbol: Symbol, number: usize)
+        ensures { self.new ≡ self.old }
+    {
+        self.hints.note(symbol, number);
     }
 
     // Adds a prefix, which goes on from that of a number by a symbol, with its items, which are new.

@@ -9,6 +9,7 @@ mod advance;
 mod close;
 mod compare;
 mod found;
+mod hints;
 mod kernels;
 mod lookaheads;
 mod looks;

@@ -1,6 +1,6 @@
 //! Sets of terminals for the items of each kernel.
 
-ghost use Rattle.std.specs.Prelude.{◌≡◌, ◌<◌, ◌↔◌, ℕ, List, Bool, IsTrue, true, false, IfOk, Some, length, Contains, slice_get, slice_index_or, slice_set};
+ghost use Rattle.std.specs.Prelude.{◌≡◌, ◌<◌, ◌↔◌, List, Bool, IsTrue, true, false, IfOk, Some, length, Contains, slice_get, slice_set};
 ghost use Rattle.wb_termset.specs.Sets.{Has, IsUnion, Grew};
 ghost use Rattle.wb_grammars.specs.declared.item.Item.{Item};
 ghost use Rattle.wb_items.specs.declared.looks.Looks.{Looks};

@@ -1,6 +1,6 @@
 //! The items of one kernel, each with a set of terminals.
 
-ghost use Rattle.std.specs.Prelude.{◌≡◌, ◌<◌, ◌↔◌, ℕ, List, Bool, IsTrue, true, false, IfOk, Some, length, All, Contains, replicate, map, slice_get, slice_set};
+ghost use Rattle.std.specs.Prelude.{◌≡◌, ◌<◌, ◌↔◌, List, Bool, IsTrue, true, false, IfOk, Some, length, All, Contains, slice_get, slice_set};
 ghost use Rattle.wb_termset.specs.Sets.{Has, IsEmpty, IsUnion, Grew};
 ghost use Rattle.wb_grammars.specs.declared.item.Item.{Item};
 ghost use Rattle.wb_items.specs.declared.looks.Looks.{Looks};

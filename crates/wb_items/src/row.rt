@@ -1,6 +1,6 @@
 //! The moves from a kernel.
 
-ghost use Rattle.std.specs.Prelude.{◌≡◌, ◌<◌, ℕ, List, IfOk, IfSome, IfNone, OnOk, Contains, length, Some, slice_get};
+ghost use Rattle.std.specs.Prelude.{◌≡◌, ◌<◌, ℕ, IfSome, IfNone, Contains, length, Some, slice_get};
 ghost use Rattle.std.specs.Ordering.{MatchOrdering};
 ghost use Rattle.wb_base.specs.declared.symbol.Symbol.{Symbol};
 ghost use Rattle.wb_items.specs.Order.{SymbolPrecedes};

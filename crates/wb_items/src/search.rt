@@ -1,7 +1,8 @@
 //! Looking for a kernel with the same items, by halves.
 
-ghost use Rattle.std.specs.Prelude.{◌≡◌, ◌<◌, List, IfOk, IfErr, Some, length, slice_get};
+ghost use Rattle.std.specs.Prelude.{◌≡◌, ◌<◌, List, IfOk, IfErr, IsTrue, Some, length, slice_get};
 ghost use Rattle.wb_grammars.specs.declared.item.Item.{Item};
+ghost use Rattle.wb_items.specs.Kernels.{AreInOrder};
 ghost use Rattle.wb_items.specs.Order.{IsIndex, LiesWithin};
 ghost use Rattle.wb_items.specs.Table.{SameItems};
 
@@ -32,6 +33,20 @@ pub(crate) fn locate(
         }
     }
     Err(low)
+}
+
+// Whether the kernel of this number has these items.
+pub(crate) fn is_number_of(kernels: &[Sequence<Item>], number: usize, items: &[Item]) -> bool
+    requires { (kernel : List Item) → slice_get kernels.now number ≡ Some kernel → AreInOrder kernel }
+    ensures { IsTrue result → (kernel : List Item) × (slice_get kernels.now number ≡ Some kernel) × SameItems kernel items.now }
+{
+    if number >= kernels.len() {
+        return false;
+    }
+    match compare(items_at(kernels, number), items) {
+        Ordering::Equal => true,
+        _ => false,
+    }
 }
 
 // The number at a place.

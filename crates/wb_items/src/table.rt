@@ -1,16 +1,16 @@
 //! All kernels of a grammar, found by following each symbol from each.
 
-ghost use Rattle.std.specs.Prelude.{◌≡◌, ◌<◌, ◌≤◌, ◌+◌, ◌++◌, ◌∷◌, [], ℕ, List, IfOk, OnOk, Contains, Some, length, slice_get, vec_len};
+ghost use Rattle.std.specs.Prelude.{◌≡◌, ◌<◌, ◌≤◌, ◌+◌, ◌++◌, ◌∷◌, [], List, IfOk, OnOk, Some, length, slice_get, vec_len};
 ghost use Rattle.wb_base.specs.declared.symbol.Symbol.{Symbol};
 ghost use Rattle.wb_grammars.specs.declared.item.Item.{Item};
-ghost use Rattle.wb_grammars.specs.Items.{after_dot, start_item};
+ghost use Rattle.wb_grammars.specs.Items.{start_item};
 ghost use Rattle.wb_grammars.specs.Shape.{IsLive};
-ghost use Rattle.wb_items.specs.Kernels.{AreInOrder, ListsItems};
+ghost use Rattle.wb_items.specs.Kernels.{ListsItems};
 ghost use Rattle.wb_items.specs.declared.row.Move.{Move};
 ghost use Rattle.wb_items.specs.declared.advance.Advance.{Advance};
 ghost use Rattle.wb_items.specs.Advances.{AreAdvancesRising};
 ghost use Rattle.wb_items.specs.Passes.{MovesUpTo};
-ghost use Rattle.wb_items.specs.Table.{AreKernelsOf, AreFollowed, AreMoves, AreRules, Grows, IsKernelFor, IsRow, IsTable, Leads};
+ghost use Rattle.wb_items.specs.Table.{AreKernelsOf, AreFollowed, AreRules, Grows, IsKernelFor, IsRow, IsTable, Leads};
 
 use crate::advance::{Advance, advances, symbol_at};
 use crate::close::close;
@@ -37,7 +37,7 @@ pub(crate) fn build_table(alloc: Global, grammar: &Grammar) -> Result<Table, All
 {
     let rules = production_numbers(alloc, grammar)?;
     let mut table = Table {
-        found: Found::new(alloc, first_kernel(alloc, grammar)?)?,
+        found: Found::new(alloc, grammar, first_kernel(alloc, grammar)?)?,
         closures: Vec::new(alloc),
         rows: Vec::new(alloc),
     };
@@ -145,6 +145,30 @@ fn add_move(
 
 // The number of the kernel that a symbol leads to, which is added where it is new.
 fn number_of(
+    grammar: &Grammar,
+    state: usize,
+    symbol: Symbol,
+    kernel: Sequence<Item>,
+    found: &mut Found,
+) -> Result<usize, AllocError>
+    requires live { IsLive grammar.now }
+    requires state { state < length found.old.kernels }
+    requires kernel { (prefix : List Symbol) → slice_get found.old.prefixes state ≡ Some prefix → IsKernelFor grammar.now (prefix ++ symbol ∷ []) kernel }
+    requires kernels { AreKernelsOf grammar.now found.old.prefixes found.old.kernels }
+    ensures kernels { OnOk result (AreKernelsOf grammar.now found.new.prefixes found.new.kernels) }
+    ensures grows { OnOk result (Grows found.old found.new) }
+    ensures leads { IfOk result (Leads grammar.now found.new.prefixes state symbol) }
+{
+    if let Some(next) = found.recall(symbol, kernel.as_slice()) {
+        return Ok(next);
+    }
+    let next = find_or_add(grammar, state, symbol, kernel, found)?;
+    found.note(symbol, next);
+    Ok(next)
+}
+
+// The same, where the symbol led to another kernel before.
+fn find_or_add(
     grammar: &Grammar,
     state: usize,
     symbol: Symbol,

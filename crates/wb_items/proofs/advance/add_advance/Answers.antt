@@ -1,4 +1,3 @@
-use Rattle.std.proofs.Common.{◌+◌}
 use Rattle.wb_items.proofs.AdvanceLemmas.{advances_pass, advances_take}
 use Rattle.wb_items.proofs.advance.add_advance.Goals as goal
 

@@ -1,9 +1,5 @@
-use Rattle.std.proofs.Common.{◌≡◌, ◌<◌, ◌≤◌, ◌+◌, ◌-◌, ◌++◌, ◌∷◌, [], ℕ, List, Some, length, map, set, true, false, sym, ◌∙◌, ap, subst, arith}
-use Rattle.std.specs.Prelude.{slice_get, slice_index_or, Contains}
+use Rattle.std.proofs.Common.{◌-◌, sym, ◌∙◌, arith}
 use Rattle.std.proofs.lemmas.Bool.{true≢false}
-use Rattle.std.proofs.lemmas.Option.{slice_get_within}
-use Rattle.wb_base.specs.declared.symbol.Symbol.{Symbol}
-use Rattle.wb_grammars.specs.declared.item.Item.{Item}
 use Rattle.wb_items.proofs.ListLemmas.{at_once}
 use Rattle.wb_items.proofs.OrderLemmas.{strict_pass_at, strict_take_at}
 use Rattle.wb_items.proofs.close.add_item.Goals as goal

@@ -1,4 +1,4 @@
-use Rattle.std.proofs.Common.{◌-◌, ◌^◌, ◌≤◌, length}
+use Rattle.std.proofs.Common.{◌-◌, ◌^◌}
 use Rattle.wb_items.specs.Closing.{IsClosing}
 use Rattle.wb_items.proofs.close.close.Given as goal
 

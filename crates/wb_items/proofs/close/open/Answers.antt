@@ -1,14 +1,9 @@
-use Rattle.std.proofs.Common.{◌≡◌, ◌<◌, ◌≤◌, ◌+◌, ◌-◌, ◌++◌, ◌∷◌, [], ℕ, List, Some, length, map, set, true, false, sym, ◌∙◌, ap, subst, arith}
-use Rattle.std.specs.Prelude.{slice_get, slice_index_or, Contains}
+use Rattle.std.proofs.Common.{◌≡◌, ◌∷◌, Some, sym, ◌∙◌, subst, arith}
+use Rattle.std.specs.Prelude.{slice_get}
 use Rattle.std.proofs.lemmas.Bool.{true≢false}
-use Rattle.std.proofs.lemmas.Option.{slice_get_within}
-use Rattle.wb_base.specs.declared.symbol.Symbol.{Symbol}
 use Rattle.wb_grammars.specs.declared.item.Item.{Item}
 use Rattle.wb_base.specs.declared.symbol.Symbol.TheVariants.{Nonterminal}
-use Rattle.wb_termset.specs.Sets.{Has}
-use Rattle.wb_termset.proofs.CallerLemmas.{has_or_not}
 use Rattle.wb_grammars.specs.Items.{after_dot}
-use Rattle.wb_items.specs.Closing.{IsClosing}
 use Rattle.wb_items.proofs.ClosingLemmas.{closing_pass, closing_more, closing_known}
 use Rattle.wb_items.proofs.close.open.Goals as goal
 

@@ -1,5 +1,4 @@
 use Rattle.std.proofs.Common.{◌-◌}
-use Rattle.wb_grammars.specs.declared.item.Item.{Item}
 use Rattle.wb_items.specs.Kernels.{Precedes}
 use Rattle.wb_items.specs.Lookaheads.{items_in}
 use Rattle.wb_items.proofs.HalvesLemmas.{LiesBetween}

@@ -1,4 +1,4 @@
-use Rattle.std.proofs.Common.{◌≡◌, ℕ, List, [], replicate, length}
+use Rattle.std.proofs.Common.{◌≡◌, [], replicate}
 use Rattle.wb_items.proofs.rules.empty_rows.Given as goal
 
 abbrev pub invariant-rows : goal.invariant-rows

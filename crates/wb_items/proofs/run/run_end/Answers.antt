@@ -1,4 +1,4 @@
-use Rattle.std.proofs.Common.{◌≡◌, ◌∙◌, length, refl, sym, arith}
+use Rattle.std.proofs.Common.{◌∙◌, length, refl, sym, arith}
 use Rattle.std.proofs.lemmas.Bool.{true≢false}
 use Rattle.wb_items.proofs.ListLemmas.{at_some}
 use Rattle.wb_items.proofs.SymbolOrder.{run_ends, run_all}

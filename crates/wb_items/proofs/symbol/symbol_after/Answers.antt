@@ -1,4 +1,4 @@
-use Rattle.std.proofs.Common.{◌≡◌, sym, ◌∙◌, ap, arith, [], ◌∷◌, length}
+use Rattle.std.proofs.Common.{sym, ◌∙◌, ap, arith, [], ◌∷◌}
 use Rattle.wb_base.specs.declared.symbol.Symbol.TheVariants.{Nonterminal}
 use Rattle.wb_items.proofs.SymbolLemmas.{symbol_some, symbol_past, symbol_last, symbol_end, symbol_none}
 use Rattle.wb_items.proofs.symbol.symbol_after.Goals as goal

@@ -1,6 +1,5 @@
-use Rattle.std.proofs.Common.{sym, subst, arith}
+use Rattle.std.proofs.Common.{sym, subst}
 use Rattle.std.specs.Prelude.{Contains, ◌↔◌}
-use Rattle.std.specs.List.{between}
 use Rattle.wb_grammars.specs.declared.item.Item.{Item}
 use Rattle.wb_items.specs.Advances.{items_of}
 use Rattle.wb_items.specs.Passes.{AreRising}

@@ -1,5 +1,5 @@
 use Rattle.std.proofs.Common.{◌-◌, ◌^◌, ◌≤◌, length}
-use Rattle.wb_items.specs.Table.{AreKernelsOf, AreFollowed, AreRules}
+use Rattle.wb_items.specs.Table.{AreKernelsOf, AreFollowed}
 use Rattle.wb_items.proofs.table.build_table.Given as goal
 
 abbrev pub invariant-states : goal.invariant-states

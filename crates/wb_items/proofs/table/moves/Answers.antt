@@ -1,4 +1,4 @@
-use Rattle.std.proofs.Common.{◌≡◌, ◌≤◌, List, length, arith, subst, sym}
+use Rattle.std.proofs.Common.{◌≤◌, List, length, arith, subst, sym}
 use Rattle.wb_items.specs.declared.advance.Advance.{Advance}
 use Rattle.wb_items.specs.Advances.{AreAdvancesRising}
 use Rattle.wb_items.specs.Passes.{MovesUpTo}

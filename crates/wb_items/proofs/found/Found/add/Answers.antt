@@ -1,9 +1,8 @@
 use Rattle.std.proofs.Common.{◌≡◌, ◌<◌, ◌++◌, ◌∷◌, [], List, Some, length, sym, ◌∙◌, ap, subst, arith}
-use Rattle.std.specs.Prelude.{slice_get, slice_index_or}
-use Rattle.wb_base.specs.declared.symbol.Symbol.{Symbol}
+use Rattle.std.specs.Prelude.{slice_get}
 use Rattle.wb_grammars.specs.declared.item.Item.{Item}
 use Rattle.wb_items.specs.declared.found.Step.{Step}
-use Rattle.wb_items.specs.Found.{FoundState, prefixes_of}
+use Rattle.wb_items.specs.Found.{FoundState}
 use Rattle.wb_items.specs.Order.{LiesWithin}
 use Rattle.wb_items.specs.Table.{SameItems}
 use Rattle.wb_items.proofs.FoundLemmas.{added, found_more}

@@ -1,5 +1,4 @@
-use Rattle.std.proofs.Common.{◌≡◌, length, sym, ◌∙◌, subst, arith}
-use Rattle.wb_items.specs.Found.{FoundState}
+use Rattle.std.proofs.Common.{arith}
 use Rattle.wb_items.proofs.FoundLemmas.{shown_len}
 use Rattle.wb_items.proofs.found.Found.len.Goals as goal
 

@@ -1,5 +1,5 @@
-use Rattle.std.proofs.Common.{◌≡◌, ◌<◌, ◌+◌, ◌-◌, ◌++◌, ◌∷◌, [], length, reverse, sym, ◌∙◌, ap, subst, arith, Some}
-use Rattle.std.specs.Prelude.{slice_get, slice_index_or}
+use Rattle.std.proofs.Common.{◌≡◌, ◌<◌, ◌++◌, [], length, reverse, sym, ◌∙◌, subst, arith}
+use Rattle.std.specs.Prelude.{slice_index_or}
 use Rattle.wb_items.specs.Found.{FoundState}
 use Rattle.wb_items.proofs.FoundLemmas.{walked, arrived}
 use Rattle.wb_items.proofs.found.Found.prefix.Goals as goal

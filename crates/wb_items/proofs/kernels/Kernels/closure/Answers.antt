@@ -1,8 +1,7 @@
-use Rattle.std.proofs.Common.{◌≡◌, ◌<◌, length, sym, ◌∙◌, ap, subst, arith, Some, List, [], ◌∷◌}
-use Rattle.std.specs.Prelude.{slice_get, slice_index_or, IfSome, IfNone, IsNone, ◌↔◌}
-use Rattle.wb_items.specs.Kernels.{KernelsState, AreKernels, AreInOrder, ListsKernel, ListsItems, HasNoneBefore, LeadsTo, count_of, prefix_of, closure_of}
+use Rattle.std.proofs.Common.{◌≡◌, ◌<◌, sym, ◌∙◌, subst, arith, []}
+use Rattle.std.specs.Prelude.{slice_index_or}
+use Rattle.wb_items.specs.Kernels.{KernelsState, AreInOrder, ListsItems, count_of, prefix_of}
 use Rattle.wb_items.proofs.KernelsLemmas.{closure_is, closure_sorted}
-use Rattle.wb_grammars.specs.declared.item.Item.{Item}
 use Rattle.wb_items.proofs.ListLemmas.{at_default, default_at}
 use Rattle.wb_items.proofs.kernels.Kernels.closure.Goals as goal
 

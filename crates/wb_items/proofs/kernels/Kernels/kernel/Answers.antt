@@ -1,6 +1,5 @@
-use Rattle.std.proofs.Common.{◌≡◌, ◌<◌, length, sym, ◌∙◌, ap, subst, arith, Some, List, [], ◌∷◌}
-use Rattle.std.specs.Prelude.{slice_get, slice_index_or, IfSome, IfNone, IsNone, ◌↔◌}
-use Rattle.wb_items.specs.Kernels.{KernelsState, AreKernels, AreInOrder, ListsKernel, ListsItems, HasNoneBefore, LeadsTo, count_of, prefix_of, closure_of}
+use Rattle.std.proofs.Common.{◌<◌, sym, subst}
+use Rattle.wb_items.specs.Kernels.{KernelsState, ListsKernel, count_of, prefix_of}
 use Rattle.wb_items.proofs.KernelsLemmas.{kernel_is}
 use Rattle.wb_items.proofs.kernels.Kernels.kernel.Goals as goal
 

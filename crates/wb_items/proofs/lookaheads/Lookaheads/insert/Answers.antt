@@ -1,9 +1,3 @@
-use Rattle.std.proofs.Common.{◌≡◌, ◌<◌, ◌≤◌, ◌+◌, ◌-◌, ◌++◌, ◌∷◌, [], ℕ, List, Some, length, map, set, replicate, true, false, sym, ◌∙◌, ap, subst, arith, length-append}
-use Rattle.std.specs.Prelude.{slice_get, slice_index_or, Contains}
-use Rattle.std.proofs.lemmas.Bool.{true≢false}
-use Rattle.std.proofs.lemmas.Option.{slice_get_within}
-use Rattle.wb_base.specs.declared.symbol.Symbol.{Symbol}
-use Rattle.wb_grammars.specs.declared.item.Item.{Item}
 use Rattle.wb_items.proofs.LooksLemmas.{item_there}
 use Rattle.wb_items.specs.Lookaheads.{row_of}
 use Rattle.wb_items.proofs.lookaheads.Lookaheads.insert.Goals as goal

@@ -1,4 +1,4 @@
-use Rattle.std.proofs.Common.{◌≡◌, ◌<◌, length, arith, ◌∙◌}
+use Rattle.std.proofs.Common.{◌<◌, length, arith, ◌∙◌}
 use Rattle.wb_items.proofs.LooksLemmas.{looks_row}
 use Rattle.wb_items.proofs.lookaheads.Lookaheads.new.Goals as goal
 

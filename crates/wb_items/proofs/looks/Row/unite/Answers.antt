@@ -1,5 +1,5 @@
 use Rattle.std.proofs.Common.{◌≡◌, ◌<◌, ◌∙◌, List, Bool, Some, length, refl, sym, ap, subst}
-use Rattle.std.specs.Prelude.{slice_get, slice_index_or, slice_set, IsTrue}
+use Rattle.std.specs.Prelude.{slice_get, slice_set, IsTrue}
 use Rattle.std.proofs.lemmas.Option.{slice_get-get_or}
 use Rattle.wb_termset.specs.Sets.{IsUnion, Grew}
 use Rattle.wb_items.specs.declared.looks.Looks.{Looks}
