@@ -14,5 +14,5 @@ is_stable contents text spec bytes accepted canonical =
     let back = reads_back spec (contents, bytes, accepted.1) text canonical in
     record {
       short = λ short. (back.other, (short, back.read), back.same, canonical_again spec text canonical back.other back.same);
-      long = λ long. let more : HasCause text TooLong = omega (arith, long) in (more, λ refusal cause known. one_refusal text refusal TooLong cause more known (λ none. none))
+      long = λ long. let more : HasCause text TooLong = omega (arith, long) in (more, λ refusal cause known. one_refusal text refusal TooLong cause more known (λ none. none));
     }
