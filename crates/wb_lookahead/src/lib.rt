@@ -16,6 +16,8 @@ mod parts;
 mod pass;
 mod plain;
 mod rows;
+#[cfg(test)]
+mod set_tests;
 mod spread;
 #[cfg(test)]
 mod table_tests;

@@ -1,0 +1,62 @@
+//! A terminal in the set at one item.
+
+ghost use Rattle.std.specs.Prelude.{◌≡◌, ◌<◌, All, Contains, length};
+ghost use Rattle.wb_items.specs.Lookaheads.{items_in, row_of};
+
+use std::alloc::{AllocError, Global};
+use std::test::Fail;
+use wb_base::{Grammar, Symbol};
+use wb_grammar::analyse;
+use wb_items::{Item, Kernels, Lookaheads, Looks};
+
+// Whether the terminal is in the set at the item and in no other of the row.
+fn is_only_at(row: &[Looks], item: Item, terminal: usize) -> bool {
+    for looks in row {
+        let has = terminal < looks.set.count() && looks.set.contains(terminal);
+        if has != (looks.item == item) {
+            return false;
+        }
+    }
+    true
+}
+
+// Whether the terminal was new in the set at the item, and is then there and nowhere else.
+fn takes(lookaheads: &mut Lookaheads, state: usize, item: Item, terminal: usize) -> bool
+    requires state { state < length lookaheads.old }
+    requires item { Contains (items_in (row_of lookaheads.old state)) item }
+    requires wide { All (λ looks. terminal < length looks.set) (row_of lookaheads.old state) }
+{
+    lookaheads.insert(state, item, terminal) && is_only_at(lookaheads.row(state), item, terminal)
+}
+
+// Whether the set at the first item of the first kernel takes the end of a text.
+fn takes_the_end(alloc: Global, grammar: &Grammar, kernels: &Kernels) -> Result<bool, AllocError>
+    requires { kernels.now.grammar ≡ grammar.now }
+{
+    if kernels.count() == 0 {
+        return Ok(false);
+    }
+    let Some(&item) = kernels.closure(0).first() else {
+        return Ok(false);
+    };
+    let mut lookaheads = Lookaheads::new(alloc, grammar, kernels)?;
+    Ok(takes(&mut lookaheads, 0, item, grammar.terminals()))
+}
+
+// A -> , A -> A t0
+fn is_taken(alloc: Global) -> Result<bool, AllocError> {
+    let mut grammar = Grammar::new(alloc, 1, 1, 0);
+    grammar.add(0, &[])?;
+    grammar.add(0, &[Symbol::Nonterminal(0), Symbol::Terminal(0)])?;
+    let Ok(facts) = analyse(alloc, &grammar) else {
+        return Ok(false);
+    };
+    let kernels = Kernels::build(alloc, &grammar, &facts)?;
+    takes_the_end(alloc, &grammar, &kernels)
+}
+
+#[test]
+fn a_set_takes_a_terminal_for_one_item(rt: HostRuntime) -> Result<(), Fail> {
+    assert!(rt; is_taken(rt.alloc())?);
+    Ok(())
+}
