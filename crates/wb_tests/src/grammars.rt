@@ -41,7 +41,7 @@ pub static SYMBOLS: [Symbol; 8] = [
 ];
 
 /// A -> B t1 C, A -> C, B -> t0 C, B -> t2, C -> B
-pub fn pointers(alloc: Global) -> Result<Grammar, AllocError> {
+pub(crate) fn pointers(alloc: Global) -> Result<Grammar, AllocError> {
     let mut grammar = Grammar::new(alloc, 3, 3, 0);
     grammar.add(0, &[B, T1, C])?;
     grammar.add(0, &[C])?;
@@ -127,7 +127,7 @@ pub static NOT_POINTERS: [&[Place]; 7] = [
 ];
 
 /// A -> t0 t1, A -> t1
-pub fn words(alloc: Global) -> Result<Grammar, AllocError> {
+pub(crate) fn words(alloc: Global) -> Result<Grammar, AllocError> {
     let mut grammar = Grammar::new(alloc, 2, 1, 0);
     grammar.add(0, &[T0, T1])?;
     grammar.add(0, &[T1])?;
@@ -172,7 +172,7 @@ pub static WORDS: [Row; 5] = [
 pub static NOT_WORDS: [&[Place]; 4] = [&[], &[(1, 0)], &[(0, 1), (1, 1)], &[(3, 0)]];
 
 /// A -> , A -> A t0
-pub fn list(alloc: Global) -> Result<Grammar, AllocError> {
+pub(crate) fn list(alloc: Global) -> Result<Grammar, AllocError> {
     let mut grammar = Grammar::new(alloc, 1, 1, 0);
     grammar.add(0, &[])?;
     grammar.add(0, &[A, T0])?;
@@ -205,7 +205,7 @@ pub static LIST: [Row; 3] = [
 pub static NOT_LIST: [&[Place]; 5] = [&[], &[(0, 0)], &[(1, 1)], &[(2, 1)], &[(0, 0), (2, 0)]];
 
 /// A -> A t1 B, A -> B, B -> t0
-pub fn sums(alloc: Global) -> Result<Grammar, AllocError> {
+pub(crate) fn sums(alloc: Global) -> Result<Grammar, AllocError> {
     let mut grammar = Grammar::new(alloc, 2, 2, 0);
     grammar.add(0, &[A, T1, B])?;
     grammar.add(0, &[B])?;
