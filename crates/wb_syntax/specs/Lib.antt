@@ -1,6 +1,7 @@
 pub mod Canonical
 pub mod Expression
 pub mod ExpressionGrammar
+pub mod Groups
 pub mod ItemGrammar
 pub mod Offsets
 pub mod PartGrammar

@@ -4,6 +4,8 @@
 //! are in `wb_reader`. What the names stand for is no matter of this crate.
 #![tactic(auto)]
 
+mod copy;
+mod copy_item;
 mod expression;
 mod item;
 mod pattern;

@@ -2,6 +2,7 @@ ghost use Rattle.std.specs.Prelude.{◌≡◌, IfOk};
 ghost use Rattle.wb_syntax.specs.SpecText.{HasText};
 
 use crate::Item;
+use crate::copy_item::copy_items;
 use std::alloc::{AllocError, Global};
 use std::marker::Model;
 use wb_base::{Bytes, Sequence};
@@ -91,5 +92,19 @@ impl Spec {
         ensures text { HasText self.now }
     {
         self.items.as_slice()
+    }
+
+    /// An equal specification. The only error is want of memory.
+    pub fn copy(&self) -> Result<Spec, AllocError>
+        ensures { IfOk result (λ made. made ≡ self.now) }
+    {
+        Ok(Spec {
+            alloc: self.alloc,
+            format: self.format,
+            host: self.host,
+            name: self.name.copy()?,
+            for_host: self.for_host.copy()?,
+            items: copy_items(self.alloc, self.items.as_slice())?,
+        })
     }
 }
