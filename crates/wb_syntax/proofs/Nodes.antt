@@ -1,6 +1,6 @@
 -- How many nodes expressions have, and where they stand behind others.
-use Rattle.std.proofs.Common.{◌≡◌, ◌+◌, ◌-◌, ℕ, suc, List, [], ◌∷◌, ◌++◌, refl, sym, ap, ◌∙◌, length, arith}
-use Rattle.std.proofs.lemmas.List.{append_assoc, append-nil, length-append}
+use Rattle.std.proofs.Common.{◌≡◌, ◌+◌, ◌-◌, ℕ, List, [], ◌∷◌, ◌++◌, refl, length, arith}
+use Rattle.std.proofs.lemmas.List.{length-append}
 use Rattle.wb_syntax.specs.declared.expression.Node.{Node}
 use Rattle.wb_syntax.specs.declared.expression.Node.TheVariants as n
 use Rattle.wb_syntax.specs.Expression.{Expression, Expressions, Int, Text, Truth, Label, Read, Lexeme, Top, Forward, Build, Call, If, none, more, size, size_of_all, nodes_from, all_nodes_from, places_from}

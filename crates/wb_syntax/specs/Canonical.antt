@@ -1,10 +1,8 @@
 -- The canonical text of a specification.
 use Rattle.std.specs.Prelude.{◌≡◌, ℕ, ◌||◌, Bool, true, false, List, [], ◌∷◌, ◌++◌, map, codes, if◌then◌else◌}
 use Rattle.std.specs.Fmt.{signed_decimal}
-use Rattle.wb_predictive.specs.declared.table.Placed.{Placed}
 use Rattle.wb_tokens.specs.declared.token.Token.{Token}
 use Rattle.wb_tokens.specs.declared.token.Token.TheVariants as t
-use Rattle.wb_tokens.specs.declared.punctuation.Punctuation.{Punctuation}
 use Rattle.wb_tokens.specs.declared.punctuation.Punctuation.TheVariants as p
 use Rattle.wb_tokens.specs.Words.{word_text, punctuation_text}
 use Rattle.wb_tokens.specs.Printing.{printed_text}

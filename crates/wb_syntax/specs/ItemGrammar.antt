@@ -5,7 +5,6 @@ use Rattle.wb_tokens.specs.declared.punctuation.Punctuation.TheVariants as p
 use Rattle.wb_syntax.specs.declared.item.NamedKind.{NamedKind}
 use Rattle.wb_syntax.specs.declared.item.Child.{Child}
 use Rattle.wb_syntax.specs.declared.item.Production.{Production}
-use Rattle.wb_syntax.specs.declared.item.Item.{Item}
 use Rattle.wb_syntax.specs.declared.item.Item.TheVariants as i
 use Rattle.wb_syntax.specs.declared.pattern.Role.{Role}
 use Rattle.wb_syntax.specs.declared.pattern.Role.TheVariants as r
