@@ -49,7 +49,7 @@ HasNoneBefore g prefix x = (item : Item) (rest : List Symbol) → HasItem g pref
 abbrev pub LeadsTo : KernelsState → ℕ → Symbol → ℕ → Type 0
 LeadsTo kernels s x next = IsNext kernels.grammar (count_of kernels) (prefix_of kernels) s x next
 
--- the kernels of the grammar's prefixes, each once, that of the empty prefix first, each with its items in order; and some terminal begins what stands behind any dot
+-- the kernels of the grammar's prefixes, each once, that of the empty prefix first, each with its items in order; and some terminal begins what stands behind the symbol behind any dot, with a terminal behind that
 pub record AreKernels (kernels : KernelsState) : Type 0 where
   pub live : IsLive kernels.grammar
   pub states : AreStates kernels.grammar (count_of kernels) (prefix_of kernels) (LeadsTo kernels)

@@ -31,7 +31,7 @@ pub record Inserts (old : List (List Looks)) (s : ℕ) (item : Item) (terminal :
   pub after : new ≡ slice_set old s (slice_set (row_of old s) place (record looks { set = slice_set looks.set terminal true }))
   pub was_new : IsTrue answer ↔ (¬ Has looks.set terminal)
 
--- the items are those of the kernels, place by place, and each set has room for the terminals and the end of a text
+-- the items are those of the kernels' closures, place by place, and each set has room for the terminals and the end of a text
 pub record AreLookaheadsOf (kernels : KernelsState) (lookaheads : List (List Looks)) : Type 0 where
   pub items : map items_in lookaheads ≡ kernels.closures
   pub widths : All (All (λ looks. length looks.set ≡ kernels.grammar.terminals + 1)) lookaheads

@@ -14,7 +14,7 @@ use wb_base::{Grammar, push};
 use wb_grammars::Item;
 use wb_termset::TermSet;
 
-/// A set of terminals for each kernel and each of its items.
+/// A set of terminals for each kernel and each item of its closure.
 ///
 /// Kernels have their numbers, and the place of an item is that in the kernel's closure. A set is one of numbers up to the number
 /// of terminals, which stands for the end of a text. Contracts see for each kernel the list of its items with their sets.
@@ -53,7 +53,7 @@ impl Lookaheads {
         Ok(Lookaheads { rows })
     }
 
-    /// The items of a kernel with their sets, in the order of the kernel's closure. Takes no memory.
+    /// The items of a kernel's closure with their sets, in order. Takes no memory.
     pub fn row(&self, state: usize) -> &[Looks]
         requires { state < length self.now }
         ensures { result.now ≡ row_of self.now state }

@@ -62,7 +62,7 @@ pub record AddsItem (kernels : KernelsState) (s : ℕ) (item : Item) (old new : 
   pub keeps : Keeps old new
   pub takes : (t : ℕ) (action : Action) → Asks kernels s item t action → action_in new t ≡ action
 
--- the actions stand for which the items at the first places ask, and no others
+-- the actions for which the items at the first places ask are there, and each action there stands
 pub record RowUpTo (kernels : KernelsState) (s : ℕ) (row : List Action) (n : ℕ) : Type 0 where
   pub sound : IsSoundRow kernels s row
   pub complete : (j t : ℕ) (item : Item) (action : Action) → j < n → slice_get (closure_of kernels s) j ≡ Some item → Asks kernels s item t action → action_in row t ≡ action

@@ -5,7 +5,7 @@ use Rattle.wb_termset.specs.Sets.{IsUnion, Grew}
 use Rattle.wb_items.specs.declared.looks.Looks.{Looks}
 use Rattle.wb_items.specs.Lookaheads.{items_in, row_of}
 
--- the members were added to the set at the place of the row, and nothing else changed; the answer says whether one was new
+-- the members were added to the set at the place of the row, and nothing else changed; where the answer says so, one was new
 pub record UnitesIn (old : List Looks) (place : ℕ) (added : List Bool) (answer : Bool) (new : List Looks) : Type 0 where
   pub looks : Looks
   pub union : List Bool
@@ -14,7 +14,7 @@ pub record UnitesIn (old : List Looks) (place : ℕ) (added : List Bool) (answer
   pub is : new ≡ slice_set old place (record looks { set = union })
   pub grew : answer ≡ true → Grew looks.set union
 
--- the members were added to the set at the item of the kernel, and nothing else changed
+-- the members were added to the set at the item of the kernel, and nothing else changed; the answer says whether one was new
 pub record Unites (old : List (List Looks)) (s : ℕ) (item : Item) (added : List Bool) (answer : Bool) (new : List (List Looks)) : Type 0 where
   pub place : ℕ
   pub row : List Looks

@@ -26,7 +26,7 @@ pub enum TableRefusal {
         first: Action,
         second: Action,
     },
-    /// There was no memory to tell.
+    /// There was no memory to tell, or a number is too large for a table.
     NoMemory(AllocError),
 }
 

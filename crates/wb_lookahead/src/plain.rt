@@ -16,7 +16,7 @@ use wb_grammar::Facts;
 use wb_items::{Item, Kernels, Lookaheads, production_numbers};
 use wb_termset::TermSet;
 
-/// The lookaheads of every item of every kernel. The only error is want of memory.
+/// The lookaheads of every item of every kernel's closure. The only error is want of memory.
 ///
 /// Prefixes with the same kernel share their lookaheads: these are the sets of the merged kernels. The sets are found by passing
 /// on, from each item whose set grew and in the order in which they grew, what flows from there to other items. No clause bounds the time.

@@ -45,7 +45,8 @@ fn write_items(alloc: Global, line: &mut Line, items: &[Item]) -> Result<(), All
 
 /// The canonical text of a specification. The only error is want of memory.
 ///
-/// The text reads back as the same specification but for places, and is the canonical text of each such specification. An absent
+/// The text reads back as the same specification but for places, where it isn't too long for a file, and is the canonical text of
+/// each such specification. An absent
 /// `needs` stays absent, and a regular expression keeps its bytes. No clause bounds the work: it is linear in the text, and nothing
 /// recurses.
 pub fn print_spec(alloc: Global, spec: &Spec) -> Result<Vec<u8>, AllocError>
