@@ -1,0 +1,4 @@
+//! Tests of the libraries that know no format: each public call with ample memory, on values from outside.
+//!
+//! Tests of texts and of the program are in `wb_tests`. No crate below these two has tests, since a crate with tests is proved twice.
+#![tactic(auto)]
