@@ -1,0 +1,9 @@
+pub mod Booleans
+pub mod Digits
+pub mod Elements
+pub mod Members
+pub mod Numbers
+pub mod Parts
+pub mod Places
+pub mod Refusals
+pub mod Zips
