@@ -3,7 +3,7 @@ use Rattle.std.proofs.Common.{◌≡◌, ◌<◌, ℕ, List, All, length, get_or
 use Rattle.std.proofs.lemmas.List.Elements.{All-get_or}
 use Rattle.std.proofs.lemmas.List.{get_or-map, length-map}
 use Rattle.wb_base.specs.declared.grammar.Production.{Production}
-use Rattle.wb_base.specs.Grammar.{GrammarState, IsProductionBelow}
+use Rattle.wb_base.specs.Grammar.{GrammarView, IsProductionBelow}
 use Rattle.wb_base.specs.Productions.{plain, plain_one}
 
 -- one that stands at a place of the list
@@ -13,7 +13,7 @@ production_below terminals nonterminals productions i p within is all =
     subst (IsProductionBelow terminals nonterminals) at (All-get_or (IsProductionBelow terminals nonterminals) (plain productions) i (plain_one p) within all)
 
 -- the same, where the grammar is known by what it shows
-pub shown_below : (terminals nonterminals start : ℕ) (productions : List Production) (g : GrammarState) (i : ℕ) (p : Production) → record { terminals = terminals; nonterminals = nonterminals; start = start; productions = plain productions } ≡ g → i < length g.productions → p ≡ get_or productions i p → All (IsProductionBelow terminals nonterminals) (plain productions) → IsProductionBelow g.terminals g.nonterminals (plain_one p)
+pub shown_below : (terminals nonterminals start : ℕ) (productions : List Production) (g : GrammarView) (i : ℕ) (p : Production) → record { terminals = terminals; nonterminals = nonterminals; start = start; productions = plain productions } ≡ g → i < length g.productions → p ≡ get_or productions i p → All (IsProductionBelow terminals nonterminals) (plain productions) → IsProductionBelow g.terminals g.nonterminals (plain_one p)
 shown_below terminals nonterminals start productions g i p shown within is all =
-    let within_plain : i < length (plain productions) = subst (λ (h : GrammarState). i < length h.productions) (sym shown) within in
-    subst (λ (h : GrammarState). IsProductionBelow h.terminals h.nonterminals (plain_one p)) shown (production_below terminals nonterminals productions i p within_plain is all)
+    let within_plain : i < length (plain productions) = subst (λ (h : GrammarView). i < length h.productions) (sym shown) within in
+    subst (λ (h : GrammarView). IsProductionBelow h.terminals h.nonterminals (plain_one p)) shown (production_below terminals nonterminals productions i p within_plain is all)

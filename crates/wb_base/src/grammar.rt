@@ -1,5 +1,9 @@
-ghost use Rattle.std.specs.Prelude.{◌≡◌, ◌<◌, ◌++◌, ◌∷◌, [], All, length, IfOk, OnErr, OnOk, slice_get, IfSome};
-ghost use Rattle.wb_base.specs.Grammar.{GrammarState, IsSymbolBelow, IsGrammar};
+//! How are context-free grammars kept?
+//!
+//! Right sides of up to four symbols take no memory of their own. What a grammar derives is defined in `wb_grammars`.
+
+ghost use Rattle.std.specs.Prelude.{◌≡◌, ◌<◌, ◌+◌, ◌^◌, ◌++◌, ◌∷◌, [], All, length, IfOk, IsOk, OnErr, OnOk, slice_get, IfSome};
+ghost use Rattle.wb_base.specs.Grammar.{GrammarView, IsSymbolBelow, IsGrammar};
 ghost use Rattle.wb_base.specs.Productions.{plain};
 
 use crate::Symbol;
@@ -17,7 +21,7 @@ struct Production {
 ///
 /// Terminals are numbered from 0 to below `terminals()`, nonterminals from 0 to below `nonterminals()`, and productions from 0
 /// in the order in which they were added. Every number in a grammar is in range. The terminal number `terminals()` stands for the
-/// end of a text; it stands in no production.
+/// end of a text; it occurs in no production.
 #[derive(Drop)]
 pub struct Grammar {
     alloc: Global,
@@ -28,10 +32,10 @@ pub struct Grammar {
 }
 
 impl Model for Grammar {
-    ghost use Rattle.wb_base.specs.Grammar.{GrammarState, IsGrammar};
+    ghost use Rattle.wb_base.specs.Grammar.{GrammarView, IsGrammar};
     ghost use Rattle.wb_base.specs.Productions.{plain};
 
-    ghost Value = { GrammarState };
+    ghost Value = { GrammarView };
 
     ghost view = { λ g. record { terminals = g.terminals; nonterminals = g.nonterminals; start = g.start; productions = plain g.productions.items } };
 
@@ -53,7 +57,7 @@ impl Grammar {
         }
     }
 
-    /// Adds a production behind the others, and answers its number. The only error is want of memory.
+    /// Adds a production after the others, and answers its number. The only error is want of memory.
     pub fn add(&mut self, left: usize, right: &[Symbol]) -> Result<usize, AllocError>
         requires left { left < self.old.nonterminals }
         requires right { All (IsSymbolBelow self.old.terminals self.old.nonterminals) right.now }
@@ -72,6 +76,17 @@ impl Grammar {
         ensures { result ≡ self.now.terminals }
     {
         self.terminals
+    }
+
+    /// How many symbols a lookahead may be: the terminals and the end. The only error is that there are too many for any set.
+    pub fn lookahead_count(&self) -> Result<usize, AllocError>
+        ensures count { IfOk result (λ count. count ≡ self.now.terminals + 1) }
+        ensures some { self.now.terminals + 1 < 2 ^ 64 → IsOk result }
+    {
+        match self.terminals.checked_add(1) {
+            Some(count) => Ok(count),
+            None => Err(AllocError),
+        }
     }
 
     /// How many nonterminals there are.

@@ -1,3 +1,7 @@
+//! How are names numbered?
+//!
+//! A table of hashes finds a name in about constant time, and keeps the order in which they were added.
+
 ghost use Rattle.std.specs.Prelude.{◌≡◌, ◌<◌, ◌↔◌, IsTrue, [], length, IfOk, OnErr, IfSome, IfNone, Contains, slice_get, Some};
 ghost use Rattle.wb_base.specs.Different.{Differ};
 ghost use Rattle.wb_base.specs.Names.{AddsName};
@@ -44,7 +48,7 @@ impl Names {
         }
     }
 
-    /// Adds a name behind the others, where it isn't there yet, and answers its number. The only error is want of memory.
+    /// Adds a name after the others, where it isn't there yet, and answers its number. The only error is want of memory.
     pub fn add(&mut self, name: &[u8]) -> Result<Added, AllocError>
         ensures ok { IfOk result (λ added. AddsName self.old name.now added self.new) }
         ensures err { OnErr result (self.new ≡ self.old) }

@@ -1,5 +1,11 @@
-ghost use Rattle.std.specs.Prelude.{◌≡◌, ◌↔◌, [], IsTrue, length};
+//! How does a public field hold a list that contracts compare?
+//!
+//! A `Vec` is also its place and its room, so two with the same values differ. Lists that grow are in `wb_lists`.
 
+ghost use Rattle.std.specs.Prelude.{◌≡◌, ◌↔◌, [], IsTrue, length};
+ghost use Rattle.std.specs.List.{AllZip};
+
+use std::alloc::AllocError;
 use std::marker::Model;
 
 /// Values in order, seen by contracts as their list and nothing else.
@@ -52,5 +58,15 @@ impl<T> Sequence<T> {
         ensures { IsTrue result ↔ (self.now ≡ []) }
     {
         self.items.is_empty()
+    }
+}
+
+impl<T: Clone> Clone for Sequence<T> {
+    ghost is_clone = { λ values copy. AllZip T.is_clone values copy };
+
+    fn clone(&self) -> Result<Sequence<T>, AllocError> {
+        Ok(Sequence {
+            items: Vec::from_clones(*self.items.allocator(), &self.items)?,
+        })
     }
 }

@@ -4,7 +4,7 @@ use Rattle.std.specs.Prelude.{All, ◌↔◌}
 use Rattle.std.proofs.lemmas.List.Elements.{All-head, All-tail, All-cons, All-nil}
 use Rattle.wb_base.specs.declared.symbol.Symbol.{Symbol}
 use Rattle.wb_base.specs.declared.symbol.Symbol.TheVariants.{Terminal, Nonterminal}
-use Rattle.wb_base.specs.Grammar.{GrammarState, IsSymbolBelow}
+use Rattle.wb_base.specs.Grammar.{GrammarView, IsSymbolBelow}
 use Rattle.wb_termset.specs.Sets.{IsSubset, Grew}
 use Rattle.wb_termset.proofs.CallerLemmas.{Has-insert}
 use Rattle.wb_grammars.specs.Rules.{IsRule}
@@ -16,7 +16,7 @@ use Rattle.wb_grammar.specs.Built.{Builds, nothing, terminal, nonterminal, Holds
 use Rattle.wb_grammar.specs.Facts.{IsNullableSet}
 
 -- what a sound set holds is built
-pub built_within : (g : GrammarState) (terminals : Bool) (set : List Bool) → AreBuilt g terminals set → (w : List Symbol) → All (Holds terminals set) w → Builds g terminals w
+pub built_within : (g : GrammarView) (terminals : Bool) (set : List Bool) → AreBuilt g terminals set → (w : List Symbol) → All (Holds terminals set) w → Builds g terminals w
 built_within g terminals set sound [] all = nothing
 built_within g terminals set sound (Terminal t ∷ w) all =
     terminal t (All-head (Holds terminals set) (Terminal t) w all) (built_within g terminals set sound w (All-tail (Holds terminals set) (Terminal t) w all))
@@ -27,33 +27,33 @@ built_within g terminals set sound (Nonterminal a ∷ w) all =
     more (nonterminal p _ right rule below rest) w_built = nonterminal p a right rule below w_built
 
 -- what is built is held by a closed set
-pub within_closed : {g : GrammarState} (terminals : Bool) (set : List Bool) → ((p : ℕ) → IsClosedAt g terminals set p) → {w : List Symbol} → Builds g terminals w → All (Holds terminals set) w
+pub within_closed : {g : GrammarView} (terminals : Bool) (set : List Bool) → ((p : ℕ) → IsClosedAt g terminals set p) → {w : List Symbol} → Builds g terminals w → All (Holds terminals set) w
 within_closed terminals set closed nothing = All-nil (Holds terminals set)
 within_closed terminals set closed (terminal t passes rest) = All-cons (Holds terminals set) (Terminal t) _ passes (within_closed terminals set closed rest)
 within_closed terminals set closed (nonterminal p a right rule below rest) =
     All-cons (Holds terminals set) (Nonterminal a) _ (closed p a right rule (within_closed terminals set closed below)) (within_closed terminals set closed rest)
 
 -- a sound and closed set is that of what is built
-pub built_exact : (g : GrammarState) (terminals : Bool) (set : List Bool) → length set ≡ g.nonterminals → AreBuilt g terminals set → ((p : ℕ) → IsClosedAt g terminals set p) → IsBuiltSet g terminals set
+pub built_exact : (g : GrammarView) (terminals : Bool) (set : List Bool) → length set ≡ g.nonterminals → AreBuilt g terminals set → ((p : ℕ) → IsClosedAt g terminals set p) → IsBuiltSet g terminals set
 built_exact g terminals set len sound closed = record {
   len = len;
   each = λ a. (sound a, λ b. All-head (Holds terminals set) (Nonterminal a) [] (within_closed terminals set closed b));
 }
 
 -- a built nonterminal more
-pub built_insert : (g : GrammarState) (terminals : Bool) (flags : List Bool) (p a : ℕ) (right : List Symbol) → AreBuilt g terminals flags → IsRule g p a right → All (Holds terminals flags) right → AreBuilt g terminals (set flags a true)
+pub built_insert : (g : GrammarView) (terminals : Bool) (flags : List Bool) (p a : ℕ) (right : List Symbol) → AreBuilt g terminals flags → IsRule g p a right → All (Holds terminals flags) right → AreBuilt g terminals (set flags a true)
 built_insert g terminals flags p a right sound rule all b has = elim (Has-insert flags a b has) [
   | inl old ↦ sound b old
   | inr same ↦ rw same (nonterminal p a right rule (built_within g terminals flags sound right all) nothing)
 ]
 
 -- what is built without terminals derives the empty text
-pub built_empty : {g : GrammarState} {w : List Symbol} → Builds g false w → Derives g w []
+pub built_empty : {g : GrammarView} {w : List Symbol} → Builds g false w → Derives g w []
 built_empty nothing = done
 built_empty (terminal t passes rest) = cc
 built_empty (nonterminal p a right rule below rest) = expand p a right [] [] rule (built_empty below) (built_empty rest) refl
 
-pub empty_built : {g : GrammarState} {w x : List Symbol} → Derives g w x → x ≡ [] → Builds g false w
+pub empty_built : {g : GrammarView} {w x : List Symbol} → Derives g w x → x ≡ [] → Builds g false w
 empty_built done e = nothing
 empty_built (keep x r) e = cc
 empty_built (expand p a right u v rule r s is) e =
@@ -61,14 +61,14 @@ empty_built (expand p a right u v rule r s is) e =
     nonterminal p a right rule (empty_built r parts.0) (empty_built s parts.1)
 
 -- the set of what is built without terminals is that of the nullable nonterminals
-pub nullable_exact : (g : GrammarState) (set : List Bool) → IsBuiltSet g false set → IsNullableSet g set
+pub nullable_exact : (g : GrammarView) (set : List Bool) → IsBuiltSet g false set → IsNullableSet g set
 nullable_exact g set is = record {
   len = is.len;
   each = λ a. (λ has. built_empty ((is.each a).0 has), λ r. (is.each a).1 (empty_built r refl));
 }
 
 -- a text that symbols derive
-record Written (g : GrammarState) (w : List Symbol) : Type 0 where
+record Written (g : GrammarView) (w : List Symbol) : Type 0 where
   text : List Symbol
   derived : Derives g w text
   is_text : IsText text
@@ -77,7 +77,7 @@ text_joined : {u v : List Symbol} → IsText u → IsText v → IsText (u ++ v)
 text_joined empty h = h
 text_joined (next t g) h = next t (text_joined g h)
 
-built_written : {g : GrammarState} {w : List Symbol} → Builds g true w → Written g w
+built_written : {g : GrammarView} {w : List Symbol} → Builds g true w → Written g w
 built_written nothing = record { text = []; derived = done; is_text = empty }
 built_written (terminal t passes rest) =
     let r = built_written rest in
@@ -87,7 +87,7 @@ built_written (nonterminal p a right rule below rest) =
     let r = built_written rest in
     record { text = b.text ++ r.text; derived = expand p a right b.text r.text rule b.derived r.derived refl; is_text = text_joined b.is_text r.is_text }
 
-written_built : {g : GrammarState} {w v : List Symbol} → Derives g w v → IsText v → Builds g true w
+written_built : {g : GrammarView} {w v : List Symbol} → Derives g w v → IsText v → Builds g true w
 written_built done h = nothing
 written_built (keep (Terminal t) r) (next _ h) = terminal t refl (written_built r h)
 written_built (keep (Nonterminal a) r) h = elim h [ ]
@@ -96,17 +96,17 @@ written_built (expand p a right u v rule r s is) h =
     nonterminal p a right rule (written_built r (text_left u v both)) (written_built s (text_right u v both))
 
 -- a nonterminal is productive exactly where it is built with terminals
-pub productive_built : (g : GrammarState) (a : ℕ) → Builds g true (Nonterminal a ∷ []) ↔ IsProductive g a
+pub productive_built : (g : GrammarView) (a : ℕ) → Builds g true (Nonterminal a ∷ []) ↔ IsProductive g a
 productive_built g a = (λ b. let w = built_written b in (w.text, w.derived, w.is_text), λ (v, r, h). written_built r h)
 
 -- a pass over the productions that has come so far
-pub record Pass (g : GrammarState) (terminals : Bool) (before set : List Bool) : Type 0 where
+pub record Pass (g : GrammarView) (terminals : Bool) (before set : List Bool) : Type 0 where
   pub len : length set ≡ g.nonterminals
   pub sound : AreBuilt g terminals set
   pub keeps : IsSubset before set
 
 -- the same, with whether a nonterminal was added
-pub record Growth (g : GrammarState) (terminals : Bool) (before set : List Bool) (p : ℕ) (some : Bool) : Type 0 where
+pub record Growth (g : GrammarView) (terminals : Bool) (before set : List Bool) (p : ℕ) (some : Bool) : Type 0 where
   pub pass : Pass g terminals before set
   pub grew : some ≡ true → Grew before set
   pub closed : some ≡ false → (q : ℕ) → q < p → IsClosedAt g terminals set q

@@ -5,7 +5,7 @@ use Rattle.std.proofs.lemmas.List.Elements.{All-head, All-tail, All-cons, All-ni
 use Rattle.std.proofs.lemmas.Option.{slice_get-get_or}
 use Rattle.wb_base.specs.declared.symbol.Symbol.{Symbol}
 use Rattle.wb_base.specs.declared.symbol.Symbol.TheVariants.{Terminal, Nonterminal}
-use Rattle.wb_base.specs.Grammar.{GrammarState, IsGrammar}
+use Rattle.wb_base.specs.Grammar.{GrammarView, IsGrammar}
 use Rattle.wb_graph.specs.Graphs.{Edge, IsEdge}
 use Rattle.wb_graph.specs.Orders.{IsOrder, IsCycle}
 use Rattle.wb_grammars.specs.Rules.{IsRule}
@@ -21,14 +21,14 @@ use Rattle.wb_grammar.specs.declared.part.Part.TheVariants.{Alone}
 use Rattle.wb_grammar.specs.Edges.{IsEdgeBy, AreEdges}
 
 -- what the set of the nullable nonterminals holds derives the empty text
-pub held_empty : (g : GrammarState) (s : List Bool) → IsNullableSet g s → (w : List Symbol) → All (Holds false s) w → Derives g w []
+pub held_empty : (g : GrammarView) (s : List Bool) → IsNullableSet g s → (w : List Symbol) → All (Holds false s) w → Derives g w []
 held_empty g s set [] all = done
 held_empty g s set (Terminal t ∷ w) all = (let bad : false ≡ true = All-head (Holds false s) (Terminal t) w all in cc)
 held_empty g s set (Nonterminal a ∷ w) all =
     Derives-append ((set.each a).0 (All-head (Holds false s) (Nonterminal a) w all)) (held_empty g s set w (All-tail (Holds false s) (Nonterminal a) w all))
 
 -- and the other way round
-pub empty_held : (g : GrammarState) (s : List Bool) → IsNullableSet g s → (w : List Symbol) → Derives g w [] → All (Holds false s) w
+pub empty_held : (g : GrammarView) (s : List Bool) → IsNullableSet g s → (w : List Symbol) → Derives g w [] → All (Holds false s) w
 empty_held g s set [] r = All-nil (Holds false s)
 empty_held g s set (Terminal t ∷ w) r = elim r [ ]
 empty_held g s set (Nonterminal a ∷ w) r =
@@ -36,7 +36,7 @@ empty_held g s set (Nonterminal a ∷ w) r =
     All-cons (Holds false s) (Nonterminal a) w ((set.each a).1 parts.head) (empty_held g s set w parts.tail)
 
 -- the edges are unit rules
-pub edge_unit : (g : GrammarState) (s : List Bool) → IsNullableSet g s → (a b : ℕ) → IsEdgeBy Alone g s a b → IsUnitRule g a b
+pub edge_unit : (g : GrammarView) (s : List Bool) → IsNullableSet g s → (a b : ℕ) → IsEdgeBy Alone g s a b → IsUnitRule g a b
 edge_unit g s set a b e = record {
   p = e.p;
   before = e.placed.before;
@@ -46,7 +46,7 @@ edge_unit g s set a b e = record {
   after_empty = held_empty g s set e.placed.after e.placed.fits.1;
 }
 
-pub unit_edge : (g : GrammarState) (s : List Bool) → IsNullableSet g s → (a b : ℕ) → IsUnitRule g a b → IsEdgeBy Alone g s a b
+pub unit_edge : (g : GrammarView) (s : List Bool) → IsNullableSet g s → (a b : ℕ) → IsUnitRule g a b → IsEdgeBy Alone g s a b
 unit_edge g s set a b u = record {
   p = u.p;
   right = u.before ++ Nonterminal b ∷ u.after;
@@ -64,7 +64,7 @@ pub place_of : (list : List ℕ) (v : ℕ) → Contains list v → (i : ℕ) × 
 place_of list v (i, lt, is) = (i, slice_get-get_or list i v lt ∙ ap Some is)
 
 -- along a walk places fall
-walk_falls : (g : GrammarState) (s : List Bool) → IsNullableSet g s → (count : ℕ) (edges : List Edge) (order : List ℕ) → AreEdges Alone g s edges → IsOrder count edges order → {a b : ℕ} → Walk (IsUnitRule g) a b → (i : ℕ) → slice_get order i ≡ Some a → (j : ℕ) × (j < i) × (slice_get order j ≡ Some b)
+walk_falls : (g : GrammarView) (s : List Bool) → IsNullableSet g s → (count : ℕ) (edges : List Edge) (order : List ℕ) → AreEdges Alone g s edges → IsOrder count edges order → {a b : ℕ} → Walk (IsUnitRule g) a b → (i : ℕ) → slice_get order i ≡ Some a → (j : ℕ) × (j < i) × (slice_get order j ≡ Some b)
 walk_falls g s set count edges order are is (one {a} {b} u) i at = is.behind a b i ((are a b).1 (unit_edge g s set a b u)) at
 walk_falls g s set count edges order are is (more {a} {b} {c} u w) i at =
     let (j, lt, at_b) = is.behind a b i ((are a b).1 (unit_edge g s set a b u)) at in
@@ -72,7 +72,7 @@ walk_falls g s set count edges order are is (more {a} {b} {c} u w) i at =
     (k, omega arith, at_c)
 
 -- with an order there is no unit cycle
-pub order_no_cycle : (g : GrammarState) (s : List Bool) (edges : List Edge) (order : List ℕ) → IsGrammar g → IsNullableSet g s → AreEdges Alone g s edges → IsOrder g.nonterminals edges order → HasNoUnitCycle g
+pub order_no_cycle : (g : GrammarView) (s : List Bool) (edges : List Edge) (order : List ℕ) → IsGrammar g → IsNullableSet g s → AreEdges Alone g s edges → IsOrder g.nonterminals edges order → HasNoUnitCycle g
 order_no_cycle g s edges order ok set are is a (p, right, rule, r) =
     let below : a < g.nonterminals = (rule_below g p a right ok rule).left in
     let (i, at) = place_of order a (is.every a below) in
@@ -93,5 +93,5 @@ cycle_ring edges list R sound cycle = record { nonempty = cycle.nonempty; each =
     ]
 
 -- of nonterminals that derive the next alone
-pub cycle_unit_ring : (g : GrammarState) (s : List Bool) (edges : List Edge) (list : List ℕ) → IsNullableSet g s → AreEdges Alone g s edges → IsCycle edges list → IsUnitRing g list
+pub cycle_unit_ring : (g : GrammarView) (s : List Bool) (edges : List Edge) (list : List ℕ) → IsNullableSet g s → AreEdges Alone g s edges → IsCycle edges list → IsUnitRing g list
 cycle_unit_ring g s edges list set are cycle = cycle_ring edges list (DerivesAlone g) (λ a b edge. rule_alone (edge_unit g s set a b ((are a b).0 edge))) cycle

@@ -5,7 +5,7 @@ use Rattle.std.proofs.lemmas.Bool.{cases_lt}
 use Rattle.std.proofs.lemmas.List.Elements.{Contains-append_left, Contains-append_right, Contains-append_cases, Contains-get_or, All-contains}
 use Rattle.wb_base.specs.declared.symbol.Symbol.{Symbol}
 use Rattle.wb_base.specs.declared.symbol.Symbol.TheVariants.{Terminal, Nonterminal}
-use Rattle.wb_base.specs.Grammar.{GrammarState, IsGrammar, IsSymbolBelow}
+use Rattle.wb_base.specs.Grammar.{GrammarView, IsGrammar, IsSymbolBelow}
 use Rattle.wb_graph.specs.Graphs.{Edge, IsEdgeBelow}
 use Rattle.wb_grammars.specs.Rules.{IsRule}
 use Rattle.wb_grammars.proofs.RuleLemmas.{rule_once, rule_within, rule_below}
@@ -48,14 +48,14 @@ edges_of_back left (Nonterminal c ∷ w) b h = elim (symbol_cases (Nonterminal c
     same_left left z = (left, z)
 
 -- the edges by the productions up to one
-pub record EdgesBefore (part : Part) (g : GrammarState) (nullable : List Bool) (edges : List Edge) (limit : ℕ) : Type 0 where
+pub record EdgesBefore (part : Part) (g : GrammarView) (nullable : List Bool) (edges : List Edge) (limit : ℕ) : Type 0 where
   pub sound : (a b : ℕ) → Contains edges (a, b) → IsEdgeBy part g nullable a b
   pub complete : (a b : ℕ) (e : IsEdgeBy part g nullable a b) → e.p < limit → Contains edges (a, b)
 
-pub edges_start : (part : Part) (g : GrammarState) (nullable : List Bool) → EdgesBefore part g nullable [] 0
+pub edges_start : (part : Part) (g : GrammarView) (nullable : List Bool) → EdgesBefore part g nullable [] 0
 edges_start part g nullable = record { sound = λ a b (k, lt, is). absurd (omega arith); complete = λ a b e lt. absurd (omega arith) }
 
-pub edges_more : (part : Part) (g : GrammarState) (nullable : List Bool) (edges : List Edge) (p left : ℕ) (right symbols : List Symbol) → IsRule g p left right → ((x : Symbol) → Contains symbols x ↔ IsPlaced part nullable right x) → EdgesBefore part g nullable edges p → EdgesBefore part g nullable (edges ++ edges_of left symbols) (p + 1)
+pub edges_more : (part : Part) (g : GrammarView) (nullable : List Bool) (edges : List Edge) (p left : ℕ) (right symbols : List Symbol) → IsRule g p left right → ((x : Symbol) → Contains symbols x ↔ IsPlaced part nullable right x) → EdgesBefore part g nullable edges p → EdgesBefore part g nullable (edges ++ edges_of left symbols) (p + 1)
 edges_more part g nullable edges p left right symbols rule placed before = record { sound = sound; complete = complete }
   where
     sound : (a b : ℕ) → Contains (edges ++ edges_of left symbols) (a, b) → IsEdgeBy part g nullable a b
@@ -77,16 +77,16 @@ edges_more part g nullable edges p left right symbols rule placed before = recor
           (subst (λ z. Contains (edges_of left symbols) (z, b)) (sym r.0) (edges_of_back left symbols b there))
     ]
 
-pub edges_exact : (part : Part) (g : GrammarState) (nullable : List Bool) (edges : List Edge) (limit : ℕ) → length g.productions ≤ limit → EdgesBefore part g nullable edges limit → AreEdges part g nullable edges
+pub edges_exact : (part : Part) (g : GrammarView) (nullable : List Bool) (edges : List Edge) (limit : ℕ) → length g.productions ≤ limit → EdgesBefore part g nullable edges limit → AreEdges part g nullable edges
 edges_exact part g nullable edges limit le are a b =
     (are.sound a b, λ e. are.complete a b e (let lt : e.p < length g.productions = rule_within g e.p a e.right e.rule in omega arith))
 
-edge_below : (part : Part) (g : GrammarState) (nullable : List Bool) (a b : ℕ) → IsGrammar g → IsEdgeBy part g nullable a b → IsEdgeBelow g.nonterminals (a, b)
+edge_below : (part : Part) (g : GrammarView) (nullable : List Bool) (a b : ℕ) → IsGrammar g → IsEdgeBy part g nullable a b → IsEdgeBelow g.nonterminals (a, b)
 edge_below part g nullable a b ok e =
     let below = rule_below g e.p a e.right ok e.rule in
     (below.left, All-contains (IsSymbolBelow g.terminals g.nonterminals) e.right (Nonterminal b) below.right (placed_within e.right e.placed.before e.placed.after (Nonterminal b) e.placed.is))
 
-pub edges_below : (part : Part) (g : GrammarState) (nullable : List Bool) (edges : List Edge) → IsGrammar g → AreEdges part g nullable edges → All (IsEdgeBelow g.nonterminals) edges
+pub edges_below : (part : Part) (g : GrammarView) (nullable : List Bool) (edges : List Edge) → IsGrammar g → AreEdges part g nullable edges → All (IsEdgeBelow g.nonterminals) edges
 edges_below part g nullable edges ok are k d lt =
     let e : Edge = get_or edges k d in
     edge_below part g nullable e.0 e.1 ok ((are e.0 e.1).0 (Contains-get_or edges k d lt))

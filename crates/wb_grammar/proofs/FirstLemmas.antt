@@ -6,7 +6,7 @@ use Rattle.std.proofs.lemmas.List.Elements.{All-head, All-tail}
 use Rattle.std.proofs.lemmas.Bool.{true≢false, cases_eq, cases_lt}
 use Rattle.wb_base.specs.declared.symbol.Symbol.{Symbol}
 use Rattle.wb_base.specs.declared.symbol.Symbol.TheVariants.{Terminal, Nonterminal}
-use Rattle.wb_base.specs.Grammar.{GrammarState}
+use Rattle.wb_base.specs.Grammar.{GrammarView}
 use Rattle.wb_termset.specs.Sets.{Has, IsUnion, Grew, members}
 use Rattle.wb_termset.proofs.CallerLemmas.{IsEmpty-replicate, members_le, members_mono, members_grow}
 use Rattle.wb_grammars.specs.Rules.{IsRule}
@@ -20,7 +20,7 @@ abbrev pub Begun : List Bool → List (List Bool) → List Symbol → List Bool 
 Begun nullable rows all set left = (t : ℕ) → CanBegin nullable rows all t ↔ (Has set t ⊎ CanBegin nullable rows left t)
 
 -- a pass over the productions, which has come to p
-pub record FirstPass (g : GrammarState) (nullable : List Bool) (before rows : List (List Bool)) (p : ℕ) (some : Bool) : Type 0 where
+pub record FirstPass (g : GrammarView) (nullable : List Bool) (before rows : List (List Bool)) (p : ℕ) (some : Bool) : Type 0 where
   pub shape : AreSets g rows
   pub sound : AreFirsts g rows
   pub keeps : SetsWithin before rows
@@ -61,7 +61,7 @@ room_grow (x ∷ old) (y ∷ new) (suc a) e h n p q grew =
     omega (arith, members_le y, rest)
 
 -- what can begin the symbols by sound sets is in First
-pub begin_sound : (g : GrammarState) (nullable : List Bool) (rows : List (List Bool)) → ((a : ℕ) → Has nullable a → IsNullable g a) → AreFirsts g rows → (w : List Symbol) (t : ℕ) → CanBegin nullable rows w t → IsFirst g w t
+pub begin_sound : (g : GrammarView) (nullable : List Bool) (rows : List (List Bool)) → ((a : ℕ) → Has nullable a → IsNullable g a) → AreFirsts g rows → (w : List Symbol) (t : ℕ) → CanBegin nullable rows w t → IsFirst g w t
 begin_sound g nullable rows n sound [] t h = absurd h
 begin_sound g nullable rows n sound (Terminal u ∷ w) t h = (w, rw h (Derives-same g (Terminal u ∷ w)))
 begin_sound g nullable rows n sound (Nonterminal b ∷ w) t h = elim h [
@@ -70,7 +70,7 @@ begin_sound g nullable rows n sound (Nonterminal b ∷ w) t h = elim h [
 ]
 
 -- the case of a production, from what holds of its right side and of the later symbols
-begin_expand : (g : GrammarState) (nullable : List Bool) (rows : List (List Bool)) (a : ℕ) (w u v rest : List Symbol) (t : ℕ)
+begin_expand : (g : GrammarView) (nullable : List Bool) (rows : List (List Bool)) (a : ℕ) (w u v rest : List Symbol) (t : ℕ)
     → (u ≡ [] → Has nullable a) → ((z : List Symbol) → u ≡ Terminal t ∷ z → Has (set_of rows a) t)
     → ((z : List Symbol) → v ≡ Terminal t ∷ z → CanBegin nullable rows w t)
     → Terminal t ∷ rest ≡ u ++ v → CanBegin nullable rows (Nonterminal a ∷ w) t
@@ -78,7 +78,7 @@ begin_expand g nullable rows a w [] v rest t empty first later is = inr (empty r
 begin_expand g nullable rows a w (y ∷ u) v rest t empty first later is = inl (first u (cc))
 
 -- what is in First can begin the symbols by closed sets
-pub begin_complete : {g : GrammarState} (nullable : List Bool) (rows : List (List Bool)) → ((a : ℕ) → IsNullable g a → Has nullable a) → ((p : ℕ) → IsFirstClosedAt g nullable rows p) → {w x : List Symbol} → Derives g w x → (t : ℕ) (v : List Symbol) → x ≡ Terminal t ∷ v → CanBegin nullable rows w t
+pub begin_complete : {g : GrammarView} (nullable : List Bool) (rows : List (List Bool)) → ((a : ℕ) → IsNullable g a → Has nullable a) → ((p : ℕ) → IsFirstClosedAt g nullable rows p) → {w x : List Symbol} → Derives g w x → (t : ℕ) (v : List Symbol) → x ≡ Terminal t ∷ v → CanBegin nullable rows w t
 begin_complete nullable rows n closed done t v e = cc
 begin_complete nullable rows n closed (keep (Terminal u) r) t v e = cc
 begin_complete nullable rows n closed (keep (Nonterminal b) r) t v e = cc
@@ -90,7 +90,7 @@ begin_complete {g} nullable rows n closed (expand p a right u v {w} rule r s is)
     (sym e ∙ is)
 
 -- sound and closed sets are First
-pub first_exact : (g : GrammarState) (nullable : List Bool) (rows : List (List Bool)) → IsNullableSet g nullable → AreSets g rows → AreFirsts g rows → ((p : ℕ) → IsFirstClosedAt g nullable rows p) → AreFirstSets g rows
+pub first_exact : (g : GrammarView) (nullable : List Bool) (rows : List (List Bool)) → IsNullableSet g nullable → AreSets g rows → AreFirsts g rows → ((p : ℕ) → IsFirstClosedAt g nullable rows p) → AreFirstSets g rows
 first_exact g nullable rows n shape sound closed =
     record {
       shape = shape;
@@ -104,7 +104,7 @@ first_exact g nullable rows n shape sound closed =
     }
 
 -- a union with what can begin a right side is sound
-pub sound_add : (g : GrammarState) (nullable new begin : List Bool) (rows : List (List Bool)) (p a : ℕ) (right : List Symbol) → IsNullableSet g nullable → AreFirsts g rows → IsRule g p a right → a < length rows → ((t : ℕ) → Has begin t → CanBegin nullable rows right t) → IsUnion (set_of rows a) begin new → AreFirsts g (set rows a new)
+pub sound_add : (g : GrammarView) (nullable new begin : List Bool) (rows : List (List Bool)) (p a : ℕ) (right : List Symbol) → IsNullableSet g nullable → AreFirsts g rows → IsRule g p a right → a < length rows → ((t : ℕ) → Has begin t → CanBegin nullable rows right t) → IsUnion (set_of rows a) begin new → AreFirsts g (set rows a new)
 sound_add g nullable new begin rows p a right n sound rule lt exact union b t has =
     elim (cases_eq b a) [
       | inl same ↦
@@ -119,10 +119,10 @@ sound_add g nullable new begin rows p a right n sound rule lt exact union b t ha
     ]
 
 -- the sets lack less after a pass in which one grew
-pub room_less : (g : GrammarState) (old new : List (List Bool)) → AreSets g old → AreSets g new → SetsWithin old new → SetsGrew old new → room new < room old
+pub room_less : (g : GrammarView) (old new : List (List Bool)) → AreSets g old → AreSets g new → SetsWithin old new → SetsGrew old new → room new < room old
 room_less g old new p q keeps (a, lt, grew) = room_grow old new a (p.len ∙ sym q.len) keeps (g.terminals + 1) p.each q.each grew
 
-pub no_members : (g : GrammarState) (n m : ℕ) → AreFirsts g (replicate n (replicate m false))
+pub no_members : (g : GrammarView) (n m : ℕ) → AreFirsts g (replicate n (replicate m false))
 no_members g n m a t has = elim (cases_lt a n) [
   | inl lt ↦ absurd (IsEmpty-replicate m t (ap (λ s. get_or s t false) (sym (get_or-replicate n a (replicate m false) [] lt)) ∙ has))
   | inr past ↦ absurd (true≢false (sym has ∙ ap (λ s. get_or s t false) (get_or_past (replicate n (replicate m false)) a [] (omega (arith, length-replicate n (replicate m false))))))

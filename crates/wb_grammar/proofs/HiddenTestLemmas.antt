@@ -3,7 +3,7 @@ use Rattle.std.proofs.Common.{◌≡◌, ℕ, ◌+◌, ◌-◌, ◌<◌, Bool, L
 use Rattle.std.specs.Prelude.{Contains, slice_get}
 use Rattle.std.proofs.lemmas.Option.{slice_get_within}
 use Rattle.wb_base.specs.declared.symbol.Symbol.TheVariants.{Nonterminal}
-use Rattle.wb_base.specs.Grammar.{GrammarState}
+use Rattle.wb_base.specs.Grammar.{GrammarView}
 use Rattle.wb_graph.specs.Graphs as graphs
 use Rattle.wb_graph.specs.Graphs.{Edge, IsEdge, IsReached, stay, step}
 use Rattle.wb_grammars.specs.Rules.{IsRule}
@@ -19,7 +19,7 @@ use Rattle.wb_grammar.proofs.ReachLemmas.{walk_from}
 use Rattle.wb_grammar.proofs.PathLemmas.{at_push, left_push, last_push}
 
 -- edges to corners are left corners
-pub edge_corner : (g : GrammarState) (s : List Bool) → IsNullableSet g s → (a b : ℕ) → IsEdgeBy Corner g s a b → IsLeftCorner g a b
+pub edge_corner : (g : GrammarView) (s : List Bool) → IsNullableSet g s → (a b : ℕ) → IsEdgeBy Corner g s a b → IsLeftCorner g a b
 edge_corner g s set a b e = record {
   p = e.p;
   before = e.placed.before;
@@ -28,7 +28,7 @@ edge_corner g s set a b e = record {
   before_empty = held_empty g s set e.placed.before e.placed.fits;
 }
 
-corner_edge : (g : GrammarState) (s : List Bool) → IsNullableSet g s → (a b : ℕ) → IsLeftCorner g a b → IsEdgeBy Corner g s a b
+corner_edge : (g : GrammarView) (s : List Bool) → IsNullableSet g s → (a b : ℕ) → IsLeftCorner g a b → IsEdgeBy Corner g s a b
 corner_edge g s set a b c = record {
   p = c.p;
   right = c.before ++ Nonterminal b ∷ c.after;
@@ -37,7 +37,7 @@ corner_edge g s set a b c = record {
 }
 
 -- and those to hidden places are hidden corners
-edge_hidden : (g : GrammarState) (s : List Bool) → IsNullableSet g s → (a b : ℕ) → IsEdgeBy Hidden g s a b → IsHiddenCorner g a b
+edge_hidden : (g : GrammarView) (s : List Bool) → IsNullableSet g s → (a b : ℕ) → IsEdgeBy Hidden g s a b → IsHiddenCorner g a b
 edge_hidden g s set a b e = record {
   corner = record {
     p = e.p;
@@ -49,7 +49,7 @@ edge_hidden g s set a b e = record {
   hides = e.placed.fits.1;
 }
 
-hidden_edge : (g : GrammarState) (s : List Bool) → IsNullableSet g s → (a b : ℕ) → IsHiddenCorner g a b → IsEdgeBy Hidden g s a b
+hidden_edge : (g : GrammarView) (s : List Bool) → IsNullableSet g s → (a b : ℕ) → IsHiddenCorner g a b → IsEdgeBy Hidden g s a b
 hidden_edge g s set a b c = record {
   p = c.corner.p;
   right = c.corner.before ++ Nonterminal b ∷ c.corner.after;
@@ -62,19 +62,19 @@ walks_then : {edges : List Edge} {u v w : ℕ} → graphs.Walk edges u v → gra
 walks_then {edges} {u} walk (stay w same) = subst (λ z. graphs.Walk edges u z) same walk
 walks_then walk (step x w onward edge) = step x w (walks_then walk onward) edge
 
-corner_walk : (g : GrammarState) (s : List Bool) (corners : List Edge) → IsNullableSet g s → AreEdges Corner g s corners → {a b : ℕ} → Walk (IsLeftCorner g) a b → graphs.Walk corners a b
+corner_walk : (g : GrammarView) (s : List Bool) (corners : List Edge) → IsNullableSet g s → AreEdges Corner g s corners → {a b : ℕ} → Walk (IsLeftCorner g) a b → graphs.Walk corners a b
 corner_walk g s corners set are (one {a} {b} c) = walk_from ((are a b).1 (corner_edge g s set a b c)) (stay b refl)
 corner_walk g s corners set are (more {a} {b} {c} first rest) = walk_from ((are a b).1 (corner_edge g s set a b first)) (corner_walk g s corners set are rest)
 
 -- a walk with a hidden corner in it
-record Around (g : GrammarState) (corners : List Edge) (a b : ℕ) : Type 0 where
+record Around (g : GrammarView) (corners : List Edge) (a b : ℕ) : Type 0 where
   above : ℕ
   below : ℕ
   hidden : IsHiddenCorner g above below
   before : graphs.Walk corners a above
   after : graphs.Walk corners below b
 
-hidden_around : (g : GrammarState) (s : List Bool) (corners : List Edge) → IsNullableSet g s → AreEdges Corner g s corners → {a b : ℕ} → HiddenWalk g a b → Around g corners a b
+hidden_around : (g : GrammarView) (s : List Bool) (corners : List Edge) → IsNullableSet g s → AreEdges Corner g s corners → {a b : ℕ} → HiddenWalk g a b → Around g corners a b
 hidden_around g s corners set are (last {a} {b} h) = record { above = a; below = b; hidden = h; before = stay a refl; after = stay b refl }
 hidden_around g s corners set are (here {a} {b} {c} h rest) = record { above = a; below = b; hidden = h; before = stay a refl; after = corner_walk g s corners set are rest }
 hidden_around g s corners set are (later {a} {b} {c} first rest) =
@@ -82,7 +82,7 @@ hidden_around g s corners set are (later {a} {b} {c} first rest) =
     record { above = r.above; below = r.below; hidden = r.hidden; before = walk_from ((are a b).1 (corner_edge g s set a b first)) r.before; after = r.after }
 
 -- where no walk leads back from a hidden corner there is no hidden left recursion
-pub no_hidden : (g : GrammarState) (s : List Bool) (corners hidden : List Edge) → IsNullableSet g s → AreEdges Corner g s corners → AreEdges Hidden g s hidden → ((a b : ℕ) → Contains hidden (a, b) → ¬ IsReached corners (b ∷ []) a) → HasNoHiddenLeftRecursion g
+pub no_hidden : (g : GrammarView) (s : List Bool) (corners hidden : List Edge) → IsNullableSet g s → AreEdges Corner g s corners → AreEdges Hidden g s hidden → ((a b : ℕ) → Contains hidden (a, b) → ¬ IsReached corners (b ∷ []) a) → HasNoHiddenLeftRecursion g
 no_hidden g s corners hidden set are_corners are_hidden none a h =
     let r = hidden_around g s corners set are_corners ((hidden_is g a).0 h) in
     none r.above r.below ((are_hidden r.above r.below).1 (hidden_edge g s set r.above r.below r.hidden))
@@ -133,7 +133,7 @@ path_steps {edges} {from} (longer shorter u {list} {v} p edge is) i a b at_a at_
     ]
 
 -- a path of corners from the end of a hidden corner to where it begins is a hidden ring
-pub path_ring : (g : GrammarState) (s : List Bool) (corners hidden : List Edge) (list : List ℕ) → IsNullableSet g s → AreEdges Corner g s corners → AreEdges Hidden g s hidden → (a b : ℕ) × Contains hidden (a, b) × IsPathTo corners b list a → IsHiddenRing g list
+pub path_ring : (g : GrammarView) (s : List Bool) (corners hidden : List Edge) (list : List ℕ) → IsNullableSet g s → AreEdges Corner g s corners → AreEdges Hidden g s hidden → (a b : ℕ) × Contains hidden (a, b) × IsPathTo corners b list a → IsHiddenRing g list
 path_ring g s corners hidden list set are_corners are_hidden (above, below, within, path) = record {
   ring = record { nonempty = path_nonempty path; each = each };
   above = above;

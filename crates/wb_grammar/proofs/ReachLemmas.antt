@@ -4,7 +4,7 @@ use Rattle.std.specs.Prelude.{Contains, ◌↔◌}
 use Rattle.std.proofs.lemmas.List.Elements.{Contains-append_right, Contains-append_cases}
 use Rattle.wb_base.specs.declared.symbol.Symbol.{Symbol}
 use Rattle.wb_base.specs.declared.symbol.Symbol.TheVariants.{Nonterminal}
-use Rattle.wb_base.specs.Grammar.{GrammarState}
+use Rattle.wb_base.specs.Grammar.{GrammarView}
 use Rattle.wb_graph.specs.Graphs.{Edge, IsEdge, Walk, stay, step, IsReached}
 use Rattle.wb_grammars.specs.Derives.{Derives, done, keep, expand}
 use Rattle.wb_grammars.specs.Shape.{IsReachable}
@@ -19,7 +19,7 @@ walk_from {edges} {u} {v} edge (stay w same) = step u w (stay u refl) (subst (λ
 walk_from edge (step x w walk last) = step x w (walk_from edge walk) last
 
 -- the start derives symbols with what a walk leads to
-walk_reaches : (g : GrammarState) (s : List Bool) (edges : List Edge) → AreEdges Whole g s edges → {v : ℕ} → Walk edges g.start v → IsReachable g v
+walk_reaches : (g : GrammarView) (s : List Bool) (edges : List Edge) → AreEdges Whole g s edges → {v : ℕ} → Walk edges g.start v → IsReachable g v
 walk_reaches g s edges are (stay v same) = ([], [], subst (λ z. Derives g (Nonterminal g.start ∷ []) (Nonterminal z ∷ [])) same (Derives-same g (Nonterminal g.start ∷ [])))
 walk_reaches g s edges are (step a b walk edge) =
     let (u, v, r) = walk_reaches g s edges are walk in
@@ -40,7 +40,7 @@ record Origin (edges : List Edge) (w : List Symbol) (b : ℕ) : Type 0 where
 later_origin : (edges : List Edge) (x : Symbol) (w : List Symbol) (b : ℕ) → Origin edges w b → Origin edges (x ∷ w) b
 later_origin edges x w b o = record { from = o.from; within = Contains-append_right (x ∷ []) w (Nonterminal o.from) o.within; walk = o.walk }
 
-derives_walk : (g : GrammarState) (s : List Bool) (edges : List Edge) → AreEdges Whole g s edges → {w x : List Symbol} → Derives g w x → (b : ℕ) → Contains x (Nonterminal b) → Origin edges w b
+derives_walk : (g : GrammarView) (s : List Bool) (edges : List Edge) → AreEdges Whole g s edges → {w x : List Symbol} → Derives g w x → (b : ℕ) → Contains x (Nonterminal b) → Origin edges w b
 derives_walk g s edges are done b h = absurd (contains_nil (Nonterminal b) h)
 derives_walk g s edges are (keep y {w} {v} r) b h = elim (contains_cases y v (Nonterminal b) h) [
   | inl first ↦ record { from = b; within = (0, omega arith, first); walk = stay b refl }
@@ -62,7 +62,7 @@ only_start start a h = elim (contains_cases (Nonterminal start) [] (Nonterminal 
 ]
 
 -- reached is reachable
-pub reached_is : (g : GrammarState) (s : List Bool) (edges : List Edge) → AreEdges Whole g s edges → (v : ℕ) → IsReached edges (g.start ∷ []) v ↔ IsReachable g v
+pub reached_is : (g : GrammarView) (s : List Bool) (edges : List Edge) → AreEdges Whole g s edges → (v : ℕ) → IsReached edges (g.start ∷ []) v ↔ IsReachable g v
 reached_is g s edges are v = (there, back)
   where
     one_start : (x : ℕ) → Contains (g.start ∷ []) x → x ≡ g.start

@@ -2,7 +2,7 @@
 use Rattle.std.proofs.Common.{◌≡◌, ℕ, ◌<◌, Bool, true, false, List, [], ◌∷◌, length, get_or, sym, ◌∙◌, subst, arith, Some, None}
 use Rattle.std.specs.Prelude.{Option, MatchOption}
 use Rattle.std.proofs.lemmas.Bool.{true≢false}
-use Rattle.wb_base.specs.Grammar.{GrammarState}
+use Rattle.wb_base.specs.Grammar.{GrammarView}
 use Rattle.wb_termset.specs.Sets.{Has}
 use Rattle.wb_graph.specs.Graphs.{Edge, AreReached}
 use Rattle.wb_grammars.specs.Shape.{IsReachable, IsProductive}
@@ -12,7 +12,7 @@ use Rattle.wb_grammar.specs.Built.{IsBuiltSet}
 use Rattle.wb_grammar.proofs.BuiltLemmas.{productive_built}
 use Rattle.wb_grammar.proofs.ReachLemmas.{reached_is}
 
-pub unreachable_found : (g : GrammarState) (s : List Bool) (edges : List Edge) (flags : List Bool) (n start : ℕ) (found : Option ℕ) → n ≡ g.nonterminals → start ≡ g.start → AreEdges Whole g s edges → AreReached n edges (start ∷ []) flags
+pub unreachable_found : (g : GrammarView) (s : List Bool) (edges : List Edge) (flags : List Bool) (n start : ℕ) (found : Option ℕ) → n ≡ g.nonterminals → start ≡ g.start → AreEdges Whole g s edges → AreReached n edges (start ∷ []) flags
     → MatchOption found ((v : ℕ) → v < length flags → get_or flags v false ≡ true) (λ v. (v < length flags) × (get_or flags v false ≡ false))
     → MatchOption found ((a : ℕ) → a < g.nonterminals → IsReachable g a) (λ a. (a < g.nonterminals) × (¬ IsReachable g a))
 unreachable_found g s edges flags n start None same at are reached h =
@@ -22,7 +22,7 @@ unreachable_found g s edges flags n start (Some a) same at are reached h =
     let from : AreReached n edges (g.start ∷ []) flags = subst (λ z. AreReached n edges (z ∷ []) flags) at reached in
     (omega (arith, from.len, h.0), λ r. true≢false (sym ((from.each a).1 ((reached_is g s edges are a).1 r)) ∙ h.1))
 
-pub unproductive_found : (g : GrammarState) (set : List Bool) (found : Option ℕ) → IsBuiltSet g true set
+pub unproductive_found : (g : GrammarView) (set : List Bool) (found : Option ℕ) → IsBuiltSet g true set
     → MatchOption found ((a : ℕ) → a < length set → Has set a) (λ a. (a < length set) × (¬ Has set a))
     → MatchOption found ((a : ℕ) → a < g.nonterminals → IsProductive g a) (λ a. (a < g.nonterminals) × (¬ IsProductive g a))
 unproductive_found g set None is h = λ a lt. (productive_built g a).0 ((is.each a).0 (h a (omega (arith, is.len))))

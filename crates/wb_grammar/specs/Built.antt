@@ -2,12 +2,12 @@
 use Rattle.std.specs.Prelude.{◌≡◌, ◌<◌, ℕ, Bool, true, List, [], ◌∷◌, length, All, ◌↔◌}
 use Rattle.wb_base.specs.declared.symbol.Symbol.{Symbol}
 use Rattle.wb_base.specs.declared.symbol.Symbol.TheVariants.{Terminal, Nonterminal}
-use Rattle.wb_base.specs.Grammar.{GrammarState}
+use Rattle.wb_base.specs.Grammar.{GrammarView}
 use Rattle.wb_termset.specs.Sets.{Has}
 use Rattle.wb_grammars.specs.Rules.{IsRule}
 
 -- each symbol is built: a terminal where terminals may stand, and a nonterminal by a production whose right side is built
-pub data Builds (g : GrammarState) (terminals : Bool) : List Symbol → Type 0 where
+pub data Builds (g : GrammarView) (terminals : Bool) : List Symbol → Type 0 where
   nothing : Builds g terminals []
   terminal : (t : ℕ) {w : List Symbol} → terminals ≡ true → Builds g terminals w → Builds g terminals (Terminal t ∷ w)
   nonterminal : (p a : ℕ) (right : List Symbol) {w : List Symbol} → IsRule g p a right → Builds g terminals right → Builds g terminals w → Builds g terminals (Nonterminal a ∷ w)
@@ -23,14 +23,14 @@ IsKnown count (Terminal t) = Unit {0}
 IsKnown count (Nonterminal a) = a < count
 
 -- each member is built
-abbrev pub AreBuilt : GrammarState → Bool → List Bool → Type 0
+abbrev pub AreBuilt : GrammarView → Bool → List Bool → Type 0
 AreBuilt g terminals set = (a : ℕ) → Has set a → Builds g terminals (Nonterminal a ∷ [])
 
 -- where the set holds the right side of the production, its left side is a member
-abbrev pub IsClosedAt : GrammarState → Bool → List Bool → ℕ → Type 0
+abbrev pub IsClosedAt : GrammarView → Bool → List Bool → ℕ → Type 0
 IsClosedAt g terminals set p = (a : ℕ) (right : List Symbol) → IsRule g p a right → All (Holds terminals set) right → Has set a
 
 -- the set has the nonterminals that are built
-pub record IsBuiltSet (g : GrammarState) (terminals : Bool) (set : List Bool) : Type 0 where
+pub record IsBuiltSet (g : GrammarView) (terminals : Bool) (set : List Bool) : Type 0 where
   pub len : length set ≡ g.nonterminals
   pub each : (a : ℕ) → Has set a ↔ Builds g terminals (Nonterminal a ∷ [])

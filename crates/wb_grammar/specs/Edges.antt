@@ -2,7 +2,7 @@
 use Rattle.std.specs.Prelude.{◌≡◌, ◌≢◌, ◌↔◌, ℕ, suc, Bool, false, List, [], ◌∷◌, ◌++◌, All, Contains}
 use Rattle.wb_base.specs.declared.symbol.Symbol.{Symbol}
 use Rattle.wb_base.specs.declared.symbol.Symbol.TheVariants.{Terminal, Nonterminal}
-use Rattle.wb_base.specs.Grammar.{GrammarState}
+use Rattle.wb_base.specs.Grammar.{GrammarView}
 use Rattle.wb_grammars.specs.Rules.{IsRule}
 use Rattle.wb_grammar.specs.Built.{Holds}
 use Rattle.wb_grammar.specs.declared.part.Part.{Part}
@@ -23,14 +23,14 @@ pub record IsPlaced (part : Part) (nullable : List Bool) (symbols : List Symbol)
   pub fits : Fits part nullable before after
 
 -- a production leads from its left side to the nonterminal, which stands at such a place of its right side
-pub record IsEdgeBy (part : Part) (g : GrammarState) (nullable : List Bool) (a b : ℕ) : Type 0 where
+pub record IsEdgeBy (part : Part) (g : GrammarView) (nullable : List Bool) (a b : ℕ) : Type 0 where
   pub p : ℕ
   pub right : List Symbol
   pub rule : IsRule g p a right
   pub placed : IsPlaced part nullable right (Nonterminal b)
 
 -- the edges are those of such places
-abbrev pub AreEdges : Part → GrammarState → List Bool → List (ℕ × ℕ) → Type 0
+abbrev pub AreEdges : Part → GrammarView → List Bool → List (ℕ × ℕ) → Type 0
 AreEdges part g nullable edges = (a b : ℕ) → Contains edges (a, b) ↔ IsEdgeBy part g nullable a b
 
 -- an edge from the left side to each nonterminal among the symbols

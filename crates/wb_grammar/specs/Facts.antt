@@ -1,7 +1,7 @@
 -- What an analysis knows of a grammar.
 use Rattle.std.specs.Prelude.{◌≡◌, ◌+◌, ◌↔◌, ℕ, Bool, List, [], ◌∷◌, All, length, slice_index_or}
 use Rattle.wb_base.specs.declared.symbol.Symbol.TheVariants.{Nonterminal}
-use Rattle.wb_base.specs.Grammar.{GrammarState}
+use Rattle.wb_base.specs.Grammar.{GrammarView}
 use Rattle.wb_termset.specs.Sets.{Has}
 use Rattle.wb_grammars.specs.Derives.{IsNullable, IsFirst}
 use Rattle.wb_grammars.specs.Shape.{IsReduced, IsLive}
@@ -17,22 +17,22 @@ abbrev pub set_of : List (List Bool) → ℕ → List Bool
 set_of sets a = slice_index_or sets a []
 
 -- the set has the nonterminals that derive the empty text, and the grammar has so many
-pub record IsNullableSet (g : GrammarState) (set : List Bool) : Type 0 where
+pub record IsNullableSet (g : GrammarView) (set : List Bool) : Type 0 where
   pub len : length set ≡ g.nonterminals
   pub each : (a : ℕ) → Has set a ↔ IsNullable g a
 
 -- a set for each nonterminal, with room for the terminals and the end of a text
-pub record AreSets (g : GrammarState) (sets : List (List Bool)) : Type 0 where
+pub record AreSets (g : GrammarView) (sets : List (List Bool)) : Type 0 where
   pub len : length sets ≡ g.nonterminals
   pub each : All (λ set. length set ≡ g.terminals + 1) sets
 
 -- the set of each nonterminal has the terminals that begin what it derives
-pub record AreFirstSets (g : GrammarState) (sets : List (List Bool)) : Type 0 where
+pub record AreFirstSets (g : GrammarView) (sets : List (List Bool)) : Type 0 where
   pub shape : AreSets g sets
   pub each : (a t : ℕ) → Has (set_of sets a) t ↔ IsFirst g (Nonterminal a ∷ []) t
 
 -- the facts are those of the grammar, which is reduced and has neither unit cycles nor hidden left recursion; so some terminal begins what stands behind any dot
-pub record AreFacts (g : GrammarState) (facts : FactsState) : Type 0 where
+pub record AreFacts (g : GrammarView) (facts : FactsState) : Type 0 where
   pub reduced : IsReduced g
   pub live : IsLive g
   pub no_unit_cycle : HasNoUnitCycle g

@@ -2,7 +2,7 @@
 use Rattle.std.specs.Prelude.{◌≡◌, ℕ, ◌<◌, ◌⊎◌, Bool, List, [], ◌∷◌, length}
 use Rattle.wb_base.specs.declared.symbol.Symbol.{Symbol}
 use Rattle.wb_base.specs.declared.symbol.Symbol.TheVariants.{Terminal, Nonterminal}
-use Rattle.wb_base.specs.Grammar.{GrammarState}
+use Rattle.wb_base.specs.Grammar.{GrammarView}
 use Rattle.wb_termset.specs.Sets.{Has, IsSubset, Grew}
 use Rattle.wb_grammars.specs.Rules.{IsRule}
 use Rattle.wb_grammars.specs.Derives.{IsFirst}
@@ -15,11 +15,11 @@ CanBegin nullable sets (Terminal u ∷ w) t = t ≡ u
 CanBegin nullable sets (Nonterminal b ∷ w) t = Has (set_of sets b) t ⊎ (Has nullable b × CanBegin nullable sets w t)
 
 -- each member of each set is in First
-abbrev pub AreFirsts : GrammarState → List (List Bool) → Type 0
+abbrev pub AreFirsts : GrammarView → List (List Bool) → Type 0
 AreFirsts g sets = (a t : ℕ) → Has (set_of sets a) t → IsFirst g (Nonterminal a ∷ []) t
 
 -- the production adds nothing
-abbrev pub IsFirstClosedAt : GrammarState → List Bool → List (List Bool) → ℕ → Type 0
+abbrev pub IsFirstClosedAt : GrammarView → List Bool → List (List Bool) → ℕ → Type 0
 IsFirstClosedAt g nullable sets p = (a : ℕ) (right : List Symbol) → IsRule g p a right → (t : ℕ) → CanBegin nullable sets right t → Has (set_of sets a) t
 
 -- every set is within the other of its number

@@ -1,6 +1,6 @@
 -- Why a grammar is refused: each reason with a true example, where no earlier one holds.
 use Rattle.std.specs.Prelude.{◌<◌}
-use Rattle.wb_base.specs.Grammar.{GrammarState}
+use Rattle.wb_base.specs.Grammar.{GrammarView}
 use Rattle.wb_grammars.specs.Shape.{IsReduced, IsReachable, IsProductive}
 use Rattle.wb_grammars.specs.Cycles.{HasNoUnitCycle, IsUnitRing, IsHiddenRing}
 use Rattle.wb_grammar.specs.declared.refusal.Reason.{Reason}
@@ -9,12 +9,12 @@ use Rattle.wb_grammar.specs.declared.refusal.GrammarRefusal.{GrammarRefusal}
 use Rattle.wb_grammar.specs.declared.refusal.GrammarRefusal.TheVariants.{NotReduced, UnitCycle, HiddenLeftRecursion, NoMemory}
 
 -- the nonterminal that is shown isn't reachable, or derives no text
-abbrev pub IsTrueReason : GrammarState → Reason → Type 0
+abbrev pub IsTrueReason : GrammarView → Reason → Type 0
 IsTrueReason g (Unreachable a) = (a < g.nonterminals) × (¬ IsReachable g a)
 IsTrueReason g (Unproductive a) = (a < g.nonterminals) × (¬ IsProductive g a)
 
 -- the first of these that holds: the grammar isn't reduced, has a unit cycle, or has hidden left recursion; and what is shown is an example. Want of memory says nothing of the grammar
-abbrev pub IsTrueRefusal : GrammarState → GrammarRefusal → Type 0
+abbrev pub IsTrueRefusal : GrammarView → GrammarRefusal → Type 0
 IsTrueRefusal g (NotReduced reason) = IsTrueReason g reason
 IsTrueRefusal g (UnitCycle list) = IsReduced g × IsUnitRing g list
 IsTrueRefusal g (HiddenLeftRecursion list) = IsReduced g × HasNoUnitCycle g × IsHiddenRing g list

@@ -3,20 +3,20 @@ use Rattle.std.proofs.Common.{◌≡◌, ◌≢◌, ℕ, ◌⊎◌, List, [], �
 use Rattle.std.specs.Prelude.{◌↔◌}
 use Rattle.wb_base.specs.declared.symbol.Symbol.{Symbol}
 use Rattle.wb_base.specs.declared.symbol.Symbol.TheVariants.{Nonterminal}
-use Rattle.wb_base.specs.Grammar.{GrammarState}
+use Rattle.wb_base.specs.Grammar.{GrammarView}
 use Rattle.wb_grammars.specs.Rules.{IsRule}
 use Rattle.wb_grammars.specs.Derives.{Derives, done, keep, expand}
 use Rattle.wb_grammars.specs.Cycles.{IsHiddenLeftRecursive, IsLeftCorner}
 use Rattle.wb_grammars.specs.Walks.{Walk, one, more, HiddenWalk, last, here, later}
 use Rattle.wb_grammars.proofs.DerivesLemmas.{Derives-append, Derives-then, Derives-same, Derives-split, nil_parts}
 
-hides_walk : {g : GrammarState} {a b : ℕ} → HiddenWalk g a b → Walk (IsLeftCorner g) a b
+hides_walk : {g : GrammarView} {a b : ℕ} → HiddenWalk g a b → Walk (IsLeftCorner g) a b
 hides_walk (last c) = one c.corner
 hides_walk (here c w) = more c.corner w
 hides_walk (later c h) = more c (hides_walk h)
 
 -- where symbols derive u ++ z, what derives u and what derives z: the place of z's first symbol
-pub record Place (g : GrammarState) (a b p : ℕ) (before : List Symbol) (front : List Symbol) : Type 0 where
+pub record Place (g : GrammarView) (a b p : ℕ) (before : List Symbol) (front : List Symbol) : Type 0 where
   pub walk : Walk (IsLeftCorner g) a b
   pub hides : (before ≢ []) ⊎ (front ≢ []) → HiddenWalk g a b
 
@@ -34,7 +34,7 @@ not_nil : (w : List Symbol) (x : Symbol) → (w ++ x ∷ [] ≡ []) → ⊥
 not_nil [] x e = cc
 not_nil (y ∷ w) x e = cc
 
-pub corner_place : {g : GrammarState} (a b p : ℕ) (before : List Symbol) {w x : List Symbol} → Derives g w x → (front back : List Symbol) → x ≡ front ++ Nonterminal b ∷ back → Derives g front [] → IsRule g p a (before ++ w) → Derives g before [] → Place g a b p before front
+pub corner_place : {g : GrammarView} (a b p : ℕ) (before : List Symbol) {w x : List Symbol} → Derives g w x → (front back : List Symbol) → x ≡ front ++ Nonterminal b ∷ back → Derives g front [] → IsRule g p a (before ++ w) → Derives g before [] → Place g a b p before front
 corner_place a b p before done [] back e empty rule none = cc
 corner_place a b p before done (y ∷ front) back e empty rule none = cc
 corner_place {g} a b p before (keep y {w} {v} r) [] back e empty rule none =
@@ -66,11 +66,11 @@ corner_place {g} a b p before (expand q c right u v {w} {x} rule' r s is) front 
       hides = λ which. elim which [ inl ne ↦ here (record { corner = corner; hides = ne }) rest.walk | inr ne ↦ later corner (rest.hides (inr ne)) ];
     })
 
-pub hidden_hides : (g : GrammarState) (a : ℕ) → IsHiddenLeftRecursive g a → HiddenWalk g a a
+pub hidden_hides : (g : GrammarView) (a : ℕ) → IsHiddenLeftRecursive g a → HiddenWalk g a a
 hidden_hides g a (p, right, b, c, rule, r, ne, empty) = (corner_place a a p [] r b c refl empty rule done).hides (inr ne)
 
 -- back: what a walk of corners derives
-pub record Leads (g : GrammarState) (a b : ℕ) (front : List Symbol) : Type 0 where
+pub record Leads (g : GrammarView) (a b : ℕ) (front : List Symbol) : Type 0 where
   pub p : ℕ
   pub right : List Symbol
   pub back : List Symbol
@@ -78,10 +78,10 @@ pub record Leads (g : GrammarState) (a b : ℕ) (front : List Symbol) : Type 0 w
   pub derives : Derives g right (front ++ Nonterminal b ∷ back)
   pub front_empty : Derives g front []
 
-corner_leads : {g : GrammarState} {a b : ℕ} (c : IsLeftCorner g a b) → Leads g a b c.before
+corner_leads : {g : GrammarView} {a b : ℕ} (c : IsLeftCorner g a b) → Leads g a b c.before
 corner_leads {g} {b = b} c = record { p = c.p; right = c.before ++ Nonterminal b ∷ c.after; back = c.after; rule = c.rule; derives = Derives-same g (c.before ++ Nonterminal b ∷ c.after); front_empty = c.before_empty }
 
-leads_then : {g : GrammarState} {a b d : ℕ} {u v : List Symbol} → Leads g a b u → Leads g b d v → Leads g a d (u ++ v)
+leads_then : {g : GrammarView} {a b d : ℕ} {u v : List Symbol} → Leads g a b u → Leads g b d v → Leads g a d (u ++ v)
 leads_then {g} {a} {b} {d} {u} {v} x y = record {
   p = x.p;
   right = x.right;
@@ -95,7 +95,7 @@ leads_then {g} {a} {b} {d} {u} {v} x y = record {
   front_empty = Derives-append x.front_empty y.front_empty;
 }
 
-walk_leads : {g : GrammarState} {a b : ℕ} → Walk (IsLeftCorner g) a b → (front : List Symbol) × Leads g a b front
+walk_leads : {g : GrammarView} {a b : ℕ} → Walk (IsLeftCorner g) a b → (front : List Symbol) × Leads g a b front
 walk_leads (one c) = (c.before, corner_leads c)
 walk_leads (more c w) = let (front, l) = walk_leads w in (c.before ++ front, leads_then (corner_leads c) l)
 
@@ -104,10 +104,10 @@ append_not_nil [] v (inl ne) e = ne refl
 append_not_nil [] v (inr ne) e = ne e
 append_not_nil (x ∷ u) v which e = cc
 
-hides_leads : {g : GrammarState} {a b : ℕ} → HiddenWalk g a b → (front : List Symbol) × Leads g a b front × (front ≢ [])
+hides_leads : {g : GrammarView} {a b : ℕ} → HiddenWalk g a b → (front : List Symbol) × Leads g a b front × (front ≢ [])
 hides_leads (last c) = (c.corner.before, corner_leads c.corner, c.hides)
 hides_leads (here c w) = let (front, l) = walk_leads w in (c.corner.before ++ front, leads_then (corner_leads c.corner) l, append_not_nil c.corner.before front (inl c.hides))
 hides_leads (later c h) = let (front, l, ne) = hides_leads h in (c.before ++ front, leads_then (corner_leads c) l, append_not_nil c.before front (inr ne))
 
-pub hidden_is : (g : GrammarState) (a : ℕ) → IsHiddenLeftRecursive g a ↔ HiddenWalk g a a
+pub hidden_is : (g : GrammarView) (a : ℕ) → IsHiddenLeftRecursive g a ↔ HiddenWalk g a a
 hidden_is g a = (hidden_hides g a, λ h. let (front, l, ne) = hides_leads h in (l.p, l.right, front, l.back, l.rule, l.derives, ne, l.front_empty))

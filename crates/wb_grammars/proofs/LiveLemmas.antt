@@ -4,7 +4,7 @@ use Rattle.std.specs.Prelude.{All}
 use Rattle.std.proofs.lemmas.List.Elements.{All-head, All-tail, All-drop, All-cons, All-nil, All-same}
 use Rattle.wb_base.specs.declared.symbol.Symbol.{Symbol}
 use Rattle.wb_base.specs.declared.symbol.Symbol.TheVariants.{Terminal, Nonterminal}
-use Rattle.wb_base.specs.Grammar.{GrammarState, Production, IsSymbolBelow, IsProductionBelow, IsGrammar}
+use Rattle.wb_base.specs.Grammar.{GrammarView, Production, IsSymbolBelow, IsProductionBelow, IsGrammar}
 use Rattle.wb_grammars.specs.declared.item.Item.{Item}
 use Rattle.wb_grammars.specs.Rules.{right_in}
 use Rattle.wb_grammars.specs.Derives.{Derives, IsFirst, IsText}
@@ -12,7 +12,7 @@ use Rattle.wb_grammars.specs.Items.{after_dot}
 use Rattle.wb_grammars.proofs.DerivesLemmas.{Derives-same, First-of_head, First-of_tail}
 use Rattle.wb_grammars.specs.Shape.{IsLive, IsReduced, IsProductive}
 
-begins : (g : GrammarState) → ((a : ℕ) → a < g.nonterminals → IsProductive g a) → (w : List Symbol) → All (IsSymbolBelow g.terminals g.nonterminals) w → (t : ℕ) → (u : ℕ) × IsFirst g (w ++ Terminal t ∷ []) u
+begins : (g : GrammarView) → ((a : ℕ) → a < g.nonterminals → IsProductive g a) → (w : List Symbol) → All (IsSymbolBelow g.terminals g.nonterminals) w → (t : ℕ) → (u : ℕ) × IsFirst g (w ++ Terminal t ∷ []) u
 begins g p [] all t = (t, ([], Derives-same g (Terminal t ∷ [])))
 begins g p (Terminal u ∷ w) all t = (u, (w ++ Terminal t ∷ [], Derives-same g (Terminal u ∷ (w ++ Terminal t ∷ []))))
 begins g p (Nonterminal a ∷ w) all t =
@@ -31,17 +31,17 @@ right_in_range m n (r ∷ rs) s zero lt all = (All-head (IsProductionBelow m n) 
 right_in_range m n (r ∷ rs) s (suc p) lt all = right_in_range m n rs s p lt (All-tail (IsProductionBelow m n) r rs all)
 
 -- the symbols behind a dot are in range
-pub after_below : (g : GrammarState) → IsGrammar g → (item : Item) → All (IsSymbolBelow g.terminals g.nonterminals) (after_dot g item)
+pub after_below : (g : GrammarView) → IsGrammar g → (item : Item) → All (IsSymbolBelow g.terminals g.nonterminals) (after_dot g item)
 after_below g ok item =
     All-drop (IsSymbolBelow g.terminals g.nonterminals) item.dot _ (right_in_range g.terminals g.nonterminals g.productions g.start item.production ok.start_below ok.productions_below)
 
 -- where each nonterminal derives a text, some terminal begins what stands behind any symbol behind a dot
-pub live : (g : GrammarState) → IsGrammar g → ((a : ℕ) → a < g.nonterminals → IsProductive g a) → IsLive g
+pub live : (g : GrammarView) → IsGrammar g → ((a : ℕ) → a < g.nonterminals → IsProductive g a) → IsLive g
 live g ok p item x rest e t =
     begins g p rest
     (All-tail (IsSymbolBelow g.terminals g.nonterminals) x rest
     (All-same (IsSymbolBelow g.terminals g.nonterminals) (x ∷ rest) (after_dot g item) (sym e) (after_below g ok item))) t
 
 -- a reduced grammar is live
-pub reduced_live : (g : GrammarState) → IsGrammar g → IsReduced g → IsLive g
+pub reduced_live : (g : GrammarView) → IsGrammar g → IsReduced g → IsLive g
 reduced_live g ok reduced = live g ok reduced.productive

@@ -1,7 +1,7 @@
 -- A prefix of a viable prefix is viable, and the kernel's own laws.
 use Rattle.std.proofs.Common.{◌≡◌, ℕ, List, [], ◌∷◌, ◌++◌, refl, sym, ◌∙◌, ap, subst, inl, inr, ◌⊎◌}
 use Rattle.wb_base.specs.declared.symbol.Symbol.{Symbol}
-use Rattle.wb_base.specs.Grammar.{GrammarState}
+use Rattle.wb_base.specs.Grammar.{GrammarView}
 use Rattle.wb_grammars.specs.declared.item.Item.{Item}
 use Rattle.wb_grammars.specs.Rules.{end_of}
 use Rattle.wb_grammars.specs.Items.{IsValidItem, start, close, move, IsViablePrefix, start_item}
@@ -22,7 +22,7 @@ front_cases (y ∷ u) w (z ∷ shorter) x e =
     ]
 
 -- by how an item became valid
-front_valid : {g : GrammarState} {longer : List Symbol} {item : Item} {t : ℕ} → IsValidItem g longer item t → (u w : List Symbol) → longer ≡ u ++ w → IsViablePrefix g u
+front_valid : {g : GrammarView} {longer : List Symbol} {item : Item} {t : ℕ} → IsValidItem g longer item t → (u w : List Symbol) → longer ≡ u ++ w → IsViablePrefix g u
 front_valid {g} start u w e = (start_item g, end_of g, subst (λ z. IsValidItem g z (start_item g) (end_of g)) (sym (nil_parts u w e).0) start)
 front_valid (close item t b rest q u' right v is rule first) u w e = front_valid v u w e
 front_valid {g} (move item x rest shorter {t} {longer} {moved} v is longer_is moved_is) u w e = elim (front_cases u w shorter x (sym e ∙ longer_is)) [
@@ -30,5 +30,5 @@ front_valid {g} (move item x rest shorter {t} {longer} {moved} v is longer_is mo
   | inr front ↦ front_valid v u front.0 front.1
 ]
 
-pub front_viable : (g : GrammarState) (u w : List Symbol) → IsViablePrefix g (u ++ w) → IsViablePrefix g u
+pub front_viable : (g : GrammarView) (u w : List Symbol) → IsViablePrefix g (u ++ w) → IsViablePrefix g u
 front_viable g u w (item, t, v) = front_valid v u w refl

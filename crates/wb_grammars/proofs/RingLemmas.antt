@@ -4,7 +4,7 @@ use Rattle.std.specs.Prelude.{slice_get, All, Contains}
 use Rattle.std.proofs.lemmas.List.Elements.{All-cons, All-nil}
 use Rattle.std.proofs.lemmas.Option.{slice_get_within, get_or_from_slice_get}
 use Rattle.std.proofs.lemmas.Bool.{cases_lt, cases_eq}
-use Rattle.wb_base.specs.Grammar.{GrammarState}
+use Rattle.wb_base.specs.Grammar.{GrammarView}
 use Rattle.wb_grammars.specs.Cycles.{DerivesAlone, IsUnitCycle, IsHiddenLeftRecursive, IsLeftCorner, IsFollowedBy, IsRing, IsUnitRing, IsHiddenRing}
 use Rattle.wb_grammars.specs.Walks.{Walk, one, more, here}
 use Rattle.wb_grammars.proofs.UnitLemmas.{alone_then}
@@ -79,7 +79,7 @@ ring_walk R list ring i j a b from to =
       | inr not_zero ↦ Walk-then w (forward_to 0 j first b at to (omega arith))
     ]
 
-alone_walks : {g : GrammarState} {a b : ℕ} → Walk (DerivesAlone g) a b → DerivesAlone g a b
+alone_walks : {g : GrammarView} {a b : ℕ} → Walk (DerivesAlone g) a b → DerivesAlone g a b
 alone_walks (one r) = r
 alone_walks (more r w) = alone_then r (alone_walks w)
 
@@ -89,7 +89,7 @@ All-from_places P [] h = All-nil P
 All-from_places P (x ∷ list) h = All-cons P x list (h 0 x refl) (All-from_places P list (λ i. h (suc i)))
 
 -- each member of a unit ring derives itself
-pub unit_ring_is : (g : GrammarState) (list : List ℕ) → IsUnitRing g list → (i a : ℕ) → slice_get list i ≡ Some a → IsUnitCycle g a
+pub unit_ring_is : (g : GrammarView) (list : List ℕ) → IsUnitRing g list → (i a : ℕ) → slice_get list i ≡ Some a → IsUnitCycle g a
 unit_ring_is g list ring i a at = alone_walks (ring_walk (DerivesAlone g) list ring i i a a at at)
 
 -- the place of the follower
@@ -100,17 +100,17 @@ follower_place list a b f = elim f.other [
 ]
 
 -- a member of a hidden ring is hidden left recursive
-pub hidden_ring_is : (g : GrammarState) (list : List ℕ) (ring : IsHiddenRing g list) → IsHiddenLeftRecursive g ring.above
+pub hidden_ring_is : (g : GrammarView) (list : List ℕ) (ring : IsHiddenRing g list) → IsHiddenLeftRecursive g ring.above
 hidden_ring_is g list ring =
     let (j, at) = follower_place list ring.above ring.below ring.place in
     (hidden_is g ring.above).1 (here ring.hidden (ring_walk (IsLeftCorner g) list ring.ring j ring.place.place ring.below ring.above at ring.place.one))
 
 -- the same of each member
-pub unit_ring_all : (g : GrammarState) (list : List ℕ) → IsUnitRing g list → All (IsUnitCycle g) list
+pub unit_ring_all : (g : GrammarView) (list : List ℕ) → IsUnitRing g list → All (IsUnitCycle g) list
 unit_ring_all g list ring = All-from_places (IsUnitCycle g) list (λ i a at. unit_ring_is g list ring i a at)
 
 -- a unit cycle alone is a ring
-pub ring_of_one : (g : GrammarState) (a : ℕ) → IsUnitCycle g a → IsUnitRing g (a ∷ [])
+pub ring_of_one : (g : GrammarView) (a : ℕ) → IsUnitCycle g a → IsUnitRing g (a ∷ [])
 ring_of_one g a cycle = record { nonempty = omega arith; each = λ b c f. alone b c f }
   where
     member : (i b : ℕ) → slice_get (a ∷ []) i ≡ Some b → a ≡ b
@@ -123,7 +123,7 @@ ring_of_one g a cycle = record { nonempty = omega arith; each = λ b c f. alone 
         subst (λ z. DerivesAlone g b z) (member j c at) (subst (λ z. DerivesAlone g z a) (member f.place b f.one) cycle)
 
 -- the member above the hidden corner
-pub hidden_ring_member : (g : GrammarState) (list : List ℕ) (ring : IsHiddenRing g list) → Contains list ring.above
+pub hidden_ring_member : (g : GrammarView) (list : List ℕ) (ring : IsHiddenRing g list) → Contains list ring.above
 hidden_ring_member g list ring =
     (ring.place.place, slice_get_within list ring.place.place ring.above ring.place.one, get_or_from_slice_get list ring.place.place ring.above ring.above ring.place.one)
 

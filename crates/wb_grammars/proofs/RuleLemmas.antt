@@ -4,7 +4,7 @@ use Rattle.std.specs.Prelude.{slice_get, IfSome, Option, None}
 use Rattle.std.proofs.lemmas.Option.{slice_get_cases, slice_get_within, get_or_from_slice_get}
 use Rattle.std.proofs.lemmas.List.Elements.{All-get_or}
 use Rattle.wb_base.specs.declared.symbol.Symbol.{Symbol}
-use Rattle.wb_base.specs.Grammar.{GrammarState, Production, IsProductionBelow, IsGrammar}
+use Rattle.wb_base.specs.Grammar.{GrammarView, Production, IsProductionBelow, IsGrammar}
 use Rattle.wb_grammars.specs.Rules.{IsRule}
 
 none_within : (rs : List Production) (p : ℕ) → p < length rs → slice_get rs p ≡ None → ⊥
@@ -14,7 +14,7 @@ none_within rs p h e = elim (slice_get_cases rs p).1 [
 ]
 
 -- the production whose left and right side were read
-pub rule_read : (g : GrammarState) (p left : ℕ) (right : List Symbol) → p < length g.productions → IfSome (slice_get g.productions p) (λ r. left ≡ r.0) → IfSome (slice_get g.productions p) (λ r. right ≡ r.1) → IsRule g p left right
+pub rule_read : (g : GrammarView) (p left : ℕ) (right : List Symbol) → p < length g.productions → IfSome (slice_get g.productions p) (λ r. left ≡ r.0) → IfSome (slice_get g.productions p) (λ r. right ≡ r.1) → IsRule g p left right
 rule_read g p left right h e f = go (slice_get g.productions p) refl e f
   where
     go : (o : Option Production) → slice_get g.productions p ≡ o → IfSome o (λ r. left ≡ r.0) → IfSome o (λ r. right ≡ r.1) → IsRule g p left right
@@ -25,17 +25,17 @@ same_rule : (r s : Production) → Some r ≡ Some s → r ≡ s
 same_rule r s e = cc
 
 -- a number has one production
-pub rule_once : (g : GrammarState) (p a b : ℕ) (right other : List Symbol) → IsRule g p a right → IsRule g p b other → (a ≡ b) × (right ≡ other)
+pub rule_once : (g : GrammarView) (p a b : ℕ) (right other : List Symbol) → IsRule g p a right → IsRule g p b other → (a ≡ b) × (right ≡ other)
 rule_once g p a b right other one two =
     let same = same_rule (a, right) (b, other) (sym one ∙ two) in
     (ap (λ (r : Production). r.0) same, ap (λ (r : Production). r.1) same)
 
 -- a production's number is one of so many
-pub rule_within : (g : GrammarState) (p a : ℕ) (right : List Symbol) → IsRule g p a right → p < length g.productions
+pub rule_within : (g : GrammarView) (p a : ℕ) (right : List Symbol) → IsRule g p a right → p < length g.productions
 rule_within g p a right rule = slice_get_within g.productions p (a, right) rule
 
 -- its numbers are in range
-pub rule_below : (g : GrammarState) (p a : ℕ) (right : List Symbol) → IsGrammar g → IsRule g p a right → IsProductionBelow g.terminals g.nonterminals (a, right)
+pub rule_below : (g : GrammarView) (p a : ℕ) (right : List Symbol) → IsGrammar g → IsRule g p a right → IsProductionBelow g.terminals g.nonterminals (a, right)
 rule_below g p a right ok rule =
     subst (IsProductionBelow g.terminals g.nonterminals) (get_or_from_slice_get g.productions p (a, right) (a, right) rule)
     (All-get_or (IsProductionBelow g.terminals g.nonterminals) g.productions p (a, right) (rule_within g p a right rule) ok.productions_below)

@@ -2,7 +2,7 @@
 use Rattle.std.proofs.Common.{◌≡◌, List, [], ◌∷◌, ◌++◌, refl, sym, ◌∙◌, ap, subst}
 use Rattle.wb_base.specs.declared.symbol.Symbol.{Symbol}
 use Rattle.wb_base.specs.declared.symbol.Symbol.TheVariants.{Terminal, Nonterminal}
-use Rattle.wb_base.specs.Grammar.{GrammarState}
+use Rattle.wb_base.specs.Grammar.{GrammarView}
 use Rattle.wb_grammars.specs.Rules.{IsRule}
 use Rattle.wb_grammars.specs.Derives.{Derives, done, keep, expand, IsText, empty, next}
 use Rattle.wb_grammars.specs.Trees.{Forest, nothing, leaf, node, symbols, IsDerived, Leaf, leaves, text_of}
@@ -17,7 +17,7 @@ text_is [] = empty
 text_is (x ∷ xs) = next x.terminal (text_is xs)
 
 -- the roots of trees derive the text of the leaves
-pub forest_derives : (g : GrammarState) (prefix : List Symbol) (f : Forest) → IsDerived g f → Derives g (symbols f) (text_of (leaves prefix f))
+pub forest_derives : (g : GrammarView) (prefix : List Symbol) (f : Forest) → IsDerived g f → Derives g (symbols f) (text_of (leaves prefix f))
 forest_derives g prefix nothing d = done
 forest_derives g prefix (leaf t l r) d = keep (Terminal t) (forest_derives g (prefix ++ Terminal t ∷ []) r d)
 forest_derives g prefix (node p a k r) (rule, dk, dr) =
@@ -26,7 +26,7 @@ forest_derives g prefix (node p a k r) (rule, dk, dr) =
     (text_joined (leaves prefix k) (leaves (prefix ++ Nonterminal a ∷ []) r))
 
 -- trees of these symbols with the text as their leaves
-pub record Grown (g : GrammarState) (w v : List Symbol) : Type 0 where
+pub record Grown (g : GrammarView) (w v : List Symbol) : Type 0 where
   pub forest : Forest
   pub derived : IsDerived g forest
   pub roots : symbols forest ≡ w
@@ -43,7 +43,7 @@ text_right (Terminal t ∷ u) v (next _ h) = text_right u v h
 text_right (Nonterminal a ∷ u) v h = elim h [ ]
 
 -- what derives a text has such trees
-pub derives_grown : {g : GrammarState} {w v : List Symbol} → Derives g w v → IsText v → Grown g w v
+pub derives_grown : {g : GrammarView} {w v : List Symbol} → Derives g w v → IsText v → Grown g w v
 derives_grown done h = record { forest = nothing; derived = tt; roots = refl; text = λ prefix. refl }
 derives_grown (keep (Terminal t) r) (next _ h) =
     let rest = derives_grown r h in

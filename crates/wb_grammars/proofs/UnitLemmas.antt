@@ -3,7 +3,7 @@ use Rattle.std.proofs.Common.{◌≡◌, ℕ, List, [], ◌∷◌, ◌++◌, ref
 use Rattle.std.specs.Prelude.{◌↔◌}
 use Rattle.wb_base.specs.declared.symbol.Symbol.{Symbol}
 use Rattle.wb_base.specs.declared.symbol.Symbol.TheVariants.{Nonterminal}
-use Rattle.wb_base.specs.Grammar.{GrammarState}
+use Rattle.wb_base.specs.Grammar.{GrammarView}
 use Rattle.wb_grammars.specs.Rules.{IsRule}
 use Rattle.wb_grammars.specs.Derives.{Derives, done, keep, expand, Steps, DerivesInSteps}
 use Rattle.wb_grammars.proofs.DerivesLemmas.{Derives-append, Derives-then, Derives-same, append_nil, Derives-from_steps, Steps-from_derives}
@@ -11,16 +11,16 @@ use Rattle.wb_grammars.specs.Cycles.{IsUnitCycle, IsUnitRule, DerivesAlone}
 use Rattle.wb_grammars.specs.Walks.{Walk, one, more}
 
 -- of a production of a with b in it, b alone is left where all beside it derives the empty text
-pub rule_alone : {g : GrammarState} {a b : ℕ} → IsUnitRule g a b → DerivesAlone g a b
+pub rule_alone : {g : GrammarView} {a b : ℕ} → IsUnitRule g a b → DerivesAlone g a b
 rule_alone {g} {b = b} e =
     (e.p, e.before ++ Nonterminal b ∷ e.after, e.rule, Derives-append e.before_empty (Derives-append (Derives-same g (Nonterminal b ∷ [])) e.after_empty))
 
 -- what derives the next alone, and this another, derives that alone
-pub alone_then : {g : GrammarState} {a b c : ℕ} → DerivesAlone g a b → DerivesAlone g b c → DerivesAlone g a c
+pub alone_then : {g : GrammarView} {a b c : ℕ} → DerivesAlone g a b → DerivesAlone g b c → DerivesAlone g a c
 alone_then {g} {a} {b} {c} (p, right, rule, r) (q, right', rule', r') =
     (p, right, rule, Derives-then r (expand q b right' (Nonterminal c ∷ []) [] rule' r' done refl))
 
-walk_alone : {g : GrammarState} {a b : ℕ} → Walk (IsUnitRule g) a b → DerivesAlone g a b
+walk_alone : {g : GrammarView} {a b : ℕ} → Walk (IsUnitRule g) a b → DerivesAlone g a b
 walk_alone (one e) = rule_alone e
 walk_alone (more e w) = alone_then (rule_alone e) (walk_alone w)
 
@@ -31,7 +31,7 @@ split_one (x ∷ []) v b P e later here = here (cc) (cc)
 split_one (x ∷ y ∷ u) v b P e later here = cc
 
 -- symbols within a right side that derive the nonterminal alone, where all before them derive the empty text
-alone_walk : {g : GrammarState} (a b p : ℕ) (before : List Symbol) {w x : List Symbol} → Derives g w x → x ≡ Nonterminal b ∷ [] → IsRule g p a (before ++ w) → Derives g before [] → Walk (IsUnitRule g) a b
+alone_walk : {g : GrammarView} (a b p : ℕ) (before : List Symbol) {w x : List Symbol} → Derives g w x → x ≡ Nonterminal b ∷ [] → IsRule g p a (before ++ w) → Derives g before [] → Walk (IsUnitRule g) a b
 alone_walk a b p before done e rule empty = cc
 alone_walk {g} a b p before (keep y {w} {v} r) e rule empty =
     let f : y ≡ Nonterminal b = cc in
@@ -44,10 +44,10 @@ alone_walk {g} a b p before (expand q c right u v {w} {x} rule' r s is) e rule e
     (λ nu nv. more (record { p = p; before = before; after = w; rule = rule; before_empty = empty; after_empty = subst (Derives g w) nv s }) (alone_walk c b q [] r nu rule' done))
 
 -- deriving alone is a walk
-pub alone_is : (g : GrammarState) (a b : ℕ) → DerivesAlone g a b ↔ Walk (IsUnitRule g) a b
+pub alone_is : (g : GrammarView) (a b : ℕ) → DerivesAlone g a b ↔ Walk (IsUnitRule g) a b
 alone_is g a b = (λ (p, right, rule, r). alone_walk a b p [] r refl rule done, walk_alone)
 
-pub unit_cycle_is : (g : GrammarState) (a : ℕ) → IsUnitCycle g a ↔ Walk (IsUnitRule g) a a
+pub unit_cycle_is : (g : GrammarView) (a : ℕ) → IsUnitCycle g a ↔ Walk (IsUnitRule g) a a
 unit_cycle_is g a = alone_is g a a
 
 -- one symbol as a list with one in the middle
@@ -58,7 +58,7 @@ middle_of_one (z ∷ []) after x y e = cc
 middle_of_one (z ∷ w ∷ before) after x y e = cc
 
 -- the production of the first step, and the rest
-pub unit_steps : (g : GrammarState) (a : ℕ) → IsUnitCycle g a ↔ DerivesInSteps g (Nonterminal a ∷ []) (Nonterminal a ∷ [])
+pub unit_steps : (g : GrammarView) (a : ℕ) → IsUnitCycle g a ↔ DerivesInSteps g (Nonterminal a ∷ []) (Nonterminal a ∷ [])
 unit_steps g a = (
   λ (p, right, rule, r). ([], [], right, p, a, rule, refl, subst (λ z. Steps g z (Nonterminal a ∷ [])) (sym (append_nil right)) (Steps-from_derives r)),
   λ (before, after, right, p, b, rule, is, steps). back before after right p b rule is steps,

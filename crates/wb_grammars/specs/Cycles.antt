@@ -2,33 +2,33 @@
 use Rattle.std.specs.Prelude.{◌≡◌, ◌≢◌, ◌<◌, ◌+◌, ◌⊎◌, ℕ, List, [], ◌∷◌, ◌++◌, length, slice_get, Some}
 use Rattle.wb_base.specs.declared.symbol.Symbol.{Symbol}
 use Rattle.wb_base.specs.declared.symbol.Symbol.TheVariants.{Nonterminal}
-use Rattle.wb_base.specs.Grammar.{GrammarState}
+use Rattle.wb_base.specs.Grammar.{GrammarView}
 use Rattle.wb_grammars.specs.Rules.{IsRule}
 use Rattle.wb_grammars.specs.Derives.{Derives}
 
 -- the nonterminal a derives b alone in one or more steps
-abbrev pub DerivesAlone : GrammarState → ℕ → ℕ → Type 0
+abbrev pub DerivesAlone : GrammarView → ℕ → ℕ → Type 0
 DerivesAlone g a b = (p : ℕ) × (right : List Symbol) × IsRule g p a right × Derives g right (Nonterminal b ∷ [])
 
 -- the nonterminal derives itself in one or more steps
-abbrev pub IsUnitCycle : GrammarState → ℕ → Type 0
+abbrev pub IsUnitCycle : GrammarView → ℕ → Type 0
 IsUnitCycle g a = DerivesAlone g a a
 
 -- the nonterminal derives `b A c` in one or more steps, where A is itself, and b is at least one symbol and derives the empty text
-abbrev pub IsHiddenLeftRecursive : GrammarState → ℕ → Type 0
+abbrev pub IsHiddenLeftRecursive : GrammarView → ℕ → Type 0
 IsHiddenLeftRecursive g a =
     (p : ℕ) × (right b c : List Symbol) × IsRule g p a right × Derives g right (b ++ Nonterminal a ∷ c) × (b ≢ []) × Derives g b []
 
 -- no nonterminal derives itself in one or more steps
-abbrev pub HasNoUnitCycle : GrammarState → Type 0
+abbrev pub HasNoUnitCycle : GrammarView → Type 0
 HasNoUnitCycle g = (a : ℕ) → ¬ IsUnitCycle g a
 
 -- no nonterminal is hidden left recursive
-abbrev pub HasNoHiddenLeftRecursion : GrammarState → Type 0
+abbrev pub HasNoHiddenLeftRecursion : GrammarView → Type 0
 HasNoHiddenLeftRecursion g = (a : ℕ) → ¬ IsHiddenLeftRecursive g a
 
 -- a production of a has b, and all that stands beside it derives the empty text
-pub record IsUnitRule (g : GrammarState) (a b : ℕ) : Type 0 where
+pub record IsUnitRule (g : GrammarView) (a b : ℕ) : Type 0 where
   pub p : ℕ
   pub before : List Symbol
   pub after : List Symbol
@@ -37,7 +37,7 @@ pub record IsUnitRule (g : GrammarState) (a b : ℕ) : Type 0 where
   pub after_empty : Derives g after []
 
 -- a is the left side of a production with b in it after symbols that derive the empty text
-pub record IsLeftCorner (g : GrammarState) (a b : ℕ) : Type 0 where
+pub record IsLeftCorner (g : GrammarView) (a b : ℕ) : Type 0 where
   pub p : ℕ
   pub before : List Symbol
   pub after : List Symbol
@@ -45,7 +45,7 @@ pub record IsLeftCorner (g : GrammarState) (a b : ℕ) : Type 0 where
   pub before_empty : Derives g before []
 
 -- the same, where these symbols are at least one
-pub record IsHiddenCorner (g : GrammarState) (a b : ℕ) : Type 0 where
+pub record IsHiddenCorner (g : GrammarView) (a b : ℕ) : Type 0 where
   pub corner : IsLeftCorner g a b
   pub hides : corner.before ≢ []
 
@@ -61,11 +61,11 @@ pub record IsRing (R : ℕ → ℕ → Type 0) (list : List ℕ) : Type 0 where
   pub each : (a b : ℕ) → IsFollowedBy list a b → R a b
 
 -- nonterminals each of which derives the next alone, and the last the first, in one or more steps
-abbrev pub IsUnitRing : GrammarState → List ℕ → Type 0
+abbrev pub IsUnitRing : GrammarView → List ℕ → Type 0
 IsUnitRing g list = IsRing (DerivesAlone g) list
 
 -- nonterminals each the left side of a production with the next in it, and the last with the first, after symbols that derive the empty text, and at one place these are at least one
-pub record IsHiddenRing (g : GrammarState) (list : List ℕ) : Type 0 where
+pub record IsHiddenRing (g : GrammarView) (list : List ℕ) : Type 0 where
   pub ring : IsRing (IsLeftCorner g) list
   pub above : ℕ
   pub below : ℕ

@@ -2,13 +2,13 @@
 use Rattle.std.specs.Prelude.{◌≡◌, ◌≢◌, ◌↔◌, ◌⊎◌, ℕ, ◌+◌, List, [], ◌∷◌, ◌++◌, drop}
 use Rattle.wb_base.specs.declared.symbol.Symbol.{Symbol}
 use Rattle.wb_base.specs.declared.symbol.Symbol.TheVariants.{Terminal, Nonterminal}
-use Rattle.wb_base.specs.Grammar.{GrammarState}
+use Rattle.wb_base.specs.Grammar.{GrammarView}
 use Rattle.wb_grammars.specs.declared.item.Item.{Item}
 use Rattle.wb_grammars.specs.Rules.{IsRule, right_of, top_of, end_of}
 use Rattle.wb_grammars.specs.Derives.{IsFirst}
 
 -- the symbols behind the dot
-abbrev pub after_dot : GrammarState → Item → List Symbol
+abbrev pub after_dot : GrammarView → Item → List Symbol
 after_dot g item = drop item.dot (right_of g item.production)
 
 -- the item with its dot one symbol further
@@ -20,27 +20,27 @@ abbrev pub opening : ℕ → Item
 opening p = record { production = p; dot = 0 }
 
 -- the item of `S' -> S` with its dot at the left end
-abbrev pub start_item : GrammarState → Item
+abbrev pub start_item : GrammarView → Item
 start_item g = opening (top_of g)
 
 -- the item with the lookahead is valid for the prefix: the start item with `end` for the empty prefix; a production's opening where an item has its dot before the left side, with each terminal that begins what follows; and an item that moves over a symbol, for the prefix with that symbol behind it
-pub data IsValidItem (g : GrammarState) : List Symbol → Item → ℕ → Type 0 where
+pub data IsValidItem (g : GrammarView) : List Symbol → Item → ℕ → Type 0 where
   start : IsValidItem g [] (start_item g) (end_of g)
   close : (item : Item) (t b : ℕ) (rest : List Symbol) (q u : ℕ) (right : List Symbol) {prefix : List Symbol} → IsValidItem g prefix item t → after_dot g item ≡ Nonterminal b ∷ rest → IsRule g q b right → IsFirst g (rest ++ Terminal t ∷ []) u → IsValidItem g prefix (opening q) u
   move : (item : Item) (x : Symbol) (rest prefix : List Symbol) {t : ℕ} {longer : List Symbol} {moved : Item} → IsValidItem g prefix item t → after_dot g item ≡ x ∷ rest → longer ≡ prefix ++ x ∷ [] → moved ≡ advance item → IsValidItem g longer moved t
 
 -- a list of symbols for which some item is valid
-abbrev pub IsViablePrefix : GrammarState → List Symbol → Type 0
+abbrev pub IsViablePrefix : GrammarView → List Symbol → Type 0
 IsViablePrefix g prefix = (item : Item) × (t : ℕ) × IsValidItem g prefix item t
 
 -- the item, with some lookahead, is valid for the prefix
-abbrev pub HasItem : GrammarState → List Symbol → Item → Type 0
+abbrev pub HasItem : GrammarView → List Symbol → Item → Type 0
 HasItem g prefix item = (t : ℕ) × IsValidItem g prefix item t
 
 -- the item is in the kernel of the prefix: valid, with its dot not at the left end, or the start item where the prefix is empty
-abbrev pub IsKernelItem : GrammarState → List Symbol → Item → Type 0
+abbrev pub IsKernelItem : GrammarView → List Symbol → Item → Type 0
 IsKernelItem g prefix item = HasItem g prefix item × ((item.dot ≢ 0) ⊎ ((item ≡ start_item g) × (prefix ≡ [])))
 
 -- two prefixes have the same kernel
-abbrev pub SameKernel : GrammarState → List Symbol → List Symbol → Type 0
+abbrev pub SameKernel : GrammarView → List Symbol → List Symbol → Type 0
 SameKernel g prefix other = (item : Item) → IsKernelItem g prefix item ↔ IsKernelItem g other item

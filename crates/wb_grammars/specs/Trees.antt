@@ -2,7 +2,7 @@
 use Rattle.std.specs.Prelude.{◌≡◌, ℕ, List, [], ◌∷◌, ◌++◌}
 use Rattle.wb_base.specs.declared.symbol.Symbol.{Symbol}
 use Rattle.wb_base.specs.declared.symbol.Symbol.TheVariants.{Terminal, Nonterminal}
-use Rattle.wb_base.specs.Grammar.{GrammarState}
+use Rattle.wb_base.specs.Grammar.{GrammarView}
 use Rattle.wb_grammars.specs.Rules.{IsRule, end_of}
 
 -- trees, one behind another: a leaf with its terminal and its text, or a node with its production, that production's left side and its children
@@ -18,13 +18,13 @@ symbols (leaf t text rest) = Terminal t ∷ symbols rest
 symbols (node p a children rest) = Nonterminal a ∷ symbols rest
 
 -- each node is one of a production, with a leaf or a tree for each symbol of the right side
-abbrev pub IsDerived : GrammarState → Forest → Type 0
+abbrev pub IsDerived : GrammarView → Forest → Type 0
 IsDerived g nothing = Unit {0}
 IsDerived g (leaf t text rest) = IsDerived g rest
 IsDerived g (node p a children rest) = IsRule g p a (symbols children) × IsDerived g children × IsDerived g rest
 
 -- a tree of the nonterminal
-pub record IsTree (g : GrammarState) (a : ℕ) (tree : Forest) : Type 0 where
+pub record IsTree (g : GrammarView) (a : ℕ) (tree : Forest) : Type 0 where
   pub derived : IsDerived g tree
   pub root : symbols tree ≡ Nonterminal a ∷ []
 
@@ -46,15 +46,15 @@ text_of [] = []
 text_of (x ∷ xs) = Terminal x.terminal ∷ text_of xs
 
 -- the last leaf of a derivation tree, which stands right of the tree of the start
-abbrev pub end_leaf : GrammarState → Leaf
+abbrev pub end_leaf : GrammarView → Leaf
 end_leaf g = record { context = Nonterminal g.start ∷ []; terminal = end_of g; text = [] }
 
 -- a derivation tree: a tree of the start, followed by the one last leaf `end`
-abbrev pub DerivationTree : GrammarState → Forest → Type 0
+abbrev pub DerivationTree : GrammarView → Forest → Type 0
 DerivationTree g tree = IsTree g g.start tree
 
 -- the leaves of a derivation tree from left to right, `end` the last
-abbrev pub leaves_of : GrammarState → Forest → List Leaf
+abbrev pub leaves_of : GrammarView → Forest → List Leaf
 leaves_of g tree = leaves [] tree ++ end_leaf g ∷ []
 
 -- a leaf of the forest, by the path from a root to it: its context grows by the symbol of each sibling that the path passes on the left

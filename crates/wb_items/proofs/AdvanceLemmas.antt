@@ -11,7 +11,7 @@ use Rattle.std.proofs.lemmas.Bool.{cases_eq, cases_lt, true≢false}
 use Rattle.std.proofs.lemmas.Option.{slice_get_within, slice_get-get_or, slice_get-map}
 use Rattle.std.proofs.lemmas.List.Edits.{length-between, get_or-between}
 use Rattle.wb_base.specs.declared.symbol.Symbol.{Symbol}
-use Rattle.wb_base.specs.Grammar.{GrammarState}
+use Rattle.wb_base.specs.Grammar.{GrammarView}
 use Rattle.wb_grammars.specs.declared.item.Item.{Item}
 use Rattle.wb_grammars.specs.Items.{after_dot, advance}
 use Rattle.wb_grammars.specs.Shape.{IsLive}
@@ -26,7 +26,7 @@ use Rattle.wb_items.proofs.ListLemmas.{at_once, at_some, default_at, Contains-at
 use Rattle.wb_items.proofs.OrderLemmas.{Contains_cases, Contains_stays, Contains_last, less_by}
 use Rattle.wb_items.proofs.SymbolOrder.{symbol_not_itself}
 
-pub advances_start : (g : GrammarState) (closure : List Item) → AdvancesUpTo g closure [] 0
+pub advances_start : (g : GrammarView) (closure : List Item) → AdvancesUpTo g closure [] 0
 advances_start g closure = record {
   sound = λ a k. absurd (omega (arith, k.1));
   complete = λ j item x rest lt at is. absurd (omega arith);
@@ -39,7 +39,7 @@ first_same : (x y : Symbol) (rest more : List Symbol) → x ∷ rest ≡ y ∷ m
 first_same x y rest more e = cc
 
 -- an item with nothing behind its dot
-pub advances_pass : (g : GrammarState) (closure : List Item) (list : List Advance) (n : ℕ) (item : Item) → slice_get closure n ≡ Some item → after_dot g item ≡ [] → AdvancesUpTo g closure list n → AdvancesUpTo g closure list (n + 1)
+pub advances_pass : (g : GrammarView) (closure : List Item) (list : List Advance) (n : ℕ) (item : Item) → slice_get closure n ≡ Some item → after_dot g item ≡ [] → AdvancesUpTo g closure list n → AdvancesUpTo g closure list (n + 1)
 advances_pass g closure list n item here nothing h = record {
   sound = λ a k. (let (j, i, r, lt, at, stands, e) = h.sound a k in (j, i, r, omega (arith, lt), at, stands, e));
   complete = λ j other x rest lt at is. elim (cases_eq j n) [
@@ -49,7 +49,7 @@ advances_pass g closure list n item here nothing h = record {
 }
 
 -- an item with a symbol behind its dot
-pub advances_take : (g : GrammarState) (closure : List Item) (list : List Advance) (n : ℕ) (item : Item) (x : Symbol) (rest : List Symbol) (a : Advance) → slice_get closure n ≡ Some item → after_dot g item ≡ x ∷ rest → symbol_of a ≡ x → a.item ≡ advance item → AdvancesUpTo g closure list n → AdvancesUpTo g closure (list ++ a ∷ []) (n + 1)
+pub advances_take : (g : GrammarView) (closure : List Item) (list : List Advance) (n : ℕ) (item : Item) (x : Symbol) (rest : List Symbol) (a : Advance) → slice_get closure n ≡ Some item → after_dot g item ≡ x ∷ rest → symbol_of a ≡ x → a.item ≡ advance item → AdvancesUpTo g closure list n → AdvancesUpTo g closure (list ++ a ∷ []) (n + 1)
 advances_take g closure list n item x rest a here is over e h = record {
   sound = λ b k. elim (Contains_cases list a b k) [
     | inl old ↦ (let (j, i, r, lt, at, stands, f) = h.sound b old in (j, i, r, omega (arith, lt), at, stands, f))
@@ -69,7 +69,7 @@ advances_take g closure list n item x rest a here is over e h = record {
 }
 
 -- all items of the closure are there, in any order
-pub advances_done : (g : GrammarState) (closure : List Item) (list moved : List Advance) (n : ℕ) → length closure ≤ n → AdvancesUpTo g closure list n → ((a : Advance) → Contains list a → Contains moved a) → ((a : Advance) → Contains moved a → Contains list a) → (x : Symbol) (item : Item) → HasAdvance moved x item ↔ IsMoved g closure x item
+pub advances_done : (g : GrammarView) (closure : List Item) (list moved : List Advance) (n : ℕ) → length closure ≤ n → AdvancesUpTo g closure list n → ((a : Advance) → Contains list a → Contains moved a) → ((a : Advance) → Contains moved a → Contains list a) → (x : Symbol) (item : Item) → HasAdvance moved x item ↔ IsMoved g closure x item
 advances_done g closure list moved n past h there back x item = (
   λ k. (let (j, i, r, lt, at, stands, e) = h.sound k.advance (back k.advance k.listed) in
       record { item = i; rest = r; listed = Contains-at closure j i at; before_dot = stands ∙ ap (λ z. z ∷ r) k.over; is = sym k.is ∙ e }),
@@ -102,7 +102,7 @@ sorted_advances list sorted k a b at at' less =
     by_parts c d h = less_kind c.nonterminal d.nonterminal c.number d.number c.item d.item h
 
 -- the items that move are those of the next kernels
-pub advances_list : (g : GrammarState) → IsLive g → (prefix : List Symbol) (closure : List Item) (list : List Advance) → ListsItems g prefix closure → ((x : Symbol) (item : Item) → HasAdvance list x item ↔ IsMoved g closure x item) → ListsAdvances g prefix list
+pub advances_list : (g : GrammarView) → IsLive g → (prefix : List Symbol) (closure : List Item) (list : List Advance) → ListsItems g prefix closure → ((x : Symbol) (item : Item) → HasAdvance list x item ↔ IsMoved g closure x item) → ListsAdvances g prefix list
 advances_list g live prefix closure list lists exact x item = (
   λ k. (let m = (exact x item).0 k in let (t, v) = (lists m.item).0 m.listed in record { item = m.item; rest = m.rest; within = closure_complete v; before_dot = m.before_dot; is = m.is }),
   λ m. (exact x item).1 (record { item = m.item; rest = m.rest; listed = (lists m.item).1 (closure_sound prefix live m.within); before_dot = m.before_dot; is = m.is }),

@@ -6,7 +6,7 @@ use Rattle.std.proofs.lemmas.Option.{slice_get_within}
 use Rattle.std.proofs.lemmas.Bool.{cases_eq}
 use Rattle.wb_base.specs.declared.symbol.Symbol.{Symbol}
 use Rattle.wb_base.specs.declared.symbol.Symbol.TheVariants.{Nonterminal}
-use Rattle.wb_base.specs.Grammar.{GrammarState}
+use Rattle.wb_base.specs.Grammar.{GrammarView}
 use Rattle.wb_termset.specs.Sets.{Has}
 use Rattle.wb_termset.proofs.CallerLemmas.{IsSubset-insert, Has-insert_same, Has-insert, IsEmpty-replicate, has_or_not}
 use Rattle.wb_grammars.specs.declared.item.Item.{Item}
@@ -51,7 +51,7 @@ opening_from (n ∷ numbers) zero z e = (n, refl, let f : opening n ≡ z = cc i
 opening_from (n ∷ numbers) (suc j) z e = opening_from numbers j z e
 
 -- the kernel alone
-pub closing_start : (g : GrammarState) (items : List Item) → IsClosing g items (replicate g.nonterminals false) items 0
+pub closing_start : (g : GrammarView) (items : List Item) → IsClosing g items (replicate g.nonterminals false) items 0
 closing_start g items = record {
   len = length-replicate g.nonterminals false;
   front = λ item k. k;
@@ -61,7 +61,7 @@ closing_start g items = record {
 }
 
 -- nothing new stands behind the dot at the place
-pub closing_pass : (g : GrammarState) (items : List Item) (set : List Bool) (closure : List Item) (place : ℕ) → ((item : Item) (b : ℕ) (rest : List Symbol) → slice_get closure place ≡ Some item → after_dot g item ≡ Nonterminal b ∷ rest → Has set b) → IsClosing g items set closure place → IsClosing g items set closure (place + 1)
+pub closing_pass : (g : GrammarView) (items : List Item) (set : List Bool) (closure : List Item) (place : ℕ) → ((item : Item) (b : ℕ) (rest : List Symbol) → slice_get closure place ≡ Some item → after_dot g item ≡ Nonterminal b ∷ rest → Has set b) → IsClosing g items set closure place → IsClosing g items set closure (place + 1)
 closing_pass g items set closure place here h = record {
   len = h.len;
   front = h.front;
@@ -77,7 +77,7 @@ nonterminal_same : (b c : ℕ) (rest more : List Symbol) → Nonterminal b ∷ r
 nonterminal_same b c rest more e = cc
 
 -- the openings of the nonterminal behind the dot at the place go behind the others
-pub closing_more : (g : GrammarState) (items : List Item) (flags : List Bool) (closure : List Item) (place : ℕ) (item : Item) (b : ℕ) (rest : List Symbol) (numbers : List ℕ) → slice_get closure place ≡ Some item → after_dot g item ≡ Nonterminal b ∷ rest → b < length flags → AreRulesOf g b numbers → IsClosing g items flags closure place → IsClosing g items (set flags b true) (closure ++ map opening numbers) (place + 1)
+pub closing_more : (g : GrammarView) (items : List Item) (flags : List Bool) (closure : List Item) (place : ℕ) (item : Item) (b : ℕ) (rest : List Symbol) (numbers : List ℕ) → slice_get closure place ≡ Some item → after_dot g item ≡ Nonterminal b ∷ rest → b < length flags → AreRulesOf g b numbers → IsClosing g items flags closure place → IsClosing g items (set flags b true) (closure ++ map opening numbers) (place + 1)
 closing_more g items flags closure place item b rest numbers here before lt rules h = record {
   len = length-set flags b true ∙ h.len;
   front = λ z k. Contains_left closure (map opening numbers) z (h.front z k);
@@ -107,19 +107,19 @@ closing_more g items flags closure place item b rest numbers here before lt rule
       ];
 }
 
-closing_back : (g : GrammarState) (items : List Item) (flags : List Bool) (closure : List Item) (place : ℕ) → length closure ≤ place → IsClosing g items flags closure place → {item : Item} → InClosure g (Contains items) item → Contains closure item
+closing_back : (g : GrammarView) (items : List Item) (flags : List Bool) (closure : List Item) (place : ℕ) → length closure ≤ place → IsClosing g items flags closure place → {item : Item} → InClosure g (Contains items) item → Contains closure item
 closing_back g items flags closure place past h (kernel k) = h.front _ k
 closing_back g items flags closure place past h (opened item b rest q right c is rule) =
     let (p, at) = at_Contains closure item (closing_back g items flags closure place past h c) in
     h.complete b q right (h.closed p item b rest (let w = slice_get_within closure p item at in omega (arith, w, past)) at is) rule
 
 -- each place was gone over, and a list has the same items
-pub closing_done : (g : GrammarState) (items : List Item) (flags : List Bool) (closure list : List Item) (place : ℕ) → length closure ≤ place → IsClosing g items flags closure place → ((item : Item) → Contains closure item → Contains list item) → ((item : Item) → Contains list item → Contains closure item) → (item : Item) → Contains list item ↔ InClosure g (Contains items) item
+pub closing_done : (g : GrammarView) (items : List Item) (flags : List Bool) (closure list : List Item) (place : ℕ) → length closure ≤ place → IsClosing g items flags closure place → ((item : Item) → Contains closure item → Contains list item) → ((item : Item) → Contains list item → Contains closure item) → (item : Item) → Contains list item ↔ InClosure g (Contains items) item
 closing_done g items flags closure list place past h there back item =
     (λ k. (let (p, at) = at_Contains closure item (back item k) in h.sound p item at), λ c. there item (closing_back g items flags closure place past h c))
 
 -- the nonterminal behind the dot at the place is known
-pub closing_known : (g : GrammarState) (items : List Item) (flags : List Bool) (closure : List Item) (place : ℕ) (item : Item) (b : ℕ) (rest : List Symbol) → slice_get closure place ≡ Some item → after_dot g item ≡ Nonterminal b ∷ rest → ((¬ Has flags b) → ⊥) → IsClosing g items flags closure place → IsClosing g items flags closure (place + 1)
+pub closing_known : (g : GrammarView) (items : List Item) (flags : List Bool) (closure : List Item) (place : ℕ) (item : Item) (b : ℕ) (rest : List Symbol) → slice_get closure place ≡ Some item → after_dot g item ≡ Nonterminal b ∷ rest → ((¬ Has flags b) → ⊥) → IsClosing g items flags closure place → IsClosing g items flags closure (place + 1)
 closing_known g items flags closure place item b rest here before known h = closing_pass g items flags closure place (λ z c more at is.
     let e : item ≡ z = at_once closure place item z here at in
     let f : b ≡ c = nonterminal_same b c rest more (sym before ∙ ap (after_dot g) e ∙ is) in

@@ -4,7 +4,7 @@ use Rattle.std.specs.Prelude.{slice_get, Contains, ◌↔◌}
 use Rattle.std.proofs.lemmas.Option.{slice_get_within}
 use Rattle.std.proofs.lemmas.Bool.{cases_lt}
 use Rattle.wb_base.specs.declared.symbol.Symbol.{Symbol}
-use Rattle.wb_base.specs.Grammar.{GrammarState}
+use Rattle.wb_base.specs.Grammar.{GrammarView}
 use Rattle.wb_grammars.specs.declared.item.Item.{Item}
 use Rattle.wb_grammars.specs.Items.{advance}
 use Rattle.wb_grammars.specs.Shape.{IsLive}
@@ -23,7 +23,7 @@ use Rattle.wb_items.proofs.TableLemmas.{prefix_at, moved_kernel, grows_then, gro
 use Rattle.wb_items.proofs.OrderLemmas.{Contains_cases, Contains_stays, Contains_last}
 use Rattle.wb_items.proofs.SymbolOrder.{symbol_not_itself}
 
-pub moves_start : (g : GrammarState) (old : FoundState) (list : List Advance) (s : ℕ) → AreKernelsOf g old.prefixes old.kernels → s < length old.kernels → ((prefix : List Symbol) → slice_get old.prefixes s ≡ Some prefix → ListsAdvances g prefix list) → MovesUpTo g old old list s [] 0
+pub moves_start : (g : GrammarView) (old : FoundState) (list : List Advance) (s : ℕ) → AreKernelsOf g old.prefixes old.kernels → s < length old.kernels → ((prefix : List Symbol) → slice_get old.prefixes s ≡ Some prefix → ListsAdvances g prefix list) → MovesUpTo g old old list s [] 0
 moves_start g old list s kernels within lists = record {
   kernels = kernels;
   grows = grows_none old;
@@ -36,13 +36,13 @@ moves_start g old list s kernels within lists = record {
 }
 
 -- no earlier place has the symbol of a place
-pub moves_apart : (g : GrammarState) (old now : FoundState) (list : List Advance) (s : ℕ) (row : List Move) (n : ℕ) (x : Symbol) (b : Advance) → MovesUpTo g old now list s row n → slice_get list n ≡ Some b → symbol_of b ≡ x → (j : ℕ) (a : Advance) → j < n → slice_get list j ≡ Some a → symbol_of a ≡ x → ⊥
+pub moves_apart : (g : GrammarView) (old now : FoundState) (list : List Advance) (s : ℕ) (row : List Move) (n : ℕ) (x : Symbol) (b : Advance) → MovesUpTo g old now list s row n → slice_get list n ≡ Some b → symbol_of b ≡ x → (j : ℕ) (a : Advance) → j < n → slice_get list j ≡ Some a → symbol_of a ≡ x → ⊥
 moves_apart g old now list s row n x b h here is j a lt at over =
     let (next, k) = h.complete j a lt at in
     symbol_not_itself x (subst (λ z. SymbolPrecedes z x) over (subst (SymbolPrecedes (symbol_of a)) is (h.apart (record { symbol = symbol_of a; state = next }) n b k (omega arith) here)))
 
 -- the items of a run are the kernel that its symbol leads to
-pub run_kernel : (g : GrammarState) → IsLive g → (old now : FoundState) (list : List Advance) (s : ℕ) (row : List Move) (n end : ℕ) (x : Symbol) (b : Advance) (prefix : List Symbol) (kernel : List Item) → slice_get list n ≡ Some b → symbol_of b ≡ x → AreAdvancesRising list → IsRun list x n end → MovesUpTo g old now list s row n → slice_get now.prefixes s ≡ Some prefix → ((item : Item) → Contains kernel item ↔ Contains (items_of (between n end list)) item) → AreInOrder kernel → IsKernelFor g (prefix ++ x ∷ []) kernel
+pub run_kernel : (g : GrammarView) → IsLive g → (old now : FoundState) (list : List Advance) (s : ℕ) (row : List Move) (n end : ℕ) (x : Symbol) (b : Advance) (prefix : List Symbol) (kernel : List Item) → slice_get list n ≡ Some b → symbol_of b ≡ x → AreAdvancesRising list → IsRun list x n end → MovesUpTo g old now list s row n → slice_get now.prefixes s ≡ Some prefix → ((item : Item) → Contains kernel item ↔ Contains (items_of (between n end list)) item) → AreInOrder kernel → IsKernelFor g (prefix ++ x ∷ []) kernel
 run_kernel g live old now list s row n end x b prefix kernel here is rising run h at same in_order =
     moved_kernel g live prefix x kernel b.item (λ item.
     let lists = h.lists prefix at x item in
@@ -54,7 +54,7 @@ run_kernel g live old now list s row n end x b prefix kernel here is rising run 
     exact = run_exact list x n end rising run (moves_apart g old now list s row n x b h here is)
 
 -- a move by the symbol of a run goes behind the others
-pub moves_more : (g : GrammarState) (old now new : FoundState) (list : List Advance) (s : ℕ) (row more : List Move) (n end : ℕ) (x : Symbol) (b : Advance) (next : ℕ) → slice_get list n ≡ Some b → symbol_of b ≡ x → IsRun list x n end → MovesUpTo g old now list s row n → AreKernelsOf g new.prefixes new.kernels → Grows now new → Leads g new.prefixes s x next → more ≡ row ++ record { symbol = x; state = next } ∷ [] → MovesUpTo g old new list s more end
+pub moves_more : (g : GrammarView) (old now new : FoundState) (list : List Advance) (s : ℕ) (row more : List Move) (n end : ℕ) (x : Symbol) (b : Advance) (next : ℕ) → slice_get list n ≡ Some b → symbol_of b ≡ x → IsRun list x n end → MovesUpTo g old now list s row n → AreKernelsOf g new.prefixes new.kernels → Grows now new → Leads g new.prefixes s x next → more ≡ row ++ record { symbol = x; state = next } ∷ [] → MovesUpTo g old new list s more end
 moves_more g old now new list s row more n end x b next here is run h kernels grows leads e =
     let (prefix, there) = prefix_at h.kernels s h.within in
     let there' = grows.prefixes s prefix there in
@@ -78,7 +78,7 @@ moves_more g old now new list s row more n end x b next here is run h kernels gr
     })
   where
     -- a row with one move more
-    row_more : (g : GrammarState) (prefixes : List (List Symbol)) (s : ℕ) (row : List Move) (x : Symbol) (next : ℕ) → AreMoves g prefixes s row → Leads g prefixes s x next → AreMoves g prefixes s (row ++ record { symbol = x; state = next } ∷ [])
+    row_more : (g : GrammarView) (prefixes : List (List Symbol)) (s : ℕ) (row : List Move) (x : Symbol) (next : ℕ) → AreMoves g prefixes s row → Leads g prefixes s x next → AreMoves g prefixes s (row ++ record { symbol = x; state = next } ∷ [])
     row_more g prefixes s row x next h leads step k = elim (Contains_cases row (record { symbol = x; state = next }) step k) [
       | inl old ↦ h step old
       | inr is ↦ subst (λ (z : Move). Leads g prefixes s z.symbol z.state) is leads
@@ -97,7 +97,7 @@ moves_more g old now new list s row more n end x b next here is run h kernels gr
     ]
 
 -- each place has its move
-pub moves_done : (g : GrammarState) (old now : FoundState) (closure : List Item) (list : List Advance) (s : ℕ) (row : List Move) (n : ℕ) → length list ≤ n → ((x : Symbol) (item : Item) → HasAdvance list x item ↔ IsMoved g closure x item) → MovesUpTo g old now list s row n → IsRow g now.prefixes closure s row
+pub moves_done : (g : GrammarView) (old now : FoundState) (closure : List Item) (list : List Advance) (s : ℕ) (row : List Move) (n : ℕ) → length list ≤ n → ((x : Symbol) (item : Item) → HasAdvance list x item ↔ IsMoved g closure x item) → MovesUpTo g old now list s row n → IsRow g now.prefixes closure s row
 moves_done g old now closure list s row n past exact h = record {
   sound = h.sound;
   ordered = h.ordered;
@@ -109,8 +109,8 @@ moves_done g old now closure list s row n past exact h = record {
 }
 
 -- a pass goes on from what is there
-pub moves_now : (g : GrammarState) (old now : FoundState) (list : List Advance) (s : ℕ) (row : List Move) (n : ℕ) → MovesUpTo g old now list s row n → MovesUpTo g now now list s row n
+pub moves_now : (g : GrammarView) (old now : FoundState) (list : List Advance) (s : ℕ) (row : List Move) (n : ℕ) → MovesUpTo g old now list s row n → MovesUpTo g now now list s row n
 moves_now g old now list s row n h = record { kernels = h.kernels; grows = grows_none now; within = h.within; lists = h.lists; sound = h.sound; ordered = h.ordered; complete = h.complete; apart = h.apart }
 
-pub moves_then : (g : GrammarState) (old now new : FoundState) (list : List Advance) (s : ℕ) (row : List Move) (n : ℕ) → Grows old now → MovesUpTo g now new list s row n → MovesUpTo g old new list s row n
+pub moves_then : (g : GrammarView) (old now new : FoundState) (list : List Advance) (s : ℕ) (row : List Move) (n : ℕ) → Grows old now → MovesUpTo g now new list s row n → MovesUpTo g old new list s row n
 moves_then g old now new list s row n first h = record { kernels = h.kernels; grows = grows_then first h.grows; within = h.within; lists = h.lists; sound = h.sound; ordered = h.ordered; complete = h.complete; apart = h.apart }

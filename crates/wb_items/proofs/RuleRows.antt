@@ -5,7 +5,7 @@ use Rattle.std.proofs.lemmas.Option.{slice_get_within, same_Some}
 use Rattle.std.proofs.lemmas.List.{length-replicate}
 use Rattle.std.proofs.lemmas.Bool.{cases_eq}
 use Rattle.wb_base.specs.declared.symbol.Symbol.{Symbol}
-use Rattle.wb_base.specs.Grammar.{GrammarState}
+use Rattle.wb_base.specs.Grammar.{GrammarView}
 use Rattle.wb_grammars.specs.Rules.{IsRule}
 use Rattle.wb_grammars.proofs.RuleLemmas.{rule_once, rule_within}
 use Rattle.wb_items.specs.Table.{AreRulesOf, AreRules}
@@ -13,7 +13,7 @@ use Rattle.wb_items.specs.Passes.{RulesUpTo, RowsUpTo}
 use Rattle.wb_items.proofs.OrderLemmas.{Contains_cases, Contains_stays}
 use Rattle.wb_items.proofs.ListLemmas.{at_cases, at_end, Contains-at}
 
-rules_start : (g : GrammarState) (b : ℕ) → RulesUpTo g b [] 0
+rules_start : (g : GrammarView) (b : ℕ) → RulesUpTo g b [] 0
 rules_start g b = record {
   below = λ q k. absurd (omega (arith, k.1));
   sound = λ q k. absurd (omega (arith, k.1));
@@ -22,7 +22,7 @@ rules_start g b = record {
 }
 
 -- one more production, which is of the nonterminal
-rules_take : (g : GrammarState) (b : ℕ) (numbers : List ℕ) (n : ℕ) (right : List Symbol) → RulesUpTo g b numbers n → IsRule g n b right → RulesUpTo g b (numbers ++ n ∷ []) (n + 1)
+rules_take : (g : GrammarView) (b : ℕ) (numbers : List ℕ) (n : ℕ) (right : List Symbol) → RulesUpTo g b numbers n → IsRule g n b right → RulesUpTo g b (numbers ++ n ∷ []) (n + 1)
 rules_take g b numbers n right h rule = record {
   below = λ q k. elim (Contains_cases numbers n q k) [
     | inl old ↦ (let lt = h.below q old in omega (arith, lt))
@@ -49,7 +49,7 @@ rules_take g b numbers n right h rule = record {
 }
 
 -- one more production, which isn't
-rules_pass : (g : GrammarState) (a b : ℕ) (numbers : List ℕ) (n : ℕ) (right : List Symbol) → RulesUpTo g b numbers n → IsRule g n a right → (a ≡ b → ⊥) → RulesUpTo g b numbers (n + 1)
+rules_pass : (g : GrammarView) (a b : ℕ) (numbers : List ℕ) (n : ℕ) (right : List Symbol) → RulesUpTo g b numbers n → IsRule g n a right → (a ≡ b → ⊥) → RulesUpTo g b numbers (n + 1)
 rules_pass g a b numbers n right h rule ne = record {
   below = λ q k. (let lt = h.below q k in omega (arith, lt));
   sound = h.sound;
@@ -60,7 +60,7 @@ rules_pass g a b numbers n right h rule ne = record {
   rising = h.rising;
 }
 
-rules_done : (g : GrammarState) (b : ℕ) (numbers : List ℕ) (n : ℕ) → length g.productions ≤ n → RulesUpTo g b numbers n → AreRulesOf g b numbers
+rules_done : (g : GrammarView) (b : ℕ) (numbers : List ℕ) (n : ℕ) → length g.productions ≤ n → RulesUpTo g b numbers n → AreRulesOf g b numbers
 rules_done g b numbers n past h = record {
   sound = h.sound;
   complete = λ q right rule. h.complete q right (let lt = rule_within g q b right rule in omega (arith, lt)) rule;
@@ -73,14 +73,14 @@ empty_at (suc count) zero numbers at = sym (same_Some [] numbers at)
 empty_at (suc count) (suc b) numbers at = empty_at count b numbers at
 
 -- empty rows
-pub rows_start : (g : GrammarState) → RowsUpTo g (replicate g.nonterminals []) 0
+pub rows_start : (g : GrammarView) → RowsUpTo g (replicate g.nonterminals []) 0
 rows_start g = record {
   len = length-replicate {A = List ℕ} g.nonterminals [];
   each = λ b numbers at. subst (λ z. RulesUpTo g b z 0) (sym (empty_at g.nonterminals b numbers at)) (rules_start g b);
 }
 
 -- one more production goes to the row of its left side
-pub rows_more : (g : GrammarState) (rows : List (List ℕ)) (n left : ℕ) (right : List Symbol) (numbers : List ℕ) → IsRule g n left right → slice_get rows left ≡ Some numbers → RowsUpTo g rows n → RowsUpTo g (slice_set rows left (numbers ++ n ∷ [])) (n + 1)
+pub rows_more : (g : GrammarView) (rows : List (List ℕ)) (n left : ℕ) (right : List Symbol) (numbers : List ℕ) → IsRule g n left right → slice_get rows left ≡ Some numbers → RowsUpTo g rows n → RowsUpTo g (slice_set rows left (numbers ++ n ∷ [])) (n + 1)
 rows_more g rows n left right numbers rule here h = record {
   len = length-set {A = List ℕ} rows left (numbers ++ n ∷ []) ∙ h.len;
   each = λ b other at. elim (cases_eq b left) [
@@ -104,5 +104,5 @@ rows_more g rows n left right numbers rule here h = record {
     set_elsewhere (row ∷ rows) (suc j) (suc b) new other ne at = set_elsewhere rows j b new other (λ same. ne (ap suc same)) at
 
 -- all productions have been gone over
-pub rows_done : (g : GrammarState) (rows : List (List ℕ)) (n : ℕ) → length g.productions ≤ n → RowsUpTo g rows n → AreRules g rows
+pub rows_done : (g : GrammarView) (rows : List (List ℕ)) (n : ℕ) → length g.productions ≤ n → RowsUpTo g rows n → AreRules g rows
 rows_done g rows n past h = record { len = h.len; each = λ b numbers at. rules_done g b numbers n past (h.each b numbers at) }

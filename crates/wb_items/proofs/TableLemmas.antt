@@ -3,7 +3,7 @@ use Rattle.std.proofs.Common.{◌≡◌, ℕ, ◌<◌, List, [], ◌∷◌, ◌+
 use Rattle.std.specs.Prelude.{slice_get, slice_index_or, Contains, ◌↔◌}
 use Rattle.std.proofs.lemmas.Option.{slice_get_within, slice_get-get_or}
 use Rattle.wb_base.specs.declared.symbol.Symbol.{Symbol}
-use Rattle.wb_base.specs.Grammar.{GrammarState}
+use Rattle.wb_base.specs.Grammar.{GrammarView}
 use Rattle.wb_grammars.specs.declared.item.Item.{Item}
 use Rattle.wb_grammars.specs.Rules.{end_of}
 use Rattle.wb_grammars.specs.Items.{after_dot, advance, opening, IsValidItem, move, HasItem, IsKernelItem, IsViablePrefix, SameKernel, start_item}
@@ -19,7 +19,7 @@ use Rattle.wb_items.specs.Table.{SameItems, AreKernelsOf, AreMoves, IsKernelFor,
 use Rattle.wb_items.proofs.ListLemmas.{at_cases, at_end, at_stays, at_once, at_one, Contains-at, at_Contains}
 
 -- a number of kernels has its prefix
-pub prefix_at : {g : GrammarState} {prefixes : List (List Symbol)} {kernels : List (List Item)} → AreKernelsOf g prefixes kernels → (s : ℕ) → s < length kernels → (prefix : List Symbol) × (slice_get prefixes s ≡ Some prefix)
+pub prefix_at : {g : GrammarView} {prefixes : List (List Symbol)} {kernels : List (List Item)} → AreKernelsOf g prefixes kernels → (s : ℕ) → s < length kernels → (prefix : List Symbol) × (slice_get prefixes s ≡ Some prefix)
 prefix_at {prefixes = prefixes} h s lt = (slice_index_or prefixes s [], slice_get-get_or prefixes s [] (omega (arith, h.len)))
 
 -- one item is in order
@@ -27,7 +27,7 @@ pub one_in_order : (item : Item) → AreInOrder (item ∷ [])
 one_in_order item i j a b lt p q = absurd (omega (arith, (at_one item a i p).0, (at_one item b j q).0))
 
 -- the kernel of the empty prefix alone
-pub first_found : (g : GrammarState) → AreKernelsOf g ([] ∷ []) ((start_item g ∷ []) ∷ [])
+pub first_found : (g : GrammarView) → AreKernelsOf g ([] ∷ []) ((start_item g ∷ []) ∷ [])
 first_found g = record {
   len = refl;
   first = refl;
@@ -47,7 +47,7 @@ turned : (items other : List Item) → SameItems items other → SameItems other
 turned items other same item = ((same item).1, (same item).0)
 
 -- a kernel that is new goes behind the others
-pub kernel_added : (g : GrammarState) (prefixes : List (List Symbol)) (kernels : List (List Item)) (longer : List Symbol) (new : List Item) → AreKernelsOf g prefixes kernels → IsKernelFor g longer new → ((s : ℕ) (other : List Item) → slice_get kernels s ≡ Some other → ¬ SameItems other new) → AreKernelsOf g (prefixes ++ longer ∷ []) (kernels ++ new ∷ [])
+pub kernel_added : (g : GrammarView) (prefixes : List (List Symbol)) (kernels : List (List Item)) (longer : List Symbol) (new : List Item) → AreKernelsOf g prefixes kernels → IsKernelFor g longer new → ((s : ℕ) (other : List Item) → slice_get kernels s ≡ Some other → ¬ SameItems other new) → AreKernelsOf g (prefixes ++ longer ∷ []) (kernels ++ new ∷ [])
 kernel_added g prefixes kernels longer new h k fresh = record {
   len = omega (arith, h.len, length-append {A = List Symbol} prefixes (longer ∷ []), length-append {A = List Item} kernels (new ∷ []));
   first = at_stays prefixes longer 0 [] h.first;
@@ -95,7 +95,7 @@ pub grows_then : {one two three : FoundState} → Grows one two → Grows two th
 grows_then p q = record { prefixes = λ s prefix at. q.prefixes s prefix (p.prefixes s prefix at); kernels = λ s items at. q.kernels s items (p.kernels s items at) }
 
 -- the kernel is there with the same items
-pub leads_known : (g : GrammarState) (prefixes : List (List Symbol)) (kernels : List (List Item)) (s : ℕ) (x : Symbol) (prefix : List Symbol) (new : List Item) (next : ℕ) (items : List Item) → AreKernelsOf g prefixes kernels → slice_get prefixes s ≡ Some prefix → IsKernelFor g (prefix ++ x ∷ []) new → slice_get kernels next ≡ Some items → SameItems items new → Leads g prefixes s x next
+pub leads_known : (g : GrammarView) (prefixes : List (List Symbol)) (kernels : List (List Item)) (s : ℕ) (x : Symbol) (prefix : List Symbol) (new : List Item) (next : ℕ) (items : List Item) → AreKernelsOf g prefixes kernels → slice_get prefixes s ≡ Some prefix → IsKernelFor g (prefix ++ x ∷ []) new → slice_get kernels next ≡ Some items → SameItems items new → Leads g prefixes s x next
 leads_known g prefixes kernels s x prefix new next items h at k there same =
     let (other, to) = prefix_at h next (slice_get_within kernels next items there) in
     record {
@@ -111,7 +111,7 @@ leads_known g prefixes kernels s x prefix new next items h at k there same =
     }
 
 -- the kernel was put last
-pub leads_new : (g : GrammarState) (prefixes : List (List Symbol)) (s : ℕ) (x : Symbol) (prefix : List Symbol) (next : ℕ) → slice_get prefixes s ≡ Some prefix → IsViablePrefix g (prefix ++ x ∷ []) → next ≡ length prefixes → Leads g (prefixes ++ (prefix ++ x ∷ []) ∷ []) s x next
+pub leads_new : (g : GrammarView) (prefixes : List (List Symbol)) (s : ℕ) (x : Symbol) (prefix : List Symbol) (next : ℕ) → slice_get prefixes s ≡ Some prefix → IsViablePrefix g (prefix ++ x ∷ []) → next ≡ length prefixes → Leads g (prefixes ++ (prefix ++ x ∷ []) ∷ []) s x next
 leads_new g prefixes s x prefix next at viable last = record {
   prefix = prefix;
   other = prefix ++ x ∷ [];
@@ -122,14 +122,14 @@ leads_new g prefixes s x prefix next at viable last = record {
 }
 
 -- what leads still leads among more
-pub leads_grows : {g : GrammarState} (old new : FoundState) {s : ℕ} {x : Symbol} {next : ℕ} → Grows old new → Leads g old.prefixes s x next → Leads g new.prefixes s x next
+pub leads_grows : {g : GrammarView} (old new : FoundState) {s : ℕ} {x : Symbol} {next : ℕ} → Grows old new → Leads g old.prefixes s x next → Leads g new.prefixes s x next
 leads_grows old new h l = record { prefix = l.prefix; other = l.other; at = h.prefixes _ l.prefix l.at; to = h.prefixes _ l.other l.to; viable = l.viable; same = l.same }
 
-pub moves_grow : {g : GrammarState} (old new : FoundState) (s : ℕ) (row : List Move) → Grows old new → AreMoves g old.prefixes s row → AreMoves g new.prefixes s row
+pub moves_grow : {g : GrammarView} (old new : FoundState) (s : ℕ) (row : List Move) → Grows old new → AreMoves g old.prefixes s row → AreMoves g new.prefixes s row
 moves_grow old new s row h moves step there = leads_grows old new h (moves step there)
 
 -- the items that move over a symbol are the kernel of the longer prefix
-pub moved_kernel : (g : GrammarState) → IsLive g → (prefix : List Symbol) (x : Symbol) (items : List Item) (first : Item) → ((item : Item) → Contains items item ↔ MovesTo g (IsKernelItem g prefix) x item) → AreInOrder items → Contains items first → IsKernelFor g (prefix ++ x ∷ []) items
+pub moved_kernel : (g : GrammarView) → IsLive g → (prefix : List Symbol) (x : Symbol) (items : List Item) (first : Item) → ((item : Item) → Contains items item ↔ MovesTo g (IsKernelItem g prefix) x item) → AreInOrder items → Contains items first → IsKernelFor g (prefix ++ x ∷ []) items
 moved_kernel g live prefix x items first exact in_order there = record {
   viable = (let ((t, v), _) = (moves_exact g live prefix x first).1 ((exact first).0 there) in (first, t, v));
   exact = λ item. (
@@ -139,23 +139,23 @@ moved_kernel g live prefix x items first exact in_order there = record {
   sorted = in_order;
 }
 
-closure_by : {g : GrammarState} (prefix : List Symbol) (items : List Item) → ((item : Item) → Contains items item → IsKernelItem g prefix item) → {item : Item} → InClosure g (Contains items) item → InClosure g (IsKernelItem g prefix) item
+closure_by : {g : GrammarView} (prefix : List Symbol) (items : List Item) → ((item : Item) → Contains items item → IsKernelItem g prefix item) → {item : Item} → InClosure g (Contains items) item → InClosure g (IsKernelItem g prefix) item
 closure_by prefix items f (kernel k) = kernel (f _ k)
 closure_by prefix items f (opened item b rest q right c is rule) = opened item b rest q right (closure_by prefix items f c) is rule
 
-closure_from : {g : GrammarState} (prefix : List Symbol) (items : List Item) → ((item : Item) → IsKernelItem g prefix item → Contains items item) → {item : Item} → InClosure g (IsKernelItem g prefix) item → InClosure g (Contains items) item
+closure_from : {g : GrammarView} (prefix : List Symbol) (items : List Item) → ((item : Item) → IsKernelItem g prefix item → Contains items item) → {item : Item} → InClosure g (IsKernelItem g prefix) item → InClosure g (Contains items) item
 closure_from prefix items f (kernel k) = kernel (f _ k)
 closure_from prefix items f (opened item b rest q right c is rule) = opened item b rest q right (closure_from prefix items f c) is rule
 
 -- the closure of the listed kernel has the items of its prefix
-pub closure_lists : (g : GrammarState) → IsLive g → (prefix : List Symbol) (items closure : List Item) → ListsKernel g prefix items → ((item : Item) → Contains closure item ↔ InClosure g (Contains items) item) → ListsItems g prefix closure
+pub closure_lists : (g : GrammarView) → IsLive g → (prefix : List Symbol) (items closure : List Item) → ListsKernel g prefix items → ((item : Item) → Contains closure item ↔ InClosure g (Contains items) item) → ListsItems g prefix closure
 closure_lists g live prefix items closure lists exact item = (
   λ there. closure_sound prefix live (closure_by prefix items (λ i k. (lists i).0 k) ((exact item).0 there)),
   λ (t, v). (exact item).1 (closure_from prefix items (λ i k. (lists i).1 k) (closure_complete v)),
 )
 
 -- nothing has been followed yet
-pub none_followed : (g : GrammarState) (prefixes : List (List Symbol)) → AreFollowed g prefixes [] []
+pub none_followed : (g : GrammarView) (prefixes : List (List Symbol)) → AreFollowed g prefixes [] []
 none_followed g prefixes = record {
   len = refl;
   exact = λ s prefix closure at there. cc;
@@ -164,7 +164,7 @@ none_followed g prefixes = record {
 }
 
 -- one kernel more has been followed
-pub followed_more : (g : GrammarState) (old new : FoundState) (closures : List (List Item)) (rows : List (List Move)) (prefix : List Symbol) (closure : List Item) (row : List Move) → Grows old new → ((s : ℕ) (p : List Symbol) → s < length closures → slice_get new.prefixes s ≡ Some p → slice_get old.prefixes s ≡ Some p) → slice_get new.prefixes (length closures) ≡ Some prefix → AreFollowed g old.prefixes closures rows → ListsItems g prefix closure → AreInOrder closure → IsRow g new.prefixes closure (length closures) row → AreFollowed g new.prefixes (closures ++ closure ∷ []) (rows ++ row ∷ [])
+pub followed_more : (g : GrammarView) (old new : FoundState) (closures : List (List Item)) (rows : List (List Move)) (prefix : List Symbol) (closure : List Item) (row : List Move) → Grows old new → ((s : ℕ) (p : List Symbol) → s < length closures → slice_get new.prefixes s ≡ Some p → slice_get old.prefixes s ≡ Some p) → slice_get new.prefixes (length closures) ≡ Some prefix → AreFollowed g old.prefixes closures rows → ListsItems g prefix closure → AreInOrder closure → IsRow g new.prefixes closure (length closures) row → AreFollowed g new.prefixes (closures ++ closure ∷ []) (rows ++ row ∷ [])
 followed_more g old new closures rows prefix closure row grows back here h lists in_order is_row = record {
   len = omega (arith, h.len, length-append {A = List Move} rows (row ∷ []), length-append {A = List Item} closures (closure ∷ []));
   exact = λ s p items at there. elim (at_cases closures closure s items there) [
@@ -191,12 +191,12 @@ followed_more g old new closures rows prefix closure row grows back here h lists
     row_grows s items moves r = record { sound = moves_grow old new s moves grows r.sound; ordered = r.ordered; complete = r.complete }
 
 -- a new kernel is found
-pub record IsAdded (g : GrammarState) (old new : FoundState) (s : ℕ) (x : Symbol) (next : ℕ) : Type 0 where
+pub record IsAdded (g : GrammarView) (old new : FoundState) (s : ℕ) (x : Symbol) (next : ℕ) : Type 0 where
   pub kernels : AreKernelsOf g new.prefixes new.kernels
   pub grows : Grows old new
   pub leads : Leads g new.prefixes s x next
 
-pub is_added : (g : GrammarState) (old new : FoundState) (s : ℕ) (x : Symbol) (next : ℕ) (items : List Item) → AreKernelsOf g old.prefixes old.kernels → s < length old.kernels → ((prefix : List Symbol) → slice_get old.prefixes s ≡ Some prefix → IsKernelFor g (prefix ++ x ∷ []) items) → ((t : ℕ) (other : List Item) → slice_get old.kernels t ≡ Some other → ¬ SameItems other items) → next ≡ length old.prefixes → new ≡ record { prefixes = old.prefixes ++ (slice_index_or old.prefixes s [] ++ x ∷ []) ∷ []; kernels = old.kernels ++ items ∷ [] } → IsAdded g old new s x next
+pub is_added : (g : GrammarView) (old new : FoundState) (s : ℕ) (x : Symbol) (next : ℕ) (items : List Item) → AreKernelsOf g old.prefixes old.kernels → s < length old.kernels → ((prefix : List Symbol) → slice_get old.prefixes s ≡ Some prefix → IsKernelFor g (prefix ++ x ∷ []) items) → ((t : ℕ) (other : List Item) → slice_get old.kernels t ≡ Some other → ¬ SameItems other items) → next ≡ length old.prefixes → new ≡ record { prefixes = old.prefixes ++ (slice_index_or old.prefixes s [] ++ x ∷ []) ∷ []; kernels = old.kernels ++ items ∷ [] } → IsAdded g old new s x next
 is_added g old new s x next items h lt is_kernel fresh last e =
     let prefix = slice_index_or old.prefixes s [] in
     let at : slice_get old.prefixes s ≡ Some prefix = slice_get-get_or old.prefixes s [] (omega (arith, h.len)) in

@@ -2,7 +2,7 @@
 use Rattle.std.specs.Prelude.{◌≡◌, ◌↔◌, ◌⊎◌, ℕ, ◌+◌, ◌<◌, ◌≤◌, Bool, true, false, List, length, map, Some, Contains, slice_get}
 use Rattle.wb_base.specs.declared.symbol.Symbol.{Symbol}
 use Rattle.wb_base.specs.declared.symbol.Symbol.TheVariants.{Terminal, Nonterminal}
-use Rattle.wb_base.specs.Grammar.{GrammarState}
+use Rattle.wb_base.specs.Grammar.{GrammarView}
 use Rattle.wb_grammars.specs.declared.item.Item.{Item}
 use Rattle.wb_grammars.specs.Items.{IsKernelItem}
 use Rattle.wb_grammars.specs.Closure.{MovesTo}
@@ -39,7 +39,7 @@ pub record HasAdvance (list : List Advance) (x : Symbol) (item : Item) : Type 0 
   pub is : advance.item ≡ item
 
 -- with each symbol, exactly the items are listed that are in the kernel after one more symbol
-abbrev pub ListsAdvances : GrammarState → List Symbol → List Advance → Type 0
+abbrev pub ListsAdvances : GrammarView → List Symbol → List Advance → Type 0
 ListsAdvances g prefix list = (x : Symbol) (item : Item) → HasAdvance list x item ↔ MovesTo g (IsKernelItem g prefix) x item
 
 -- from the place to before the end all have the symbol, and those from the end on have later symbols

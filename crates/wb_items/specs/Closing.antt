@@ -2,7 +2,7 @@
 use Rattle.std.specs.Prelude.{◌≡◌, ℕ, ◌<◌, Bool, List, ◌∷◌, length, Some, Contains, slice_get}
 use Rattle.wb_base.specs.declared.symbol.Symbol.{Symbol}
 use Rattle.wb_base.specs.declared.symbol.Symbol.TheVariants.{Nonterminal}
-use Rattle.wb_base.specs.Grammar.{GrammarState}
+use Rattle.wb_base.specs.Grammar.{GrammarView}
 use Rattle.wb_termset.specs.Sets.{Has}
 use Rattle.wb_grammars.specs.declared.item.Item.{Item}
 use Rattle.wb_grammars.specs.Rules.{IsRule}
@@ -10,7 +10,7 @@ use Rattle.wb_grammars.specs.Items.{after_dot, opening}
 use Rattle.wb_grammars.specs.Closure.{InClosure}
 
 -- the kernel and behind it the openings of these nonterminals, among which are those behind the dots at the first places; all are in the closure
-pub record IsClosing (g : GrammarState) (kernel : List Item) (opened : List Bool) (closure : List Item) (place : ℕ) : Type 0 where
+pub record IsClosing (g : GrammarView) (kernel : List Item) (opened : List Bool) (closure : List Item) (place : ℕ) : Type 0 where
   pub len : length opened ≡ g.nonterminals
   pub front : (item : Item) → Contains kernel item → Contains closure item
   pub complete : (b q : ℕ) (right : List Symbol) → Has opened b → IsRule g q b right → Contains closure (opening q)

@@ -1,7 +1,7 @@
 -- The kernels of a grammar's prefixes by numbers, as callers see them.
 use Rattle.std.specs.Prelude.{◌≡◌, ◌≢◌, ◌↔◌, ◌⊎◌, ℕ, ◌<◌, List, [], ◌∷◌, length, Some, Contains, slice_get, slice_index_or}
 use Rattle.wb_base.specs.declared.symbol.Symbol.{Symbol}
-use Rattle.wb_base.specs.Grammar.{GrammarState}
+use Rattle.wb_base.specs.Grammar.{GrammarView}
 use Rattle.wb_grammars.specs.declared.item.Item.{Item}
 use Rattle.wb_grammars.specs.Items.{after_dot, HasItem, IsKernelItem}
 use Rattle.wb_grammars.specs.Shape.{IsLive}
@@ -9,7 +9,7 @@ use Rattle.wb_grammars.specs.States.{AreStates, IsNext}
 
 -- a grammar, and by the number of each kernel a prefix that has the kernel, and the items of that prefix
 pub record KernelsState : Type 0 where
-  pub grammar : GrammarState
+  pub grammar : GrammarView
   pub prefixes : List (List Symbol)
   pub closures : List (List Item)
 
@@ -34,15 +34,15 @@ abbrev pub AreInOrder : List Item → Type 0
 AreInOrder items = (i j : ℕ) (a b : Item) → i < j → slice_get items i ≡ Some a → slice_get items j ≡ Some b → Precedes a b
 
 -- the listed items are those of the prefix's kernel
-abbrev pub ListsKernel : GrammarState → List Symbol → List Item → Type 0
+abbrev pub ListsKernel : GrammarView → List Symbol → List Item → Type 0
 ListsKernel g prefix items = (item : Item) → Contains items item ↔ IsKernelItem g prefix item
 
 -- the listed items are those of the prefix
-abbrev pub ListsItems : GrammarState → List Symbol → List Item → Type 0
+abbrev pub ListsItems : GrammarView → List Symbol → List Item → Type 0
 ListsItems g prefix items = (item : Item) → Contains items item ↔ HasItem g prefix item
 
 -- no item of the prefix has its dot before the symbol
-abbrev pub HasNoneBefore : GrammarState → List Symbol → Symbol → Type 0
+abbrev pub HasNoneBefore : GrammarView → List Symbol → Symbol → Type 0
 HasNoneBefore g prefix x = (item : Item) (rest : List Symbol) → HasItem g prefix item → after_dot g item ≢ x ∷ rest
 
 -- the symbol leads from one number to the other

@@ -1,7 +1,7 @@
 -- Lists in the middle of a pass over another list.
 use Rattle.std.specs.Prelude.{◌≡◌, ◌⊎◌, ◌+◌, ℕ, ◌<◌, ◌≤◌, List, ◌∷◌, length, Some, Contains, slice_get}
 use Rattle.wb_base.specs.declared.symbol.Symbol.{Symbol}
-use Rattle.wb_base.specs.Grammar.{GrammarState}
+use Rattle.wb_base.specs.Grammar.{GrammarView}
 use Rattle.wb_grammars.specs.declared.item.Item.{Item}
 use Rattle.wb_grammars.specs.Rules.{IsRule}
 use Rattle.wb_grammars.specs.Items.{after_dot, advance}
@@ -25,24 +25,24 @@ pub record StrictUpTo (items list : List Item) (n : ℕ) : Type 0 where
   pub last : (m : ℕ) (a z : Item) → n ≡ m + 1 → slice_get items m ≡ Some a → Contains list z → Precedes z a ⊎ (z ≡ a)
 
 -- the items at the first places are listed with the symbols behind their dots, each with its dot behind the symbol
-pub record AdvancesUpTo (g : GrammarState) (closure : List Item) (list : List Advance) (n : ℕ) : Type 0 where
+pub record AdvancesUpTo (g : GrammarView) (closure : List Item) (list : List Advance) (n : ℕ) : Type 0 where
   pub sound : (a : Advance) → Contains list a → (j : ℕ) × (item : Item) × (rest : List Symbol) × (j < n) × (slice_get closure j ≡ Some item) × (after_dot g item ≡ symbol_of a ∷ rest) × (a.item ≡ advance item)
   pub complete : (j : ℕ) (item : Item) (x : Symbol) (rest : List Symbol) → j < n → slice_get closure j ≡ Some item → after_dot g item ≡ x ∷ rest → HasAdvance list x (advance item)
 
 -- the list has the productions of the nonterminal below a number, in order
-pub record RulesUpTo (g : GrammarState) (b : ℕ) (numbers : List ℕ) (n : ℕ) : Type 0 where
+pub record RulesUpTo (g : GrammarView) (b : ℕ) (numbers : List ℕ) (n : ℕ) : Type 0 where
   pub below : (q : ℕ) → Contains numbers q → q < n
   pub sound : (q : ℕ) → Contains numbers q → (right : List Symbol) × IsRule g q b right
   pub complete : (q : ℕ) (right : List Symbol) → q < n → IsRule g q b right → Contains numbers q
   pub rising : (i j p q : ℕ) → i < j → slice_get numbers i ≡ Some p → slice_get numbers j ≡ Some q → p < q
 
 -- each nonterminal's row has its productions below a number, in order
-pub record RowsUpTo (g : GrammarState) (rows : List (List ℕ)) (n : ℕ) : Type 0 where
+pub record RowsUpTo (g : GrammarView) (rows : List (List ℕ)) (n : ℕ) : Type 0 where
   pub len : length rows ≡ g.nonterminals
   pub each : (b : ℕ) (numbers : List ℕ) → slice_get rows b ≡ Some numbers → RulesUpTo g b numbers n
 
 -- the moves by the symbols at the first places are there, and later places have later symbols
-pub record MovesUpTo (g : GrammarState) (old now : FoundState) (list : List Advance) (s : ℕ) (row : List Move) (n : ℕ) : Type 0 where
+pub record MovesUpTo (g : GrammarView) (old now : FoundState) (list : List Advance) (s : ℕ) (row : List Move) (n : ℕ) : Type 0 where
   pub kernels : AreKernelsOf g now.prefixes now.kernels
   pub grows : Grows old now
   pub within : s < length now.kernels

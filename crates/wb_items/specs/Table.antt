@@ -1,7 +1,7 @@
 -- Kernels as they are kept: what was found by following symbols from the kernel of the empty prefix.
 use Rattle.std.specs.Prelude.{◌≡◌, ◌↔◌, ℕ, ◌<◌, List, [], ◌∷◌, ◌++◌, length, Some, Contains, slice_get}
 use Rattle.wb_base.specs.declared.symbol.Symbol.{Symbol}
-use Rattle.wb_base.specs.Grammar.{GrammarState}
+use Rattle.wb_base.specs.Grammar.{GrammarView}
 use Rattle.wb_grammars.specs.declared.item.Item.{Item}
 use Rattle.wb_grammars.specs.Rules.{IsRule}
 use Rattle.wb_grammars.specs.Items.{after_dot, advance, IsViablePrefix, SameKernel}
@@ -16,7 +16,7 @@ abbrev pub SameItems : List Item → List Item → Type 0
 SameItems items other = (item : Item) → Contains items item ↔ Contains other item
 
 -- the item moves over the symbol from an item of the list
-pub record IsMoved (g : GrammarState) (items : List Item) (x : Symbol) (moved : Item) : Type 0 where
+pub record IsMoved (g : GrammarView) (items : List Item) (x : Symbol) (moved : Item) : Type 0 where
   pub item : Item
   pub rest : List Symbol
   pub listed : Contains items item
@@ -24,18 +24,18 @@ pub record IsMoved (g : GrammarState) (items : List Item) (x : Symbol) (moved : 
   pub is : moved ≡ advance item
 
 -- the numbers are those of the nonterminal's productions, in order
-pub record AreRulesOf (g : GrammarState) (b : ℕ) (numbers : List ℕ) : Type 0 where
+pub record AreRulesOf (g : GrammarView) (b : ℕ) (numbers : List ℕ) : Type 0 where
   pub sound : (q : ℕ) → Contains numbers q → (right : List Symbol) × IsRule g q b right
   pub complete : (q : ℕ) (right : List Symbol) → IsRule g q b right → Contains numbers q
   pub rising : (i j p q : ℕ) → i < j → slice_get numbers i ≡ Some p → slice_get numbers j ≡ Some q → p < q
 
 -- the numbers of productions for each nonterminal
-pub record AreRules (g : GrammarState) (rows : List (List ℕ)) : Type 0 where
+pub record AreRules (g : GrammarView) (rows : List (List ℕ)) : Type 0 where
   pub len : length rows ≡ g.nonterminals
   pub each : (b : ℕ) (numbers : List ℕ) → slice_get rows b ≡ Some numbers → AreRulesOf g b numbers
 
 -- each kernel is that of its prefix, in order, and no two are the same
-pub record AreKernelsOf (g : GrammarState) (prefixes : List (List Symbol)) (kernels : List (List Item)) : Type 0 where
+pub record AreKernelsOf (g : GrammarView) (prefixes : List (List Symbol)) (kernels : List (List Item)) : Type 0 where
   pub len : length kernels ≡ length prefixes
   pub first : slice_get prefixes 0 ≡ Some []
   pub viable : (s : ℕ) (prefix : List Symbol) → slice_get prefixes s ≡ Some prefix → IsViablePrefix g prefix
@@ -44,7 +44,7 @@ pub record AreKernelsOf (g : GrammarState) (prefixes : List (List Symbol)) (kern
   pub once : (s t : ℕ) (kernel other : List Item) → slice_get kernels s ≡ Some kernel → slice_get kernels t ≡ Some other → SameItems kernel other → s ≡ t
 
 -- the symbol leads from the one prefix to the other, up to its kernel
-pub record Leads (g : GrammarState) (prefixes : List (List Symbol)) (s : ℕ) (x : Symbol) (next : ℕ) : Type 0 where
+pub record Leads (g : GrammarView) (prefixes : List (List Symbol)) (s : ℕ) (x : Symbol) (next : ℕ) : Type 0 where
   pub prefix : List Symbol
   pub other : List Symbol
   pub at : slice_get prefixes s ≡ Some prefix
@@ -53,11 +53,11 @@ pub record Leads (g : GrammarState) (prefixes : List (List Symbol)) (s : ℕ) (x
   pub same : SameKernel g other (prefix ++ x ∷ [])
 
 -- each move leads where it says
-abbrev pub AreMoves : GrammarState → List (List Symbol) → ℕ → List Move → Type 0
+abbrev pub AreMoves : GrammarView → List (List Symbol) → ℕ → List Move → Type 0
 AreMoves g prefixes s row = (move : Move) → Contains row move → Leads g prefixes s move.symbol move.state
 
 -- the items are the kernel of the viable prefix, in order
-pub record IsKernelFor (g : GrammarState) (prefix : List Symbol) (kernel : List Item) : Type 0 where
+pub record IsKernelFor (g : GrammarView) (prefix : List Symbol) (kernel : List Item) : Type 0 where
   pub viable : IsViablePrefix g prefix
   pub exact : ListsKernel g prefix kernel
   pub sorted : AreInOrder kernel
@@ -72,20 +72,20 @@ abbrev pub AreMovesInOrder : List Move → Type 0
 AreMovesInOrder row = (i j : ℕ) (a b : Move) → i < j → slice_get row i ≡ Some a → slice_get row j ≡ Some b → SymbolPrecedes a.symbol b.symbol
 
 -- each move of the row leads where it says, in the order of symbols, and the row has a move by each symbol before which one of the items has its dot
-pub record IsRow (g : GrammarState) (prefixes : List (List Symbol)) (closure : List Item) (s : ℕ) (row : List Move) : Type 0 where
+pub record IsRow (g : GrammarView) (prefixes : List (List Symbol)) (closure : List Item) (s : ℕ) (row : List Move) : Type 0 where
   pub sound : AreMoves g prefixes s row
   pub ordered : AreMovesInOrder row
   pub complete : (item : Item) (x : Symbol) (rest : List Symbol) → Contains closure item → after_dot g item ≡ x ∷ rest → (next : ℕ) × Contains row (record { symbol = x; state = next })
 
 -- the kernels of the first numbers have been followed: their items and their rows of moves are there
-pub record AreFollowed (g : GrammarState) (prefixes : List (List Symbol)) (closures : List (List Item)) (rows : List (List Move)) : Type 0 where
+pub record AreFollowed (g : GrammarView) (prefixes : List (List Symbol)) (closures : List (List Item)) (rows : List (List Move)) : Type 0 where
   pub len : length rows ≡ length closures
   pub exact : (s : ℕ) (prefix : List Symbol) (closure : List Item) → slice_get prefixes s ≡ Some prefix → slice_get closures s ≡ Some closure → ListsItems g prefix closure
   pub sorted : (s : ℕ) (closure : List Item) → slice_get closures s ≡ Some closure → AreInOrder closure
   pub moves : (s : ℕ) (closure : List Item) (row : List Move) → slice_get closures s ≡ Some closure → slice_get rows s ≡ Some row → IsRow g prefixes closure s row
 
 -- all kernels have been found and followed
-pub record IsTable (g : GrammarState) (found : FoundState) (closures : List (List Item)) (rows : List (List Move)) : Type 0 where
+pub record IsTable (g : GrammarView) (found : FoundState) (closures : List (List Item)) (rows : List (List Move)) : Type 0 where
   pub live : IsLive g
   pub kernels : AreKernelsOf g found.prefixes found.kernels
   pub followed : AreFollowed g found.prefixes closures rows

@@ -2,3 +2,6 @@
 //!
 //! Tests of texts and of the program are in `wb_tests`. No crate below these two has tests, since a crate with tests is proved twice.
 #![tactic(auto)]
+
+#[cfg(test)]
+mod base;

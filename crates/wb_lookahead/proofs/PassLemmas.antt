@@ -7,7 +7,7 @@ use Rattle.std.proofs.lemmas.List.Elements.{All-get_or, All-contains}
 use Rattle.std.proofs.lemmas.Option.{slice_get-map, slice_get_read, slice_get-get_or, same_Some}
 use Rattle.wb_base.specs.declared.symbol.Symbol.{Symbol}
 use Rattle.wb_base.specs.declared.symbol.Symbol.TheVariants.{Terminal, Nonterminal}
-use Rattle.wb_base.specs.Grammar.{GrammarState, Production}
+use Rattle.wb_base.specs.Grammar.{GrammarView, Production}
 use Rattle.wb_termset.specs.Sets.{Has, IsEmpty}
 use Rattle.wb_termset.proofs.CallerLemmas.{IsEmpty-replicate, Has-insert}
 use Rattle.wb_grammars.specs.declared.item.Item.{Item}
@@ -33,7 +33,7 @@ pub on_ok_two : {A E : Type 0} (r : Result A E) {P Q R : Type 0} → (P → Q �
 on_ok_two (Ok x) f p q = f p q
 on_ok_two (Err e) f p q = p
 
-right_is : (g : GrammarState) (p : ℕ) (right : List Symbol) → p < length g.productions → IfSome (slice_get g.productions p) (λ r. right ≡ r.1) → right_of g p ≡ right
+right_is : (g : GrammarView) (p : ℕ) (right : List Symbol) → p < length g.productions → IfSome (slice_get g.productions p) (λ r. right ≡ r.1) → right_of g p ≡ right
 right_is g p right lt e =
     let d : Production = (0, []) in
     let r : Production = get_or g.productions p d in
@@ -41,12 +41,12 @@ right_is g p right lt e =
     let is : right ≡ r.1 = subst (λ o. IfSome o (λ z. right ≡ z.1)) at e in
     after_opening g p r.0 r.1 at ∙ sym is
 
-pub rest_within : (g : GrammarState) (item : Item) (right : List Symbol) → item.production < length g.productions → IfSome (slice_get g.productions item.production) (λ r. right ≡ r.1) → (x : Symbol) (rest : List Symbol) → after_dot g item ≡ x ∷ rest → take (length right - (item.dot + 1)) (drop (item.dot + 1) right) ≡ rest
+pub rest_within : (g : GrammarView) (item : Item) (right : List Symbol) → item.production < length g.productions → IfSome (slice_get g.productions item.production) (λ r. right ≡ r.1) → (x : Symbol) (rest : List Symbol) → after_dot g item ≡ x ∷ rest → take (length right - (item.dot + 1)) (drop (item.dot + 1) right) ≡ rest
 rest_within g item right lt e x rest is =
     take_all (length right - (item.dot + 1)) (drop (item.dot + 1) right) (omega (arith, length-drop (item.dot + 1) right))
     ∙ ap (drop (item.dot + 1)) (sym (right_is g item.production right lt e)) ∙ after_advance g item x rest is
 
-pub rest_past : (g : GrammarState) (item : Item) → length g.productions ≤ item.production → (x : Symbol) (rest : List Symbol) → after_dot g item ≡ x ∷ rest → ◌≡◌ {A = List Symbol} [] rest
+pub rest_past : (g : GrammarView) (item : Item) → length g.productions ≤ item.production → (x : Symbol) (rest : List Symbol) → after_dot g item ≡ x ∷ rest → ◌≡◌ {A = List Symbol} [] rest
 rest_past g item le x rest is = elim (cases_eq item.production (length g.productions)) [
   | inl last ↦ elim (cases_eq item.dot 0) [
     | inl left ↦ (let e = symbol_last g item last left in cc)
@@ -87,7 +87,7 @@ flows_here {kernels} h place p behind flows b rest u item is begins (q, right, r
     let (t, f, first) = begins_sound kernels.grammar behind (FlowsTo kernels place.state place.item) t0 f0 flows rest u begins in
     subst (λ z. FlowsTo kernels place.state z u) (sym item_is) (close place.item t b rest q u right f is rule first)
 
-pub opening_flows : {kernels : KernelsState} {g : GrammarState} → AreKernels kernels → kernels.grammar ≡ g → (place : Place) → IsPlace kernels place → (behind : List Bool) → ((t : ℕ) → Has behind t → FlowsTo kernels place.state place.item t) → (b : ℕ) (rest : List Symbol) (u : ℕ) (item : Item) → after_dot g place.item ≡ Nonterminal b ∷ rest → Begins g behind rest u → IsOpeningOf g b item → FlowsTo kernels place.state item u
+pub opening_flows : {kernels : KernelsState} {g : GrammarView} → AreKernels kernels → kernels.grammar ≡ g → (place : Place) → IsPlace kernels place → (behind : List Bool) → ((t : ℕ) → Has behind t → FlowsTo kernels place.state place.item t) → (b : ℕ) (rest : List Symbol) (u : ℕ) (item : Item) → after_dot g place.item ≡ Nonterminal b ∷ rest → Begins g behind rest u → IsOpeningOf g b item → FlowsTo kernels place.state item u
 opening_flows {kernels} h same place p behind flows b rest u item =
     subst (λ g. after_dot g place.item ≡ Nonterminal b ∷ rest → Begins g behind rest u → IsOpeningOf g b item → FlowsTo kernels place.state item u) same (flows_here h place p behind flows b rest u item)
 
@@ -112,7 +112,7 @@ empty_lists lookaheads empty s item t (a, there, has) = elim (cases_lt s (length
 ]
 
 -- what moved on and what was opened is all that is passed on
-pub passed_here : (kernels : KernelsState) {g : GrammarState} {old new : List (List Looks)} {w v : List Place} → kernels.grammar ≡ g → (place : Place) (x : Symbol) (rest : List Symbol) → after_dot g place.item ≡ x ∷ rest → (t : ℕ) → Spreads old w new v
+pub passed_here : (kernels : KernelsState) {g : GrammarView} {old new : List (List Looks)} {w v : List Place} → kernels.grammar ≡ g → (place : Place) (x : Symbol) (rest : List Symbol) → after_dot g place.item ≡ x ∷ rest → (t : ℕ) → Spreads old w new v
     → ((next : ℕ) → LeadsTo kernels place.state x next → Lists old next (advance place.item) t)
     → ((u b q : ℕ) (more right : List Symbol) → after_dot g place.item ≡ Nonterminal b ∷ more → IsRule g q b right → IsFirst g (more ++ Terminal t ∷ []) u → Lists new place.state (opening q) u)
     → IsPassedOn kernels new place.state place.item t
@@ -126,6 +126,6 @@ passed_here kernels {g} same place x rest is t spreads moves opens = record {
 }
 
 -- the openings of a nonterminal behind a dot are there
-pub opening_there : {kernels : KernelsState} {g : GrammarState} → AreKernels kernels → kernels.grammar ≡ g → (place : Place) → IsPlace kernels place → (b : ℕ) (rest : List Symbol) (q : ℕ) (right : List Symbol) → after_dot g place.item ≡ Nonterminal b ∷ rest → IsRule g q b right → HasItem g (prefix_of kernels place.state) (opening q)
+pub opening_there : {kernels : KernelsState} {g : GrammarView} → AreKernels kernels → kernels.grammar ≡ g → (place : Place) → IsPlace kernels place → (b : ℕ) (rest : List Symbol) (q : ℕ) (right : List Symbol) → after_dot g place.item ≡ Nonterminal b ∷ rest → IsRule g q b right → HasItem g (prefix_of kernels place.state) (opening q)
 opening_there {kernels} h same place p b rest q right =
     subst (λ g. after_dot g place.item ≡ Nonterminal b ∷ rest → IsRule g q b right → HasItem g (prefix_of kernels place.state) (opening q)) same (opening_has h place.state b place.item rest q right p.has)

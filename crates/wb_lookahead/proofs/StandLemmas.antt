@@ -5,7 +5,7 @@ use Rattle.std.proofs.lemmas.Bool.{cases_eq}
 use Rattle.std.proofs.lemmas.Option.{slice_get_within}
 use Rattle.wb_base.specs.declared.symbol.Symbol.{Symbol}
 use Rattle.wb_base.specs.declared.symbol.Symbol.TheVariants.{Terminal, Nonterminal}
-use Rattle.wb_base.specs.Grammar.{GrammarState}
+use Rattle.wb_base.specs.Grammar.{GrammarView}
 use Rattle.wb_grammars.specs.declared.item.Item.{Item}
 use Rattle.wb_grammars.specs.Rules.{top_of}
 use Rattle.wb_grammars.specs.Items.{after_dot, HasItem, IsValidItem, SameKernel, start, close, move}
@@ -21,13 +21,13 @@ use Rattle.wb_lookahead.specs.Rows.{Asks, shift, reduce, accept, IsReduction}
 use Rattle.wb_lookahead.proofs.StepLemmas.{step_once}
 
 -- a valid item is one of a production of the grammar, or of the added one
-pub valid_production : {g : GrammarState} {prefix : List Symbol} {item : Item} {t : ℕ} → IsValidItem g prefix item t → item.production ≤ length g.productions
+pub valid_production : {g : GrammarView} {prefix : List Symbol} {item : Item} {t : ℕ} → IsValidItem g prefix item t → item.production ≤ length g.productions
 valid_production start = omega arith
 valid_production {g} (close item t b rest q u right v is rule first) = (let lt = slice_get_within g.productions q (b, right) rule in omega arith)
 valid_production {g} (move item x rest prefix v is longer_is moved_is) = subst (λ (z : Item). z.production ≤ length g.productions) (sym moved_is) (valid_production v)
 
 -- some item has its dot before the last symbol of a prefix
-pub before_last : {g : GrammarState} {longer : List Symbol} {item : Item} {t : ℕ} → IsValidItem g longer item t → (prefix : List Symbol) (x : Symbol) → longer ≡ prefix ++ x ∷ [] → (one : Item) × (rest : List Symbol) × HasItem g prefix one × (after_dot g one ≡ x ∷ rest)
+pub before_last : {g : GrammarView} {longer : List Symbol} {item : Item} {t : ℕ} → IsValidItem g longer item t → (prefix : List Symbol) (x : Symbol) → longer ≡ prefix ++ x ∷ [] → (one : Item) × (rest : List Symbol) × HasItem g prefix one × (after_dot g one ≡ x ∷ rest)
 before_last start prefix x e = absurd (snoc_not_nil prefix x (sym e))
 before_last (close item t b rest q u right v is rule first) prefix x e = before_last v prefix x e
 before_last {g} (move item y rest shorter {t} v is longer_is moved_is) prefix x e =
@@ -86,7 +86,7 @@ before_or kernels h s t Accept act.None x y differ not = absurd y
 before_or kernels h s t act.None b x y differ not = absurd x
 
 -- what can be done at a prefix can be done at another with the same kernel
-module _ {g : GrammarState} {prefix other : List Symbol} {t : ℕ} where
+module _ {g : GrammarView} {prefix other : List Symbol} {t : ℕ} where
   shift_kept : SameKernel g other prefix → ((item : Item) → HasItem g prefix item → HasItem g other item) → CanShift g prefix t → CanShift g other t
   shift_kept same has can = record { item = can.item; rest = can.rest; has = has can.item can.has; before_dot = can.before_dot }
 

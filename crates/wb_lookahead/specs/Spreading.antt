@@ -3,7 +3,7 @@ use Rattle.std.specs.Prelude.{◌≡◌, ◌⊎◌, ◌≤◌, ◌<◌, ◌+◌,
 use Rattle.std.specs.List.{sum_by}
 use Rattle.wb_base.specs.declared.symbol.Symbol.{Symbol}
 use Rattle.wb_base.specs.declared.symbol.Symbol.TheVariants.{Terminal, Nonterminal}
-use Rattle.wb_base.specs.Grammar.{GrammarState}
+use Rattle.wb_base.specs.Grammar.{GrammarView}
 use Rattle.wb_termset.specs.Sets.{Has, members}
 use Rattle.wb_grammars.specs.declared.item.Item.{Item}
 use Rattle.wb_grammars.specs.Rules.{IsRule, end_of}
@@ -29,7 +29,7 @@ abbrev pub FlowsTo : KernelsState → ℕ → Item → ℕ → Type 0
 FlowsTo kernels s item t = Flows kernels.grammar (LeadsTo kernels) s item t
 
 -- the item is the opening of a production of the nonterminal
-abbrev pub IsOpeningOf : GrammarState → ℕ → Item → Type 0
+abbrev pub IsOpeningOf : GrammarView → ℕ → Item → Type 0
 IsOpeningOf g b item = (q : ℕ) × (right : List Symbol) × IsRule g q b right × (item ≡ opening q)
 
 -- what the sets list flows there, and the places that wait are places

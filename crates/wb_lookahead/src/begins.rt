@@ -1,7 +1,7 @@
 //! The terminals that begin what symbols derive, where terminals of a set stand behind them.
 
 ghost use Rattle.std.specs.Prelude.{◌≡◌, ◌+◌, ◌↔◌, ℕ, All, IfOk, length};
-ghost use Rattle.wb_base.specs.Grammar.{GrammarState, IsSymbolBelow};
+ghost use Rattle.wb_base.specs.Grammar.{GrammarView, IsSymbolBelow};
 ghost use Rattle.wb_termset.specs.Sets.{Has};
 ghost use Rattle.wb_grammar.specs.Facts.{AreFacts};
 ghost use Rattle.wb_lookahead.specs.Begins.{Begins};

@@ -13,7 +13,8 @@ use Rattle.wb_tokens.specs.declared.token.Token.{Token}
 use Rattle.wb_tokens.specs.declared.token.Token.TheVariants as t
 use Rattle.wb_tokens.specs.Printing.{printed_text}
 use Rattle.wb_tokens.specs.Skipping.{is_blank, IsLayoutPiece, blank, comment}
-use Rattle.wb_tokens.specs.Spelling.{Spells, is_letter, IsIdentifier, IsInteger, IsRegexPart, IsRegexBody}
+use Rattle.wb_tokens.specs.Spelling.{Spells, IsInteger, IsRegexPart, IsRegexBody}
+use Rattle.wb_base.specs.Identifiers.{is_letter, IsIdentifier}
 use Rattle.wb_tokens.specs.Words.{word_text, punctuation_text}
 use Rattle.wb_syntax.specs.Canonical.{printed}
 

@@ -4,7 +4,7 @@ use Rattle.std.specs.Char.{is_ascii_digit}
 use Rattle.wb_tokens.specs.declared.punctuation.Punctuation.TheVariants as p
 use Rattle.wb_tokens.specs.declared.token.Token.{Token}
 use Rattle.wb_tokens.specs.declared.token.Token.TheVariants as t
-use Rattle.wb_tokens.specs.Spelling.{is_name_byte}
+use Rattle.wb_base.specs.Identifiers.{is_name_byte}
 use Rattle.wb_tokens.proofs.StandingLemmas.{Ends, StopsAt}
 use Rattle.wb_syntax.specs.Canonical.{printed, follows_closely, leads_closely, line_of}
 use Rattle.wb_printer.proofs.CanonicalLemmas.{gap, behind, behind_line, text_of}

@@ -9,8 +9,8 @@ use Rattle.wb_tokens.specs.declared.token.Token.{Token}
 use Rattle.wb_tokens.specs.declared.token.Token.TheVariants as t
 use Rattle.wb_tokens.specs.NextToken.{IsTokenAt}
 use Rattle.wb_tokens.specs.Placed.{IsNextIn}
-use Rattle.wb_tokens.specs.Spelling.{IsToken, IsIdentifier, escaped_byte, hex_value, IsStringPart, IsStringBody, IsString}
-use Rattle.wb_tokens.specs.Words.{IsReserved}
+use Rattle.wb_tokens.specs.Spelling.{IsToken, escaped_byte, hex_value, IsStringPart, IsStringBody, IsString}
+use Rattle.wb_base.specs.Identifiers.{IsIdentifier, IsReserved}
 use Rattle.wb_tokens.proofs.CallerLemmas.{printed_integer, printed_string}
 use Rattle.wb_syntax.specs.Tokens.{Lexeme}
 use Rattle.wb_syntax.specs.Canonical.{printed}

@@ -6,7 +6,8 @@ use Rattle.std.specs.Char.{is_ascii_digit}
 use Rattle.std.specs.List.{list_all}
 use Rattle.std.specs.Str.Parse.{IsNumeral}
 use Rattle.wb_tokens.specs.Longest.{beginning_of}
-use Rattle.wb_tokens.specs.Spelling.{is_letter, is_name_byte, IsInteger, IsString, IsRegexBody, Spells}
+use Rattle.wb_tokens.specs.Spelling.{IsInteger, IsString, IsRegexBody, Spells}
+use Rattle.wb_base.specs.Identifiers.{is_letter, is_name_byte}
 use Rattle.wb_tokens.specs.Words.{word_text, punctuation_text}
 use Rattle.wb_tokens.specs.declared.beginning.Beginning.{Beginning}
 use Rattle.wb_tokens.specs.declared.beginning.Beginning.TheVariants.{Letter, Number, Quote, Slash, Mark}

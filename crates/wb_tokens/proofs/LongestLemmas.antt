@@ -6,7 +6,8 @@ use Rattle.std.proofs.lemmas.List.Sums.{prefix_len-le-length, prefix_len_stops, 
 use Rattle.std.specs.Char.{is_ascii_digit}
 use Rattle.std.specs.List.{list_all, prefix_len}
 use Rattle.wb_tokens.specs.Longest.{beginning_of, IsLongest}
-use Rattle.wb_tokens.specs.Spelling.{is_letter, is_name_byte, IsIdentifier, Spells, HasValueInRange}
+use Rattle.wb_tokens.specs.Spelling.{Spells, HasValueInRange}
+use Rattle.wb_base.specs.Identifiers.{is_letter, is_name_byte, IsIdentifier}
 use Rattle.wb_tokens.specs.declared.token.Token.{Token}
 use Rattle.wb_tokens.proofs.FirstByteLemmas.{kind_of, spelled_some, spelled_beginning, name_bytes, letter_is}
 

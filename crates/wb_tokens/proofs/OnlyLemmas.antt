@@ -7,7 +7,8 @@ use Rattle.std.specs.Str.Parse.{digits_value, IsNumeral}
 use Rattle.wb_tokens.specs.Longest.{IsLongest}
 use Rattle.wb_tokens.specs.NextToken.{IsTokenAt, IsNext}
 use Rattle.wb_tokens.specs.Spelling.{IsInteger, IsString, Spells}
-use Rattle.wb_tokens.specs.Words.{IsReserved, word_text}
+use Rattle.wb_tokens.specs.Words.{word_text}
+use Rattle.wb_base.specs.Identifiers.{IsReserved}
 use Rattle.wb_tokens.specs.declared.beginning.Beginning.TheVariants.{Letter}
 use Rattle.wb_tokens.specs.declared.token.Layout.{Layout}
 use Rattle.wb_tokens.specs.declared.token.Next.{Next}
@@ -18,7 +19,7 @@ use Rattle.wb_tokens.specs.declared.word.Word.{Word}
 use Rattle.wb_tokens.proofs.FirstByteLemmas.{kind_of, spelled_beginning, number_is, string_is, regex_is, punctuation_is}
 use Rattle.wb_tokens.proofs.PartLemmas.{same_string}
 use Rattle.wb_tokens.proofs.SkippingLemmas.{skips_only}
-use Rattle.wb_tokens.proofs.WordLemmas.{same_word, same_mark}
+use Rattle.wb_tokens.proofs.WordLemmas.{same_word, same_mark, word_reserved}
 
 -- an integer has one value
 same_integer : (x : List ℕ) (a b : ℤ) → IsInteger x a → IsInteger x b → a ≡ b
@@ -38,7 +39,7 @@ same_text x a b s r =
 -- what is a name is no other token
 only_name : (x text : List ℕ) (b : Token) → x ≡ text → ¬ IsReserved x → Spells b x → Letter ≡ kind_of b → t.Name text ≡ b
 only_name x text (t.Name other) e free s k = ap t.Name (sym e ∙ s.0)
-only_name x text (t.Word word) e free s k = absurd (free (word, s))
+only_name x text (t.Word word) e free s k = absurd (free (subst IsReserved (sym s) (word_reserved word)))
 only_name x text (t.Int value) e free s k = cc
 only_name x text (t.Text other) e free s k = cc
 only_name x text (t.Regex body) e free s k = cc
@@ -46,7 +47,7 @@ only_name x text (t.Punctuation mark) e free s k = cc
 
 -- what is a reserved word is no other token
 only_word : (x : List ℕ) (word : Word) (b : Token) → x ≡ word_text word → Spells b x → Letter ≡ kind_of b → t.Word word ≡ b
-only_word x word (t.Name other) e s k = absurd (s.2 (word, e))
+only_word x word (t.Name other) e s k = absurd (s.2 (subst IsReserved (sym e) (word_reserved word)))
 only_word x word (t.Word other) e s k = ap t.Word (same_word word other (sym e ∙ s))
 only_word x word (t.Int value) e s k = cc
 only_word x word (t.Text other) e s k = cc

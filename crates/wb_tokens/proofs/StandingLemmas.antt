@@ -12,7 +12,8 @@ use Rattle.wb_tokens.specs.Marks.{mark_at}
 use Rattle.wb_tokens.specs.NextToken.{IsTokenAt}
 use Rattle.wb_tokens.specs.Numbers.{digit_count, FindsNumber, signed}
 use Rattle.wb_tokens.specs.Skipping.{HasByte}
-use Rattle.wb_tokens.specs.Spelling.{is_name_byte, IsInteger, IsString, IsStringBody, IsRegexBody, Spells, HasValueInRange, IsToken}
+use Rattle.wb_tokens.specs.Spelling.{IsInteger, IsString, IsStringBody, IsRegexBody, Spells, HasValueInRange, IsToken}
+use Rattle.wb_base.specs.Identifiers.{is_name_byte}
 use Rattle.wb_tokens.specs.Words.{punctuation_text}
 use Rattle.wb_tokens.specs.declared.beginning.Beginning.TheVariants.{Letter, Number}
 use Rattle.wb_tokens.specs.declared.punctuation.Punctuation.{Punctuation}

@@ -1,8 +1,14 @@
 -- Each reserved word is in the list that is searched, and each word and each mark has a spelling of its own.
-use Rattle.std.proofs.Common.{◌≡◌, ◌≢◌, ℕ, ◌<◌, List, [], ◌∷◌, Option, Some, None, IfSome, IfNone, MatchOption, length, get_or, refl, sym, ap, ◌∙◌, arith}
+use Rattle.std.proofs.Common.{◌≡◌, ◌≢◌, ℕ, ◌<◌, List, [], ◌∷◌, Option, Some, None, IfSome, IfNone, MatchOption, length, get_or, refl, sym, ap, ◌∙◌, subst, arith}
+use Rattle.std.specs.Prelude.{map, Contains, slice_get}
+use Rattle.std.specs.Option.{option_map}
+use Rattle.std.proofs.lemmas.List.{length-map, get_or-map}
+use Rattle.std.proofs.lemmas.Option.{slice_get-map, slice_get-get_or}
+use Rattle.wb_lemmas.proofs.Members.{contains_at}
 use Rattle.std.specs.List.{position}
 use Rattle.std.specs.Str.{bytes_eq}
-use Rattle.wb_tokens.specs.Words.{word_text, IsReserved, punctuation_text}
+use Rattle.wb_tokens.specs.Words.{word_text, punctuation_text}
+use Rattle.wb_base.specs.Identifiers.{IsReserved, reserved_words}
 use Rattle.wb_tokens.specs.declared.word.Word.{Word}
 use Rattle.wb_tokens.specs.declared.word.Word.TheVariants as w
 use Rattle.wb_tokens.specs.declared.punctuation.Punctuation.{Punctuation}
@@ -127,9 +133,29 @@ place_below w.To = omega arith
 place_below w.Top = omega arith
 place_below w.True = omega arith
 
+-- the reserved words are the texts of the words
+reserved_list : reserved_words ≡ map word_text all_words
+unfolding reserved_words
+reserved_list = refl
+
+-- each word is reserved
+pub word_reserved : (word : Word) → IsReserved (word_text word)
+word_reserved word =
+    let at : slice_get all_words (place_of word) ≡ Some word = slice_get-get_or all_words (place_of word) word (place_below word) ∙ ap Some (listed word word) in
+    subst (λ (l : List (List ℕ)). Contains l (word_text word)) (sym reserved_list)
+    (contains_at (map word_text all_words) (word_text word) (place_of word) (slice_get-map word_text all_words (place_of word) ∙ ap (option_map word_text) at))
+
+-- what is reserved is a word
+pub reserved_word : (x : List ℕ) → IsReserved x → (word : Word) × (x ≡ word_text word)
+reserved_word x (k, within, is) =
+    let inside : k < length (map word_text all_words) = subst (λ (l : List (List ℕ)). k < length l) reserved_list within in
+    let below : k < length all_words = subst (λ (n : ℕ). k < n) (length-map all_words word_text) inside in
+    let at : get_or (map word_text all_words) k x ≡ x = subst (λ (l : List (List ℕ)). get_or l k x ≡ x) reserved_list is in
+    (get_or all_words k w.Abstract, sym at ∙ get_or-map word_text all_words k w.Abstract x below)
+
 -- what is none of the list is no reserved word
 not_reserved : (text : List ℕ) → ((k : ℕ) (d : Word) → k < length all_words → text ≢ word_text (get_or all_words k d)) → IsReserved text → ⊥
-not_reserved text none (word, is) = none (place_of word) word (place_below word) (is ∙ ap word_text (sym (listed word word)))
+not_reserved text none reserved = let (word, is) = reserved_word text reserved in none (place_of word) word (place_below word) (is ∙ ap word_text (sym (listed word word)))
 
 -- the place of the word that is spelled so
 abbrev place_named : List ℕ → Option ℕ

@@ -1,7 +1,8 @@
 -- The longest token at the beginning of some bytes.
 use Rattle.std.specs.Prelude.{ℕ, ◌<◌, ◌≤◌, ◌==◌, ◌||◌, List, Option, Some, None, length, take, if◌then◌else◌}
 use Rattle.std.specs.Char.{is_ascii_digit}
-use Rattle.wb_tokens.specs.Spelling.{Spells, HasValueInRange, is_letter}
+use Rattle.wb_tokens.specs.Spelling.{Spells, HasValueInRange}
+use Rattle.wb_base.specs.Identifiers.{is_letter}
 use Rattle.wb_tokens.specs.declared.token.Token.{Token}
 use Rattle.wb_tokens.specs.declared.beginning.Beginning.{Beginning}
 use Rattle.wb_tokens.specs.declared.beginning.Beginning.TheVariants.{Letter, Number, Quote, Slash, Mark}

@@ -1,25 +1,11 @@
 -- Which bytes spell which token.
 use Rattle.std.specs.Prelude.{◌≡◌, ℕ, ◌+◌, ◌*◌, ◌-◌, ◌==◌, ◌≢◌, ⊤, Bool, true, false, not, ◌||◌, ◌&&◌, List, [], ◌∷◌, ◌++◌, Option, Some, None, ℤ, pos, neg_ℤ, nat_le, if◌then◌else◌, FitsSigned}
-use Rattle.std.specs.Char.{is_ascii_alphabetic, is_ascii_digit}
 use Rattle.std.specs.Int.{w64}
-use Rattle.std.specs.List.{list_all}
 use Rattle.std.specs.Str.Parse.{IsNumeral, digits_value}
-use Rattle.wb_tokens.specs.Words.{word_text, IsReserved, punctuation_text}
+use Rattle.wb_tokens.specs.Words.{word_text, punctuation_text}
+use Rattle.wb_base.specs.Identifiers.{IsIdentifier, IsReserved}
 use Rattle.wb_tokens.specs.declared.token.Token.{Token}
 use Rattle.wb_tokens.specs.declared.token.Token.TheVariants as t
-
--- a letter or `_`
-abbrev pub is_letter : ℕ → Bool
-is_letter b = is_ascii_alphabetic b || b == 95
-
--- a letter, a digit or `_`
-abbrev pub is_name_byte : ℕ → Bool
-is_name_byte b = is_letter b || is_ascii_digit b
-
--- a letter or `_`, then letters, digits and `_`
-abbrev pub IsIdentifier : List ℕ → Type 0
-IsIdentifier [] = ⊥
-IsIdentifier (b ∷ x) = (is_letter b ≡ true) × (list_all is_name_byte x ≡ true)
 
 -- an optional `-` directly before one or more digits, and their value
 pub data IsInteger : List ℕ → ℤ → Type 0 where

@@ -43,10 +43,6 @@ word_text w.To = codes "to"
 word_text w.Top = codes "top"
 word_text w.True = codes "true"
 
--- the bytes are a reserved word
-abbrev pub IsReserved : List ℕ → Type 0
-IsReserved x = (word : Word) × (x ≡ word_text word)
-
 -- the bytes of a punctuation mark
 abbrev pub punctuation_text : Punctuation → List ℕ
 punctuation_text p.Semicolon = codes ";"

@@ -2,7 +2,7 @@
 
 ghost use Rattle.std.specs.Prelude.{◌≡◌};
 ghost use Rattle.wb_tokens.specs.Longest.{beginning_of};
-ghost use Rattle.wb_tokens.specs.Spelling.{is_letter};
+ghost use Rattle.wb_base.specs.Identifiers.{is_letter};
 
 /// What a token that begins with a byte can be.
 #[derive(Clone, Copy, Debug)]

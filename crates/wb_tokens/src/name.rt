@@ -3,7 +3,7 @@
 ghost use Rattle.std.specs.Prelude.{◌≡◌, ◌<◌, true, length, slice_index, IfOk, Some};
 ghost use Rattle.std.specs.List.{prefix_len};
 ghost use Rattle.wb_tokens.specs.Longest.{beginning_of, FindsLongest};
-ghost use Rattle.wb_tokens.specs.Spelling.{is_letter, is_name_byte};
+ghost use Rattle.wb_base.specs.Identifiers.{is_letter, is_name_byte};
 
 use crate::Token;
 use crate::beginning::{Beginning, is_letter};

@@ -2,7 +2,8 @@
 
 ghost use Rattle.std.specs.Prelude.{◌≡◌, ◌≢◌, ℕ, ◌<◌, length, slice_index_or, MatchOption, IfSome, IfNone};
 ghost use Rattle.wb_tokens.specs.declared.word.Word.{Word};
-ghost use Rattle.wb_tokens.specs.Words.{word_text, IsReserved};
+ghost use Rattle.wb_tokens.specs.Words.{word_text};
+ghost use Rattle.wb_base.specs.Identifiers.{IsReserved};
 
 /// A reserved word.
 #[derive(Clone, Copy, Debug, PartialEq, Eq)]

@@ -2,4 +2,4 @@ use Rattle.wb_automata.proofs.ClassLemmas.{class_step}
 use Rattle.wb_automata.proofs.classes.refined.Goals as goal
 
 pub loop-b-preserved : goal.loop-b-preserved
-loop-b-preserved c = rw (c.in_ok-push.ensures) (class_step c.args.node c.args.classes.now c.loop-b.of.items c.loop-b.firsts.items c.class_of.new.firsts.items c.loop-b.b c.in_ok-class.class c.loop-b.invariant c.in_ok-class.ensures.class)
+loop-b-preserved c = rw (c.in_ok-push.ensures.ok) (class_step c.args.node c.args.classes.now c.loop-b.of.items c.loop-b.firsts.items c.class_of.new.firsts.items c.loop-b.b c.in_ok-class.class c.loop-b.invariant c.in_ok-class.ensures.class)

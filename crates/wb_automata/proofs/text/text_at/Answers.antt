@@ -7,7 +7,7 @@ use Rattle.wb_automata.proofs.TextLemmas.{text_back, text_none}
 use Rattle.wb_automata.proofs.text.text_at.Goals as goal
 
 pub back-preserved : goal.back-preserved
-back-preserved c = let i = c.back.invariant in text_back c.args.origins.now c.args.state c.back.at c.back.bytes.items c.push.new.list.items _ (slice_get-get_or c.args.origins.now c.back.at _ c.back.invariant.0) c.back-test.true c.in_ok-push.ensures c.back.invariant
+back-preserved c = let i = c.back.invariant in text_back c.args.origins.now c.args.state c.back.at c.back.bytes.items c.push.new.list.items _ (slice_get-get_or c.args.origins.now c.back.at _ c.back.invariant.0) c.back-test.true c.in_ok-push.ensures.ok c.back.invariant
 
 pub returns : goal.returns
 returns c =

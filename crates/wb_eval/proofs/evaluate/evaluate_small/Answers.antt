@@ -33,8 +33,8 @@ loop-node-preserved c =
     read_at c.args.term.now.nodes c.as_slice-nodes.result.now c.loop-node.node-index c.node-item.result c.as_slice-nodes.ensures within c.node-item.is in
     let here : slice_get c.args.term.now.nodes (length c.loop-node.rows.items) ≡ Some c.node-item.result =
     subst (λ (i : ℕ). slice_get c.args.term.now.nodes i ≡ Some c.node-item.result) (sym c.loop-node.invariant.0) at in (
-      ap length c.in_ok-push.ensures ∙ (length-append c.loop-node.rows.items _ ∙ ap (λ (n : ℕ). n + 1) c.loop-node.invariant.0),
-      subst (λ (rows : List (List SmallAnswer)). AreRows c.args.spec.now c.args.term.now rows) (sym c.in_ok-push.ensures)
+      ap length c.in_ok-push.ensures.ok ∙ (length-append c.loop-node.rows.items _ ∙ ap (λ (n : ℕ). n + 1) c.loop-node.invariant.0),
+      subst (λ (rows : List (List SmallAnswer)). AreRows c.args.spec.now c.args.term.now rows) (sym c.in_ok-push.ensures.ok)
           (rows_more c.args.spec.now c.args.term.now c.loop-node.rows.items c.node-item.result c.in_ok-row.row c.loop-node.invariant.1 here c.in_ok-row.ensures),
     )
 

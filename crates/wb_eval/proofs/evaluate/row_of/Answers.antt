@@ -22,7 +22,7 @@ loop-equation-preserved c =
     slice_get_read c.as_slice-equation-items.result.now (length c.as_slice-equation-items.result.now) c.loop-equation.equation-index c.equation-item.result refl c.loop-equation-test.true c.equation-item.is in
     let here : slice_get c.as_slice-equation-items.result.now (length c.loop-equation.row.items) ≡ Some c.equation-item.result =
     subst (λ (i : ℕ). slice_get c.as_slice-equation-items.result.now i ≡ Some c.equation-item.result) (sym c.loop-equation.invariant.0) at in (
-      ap length c.in_ok-push.ensures ∙ (length-append c.loop-equation.row.items _ ∙ ap (λ (n : ℕ). n + 1) c.loop-equation.invariant.0),
-      subst (λ (row : List SmallAnswer). AreAnswers c.args.host.now.spec.now c.args.term.now c.as_slice-children.result.now c.as_slice-equation-items.result.now row) (sym c.in_ok-push.ensures)
+      ap length c.in_ok-push.ensures.ok ∙ (length-append c.loop-equation.row.items _ ∙ ap (λ (n : ℕ). n + 1) c.loop-equation.invariant.0),
+      subst (λ (row : List SmallAnswer). AreAnswers c.args.host.now.spec.now c.args.term.now c.as_slice-children.result.now c.as_slice-equation-items.result.now row) (sym c.in_ok-push.ensures.ok)
           (more c.as_slice-equation-items.result.now (HasEquationAnswer c.args.host.now.spec.now c.args.term.now c.as_slice-children.result.now) c.loop-equation.row.items c.equation-item.result c.in_ok-answer.answer c.loop-equation.invariant.1 here c.in_ok-answer.ensures),
     )

@@ -11,7 +11,7 @@ returns-then-is_item c =
 
 pub returns : goal.returns
 returns c =
-    strict_take_at c.args.items.now c.args.list.now.items c.push.new.list.items c.args.place c.item_at-item.result c.requires.rising c.item_at-item.ensures c.in_ok-push.ensures
+    strict_take_at c.args.items.now c.args.list.now.items c.push.new.list.items c.args.place c.item_at-item.result c.requires.rising c.item_at-item.ensures c.in_ok-push.ensures.ok
     (λ pos a at same. elim c.if-place-gt0.branch [
       | then-place-gt0+else-is_item w ↦ true≢false (sym (w.is_item.ensures.1 (at_once c.args.items.now (c.args.place - 1) w.item_at-before.result a w.item_at-before.ensures at ∙ same)) ∙ w.if-is_item.false)
       | else-place-gt0 w ↦ absurd (omega (arith, pos, w.if-place-gt0.false))

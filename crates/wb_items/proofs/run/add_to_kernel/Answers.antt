@@ -12,7 +12,7 @@ returns-then-is_item c =
 
 pub returns : goal.returns
 returns c =
-    strict_take_at (items_of c.args.run.now) c.args.kernel.now.items c.push.new.list.items c.args.place c.advanced_at-item.result c.requires.rising c.advanced_at-item.ensures c.in_ok-push.ensures
+    strict_take_at (items_of c.args.run.now) c.args.kernel.now.items c.push.new.list.items c.args.place c.advanced_at-item.result c.requires.rising c.advanced_at-item.ensures c.in_ok-push.ensures.ok
     (λ pos a at same. elim c.if-place-gt0.branch [
       | then-place-gt0+else-is_item w ↦ true≢false (sym (w.is_item.ensures.1 (at_once (items_of c.args.run.now) (c.args.place - 1) w.advanced_at-before.result a w.advanced_at-before.ensures at ∙ same)) ∙ w.if-is_item.false)
       | else-place-gt0 w ↦ absurd (omega (arith, pos, w.if-place-gt0.false))

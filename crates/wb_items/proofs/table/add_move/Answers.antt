@@ -22,4 +22,4 @@ pub returns-clause-moves : goal.returns-clause-moves
 returns-clause-moves c =
     let (b, here) = at_some c.args.list.now c.args.place c.requires.place in
     moves_more c.args.grammar.now c.args.found.now c.args.found.now c.number_of.new.found c.args.list.now c.args.state c.args.row.now.items c.push.new.list.items c.args.place c.run_end-end.result c.symbol_at-symbol.result b c.in_ok-next.next
-    here (c.symbol_at-symbol.ensures b here) c.run_end-end.ensures c.requires.before c.in_ok-next.ensures.kernels c.in_ok-next.ensures.grows c.in_ok-next.ensures.leads c.in_ok-push.ensures
+    here (c.symbol_at-symbol.ensures b here) c.run_end-end.ensures c.requires.before c.in_ok-next.ensures.kernels c.in_ok-next.ensures.grows c.in_ok-next.ensures.leads c.in_ok-push.ensures.ok

@@ -27,7 +27,7 @@ returns-clause-followed c =
     let within : state < length old.kernels = omega (arith, c.requires.within, c.len-state.ensures) in
     let (prefix, at) = prefix_at c.requires.kernels state within in
     let grows = c.in_ok-row.ensures.grows in
-    rw (c.in_ok-push.ensures, c.in_ok-push-2.ensures)
+    rw (c.in_ok-push.ensures.ok, c.in_ok-push-2.ensures.ok)
     (followed_more g old new closures c.args.table.now.rows.items prefix c.in_ok-closure.closure c.in_ok-row.row grows
     (λ s p lt there.
     let (p0, at0) = prefix_at c.requires.kernels s (omega (arith, lt, e, within)) in
@@ -47,4 +47,4 @@ returns-clause-within c =
     let within : state < length old.kernels = omega (arith, c.requires.within, c.len-state.ensures) in
     let (prefix, at) = prefix_at c.requires.kernels state within in
     let w = slice_get_within new.prefixes state prefix (c.in_ok-row.ensures.grows.prefixes state prefix at) in
-    rw c.in_ok-push.ensures (omega (arith, length-append {A = List Item} c.args.table.now.closures.items (c.in_ok-closure.closure ∷ []), w, e, c.in_ok-row.ensures.kernels.len))
+    rw c.in_ok-push.ensures.ok (omega (arith, length-append {A = List Item} c.args.table.now.closures.items (c.in_ok-closure.closure ∷ []), w, e, c.in_ok-row.ensures.kernels.len))

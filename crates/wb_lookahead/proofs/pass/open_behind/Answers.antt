@@ -2,7 +2,7 @@ use Rattle.std.proofs.Common.{◌≡◌, ℕ, ◌<◌, List, ◌∷◌, length, 
 use Rattle.std.proofs.lemmas.Result.{on_ok_weaker}
 use Rattle.wb_base.specs.declared.symbol.Symbol.{Symbol}
 use Rattle.wb_base.specs.declared.symbol.Symbol.TheVariants.{Nonterminal}
-use Rattle.wb_base.specs.Grammar.{GrammarState, IsSymbolBelow}
+use Rattle.wb_base.specs.Grammar.{GrammarView, IsSymbolBelow}
 use Rattle.wb_grammars.specs.Items.{after_dot, HasItem, opening}
 use Rattle.wb_grammars.specs.Rules.{IsRule}
 use Rattle.wb_items.specs.Kernels.{prefix_of}
@@ -24,7 +24,7 @@ open_all-requires-clause-places c =
     let numbers : AreRulesOf c.args.grammar.now c.in-Nonterminal.nonterminal c.numbers_of.result.now = c.requires.rules.each c.in-Nonterminal.nonterminal c.numbers_of.result.now c.numbers_of.ensures in
     λ q listed.
     let (right, rule) = numbers.sound q listed in
-    record { state = c.requires.place.state; has = subst (λ (g : GrammarState). HasItem g (prefix_of c.args.kernels.now c.args.place.state) (opening q)) (sym c.requires.grammar) (opening_there c.requires.kernels c.requires.grammar c.args.place c.requires.place c.in-Nonterminal.nonterminal rest q right here rule) }
+    record { state = c.requires.place.state; has = subst (λ (g : GrammarView). HasItem g (prefix_of c.args.kernels.now c.args.place.state) (opening q)) (sym c.requires.grammar) (opening_there c.requires.kernels c.requires.grammar c.args.place c.requires.place c.in-Nonterminal.nonterminal rest q right here rule) }
 
 pub open_all-requires-clause-flows : goal.open_all-requires-clause-flows
 open_all-requires-clause-flows c =

@@ -1,7 +1,7 @@
 use Rattle.std.proofs.Common.{◌≡◌, ◌↔◌, ℕ, ◌≤◌, [], ◌∷◌, length, sym, ◌∙◌, ap, subst}
 use Rattle.std.proofs.lemmas.Result.{on_ok_weaker, IfErr-weaker}
 use Rattle.wb_base.specs.declared.symbol.Symbol.TheVariants.{Terminal, Nonterminal}
-use Rattle.wb_base.specs.Grammar.{GrammarState}
+use Rattle.wb_base.specs.Grammar.{GrammarView}
 use Rattle.wb_termset.specs.Sets.{Has}
 use Rattle.wb_grammars.specs.Items.{after_dot}
 use Rattle.wb_grammars.specs.Lookaheads.{IsLookahead}
@@ -15,15 +15,15 @@ use Rattle.wb_lookahead.proofs.StepLemmas.{row_has}
 use Rattle.wb_lookahead.proofs.rows.add_item.Goals as goal
 
 pub reduction-action-requires : goal.reduction-action-requires
-reduction-action-requires c = subst (λ (g : GrammarState). c.args.item.production ≤ length g.productions) c.requires.grammar (valid_production c.requires.item.1)
+reduction-action-requires c = subst (λ (g : GrammarView). c.args.item.production ≤ length g.productions) c.requires.grammar (valid_production c.requires.item.1)
 
 pub of-requires-clause-item : goal.of-requires-clause-item
 of-requires-clause-item c = row_has c.requires.kernels c.args.lookaheads.now c.requires.lookaheads.shape c.args.state c.args.item c.requires.state c.requires.item
 
 pub returns-in_default-clause-ok : goal.returns-in_default-clause-ok
 returns-in_default-clause-ok c =
-    let complete : after_dot c.args.kernels.now.grammar c.args.item ≡ [] = subst (λ (g : GrammarState). after_dot g c.args.item ≡ []) (sym c.requires.grammar) c.in_default.ensures.symbol in
-    let is : IsReduction (length c.args.kernels.now.grammar.productions) c.args.item.production c.reduction-action.result = subst (λ (g : GrammarState). IsReduction (length g.productions) c.args.item.production c.reduction-action.result) (sym c.requires.grammar) c.reduction-action.ensures in
+    let complete : after_dot c.args.kernels.now.grammar c.args.item ≡ [] = subst (λ (g : GrammarView). after_dot g c.args.item ≡ []) (sym c.requires.grammar) c.in_default.ensures.symbol in
+    let is : IsReduction (length c.args.kernels.now.grammar.productions) c.args.item.production c.reduction-action.result = subst (λ (g : GrammarView). IsReduction (length g.productions) c.args.item.production c.reduction-action.result) (sym c.requires.grammar) c.reduction-action.ensures in
     let exact : (t : ℕ) → Has c.of.result.now t ↔ IsLookahead c.args.kernels.now.grammar (prefix_of c.args.kernels.now c.args.state) c.args.item t = λ t. c.requires.lookaheads.exact c.args.state c.args.item c.of.result.now t c.requires.state c.of.ensures in
     on_ok_weaker c.put_all.result
     (puts_adds (Has c.of.result.now)
@@ -34,8 +34,8 @@ returns-in_default-clause-ok c =
 
 pub returns-in_default-clause-refused : goal.returns-in_default-clause-refused
 returns-in_default-clause-refused c =
-    let complete : after_dot c.args.kernels.now.grammar c.args.item ≡ [] = subst (λ (g : GrammarState). after_dot g c.args.item ≡ []) (sym c.requires.grammar) c.in_default.ensures.symbol in
-    let is : IsReduction (length c.args.kernels.now.grammar.productions) c.args.item.production c.reduction-action.result = subst (λ (g : GrammarState). IsReduction (length g.productions) c.args.item.production c.reduction-action.result) (sym c.requires.grammar) c.reduction-action.ensures in
+    let complete : after_dot c.args.kernels.now.grammar c.args.item ≡ [] = subst (λ (g : GrammarView). after_dot g c.args.item ≡ []) (sym c.requires.grammar) c.in_default.ensures.symbol in
+    let is : IsReduction (length c.args.kernels.now.grammar.productions) c.args.item.production c.reduction-action.result = subst (λ (g : GrammarView). IsReduction (length g.productions) c.args.item.production c.reduction-action.result) (sym c.requires.grammar) c.reduction-action.ensures in
     let exact : (t : ℕ) → Has c.of.result.now t ↔ IsLookahead c.args.kernels.now.grammar (prefix_of c.args.kernels.now c.args.state) c.args.item t = λ t. c.requires.lookaheads.exact c.args.state c.args.item c.of.result.now t c.requires.state c.of.ensures in
     IfErr-weaker c.put_all.result (IsClash c.args.state c.args.row.now (Has c.of.result.now) c.reduction-action.result) (IsTableRefusal c.args.kernels.now)
     (clash_refused (Has c.of.result.now) c.requires.kernels c.requires.state
@@ -46,13 +46,13 @@ returns-in_default-clause-refused c =
 pub returns-in_default-symbol-clause-ok : goal.returns-in_default-symbol-clause-ok
 returns-in_default-symbol-clause-ok c =
     let (rest, is) = c.in-Some.ensures.symbol in
-    let before : after_dot c.args.kernels.now.grammar c.args.item ≡ Nonterminal c.in_default-symbol.field-0 ∷ rest = subst (λ (g : GrammarState). after_dot g c.args.item ≡ Nonterminal c.in_default-symbol.field-0 ∷ rest) (sym c.requires.grammar) (is ∙ ap (λ x. x ∷ rest) c.in_default-symbol.is) in
+    let before : after_dot c.args.kernels.now.grammar c.args.item ≡ Nonterminal c.in_default-symbol.field-0 ∷ rest = subst (λ (g : GrammarView). after_dot g c.args.item ≡ Nonterminal c.in_default-symbol.field-0 ∷ rest) (sym c.requires.grammar) (is ∙ ap (λ x. x ∷ rest) c.in_default-symbol.is) in
     adds_none c.args.state c.args.item c.args.row.now (nothing_asked c.args.state c.args.item c.in_default-symbol.field-0 rest before) c.requires.sound
 
 pub returns-clause-ok : goal.returns-clause-ok
 returns-clause-ok c =
     let (rest, is) = c.in-Some.ensures.symbol in
-    let before : after_dot c.args.kernels.now.grammar c.args.item ≡ Terminal c.in-Terminal.terminal ∷ rest = subst (λ (g : GrammarState). after_dot g c.args.item ≡ Terminal c.in-Terminal.terminal ∷ rest) (sym c.requires.grammar) (is ∙ ap (λ x. x ∷ rest) c.in-Terminal.is) in
+    let before : after_dot c.args.kernels.now.grammar c.args.item ≡ Terminal c.in-Terminal.terminal ∷ rest = subst (λ (g : GrammarView). after_dot g c.args.item ≡ Terminal c.in-Terminal.terminal ∷ rest) (sym c.requires.grammar) (is ∙ ap (λ x. x ∷ rest) c.in-Terminal.is) in
     let leads : LeadsTo c.args.kernels.now c.args.state (Terminal c.in-Terminal.terminal) c.in-Some-next.next = c.in-Some-next.ensures.some in
     on_ok_weaker c.put.result
     (puts_adds (λ t. t ≡ c.in-Terminal.terminal)
@@ -64,7 +64,7 @@ returns-clause-ok c =
 pub returns-clause-refused : goal.returns-clause-refused
 returns-clause-refused c =
     let (rest, is) = c.in-Some.ensures.symbol in
-    let before : after_dot c.args.kernels.now.grammar c.args.item ≡ Terminal c.in-Terminal.terminal ∷ rest = subst (λ (g : GrammarState). after_dot g c.args.item ≡ Terminal c.in-Terminal.terminal ∷ rest) (sym c.requires.grammar) (is ∙ ap (λ x. x ∷ rest) c.in-Terminal.is) in
+    let before : after_dot c.args.kernels.now.grammar c.args.item ≡ Terminal c.in-Terminal.terminal ∷ rest = subst (λ (g : GrammarView). after_dot g c.args.item ≡ Terminal c.in-Terminal.terminal ∷ rest) (sym c.requires.grammar) (is ∙ ap (λ x. x ∷ rest) c.in-Terminal.is) in
     let leads : LeadsTo c.args.kernels.now c.args.state (Terminal c.in-Terminal.terminal) c.in-Some-next.next = c.in-Some-next.ensures.some in
     IfErr-weaker c.put.result (IsClash c.args.state c.args.row.now (λ t. t ≡ c.in-Terminal.terminal) (Shift c.in-Some-next.next)) (IsTableRefusal c.args.kernels.now)
     (clash_refused (λ t. t ≡ c.in-Terminal.terminal) c.requires.kernels c.requires.state

@@ -17,4 +17,4 @@ loop-item-preserved c =
     let step = c.in-Some.ensures.steps in
     let split : c.args.items.items ≡ c.loop-item.yielded ++ c.in-Some.item ∷ into_iter_items c.next.new.self = c.loop-item.invariant.0 ∙ ap (λ rest. c.loop-item.yielded ++ rest) step.0 in
     let more = one_more c.loop-item.yielded c.in-Some.item c.loop-item.made.items c.in_ok-read.read c.loop-item.invariant.1 c.in_ok-read.ensures.ok in
-    (split ∙ sym (append_assoc c.loop-item.yielded (c.in-Some.item ∷ []) (into_iter_items c.next.new.self)), subst (λ made. AllZip IsReadAs (c.loop-item.yielded ++ c.in-Some.item ∷ []) made) (sym c.in_ok-push.ensures) more)
+    (split ∙ sym (append_assoc c.loop-item.yielded (c.in-Some.item ∷ []) (into_iter_items c.next.new.self)), subst (λ made. AllZip IsReadAs (c.loop-item.yielded ++ c.in-Some.item ∷ []) made) (sym c.in_ok-push.ensures.ok) more)

@@ -12,7 +12,7 @@ pub loop-node-preserved : goal.loop-node-preserved
 loop-node-preserved c =
     let node = get_or c.args.nodes.now c.loop-node.node-index (Set []) in
     empties_more c.args.nodes.now c.loop-node.empties.items _ c.loop-node.node-index node c.loop-node.invariant (slice_get-get_or _ _ _ c.loop-node-test.true)
-    (c.in_ok-push.ensures ∙ ap (λ b. c.loop-node.empties.items ++ b ∷ []) (c.node_empty-empty.ensures ∙ ap (λ fs. empty_at fs node) c.deref.ensures.value))
+    (c.in_ok-push.ensures.ok ∙ ap (λ b. c.loop-node.empties.items ++ b ∷ []) (c.node_empty-empty.ensures ∙ ap (λ fs. empty_at fs node) c.deref.ensures.value))
 
 pub returns : goal.returns
 returns c = λ t h.

@@ -25,7 +25,7 @@ loop-child-preserved c =
     let added = added_new c.loop-child.labels c.child-item.result.label c.in_ok-add.field-0 c.add.new.self c.in_default.not-Present
     (subst (λ (l : List ℕ). AddsName c.loop-child.labels l c.in_ok-add.field-0 c.add.new.self) c.as_slice.ensures c.in_ok-add.ensures.ok) in
     let pushed : c.push.new.list.items ≡ c.loop-child.list.items ++ record { label = c.child-item.result.label; nonterminal = c.in_ok-nonterminal.nonterminal } ∷ [] =
-    c.in_ok-push.ensures ∙ ap (λ (l : List ℕ). c.loop-child.list.items ++ record { label = l; nonterminal = c.in_ok-nonterminal.nonterminal } ∷ []) c.in_ok-label.ensures.ok in
+    c.in_ok-push.ensures.ok ∙ ap (λ (l : List ℕ). c.loop-child.list.items ++ record { label = l; nonterminal = c.in_ok-nonterminal.nonterminal } ∷ []) c.in_ok-label.ensures.ok in
     numbered_as c.args.nonterminals.now c.args.named.now _ _ _ _ _ added.1 pushed
     (children_more c.args.nonterminals.now c.args.named.now c.loop-child.child-index c.loop-child.labels c.loop-child.list.items c.child-item.result c.in_ok-nonterminal.nonterminal
     c.loop-child.invariant c.loop-child-test.true c.child-item.is c.in_ok-nonterminal.ensures.ok added.0)

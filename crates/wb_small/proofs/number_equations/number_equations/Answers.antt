@@ -28,4 +28,4 @@ loop-equation-preserved c =
     equations_more c.args.attributes.now c.args.occurrences.now.list.items c.args.children.now c.args.left c.args.named.now c.loop-equation.equation-index c.loop-equation.targets c.loop-equation.list.items c.equation-item.result c.in_ok-numbered.numbered
     c.loop-equation.invariant c.loop-equation-test.true c.equation-item.is c.in_ok-numbered.ensures.ok adds.0 in
     subst (λ (targets : List ℕ). EquationsAre c.args.attributes.now c.args.occurrences.now.list.items c.args.children.now c.args.left c.args.named.now (c.loop-equation.equation-index + 1) targets c.push.new.list.items) (sym adds.1)
-    (subst (λ (list : List SmallEquation). EquationsAre c.args.attributes.now c.args.occurrences.now.list.items c.args.children.now c.args.left c.args.named.now (c.loop-equation.equation-index + 1) (c.loop-equation.targets ++ c.in_ok-numbered.numbered.attribute ∷ []) list) (sym c.in_ok-push.ensures) kept)
+    (subst (λ (list : List SmallEquation). EquationsAre c.args.attributes.now c.args.occurrences.now.list.items c.args.children.now c.args.left c.args.named.now (c.loop-equation.equation-index + 1) (c.loop-equation.targets ++ c.in_ok-numbered.numbered.attribute ∷ []) list) (sym c.in_ok-push.ensures.ok) kept)

@@ -17,7 +17,7 @@ returns-in_err-numbered-clause-refused c =
 
 pub loop-node-preserved : goal.loop-node-preserved
 loop-node-preserved c =
-    subst (λ (nodes : List SmallNode). BecomeNodes c.args.attributes.now c.args.occurrences.now.list.items c.args.children.now (take (c.loop-node.node-index + 1) c.args.named.now) nodes) (sym c.in_ok-push.ensures)
+    subst (λ (nodes : List SmallNode). BecomeNodes c.args.attributes.now c.args.occurrences.now.list.items c.args.children.now (take (c.loop-node.node-index + 1) c.args.named.now) nodes) (sym c.in_ok-push.ensures.ok)
     (nodes_more c.args.attributes.now c.args.occurrences.now.list.items c.args.children.now c.args.named.now c.loop-node.node-index c.loop-node.nodes.items c.node-item.result c.in_ok-numbered.numbered
     c.loop-node.invariant c.loop-node-test.true c.node-item.is
     (subst (λ (p : ℕ). BecomesNode c.args.attributes.now c.args.occurrences.now.list.items c.args.children.now p c.node-item.result c.in_ok-numbered.numbered) (c.len-place.ensures ∙ c.loop-node.nodes.ok.0) c.in_ok-numbered.ensures.ok))

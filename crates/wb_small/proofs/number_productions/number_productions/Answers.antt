@@ -14,6 +14,6 @@ returns-in_err-numbered-clause-refused c =
 
 pub loop-production-preserved : goal.loop-production-preserved
 loop-production-preserved c =
-    subst (λ (list : List SmallProduction). BecomeProductions c.args.nonterminals.now c.args.attributes.now c.args.occurrences.now.list.items (take (c.loop-production.production-index + 1) c.args.named.now) list) (sym c.in_ok-push.ensures)
+    subst (λ (list : List SmallProduction). BecomeProductions c.args.nonterminals.now c.args.attributes.now c.args.occurrences.now.list.items (take (c.loop-production.production-index + 1) c.args.named.now) list) (sym c.in_ok-push.ensures.ok)
     (productions_more c.args.nonterminals.now c.args.attributes.now c.args.occurrences.now.list.items c.args.named.now c.loop-production.production-index c.loop-production.list.items c.production-item.result c.in_ok-numbered.numbered
     c.loop-production.invariant c.loop-production-test.true c.production-item.is c.in_ok-numbered.ensures.ok)

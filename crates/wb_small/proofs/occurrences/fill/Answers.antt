@@ -8,5 +8,5 @@ fill-init c = fill_start c.args.sets.now.items
 
 pub fill-preserved : goal.fill-preserved
 fill-preserved c =
-    let pushed : c.push.new.list.items ≡ c.fill.sets.items ++ [] ∷ [] = c.in_ok-push.ensures ∙ ap (λ (set : List ℕ). c.fill.sets.items ++ set ∷ []) c.new.ensures in
+    let pushed : c.push.new.list.items ≡ c.fill.sets.items ++ [] ∷ [] = c.in_ok-push.ensures.ok ∙ ap (λ (set : List ℕ). c.fill.sets.items ++ set ∷ []) c.new.ensures in
     subst (λ (sets : List (List ℕ)). FillsWithEmpty c.args.sets.now.items sets) (sym pushed) (fill_more c.args.sets.now.items c.fill.sets.items c.fill.invariant)

@@ -16,6 +16,6 @@ returns-in_err-numbered-clause-refused c =
 
 pub loop-node-preserved : goal.loop-node-preserved
 loop-node-preserved c =
-    subst (λ (nodes : List SmallTermNode). BecomeTermNodes c.args.productions.now (take (c.loop-node.node-index + 1) c.args.named.now) nodes) (sym c.in_ok-push.ensures)
+    subst (λ (nodes : List SmallTermNode). BecomeTermNodes c.args.productions.now (take (c.loop-node.node-index + 1) c.args.named.now) nodes) (sym c.in_ok-push.ensures.ok)
     (nodes_more c.args.productions.now c.args.named.now c.loop-node.node-index c.loop-node.nodes.items c.node-item.result c.in_ok-numbered.numbered c.loop-node.invariant c.loop-node-test.true c.node-item.is
     (subst (λ (before : List SmallTermNode). BecomesTermNode c.args.productions.now before c.node-item.result c.in_ok-numbered.numbered) c.deref.ensures.value c.in_ok-numbered.ensures.ok))

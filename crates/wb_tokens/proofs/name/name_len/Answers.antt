@@ -1,5 +1,5 @@
 use Rattle.std.proofs.Common.{arith, sym, ◌∙◌}
-use Rattle.wb_tokens.specs.Spelling.{is_name_byte}
+use Rattle.wb_base.specs.Identifiers.{is_name_byte}
 use Rattle.wb_tokens.proofs.LongestLemmas.{run_is}
 use Rattle.wb_tokens.proofs.name.name_len.Goals as goal
 

@@ -1,5 +1,5 @@
 use Rattle.std.proofs.Common.{◌≡◌, ℕ, ◌<◌, true, get_or}
-use Rattle.wb_tokens.specs.Spelling.{is_name_byte}
+use Rattle.wb_base.specs.Identifiers.{is_name_byte}
 use Rattle.wb_tokens.proofs.name.name_len.Given as goal
 
 abbrev pub invariant-loop-place : goal.invariant-loop-place

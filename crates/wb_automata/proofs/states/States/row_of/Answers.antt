@@ -17,7 +17,7 @@ loop-byte-preserved c =
     let b : ℕ = get_or c.args.bytes.now c.loop-byte.byte-index 0 in
     let w : List ℕ = text_on (slice_get c.loop-byte.self.texts c.args.i) b in
     let e : w ≡ h.text ++ b ∷ [] = ap (λ z. text_on z b) (h.extends.texts c.args.i h.text h.at_text) in
-    rw (c.in_ok-push.ensures) (row_step c.args.nodes.now c.args.follow.now c.args.bytes.now c.args.self.now c.loop-byte.self c.move_by.new.self c.args.i c.as_slice-leaves.result.now c.loop-byte.moves.items c.loop-byte.byte-index c.in_ok-place.place w c.requires.rising (omega arith) h e c.in_ok-place.ensures)
+    rw (c.in_ok-push.ensures.ok) (row_step c.args.nodes.now c.args.follow.now c.args.bytes.now c.args.self.now c.loop-byte.self c.move_by.new.self c.args.i c.as_slice-leaves.result.now c.loop-byte.moves.items c.loop-byte.byte-index c.in_ok-place.place w c.requires.rising (omega arith) h e c.in_ok-place.ensures)
 
 pub returns : goal.returns
 returns c =

@@ -7,7 +7,7 @@ use Rattle.wb_items.proofs.found.Found.prefix.Goals as goal
 pub steps-preserved : goal.steps-preserved
 steps-preserved c =
     rw (← c.self.view_is) (walked c.self.inside.steps.items c.self.inside.kernels.items c.self.invariant.back c.args.number c.steps.at c.index-step.result.now c.steps.symbols.items c.push.new.list.items
-    c.in_ok-push.ensures c.index-step.ensures c.steps-test.true (subst (λ (f : FoundState). (c.steps.at < length f.kernels) × (slice_index_or f.prefixes c.args.number [] ≡ slice_index_or f.prefixes c.steps.at [] ++ reverse c.steps.symbols.items)) (sym c.self.view_is) c.steps.invariant))
+    c.in_ok-push.ensures.ok c.index-step.ensures c.steps-test.true (subst (λ (f : FoundState). (c.steps.at < length f.kernels) × (slice_index_or f.prefixes c.args.number [] ≡ slice_index_or f.prefixes c.steps.at [] ++ reverse c.steps.symbols.items)) (sym c.self.view_is) c.steps.invariant))
 
 pub returns : goal.returns
 returns c =

@@ -28,7 +28,7 @@ returns-clause-ok c =
     slice_get_read _ _ _ _ c.fill.new.sets.ok.0 c.in_ok-fill.ensures.there c.index_mut-set.ensures.value in
     let adds : AddsNumber c.index_mut-set.result.now c.args.occurrence.attribute true c.add.new.self =
     subst (λ (b : Bool). AddsNumber c.index_mut-set.result.now c.args.occurrence.attribute b c.add.new.self) c.if-not-branch.false c.in_ok-add.ensures in
-    ((add_new c.args.self.now.on.items c.fill.new.sets.items c.args.self.now.list.items c.args.occurrence.attribute c.args.occurrence.nonterminal _ _ c.requires c.in_ok-fill.ensures.same there adds).0, c.in_ok-push.ensures)
+    ((add_new c.args.self.now.on.items c.fill.new.sets.items c.args.self.now.list.items c.args.occurrence.attribute c.args.occurrence.nonterminal _ _ c.requires c.in_ok-fill.ensures.same there adds).0, c.in_ok-push.ensures.ok)
 
 pub returns-clause-index : goal.returns-clause-index
 returns-clause-index c =
@@ -36,5 +36,5 @@ returns-clause-index c =
     slice_get_read _ _ _ _ c.fill.new.sets.ok.0 c.in_ok-fill.ensures.there c.index_mut-set.ensures.value in
     let adds : AddsNumber c.index_mut-set.result.now c.args.occurrence.attribute true c.add.new.self =
     subst (λ (b : Bool). AddsNumber c.index_mut-set.result.now c.args.occurrence.attribute b c.add.new.self) c.if-not-branch.false c.in_ok-add.ensures in
-    subst (λ (os : List Occurrence). IsIndex (slice_set c.fill.new.sets.items c.args.occurrence.nonterminal c.add.new.self) os) (sym c.in_ok-push.ensures)
+    subst (λ (os : List Occurrence). IsIndex (slice_set c.fill.new.sets.items c.args.occurrence.nonterminal c.add.new.self) os) (sym c.in_ok-push.ensures.ok)
     (add_new c.args.self.now.on.items c.fill.new.sets.items c.args.self.now.list.items c.args.occurrence.attribute c.args.occurrence.nonterminal _ _ c.requires c.in_ok-fill.ensures.same there adds).1
