@@ -8,13 +8,13 @@ use Rattle.wb_base.specs.declared.symbol.Symbol.TheVariants.{Terminal, Nontermin
 use Rattle.wb_base.specs.Grammar.{GrammarView, IsGrammar}
 use Rattle.wb_graph.specs.Graphs.{Edge, IsEdge}
 use Rattle.wb_graph.specs.Orders.{IsOrder, IsCycle}
-use Rattle.wb_grammars.specs.Rules.{IsRule}
+use Rattle.wb_grammars.specs.Productions.{IsProduction}
 use Rattle.wb_grammars.specs.Derives.{Derives, done}
-use Rattle.wb_grammars.specs.Cycles.{IsUnitRule, IsUnitRing, DerivesAlone, HasNoUnitCycle, IsFollowedBy, IsRing}
+use Rattle.wb_grammars.specs.Cycles.{IsUnitProduction, IsUnitCycle, DerivesAlone, HasNoUnitCycle, IsFollowedBy, IsCycleOf}
 use Rattle.wb_grammars.specs.Walks.{Walk, one, more}
 use Rattle.wb_grammars.proofs.DerivesLemmas.{Derives-append, Nullable-parts}
-use Rattle.wb_grammars.proofs.UnitLemmas.{unit_cycle_is, rule_alone}
-use Rattle.wb_grammars.proofs.RuleLemmas.{rule_below}
+use Rattle.wb_grammars.proofs.UnitLemmas.{unit_cycle_is, production_alone}
+use Rattle.wb_grammars.proofs.ProductionLemmas.{production_below}
 use Rattle.wb_grammar.specs.Built.{Holds}
 use Rattle.wb_grammar.specs.Facts.{IsNullableSet}
 use Rattle.wb_grammar.specs.declared.part.Part.TheVariants.{Alone}
@@ -36,17 +36,17 @@ empty_held g s set (Nonterminal a ∷ w) r =
     All-cons (Holds false s) (Nonterminal a) w ((set.each a).1 parts.head) (empty_held g s set w parts.tail)
 
 -- the edges are unit rules
-pub edge_unit : (g : GrammarView) (s : List Bool) → IsNullableSet g s → (a b : ℕ) → IsEdgeBy Alone g s a b → IsUnitRule g a b
+pub edge_unit : (g : GrammarView) (s : List Bool) → IsNullableSet g s → (a b : ℕ) → IsEdgeBy Alone g s a b → IsUnitProduction g a b
 edge_unit g s set a b e = record {
   p = e.p;
   before = e.placed.before;
   after = e.placed.after;
-  rule = subst (IsRule g e.p a) e.placed.is e.rule;
+  rule = subst (IsProduction g e.p a) e.placed.is e.rule;
   before_empty = held_empty g s set e.placed.before e.placed.fits.0;
   after_empty = held_empty g s set e.placed.after e.placed.fits.1;
 }
 
-pub unit_edge : (g : GrammarView) (s : List Bool) → IsNullableSet g s → (a b : ℕ) → IsUnitRule g a b → IsEdgeBy Alone g s a b
+pub unit_edge : (g : GrammarView) (s : List Bool) → IsNullableSet g s → (a b : ℕ) → IsUnitProduction g a b → IsEdgeBy Alone g s a b
 unit_edge g s set a b u = record {
   p = u.p;
   right = u.before ++ Nonterminal b ∷ u.after;
@@ -64,7 +64,7 @@ pub place_of : (list : List ℕ) (v : ℕ) → Contains list v → (i : ℕ) × 
 place_of list v (i, lt, is) = (i, slice_get-get_or list i v lt ∙ ap Some is)
 
 -- along a walk places fall
-walk_falls : (g : GrammarView) (s : List Bool) → IsNullableSet g s → (count : ℕ) (edges : List Edge) (order : List ℕ) → AreEdges Alone g s edges → IsOrder count edges order → {a b : ℕ} → Walk (IsUnitRule g) a b → (i : ℕ) → slice_get order i ≡ Some a → (j : ℕ) × (j < i) × (slice_get order j ≡ Some b)
+walk_falls : (g : GrammarView) (s : List Bool) → IsNullableSet g s → (count : ℕ) (edges : List Edge) (order : List ℕ) → AreEdges Alone g s edges → IsOrder count edges order → {a b : ℕ} → Walk (IsUnitProduction g) a b → (i : ℕ) → slice_get order i ≡ Some a → (j : ℕ) × (j < i) × (slice_get order j ≡ Some b)
 walk_falls g s set count edges order are is (one {a} {b} u) i at = is.behind a b i ((are a b).1 (unit_edge g s set a b u)) at
 walk_falls g s set count edges order are is (more {a} {b} {c} u w) i at =
     let (j, lt, at_b) = is.behind a b i ((are a b).1 (unit_edge g s set a b u)) at in
@@ -74,15 +74,15 @@ walk_falls g s set count edges order are is (more {a} {b} {c} u w) i at =
 -- with an order there is no unit cycle
 pub order_no_cycle : (g : GrammarView) (s : List Bool) (edges : List Edge) (order : List ℕ) → IsGrammar g → IsNullableSet g s → AreEdges Alone g s edges → IsOrder g.nonterminals edges order → HasNoUnitCycle g
 order_no_cycle g s edges order ok set are is a (p, right, rule, r) =
-    let below : a < g.nonterminals = (rule_below g p a right ok rule).left in
+    let below : a < g.nonterminals = (production_below g p a right ok rule).left in
     let (i, at) = place_of order a (is.every a below) in
     let (j, lt, at_j) = walk_falls g s set g.nonterminals edges order are is ((unit_cycle_is g a).0 (p, right, rule, r)) i at in
     let same : j ≡ i = is.once a j i at_j at in
     omega arith
 
--- a cycle of edges is a ring
-pub cycle_ring : (edges : List Edge) (list : List ℕ) (R : ℕ → ℕ → Type 0) → ((a b : ℕ) → IsEdge edges a b → R a b) → IsCycle edges list → IsRing R list
-cycle_ring edges list R sound cycle = record { nonempty = cycle.nonempty; each = each }
+-- a cycle of edges is a cycle
+pub cycle_of_edges : (edges : List Edge) (list : List ℕ) (R : ℕ → ℕ → Type 0) → ((a b : ℕ) → IsEdge edges a b → R a b) → IsCycle edges list → IsCycleOf R list
+cycle_of_edges edges list R sound cycle = record { nonempty = cycle.nonempty; each = each }
   where
     each : (a b : ℕ) → IsFollowedBy list a b → R a b
     each a b f = elim f.other [
@@ -93,5 +93,5 @@ cycle_ring edges list R sound cycle = record { nonempty = cycle.nonempty; each =
     ]
 
 -- of nonterminals that derive the next alone
-pub cycle_unit_ring : (g : GrammarView) (s : List Bool) (edges : List Edge) (list : List ℕ) → IsNullableSet g s → AreEdges Alone g s edges → IsCycle edges list → IsUnitRing g list
-cycle_unit_ring g s edges list set are cycle = cycle_ring edges list (DerivesAlone g) (λ a b edge. rule_alone (edge_unit g s set a b ((are a b).0 edge))) cycle
+pub unit_cycle_of_edges : (g : GrammarView) (s : List Bool) (edges : List Edge) (list : List ℕ) → IsNullableSet g s → AreEdges Alone g s edges → IsCycle edges list → IsUnitCycle g list
+unit_cycle_of_edges g s edges list set are cycle = cycle_of_edges edges list (DerivesAlone g) (λ a b edge. production_alone (edge_unit g s set a b ((are a b).0 edge))) cycle

@@ -7,8 +7,8 @@ use Rattle.wb_base.specs.declared.symbol.Symbol.{Symbol}
 use Rattle.wb_base.specs.declared.symbol.Symbol.TheVariants.{Terminal, Nonterminal}
 use Rattle.wb_base.specs.Grammar.{GrammarView, IsGrammar, IsSymbolBelow}
 use Rattle.wb_graph.specs.Graphs.{Edge, IsEdgeBelow}
-use Rattle.wb_grammars.specs.Rules.{IsRule}
-use Rattle.wb_grammars.proofs.RuleLemmas.{rule_once, rule_within, rule_below}
+use Rattle.wb_grammars.specs.Productions.{IsProduction}
+use Rattle.wb_grammars.proofs.ProductionLemmas.{production_once, production_within, production_below}
 use Rattle.wb_grammar.specs.declared.part.Part.{Part}
 use Rattle.wb_grammar.specs.Edges.{IsPlaced, IsEdgeBy, AreEdges, edges_of}
 use Rattle.wb_grammar.proofs.PartLemmas.{placed_within}
@@ -55,7 +55,7 @@ pub record EdgesBefore (part : Part) (g : GrammarView) (nullable : List Bool) (e
 pub edges_start : (part : Part) (g : GrammarView) (nullable : List Bool) → EdgesBefore part g nullable [] 0
 edges_start part g nullable = record { sound = λ a b (k, lt, is). absurd (omega arith); complete = λ a b e lt. absurd (omega arith) }
 
-pub edges_more : (part : Part) (g : GrammarView) (nullable : List Bool) (edges : List Edge) (p left : ℕ) (right symbols : List Symbol) → IsRule g p left right → ((x : Symbol) → Contains symbols x ↔ IsPlaced part nullable right x) → EdgesBefore part g nullable edges p → EdgesBefore part g nullable (edges ++ edges_of left symbols) (p + 1)
+pub edges_more : (part : Part) (g : GrammarView) (nullable : List Bool) (edges : List Edge) (p left : ℕ) (right symbols : List Symbol) → IsProduction g p left right → ((x : Symbol) → Contains symbols x ↔ IsPlaced part nullable right x) → EdgesBefore part g nullable edges p → EdgesBefore part g nullable (edges ++ edges_of left symbols) (p + 1)
 edges_more part g nullable edges p left right symbols rule placed before = record { sound = sound; complete = complete }
   where
     sound : (a b : ℕ) → Contains (edges ++ edges_of left symbols) (a, b) → IsEdgeBy part g nullable a b
@@ -63,7 +63,7 @@ edges_more part g nullable edges p left right symbols rule placed before = recor
       | inl old ↦ before.sound a b old
       | inr new ↦
           let r = edges_of_there left symbols a b new in
-          record { p = p; right = right; rule = subst (λ z. IsRule g p z right) r.0 rule; placed = (placed (Nonterminal b)).0 r.1 }
+          record { p = p; right = right; rule = subst (λ z. IsProduction g p z right) r.0 rule; placed = (placed (Nonterminal b)).0 r.1 }
     ]
 
     complete : (a b : ℕ) (e : IsEdgeBy part g nullable a b) → e.p < p + 1 → Contains (edges ++ edges_of left symbols) (a, b)
@@ -71,7 +71,7 @@ edges_more part g nullable edges p left right symbols rule placed before = recor
       | inl old ↦ Contains-append_left edges (edges_of left symbols) (a, b) (before.complete a b e old)
       | inr new ↦
           let same : e.p ≡ p = omega arith in
-          let r = rule_once g p a left e.right right (subst (λ z. IsRule g z a e.right) same e.rule) rule in
+          let r = production_once g p a left e.right right (subst (λ z. IsProduction g z a e.right) same e.rule) rule in
           let there : Contains symbols (Nonterminal b) = (placed (Nonterminal b)).1 (subst (λ z. IsPlaced part nullable z (Nonterminal b)) r.1 e.placed) in
           Contains-append_right edges (edges_of left symbols) (a, b)
           (subst (λ z. Contains (edges_of left symbols) (z, b)) (sym r.0) (edges_of_back left symbols b there))
@@ -79,11 +79,11 @@ edges_more part g nullable edges p left right symbols rule placed before = recor
 
 pub edges_exact : (part : Part) (g : GrammarView) (nullable : List Bool) (edges : List Edge) (limit : ℕ) → length g.productions ≤ limit → EdgesBefore part g nullable edges limit → AreEdges part g nullable edges
 edges_exact part g nullable edges limit le are a b =
-    (are.sound a b, λ e. are.complete a b e (let lt : e.p < length g.productions = rule_within g e.p a e.right e.rule in omega arith))
+    (are.sound a b, λ e. are.complete a b e (let lt : e.p < length g.productions = production_within g e.p a e.right e.rule in omega arith))
 
 edge_below : (part : Part) (g : GrammarView) (nullable : List Bool) (a b : ℕ) → IsGrammar g → IsEdgeBy part g nullable a b → IsEdgeBelow g.nonterminals (a, b)
 edge_below part g nullable a b ok e =
-    let below = rule_below g e.p a e.right ok e.rule in
+    let below = production_below g e.p a e.right ok e.rule in
     (below.left, All-contains (IsSymbolBelow g.terminals g.nonterminals) e.right (Nonterminal b) below.right (placed_within e.right e.placed.before e.placed.after (Nonterminal b) e.placed.is))
 
 pub edges_below : (part : Part) (g : GrammarView) (nullable : List Bool) (edges : List Edge) → IsGrammar g → AreEdges part g nullable edges → All (IsEdgeBelow g.nonterminals) edges

@@ -9,7 +9,7 @@ use Rattle.wb_base.specs.declared.symbol.Symbol.TheVariants.{Terminal, Nontermin
 use Rattle.wb_base.specs.Grammar.{GrammarView}
 use Rattle.wb_termset.specs.Sets.{Has, IsUnion, Grew, members}
 use Rattle.wb_termset.proofs.CallerLemmas.{IsEmpty-replicate, members_le, members_mono, members_grow}
-use Rattle.wb_grammars.specs.Rules.{IsRule}
+use Rattle.wb_grammars.specs.Productions.{IsProduction}
 use Rattle.wb_grammars.specs.Derives.{Derives, done, keep, expand, IsNullable, IsFirst}
 use Rattle.wb_grammars.proofs.DerivesLemmas.{append_nil, Derives-same, First-of_head, First-of_tail}
 use Rattle.wb_grammar.specs.Facts.{IsNullableSet, AreSets, AreFirstSets, set_of}
@@ -104,7 +104,7 @@ first_exact g nullable rows n shape sound closed =
     }
 
 -- a union with what can begin a right side is sound
-pub sound_add : (g : GrammarView) (nullable new begin : List Bool) (rows : List (List Bool)) (p a : ℕ) (right : List Symbol) → IsNullableSet g nullable → AreFirsts g rows → IsRule g p a right → a < length rows → ((t : ℕ) → Has begin t → CanBegin nullable rows right t) → IsUnion (set_of rows a) begin new → AreFirsts g (set rows a new)
+pub sound_add : (g : GrammarView) (nullable new begin : List Bool) (rows : List (List Bool)) (p a : ℕ) (right : List Symbol) → IsNullableSet g nullable → AreFirsts g rows → IsProduction g p a right → a < length rows → ((t : ℕ) → Has begin t → CanBegin nullable rows right t) → IsUnion (set_of rows a) begin new → AreFirsts g (set rows a new)
 sound_add g nullable new begin rows p a right n sound rule lt exact union b t has =
     elim (cases_eq b a) [
       | inl same ↦

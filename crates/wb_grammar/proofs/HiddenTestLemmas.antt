@@ -6,8 +6,8 @@ use Rattle.wb_base.specs.declared.symbol.Symbol.TheVariants.{Nonterminal}
 use Rattle.wb_base.specs.Grammar.{GrammarView}
 use Rattle.wb_graph.specs.Graphs as graphs
 use Rattle.wb_graph.specs.Graphs.{Edge, IsEdge, IsReached, stay, step}
-use Rattle.wb_grammars.specs.Rules.{IsRule}
-use Rattle.wb_grammars.specs.Cycles.{IsLeftCorner, IsHiddenCorner, IsHiddenRing, IsFollowedBy, HasNoHiddenLeftRecursion}
+use Rattle.wb_grammars.specs.Productions.{IsProduction}
+use Rattle.wb_grammars.specs.Cycles.{IsLeftCorner, IsHiddenCorner, IsHiddenCycle, IsFollowedBy, HasNoHiddenLeftRecursion}
 use Rattle.wb_grammars.specs.Walks.{Walk, one, more, HiddenWalk, last, here, later}
 use Rattle.wb_grammars.proofs.HiddenLemmas.{hidden_is}
 use Rattle.wb_grammar.specs.Facts.{IsNullableSet}
@@ -24,7 +24,7 @@ edge_corner g s set a b e = record {
   p = e.p;
   before = e.placed.before;
   after = e.placed.after;
-  rule = subst (IsRule g e.p a) e.placed.is e.rule;
+  rule = subst (IsProduction g e.p a) e.placed.is e.rule;
   before_empty = held_empty g s set e.placed.before e.placed.fits;
 }
 
@@ -43,7 +43,7 @@ edge_hidden g s set a b e = record {
     p = e.p;
     before = e.placed.before;
     after = e.placed.after;
-    rule = subst (IsRule g e.p a) e.placed.is e.rule;
+    rule = subst (IsProduction g e.p a) e.placed.is e.rule;
     before_empty = held_empty g s set e.placed.before e.placed.fits.0;
   };
   hides = e.placed.fits.1;
@@ -132,10 +132,10 @@ path_steps {edges} {from} (longer shorter u {list} {v} p edge is) i a b at_a at_
           ]
     ]
 
--- a path of corners from the end of a hidden corner to where it begins is a hidden ring
-pub path_ring : (g : GrammarView) (s : List Bool) (corners hidden : List Edge) (list : List ℕ) → IsNullableSet g s → AreEdges Corner g s corners → AreEdges Hidden g s hidden → (a b : ℕ) × Contains hidden (a, b) × IsPathTo corners b list a → IsHiddenRing g list
-path_ring g s corners hidden list set are_corners are_hidden (above, below, within, path) = record {
-  ring = record { nonempty = path_nonempty path; each = each };
+-- a path of corners from the end of a hidden corner to where it begins is a hidden cycle
+pub path_cycle : (g : GrammarView) (s : List Bool) (corners hidden : List Edge) (list : List ℕ) → IsNullableSet g s → AreEdges Corner g s corners → AreEdges Hidden g s hidden → (a b : ℕ) × Contains hidden (a, b) × IsPathTo corners b list a → IsHiddenCycle g list
+path_cycle g s corners hidden list set are_corners are_hidden (above, below, within, path) = record {
+  cycle = record { nonempty = path_nonempty path; each = each };
   above = above;
   below = below;
   place = record {

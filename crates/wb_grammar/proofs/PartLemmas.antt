@@ -24,7 +24,7 @@ contains_first y ys x is = (0, omega arith, is)
 contains_later : (y : Symbol) (ys : List Symbol) (x : Symbol) → Contains ys x → Contains (y ∷ ys) x
 contains_later y ys x (k, lt, is) = (suc k, omega arith, is)
 
--- a first symbol that is not held stands at the first place of what the set holds in front
+-- a first symbol that is not held is at the first place of what the set holds in front
 refused : (s : List Bool) (y b : Symbol) (before : List Symbol) → ¬ Holds false s y → y ≡ b → All (Holds false s) (b ∷ before) → ⊥
 refused s y b before denied is all = denied (subst (Holds false s) (sym is) (All-head (Holds false s) b before all))
 
@@ -152,14 +152,14 @@ one_back {s} (goes_on {x = y} {w} {count} held lead) lt x [] after e front rest 
 one_back {s} (goes_on {x = y} {w} {count} held lead) lt x (b ∷ before) after e front rest =
     one_back lead (omega arith) x before after (cc) (All-tail (Holds false s) b before front) rest
 
--- the one that isn't held, where all behind it are
+-- the one that isn't held, where all after it are
 pub alone_one : (s : List Bool) (w : List Symbol) (k n : ℕ) → IsLeading s w k → k < length w → n ≡ 1 → All (Holds false s) (drop (suc k) w) → (x : Symbol) → Contains (take n (drop k w)) x ↔ IsPlaced Alone s w x
 alone_one s w k n lead lt e all x = (
   λ h. one_there lead lt all x (subst (λ m. Contains (take m (drop k w)) x) e h),
   λ p. subst (λ m. Contains (take m (drop k w)) x) (sym e) (one_back lead lt x p.before p.after p.is p.fits.0 p.fits.1).0,
 )
 
--- none where one behind it isn't
+-- none where one after it isn't
 pub alone_none : (s : List Bool) (w : List Symbol) (k : ℕ) → IsLeading s w k → k < length w → (All (Holds false s) (drop (suc k) w) → ⊥) → (x : Symbol) → Contains [] x ↔ IsPlaced Alone s w x
 alone_none s w k lead lt denied x =
     (λ h. absurd (contains_nil x h), λ p. absurd (denied (one_back lead lt x p.before p.after p.is p.fits.0 p.fits.1).1))
@@ -182,7 +182,7 @@ leads_stop s w i d lt denied leads =
     let e : i + 0 ≡ i = omega arith in
     subst (IsLeading s w) e (leads 0 (subst (λ z. IsLeading s z 0) (sym (drop-cons w i d lt)) (stops denied)))
 
--- every symbol stands at a place
+-- every symbol is at a place
 pub whole_is : (s : List Bool) (w : List Symbol) (x : Symbol) → Contains w x ↔ IsPlaced Whole s w x
 whole_is s w x = (there w, λ p. placed_within w p.before p.after x p.is)
   where
@@ -198,7 +198,7 @@ leads_end s w i le leads =
     let e : i + 0 ≡ i = omega arith in
     subst (IsLeading s w) e (leads 0 (subst (λ z. IsLeading s z 0) (sym (drop_all i w le)) over))
 
--- the symbols behind a place, as a slice shows them
+-- the symbols after a place, as a slice shows them
 pub rest_of : (w : List Symbol) (k : ℕ) → take (length w - (k + 1)) (drop (k + 1) w) ≡ drop (suc k) w
 rest_of w k =
     let n : k + 1 ≡ suc k = omega arith in

@@ -1,4 +1,4 @@
--- A search for a ring through each hidden corner.
+-- A search for a cycle through each hidden corner.
 use Rattle.std.proofs.Common.{◌≡◌, ℕ, ◌+◌, ◌<◌, ◌≤◌, true, false, List, [], ◌∷◌, length, get_or, ◌∙◌, ap, subst, inl, inr, arith, Some, None, Option, Vec, Global}
 use Rattle.std.specs.Prelude.{Contains, MatchOption, is_some, slice_get}
 use Rattle.std.proofs.lemmas.Bool.{cases_lt}
@@ -14,13 +14,13 @@ at_within edges i lt = Contains-get_or edges i (0, 0) lt
 same_edge : (edges : List Edge) (i : ℕ) (x y : Edge) → slice_get edges i ≡ Some x → slice_get edges i ≡ Some y → x ≡ y
 same_edge edges i x y a b = cc
 
--- an edge stands at a place
+-- an edge is at a place
 pub edge_place : (edges : List Edge) (u v : ℕ) → IsEdge edges u v → (i : ℕ) × (i < length edges) × (edge_at edges i ≡ (u, v))
 edge_place edges u v (i, lt, is) =
     let x : Edge = (u, v) in
     (i, lt, same_edge edges i (edge_at edges i) x (slice_get-get_or edges i (0, 0) lt) (slice_get-get_or edges i (u, v) lt ∙ ap Some is))
 
--- none of the hidden corners before a place is on a ring
+-- none of the hidden corners before a place is on a cycle
 abbrev pub NoneBefore : List Edge → List Edge → ℕ → Type 0
 NoneBefore corners hidden limit = (k : ℕ) → k < limit → ¬ IsReached corners ((edge_at hidden k).1 ∷ []) (edge_at hidden k).0
 
@@ -40,7 +40,7 @@ none_all corners hidden limit le before a b h =
     let (i, lt, is) = edge_place hidden a b h in
     subst (λ (e : Edge). ¬ IsReached corners (e.1 ∷ []) e.0) is (before i (omega arith))
 
--- a ring was found
+-- a cycle was found
 pub found_some : (P : Type 0) (corners hidden : List Edge) (above below : ℕ) (found : Option (Vec ℕ Global)) → is_some found ≡ true → IsEdge hidden above below
     → MatchOption found (¬ IsReached corners (below ∷ []) above) (λ path. IsPathTo corners below path.items above)
     → MatchOption found P (λ ring. (a b : ℕ) × Contains hidden (a, b) × IsPathTo corners b ring.items a)

@@ -4,13 +4,13 @@ use Rattle.wb_base.specs.declared.symbol.Symbol.{Symbol}
 use Rattle.wb_base.specs.declared.symbol.Symbol.TheVariants.{Terminal, Nonterminal}
 use Rattle.wb_base.specs.Grammar.{GrammarView}
 use Rattle.wb_termset.specs.Sets.{Has}
-use Rattle.wb_grammars.specs.Rules.{IsRule}
+use Rattle.wb_grammars.specs.Productions.{IsProduction}
 
 -- each symbol is built: a terminal where terminals may stand, and a nonterminal by a production whose right side is built
 pub data Builds (g : GrammarView) (terminals : Bool) : List Symbol → Type 0 where
   nothing : Builds g terminals []
   terminal : (t : ℕ) {w : List Symbol} → terminals ≡ true → Builds g terminals w → Builds g terminals (Terminal t ∷ w)
-  nonterminal : (p a : ℕ) (right : List Symbol) {w : List Symbol} → IsRule g p a right → Builds g terminals right → Builds g terminals w → Builds g terminals (Nonterminal a ∷ w)
+  nonterminal : (p a : ℕ) (right : List Symbol) {w : List Symbol} → IsProduction g p a right → Builds g terminals right → Builds g terminals w → Builds g terminals (Nonterminal a ∷ w)
 
 -- the set holds the symbol: a terminal where terminals may stand, and a nonterminal that is a member
 abbrev pub Holds : Bool → List Bool → Symbol → Type 0
@@ -28,7 +28,7 @@ AreBuilt g terminals set = (a : ℕ) → Has set a → Builds g terminals (Nonte
 
 -- where the set holds the right side of the production, its left side is a member
 abbrev pub IsClosedAt : GrammarView → Bool → List Bool → ℕ → Type 0
-IsClosedAt g terminals set p = (a : ℕ) (right : List Symbol) → IsRule g p a right → All (Holds terminals set) right → Has set a
+IsClosedAt g terminals set p = (a : ℕ) (right : List Symbol) → IsProduction g p a right → All (Holds terminals set) right → Has set a
 
 -- the set has the nonterminals that are built
 pub record IsBuiltSet (g : GrammarView) (terminals : Bool) (set : List Bool) : Type 0 where

@@ -3,30 +3,30 @@ use Rattle.std.specs.Prelude.{◌≡◌, ◌≢◌, ◌↔◌, ℕ, suc, Bool, f
 use Rattle.wb_base.specs.declared.symbol.Symbol.{Symbol}
 use Rattle.wb_base.specs.declared.symbol.Symbol.TheVariants.{Terminal, Nonterminal}
 use Rattle.wb_base.specs.Grammar.{GrammarView}
-use Rattle.wb_grammars.specs.Rules.{IsRule}
+use Rattle.wb_grammars.specs.Productions.{IsProduction}
 use Rattle.wb_grammar.specs.Built.{Holds}
 use Rattle.wb_grammar.specs.declared.part.Part.{Part}
 use Rattle.wb_grammar.specs.declared.part.Part.TheVariants.{Whole, Corner, Hidden, Alone}
 
--- the places that a part of a right side has, by what stands before and behind them: all; those before which all derives the empty text; those of these before which something stands; and those beside which all derives the empty text
+-- the places that a part of a right side has, by what is before and after them: all; those before which all derives the empty text; those of these before which something stands; and those beside which all derives the empty text
 abbrev pub Fits : Part → List Bool → List Symbol → List Symbol → Type 0
 Fits Whole nullable before after = Unit {0}
 Fits Corner nullable before after = All (Holds false nullable) before
 Fits Hidden nullable before after = All (Holds false nullable) before × (before ≢ [])
 Fits Alone nullable before after = All (Holds false nullable) before × All (Holds false nullable) after
 
--- the symbol stands at such a place
+-- the symbol is at such a place
 pub record IsPlaced (part : Part) (nullable : List Bool) (symbols : List Symbol) (x : Symbol) : Type 0 where
   pub before : List Symbol
   pub after : List Symbol
   pub is : symbols ≡ before ++ x ∷ after
   pub fits : Fits part nullable before after
 
--- a production leads from its left side to the nonterminal, which stands at such a place of its right side
+-- a production leads from its left side to the nonterminal, which is at such a place of its right side
 pub record IsEdgeBy (part : Part) (g : GrammarView) (nullable : List Bool) (a b : ℕ) : Type 0 where
   pub p : ℕ
   pub right : List Symbol
-  pub rule : IsRule g p a right
+  pub rule : IsProduction g p a right
   pub placed : IsPlaced part nullable right (Nonterminal b)
 
 -- the edges are those of such places
@@ -39,7 +39,7 @@ edges_of left [] = []
 edges_of left (Terminal t ∷ symbols) = edges_of left symbols
 edges_of left (Nonterminal b ∷ symbols) = (left, b) ∷ edges_of left symbols
 
--- so many symbols in front are held by the set, and the one behind them, if there is one, isn't
+-- so many symbols in front are held by the set, and the one after them, if there is one, isn't
 pub data IsLeading (nullable : List Bool) : List Symbol → ℕ → Type 0 where
   over : IsLeading nullable [] 0
   stops : {x : Symbol} {w : List Symbol} → ¬ Holds false nullable x → IsLeading nullable (x ∷ w) 0

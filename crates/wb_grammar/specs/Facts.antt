@@ -31,7 +31,7 @@ pub record AreFirstSets (g : GrammarView) (sets : List (List Bool)) : Type 0 whe
   pub shape : AreSets g sets
   pub each : (a t : ℕ) → Has (set_of sets a) t ↔ IsFirst g (Nonterminal a ∷ []) t
 
--- the facts are those of the grammar, which is reduced and has neither unit cycles nor hidden left recursion; so some terminal begins what stands behind any dot
+-- the facts are those of the grammar, which is reduced and has neither unit cycles nor hidden left recursion; so some terminal begins what is after any dot
 pub record AreFacts (g : GrammarView) (facts : FactsState) : Type 0 where
   pub reduced : IsReduced g
   pub live : IsLive g

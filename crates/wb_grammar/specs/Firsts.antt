@@ -4,7 +4,7 @@ use Rattle.wb_base.specs.declared.symbol.Symbol.{Symbol}
 use Rattle.wb_base.specs.declared.symbol.Symbol.TheVariants.{Terminal, Nonterminal}
 use Rattle.wb_base.specs.Grammar.{GrammarView}
 use Rattle.wb_termset.specs.Sets.{Has, IsSubset, Grew}
-use Rattle.wb_grammars.specs.Rules.{IsRule}
+use Rattle.wb_grammars.specs.Productions.{IsProduction}
 use Rattle.wb_grammars.specs.Derives.{IsFirst}
 use Rattle.wb_grammar.specs.Facts.{set_of}
 
@@ -20,7 +20,7 @@ AreFirsts g sets = (a t : ℕ) → Has (set_of sets a) t → IsFirst g (Nontermi
 
 -- the production adds nothing
 abbrev pub IsFirstClosedAt : GrammarView → List Bool → List (List Bool) → ℕ → Type 0
-IsFirstClosedAt g nullable sets p = (a : ℕ) (right : List Symbol) → IsRule g p a right → (t : ℕ) → CanBegin nullable sets right t → Has (set_of sets a) t
+IsFirstClosedAt g nullable sets p = (a : ℕ) (right : List Symbol) → IsProduction g p a right → (t : ℕ) → CanBegin nullable sets right t → Has (set_of sets a) t
 
 -- every set is within the other of its number
 abbrev pub SetsWithin : List (List Bool) → List (List Bool) → Type 0

@@ -2,7 +2,7 @@
 use Rattle.std.specs.Prelude.{◌<◌}
 use Rattle.wb_base.specs.Grammar.{GrammarView}
 use Rattle.wb_grammars.specs.Shape.{IsReduced, IsReachable, IsProductive}
-use Rattle.wb_grammars.specs.Cycles.{HasNoUnitCycle, IsUnitRing, IsHiddenRing}
+use Rattle.wb_grammars.specs.Cycles.{HasNoUnitCycle, IsUnitCycle, IsHiddenCycle}
 use Rattle.wb_grammar.specs.declared.refusal.Reason.{Reason}
 use Rattle.wb_grammar.specs.declared.refusal.Reason.TheVariants.{Unreachable, Unproductive}
 use Rattle.wb_grammar.specs.declared.refusal.GrammarRefusal.{GrammarRefusal}
@@ -16,8 +16,8 @@ IsTrueReason g (Unproductive a) = (a < g.nonterminals) × (¬ IsProductive g a)
 -- the first of these that holds: the grammar isn't reduced, has a unit cycle, or has hidden left recursion; and what is shown is an example. Want of memory says nothing of the grammar
 abbrev pub IsTrueRefusal : GrammarView → GrammarRefusal → Type 0
 IsTrueRefusal g (NotReduced reason) = IsTrueReason g reason
-IsTrueRefusal g (UnitCycle list) = IsReduced g × IsUnitRing g list
-IsTrueRefusal g (HiddenLeftRecursion list) = IsReduced g × HasNoUnitCycle g × IsHiddenRing g list
+IsTrueRefusal g (UnitCycle list) = IsReduced g × IsUnitCycle g list
+IsTrueRefusal g (HiddenLeftRecursion list) = IsReduced g × HasNoUnitCycle g × IsHiddenCycle g list
 IsTrueRefusal g (NoMemory _) = Unit {0}
 
 -- the refusal is want of memory

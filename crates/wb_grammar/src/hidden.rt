@@ -40,7 +40,7 @@ pub(crate) fn test_hidden_left_recursion(
 
 // Whether there is an order by which each corner leads downwards, but for those in the open that lead back at once.
 //
-// With such an order no hidden corner is on a ring, and none has to be tried.
+// With such an order no hidden corner is on a cycle, and none has to be tried.
 fn is_ordered(
     alloc: Global,
     count: usize,

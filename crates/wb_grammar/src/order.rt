@@ -9,7 +9,7 @@ ghost use Rattle.wb_grammar.specs.Order.{IsWalk};
 use std::alloc::{AllocError, Global};
 use wb_base::{Grammar, Symbol, push};
 
-// The productions that the start leads to, each behind those that its right side is the first to lead to.
+// The productions that the start leads to, each after those that its right side is the first to lead to.
 pub(crate) fn bottom_up(alloc: Global, grammar: &Grammar) -> Result<Vec<usize>, AllocError>
     ensures below { IfOk result (λ order. All (λ p. p < length grammar.now.productions) order.items) }
     ensures grammar { IfOk result (λ _. IsGrammar grammar.now) }

@@ -1,4 +1,4 @@
-//! Parts of a right side, by what stands beside a place.
+//! Parts of a right side, by what is beside a place.
 
 ghost use Rattle.std.specs.Prelude.{◌≤◌, ◌↔◌, IsTrue, false, length, All, Contains};
 ghost use Rattle.wb_base.specs.declared.symbol.Symbol.{Symbol};
@@ -22,7 +22,7 @@ pub(crate) enum Part {
     Alone,
 }
 
-// The symbols that stand at such places.
+// The symbols that are at such places.
 pub(crate) fn part_of<'a>(part: Part, symbols: &'a [Symbol], nullable: &TermSet) -> &'a [Symbol]
     requires { All (IsKnown (length nullable.now)) symbols.now }
     ensures { (x : Symbol) → Contains result.now x ↔ IsPlaced part nullable.now symbols.now x }

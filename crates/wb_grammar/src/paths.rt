@@ -8,7 +8,7 @@ use std::alloc::{AllocError, Global};
 use wb_base::push;
 use wb_graph::reach;
 
-// A path from a vertex to another, if there is one: both stand in it, the one first and the other last.
+// A path from a vertex to another, if there is one: both are in it, the one first and the other last.
 //
 // The walks are tested first, in linear time; the search goes over all edges as often as the path is long at most.
 pub(crate) fn path(

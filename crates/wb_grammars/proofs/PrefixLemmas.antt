@@ -3,12 +3,13 @@ use Rattle.std.proofs.Common.{◌≡◌, ℕ, List, [], ◌∷◌, ◌++◌, ref
 use Rattle.wb_base.specs.declared.symbol.Symbol.{Symbol}
 use Rattle.wb_base.specs.Grammar.{GrammarView}
 use Rattle.wb_grammars.specs.declared.item.Item.{Item}
-use Rattle.wb_grammars.specs.Rules.{end_of}
+use Rattle.wb_grammars.specs.Productions.{end_of}
 use Rattle.wb_grammars.specs.Items.{IsValidItem, start, close, move, IsViablePrefix, start_item}
 use Rattle.wb_grammars.proofs.DerivesLemmas.{nil_parts}
 
 -- a front of a list with one more symbol is the whole, or a front of the list
-pub front_cases : (u w shorter : List Symbol) (x : Symbol) → u ++ w ≡ shorter ++ x ∷ [] → (u ≡ shorter ++ x ∷ []) ⊎ ((rest : List Symbol) × (shorter ≡ u ++ rest))
+pub front_cases : (u w shorter : List Symbol) (x : Symbol) → u ++ w ≡ shorter ++ x ∷ [] → (u ≡ shorter ++ x ∷ []) ⊎
+    ((rest : List Symbol) × (shorter ≡ u ++ rest))
 front_cases [] w shorter x e = inr (shorter, refl)
 front_cases (y ∷ u) w [] x e =
     let parts = nil_parts u w (let h : [] ≡ u ++ w = cc in h) in
@@ -22,13 +23,20 @@ front_cases (y ∷ u) w (z ∷ shorter) x e =
     ]
 
 -- by how an item became valid
-front_valid : {g : GrammarView} {longer : List Symbol} {item : Item} {t : ℕ} → IsValidItem g longer item t → (u w : List Symbol) → longer ≡ u ++ w → IsViablePrefix g u
-front_valid {g} start u w e = (start_item g, end_of g, subst (λ z. IsValidItem g z (start_item g) (end_of g)) (sym (nil_parts u w e).0) start)
+front_valid : {g : GrammarView} {longer : List Symbol} {item : Item} {t : ℕ} → IsValidItem g longer item t → (u w : List Symbol) →
+    longer ≡ u ++ w → IsViablePrefix g u
+front_valid {g} start u w e = (
+  start_item g,
+  end_of g,
+  subst (λ z. IsValidItem g z (start_item g) (end_of g))
+      (sym (nil_parts u w e).0) start,
+)
 front_valid (close item t b rest q u' right v is rule first) u w e = front_valid v u w e
-front_valid {g} (move item x rest shorter {t} {longer} {moved} v is longer_is moved_is) u w e = elim (front_cases u w shorter x (sym e ∙ longer_is)) [
-  | inl whole ↦ (moved, t, subst (λ z. IsValidItem g z moved t) (longer_is ∙ sym whole) (move item x rest shorter v is longer_is moved_is))
-  | inr front ↦ front_valid v u front.0 front.1
-]
+front_valid {g} (move item x rest shorter {t} {longer} {moved} v is longer_is moved_is) u w e = elim
+    (front_cases u w shorter x (sym e ∙ longer_is)) [
+      | inl whole ↦ (moved, t, subst (λ z. IsValidItem g z moved t) (longer_is ∙ sym whole) (move item x rest shorter v is longer_is moved_is))
+      | inr front ↦ front_valid v u front.0 front.1
+    ]
 
 pub front_viable : (g : GrammarView) (u w : List Symbol) → IsViablePrefix g (u ++ w) → IsViablePrefix g u
 front_viable g u w (item, t, v) = front_valid v u w refl

@@ -17,11 +17,11 @@ use Rattle.wb_grammars.specs.Items.{after_dot, advance}
 use Rattle.wb_grammars.specs.Shape.{IsLive}
 use Rattle.wb_grammars.proofs.ClosureLemmas.{closure_sound, closure_complete}
 use Rattle.wb_items.specs.declared.advance.Advance.{Advance}
-use Rattle.wb_items.specs.Advances.{AreAdvancesRising, AdvancePrecedes, HasAdvance, IsRun, ListsAdvances, items_of, symbol_by, symbol_of}
+use Rattle.wb_items.specs.Inner.Advances.{AreAdvancesRising, AdvancePrecedes, HasAdvance, IsRun, ListsAdvances, items_of, symbol_by, symbol_of}
 use Rattle.wb_items.specs.Kernels.{ListsItems, Precedes}
 use Rattle.wb_items.specs.Order.{SymbolPrecedes}
-use Rattle.wb_items.specs.Passes.{AdvancesUpTo, AreRising}
-use Rattle.wb_items.specs.Table.{IsMoved}
+use Rattle.wb_items.specs.Inner.Passes.{AdvancesUpTo, AreRising}
+use Rattle.wb_items.specs.Inner.Growing.{IsMoved}
 use Rattle.wb_items.proofs.ListLemmas.{at_once, at_some, default_at, Contains-at, at_Contains}
 use Rattle.wb_items.proofs.OrderLemmas.{Contains_cases, Contains_stays, Contains_last, less_by}
 use Rattle.wb_items.proofs.SymbolOrder.{symbol_not_itself}
@@ -38,7 +38,7 @@ no_symbol x rest e = cc
 first_same : (x y : Symbol) (rest more : List Symbol) → x ∷ rest ≡ y ∷ more → x ≡ y
 first_same x y rest more e = cc
 
--- an item with nothing behind its dot
+-- an item with nothing after its dot
 pub advances_pass : (g : GrammarView) (closure : List Item) (list : List Advance) (n : ℕ) (item : Item) → slice_get closure n ≡ Some item → after_dot g item ≡ [] → AdvancesUpTo g closure list n → AdvancesUpTo g closure list (n + 1)
 advances_pass g closure list n item here nothing h = record {
   sound = λ a k. (let (j, i, r, lt, at, stands, e) = h.sound a k in (j, i, r, omega (arith, lt), at, stands, e));
@@ -48,7 +48,7 @@ advances_pass g closure list n item here nothing h = record {
   ];
 }
 
--- an item with a symbol behind its dot
+-- an item with a symbol after its dot
 pub advances_take : (g : GrammarView) (closure : List Item) (list : List Advance) (n : ℕ) (item : Item) (x : Symbol) (rest : List Symbol) (a : Advance) → slice_get closure n ≡ Some item → after_dot g item ≡ x ∷ rest → symbol_of a ≡ x → a.item ≡ advance item → AdvancesUpTo g closure list n → AdvancesUpTo g closure (list ++ a ∷ []) (n + 1)
 advances_take g closure list n item x rest a here is over e h = record {
   sound = λ b k. elim (Contains_cases list a b k) [

@@ -10,11 +10,11 @@ use Rattle.wb_base.specs.Grammar.{GrammarView}
 use Rattle.wb_termset.specs.Sets.{Has}
 use Rattle.wb_termset.proofs.CallerLemmas.{IsSubset-insert, Has-insert_same, Has-insert, IsEmpty-replicate, has_or_not}
 use Rattle.wb_grammars.specs.declared.item.Item.{Item}
-use Rattle.wb_grammars.specs.Rules.{IsRule}
-use Rattle.wb_grammars.specs.Items.{after_dot, opening}
+use Rattle.wb_grammars.specs.Productions.{IsProduction}
+use Rattle.wb_grammars.specs.Items.{after_dot, initial_item}
 use Rattle.wb_grammars.specs.Closure.{InClosure, kernel, opened}
-use Rattle.wb_items.specs.Closing.{IsClosing}
-use Rattle.wb_items.specs.Table.{AreRulesOf}
+use Rattle.wb_items.specs.Inner.Closing.{IsClosing}
+use Rattle.wb_items.specs.Table.{AreProductionsOf}
 use Rattle.wb_items.proofs.ListLemmas.{at_once, Contains-at, at_Contains}
 
 -- an element of joined lists
@@ -40,14 +40,14 @@ right_stays (x ∷ xs) ys z k = let (j, at) = at_Contains (xs ++ ys) z (right_st
 Contains_left : {X : Type 0} (xs ys : List X) (z : X) → Contains xs z → Contains (xs ++ ys) z
 Contains_left xs ys z k = let (j, at) = at_Contains xs z k in Contains-at (xs ++ ys) j z (left_stays xs ys j z at)
 
-opening_at : (numbers : List ℕ) (j q : ℕ) → slice_get numbers j ≡ Some q → slice_get (map opening numbers) j ≡ Some (opening q)
+opening_at : (numbers : List ℕ) (j q : ℕ) → slice_get numbers j ≡ Some q → slice_get (map initial_item numbers) j ≡ Some (initial_item q)
 opening_at [] j q e = cc
-opening_at (n ∷ numbers) zero q e = let f : n ≡ q = cc in ap (λ k. Some (opening k)) f
+opening_at (n ∷ numbers) zero q e = let f : n ≡ q = cc in ap (λ k. Some (initial_item k)) f
 opening_at (n ∷ numbers) (suc j) q e = opening_at numbers j q e
 
-opening_from : (numbers : List ℕ) (j : ℕ) (z : Item) → slice_get (map opening numbers) j ≡ Some z → (q : ℕ) × (slice_get numbers j ≡ Some q) × (z ≡ opening q)
+opening_from : (numbers : List ℕ) (j : ℕ) (z : Item) → slice_get (map initial_item numbers) j ≡ Some z → (q : ℕ) × (slice_get numbers j ≡ Some q) × (z ≡ initial_item q)
 opening_from [] j z e = cc
-opening_from (n ∷ numbers) zero z e = (n, refl, let f : opening n ≡ z = cc in sym f)
+opening_from (n ∷ numbers) zero z e = (n, refl, let f : initial_item n ≡ z = cc in sym f)
 opening_from (n ∷ numbers) (suc j) z e = opening_from numbers j z e
 
 -- the kernel alone
@@ -60,7 +60,7 @@ closing_start g items = record {
   closed = λ p item b rest lt at is. absurd (omega arith);
 }
 
--- nothing new stands behind the dot at the place
+-- nothing new is after the dot at the place
 pub closing_pass : (g : GrammarView) (items : List Item) (set : List Bool) (closure : List Item) (place : ℕ) → ((item : Item) (b : ℕ) (rest : List Symbol) → slice_get closure place ≡ Some item → after_dot g item ≡ Nonterminal b ∷ rest → Has set b) → IsClosing g items set closure place → IsClosing g items set closure (place + 1)
 closing_pass g items set closure place here h = record {
   len = h.len;
@@ -76,28 +76,28 @@ closing_pass g items set closure place here h = record {
 nonterminal_same : (b c : ℕ) (rest more : List Symbol) → Nonterminal b ∷ rest ≡ Nonterminal c ∷ more → b ≡ c
 nonterminal_same b c rest more e = cc
 
--- the openings of the nonterminal behind the dot at the place go behind the others
-pub closing_more : (g : GrammarView) (items : List Item) (flags : List Bool) (closure : List Item) (place : ℕ) (item : Item) (b : ℕ) (rest : List Symbol) (numbers : List ℕ) → slice_get closure place ≡ Some item → after_dot g item ≡ Nonterminal b ∷ rest → b < length flags → AreRulesOf g b numbers → IsClosing g items flags closure place → IsClosing g items (set flags b true) (closure ++ map opening numbers) (place + 1)
+-- the initial items of the nonterminal after the dot at the place go after the others
+pub closing_more : (g : GrammarView) (items : List Item) (flags : List Bool) (closure : List Item) (place : ℕ) (item : Item) (b : ℕ) (rest : List Symbol) (numbers : List ℕ) → slice_get closure place ≡ Some item → after_dot g item ≡ Nonterminal b ∷ rest → b < length flags → AreProductionsOf g b numbers → IsClosing g items flags closure place → IsClosing g items (set flags b true) (closure ++ map initial_item numbers) (place + 1)
 closing_more g items flags closure place item b rest numbers here before lt rules h = record {
   len = length-set flags b true ∙ h.len;
-  front = λ z k. Contains_left closure (map opening numbers) z (h.front z k);
+  front = λ z k. Contains_left closure (map initial_item numbers) z (h.front z k);
   complete = λ c q right has rule. elim (Has-insert flags b c has) [
-    | inl old ↦ Contains_left closure (map opening numbers) (opening q) (h.complete c q right old rule)
+    | inl old ↦ Contains_left closure (map initial_item numbers) (initial_item q) (h.complete c q right old rule)
     | inr same ↦
-        let (j, at) = at_Contains numbers q (rules.complete q right (subst (λ k. IsRule g q k right) same rule)) in
-        right_stays closure (map opening numbers) (opening q) (Contains-at (map opening numbers) j (opening q) (opening_at numbers j q at))
+        let (j, at) = at_Contains numbers q (rules.complete q right (subst (λ k. IsProduction g q k right) same rule)) in
+        right_stays closure (map initial_item numbers) (initial_item q) (Contains-at (map initial_item numbers) j (initial_item q) (opening_at numbers j q at))
   ];
-  sound = λ p z at. elim (at_joined closure (map opening numbers) p z at) [
+  sound = λ p z at. elim (at_joined closure (map initial_item numbers) p z at) [
     | inl old ↦ h.sound p z old
     | inr k ↦
-        let (j, at') = at_Contains (map opening numbers) z k in
+        let (j, at') = at_Contains (map initial_item numbers) z k in
         let (q, q_at, is) = opening_from numbers j z at' in
         let (right, rule) = rules.sound q (Contains-at numbers j q q_at) in
         subst (InClosure g (Contains items)) (sym is) (opened item b rest q right (h.sound place item here) before rule)
   ];
   closed = λ p z c more lt' at is.
       let inside : p < length closure = (let w = slice_get_within closure place item here in omega arith) in
-      let old = at_left closure (map opening numbers) p z inside at in
+      let old = at_left closure (map initial_item numbers) p z inside at in
       elim (cases_eq p place) [
         | inl same ↦
             let e : item ≡ z = at_once closure place item z here (subst (λ k. slice_get closure k ≡ Some z) same old) in
@@ -118,7 +118,7 @@ pub closing_done : (g : GrammarView) (items : List Item) (flags : List Bool) (cl
 closing_done g items flags closure list place past h there back item =
     (λ k. (let (p, at) = at_Contains closure item (back item k) in h.sound p item at), λ c. there item (closing_back g items flags closure place past h c))
 
--- the nonterminal behind the dot at the place is known
+-- the nonterminal after the dot at the place is known
 pub closing_known : (g : GrammarView) (items : List Item) (flags : List Bool) (closure : List Item) (place : ℕ) (item : Item) (b : ℕ) (rest : List Symbol) → slice_get closure place ≡ Some item → after_dot g item ≡ Nonterminal b ∷ rest → ((¬ Has flags b) → ⊥) → IsClosing g items flags closure place → IsClosing g items flags closure (place + 1)
 closing_known g items flags closure place item b rest here before known h = closing_pass g items flags closure place (λ z c more at is.
     let e : item ≡ z = at_once closure place item z here at in

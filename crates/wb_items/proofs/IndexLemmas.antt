@@ -1,4 +1,4 @@
--- Numbers of kernels by the order of the kernels: the search by halves, and a number more.
+-- Numbers of kernels by the order of the kernels: the search by binary search, and a number more.
 use Rattle.std.proofs.Common.{◌≡◌, ℕ, ◌+◌, ◌-◌, ◌<◌, ◌≤◌, List, [], ◌∷◌, ◌++◌, length, get_or, Some, sym, ◌∙◌, ap, subst, inl, inr, arith, length-append}
 use Rattle.std.specs.List.{insert}
 use Rattle.std.specs.Prelude.{slice_get, Contains}
@@ -7,7 +7,7 @@ use Rattle.std.proofs.lemmas.Bool.{cases_eq, cases_lt}
 use Rattle.std.proofs.lemmas.List.Edits.{length-insert, get_or-insert_below, get_or-insert_at, get_or-insert_above}
 use Rattle.wb_grammars.specs.declared.item.Item.{Item}
 use Rattle.wb_items.specs.Kernels.{AreInOrder}
-use Rattle.wb_items.specs.Order.{ComesFirst, IsIndex, LiesWithin}
+use Rattle.wb_items.specs.Inner.Searches.{ComesFirst, IsIndex, LiesWithin}
 use Rattle.wb_items.specs.Table.{SameItems}
 use Rattle.wb_items.proofs.ListLemmas.{at_once, at_cases, default_at, Contains-at, at_Contains}
 use Rattle.wb_items.proofs.CompareLemmas.{first_then, first_not_same, first_not_turned}
@@ -24,16 +24,16 @@ module _ (kernels : List (List Item)) (order : List ℕ) (items : List Item) (lo
           subst (λ z. ComesFirst z items) (at_once kernels number kernel other there (subst (λ k. slice_get kernels k ≡ Some other) e there')) first
       | inr ne ↦ first_then other kernel items (index.rising i middle s number other kernel (omega arith) at' at there' there) first
     ];
-    behind = h.behind;
+    beyond = h.beyond;
   }
 
-  -- the kernel in the middle comes behind
+  -- the kernel in the middle comes after
   pub search_below : low ≤ middle → middle < high → ComesFirst items kernel → LiesWithin kernels order items low middle
   search_below le lt first = record {
     rises = le;
     ends = omega (arith, h.ends);
     before = h.before;
-    behind = λ i s other past at' there'. elim (cases_eq i middle) [
+    beyond = λ i s other past at' there'. elim (cases_eq i middle) [
       | inl same ↦
           let e : s ≡ number = at_once order middle s number (subst (λ k. slice_get order k ≡ Some s) same at') at in
           subst (λ z. ComesFirst items z) (at_once kernels number kernel other there (subst (λ k. slice_get kernels k ≡ Some other) e there')) first
@@ -47,7 +47,7 @@ search_none kernels order items place index h s kernel there same =
     let (i, at) = at_Contains order s (index.all s (slice_get_within kernels s kernel there)) in
     elim (cases_lt i place) [
       | inl lt ↦ first_not_same kernel items (h.before i s kernel lt at there) same
-      | inr ge ↦ first_not_turned items kernel (h.behind i s kernel ge at there) same
+      | inr ge ↦ first_not_turned items kernel (h.beyond i s kernel ge at there) same
     ]
 
 -- an element of a list with one put in
@@ -118,7 +118,7 @@ module _ (kernels : List (List Item)) (order : List ℕ) (new : List Item) (plac
       | itself e f ↦ elim (inserted order place (length kernels) j t lies.ends q) [
         | left less' old' ↦ absurd (omega arith)
         | itself e' f' ↦ absurd (omega arith)
-        | right gt old' ↦ subst (λ z. ComesFirst z other) (new_at s one f one_at) (lies.behind (j - 1) t other (omega arith) old' (old_at t other (index.below (j - 1) t old') other_at))
+        | right gt old' ↦ subst (λ z. ComesFirst z other) (new_at s one f one_at) (lies.beyond (j - 1) t other (omega arith) old' (old_at t other (index.below (j - 1) t old') other_at))
       ]
       | right gt old ↦ elim (inserted order place (length kernels) j t lies.ends q) [
         | left less' old' ↦ absurd (omega arith)

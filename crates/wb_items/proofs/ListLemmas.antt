@@ -9,7 +9,7 @@ module _ {X : Type 0} (xs : List X) (y : X) where
   pub at_old : (j : ℕ) → j < length xs → slice_get (xs ++ y ∷ []) j ≡ slice_get xs j
   at_old j h = grind (arith, gets, common_steps)
 
-  -- the new one stands at the end
+  -- the new one is at the end
   pub at_end : slice_get (xs ++ y ∷ []) (length xs) ≡ Some y
   at_end = grind (arith, gets, common_steps)
 
@@ -21,11 +21,11 @@ module _ {X : Type 0} (xs : List X) (y : X) where
 pub at_stays : {X : Type 0} (xs : List X) (y : X) (j : ℕ) (z : X) → slice_get xs j ≡ Some z → slice_get (xs ++ y ∷ []) j ≡ Some z
 at_stays xs y j z e = at_old xs y j (slice_get_within xs j z e) ∙ e
 
--- what stands at a place is contained
+-- what is at a place is contained
 pub Contains-at : {X : Type 0} (xs : List X) (j : ℕ) (z : X) → slice_get xs j ≡ Some z → Contains xs z
 Contains-at xs j z e = (j, slice_get_within xs j z e, get_or_from_slice_get xs j z z e)
 
--- what is contained stands at a place
+-- what is contained is at a place
 pub at_Contains : {X : Type 0} (xs : List X) (z : X) → Contains xs z → (j : ℕ) × (slice_get xs j ≡ Some z)
 at_Contains xs z (j, lt, is) = (j, slice_get-get_or xs j z lt ∙ ap Some is)
 

@@ -10,20 +10,21 @@ use Rattle.wb_grammars.specs.Items.{advance}
 use Rattle.wb_grammars.specs.Shape.{IsLive}
 use Rattle.std.specs.List.{between}
 use Rattle.wb_items.specs.declared.advance.Advance.{Advance}
-use Rattle.wb_items.specs.declared.row.Move.{Move}
-use Rattle.wb_items.specs.Advances.{AreAdvancesRising, HasAdvance, IsRun, ListsAdvances, items_of, symbol_of}
+use Rattle.wb_items.specs.declared.transitions.Move.{Move}
+use Rattle.wb_items.specs.Inner.Advances.{AreAdvancesRising, HasAdvance, IsRun, ListsAdvances, items_of, symbol_of}
 use Rattle.wb_items.specs.Kernels.{AreInOrder}
-use Rattle.wb_items.specs.Found.{FoundState}
+use Rattle.wb_items.specs.Index.{IndexView}
 use Rattle.wb_items.specs.Order.{SymbolPrecedes}
-use Rattle.wb_items.specs.Passes.{MovesUpTo}
-use Rattle.wb_items.specs.Table.{AreKernelsOf, AreMoves, AreMovesInOrder, Grows, IsKernelFor, IsMoved, IsRow, Leads}
+use Rattle.wb_items.specs.Inner.Passes.{MovesUpTo}
+use Rattle.wb_items.specs.Table.{AreKernelsOf, AreMoves, AreMovesInOrder, IsRow, Leads}
+use Rattle.wb_items.specs.Inner.Growing.{Grows, IsKernelFor, IsMoved}
 use Rattle.wb_items.proofs.ListLemmas.{at_cases, at_once, at_Contains, Contains-at}
 use Rattle.wb_items.proofs.AdvanceLemmas.{run_exact}
 use Rattle.wb_items.proofs.TableLemmas.{prefix_at, moved_kernel, grows_then, grows_none, moves_grow}
 use Rattle.wb_items.proofs.OrderLemmas.{Contains_cases, Contains_stays, Contains_last}
 use Rattle.wb_items.proofs.SymbolOrder.{symbol_not_itself}
 
-pub moves_start : (g : GrammarView) (old : FoundState) (list : List Advance) (s : ℕ) → AreKernelsOf g old.prefixes old.kernels → s < length old.kernels → ((prefix : List Symbol) → slice_get old.prefixes s ≡ Some prefix → ListsAdvances g prefix list) → MovesUpTo g old old list s [] 0
+pub moves_start : (g : GrammarView) (old : IndexView) (list : List Advance) (s : ℕ) → AreKernelsOf g old.prefixes old.kernels → s < length old.kernels → ((prefix : List Symbol) → slice_get old.prefixes s ≡ Some prefix → ListsAdvances g prefix list) → MovesUpTo g old old list s [] 0
 moves_start g old list s kernels within lists = record {
   kernels = kernels;
   grows = grows_none old;
@@ -36,13 +37,13 @@ moves_start g old list s kernels within lists = record {
 }
 
 -- no earlier place has the symbol of a place
-pub moves_apart : (g : GrammarView) (old now : FoundState) (list : List Advance) (s : ℕ) (row : List Move) (n : ℕ) (x : Symbol) (b : Advance) → MovesUpTo g old now list s row n → slice_get list n ≡ Some b → symbol_of b ≡ x → (j : ℕ) (a : Advance) → j < n → slice_get list j ≡ Some a → symbol_of a ≡ x → ⊥
+pub moves_apart : (g : GrammarView) (old now : IndexView) (list : List Advance) (s : ℕ) (row : List Move) (n : ℕ) (x : Symbol) (b : Advance) → MovesUpTo g old now list s row n → slice_get list n ≡ Some b → symbol_of b ≡ x → (j : ℕ) (a : Advance) → j < n → slice_get list j ≡ Some a → symbol_of a ≡ x → ⊥
 moves_apart g old now list s row n x b h here is j a lt at over =
     let (next, k) = h.complete j a lt at in
     symbol_not_itself x (subst (λ z. SymbolPrecedes z x) over (subst (SymbolPrecedes (symbol_of a)) is (h.apart (record { symbol = symbol_of a; state = next }) n b k (omega arith) here)))
 
 -- the items of a run are the kernel that its symbol leads to
-pub run_kernel : (g : GrammarView) → IsLive g → (old now : FoundState) (list : List Advance) (s : ℕ) (row : List Move) (n end : ℕ) (x : Symbol) (b : Advance) (prefix : List Symbol) (kernel : List Item) → slice_get list n ≡ Some b → symbol_of b ≡ x → AreAdvancesRising list → IsRun list x n end → MovesUpTo g old now list s row n → slice_get now.prefixes s ≡ Some prefix → ((item : Item) → Contains kernel item ↔ Contains (items_of (between n end list)) item) → AreInOrder kernel → IsKernelFor g (prefix ++ x ∷ []) kernel
+pub run_kernel : (g : GrammarView) → IsLive g → (old now : IndexView) (list : List Advance) (s : ℕ) (row : List Move) (n end : ℕ) (x : Symbol) (b : Advance) (prefix : List Symbol) (kernel : List Item) → slice_get list n ≡ Some b → symbol_of b ≡ x → AreAdvancesRising list → IsRun list x n end → MovesUpTo g old now list s row n → slice_get now.prefixes s ≡ Some prefix → ((item : Item) → Contains kernel item ↔ Contains (items_of (between n end list)) item) → AreInOrder kernel → IsKernelFor g (prefix ++ x ∷ []) kernel
 run_kernel g live old now list s row n end x b prefix kernel here is rising run h at same in_order =
     moved_kernel g live prefix x kernel b.item (λ item.
     let lists = h.lists prefix at x item in
@@ -53,8 +54,8 @@ run_kernel g live old now list s row n end x b prefix kernel here is rising run 
     exact : (item : Item) → Contains (items_of (between n end list)) item ↔ HasAdvance list x item
     exact = run_exact list x n end rising run (moves_apart g old now list s row n x b h here is)
 
--- a move by the symbol of a run goes behind the others
-pub moves_more : (g : GrammarView) (old now new : FoundState) (list : List Advance) (s : ℕ) (row more : List Move) (n end : ℕ) (x : Symbol) (b : Advance) (next : ℕ) → slice_get list n ≡ Some b → symbol_of b ≡ x → IsRun list x n end → MovesUpTo g old now list s row n → AreKernelsOf g new.prefixes new.kernels → Grows now new → Leads g new.prefixes s x next → more ≡ row ++ record { symbol = x; state = next } ∷ [] → MovesUpTo g old new list s more end
+-- a move by the symbol of a run goes after the others
+pub moves_more : (g : GrammarView) (old now new : IndexView) (list : List Advance) (s : ℕ) (row more : List Move) (n end : ℕ) (x : Symbol) (b : Advance) (next : ℕ) → slice_get list n ≡ Some b → symbol_of b ≡ x → IsRun list x n end → MovesUpTo g old now list s row n → AreKernelsOf g new.prefixes new.kernels → Grows now new → Leads g new.prefixes s x next → more ≡ row ++ record { symbol = x; state = next } ∷ [] → MovesUpTo g old new list s more end
 moves_more g old now new list s row more n end x b next here is run h kernels grows leads e =
     let (prefix, there) = prefix_at h.kernels s h.within in
     let there' = grows.prefixes s prefix there in
@@ -97,7 +98,7 @@ moves_more g old now new list s row more n end x b next here is run h kernels gr
     ]
 
 -- each place has its move
-pub moves_done : (g : GrammarView) (old now : FoundState) (closure : List Item) (list : List Advance) (s : ℕ) (row : List Move) (n : ℕ) → length list ≤ n → ((x : Symbol) (item : Item) → HasAdvance list x item ↔ IsMoved g closure x item) → MovesUpTo g old now list s row n → IsRow g now.prefixes closure s row
+pub moves_done : (g : GrammarView) (old now : IndexView) (closure : List Item) (list : List Advance) (s : ℕ) (row : List Move) (n : ℕ) → length list ≤ n → ((x : Symbol) (item : Item) → HasAdvance list x item ↔ IsMoved g closure x item) → MovesUpTo g old now list s row n → IsRow g now.prefixes closure s row
 moves_done g old now closure list s row n past exact h = record {
   sound = h.sound;
   ordered = h.ordered;
@@ -109,8 +110,8 @@ moves_done g old now closure list s row n past exact h = record {
 }
 
 -- a pass goes on from what is there
-pub moves_now : (g : GrammarView) (old now : FoundState) (list : List Advance) (s : ℕ) (row : List Move) (n : ℕ) → MovesUpTo g old now list s row n → MovesUpTo g now now list s row n
+pub moves_now : (g : GrammarView) (old now : IndexView) (list : List Advance) (s : ℕ) (row : List Move) (n : ℕ) → MovesUpTo g old now list s row n → MovesUpTo g now now list s row n
 moves_now g old now list s row n h = record { kernels = h.kernels; grows = grows_none now; within = h.within; lists = h.lists; sound = h.sound; ordered = h.ordered; complete = h.complete; apart = h.apart }
 
-pub moves_then : (g : GrammarView) (old now new : FoundState) (list : List Advance) (s : ℕ) (row : List Move) (n : ℕ) → Grows old now → MovesUpTo g now new list s row n → MovesUpTo g old new list s row n
+pub moves_then : (g : GrammarView) (old now new : IndexView) (list : List Advance) (s : ℕ) (row : List Move) (n : ℕ) → Grows old now → MovesUpTo g now new list s row n → MovesUpTo g old new list s row n
 moves_then g old now new list s row n first h = record { kernels = h.kernels; grows = grows_then first h.grows; within = h.within; lists = h.lists; sound = h.sound; ordered = h.ordered; complete = h.complete; apart = h.apart }

@@ -8,7 +8,7 @@ use Rattle.std.specs.declared.cmp.Ordering.TheVariants.{Less, Equal}
 use Rattle.std.specs.Cmp.{nat_cmp_is}
 use Rattle.wb_grammars.specs.declared.item.Item.{Item}
 use Rattle.wb_items.specs.Kernels.{Precedes, AreInOrder}
-use Rattle.wb_items.specs.Passes.{AreRising, StrictUpTo}
+use Rattle.wb_items.specs.Inner.Passes.{AreRising, StrictUpTo}
 use Rattle.wb_items.proofs.ListLemmas.{default_at, at_cases, at_stays, at_end, at_once, Contains-at, at_Contains}
 
 same_item : (a b : Item) → a.production ≡ b.production → a.dot ≡ b.dot → a ≡ b
@@ -42,7 +42,7 @@ not_itself a (inr p) = omega (arith, p.1)
 pub order_nil : AreInOrder []
 order_nil i j a b lt p q = cc
 
--- an item that all others precede goes behind them
+-- an item that all others precede goes after them
 pub order_push : (items : List Item) (item : Item) → AreInOrder items → ((z : Item) → Contains items z → Precedes z item) → AreInOrder (items ++ item ∷ [])
 order_push items item h all i j a b lt one two = elim (at_cases items item i a one) [
   | inl old ↦ elim (at_cases items item j b two) [

@@ -1,4 +1,4 @@
--- What stands behind a dot, by the parts that are read.
+-- What is after a dot, by the parts that are read.
 use Rattle.std.proofs.Common.{◌≡◌, ℕ, ◌<◌, ◌≤◌, zero, suc, List, [], ◌∷◌, length, get_or, drop, refl, sym, ◌∙◌, ap, arith, drop-cons}
 use Rattle.std.specs.Prelude.{slice_get, IfSome}
 use Rattle.std.proofs.lemmas.List.{drop_all}
@@ -6,7 +6,7 @@ use Rattle.wb_base.specs.declared.symbol.Symbol.{Symbol}
 use Rattle.wb_base.specs.declared.symbol.Symbol.TheVariants.{Nonterminal}
 use Rattle.wb_base.specs.Grammar.{GrammarView, Production}
 use Rattle.wb_grammars.specs.declared.item.Item.{Item}
-use Rattle.wb_grammars.specs.Rules.{right_in}
+use Rattle.wb_grammars.specs.Productions.{right_in}
 use Rattle.wb_grammars.specs.Items.{after_dot}
 
 right_in-at : (rs : List Production) (s p : ℕ) (right : List Symbol) → p < length rs → IfSome (slice_get rs p) (λ r. right ≡ r.1) → right_in rs s p ≡ right

@@ -7,10 +7,10 @@ use Rattle.wb_base.specs.declared.symbol.Symbol.{Symbol}
 use Rattle.wb_base.specs.declared.symbol.Symbol.TheVariants.{Terminal, Nonterminal}
 use Rattle.wb_items.specs.declared.advance.Advance.{Advance}
 use Rattle.wb_items.specs.Order.{SymbolPrecedes}
-use Rattle.wb_items.specs.Advances.{AreAdvancesRising, IsRun, symbol_of}
+use Rattle.wb_items.specs.Inner.Advances.{AreAdvancesRising, IsRun, symbol_of}
 use Rattle.wb_items.proofs.ListLemmas.{at_once}
 
--- of two symbols the one stands before the other, or they are the same
+-- of two symbols the one is before the other, or they are the same
 pub data Ordered (x y : Symbol) : Type 0 where
   earlier : SymbolPrecedes x y → Ordered x y
   equal : x ≡ y → Ordered x y
@@ -35,7 +35,7 @@ pub symbol_not_itself : (x : Symbol) → SymbolPrecedes x x → ⊥
 symbol_not_itself (Terminal t) p = omega arith
 symbol_not_itself (Nonterminal a) p = omega arith
 
--- what stands before neither and is no later stays no later
+-- what is before neither and is no later stays no later
 no_later : (x y z : Symbol) → (SymbolPrecedes y x → ⊥) → (SymbolPrecedes z y → ⊥) → SymbolPrecedes z x → ⊥
 no_later x y z p q r = elim (ordered x y) [
   | earlier lt ↦ q (symbol_then z x y r lt)

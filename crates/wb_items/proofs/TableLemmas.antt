@@ -5,17 +5,18 @@ use Rattle.std.proofs.lemmas.Option.{slice_get_within, slice_get-get_or}
 use Rattle.wb_base.specs.declared.symbol.Symbol.{Symbol}
 use Rattle.wb_base.specs.Grammar.{GrammarView}
 use Rattle.wb_grammars.specs.declared.item.Item.{Item}
-use Rattle.wb_grammars.specs.Rules.{end_of}
-use Rattle.wb_grammars.specs.Items.{after_dot, advance, opening, IsValidItem, move, HasItem, IsKernelItem, IsViablePrefix, SameKernel, start_item}
+use Rattle.wb_grammars.specs.Productions.{end_of}
+use Rattle.wb_grammars.specs.Items.{after_dot, advance, initial_item, IsValidItem, move, HasItem, IsKernelItem, IsViablePrefix, SameKernel, start_item}
 use Rattle.wb_grammars.specs.Items as valid
 use Rattle.wb_grammars.specs.Shape.{IsLive}
 use Rattle.wb_grammars.specs.Closure.{InClosure, kernel, opened, MovesTo}
 use Rattle.wb_grammars.proofs.ClosureLemmas.{closure_sound, closure_complete, moves_exact, first_kernel}
 use Rattle.wb_grammars.proofs.FlowLemmas.{same_itself}
-use Rattle.wb_items.specs.declared.row.Move.{Move}
-use Rattle.wb_items.specs.Found.{FoundState}
+use Rattle.wb_items.specs.declared.transitions.Move.{Move}
+use Rattle.wb_items.specs.Index.{IndexView}
 use Rattle.wb_items.specs.Kernels.{AreInOrder, ListsKernel, ListsItems}
-use Rattle.wb_items.specs.Table.{SameItems, AreKernelsOf, AreMoves, IsKernelFor, Grows, IsRow, Leads, AreFollowed}
+use Rattle.wb_items.specs.Table.{SameItems, AreKernelsOf, AreMoves, IsRow, Leads, AreFollowed}
+use Rattle.wb_items.specs.Inner.Growing.{IsKernelFor, Grows}
 use Rattle.wb_items.proofs.ListLemmas.{at_cases, at_end, at_stays, at_once, at_one, Contains-at, at_Contains}
 
 -- a number of kernels has its prefix
@@ -46,7 +47,7 @@ first_found g = record {
 turned : (items other : List Item) → SameItems items other → SameItems other items
 turned items other same item = ((same item).1, (same item).0)
 
--- a kernel that is new goes behind the others
+-- a kernel that is new goes after the others
 pub kernel_added : (g : GrammarView) (prefixes : List (List Symbol)) (kernels : List (List Item)) (longer : List Symbol) (new : List Item) → AreKernelsOf g prefixes kernels → IsKernelFor g longer new → ((s : ℕ) (other : List Item) → slice_get kernels s ≡ Some other → ¬ SameItems other new) → AreKernelsOf g (prefixes ++ longer ∷ []) (kernels ++ new ∷ [])
 kernel_added g prefixes kernels longer new h k fresh = record {
   len = omega (arith, h.len, length-append {A = List Symbol} prefixes (longer ∷ []), length-append {A = List Item} kernels (new ∷ []));
@@ -81,17 +82,17 @@ kernel_added g prefixes kernels longer new h k fresh = record {
   ];
 }
 
--- more behind the known ones
+-- more after the known ones
 pub grows_push : (prefixes : List (List Symbol)) (kernels : List (List Item)) (longer : List Symbol) (new : List Item) → Grows (record { prefixes = prefixes; kernels = kernels }) (record { prefixes = prefixes ++ longer ∷ []; kernels = kernels ++ new ∷ [] })
 grows_push prefixes kernels longer new = record {
   prefixes = λ s prefix at. at_stays prefixes longer s prefix at;
   kernels = λ s items at. at_stays kernels new s items at;
 }
 
-pub grows_none : (found : FoundState) → Grows found found
+pub grows_none : (found : IndexView) → Grows found found
 grows_none found = record { prefixes = λ s prefix at. at; kernels = λ s items at. at }
 
-pub grows_then : {one two three : FoundState} → Grows one two → Grows two three → Grows one three
+pub grows_then : {one two three : IndexView} → Grows one two → Grows two three → Grows one three
 grows_then p q = record { prefixes = λ s prefix at. q.prefixes s prefix (p.prefixes s prefix at); kernels = λ s items at. q.kernels s items (p.kernels s items at) }
 
 -- the kernel is there with the same items
@@ -122,10 +123,10 @@ leads_new g prefixes s x prefix next at viable last = record {
 }
 
 -- what leads still leads among more
-pub leads_grows : {g : GrammarView} (old new : FoundState) {s : ℕ} {x : Symbol} {next : ℕ} → Grows old new → Leads g old.prefixes s x next → Leads g new.prefixes s x next
+pub leads_grows : {g : GrammarView} (old new : IndexView) {s : ℕ} {x : Symbol} {next : ℕ} → Grows old new → Leads g old.prefixes s x next → Leads g new.prefixes s x next
 leads_grows old new h l = record { prefix = l.prefix; other = l.other; at = h.prefixes _ l.prefix l.at; to = h.prefixes _ l.other l.to; viable = l.viable; same = l.same }
 
-pub moves_grow : {g : GrammarView} (old new : FoundState) (s : ℕ) (row : List Move) → Grows old new → AreMoves g old.prefixes s row → AreMoves g new.prefixes s row
+pub moves_grow : {g : GrammarView} (old new : IndexView) (s : ℕ) (row : List Move) → Grows old new → AreMoves g old.prefixes s row → AreMoves g new.prefixes s row
 moves_grow old new s row h moves step there = leads_grows old new h (moves step there)
 
 -- the items that move over a symbol are the kernel of the longer prefix
@@ -164,7 +165,7 @@ none_followed g prefixes = record {
 }
 
 -- one kernel more has been followed
-pub followed_more : (g : GrammarView) (old new : FoundState) (closures : List (List Item)) (rows : List (List Move)) (prefix : List Symbol) (closure : List Item) (row : List Move) → Grows old new → ((s : ℕ) (p : List Symbol) → s < length closures → slice_get new.prefixes s ≡ Some p → slice_get old.prefixes s ≡ Some p) → slice_get new.prefixes (length closures) ≡ Some prefix → AreFollowed g old.prefixes closures rows → ListsItems g prefix closure → AreInOrder closure → IsRow g new.prefixes closure (length closures) row → AreFollowed g new.prefixes (closures ++ closure ∷ []) (rows ++ row ∷ [])
+pub followed_more : (g : GrammarView) (old new : IndexView) (closures : List (List Item)) (rows : List (List Move)) (prefix : List Symbol) (closure : List Item) (row : List Move) → Grows old new → ((s : ℕ) (p : List Symbol) → s < length closures → slice_get new.prefixes s ≡ Some p → slice_get old.prefixes s ≡ Some p) → slice_get new.prefixes (length closures) ≡ Some prefix → AreFollowed g old.prefixes closures rows → ListsItems g prefix closure → AreInOrder closure → IsRow g new.prefixes closure (length closures) row → AreFollowed g new.prefixes (closures ++ closure ∷ []) (rows ++ row ∷ [])
 followed_more g old new closures rows prefix closure row grows back here h lists in_order is_row = record {
   len = omega (arith, h.len, length-append {A = List Move} rows (row ∷ []), length-append {A = List Item} closures (closure ∷ []));
   exact = λ s p items at there. elim (at_cases closures closure s items there) [
@@ -191,17 +192,17 @@ followed_more g old new closures rows prefix closure row grows back here h lists
     row_grows s items moves r = record { sound = moves_grow old new s moves grows r.sound; ordered = r.ordered; complete = r.complete }
 
 -- a new kernel is found
-pub record IsAdded (g : GrammarView) (old new : FoundState) (s : ℕ) (x : Symbol) (next : ℕ) : Type 0 where
+pub record IsAdded (g : GrammarView) (old new : IndexView) (s : ℕ) (x : Symbol) (next : ℕ) : Type 0 where
   pub kernels : AreKernelsOf g new.prefixes new.kernels
   pub grows : Grows old new
   pub leads : Leads g new.prefixes s x next
 
-pub is_added : (g : GrammarView) (old new : FoundState) (s : ℕ) (x : Symbol) (next : ℕ) (items : List Item) → AreKernelsOf g old.prefixes old.kernels → s < length old.kernels → ((prefix : List Symbol) → slice_get old.prefixes s ≡ Some prefix → IsKernelFor g (prefix ++ x ∷ []) items) → ((t : ℕ) (other : List Item) → slice_get old.kernels t ≡ Some other → ¬ SameItems other items) → next ≡ length old.prefixes → new ≡ record { prefixes = old.prefixes ++ (slice_index_or old.prefixes s [] ++ x ∷ []) ∷ []; kernels = old.kernels ++ items ∷ [] } → IsAdded g old new s x next
+pub is_added : (g : GrammarView) (old new : IndexView) (s : ℕ) (x : Symbol) (next : ℕ) (items : List Item) → AreKernelsOf g old.prefixes old.kernels → s < length old.kernels → ((prefix : List Symbol) → slice_get old.prefixes s ≡ Some prefix → IsKernelFor g (prefix ++ x ∷ []) items) → ((t : ℕ) (other : List Item) → slice_get old.kernels t ≡ Some other → ¬ SameItems other items) → next ≡ length old.prefixes → new ≡ record { prefixes = old.prefixes ++ (slice_index_or old.prefixes s [] ++ x ∷ []) ∷ []; kernels = old.kernels ++ items ∷ [] } → IsAdded g old new s x next
 is_added g old new s x next items h lt is_kernel fresh last e =
     let prefix = slice_index_or old.prefixes s [] in
     let at : slice_get old.prefixes s ≡ Some prefix = slice_get-get_or old.prefixes s [] (omega (arith, h.len)) in
     let k = is_kernel prefix at in
-    subst (λ (f : FoundState). IsAdded g old f s x next) (sym e) (record {
+    subst (λ (f : IndexView). IsAdded g old f s x next) (sym e) (record {
       kernels = kernel_added g old.prefixes old.kernels (prefix ++ x ∷ []) items h k fresh;
       grows = grows_push old.prefixes old.kernels (prefix ++ x ∷ []) items;
       leads = leads_new g old.prefixes s x prefix next at k.viable last;

@@ -8,28 +8,28 @@ use Rattle.wb_grammars.specs.Shape.{IsLive}
 use Rattle.wb_grammars.specs.States.{AreStates, IsNext}
 
 -- a grammar, and by the number of each kernel a prefix that has the kernel, and the items of that prefix
-pub record KernelsState : Type 0 where
+pub record KernelsView : Type 0 where
   pub grammar : GrammarView
   pub prefixes : List (List Symbol)
   pub closures : List (List Item)
 
 -- how many kernels there are
-abbrev pub count_of : KernelsState → ℕ
+abbrev pub count_of : KernelsView → ℕ
 count_of kernels = length kernels.prefixes
 
 -- the prefix of this number
-abbrev pub prefix_of : KernelsState → ℕ → List Symbol
+abbrev pub prefix_of : KernelsView → ℕ → List Symbol
 prefix_of kernels s = slice_index_or kernels.prefixes s []
 
 -- the items of this number
-abbrev pub closure_of : KernelsState → ℕ → List Item
+abbrev pub closure_of : KernelsView → ℕ → List Item
 closure_of kernels s = slice_index_or kernels.closures s []
 
--- the one item stands before the other: by production, and then by dot
+-- the one item is before the other: by production, and then by dot
 abbrev pub Precedes : Item → Item → Type 0
 Precedes a b = (a.production < b.production) ⊎ ((a.production ≡ b.production) × (a.dot < b.dot))
 
--- each item precedes all behind it
+-- each item precedes all after it
 abbrev pub AreInOrder : List Item → Type 0
 AreInOrder items = (i j : ℕ) (a b : Item) → i < j → slice_get items i ≡ Some a → slice_get items j ≡ Some b → Precedes a b
 
@@ -46,11 +46,11 @@ abbrev pub HasNoneBefore : GrammarView → List Symbol → Symbol → Type 0
 HasNoneBefore g prefix x = (item : Item) (rest : List Symbol) → HasItem g prefix item → after_dot g item ≢ x ∷ rest
 
 -- the symbol leads from one number to the other
-abbrev pub LeadsTo : KernelsState → ℕ → Symbol → ℕ → Type 0
+abbrev pub LeadsTo : KernelsView → ℕ → Symbol → ℕ → Type 0
 LeadsTo kernels s x next = IsNext kernels.grammar (count_of kernels) (prefix_of kernels) s x next
 
--- the kernels of the grammar's prefixes, each once, that of the empty prefix first, each with its items in order; and some terminal begins what stands behind the symbol behind any dot, with a terminal behind that
-pub record AreKernels (kernels : KernelsState) : Type 0 where
+-- the kernels of the grammar's prefixes, each once, that of the empty prefix first, each with its items in order; and some terminal begins what is after the symbol after any dot, with a terminal after that
+pub record AreKernels (kernels : KernelsView) : Type 0 where
   pub live : IsLive kernels.grammar
   pub states : AreStates kernels.grammar (count_of kernels) (prefix_of kernels) (LeadsTo kernels)
   pub closures_len : length kernels.closures ≡ count_of kernels

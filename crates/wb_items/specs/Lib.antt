@@ -1,9 +1,14 @@
-pub mod Advances
-pub mod Closing
-pub mod Found
+-- kernels by numbers, with their items, and where symbols lead from each
 pub mod Kernels
-pub mod LookaheadSets
-pub mod Lookaheads
+-- symbols in order
 pub mod Order
-pub mod Passes
+-- kernels as they are kept, with their moves, and the productions of each nonterminal
 pub mod Table
+-- prefixes as steps from earlier ones
+pub mod Index
+-- sets of terminals for the items of each kernel
+pub mod Lookaheads
+-- the lookaheads of a grammar's items as such sets
+pub mod LookaheadSets
+-- what loops keep, and words of private functions
+pub mod Inner

@@ -3,11 +3,11 @@ use Rattle.std.specs.Prelude.{◌≡◌, ◌↔◌, ℕ, ◌<◌, List, [], ◌�
 use Rattle.wb_base.specs.declared.symbol.Symbol.{Symbol}
 use Rattle.wb_base.specs.Grammar.{GrammarView}
 use Rattle.wb_grammars.specs.declared.item.Item.{Item}
-use Rattle.wb_grammars.specs.Rules.{IsRule}
+use Rattle.wb_grammars.specs.Productions.{IsProduction}
 use Rattle.wb_grammars.specs.Items.{after_dot, advance, IsViablePrefix, SameKernel}
 use Rattle.wb_grammars.specs.Shape.{IsLive}
-use Rattle.wb_items.specs.declared.row.Move.{Move}
-use Rattle.wb_items.specs.Found.{FoundState}
+use Rattle.wb_items.specs.declared.transitions.Move.{Move}
+use Rattle.wb_items.specs.Index.{IndexView}
 use Rattle.wb_items.specs.Kernels.{AreInOrder, ListsKernel, ListsItems}
 use Rattle.wb_items.specs.Order.{SymbolPrecedes}
 
@@ -15,24 +15,16 @@ use Rattle.wb_items.specs.Order.{SymbolPrecedes}
 abbrev pub SameItems : List Item → List Item → Type 0
 SameItems items other = (item : Item) → Contains items item ↔ Contains other item
 
--- the item moves over the symbol from an item of the list
-pub record IsMoved (g : GrammarView) (items : List Item) (x : Symbol) (moved : Item) : Type 0 where
-  pub item : Item
-  pub rest : List Symbol
-  pub listed : Contains items item
-  pub before_dot : after_dot g item ≡ x ∷ rest
-  pub is : moved ≡ advance item
-
 -- the numbers are those of the nonterminal's productions, in order
-pub record AreRulesOf (g : GrammarView) (b : ℕ) (numbers : List ℕ) : Type 0 where
-  pub sound : (q : ℕ) → Contains numbers q → (right : List Symbol) × IsRule g q b right
-  pub complete : (q : ℕ) (right : List Symbol) → IsRule g q b right → Contains numbers q
+pub record AreProductionsOf (g : GrammarView) (b : ℕ) (numbers : List ℕ) : Type 0 where
+  pub sound : (q : ℕ) → Contains numbers q → (right : List Symbol) × IsProduction g q b right
+  pub complete : (q : ℕ) (right : List Symbol) → IsProduction g q b right → Contains numbers q
   pub rising : (i j p q : ℕ) → i < j → slice_get numbers i ≡ Some p → slice_get numbers j ≡ Some q → p < q
 
 -- the numbers of productions for each nonterminal
-pub record AreRules (g : GrammarView) (rows : List (List ℕ)) : Type 0 where
+pub record AreProductions (g : GrammarView) (rows : List (List ℕ)) : Type 0 where
   pub len : length rows ≡ g.nonterminals
-  pub each : (b : ℕ) (numbers : List ℕ) → slice_get rows b ≡ Some numbers → AreRulesOf g b numbers
+  pub each : (b : ℕ) (numbers : List ℕ) → slice_get rows b ≡ Some numbers → AreProductionsOf g b numbers
 
 -- each kernel is that of its prefix, in order, and no two are the same
 pub record AreKernelsOf (g : GrammarView) (prefixes : List (List Symbol)) (kernels : List (List Item)) : Type 0 where
@@ -56,17 +48,6 @@ pub record Leads (g : GrammarView) (prefixes : List (List Symbol)) (s : ℕ) (x 
 abbrev pub AreMoves : GrammarView → List (List Symbol) → ℕ → List Move → Type 0
 AreMoves g prefixes s row = (move : Move) → Contains row move → Leads g prefixes s move.symbol move.state
 
--- the items are the kernel of the viable prefix, in order
-pub record IsKernelFor (g : GrammarView) (prefix : List Symbol) (kernel : List Item) : Type 0 where
-  pub viable : IsViablePrefix g prefix
-  pub exact : ListsKernel g prefix kernel
-  pub sorted : AreInOrder kernel
-
--- prefixes and kernels stand where they stood, with more behind them
-pub record Grows (old new : FoundState) : Type 0 where
-  pub prefixes : (s : ℕ) (prefix : List Symbol) → slice_get old.prefixes s ≡ Some prefix → slice_get new.prefixes s ≡ Some prefix
-  pub kernels : (s : ℕ) (kernel : List Item) → slice_get old.kernels s ≡ Some kernel → slice_get new.kernels s ≡ Some kernel
-
 -- the moves are in the order of their symbols
 abbrev pub AreMovesInOrder : List Move → Type 0
 AreMovesInOrder row = (i j : ℕ) (a b : Move) → i < j → slice_get row i ≡ Some a → slice_get row j ≡ Some b → SymbolPrecedes a.symbol b.symbol
@@ -85,7 +66,7 @@ pub record AreFollowed (g : GrammarView) (prefixes : List (List Symbol)) (closur
   pub moves : (s : ℕ) (closure : List Item) (row : List Move) → slice_get closures s ≡ Some closure → slice_get rows s ≡ Some row → IsRow g prefixes closure s row
 
 -- all kernels have been found and followed
-pub record IsTable (g : GrammarView) (found : FoundState) (closures : List (List Item)) (rows : List (List Move)) : Type 0 where
+pub record IsTable (g : GrammarView) (found : IndexView) (closures : List (List Item)) (rows : List (List Move)) : Type 0 where
   pub live : IsLive g
   pub kernels : AreKernelsOf g found.prefixes found.kernels
   pub followed : AreFollowed g found.prefixes closures rows

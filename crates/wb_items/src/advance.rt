@@ -5,16 +5,16 @@ ghost use Rattle.wb_base.specs.declared.symbol.Symbol.{Symbol};
 ghost use Rattle.wb_grammars.specs.declared.item.Item.{Item};
 ghost use Rattle.wb_grammars.specs.Items as items;
 ghost use Rattle.wb_items.specs.declared.advance.Advance.{Advance};
-ghost use Rattle.wb_items.specs.Advances.{AreAdvancesRising, HasAdvance, symbol_of};
-ghost use Rattle.wb_items.specs.Passes.{AdvancesUpTo};
-ghost use Rattle.wb_items.specs.Table.{IsMoved};
+ghost use Rattle.wb_items.specs.Inner.Advances.{AreAdvancesRising, HasAdvance, symbol_of};
+ghost use Rattle.wb_items.specs.Inner.Passes.{AdvancesUpTo};
+ghost use Rattle.wb_items.specs.Inner.Growing.{IsMoved};
 
-use crate::symbol::{item_at, symbol_after};
+use crate::dot::{item_at, symbol_after};
 use std::alloc::{AllocError, Global};
 use wb_base::{Grammar, Symbol, push};
 use wb_grammars::Item;
 
-// An item with its dot behind a symbol. The order is by the symbol, terminals first, and then by the item.
+// An item with its dot after a symbol. The order is by the symbol, terminals first, and then by the item.
 #[derive(Clone, Copy, PartialEq, Eq, PartialOrd, Ord, Drop)]
 pub(crate) struct Advance {
     nonterminal: bool,
@@ -57,7 +57,7 @@ fn add_advance(
     Ok(())
 }
 
-// The item with its dot behind this symbol.
+// The item with its dot after this symbol.
 fn advanced(item: Item, symbol: Symbol) -> Advance
     requires { item.dot + 1 < 2 ^ 64 }
     ensures symbol { symbol_of result ≡ symbol }

@@ -2,11 +2,13 @@ ghost use Rattle.std.specs.Prelude.{◌≡◌, ◌<◌, ◌↔◌, ℕ, List, If
 ghost use Rattle.wb_base.specs.declared.symbol.Symbol.{Symbol};
 ghost use Rattle.wb_grammars.specs.Items.{IsViablePrefix};
 ghost use Rattle.wb_grammar.specs.Facts.{AreFacts};
+ghost use Rattle.wb_items.specs.Table.{AreMovesInOrder};
+ghost use Rattle.wb_items.specs.declared.transitions.Move.{Move};
 ghost use Rattle.wb_items.specs.Kernels.{AreKernels, AreInOrder, HasNoneBefore, LeadsTo, ListsItems, ListsKernel, closure_of, count_of, prefix_of};
 
-use crate::found::Found;
-use crate::row::{Move, find_move};
+use crate::kernel_index::KernelIndex;
 use crate::table::build_table;
+use crate::transitions::{Move, find_move};
 use std::alloc::{AllocError, Global};
 use std::marker::Model;
 use wb_base::{Grammar, Sequence, Symbol};
@@ -20,16 +22,16 @@ use wb_grammars::Item;
 #[derive(Drop)]
 pub struct Kernels {
     grammar: Grammar,
-    found: Found,
+    found: KernelIndex,
     closures: Vec<Sequence<Item>>,
     rows: Vec<Sequence<Move>>,
 }
 
 impl Model for Kernels {
-    ghost use Rattle.wb_items.specs.Kernels.{KernelsState};
+    ghost use Rattle.wb_items.specs.Kernels.{KernelsView};
     ghost use Rattle.wb_items.specs.Table.{IsTable};
 
-    ghost Value = { KernelsState };
+    ghost Value = { KernelsView };
 
     ghost view = { λ k. record { grammar = k.grammar; prefixes = k.found.prefixes; closures = k.closures.items } };
 
@@ -79,6 +81,16 @@ impl Kernels {
         ensures in_order { AreInOrder result.now }
     {
         self.closures[state].as_slice()
+    }
+
+    /// The moves of a kernel: each symbol that some item has after its dot, with the kernel of the prefix with that symbol after it.
+    /// Terminals come first, then nonterminals, each by number. Takes no memory.
+    pub fn moves(&self, state: usize) -> &[Move]
+        requires { state < count_of self.now }
+        ensures exact { (symbol : Symbol) (next : ℕ) → Contains result.now (record { symbol = symbol; state = next }) ↔ LeadsTo self.now state symbol next }
+        ensures in_order { AreMovesInOrder result.now }
+    {
+        self.rows[state].as_slice()
     }
 
     /// The kernel of the prefix with one more symbol, where some item has its dot before the symbol. Takes no memory.

@@ -6,23 +6,24 @@
 #![tactic(auto)]
 
 mod advance;
-mod close;
+mod cache;
+mod closure;
 mod compare;
-mod found;
-mod hints;
+mod dot;
+mod item_lookahead;
+mod kernel_index;
+mod kernel_of_symbol;
 mod kernels;
 mod lookaheads;
-mod looks;
-mod row;
-mod rules;
-mod run;
+mod productions_of;
 mod search;
-mod symbol;
 mod table;
+mod transitions;
 
+pub use dot::symbol_after;
+pub use item_lookahead::ItemLookahead;
 pub use kernels::Kernels;
 pub use lookaheads::Lookaheads;
-pub use looks::Looks;
-pub use rules::{Numbers, production_numbers};
-pub use symbol::symbol_after;
+pub use productions_of::{Numbers, production_numbers};
+pub use transitions::Move;
 pub use wb_grammars::Item;

@@ -3,11 +3,11 @@
 ghost use Rattle.std.specs.Prelude.{◌≡◌, ◌<◌, ◌↔◌, List, Bool, IsTrue, true, false, IfOk, Some, length, Contains, slice_get, slice_set};
 ghost use Rattle.wb_termset.specs.Sets.{Has, IsUnion, Grew};
 ghost use Rattle.wb_grammars.specs.declared.item.Item.{Item};
-ghost use Rattle.wb_items.specs.declared.looks.Looks.{Looks};
+ghost use Rattle.wb_items.specs.declared.item_lookahead.ItemLookahead.{ItemLookahead};
 ghost use Rattle.wb_items.specs.Lookaheads.{AreLookaheadsOf, AreEmpty, ChangesAt, Inserts, IsSetOf, items_in, row_of};
 
 use crate::Kernels;
-use crate::looks::{Looks, Row};
+use crate::item_lookahead::{ItemLookahead, Row};
 use std::alloc::{AllocError, Global};
 use std::marker::Model;
 use wb_base::{Grammar, push};
@@ -25,9 +25,9 @@ pub struct Lookaheads {
 
 impl Model for Lookaheads {
     ghost use Rattle.std.specs.Prelude.{List};
-    ghost use Rattle.wb_items.specs.declared.looks.Looks.{Looks};
+    ghost use Rattle.wb_items.specs.declared.item_lookahead.ItemLookahead.{ItemLookahead};
 
-    ghost Value = { List (List Looks) };
+    ghost Value = { List (List ItemLookahead) };
 
     ghost view = { λ l. l.rows.items };
 }
@@ -54,7 +54,7 @@ impl Lookaheads {
     }
 
     /// The items of a kernel's closure with their sets, in order. Takes no memory.
-    pub fn row(&self, state: usize) -> &[Looks]
+    pub fn row(&self, state: usize) -> &[ItemLookahead]
         requires { state < length self.now }
         ensures { result.now ≡ row_of self.now state }
     {
@@ -84,7 +84,7 @@ impl Lookaheads {
     pub fn at(&self, state: usize, place: usize) -> &TermSet
         requires state { state < length self.now }
         requires place { place < length (row_of self.now state) }
-        ensures { (looks : Looks) × (slice_get (row_of self.now state) place ≡ Some looks) × (result.now ≡ looks.set) }
+        ensures { (looks : ItemLookahead) × (slice_get (row_of self.now state) place ≡ Some looks) × (result.now ≡ looks.set) }
     {
         &self.row(state)[place].set
     }
@@ -104,19 +104,19 @@ impl Lookaheads {
     pub fn insert_at(&mut self, state: usize, place: usize, terminal: usize) -> bool
         requires state { state < length self.old }
         requires place { place < length (row_of self.old state) }
-        requires terminal { (looks : Looks) → slice_get (row_of self.old state) place ≡ Some looks → terminal < length looks.set }
+        requires terminal { (looks : ItemLookahead) → slice_get (row_of self.old state) place ≡ Some looks → terminal < length looks.set }
         ensures after { ChangesAt self.old state place (λ set. slice_set set terminal true) self.new }
-        ensures new { (looks : Looks) → slice_get (row_of self.old state) place ≡ Some looks → IsTrue result ↔ (¬ Has looks.set terminal) }
+        ensures new { (looks : ItemLookahead) → slice_get (row_of self.old state) place ≡ Some looks → IsTrue result ↔ (¬ Has looks.set terminal) }
     {
         self.rows[state].insert(place, terminal)
     }
 
     /// Adds each member of a set to the set at the place of an item, and answers whether one was new. Takes no memory.
-    pub fn unite_at(&mut self, state: usize, place: usize, set: &TermSet) -> bool
+    pub fn union_at(&mut self, state: usize, place: usize, set: &TermSet) -> bool
         requires state { state < length self.old }
         requires place { place < length (row_of self.old state) }
-        requires len { (looks : Looks) → slice_get (row_of self.old state) place ≡ Some looks → length looks.set ≡ length set.now }
-        ensures after { (looks : Looks) × (union : List Bool) × (slice_get (row_of self.old state) place ≡ Some looks) × IsUnion looks.set set.now union × (IsTrue result → Grew looks.set union) × (self.new ≡ slice_set self.old state (slice_set (row_of self.old state) place (record looks { set = union }))) }
+        requires len { (looks : ItemLookahead) → slice_get (row_of self.old state) place ≡ Some looks → length looks.set ≡ length set.now }
+        ensures after { (looks : ItemLookahead) × (union : List Bool) × (slice_get (row_of self.old state) place ≡ Some looks) × IsUnion looks.set set.now union × (IsTrue result → Grew looks.set union) × (self.new ≡ slice_set self.old state (slice_set (row_of self.old state) place (record looks { set = union }))) }
         ensures stayed { result ≡ false → self.new ≡ self.old }
     {
         self.rows[state].unite(place, set)

@@ -1,9 +1,9 @@
-//! Looking for a kernel with the same items, by halves.
+//! Looking for a kernel with the same items, by binary search in the order of kernels as sets.
 
 ghost use Rattle.std.specs.Prelude.{◌≡◌, ◌<◌, List, IfOk, IfErr, IsTrue, Some, length, slice_get};
 ghost use Rattle.wb_grammars.specs.declared.item.Item.{Item};
 ghost use Rattle.wb_items.specs.Kernels.{AreInOrder};
-ghost use Rattle.wb_items.specs.Order.{IsIndex, LiesWithin};
+ghost use Rattle.wb_items.specs.Inner.Searches.{IsIndex, LiesWithin};
 ghost use Rattle.wb_items.specs.Table.{SameItems};
 
 use crate::compare::compare;
@@ -16,8 +16,10 @@ pub(crate) fn locate(
     kernels: &[Sequence<Item>],
     order: &[usize],
     items: &[Item],
+    in_order: bool,
 ) -> Result<usize, usize>
-    requires { IsIndex order.now kernels.now }
+    requires index { IsIndex order.now kernels.now }
+    requires items { IsTrue in_order → AreInOrder items.now }
     ensures ok { IfOk result (λ s. (kernel : List Item) × (slice_get kernels.now s ≡ Some kernel) × SameItems kernel items.now) }
     ensures err { IfErr result (λ place. LiesWithin kernels.now order.now items.now place place) }
 {
@@ -26,7 +28,7 @@ pub(crate) fn locate(
     'halves: while low < high {
         let middle = low + (high - low) / 2;
         let number = number_at(order, middle);
-        match compare(items_at(kernels, number), items) {
+        match compare(items_at(kernels, number), items, in_order) {
             Ordering::Less => low = middle + 1,
             Ordering::Equal => return Ok(number),
             Ordering::Greater => high = middle,
@@ -37,13 +39,14 @@ pub(crate) fn locate(
 
 // Whether the kernel of this number has these items.
 pub(crate) fn is_number_of(kernels: &[Sequence<Item>], number: usize, items: &[Item]) -> bool
-    requires { (kernel : List Item) → slice_get kernels.now number ≡ Some kernel → AreInOrder kernel }
+    requires kernels { (kernel : List Item) → slice_get kernels.now number ≡ Some kernel → AreInOrder kernel }
+    requires items { AreInOrder items.now }
     ensures { IsTrue result → (kernel : List Item) × (slice_get kernels.now number ≡ Some kernel) × SameItems kernel items.now }
 {
     if number >= kernels.len() {
         return false;
     }
-    match compare(items_at(kernels, number), items) {
+    match compare(items_at(kernels, number), items, true) {
         Ordering::Equal => true,
         _ => false,
     }

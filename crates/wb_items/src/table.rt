@@ -6,18 +6,19 @@ ghost use Rattle.wb_grammars.specs.declared.item.Item.{Item};
 ghost use Rattle.wb_grammars.specs.Items.{start_item};
 ghost use Rattle.wb_grammars.specs.Shape.{IsLive};
 ghost use Rattle.wb_items.specs.Kernels.{ListsItems};
-ghost use Rattle.wb_items.specs.declared.row.Move.{Move};
+ghost use Rattle.wb_items.specs.declared.transitions.Move.{Move};
 ghost use Rattle.wb_items.specs.declared.advance.Advance.{Advance};
-ghost use Rattle.wb_items.specs.Advances.{AreAdvancesRising};
-ghost use Rattle.wb_items.specs.Passes.{MovesUpTo};
-ghost use Rattle.wb_items.specs.Table.{AreKernelsOf, AreFollowed, AreRules, Grows, IsKernelFor, IsRow, IsTable, Leads};
+ghost use Rattle.wb_items.specs.Inner.Advances.{AreAdvancesRising};
+ghost use Rattle.wb_items.specs.Inner.Passes.{MovesUpTo};
+ghost use Rattle.wb_items.specs.Table.{AreKernelsOf, AreFollowed, AreProductions, IsRow, IsTable, Leads};
+ghost use Rattle.wb_items.specs.Inner.Growing.{Grows, IsKernelFor};
 
 use crate::advance::{Advance, advances, symbol_at};
-use crate::close::close;
-use crate::found::Found;
-use crate::row::Move;
-use crate::rules::{Numbers, production_numbers};
-use crate::run::{kernel_of, run_end, run_of};
+use crate::closure::close;
+use crate::kernel_index::KernelIndex;
+use crate::kernel_of_symbol::{kernel_after, run_end, run_of};
+use crate::productions_of::{Numbers, production_numbers};
+use crate::transitions::Move;
 use std::alloc::{AllocError, Global};
 use wb_base::{Grammar, Sequence, Symbol, push};
 use wb_grammars::Item;
@@ -25,7 +26,7 @@ use wb_grammars::Item;
 // The kernels with their items and moves.
 #[derive(Drop)]
 pub(crate) struct Table {
-    pub(crate) found: Found,
+    pub(crate) found: KernelIndex,
     pub(crate) closures: Vec<Sequence<Item>>,
     pub(crate) rows: Vec<Sequence<Move>>,
 }
@@ -37,7 +38,7 @@ pub(crate) fn build_table(alloc: Global, grammar: &Grammar) -> Result<Table, All
 {
     let rules = production_numbers(alloc, grammar)?;
     let mut table = Table {
-        found: Found::new(alloc, grammar, first_kernel(alloc, grammar)?)?,
+        found: KernelIndex::new(alloc, grammar, first_kernel(alloc, grammar)?)?,
         closures: Vec::new(alloc),
         rows: Vec::new(alloc),
     };
@@ -70,7 +71,7 @@ fn follow(
     table: &mut Table,
 ) -> Result<(), AllocError>
     requires live { IsLive grammar.now }
-    requires rules { AreRules grammar.now rules.now }
+    requires rules { AreProductions grammar.now rules.now }
     requires within { vec_len table.old.closures < length table.old.found.kernels }
     requires kernels { AreKernelsOf grammar.now table.old.found.prefixes table.old.found.kernels }
     requires followed { AreFollowed grammar.now table.old.found.prefixes table.old.closures.items table.old.rows.items }
@@ -93,7 +94,7 @@ fn moves(
     grammar: &Grammar,
     state: usize,
     closure: &[Item],
-    found: &mut Found,
+    found: &mut KernelIndex,
 ) -> Result<Sequence<Move>, AllocError>
     requires live { IsLive grammar.now }
     requires state { state < length found.old.kernels }
@@ -112,14 +113,14 @@ fn moves(
     Ok(Sequence::from_vec(row))
 }
 
-// The move by the symbol at a place, and the kernel that it leads to. The answer is the place behind all that have the symbol.
+// The move by the symbol at a place, and the kernel that it leads to. The answer is the place after all that have the symbol.
 fn add_move(
     alloc: Global,
     grammar: &Grammar,
     state: usize,
     list: &[Advance],
     place: usize,
-    found: &mut Found,
+    found: &mut KernelIndex,
     row: &mut Vec<Move>,
 ) -> Result<usize, AllocError>
     requires live { IsLive grammar.now }
@@ -131,7 +132,7 @@ fn add_move(
 {
     let symbol = symbol_at(list, place);
     let end = run_end(list, place, symbol);
-    let kernel = kernel_of(alloc, run_of(list, place, end))?;
+    let kernel = kernel_after(alloc, run_of(list, place, end))?;
     let next = number_of(grammar, state, symbol, kernel, found)?;
     push(
         row,
@@ -149,7 +150,7 @@ fn number_of(
     state: usize,
     symbol: Symbol,
     kernel: Sequence<Item>,
-    found: &mut Found,
+    found: &mut KernelIndex,
 ) -> Result<usize, AllocError>
     requires live { IsLive grammar.now }
     requires state { state < length found.old.kernels }
@@ -159,11 +160,11 @@ fn number_of(
     ensures grows { OnOk result (Grows found.old found.new) }
     ensures leads { IfOk result (Leads grammar.now found.new.prefixes state symbol) }
 {
-    if let Some(next) = found.recall(symbol, kernel.as_slice()) {
+    if let Some(next) = found.get(symbol, kernel.as_slice()) {
         return Ok(next);
     }
     let next = find_or_add(grammar, state, symbol, kernel, found)?;
-    found.note(symbol, next);
+    found.put(symbol, next);
     Ok(next)
 }
 
@@ -173,7 +174,7 @@ fn find_or_add(
     state: usize,
     symbol: Symbol,
     kernel: Sequence<Item>,
-    found: &mut Found,
+    found: &mut KernelIndex,
 ) -> Result<usize, AllocError>
     requires live { IsLive grammar.now }
     requires state { state < length found.old.kernels }

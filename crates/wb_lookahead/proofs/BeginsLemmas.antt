@@ -1,4 +1,4 @@
--- What begins symbols with a terminal of a set behind them.
+-- What begins symbols with a terminal of a set after them.
 use Rattle.std.proofs.Common.{◌≡◌, ℕ, ◌⊎◌, Bool, List, [], ◌∷◌, ◌++◌, refl, sym, subst, inl, inr}
 use Rattle.std.specs.Prelude.{◌↔◌}
 use Rattle.wb_base.specs.declared.symbol.Symbol.{Symbol}
@@ -16,7 +16,7 @@ Begun g behind all set left = (t : ℕ) → Begins g behind all t ↔ (Has set t
 first_terminal : {g : GrammarView} (v : ℕ) (w : List Symbol) (u : ℕ) → IsFirst g (Terminal v ∷ w) u → u ≡ v
 first_terminal v w u (z, keep (Terminal x) r) = refl
 
--- what begins the symbols with a terminal behind them is found where the set has this terminal
+-- what begins the symbols with a terminal after them is found where the set has this terminal
 pub begins_complete : (g : GrammarView) (behind : List Bool) (w : List Symbol) (t u : ℕ) → Has behind t → IsFirst g (w ++ Terminal t ∷ []) u → Begins g behind w u
 begins_complete g behind [] t u has f = subst (Has behind) (sym (first_terminal t [] u f)) has
 begins_complete g behind (Terminal v ∷ w) t u has f = first_terminal v (w ++ Terminal t ∷ []) u f
@@ -26,7 +26,7 @@ begins_complete g behind (Nonterminal b ∷ w) t u has f =
       | inr (n, later) ↦ inr (n, begins_complete g behind w t u has later)
     ]
 
--- what is found begins the symbols with some terminal behind them of which a fact holds, where it holds of the members of the set and of one terminal
+-- what is found begins the symbols with some terminal after them of which a fact holds, where it holds of the members of the set and of one terminal
 pub begins_sound : (g : GrammarView) (behind : List Bool) (P : ℕ → Type 0) (some : ℕ) → P some → ((t : ℕ) → Has behind t → P t) → (w : List Symbol) (u : ℕ) → Begins g behind w u → (t : ℕ) × P t × IsFirst g (w ++ Terminal t ∷ []) u
 begins_sound g behind P some p each [] u h = (u, each u h, ([], Derives-same g (Terminal u ∷ [])))
 begins_sound g behind P some p each (Terminal v ∷ w) u h = (some, p, (w ++ Terminal some ∷ [], rw h (Derives-same g (Terminal v ∷ w ++ Terminal some ∷ []))))

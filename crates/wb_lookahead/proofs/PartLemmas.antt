@@ -1,11 +1,11 @@
 -- Tables in the making: one kernel more, and all kernels.
 use Rattle.std.proofs.Common.{◌≡◌, ℕ, ◌+◌, ◌<◌, Bool, List, [], ◌∷◌, ◌++◌, None, length, get_or, map, sym, ◌∙◌, ap, subst, arith, length-append}
 use Rattle.std.proofs.lemmas.List.{get_or-map}
-use Rattle.wb_items.specs.Kernels.{KernelsState, AreKernels, count_of}
+use Rattle.wb_items.specs.Kernels.{KernelsView, AreKernels, count_of}
 use Rattle.wb_lookahead.specs.declared.parts.Parts.{Parts}
 use Rattle.wb_lookahead.specs.Codes.{action_at, goto_at}
 use Rattle.wb_lookahead.specs.Contents.{action_in, goto_in}
-use Rattle.wb_lookahead.specs.Grids.{GridState}
+use Rattle.wb_lookahead.specs.Grids.{GridView}
 use Rattle.wb_lookahead.specs.Parts.{ArePartsUpTo}
 use Rattle.wb_lookahead.specs.Rows.{AreGotos, IsRowOf}
 use Rattle.wb_lookahead.specs.Tables.{AreTables, IsAction, IsGoto, IsValidSet}
@@ -13,21 +13,21 @@ use Rattle.wb_lookahead.proofs.RowLemmas.{each_more, row_action, row_only}
 use Rattle.wb_lookahead.proofs.StandLemmas.{no_conflict}
 
 -- a grid with one row more
-abbrev with_row : GridState → List ℕ → GridState
+abbrev with_row : GridView → List ℕ → GridView
 with_row grid row = record { width = grid.width; rows = grid.rows ++ row ∷ [] }
 
 -- one kernel more
-pub parts_more : {kernels : KernelsState} (old new : Parts) (n : ℕ) (codes gotos : List ℕ) (set : List Bool) → new.actions ≡ with_row old.actions codes → new.gotos ≡ with_row old.gotos gotos → new.valid.items ≡ old.valid.items ++ set ∷ [] → IsRowOf kernels n (map action_at codes) → AreGotos kernels n gotos kernels.grammar.nonterminals → IsValidSet kernels n set → ArePartsUpTo kernels old n → ArePartsUpTo kernels new (n + 1)
+pub parts_more : {kernels : KernelsView} (old new : Parts) (n : ℕ) (codes gotos : List ℕ) (set : List Bool) → new.actions ≡ with_row old.actions codes → new.gotos ≡ with_row old.gotos gotos → new.valid.items ≡ old.valid.items ++ set ∷ [] → IsRowOf kernels n (map action_at codes) → AreGotos kernels n gotos kernels.grammar.nonterminals → IsValidSet kernels n set → ArePartsUpTo kernels old n → ArePartsUpTo kernels new (n + 1)
 parts_more {kernels} old new n codes gotos set actions_are gotos_are valid_is row goto_row valid p =
-    let action_rows : new.actions.rows ≡ old.actions.rows ++ codes ∷ [] = ap (λ (g : GridState). g.rows) actions_are in
-    let goto_rows : new.gotos.rows ≡ old.gotos.rows ++ gotos ∷ [] = ap (λ (g : GridState). g.rows) gotos_are in
+    let action_rows : new.actions.rows ≡ old.actions.rows ++ codes ∷ [] = ap (λ (g : GridView). g.rows) actions_are in
+    let goto_rows : new.gotos.rows ≡ old.gotos.rows ++ gotos ∷ [] = ap (λ (g : GridView). g.rows) gotos_are in
     record {
       grids = record {
-        width = ap (λ (g : GridState). g.width) actions_are ∙ p.grids.width;
+        width = ap (λ (g : GridView). g.width) actions_are ∙ p.grids.width;
         actions_len = ap length action_rows ∙ omega (arith, length-append old.actions.rows (codes ∷ []), p.grids.actions_len);
         gotos_len = ap length goto_rows ∙ omega (arith, length-append old.gotos.rows (gotos ∷ []), p.grids.gotos_len);
       };
-      nonterminals = ap (λ (g : GridState). g.width) gotos_are ∙ p.nonterminals;
+      nonterminals = ap (λ (g : GridView). g.width) gotos_are ∙ p.nonterminals;
       valid_len = ap length valid_is ∙ omega (arith, length-append old.valid.items (set ∷ []), p.valid_len);
       actions = subst (λ (z : List (List ℕ)). (s : ℕ) → s < n + 1 → IsRowOf kernels s (map action_at (get_or z s []))) (sym action_rows) (each_more (λ s z. IsRowOf kernels s (map action_at z)) old.actions.rows codes [] n p.grids.actions_len p.actions row);
       gotos = subst (λ (z : List (List ℕ)). (s : ℕ) → s < n + 1 → AreGotos kernels s (get_or z s []) kernels.grammar.nonterminals) (sym goto_rows) (each_more (λ s z. AreGotos kernels s z kernels.grammar.nonterminals) old.gotos.rows gotos [] n p.grids.gotos_len p.gotos goto_row);
@@ -35,7 +35,7 @@ parts_more {kernels} old new n codes gotos set actions_are gotos_are valid_is ro
     }
 
 -- all kernels
-pub parts_all : {kernels : KernelsState} → AreKernels kernels → (parts : Parts) (terminals : ℕ) → terminals ≡ kernels.grammar.terminals → ArePartsUpTo kernels parts (count_of kernels) → AreTables kernels (record { terminals = terminals; nonterminals = parts.gotos.width; actions = map (map action_at) parts.actions.rows; gotos = map (map goto_at) parts.gotos.rows; valid = parts.valid.items })
+pub parts_all : {kernels : KernelsView} → AreKernels kernels → (parts : Parts) (terminals : ℕ) → terminals ≡ kernels.grammar.terminals → ArePartsUpTo kernels parts (count_of kernels) → AreTables kernels (record { terminals = terminals; nonterminals = parts.gotos.width; actions = map (map action_at) parts.actions.rows; gotos = map (map goto_at) parts.gotos.rows; valid = parts.valid.items })
 parts_all {kernels} h parts terminals same p = record {
   terminals = same;
   nonterminals = p.nonterminals;

@@ -10,10 +10,10 @@ use Rattle.wb_base.specs.declared.symbol.Symbol.{Symbol}
 use Rattle.wb_base.specs.declared.symbol.Symbol.TheVariants.{Terminal, Nonterminal}
 use Rattle.wb_termset.specs.Sets.{Has}
 use Rattle.wb_grammars.specs.declared.item.Item.{Item}
-use Rattle.wb_grammars.specs.Rules.{top_of}
+use Rattle.wb_grammars.specs.Productions.{top_of}
 use Rattle.wb_grammars.specs.Items.{after_dot, HasItem}
 use Rattle.wb_grammars.specs.Lookaheads.{IsLookahead}
-use Rattle.wb_items.specs.Kernels.{KernelsState, AreKernels, LeadsTo, closure_of, count_of, prefix_of}
+use Rattle.wb_items.specs.Kernels.{KernelsView, AreKernels, LeadsTo, closure_of, count_of, prefix_of}
 use Rattle.wb_items.proofs.ListLemmas.{at_Contains, at_once}
 use Rattle.wb_lookahead.specs.declared.action.Action.{Action}
 use Rattle.wb_lookahead.specs.declared.action.Action.TheVariants as act
@@ -35,7 +35,7 @@ none_or Accept = inr (λ e. cc)
 none_or act.None = inl refl
 
 -- what stands isn't none
-pub stands_some : (kernels : KernelsState) (s t : ℕ) (a : Action) → Stands kernels s t a → a ≢ act.None
+pub stands_some : (kernels : KernelsView) (s t : ℕ) (a : Action) → Stands kernels s t a → a ≢ act.None
 stands_some kernels s t a stands e = (let none : Stands kernels s t act.None = subst (Stands kernels s t) e stands in none)
 
 -- an action stands within the row
@@ -45,13 +45,13 @@ taken_within row t some = elim (cases_lt t (length row)) [
   | inr le ↦ absurd (some (get_or-eq_default row act.None le))
 ]
 
--- where an item is complete, its reduction stands before its lookaheads
-pub complete_stands : (kernels : KernelsState) (s : ℕ) (item : Item) (action : Action) → HasItem kernels.grammar (prefix_of kernels s) item → after_dot kernels.grammar item ≡ [] → IsReduction (top_of kernels.grammar) item.production action → (t : ℕ) → IsLookahead kernels.grammar (prefix_of kernels s) item t → Stands kernels s t action
+-- where an item is complete, its reduction is before its lookaheads
+pub complete_stands : (kernels : KernelsView) (s : ℕ) (item : Item) (action : Action) → HasItem kernels.grammar (prefix_of kernels s) item → after_dot kernels.grammar item ≡ [] → IsReduction (top_of kernels.grammar) item.production action → (t : ℕ) → IsLookahead kernels.grammar (prefix_of kernels s) item t → Stands kernels s t action
 complete_stands kernels s item action has complete (inl (lt, is)) t look = subst (Stands kernels s t) (sym is) (lt, record { item = item; production = refl; complete = complete; has = has; lookahead = look })
 complete_stands kernels s item action has complete (inr (top, is)) t look = subst (Stands kernels s t) (sym is) (record { item = item; production = top; complete = complete; has = has; lookahead = look })
 
 -- and it asks for nothing else
-pub complete_asks : {kernels : KernelsState} {s : ℕ} {item : Item} {action : Action} → after_dot kernels.grammar item ≡ [] → IsReduction (top_of kernels.grammar) item.production action → (t : ℕ) (a : Action) → Asks kernels s item t a → IsLookahead kernels.grammar (prefix_of kernels s) item t × (a ≡ action)
+pub complete_asks : {kernels : KernelsView} {s : ℕ} {item : Item} {action : Action} → after_dot kernels.grammar item ≡ [] → IsReduction (top_of kernels.grammar) item.production action → (t : ℕ) (a : Action) → Asks kernels s item t a → IsLookahead kernels.grammar (prefix_of kernels s) item t × (a ≡ action)
 complete_asks complete is t a (shift rest n before leads) = absurd (cc)
 complete_asks complete (inl (lt, is)) t a (reduce p _ number below look) = (look, ap Reduce (sym number) ∙ sym is)
 complete_asks complete (inr (top, is)) t a (reduce p _ number below look) = absurd (omega arith)
@@ -59,24 +59,24 @@ complete_asks complete (inl (lt, is)) t a (accept _ number look) = absurd (omega
 complete_asks complete (inr (top, is)) t a (accept _ number look) = (look, sym is)
 
 -- an item before a terminal asks for one shift
-pub shift_asks : {kernels : KernelsState} → AreKernels kernels → (s : ℕ) (item : Item) (t n : ℕ) (rest : List Symbol) → after_dot kernels.grammar item ≡ Terminal t ∷ rest → LeadsTo kernels s (Terminal t) n → (u : ℕ) (a : Action) → Asks kernels s item u a → (u ≡ t) × (a ≡ Shift n)
+pub shift_asks : {kernels : KernelsView} → AreKernels kernels → (s : ℕ) (item : Item) (t n : ℕ) (rest : List Symbol) → after_dot kernels.grammar item ≡ Terminal t ∷ rest → LeadsTo kernels s (Terminal t) n → (u : ℕ) (a : Action) → Asks kernels s item u a → (u ≡ t) × (a ≡ Shift n)
 shift_asks {kernels} h s item t n rest before leads u a (shift other m is to) =
     let same : u ≡ t = cc in (same, ap Shift (step_once h s (Terminal t) m n (subst (λ z. LeadsTo kernels s (Terminal z) m) same to) leads))
 shift_asks h s item t n rest before leads u a (reduce p complete number below look) = absurd (cc)
 shift_asks h s item t n rest before leads u a (accept complete number look) = absurd (cc)
 
 -- an item before a nonterminal asks for nothing
-pub nothing_asked : {kernels : KernelsState} (s : ℕ) (item : Item) (b : ℕ) (rest : List Symbol) → after_dot kernels.grammar item ≡ Nonterminal b ∷ rest → (u : ℕ) (a : Action) → Asks kernels s item u a → ⊥
+pub nothing_asked : {kernels : KernelsView} (s : ℕ) (item : Item) (b : ℕ) (rest : List Symbol) → after_dot kernels.grammar item ≡ Nonterminal b ∷ rest → (u : ℕ) (a : Action) → Asks kernels s item u a → ⊥
 nothing_asked s item b rest before u a (shift other m is to) = cc
 nothing_asked s item b rest before u a (reduce p complete number below look) = cc
 nothing_asked s item b rest before u a (accept complete number look) = cc
 
 -- the row after an item that asks for nothing
-pub adds_none : {kernels : KernelsState} (s : ℕ) (item : Item) (row : List Action) → ((u : ℕ) (a : Action) → Asks kernels s item u a → ⊥) → IsSoundRow kernels s row → AddsItem kernels s item row row
+pub adds_none : {kernels : KernelsView} (s : ℕ) (item : Item) (row : List Action) → ((u : ℕ) (a : Action) → Asks kernels s item u a → ⊥) → IsSoundRow kernels s row → AddsItem kernels s item row row
 adds_none s item row none sound = record { sound = sound; keeps = λ t h. refl; takes = λ t a asks. absurd (none t a asks) }
 
 -- the row after an item that asks for one action on the members of a set
-pub puts_adds : {kernels : KernelsState} {s : ℕ} {item : Item} {old new : List Action} {action : Action} (S : ℕ → Type 0) → ((t : ℕ) → S t → Stands kernels s t action) → ((t : ℕ) (a : Action) → Asks kernels s item t a → S t × (a ≡ action)) → IsSoundRow kernels s old → Puts old S action new → AddsItem kernels s item old new
+pub puts_adds : {kernels : KernelsView} {s : ℕ} {item : Item} {old new : List Action} {action : Action} (S : ℕ → Type 0) → ((t : ℕ) → S t → Stands kernels s t action) → ((t : ℕ) (a : Action) → Asks kernels s item t a → S t × (a ≡ action)) → IsSoundRow kernels s old → Puts old S action new → AddsItem kernels s item old new
 puts_adds {kernels} {s} {item} {old} {new} {action} S stands asked sound p = record {
   sound = record { len = p.len ∙ sound.len; stands = λ t some. at t some (p.only t) };
   keeps = p.keeps;
@@ -88,7 +88,7 @@ puts_adds {kernels} {s} {item} {old} {new} {action} S stands asked sound p = rec
     at t some (inr (member, is)) = subst (Stands kernels s t) (sym is) (stands t member)
 
 -- a clash is a conflict
-module _ {kernels : KernelsState} {s : ℕ} where
+module _ {kernels : KernelsView} {s : ℕ} where
   in_turn : AreKernels kernels → s < count_of kernels → (t : ℕ) (one other first second : Action) → t ≤ kernels.grammar.terminals → Stands kernels s t one → Stands kernels s t other → one ≢ other → ((first ≡ one) × (second ≡ other) × ComesBefore one other) ⊎ ((first ≡ other) × (second ≡ one) × (¬ ComesBefore one other)) → IsConflict kernels s t first second
   in_turn h lt t one other first second le x y differ (inl (f, g, before)) = record {
     state = lt;
@@ -118,7 +118,7 @@ module _ {kernels : KernelsState} {s : ℕ} where
       shown h lt clash.terminal (action_in row clash.terminal) action (omega (arith, sound.len)) (sound.stands clash.terminal clash.taken) (stands clash.terminal clash.member) clash.different refusal clash.shows
 
 -- one item more
-pub row_more : {kernels : KernelsState} {s : ℕ} {old new : List Action} (n : ℕ) (item : Item) → slice_get (closure_of kernels s) n ≡ Some item → RowUpTo kernels s old n → AddsItem kernels s item old new → RowUpTo kernels s new (n + 1)
+pub row_more : {kernels : KernelsView} {s : ℕ} {old new : List Action} (n : ℕ) (item : Item) → slice_get (closure_of kernels s) n ≡ Some item → RowUpTo kernels s old n → AddsItem kernels s item old new → RowUpTo kernels s new (n + 1)
 row_more {kernels} {s} {old} {new} n item here row adds = record { sound = adds.sound; complete = λ j t one a lt at asks. both j t one a lt at asks (cases_eq j n) }
   where
     asks_some : (one : Item) (t : ℕ) (a : Action) → Asks kernels s one t a → a ≢ act.None
@@ -138,7 +138,7 @@ row_more {kernels} {s} {old} {new} n item here row adds = record { sound = adds.
 pub whole : {A : Type 0} (n : ℕ) (xs ys : List A) → length xs ≡ n → take n (xs ++ drop (length xs) ys) ≡ xs
 whole n xs ys e = subst (λ m. take m (xs ++ drop (length xs) ys) ≡ xs) e (take-append_seam xs (drop (length xs) ys))
 
-module _ {kernels : KernelsState} {s : ℕ} {row : List Action} where
+module _ {kernels : KernelsView} {s : ℕ} {row : List Action} where
   -- what stands is in the row
   pub row_only : AreKernels kernels → s < count_of kernels → IsRowOf kernels s row → (t : ℕ) (other : Action) → Stands kernels s t other → other ≡ action_in row t
   row_only h lt is t other stands =
@@ -183,7 +183,7 @@ each_more {A} P xs x d n len each here s lt = at (cases_eq s n)
         subst (P s) (sym first) (each s (omega arith))
 
 -- one nonterminal more
-pub gotos_more : {kernels : KernelsState} {s : ℕ} (codes more : List ℕ) (n code : ℕ) (goto : Option ℕ) → more ≡ codes ++ code ∷ [] → goto_at code ≡ goto → IsGoto kernels s n goto → AreGotos kernels s codes n → AreGotos kernels s more (n + 1)
+pub gotos_more : {kernels : KernelsView} {s : ℕ} (codes more : List ℕ) (n code : ℕ) (goto : Option ℕ) → more ≡ codes ++ code ∷ [] → goto_at code ≡ goto → IsGoto kernels s n goto → AreGotos kernels s codes n → AreGotos kernels s more (n + 1)
 gotos_more {kernels} {s} codes more n code goto is code_is here before = subst (λ z. AreGotos kernels s z (n + 1)) (sym is) (record {
   len = omega (arith, length-append codes (code ∷ []), before.len);
   each = each_more (λ b z. IsGoto kernels s b (goto_at z)) codes code 0 n before.len before.each (subst (IsGoto kernels s n) (sym code_is) here);

@@ -6,8 +6,8 @@ use Rattle.std.proofs.lemmas.List.Elements.{All-push, Contains-append_left, Cont
 use Rattle.std.proofs.lemmas.Bool.{cases_eq}
 use Rattle.wb_grammars.specs.declared.item.Item.{Item}
 use Rattle.wb_termset.specs.Sets.{Has}
-use Rattle.wb_items.specs.declared.looks.Looks.{Looks}
-use Rattle.wb_items.specs.Kernels.{KernelsState, AreKernels}
+use Rattle.wb_items.specs.declared.item_lookahead.ItemLookahead.{ItemLookahead}
+use Rattle.wb_items.specs.Kernels.{KernelsView, AreKernels}
 use Rattle.wb_lookahead.specs.Unions.{Unites}
 use Rattle.wb_lookahead.specs.declared.spread.Place.{Place}
 use Rattle.wb_lookahead.specs.Spreading.{AreSound, FlowsTo, IsPlace, Lists, Spreads}
@@ -15,10 +15,10 @@ use Rattle.wb_lookahead.proofs.UnionLemmas.{lists_kept, lists_new, shape_kept}
 use Rattle.wb_lookahead.proofs.RoomLemmas.{room_less}
 use Rattle.wb_lookahead.proofs.StepLemmas.{rows_within}
 
-pub spreads_none : (l : List (List Looks)) (w : List Place) → Spreads l w l w
+pub spreads_none : (l : List (List ItemLookahead)) (w : List Place) → Spreads l w l w
 spreads_none l w = record { keeps = λ s item t h. h; waits = λ p h. h; grew = λ p. inr (λ t h. h); less = omega arith }
 
-pub spreads_then : {l m n : List (List Looks)} {v w x : List Place} → Spreads l v m w → Spreads m w n x → Spreads l v n x
+pub spreads_then : {l m n : List (List ItemLookahead)} {v w x : List Place} → Spreads l v m w → Spreads m w n x → Spreads l v n x
 spreads_then {l} {m} {n} {v} {w} {x} p q = record {
   keeps = λ s item t h. q.keeps s item t (p.keeps s item t h);
   waits = λ place h. q.waits place (p.waits place h);
@@ -56,7 +56,7 @@ same_place a b = elim (cases_eq a.state b.state) [
   ]
 ]
 
-module _ {kernels : KernelsState} {old new : List (List Looks)} {place : Place} {added : List Bool} {b : Bool} {w : List Place} where
+module _ {kernels : KernelsView} {old new : List (List ItemLookahead)} {place : Place} {added : List Bool} {b : Bool} {w : List Place} where
   sound_kept : Unites old place.state place.item added b new → place.state < length old → AreSound kernels old w → ((t : ℕ) → Has added t → FlowsTo kernels place.state place.item t) → (s : ℕ) (item : Item) (t : ℕ) → Lists new s item t → FlowsTo kernels s item t
   sound_kept u lt h flows s item t lists = elim (lists_new u lt s item t lists) [
     | inl before ↦ h.sound s item t before
@@ -69,7 +69,7 @@ module _ {kernels : KernelsState} {old new : List (List Looks)} {place : Place} 
       let lt : place.state < length old = (let e = rows_within k old h.shape in let f = p.state in omega arith) in
       record { shape = shape_kept u lt h.shape; sound = sound_kept u lt h flows; places = All-push (IsPlace kernels) w place h.places p }
 
-module _ {old new : List (List Looks)} {place : Place} {added : List Bool} {b : Bool} {w : List Place} where
+module _ {old new : List (List ItemLookahead)} {place : Place} {added : List Bool} {b : Bool} {w : List Place} where
   pub spread_spreads : place.state < length old → Unites old place.state place.item added b new → b ≡ true → Spreads old w new (w ++ place ∷ [])
   spread_spreads lt u grew = record {
     keeps = lists_kept u lt;

@@ -1,4 +1,4 @@
--- What stands at a kernel, which items ask for it, and which terminals are valid.
+-- What is at a kernel, which items ask for it, and which terminals are valid.
 use Rattle.std.proofs.Common.{◌≡◌, ◌≢◌, ◌↔◌, ℕ, ◌<◌, ◌≤◌, List, [], ◌∷◌, ◌++◌, Some, None, Option, length, refl, sym, ◌∙◌, ap, subst, inl, inr, arith}
 use Rattle.std.specs.Prelude.{IfSome, IsNone}
 use Rattle.std.proofs.lemmas.Bool.{cases_eq}
@@ -7,12 +7,14 @@ use Rattle.wb_base.specs.declared.symbol.Symbol.{Symbol}
 use Rattle.wb_base.specs.declared.symbol.Symbol.TheVariants.{Terminal, Nonterminal}
 use Rattle.wb_base.specs.Grammar.{GrammarView}
 use Rattle.wb_grammars.specs.declared.item.Item.{Item}
-use Rattle.wb_grammars.specs.Rules.{top_of}
+use Rattle.wb_grammars.specs.Productions.{top_of}
 use Rattle.wb_grammars.specs.Items.{after_dot, HasItem, IsValidItem, SameKernel, start, close, move}
 use Rattle.wb_grammars.specs.Lookaheads.{CanShift, CanReduce, IsValidTerminal, HasConflict, HasNoConflict}
-use Rattle.wb_grammars.proofs.KernelLemmas.{kernel_decides, snoc_parts, snoc_not_nil}
-use Rattle.wb_grammars.proofs.FlowLemmas.{onward, same_back, same_then}
-use Rattle.wb_items.specs.Kernels.{KernelsState, AreKernels, HasNoneBefore, LeadsTo, count_of, prefix_of}
+use Rattle.wb_grammars.proofs.KernelLemmas.{kernel_decides}
+use Rattle.wb_grammars.proofs.FlowLemmas.{onward, same_back}
+use Rattle.wb_grammars.proofs.ShiftLemmas.{valid_production}
+use Rattle.wb_grammars.proofs.ValidLemmas.{before_last, shift_kept, reduction_kept}
+use Rattle.wb_items.specs.Kernels.{KernelsView, AreKernels, HasNoneBefore, LeadsTo, count_of, prefix_of}
 use Rattle.wb_lookahead.specs.declared.action.Action.{Action}
 use Rattle.wb_lookahead.specs.declared.action.Action.TheVariants as act
 use Rattle.wb_lookahead.specs.declared.action.Action.TheVariants.{Shift, Reduce, Accept}
@@ -20,35 +22,21 @@ use Rattle.wb_lookahead.specs.Tables.{IsGoto, Stands, ComesBefore}
 use Rattle.wb_lookahead.specs.Rows.{Asks, shift, reduce, accept, IsReduction}
 use Rattle.wb_lookahead.proofs.StepLemmas.{step_once}
 
--- a valid item is one of a production of the grammar, or of the added one
-pub valid_production : {g : GrammarView} {prefix : List Symbol} {item : Item} {t : ℕ} → IsValidItem g prefix item t → item.production ≤ length g.productions
-valid_production start = omega arith
-valid_production {g} (close item t b rest q u right v is rule first) = (let lt = slice_get_within g.productions q (b, right) rule in omega arith)
-valid_production {g} (move item x rest prefix v is longer_is moved_is) = subst (λ (z : Item). z.production ≤ length g.productions) (sym moved_is) (valid_production v)
-
--- some item has its dot before the last symbol of a prefix
-pub before_last : {g : GrammarView} {longer : List Symbol} {item : Item} {t : ℕ} → IsValidItem g longer item t → (prefix : List Symbol) (x : Symbol) → longer ≡ prefix ++ x ∷ [] → (one : Item) × (rest : List Symbol) × HasItem g prefix one × (after_dot g one ≡ x ∷ rest)
-before_last start prefix x e = absurd (snoc_not_nil prefix x (sym e))
-before_last (close item t b rest q u right v is rule first) prefix x e = before_last v prefix x e
-before_last {g} (move item y rest shorter {t} v is longer_is moved_is) prefix x e =
-    let (same, last) = snoc_parts shorter prefix y x (sym longer_is ∙ e) in
-    (item, rest, (t, subst (λ z. IsValidItem g z item t) same v), is ∙ ap (λ z. z ∷ rest) last)
-
 -- an item asks for each action that stands
-pub stands_asked : (kernels : KernelsState) (s t : ℕ) (action : Action) → Stands kernels s t action → (item : Item) × HasItem kernels.grammar (prefix_of kernels s) item × Asks kernels s item t action
+pub stands_asked : (kernels : KernelsView) (s t : ℕ) (action : Action) → Stands kernels s t action → (item : Item) × HasItem kernels.grammar (prefix_of kernels s) item × Asks kernels s item t action
 stands_asked kernels s t (Shift n) (can, leads) = (can.item, can.has, shift can.rest n can.before_dot leads)
 stands_asked kernels s t (Reduce p) (lt, can) = (can.item, can.has, reduce p can.complete can.production lt can.lookahead)
 stands_asked kernels s t Accept can = (can.item, can.has, accept can.complete can.production can.lookahead)
 stands_asked kernels s t act.None none = absurd none
 
 -- where an action stands, the terminal is valid
-pub stands_valid : (kernels : KernelsState) (s t : ℕ) (action : Action) → Stands kernels s t action → IsValidTerminal kernels.grammar (prefix_of kernels s) t
+pub stands_valid : (kernels : KernelsView) (s t : ℕ) (action : Action) → Stands kernels s t action → IsValidTerminal kernels.grammar (prefix_of kernels s) t
 stands_valid kernels s t (Shift n) (can, leads) = inl can
 stands_valid kernels s t (Reduce p) (lt, can) = inr (p, can)
 stands_valid kernels s t Accept can = inr (top_of kernels.grammar, can)
 stands_valid kernels s t act.None none = absurd none
 
-module _ (kernels : KernelsState) (s t : ℕ) where
+module _ (kernels : KernelsView) (s t : ℕ) where
   -- a terminal that can be shifted leads to a kernel
   pub shift_stands : AreKernels kernels → s < count_of kernels → CanShift kernels.grammar (prefix_of kernels s) t → (n : ℕ) × Stands kernels s t (Shift n)
   shift_stands h lt can =
@@ -70,7 +58,7 @@ module _ (kernels : KernelsState) (s t : ℕ) where
   valid_stands h lt (inr (p, can)) = (let (action, is, stands) = reduction_stands can in (action, stands))
 
 -- of two different actions that stand one comes before the other
-pub before_or : (kernels : KernelsState) → AreKernels kernels → (s t : ℕ) (a b : Action) → Stands kernels s t a → Stands kernels s t b → a ≢ b → ¬ ComesBefore a b → ComesBefore b a
+pub before_or : (kernels : KernelsView) → AreKernels kernels → (s t : ℕ) (a b : Action) → Stands kernels s t a → Stands kernels s t b → a ≢ b → ¬ ComesBefore a b → ComesBefore b a
 before_or kernels h s t (Shift n) (Shift m) (_, x) (_, y) differ not = absurd (differ (ap Shift (step_once h s (Terminal t) n m x y)))
 before_or kernels h s t (Shift n) (Reduce q) x y differ not = absurd (not tt)
 before_or kernels h s t (Shift n) Accept x y differ not = absurd (not tt)
@@ -85,20 +73,6 @@ before_or kernels h s t (Reduce p) act.None x y differ not = absurd y
 before_or kernels h s t Accept act.None x y differ not = absurd y
 before_or kernels h s t act.None b x y differ not = absurd x
 
--- what can be done at a prefix can be done at another with the same kernel
-module _ {g : GrammarView} {prefix other : List Symbol} {t : ℕ} where
-  shift_kept : SameKernel g other prefix → ((item : Item) → HasItem g prefix item → HasItem g other item) → CanShift g prefix t → CanShift g other t
-  shift_kept same has can = record { item = can.item; rest = can.rest; has = has can.item can.has; before_dot = can.before_dot }
-
-  reduction_kept : {p : ℕ} → SameKernel g other prefix → ((item : Item) → HasItem g prefix item → HasItem g other item) → CanReduce g prefix p t → CanReduce g other p t
-  reduction_kept same has can = record {
-    item = can.item;
-    production = can.production;
-    complete = can.complete;
-    has = has can.item can.has;
-    lookahead = (let (third, is, valid) = can.lookahead in (third, same_then same is, valid));
-  }
-
 reductions_once : (top p q : ℕ) (a b : Action) → IsReduction top p a → IsReduction top q b → a ≡ b → p ≡ q
 reductions_once top p q a b (inl (_, x)) (inl (_, y)) e = cc
 reductions_once top p q a b (inl (_, x)) (inr (_, y)) e = absurd (cc)
@@ -109,8 +83,8 @@ not_shift : (top p n : ℕ) (a : Action) → IsReduction top p a → Shift n ≡
 not_shift top p n a (inl (_, x)) e = cc
 not_shift top p n a (inr (_, x)) e = cc
 
--- where one action stands at most, no prefix has a conflict
-pub no_conflict : {kernels : KernelsState} → AreKernels kernels → ((s t : ℕ) → s < count_of kernels → (a b : Action) → Stands kernels s t a → Stands kernels s t b → a ≡ b) → HasNoConflict kernels.grammar
+-- where one action is at most, no prefix has a conflict
+pub no_conflict : {kernels : KernelsView} → AreKernels kernels → ((s t : ℕ) → s < count_of kernels → (a b : Action) → Stands kernels s t a → Stands kernels s t b → a ≡ b) → HasNoConflict kernels.grammar
 no_conflict {kernels} h once prefix t conflict = at conflict
   where
     at : HasConflict kernels.grammar prefix t → ⊥
@@ -128,7 +102,7 @@ no_conflict {kernels} h once prefix t conflict = at conflict
         ne (reductions_once (top_of kernels.grammar) p q a b a_is b_is (once s t lt a b x y))
 
 -- what leads from a kernel by a nonterminal
-pub goto_is : {kernels : KernelsState} → AreKernels kernels → (s b : ℕ) (goto : Option ℕ) → IfSome goto (LeadsTo kernels s (Nonterminal b)) → IsNone goto ↔ HasNoneBefore kernels.grammar (prefix_of kernels s) (Nonterminal b) → IsGoto kernels s b goto
+pub goto_is : {kernels : KernelsView} → AreKernels kernels → (s b : ℕ) (goto : Option ℕ) → IfSome goto (LeadsTo kernels s (Nonterminal b)) → IsNone goto ↔ HasNoneBefore kernels.grammar (prefix_of kernels s) (Nonterminal b) → IsGoto kernels s b goto
 goto_is {kernels} h s b goto some none = record { some = λ n. (there n goto some, λ leads. only n goto some none.0 leads); none = none }
   where
     there : (n : ℕ) (goto : Option ℕ) → IfSome goto (LeadsTo kernels s (Nonterminal b)) → goto ≡ Some n → LeadsTo kernels s (Nonterminal b) n

@@ -1,16 +1,16 @@
 -- What is shown as a conflict is one of the grammar, and where there are tables there is none.
 use Rattle.std.proofs.Common.{◌≢◌, ℕ, ◌<◌, refl, sym, ◌∙◌, inl, inr, arith}
-use Rattle.wb_grammars.specs.Rules.{top_of}
+use Rattle.wb_grammars.specs.Productions.{top_of}
 use Rattle.wb_grammars.specs.Lookaheads.{HasConflict}
-use Rattle.wb_items.specs.Kernels.{KernelsState, prefix_of}
+use Rattle.wb_items.specs.Kernels.{KernelsView, prefix_of}
 use Rattle.wb_lookahead.specs.declared.action.Action.{Action}
 use Rattle.wb_lookahead.specs.declared.action.Action.TheVariants as act
 use Rattle.wb_lookahead.specs.declared.action.Action.TheVariants.{Shift, Reduce, Accept}
-use Rattle.wb_lookahead.specs.Contents.{TablesState}
+use Rattle.wb_lookahead.specs.Contents.{TablesView}
 use Rattle.wb_lookahead.specs.Tables.{AreTables, IsConflict}
 
 -- a conflict at a kernel is one at its prefix
-pub conflict_has : (kernels : KernelsState) (s t : ℕ) (a b : Action) → IsConflict kernels s t a b → HasConflict kernels.grammar (prefix_of kernels s) t
+pub conflict_has : (kernels : KernelsView) (s t : ℕ) (a b : Action) → IsConflict kernels s t a b → HasConflict kernels.grammar (prefix_of kernels s) t
 conflict_has kernels s t (Shift n) (Reduce q) c = inl (q, c.first_stands.0, c.second_stands.1)
 conflict_has kernels s t (Shift n) Accept c = inl (top_of kernels.grammar, c.first_stands.0, c.second_stands)
 conflict_has kernels s t (Reduce p) (Reduce q) c = (let lt : p < q = c.in_order in let ne : p ≢ q = λ e. omega arith in inr (p, q, ne, c.first_stands.1, c.second_stands.1))
@@ -23,7 +23,7 @@ conflict_has kernels s t Accept b c = absurd c.in_order
 conflict_has kernels s t act.None b c = absurd c.in_order
 
 -- where there are tables, nothing shown is a conflict
-pub tables_refute : {kernels : KernelsState} {tables : TablesState} → AreTables kernels tables → (s t : ℕ) (a b : Action) → IsConflict kernels s t a b → ⊥
+pub tables_refute : {kernels : KernelsView} {tables : TablesView} → AreTables kernels tables → (s t : ℕ) (a b : Action) → IsConflict kernels s t a b → ⊥
 tables_refute tables s t a b c =
     let only = (tables.actions s t c.state c.terminal).only in
     c.different (only a c.first_stands ∙ sym (only b c.second_stands))

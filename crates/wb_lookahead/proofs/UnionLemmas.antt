@@ -7,48 +7,48 @@ use Rattle.std.proofs.lemmas.List.Elements.{All-set, All-get_or}
 use Rattle.std.proofs.lemmas.Option.{slice_get-map, slice_get_within, get_or_from_slice_get, same_Some}
 use Rattle.wb_grammars.specs.declared.item.Item.{Item}
 use Rattle.wb_termset.specs.Sets.{Has}
-use Rattle.wb_items.specs.declared.looks.Looks.{Looks}
-use Rattle.wb_items.specs.Kernels.{KernelsState}
+use Rattle.wb_items.specs.declared.item_lookahead.ItemLookahead.{ItemLookahead}
+use Rattle.wb_items.specs.Kernels.{KernelsView}
 use Rattle.wb_items.specs.Lookaheads.{AreLookaheadsOf, items_in, row_of}
 use Rattle.wb_lookahead.specs.Unions.{UnitesIn, Unites}
 use Rattle.wb_lookahead.specs.Spreading.{Lists}
 
 -- a terminal is in a set at the item of the row
-abbrev pub RowLists : List Looks → Item → ℕ → Type 0
+abbrev pub RowLists : List ItemLookahead → Item → ℕ → Type 0
 RowLists row item t = (s : List Bool) × Contains row (record { item = item; set = s }) × Has s t
 
-looks_at : {row new : List Looks} {p : ℕ} {added : List Bool} {b : Bool} (u : UnitesIn row p added b new) (d : Looks) → get_or row p d ≡ u.looks
+looks_at : {row new : List ItemLookahead} {p : ℕ} {added : List Bool} {b : Bool} (u : UnitesIn row p added b new) (d : ItemLookahead) → get_or row p d ≡ u.looks
 looks_at {row} {p = p} u d = get_or_from_slice_get row p u.looks d u.at
 
-place_within : {row new : List Looks} {p : ℕ} {added : List Bool} {b : Bool} (u : UnitesIn row p added b new) → p < length row
+place_within : {row new : List ItemLookahead} {p : ℕ} {added : List Bool} {b : Bool} (u : UnitesIn row p added b new) → p < length row
 place_within {row} {p = p} u = slice_get_within row p u.looks u.at
 
-abbrev changed : {row new : List Looks} {p : ℕ} {added : List Bool} {b : Bool} (u : UnitesIn row p added b new) → Looks
+abbrev changed : {row new : List ItemLookahead} {p : ℕ} {added : List Bool} {b : Bool} (u : UnitesIn row p added b new) → ItemLookahead
 changed u = record { item = u.looks.item; set = u.union }
 
-new_holds : {row new : List Looks} {p : ℕ} {added : List Bool} {b : Bool} (u : UnitesIn row p added b new) → Contains new (changed u)
+new_holds : {row new : List ItemLookahead} {p : ℕ} {added : List Bool} {b : Bool} (u : UnitesIn row p added b new) → Contains new (changed u)
 new_holds {row} {new} {p} u =
     subst (λ z. Contains z (changed u)) (sym u.is)
     (p, (let lt = place_within u in omega (arith, length-set row p (changed u))), get_or-set_same row p (changed u) (changed u) (place_within u))
 
-abbrev looks_of : Item → List Bool → Looks
+abbrev looks_of : Item → List Bool → ItemLookahead
 looks_of item s = record { item = item; set = s }
 
 -- what the row lists it goes on to list
-pub row_keeps : {row new : List Looks} {p : ℕ} {added : List Bool} {b : Bool} → UnitesIn row p added b new → (item : Item) (t : ℕ) → RowLists row item t → RowLists new item t
+pub row_keeps : {row new : List ItemLookahead} {p : ℕ} {added : List Bool} {b : Bool} → UnitesIn row p added b new → (item : Item) (t : ℕ) → RowLists row item t → RowLists new item t
 row_keeps {row} {new} {p} u item t (s, (k, lt, e), has) =
-    let one : Looks = record { item = item; set = s } in
+    let one : ItemLookahead = record { item = item; set = s } in
     elim (cases_eq k p) [
       | inl same ↦
           let is : u.looks ≡ one = sym (looks_at u one) ∙ ap (λ z. get_or row z one) (sym same) ∙ e in
-          let set_is : u.looks.set ≡ s = ap (λ (z : Looks). z.set) is in
-          let item_is : u.looks.item ≡ item = ap (λ (z : Looks). z.item) is in
+          let set_is : u.looks.set ≡ s = ap (λ (z : ItemLookahead). z.set) is in
+          let item_is : u.looks.item ≡ item = ap (λ (z : ItemLookahead). z.item) is in
           (u.union, subst (λ z. Contains new (record { item = z; set = u.union })) item_is (new_holds u), (u.joined.each t).1 (inl (subst (λ z. Has z t) (sym set_is) has)))
       | inr other ↦ (s, subst (λ z. Contains z one) (sym u.is) (k, (omega (arith, length-set row p (changed u))), get_or-set_other row p k (changed u) one other ∙ e), has)
     ]
 
 -- what the new row lists it listed, or it was added
-pub row_new : {row new : List Looks} {p : ℕ} {added : List Bool} {b : Bool} (u : UnitesIn row p added b new) → (item : Item) (t : ℕ) → RowLists new item t → RowLists row item t ⊎ ((item ≡ u.looks.item) × Has added t)
+pub row_new : {row new : List ItemLookahead} {p : ℕ} {added : List Bool} {b : Bool} (u : UnitesIn row p added b new) → (item : Item) (t : ℕ) → RowLists new item t → RowLists row item t ⊎ ((item ≡ u.looks.item) × Has added t)
 row_new {row} {new} {p} {added} u item t (s, holds, has) = go (subst (λ z. Contains z (looks_of item s)) u.is holds)
   where
     old_looks : RowLists row u.looks.item t → u.looks.item ≡ item → RowLists row item t
@@ -58,8 +58,8 @@ row_new {row} {new} {p} {added} u item t (s, holds, has) = go (subst (λ z. Cont
     go (k, lt, e) = elim (cases_eq k p) [
       | inl same ↦
           let is : changed u ≡ looks_of item s = sym (get_or-set_same row p (changed u) (looks_of item s) (place_within u)) ∙ ap (λ z. get_or (set row p (changed u)) z (looks_of item s)) (sym same) ∙ e in
-          let set_is : u.union ≡ s = ap (λ (z : Looks). z.set) is in
-          let item_is : u.looks.item ≡ item = ap (λ (z : Looks). z.item) is in
+          let set_is : u.union ≡ s = ap (λ (z : ItemLookahead). z.set) is in
+          let item_is : u.looks.item ≡ item = ap (λ (z : ItemLookahead). z.item) is in
           elim ((u.joined.each t).0 (subst (λ z. Has z t) (sym set_is) has)) [
             | inl old ↦ inl (old_looks (u.looks.set, (p, place_within u, looks_at u u.looks), old) item_is)
             | inr fresh ↦ inr (sym item_is, fresh)
@@ -67,14 +67,14 @@ row_new {row} {new} {p} {added} u item t (s, holds, has) = go (subst (λ z. Cont
       | inr other ↦ inl (s, (k, (omega (arith, length-set row p (changed u))), sym (get_or-set_other row p k (changed u) (looks_of item s) other) ∙ e), has)
     ]
 
-pub row_added : {row new : List Looks} {p : ℕ} {added : List Bool} {b : Bool} (u : UnitesIn row p added b new) → (t : ℕ) → Has added t → RowLists new u.looks.item t
+pub row_added : {row new : List ItemLookahead} {p : ℕ} {added : List Bool} {b : Bool} (u : UnitesIn row p added b new) → (t : ℕ) → Has added t → RowLists new u.looks.item t
 row_added u t has = (u.union, new_holds u, (u.joined.each t).1 (inr has))
 
 -- the item at the place
-item_at : {row new : List Looks} {p : ℕ} {added : List Bool} {b : Bool} (u : UnitesIn row p added b new) (item : Item) → slice_get (items_in row) p ≡ Some item → u.looks.item ≡ item
-item_at {row} {p = p} u item e = same_Some u.looks.item item (sym (slice_get-map (λ (z : Looks). z.item) row p ∙ ap (option_map (λ (z : Looks). z.item)) u.at) ∙ e)
+item_at : {row new : List ItemLookahead} {p : ℕ} {added : List Bool} {b : Bool} (u : UnitesIn row p added b new) (item : Item) → slice_get (items_in row) p ≡ Some item → u.looks.item ≡ item
+item_at {row} {p = p} u item e = same_Some u.looks.item item (sym (slice_get-map (λ (z : ItemLookahead). z.item) row p ∙ ap (option_map (λ (z : ItemLookahead). z.item)) u.at) ∙ e)
 
-module _ {old new : List (List Looks)} {s : ℕ} {item : Item} {added : List Bool} {b : Bool} where
+module _ {old new : List (List ItemLookahead)} {s : ℕ} {item : Item} {added : List Bool} {b : Bool} where
   row_same : (u : Unites old s item added b new) → s < length old → row_of new s ≡ u.row
   row_same u lt = ap (λ z. row_of z s) u.is ∙ get_or-set_same old s u.row [] lt
 
@@ -103,16 +103,16 @@ module _ {old new : List (List Looks)} {s : ℕ} {item : Item} {added : List Boo
   pub lists_added : Unites old s item added b new → s < length old → (t : ℕ) → Has added t → Lists new s item t
   lists_added u lt t has = subst (λ z. RowLists z item t) (sym (row_same u lt)) (subst (λ z. RowLists u.row z t) (item_at u.in_row item u.at) (row_added u.in_row t has))
 
-items_kept : {row new : List Looks} {p : ℕ} {added : List Bool} {b : Bool} → UnitesIn row p added b new → items_in new ≡ items_in row
+items_kept : {row new : List ItemLookahead} {p : ℕ} {added : List Bool} {b : Bool} → UnitesIn row p added b new → items_in new ≡ items_in row
 items_kept {row} {p = p} u =
-    ap items_in u.is ∙ map-set (λ (z : Looks). z.item) row p (changed u)
-    ∙ ap (set (items_in row) p) (sym (get_or-map (λ (z : Looks). z.item) row p u.looks u.looks.item (place_within u) ∙ ap (λ (z : Looks). z.item) (looks_at u u.looks)))
+    ap items_in u.is ∙ map-set (λ (z : ItemLookahead). z.item) row p (changed u)
+    ∙ ap (set (items_in row) p) (sym (get_or-map (λ (z : ItemLookahead). z.item) row p u.looks u.looks.item (place_within u) ∙ ap (λ (z : ItemLookahead). z.item) (looks_at u u.looks)))
     ∙ set-get_or (items_in row) p u.looks.item
 
 -- a set for each item stays a set for each item
-pub shape_kept : {kernels : KernelsState} {old new : List (List Looks)} {s : ℕ} {item : Item} {added : List Bool} {b : Bool} → Unites old s item added b new → s < length old → AreLookaheadsOf kernels old → AreLookaheadsOf kernels new
+pub shape_kept : {kernels : KernelsView} {old new : List (List ItemLookahead)} {s : ℕ} {item : Item} {added : List Bool} {b : Bool} → Unites old s item added b new → s < length old → AreLookaheadsOf kernels old → AreLookaheadsOf kernels new
 shape_kept {kernels} {old} {new} {s} u lt h =
-    let wide = λ (looks : Looks). length looks.set ≡ kernels.grammar.terminals + 1 in
+    let wide = λ (looks : ItemLookahead). length looks.set ≡ kernels.grammar.terminals + 1 in
     let row_wide : All wide (row_of old s) = All-get_or (All wide) old s [] lt h.widths in
     let looks_wide : length u.in_row.looks.set ≡ kernels.grammar.terminals + 1 =
     subst wide (looks_at u.in_row u.in_row.looks) (All-get_or wide (row_of old s) u.place u.in_row.looks (place_within u.in_row) row_wide) in

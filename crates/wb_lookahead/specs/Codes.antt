@@ -1,4 +1,4 @@
--- Numbers that stand for actions and for kernels behind nonterminals.
+-- Numbers that stand for actions and for kernels after nonterminals.
 use Rattle.std.specs.Prelude.{ℕ, zero, suc, ◌/◌, ◌%◌, Option, Some, None}
 use Rattle.wb_lookahead.specs.declared.action.Action.{Action}
 use Rattle.wb_lookahead.specs.declared.action.Action.TheVariants as act

@@ -2,7 +2,7 @@
 use Rattle.std.specs.Prelude.{ℕ, zero, suc, List, [], ◌∷◌, take, drop}
 
 -- rows, each of this many numbers
-pub record GridState : Type 0 where
+pub record GridView : Type 0 where
   pub width : ℕ
   pub rows : List (List ℕ)
 

@@ -3,10 +3,10 @@ use Rattle.std.specs.Prelude.{◌≡◌, ◌≢◌, ◌⊎◌, ◌<◌, ◌+◌,
 use Rattle.wb_base.specs.declared.symbol.Symbol.{Symbol}
 use Rattle.wb_base.specs.declared.symbol.Symbol.TheVariants.{Terminal}
 use Rattle.wb_grammars.specs.declared.item.Item.{Item}
-use Rattle.wb_grammars.specs.Rules.{top_of}
+use Rattle.wb_grammars.specs.Productions.{top_of}
 use Rattle.wb_grammars.specs.Items.{after_dot}
 use Rattle.wb_grammars.specs.Lookaheads.{IsLookahead}
-use Rattle.wb_items.specs.Kernels.{KernelsState, LeadsTo, closure_of, prefix_of}
+use Rattle.wb_items.specs.Kernels.{KernelsView, LeadsTo, closure_of, prefix_of}
 use Rattle.wb_lookahead.specs.declared.action.Action.{Action}
 use Rattle.wb_lookahead.specs.declared.action.Action.TheVariants as act
 use Rattle.wb_lookahead.specs.declared.action.Action.TheVariants.{Shift, Reduce, Accept}
@@ -16,8 +16,8 @@ use Rattle.wb_lookahead.specs.Codes.{goto_at}
 use Rattle.wb_lookahead.specs.Contents.{action_in}
 use Rattle.wb_lookahead.specs.Tables.{Stands, ComesBefore, IsGoto}
 
--- the item asks for the action on the terminal: to shift the terminal behind its dot, or, where it is complete, to reduce before its lookaheads
-pub data Asks (kernels : KernelsState) (s : ℕ) (item : Item) (t : ℕ) : Action → Type 0 where
+-- the item asks for the action on the terminal: to shift the terminal after its dot, or, where it is complete, to reduce before its lookaheads
+pub data Asks (kernels : KernelsView) (s : ℕ) (item : Item) (t : ℕ) : Action → Type 0 where
   shift : (rest : List Symbol) (n : ℕ) → after_dot kernels.grammar item ≡ Terminal t ∷ rest → LeadsTo kernels s (Terminal t) n → Asks kernels s item t (Shift n)
   reduce : (p : ℕ) → after_dot kernels.grammar item ≡ [] → item.production ≡ p → p < length kernels.grammar.productions → IsLookahead kernels.grammar (prefix_of kernels s) item t → Asks kernels s item t (Reduce p)
   accept : after_dot kernels.grammar item ≡ [] → item.production ≡ top_of kernels.grammar → IsLookahead kernels.grammar (prefix_of kernels s) item t → Asks kernels s item t Accept
@@ -27,7 +27,7 @@ abbrev pub IsReduction : ℕ → ℕ → Action → Type 0
 IsReduction top p action = ((p < top) × (action ≡ Reduce p)) ⊎ ((p ≡ top) × (action ≡ Accept))
 
 -- each action of the row stands
-pub record IsSoundRow (kernels : KernelsState) (s : ℕ) (row : List Action) : Type 0 where
+pub record IsSoundRow (kernels : KernelsView) (s : ℕ) (row : List Action) : Type 0 where
   pub len : length row ≡ kernels.grammar.terminals + 1
   pub stands : (t : ℕ) → action_in row t ≢ act.None → Stands kernels s t (action_in row t)
 
@@ -48,7 +48,7 @@ ShowsBoth s t one other (Conflict s' t' first second) =
     (s' ≡ s) × (t' ≡ t) × (((first ≡ one) × (second ≡ other) × ComesBefore one other) ⊎ ((first ≡ other) × (second ≡ one) × (¬ ComesBefore one other)))
 ShowsBoth s t one other (NoMemory _) = ⊥
 
--- another action than this one stands in the row on a member of the set, and the refusal shows both
+-- another action than this one is in the row on a member of the set, and the refusal shows both
 pub record IsClash (s : ℕ) (row : List Action) (set : ℕ → Type 0) (action : Action) (refusal : TableRefusal) : Type 0 where
   pub terminal : ℕ
   pub member : set terminal
@@ -57,21 +57,21 @@ pub record IsClash (s : ℕ) (row : List Action) (set : ℕ → Type 0) (action 
   pub shows : ShowsBoth s terminal (action_in row terminal) action refusal
 
 -- the actions stand for which the item asks
-pub record AddsItem (kernels : KernelsState) (s : ℕ) (item : Item) (old new : List Action) : Type 0 where
+pub record AddsItem (kernels : KernelsView) (s : ℕ) (item : Item) (old new : List Action) : Type 0 where
   pub sound : IsSoundRow kernels s new
   pub keeps : Keeps old new
   pub takes : (t : ℕ) (action : Action) → Asks kernels s item t action → action_in new t ≡ action
 
 -- the actions for which the items at the first places ask are there, and each action there stands
-pub record RowUpTo (kernels : KernelsState) (s : ℕ) (row : List Action) (n : ℕ) : Type 0 where
+pub record RowUpTo (kernels : KernelsView) (s : ℕ) (row : List Action) (n : ℕ) : Type 0 where
   pub sound : IsSoundRow kernels s row
   pub complete : (j t : ℕ) (item : Item) (action : Action) → j < n → slice_get (closure_of kernels s) j ≡ Some item → Asks kernels s item t action → action_in row t ≡ action
 
 -- the row has the action at the kernel on each terminal
-abbrev pub IsRowOf : KernelsState → ℕ → List Action → Type 0
+abbrev pub IsRowOf : KernelsView → ℕ → List Action → Type 0
 IsRowOf kernels s row = RowUpTo kernels s row (length (closure_of kernels s))
 
 -- the codes are those of the kernels to which the first so many nonterminals lead
-pub record AreGotos (kernels : KernelsState) (s : ℕ) (codes : List ℕ) (n : ℕ) : Type 0 where
+pub record AreGotos (kernels : KernelsView) (s : ℕ) (codes : List ℕ) (n : ℕ) : Type 0 where
   pub len : length codes ≡ n
   pub each : (b : ℕ) → b < n → IsGoto kernels s b (goto_at (slice_index codes b))

@@ -5,7 +5,7 @@ use std::alloc::AllocError;
 /// What a parser does at a kernel on a terminal, or on the end of a text.
 #[derive(Clone, Copy, Debug, PartialEq, Eq)]
 pub enum Action {
-    /// To go on behind the terminal, at the kernel of this number.
+    /// To go on after the terminal, at the kernel of this number.
     Shift(usize),
     /// To reduce by the production of this number.
     Reduce(usize),

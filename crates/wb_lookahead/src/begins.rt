@@ -1,4 +1,4 @@
-//! The terminals that begin what symbols derive, where terminals of a set stand behind them.
+//! The terminals that begin what symbols derive, where terminals of a set are after them.
 
 ghost use Rattle.std.specs.Prelude.{◌≡◌, ◌+◌, ◌↔◌, ℕ, All, IfOk, length};
 ghost use Rattle.wb_base.specs.Grammar.{GrammarView, IsSymbolBelow};
@@ -11,7 +11,7 @@ use wb_base::{Grammar, Symbol};
 use wb_grammar::Facts;
 use wb_termset::TermSet;
 
-// The terminals that begin the symbols with a terminal of the set behind them.
+// The terminals that begin the symbols with a terminal of the set after them.
 pub(crate) fn begin_of(
     alloc: Global,
     grammar: &Grammar,

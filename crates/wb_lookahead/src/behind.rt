@@ -1,4 +1,4 @@
-//! What stands behind the symbol behind a dot.
+//! What is after the symbol after a dot.
 
 ghost use Rattle.std.specs.Prelude.{◌≡◌, ◌∷◌, List, All};
 ghost use Rattle.wb_base.specs.declared.symbol.Symbol.{Symbol};
@@ -8,8 +8,8 @@ ghost use Rattle.wb_grammars.specs.Items.{after_dot};
 use wb_base::{Grammar, Symbol};
 use wb_items::Item;
 
-// The symbols behind the one behind the dot of an item.
-pub(crate) fn rest_behind(grammar: &Grammar, item: Item) -> &[Symbol]
+// The symbols after the one after the dot of an item.
+pub(crate) fn rest_after(grammar: &Grammar, item: Item) -> &[Symbol]
     ensures rest { (x : Symbol) (rest : List Symbol) → after_dot grammar.now item ≡ x ∷ rest → result.now ≡ rest }
     ensures below { All (IsSymbolBelow grammar.now.terminals grammar.now.nonterminals) result.now }
 {

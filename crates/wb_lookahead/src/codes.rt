@@ -1,4 +1,4 @@
-//! Actions and kernels behind nonterminals as numbers of 32 bits.
+//! Actions and kernels after nonterminals as numbers of 32 bits.
 
 ghost use Rattle.std.specs.Prelude.{◌≡◌, ◌<◌, ◌/◌, ◌%◌, IfOk, map};
 ghost use Rattle.wb_lookahead.specs.Codes.{action_at, goto_at};
@@ -58,7 +58,7 @@ pub(crate) fn action_from(code: u32) -> Action
     }
 }
 
-// The code of a kernel behind a nonterminal, or of none.
+// The code of a kernel after a nonterminal, or of none.
 pub(crate) fn goto_code(goto: Option<usize>) -> Result<u32, AllocError>
     ensures { IfOk result (λ code. goto_at code ≡ goto) }
 {

@@ -14,7 +14,7 @@ use wb_termset::TermSet;
 /// For each kernel of a grammar its actions, the kernels to which nonterminals lead, and its valid terminals.
 ///
 /// Kernels, terminals and nonterminals have their numbers, and the number of terminals stands for the end of a text. An action and
-/// a kernel behind a nonterminal take four bytes each, whether there is one or not.
+/// a kernel after a nonterminal take four bytes each, whether there is one or not.
 #[derive(Drop)]
 pub struct Tables {
     terminals: usize,
@@ -26,10 +26,10 @@ pub struct Tables {
 impl Model for Tables {
     ghost use Rattle.std.specs.Prelude.{length, map};
     ghost use Rattle.wb_lookahead.specs.Codes.{action_at, goto_at};
-    ghost use Rattle.wb_lookahead.specs.Contents.{TablesState};
+    ghost use Rattle.wb_lookahead.specs.Contents.{TablesView};
     ghost use Rattle.wb_lookahead.specs.Parts.{AreGrids};
 
-    ghost Value = { TablesState };
+    ghost Value = { TablesView };
 
     ghost view = { λ t. record { terminals = t.terminals; nonterminals = t.gotos.width; actions = map (map action_at) t.actions.rows; gotos = map (map goto_at) t.gotos.rows; valid = t.valid.items } };
 

@@ -14,9 +14,9 @@ pub(crate) struct Grid {
 
 impl Model for Grid {
     ghost use Rattle.std.specs.Prelude.{◌≡◌, ◌*◌, length};
-    ghost use Rattle.wb_lookahead.specs.Grids.{GridState, rows_of};
+    ghost use Rattle.wb_lookahead.specs.Grids.{GridView, rows_of};
 
-    ghost Value = { GridState };
+    ghost Value = { GridView };
 
     ghost view = { λ g. record { width = g.width; rows = rows_of g.height g.width g.codes.items } };
 
@@ -35,7 +35,7 @@ impl Grid {
         }
     }
 
-    // Adds a row behind the others.
+    // Adds a row after the others.
     pub(crate) fn add(&mut self, row: &[u32]) -> Result<(), AllocError>
         requires { length row.now ≡ self.old.width }
         ensures { OnOk result (self.new ≡ record { width = self.old.width; rows = self.old.rows ++ row.now ∷ [] }) }

@@ -5,16 +5,16 @@ ghost use Rattle.wb_base.specs.declared.symbol.Symbol.{Symbol};
 ghost use Rattle.wb_base.specs.declared.symbol.Symbol.TheVariants.{Terminal, Nonterminal};
 ghost use Rattle.wb_base.specs.Grammar.{IsSymbolBelow};
 ghost use Rattle.wb_termset.specs.Sets.{Has};
-ghost use Rattle.wb_grammars.specs.Rules.{IsRule};
+ghost use Rattle.wb_grammars.specs.Productions.{IsProduction};
 ghost use Rattle.wb_grammars.specs.Derives.{IsFirst};
-ghost use Rattle.wb_grammars.specs.Items.{after_dot, opening};
+ghost use Rattle.wb_grammars.specs.Items.{after_dot, initial_item};
 ghost use Rattle.wb_grammar.specs.Facts.{AreFacts};
 ghost use Rattle.wb_items.specs.Kernels.{AreKernels};
-ghost use Rattle.wb_items.specs.Table.{AreRules};
+ghost use Rattle.wb_items.specs.Table.{AreProductions};
 ghost use Rattle.wb_lookahead.specs.Spreading.{AreSound, FlowsTo, IsPassedOn, IsPlace, Lists, Spreads};
 
 use crate::begins::begin_of;
-use crate::behind::rest_behind;
+use crate::behind::rest_after;
 use crate::spread::{Place, move_on, open_all};
 use std::alloc::{AllocError, Global};
 use std::collections::VecDeque;
@@ -37,7 +37,7 @@ pub(crate) fn pass_on(
     requires kernels { AreKernels kernels.now }
     requires grammar { kernels.now.grammar ≡ grammar.now }
     requires facts { AreFacts grammar.now facts.now }
-    requires rules { AreRules grammar.now rules.now }
+    requires rules { AreProductions grammar.now rules.now }
     requires place { IsPlace kernels.now place }
     requires sound { AreSound kernels.now lookaheads.old waiting.old.items }
     ensures sound { OnOk result (AreSound kernels.now lookaheads.new waiting.new.items) }
@@ -49,13 +49,13 @@ pub(crate) fn pass_on(
     };
     let set = lookaheads.of(place.state, place.item).copy()?;
     move_on(kernels, place, symbol, &set, lookaheads, waiting)?;
-    open_behind(
+    open_after(
         alloc, grammar, facts, rules, kernels, place, symbol, &set, lookaheads, waiting,
     )
 }
 
-// Spreads what begins the symbols behind a nonterminal to the openings of its productions.
-fn open_behind(
+// Spreads what begins the symbols after a nonterminal to the initial items of its productions.
+fn open_after(
     alloc: Global,
     grammar: &Grammar,
     facts: &Facts,
@@ -70,7 +70,7 @@ fn open_behind(
     requires kernels { AreKernels kernels.now }
     requires grammar { kernels.now.grammar ≡ grammar.now }
     requires facts { AreFacts grammar.now facts.now }
-    requires rules { AreRules grammar.now rules.now }
+    requires rules { AreProductions grammar.now rules.now }
     requires place { IsPlace kernels.now place }
     requires symbol { (rest : List Symbol) × (after_dot grammar.now place.item ≡ symbol ∷ rest) }
     requires below { IsSymbolBelow grammar.now.terminals grammar.now.nonterminals symbol }
@@ -79,12 +79,12 @@ fn open_behind(
     requires sound { AreSound kernels.now lookaheads.old waiting.old.items }
     ensures sound { OnOk result (AreSound kernels.now lookaheads.new waiting.new.items) }
     ensures spreads { OnOk result (Spreads lookaheads.old waiting.old.items lookaheads.new waiting.new.items) }
-    ensures lists { OnOk result ((t u b q : ℕ) (rest right : List Symbol) → after_dot grammar.now place.item ≡ Nonterminal b ∷ rest → IsRule grammar.now q b right → Has set.now t → IsFirst grammar.now (rest ++ Terminal t ∷ []) u → Lists lookaheads.new place.state (opening q) u) }
+    ensures lists { OnOk result ((t u b q : ℕ) (rest right : List Symbol) → after_dot grammar.now place.item ≡ Nonterminal b ∷ rest → IsProduction grammar.now q b right → Has set.now t → IsFirst grammar.now (rest ++ Terminal t ∷ []) u → Lists lookaheads.new place.state (initial_item q) u) }
 {
     let Symbol::Nonterminal(nonterminal) = symbol else {
         return Ok(());
     };
-    let rest = rest_behind(grammar, place.item);
+    let rest = rest_after(grammar, place.item);
     let begin = begin_of(alloc, grammar, facts, rest, set)?;
     open_all(
         kernels,

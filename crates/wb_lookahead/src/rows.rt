@@ -1,4 +1,4 @@
-//! The actions, the kernels behind nonterminals, and the valid terminals of one kernel.
+//! The actions, the kernels after nonterminals, and the valid terminals of one kernel.
 
 ghost use Rattle.std.specs.Prelude.{◌≡◌, ◌≢◌, ◌<◌, ◌↔◌, ℕ, IfErr, IfOk, OnOk, length};
 ghost use Rattle.wb_termset.specs.Sets.{Has};

@@ -7,10 +7,10 @@ use std::alloc::{AllocError, Global};
 use std::test::Fail;
 use wb_base::{Grammar, Symbol};
 use wb_grammar::analyse;
-use wb_items::{Item, Kernels, Lookaheads, Looks};
+use wb_items::{Item, ItemLookahead, Kernels, Lookaheads};
 
 // Whether the terminal is in the set at the item and in no other of the row.
-fn is_only_at(row: &[Looks], item: Item, terminal: usize) -> bool {
+fn is_only_at(row: &[ItemLookahead], item: Item, terminal: usize) -> bool {
     for looks in row {
         let has = terminal < looks.set.count() && looks.set.contains(terminal);
         if has != (looks.item == item) {

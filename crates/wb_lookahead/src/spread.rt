@@ -4,13 +4,13 @@ ghost use Rattle.std.specs.Prelude.{◌≡◌, ◌+◌, ◌<◌, ◌^◌, ◌∷
 ghost use Rattle.wb_base.specs.declared.symbol.Symbol.{Symbol};
 ghost use Rattle.wb_base.specs.declared.symbol.Symbol.TheVariants.{Nonterminal};
 ghost use Rattle.wb_termset.specs.Sets.{Has};
-ghost use Rattle.wb_grammars.specs.Rules.{IsRule};
-ghost use Rattle.wb_grammars.specs.Items.{after_dot, advance, opening};
+ghost use Rattle.wb_grammars.specs.Productions.{IsProduction};
+ghost use Rattle.wb_grammars.specs.Items.{after_dot, advance, initial_item};
 ghost use Rattle.wb_grammars.specs.declared.item.Item.{Item};
 ghost use Rattle.wb_items.specs.Kernels.{AreKernels, LeadsTo, prefix_of};
 ghost use Rattle.wb_items.specs.Lookaheads.{items_in, row_of};
 ghost use Rattle.wb_lookahead.specs.Unions.{Unites};
-ghost use Rattle.wb_lookahead.specs.Spreading.{AreSound, FlowsTo, IsOpeningOf, IsPassedOn, IsPlace, Lists, Spreads};
+ghost use Rattle.wb_lookahead.specs.Spreading.{AreSound, FlowsTo, IsInitialItemOf, IsPassedOn, IsPlace, Lists, Spreads};
 
 use std::alloc::{AllocError, Global};
 use std::collections::VecDeque;
@@ -48,7 +48,7 @@ pub(crate) fn spread(
     Ok(())
 }
 
-// Puts a place behind the others that wait.
+// Puts a place after the others that wait.
 fn wait(waiting: &mut VecDeque<Place>, place: Place) -> Result<(), AllocError>
     ensures { OnOk result (waiting.new.items ≡ waiting.old.items ++ place ∷ []) }
 {
@@ -64,10 +64,10 @@ fn unite(place: Place, set: &TermSet, lookaheads: &mut Lookaheads) -> bool
     ensures { Unites lookaheads.old place.state place.item set.now result lookaheads.new }
 {
     let at = lookaheads.place(place.state, place.item);
-    lookaheads.unite_at(place.state, at, set)
+    lookaheads.union_at(place.state, at, set)
 }
 
-// Spreads the terminals to the item behind the symbol.
+// Spreads the terminals to the item after the symbol.
 pub(crate) fn move_on(
     kernels: &Kernels,
     place: Place,
@@ -97,7 +97,7 @@ pub(crate) fn move_on(
     spread(kernels, Place { state, item }, set, lookaheads, waiting)
 }
 
-// Spreads the terminals to the openings of these productions.
+// Spreads the terminals to the initial items of these productions.
 pub(crate) fn open_all(
     kernels: &Kernels,
     productions: &[usize],
@@ -107,13 +107,13 @@ pub(crate) fn open_all(
     waiting: &mut VecDeque<Place>,
 ) -> Result<(), AllocError>
     requires kernels { AreKernels kernels.now }
-    requires places { (q : ℕ) → Contains productions.now q → IsPlace kernels.now (record { state = state; item = opening q }) }
+    requires places { (q : ℕ) → Contains productions.now q → IsPlace kernels.now (record { state = state; item = initial_item q }) }
     requires len { length set.now ≡ kernels.now.grammar.terminals + 1 }
-    requires flows { (q t : ℕ) → Contains productions.now q → Has set.now t → FlowsTo kernels.now state (opening q) t }
+    requires flows { (q t : ℕ) → Contains productions.now q → Has set.now t → FlowsTo kernels.now state (initial_item q) t }
     requires sound { AreSound kernels.now lookaheads.old waiting.old.items }
     ensures sound { OnOk result (AreSound kernels.now lookaheads.new waiting.new.items) }
     ensures spreads { OnOk result (Spreads lookaheads.old waiting.old.items lookaheads.new waiting.new.items) }
-    ensures lists { OnOk result ((q t : ℕ) → Contains productions.now q → Has set.now t → Lists lookaheads.new state (opening q) t) }
+    ensures lists { OnOk result ((q t : ℕ) → Contains productions.now q → Has set.now t → Lists lookaheads.new state (initial_item q) t) }
 {
     'productions: for &production in productions {
         let item = Item { production, dot: 0 };

@@ -46,7 +46,7 @@ fn action(grammar: &Grammar, made: &Tables, state: usize, terminal: usize) -> Ac
     }
 }
 
-// The kernel behind a nonterminal, where there is one.
+// The kernel after a nonterminal, where there is one.
 fn goto(grammar: &Grammar, made: &Tables, state: usize, nonterminal: usize) -> usize
     requires { made.now.nonterminals ≡ grammar.now.nonterminals }
 {

@@ -7,7 +7,7 @@ use std::alloc::{AllocError, Global};
 use std::test::Fail;
 use wb_base::{Grammar, Symbol};
 use wb_grammar::analyse;
-use wb_items::{Kernels, Lookaheads, Looks};
+use wb_items::{ItemLookahead, Kernels, Lookaheads};
 use wb_termset::TermSet;
 
 const A: Symbol = Symbol::Nonterminal(0);
@@ -58,7 +58,7 @@ pub(crate) fn is_mask(set: &TermSet, mask: u64) -> bool {
 }
 
 // Whether the sets of a row are these, in order.
-fn are_masks(row: &[Looks], masks: &[u64]) -> bool {
+fn are_masks(row: &[ItemLookahead], masks: &[u64]) -> bool {
     if row.len() != masks.len() {
         return false;
     }

@@ -1,5 +1,5 @@
 use Rattle.std.proofs.Common.{◌≡◌, rules, ◌<◌, length, ◌+◌, ◌++◌, arith, sym, subst}
-use Rattle.wb_grammars.proofs.RuleLemmas.{rule_read}
+use Rattle.wb_grammars.proofs.ProductionLemmas.{production_read}
 use Rattle.wb_grammar.specs.Edges.{edges_of}
 use Rattle.wb_grammar.proofs.EdgeLemmas.{EdgesBefore, edges_more, edges_exact, edges_below}
 use Rattle.wb_grammar.proofs.edges.edges.Goals as goal
@@ -8,7 +8,7 @@ pub productions-preserved : goal.productions-preserved
 productions-preserved c =
     let g = c.args.grammar.now in
     let within : c.productions.production < length g.productions = omega arith in
-    let rule = rule_read g c.productions.production c.left.result c.right.result.now within c.left.ensures.left c.right.ensures.right in
+    let rule = production_read g c.productions.production c.left.result c.right.result.now within c.left.ensures.left c.right.ensures.right in
     let is : c.add_edges.new.edges.items ≡ c.productions.edges.items ++ edges_of c.left.result c.part_of-symbols.result.now = search rules in
     subst (λ es. EdgesBefore c.args.part g c.args.nullable.now es (c.productions.production + 1)) (sym is)
     (edges_more c.args.part g c.args.nullable.now c.productions.edges.items c.productions.production c.left.result c.right.result.now c.part_of-symbols.result.now rule c.part_of-symbols.ensures c.productions.invariant)

@@ -1,7 +1,7 @@
 use Rattle.std.proofs.Common.{sym, subst}
 use Rattle.wb_grammar.specs.declared.part.Part.TheVariants.{Corner, Hidden}
 use Rattle.wb_grammar.specs.Edges.{AreEdges}
-use Rattle.wb_grammar.proofs.HiddenTestLemmas.{no_hidden, path_ring}
+use Rattle.wb_grammar.proofs.HiddenTestLemmas.{no_hidden, path_cycle}
 use Rattle.wb_grammar.proofs.hidden.test_hidden_left_recursion.Goals as goal
 
 pub returns-in-None-clause-ok : goal.returns-in-None-clause-ok
@@ -21,7 +21,7 @@ returns-clause-refused c =
       c.requires.reduced,
       c.requires.no_unit_cycle,
       rw c.from_vec.ensures
-          (path_ring g s c.deref.result.now c.deref-2.result.now c.in-Some.ring.items c.requires.nullable
+          (path_cycle g s c.deref.result.now c.deref-2.result.now c.in-Some.ring.items c.requires.nullable
           (subst (AreEdges Corner g s) (sym c.deref.ensures.value) c.in_ok-corners.ensures.exact)
           (subst (AreEdges Hidden g s) (sym c.deref-2.ensures.value) c.in_ok-hidden.ensures.exact) ring),
     )

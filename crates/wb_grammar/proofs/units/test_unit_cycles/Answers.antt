@@ -1,4 +1,4 @@
-use Rattle.wb_grammar.proofs.CycleLemmas.{order_no_cycle, cycle_unit_ring}
+use Rattle.wb_grammar.proofs.CycleLemmas.{order_no_cycle, unit_cycle_of_edges}
 use Rattle.wb_grammar.proofs.units.test_unit_cycles.Goals as goal
 
 pub returns-in-Order-clause-ok : goal.returns-in-Order-clause-ok
@@ -14,4 +14,4 @@ returns-clause-refused c =
     let g = c.args.grammar.now in
     let edges = c.in_ok-edges.edges.items in
     let cycle = rw c.in-Cycle.is at c.in_ok-order_of.ensures.ok in
-    (c.requires.reduced, rw c.from_vec.ensures (cycle_unit_ring g c.args.nullable.now edges c.in-Cycle.list.items c.requires.nullable c.in_ok-edges.ensures.exact (rw (← c.deref.ensures.value) cycle)))
+    (c.requires.reduced, rw c.from_vec.ensures (unit_cycle_of_edges g c.args.nullable.now edges c.in-Cycle.list.items c.requires.nullable c.in_ok-edges.ensures.exact (rw (← c.deref.ensures.value) cycle)))

@@ -1,4 +1,4 @@
-use Rattle.wb_items.specs.Passes.{AdvancesUpTo}
+use Rattle.wb_items.specs.Inner.Passes.{AdvancesUpTo}
 use Rattle.wb_items.proofs.advance.advances.Given as goal
 
 abbrev pub invariant-places : goal.invariant-places

@@ -1,15 +1,15 @@
 use Rattle.std.proofs.Common.{sym, subst}
 use Rattle.std.specs.Prelude.{Contains, ◌↔◌}
 use Rattle.wb_grammars.specs.declared.item.Item.{Item}
-use Rattle.wb_items.specs.Advances.{items_of}
-use Rattle.wb_items.specs.Passes.{AreRising}
+use Rattle.wb_items.specs.Inner.Advances.{items_of}
+use Rattle.wb_items.specs.Inner.Passes.{AreRising}
 use Rattle.wb_items.proofs.ListLemmas.{at_some}
 use Rattle.wb_items.proofs.AdvanceLemmas.{run_rises}
 use Rattle.wb_items.proofs.MoveLemmas.{run_kernel, moves_more}
 use Rattle.wb_items.proofs.table.add_move.Goals as goal
 
-pub kernel_of-requires : goal.kernel_of-requires
-kernel_of-requires c = subst (λ run. AreRising (items_of run)) (sym c.run_of.ensures) (run_rises c.args.list.now c.symbol_at-symbol.result c.args.place c.run_end-end.result c.requires.rising c.run_end-end.ensures)
+pub kernel_after-requires : goal.kernel_after-requires
+kernel_after-requires c = subst (λ run. AreRising (items_of run)) (sym c.run_of.ensures) (run_rises c.args.list.now c.symbol_at-symbol.result c.args.place c.run_end-end.result c.requires.rising c.run_end-end.ensures)
 
 pub number_of-requires-clause-kernel : goal.number_of-requires-clause-kernel
 number_of-requires-clause-kernel c = λ prefix at.

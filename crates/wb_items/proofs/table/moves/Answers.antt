@@ -1,7 +1,7 @@
 use Rattle.std.proofs.Common.{◌≤◌, List, length, arith, subst, sym}
 use Rattle.wb_items.specs.declared.advance.Advance.{Advance}
-use Rattle.wb_items.specs.Advances.{AreAdvancesRising}
-use Rattle.wb_items.specs.Passes.{MovesUpTo}
+use Rattle.wb_items.specs.Inner.Advances.{AreAdvancesRising}
+use Rattle.wb_items.specs.Inner.Passes.{MovesUpTo}
 use Rattle.wb_items.proofs.AdvanceLemmas.{advances_list}
 use Rattle.wb_items.proofs.MoveLemmas.{moves_start, moves_now, moves_then, moves_done}
 use Rattle.wb_items.proofs.table.moves.Goals as goal

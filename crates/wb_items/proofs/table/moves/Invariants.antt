@@ -1,5 +1,5 @@
 use Rattle.std.proofs.Common.{◌-◌, ◌≤◌, length}
-use Rattle.wb_items.specs.Passes.{MovesUpTo}
+use Rattle.wb_items.specs.Inner.Passes.{MovesUpTo}
 use Rattle.wb_items.proofs.table.moves.Given as goal
 
 abbrev pub invariant-runs : goal.invariant-runs

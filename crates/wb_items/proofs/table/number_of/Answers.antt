@@ -1,6 +1,7 @@
 use Rattle.std.proofs.Common.{sym, subst}
-use Rattle.wb_items.specs.Found.{FoundState}
-use Rattle.wb_items.specs.Table.{SameItems, AreKernelsOf, Grows, Leads}
+use Rattle.wb_items.specs.Index.{IndexView}
+use Rattle.wb_items.specs.Table.{SameItems, AreKernelsOf, Leads}
+use Rattle.wb_items.specs.Inner.Growing.{Grows}
 use Rattle.wb_items.proofs.TableLemmas.{prefix_at, leads_known}
 use Rattle.wb_items.proofs.table.number_of.Goals as goal
 
@@ -12,10 +13,10 @@ returns-in-Some-clause-leads c =
     (c.requires.kernel prefix at) there (subst (SameItems kernel) c.as_slice.ensures same)
 
 pub returns-clause-kernels : goal.returns-clause-kernels
-returns-clause-kernels c = subst (λ (f : FoundState). AreKernelsOf c.args.grammar.now f.prefixes f.kernels) (sym c.note.ensures) c.in_ok-next.ensures.kernels
+returns-clause-kernels c = subst (λ (f : IndexView). AreKernelsOf c.args.grammar.now f.prefixes f.kernels) (sym c.put.ensures) c.in_ok-next.ensures.kernels
 
 pub returns-clause-grows : goal.returns-clause-grows
-returns-clause-grows c = subst (Grows c.args.found.now) (sym c.note.ensures) c.in_ok-next.ensures.grows
+returns-clause-grows c = subst (Grows c.args.found.now) (sym c.put.ensures) c.in_ok-next.ensures.grows
 
 pub returns-clause-leads : goal.returns-clause-leads
-returns-clause-leads c = subst (λ (f : FoundState). Leads c.args.grammar.now f.prefixes c.args.state c.args.symbol c.in_ok-next.next) (sym c.note.ensures) c.in_ok-next.ensures.leads
+returns-clause-leads c = subst (λ (f : IndexView). Leads c.args.grammar.now f.prefixes c.args.state c.args.symbol c.in_ok-next.next) (sym c.put.ensures) c.in_ok-next.ensures.leads

@@ -5,12 +5,12 @@ use Rattle.wb_lookahead.proofs.spread.unite.Goals as goal
 
 pub returns : goal.returns
 returns c =
-    let (looks, union, at, joined, grew, is) = c.unite_at.ensures.after in
+    let (looks, union, at, joined, grew, is) = c.union_at.ensures.after in
     record {
       place = c.place-at.result;
       row = slice_set (row_of c.args.lookaheads.now c.args.place.state) c.place-at.result (record looks { set = union });
       at = c.place-at.ensures;
       in_row = record { looks = looks; union = union; at = at; joined = joined; is = refl; grew = grew };
       is = is;
-      stayed = c.unite_at.ensures.stayed;
+      stayed = c.union_at.ensures.stayed;
     }

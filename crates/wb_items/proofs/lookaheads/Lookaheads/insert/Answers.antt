@@ -1,4 +1,4 @@
-use Rattle.wb_items.proofs.LooksLemmas.{item_there}
+use Rattle.wb_items.proofs.ItemLookaheadLemmas.{item_there}
 use Rattle.wb_items.specs.Lookaheads.{row_of}
 use Rattle.wb_items.proofs.lookaheads.Lookaheads.insert.Goals as goal
 

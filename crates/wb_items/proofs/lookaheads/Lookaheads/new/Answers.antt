@@ -1,5 +1,5 @@
 use Rattle.std.proofs.Common.{◌<◌, length, arith, ◌∙◌}
-use Rattle.wb_items.proofs.LooksLemmas.{looks_row}
+use Rattle.wb_items.proofs.ItemLookaheadLemmas.{looks_row}
 use Rattle.wb_items.proofs.lookaheads.Lookaheads.new.Goals as goal
 
 pub states-preserved : goal.states-preserved

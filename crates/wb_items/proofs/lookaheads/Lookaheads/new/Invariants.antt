@@ -1,4 +1,4 @@
-use Rattle.wb_items.proofs.LooksLemmas.{RowsUpTo}
+use Rattle.wb_items.proofs.ItemLookaheadLemmas.{RowsUpTo}
 use Rattle.wb_items.proofs.lookaheads.Lookaheads.new.Given as goal
 
 abbrev pub invariant-states : goal.invariant-states

@@ -1,5 +1,0 @@
-use Rattle.std.proofs.Common.{◌≡◌, [], replicate}
-use Rattle.wb_items.proofs.rules.empty_rows.Given as goal
-
-abbrev pub invariant-rows : goal.invariant-rows
-invariant-rows l = l.rows.items ≡ replicate l._row []

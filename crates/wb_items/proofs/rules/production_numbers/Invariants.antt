@@ -1,5 +1,0 @@
-use Rattle.wb_items.specs.Passes.{RowsUpTo}
-use Rattle.wb_items.proofs.rules.production_numbers.Given as goal
-
-abbrev pub invariant-productions : goal.invariant-productions
-invariant-productions l = RowsUpTo l.grammar l.rows.items l.production

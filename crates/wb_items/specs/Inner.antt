@@ -1,0 +1,7 @@
+-- What loops keep, and words of private functions.
+pub mod Advances
+pub mod Closing
+pub mod Growing
+pub mod Passes
+pub mod Searches
+pub mod Steps

@@ -1,0 +1,112 @@
+//! The closure of a kernel.
+
+ghost use Rattle.std.specs.Prelude.{◌≡◌, ◌↔◌, ◌++◌, ℕ, List, IfOk, OnOk, Contains, map, ◌<◌, ◌+◌, vec_len, length, slice_get, Some};
+ghost use Rattle.wb_grammars.specs.declared.item.Item.{Item};
+ghost use Rattle.wb_grammars.specs.Items.{initial_item};
+ghost use Rattle.wb_grammars.specs.Closure.{InClosure};
+ghost use Rattle.wb_items.specs.Inner.Closing.{IsClosing};
+ghost use Rattle.wb_items.specs.Kernels.{AreInOrder};
+ghost use Rattle.wb_items.specs.Inner.Passes.{AreRising, StrictUpTo};
+ghost use Rattle.wb_items.specs.Table.{AreProductions};
+
+use crate::dot::{is_item, item_at, nonterminal_after};
+use crate::productions_of::Numbers;
+use std::alloc::{AllocError, Global};
+use wb_base::{Grammar, Sequence, push};
+use wb_grammars::Item;
+use wb_termset::TermSet;
+
+// The items of the closure of a kernel, in order.
+pub(crate) fn close(
+    alloc: Global,
+    grammar: &Grammar,
+    rules: &[Numbers],
+    kernel: &[Item],
+) -> Result<Sequence<Item>, AllocError>
+    requires { AreProductions grammar.now rules.now }
+    ensures exact { IfOk result (λ closure. (item : Item) → Contains closure item ↔ InClosure grammar.now (Contains kernel.now) item) }
+    ensures in_order { IfOk result (λ closure. AreInOrder closure) }
+{
+    let mut opened = TermSet::new(alloc, grammar.nonterminals())?;
+    let mut closure = Vec::from_slice(alloc, kernel)?;
+    let mut place = 0;
+    'places: while place < closure.len() {
+        open(grammar, rules, kernel, place, &mut opened, &mut closure)?;
+        place += 1;
+    }
+    closure.sort()?;
+    let list = deduplicated(alloc, &closure)?;
+    Ok(list)
+}
+
+// The same items, each once.
+fn deduplicated(alloc: Global, items: &[Item]) -> Result<Sequence<Item>, AllocError>
+    requires { AreRising items.now }
+    ensures same { IfOk result (λ list. (item : Item) → Contains list item ↔ Contains items.now item) }
+    ensures in_order { IfOk result (λ list. AreInOrder list) }
+{
+    let mut list = Vec::new(alloc);
+    'places: for place in 0..items.len() {
+        add_item(items, place, &mut list)?;
+    }
+    Ok(Sequence::from_vec(list))
+}
+
+// Adds the item at a place, if it isn't the one before.
+fn add_item(items: &[Item], place: usize, list: &mut Vec<Item>) -> Result<(), AllocError>
+    requires rising { AreRising items.now }
+    requires place { place < length items.now }
+    requires before { StrictUpTo items.now list.old.items place }
+    ensures { OnOk result (StrictUpTo items.now list.new.items (place + 1)) }
+{
+    let item = item_at(items, place);
+    if place > 0 {
+        let before = item_at(items, place - 1);
+        if is_item(before, item) {
+            return Ok(());
+        }
+    }
+    push(list, item)?;
+    Ok(())
+}
+
+// Adds the initial items of the nonterminal after the dot at a place, unless they are there.
+fn open(
+    grammar: &Grammar,
+    rules: &[Numbers],
+    kernel: &[Item],
+    place: usize,
+    opened: &mut TermSet,
+    closure: &mut Vec<Item>,
+) -> Result<(), AllocError>
+    requires rules { AreProductions grammar.now rules.now }
+    requires place { place < vec_len closure.old }
+    requires before { IsClosing grammar.now kernel.now opened.old closure.old.items place }
+    ensures { OnOk result (IsClosing grammar.now kernel.now opened.new closure.new.items (place + 1)) }
+{
+    let item = item_at(closure, place);
+    if let Some(nonterminal) = nonterminal_after(grammar, item) {
+        if opened.insert(nonterminal) {
+            add_initial_items(numbers_at(rules, nonterminal), closure)?;
+        }
+    }
+    Ok(())
+}
+
+// The productions of a nonterminal.
+fn numbers_at(rules: &[Numbers], nonterminal: usize) -> &[usize]
+    requires { nonterminal < length rules.now }
+    ensures { slice_get rules.now nonterminal ≡ Some result.now }
+{
+    rules[nonterminal].as_slice()
+}
+
+// Adds the items of these productions with the dot at the left end.
+fn add_initial_items(productions: &[usize], closure: &mut Vec<Item>) -> Result<(), AllocError>
+    ensures { OnOk result (closure.new.items ≡ closure.old.items ++ map initial_item productions.now) }
+{
+    'productions: for &production in productions {
+        push(closure, Item { production, dot: 0 })?;
+    }
+    Ok(())
+}

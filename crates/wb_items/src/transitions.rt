@@ -1,0 +1,74 @@
+//! The moves from a kernel.
+
+ghost use Rattle.std.specs.Prelude.{◌≡◌, ◌<◌, ℕ, IfSome, IfNone, Contains, length, Some, slice_get};
+ghost use Rattle.std.specs.Ordering.{MatchOrdering};
+ghost use Rattle.wb_base.specs.declared.symbol.Symbol.{Symbol};
+ghost use Rattle.wb_items.specs.Order.{SymbolPrecedes};
+ghost use Rattle.wb_items.specs.Table.{AreMovesInOrder};
+
+use std::cmp::Ordering;
+use wb_base::Symbol;
+
+/// A symbol, and the number of the kernel that it leads to.
+#[derive(Clone, Copy, Drop)]
+pub struct Move {
+    pub symbol: Symbol,
+    pub state: usize,
+}
+
+// Where the row leads by a symbol, found by binary search.
+pub(crate) fn find_move(row: &[Move], symbol: Symbol) -> Option<usize>
+    requires { AreMovesInOrder row.now }
+    ensures found { IfSome result (λ state. Contains row.now (record { symbol = symbol; state = state })) }
+    ensures none { IfNone result ((state : ℕ) → ¬ Contains row.now (record { symbol = symbol; state = state })) }
+{
+    let mut low = 0;
+    let mut high = row.len();
+    'halves: while low < high {
+        let middle = low + (high - low) / 2;
+        let found = move_at(row, middle);
+        match compare_symbols(found.symbol, symbol) {
+            Ordering::Less => low = middle + 1,
+            Ordering::Equal => return Some(found.state),
+            Ordering::Greater => high = middle,
+        }
+    }
+    None
+}
+
+// The move at a place.
+fn move_at(row: &[Move], place: usize) -> Move
+    requires { place < length row.now }
+    ensures { slice_get row.now place ≡ Some result }
+{
+    row[place]
+}
+
+// Which of the symbols stands first.
+fn compare_symbols(one: Symbol, other: Symbol) -> Ordering
+    ensures { MatchOrdering result (SymbolPrecedes one other) (one ≡ other) (SymbolPrecedes other one) }
+{
+    match one {
+        Symbol::Terminal(number) => match other {
+            Symbol::Terminal(second) => compare_numbers(number, second),
+            Symbol::Nonterminal(_) => Ordering::Less,
+        },
+        Symbol::Nonterminal(number) => match other {
+            Symbol::Terminal(_) => Ordering::Greater,
+            Symbol::Nonterminal(second) => compare_numbers(number, second),
+        },
+    }
+}
+
+// Which of the numbers is less.
+fn compare_numbers(one: usize, other: usize) -> Ordering
+    ensures { MatchOrdering result (one < other) (one ≡ other) (other < one) }
+{
+    if one < other {
+        Ordering::Less
+    } else if other < one {
+        Ordering::Greater
+    } else {
+        Ordering::Equal
+    }
+}
