@@ -1,3 +1,5 @@
-pub mod CallerLemmas
 pub mod DigitLemmas
+pub mod EntryLemmas
 pub mod KeptLemmas
+pub mod KindLemmas
+pub mod StandardLemmas

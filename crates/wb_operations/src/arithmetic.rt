@@ -1,9 +1,12 @@
-//! The standard operations on numbers that give a number.
+//! What do the standard operations on numbers that give a number compute?
+//!
+//! Each answers its row of `specs/Standard`; which names and numbers they have is in `standard`.
 
 ghost use Rattle.std.specs.Prelude.{◌≡◌, ◌≢◌, ◌+ℤ◌, ◌-ℤ◌, ◌*ℤ◌, ℤ, pos, neg_ℤ, int_div, int_rem, FitsSigned, SomeIff};
 ghost use Rattle.std.specs.Int.{w64, CanDivide};
-ghost use Rattle.wb_operations.specs.Outcome.{FitKinds, Answers, HasMemory, plains_of};
-ghost use Rattle.wb_operations.specs.Takes.{one_int, two_ints, of_int, of_ints};
+ghost use Rattle.wb_operations.specs.Given.{FitKinds, IsGiven, HasMemory, plains_of};
+ghost use Rattle.wb_operations.specs.Takes.{one_int, two_ints};
+ghost use Rattle.wb_operations.specs.Standard.{standard};
 ghost use Rattle.wb_operations.specs.Rows.{inside, quotient, remainder};
 
 use crate::OperationRefusal;
@@ -16,7 +19,7 @@ pub const ZERO_DIVISOR: u32 = 2;
 
 // The number, where there is one.
 fn inside(found: Option<i64>) -> Result<Value, OperationRefusal>
-    ensures answer { (z : ℤ) → SomeIff found (FitsSigned w64 z) z → Answers (inside z) result }
+    ensures answer { (z : ℤ) → SomeIff found (FitsSigned w64 z) z → IsGiven (inside z) result }
     ensures memory { HasMemory result }
 {
     match found {
@@ -27,7 +30,7 @@ fn inside(found: Option<i64>) -> Result<Value, OperationRefusal>
 
 // The quotient toward zero.
 fn quotient(x: i64, y: i64) -> Result<Value, OperationRefusal>
-    ensures answer { Answers (quotient x y) result }
+    ensures answer { IsGiven (quotient x y) result }
     ensures memory { HasMemory result }
 {
     if y == 0 {
@@ -41,7 +44,7 @@ fn quotient(x: i64, y: i64) -> Result<Value, OperationRefusal>
 
 // What is left by the quotient toward zero.
 fn remainder(x: i64, y: i64) -> Result<Value, OperationRefusal>
-    ensures answer { Answers (remainder x y) result }
+    ensures answer { IsGiven (remainder x y) result }
     ensures memory { HasMemory result }
 {
     if y == 0 {
@@ -54,9 +57,10 @@ fn remainder(x: i64, y: i64) -> Result<Value, OperationRefusal>
 }
 
 /// The first and the second together, with fault 1 outside 64 bits. Takes no memory.
+#[tactic(auto, unfolding(crate::specs::Standard::standard_at, crate::specs::Standard::standard_operations))]
 pub fn standard_add(arguments: &[Value]) -> Result<Value, OperationRefusal>
     requires { FitKinds two_ints arguments.now }
-    ensures answer { Answers (of_ints (λ x y. inside (x +ℤ y)) (plains_of arguments.now)) result }
+    ensures answer { IsGiven (standard 0 (plains_of arguments.now)) result }
     ensures memory { HasMemory result }
 {
     match arguments {
@@ -66,9 +70,10 @@ pub fn standard_add(arguments: &[Value]) -> Result<Value, OperationRefusal>
 }
 
 /// The first less the second, with fault 1 outside 64 bits. Takes no memory.
+#[tactic(auto, unfolding(crate::specs::Standard::standard_at, crate::specs::Standard::standard_operations))]
 pub fn standard_sub(arguments: &[Value]) -> Result<Value, OperationRefusal>
     requires { FitKinds two_ints arguments.now }
-    ensures answer { Answers (of_ints (λ x y. inside (x -ℤ y)) (plains_of arguments.now)) result }
+    ensures answer { IsGiven (standard 1 (plains_of arguments.now)) result }
     ensures memory { HasMemory result }
 {
     match arguments {
@@ -78,9 +83,10 @@ pub fn standard_sub(arguments: &[Value]) -> Result<Value, OperationRefusal>
 }
 
 /// The first times the second, with fault 1 outside 64 bits. Takes no memory.
+#[tactic(auto, unfolding(crate::specs::Standard::standard_at, crate::specs::Standard::standard_operations))]
 pub fn standard_mul(arguments: &[Value]) -> Result<Value, OperationRefusal>
     requires { FitKinds two_ints arguments.now }
-    ensures answer { Answers (of_ints (λ x y. inside (x *ℤ y)) (plains_of arguments.now)) result }
+    ensures answer { IsGiven (standard 2 (plains_of arguments.now)) result }
     ensures memory { HasMemory result }
 {
     match arguments {
@@ -90,9 +96,10 @@ pub fn standard_mul(arguments: &[Value]) -> Result<Value, OperationRefusal>
 }
 
 /// The first by the second, toward zero, with fault 2 for a zero divisor and fault 1 outside 64 bits. Takes no memory.
+#[tactic(auto, unfolding(crate::specs::Standard::standard_at, crate::specs::Standard::standard_operations))]
 pub fn standard_div(arguments: &[Value]) -> Result<Value, OperationRefusal>
     requires { FitKinds two_ints arguments.now }
-    ensures answer { Answers (of_ints quotient (plains_of arguments.now)) result }
+    ensures answer { IsGiven (standard 3 (plains_of arguments.now)) result }
     ensures memory { HasMemory result }
 {
     match arguments {
@@ -102,9 +109,10 @@ pub fn standard_div(arguments: &[Value]) -> Result<Value, OperationRefusal>
 }
 
 /// What is left by that quotient, with the sign of the first and the faults of the quotient. Takes no memory.
+#[tactic(auto, unfolding(crate::specs::Standard::standard_at, crate::specs::Standard::standard_operations))]
 pub fn standard_rem(arguments: &[Value]) -> Result<Value, OperationRefusal>
     requires { FitKinds two_ints arguments.now }
-    ensures answer { Answers (of_ints remainder (plains_of arguments.now)) result }
+    ensures answer { IsGiven (standard 4 (plains_of arguments.now)) result }
     ensures memory { HasMemory result }
 {
     match arguments {
@@ -114,9 +122,10 @@ pub fn standard_rem(arguments: &[Value]) -> Result<Value, OperationRefusal>
 }
 
 /// The negative, with fault 1 outside 64 bits. Takes no memory.
+#[tactic(auto, unfolding(crate::specs::Standard::standard_at, crate::specs::Standard::standard_operations))]
 pub fn standard_neg(arguments: &[Value]) -> Result<Value, OperationRefusal>
     requires { FitKinds one_int arguments.now }
-    ensures answer { Answers (of_int (λ x. inside (neg_ℤ x)) (plains_of arguments.now)) result }
+    ensures answer { IsGiven (standard 5 (plains_of arguments.now)) result }
     ensures memory { HasMemory result }
 {
     match arguments {

@@ -1,19 +1,23 @@
-//! The standard operations that give a truth value.
+//! What do the standard operations that give a truth value compute?
+//!
+//! Each answers its row of `specs/Standard`; which names and numbers they have is in `standard`.
 
 ghost use Rattle.std.specs.Prelude.{◌&&◌, ◌||◌, not, int_lt};
 ghost use Rattle.std.specs.Ordering.{int_eq};
 ghost use Rattle.std.specs.Str.{bytes_eq};
 ghost use Rattle.wb_values.specs.Tree.{bool};
-ghost use Rattle.wb_operations.specs.Outcome.{value, FitKinds, Answers, HasMemory, plains_of};
-ghost use Rattle.wb_operations.specs.Takes.{one_bool, two_ints, two_bools, two_texts, of_ints, of_bool, of_bools, of_texts};
+ghost use Rattle.wb_operations.specs.Given.{gives, FitKinds, IsGiven, HasMemory, plains_of};
+ghost use Rattle.wb_operations.specs.Takes.{one_bool, two_ints, two_bools, two_texts};
+ghost use Rattle.wb_operations.specs.Standard.{standard};
 
 use crate::OperationRefusal;
 use wb_values::Value;
 
 /// Whether two numbers are equal. Takes no memory.
+#[tactic(auto, unfolding(crate::specs::Standard::standard_at, crate::specs::Standard::standard_operations))]
 pub fn standard_eq(arguments: &[Value]) -> Result<Value, OperationRefusal>
     requires { FitKinds two_ints arguments.now }
-    ensures answer { Answers (of_ints (λ x y. value (bool (int_eq x y))) (plains_of arguments.now)) result }
+    ensures answer { IsGiven (standard 6 (plains_of arguments.now)) result }
     ensures memory { HasMemory result }
 {
     match arguments {
@@ -23,9 +27,10 @@ pub fn standard_eq(arguments: &[Value]) -> Result<Value, OperationRefusal>
 }
 
 /// Whether the first number is below the second. Takes no memory.
+#[tactic(auto, unfolding(crate::specs::Standard::standard_at, crate::specs::Standard::standard_operations))]
 pub fn standard_less(arguments: &[Value]) -> Result<Value, OperationRefusal>
     requires { FitKinds two_ints arguments.now }
-    ensures answer { Answers (of_ints (λ x y. value (bool (int_lt x y))) (plains_of arguments.now)) result }
+    ensures answer { IsGiven (standard 7 (plains_of arguments.now)) result }
     ensures memory { HasMemory result }
 {
     match arguments {
@@ -35,9 +40,10 @@ pub fn standard_less(arguments: &[Value]) -> Result<Value, OperationRefusal>
 }
 
 /// Whether two texts have the same bytes. Takes no memory.
+#[tactic(auto, unfolding(crate::specs::Standard::standard_at, crate::specs::Standard::standard_operations))]
 pub fn standard_same(arguments: &[Value]) -> Result<Value, OperationRefusal>
     requires { FitKinds two_texts arguments.now }
-    ensures answer { Answers (of_texts (λ x y. value (bool (bytes_eq x y))) (plains_of arguments.now)) result }
+    ensures answer { IsGiven (standard 8 (plains_of arguments.now)) result }
     ensures memory { HasMemory result }
 {
     match arguments {
@@ -47,9 +53,10 @@ pub fn standard_same(arguments: &[Value]) -> Result<Value, OperationRefusal>
 }
 
 /// Whether it doesn't hold. Takes no memory.
+#[tactic(auto, unfolding(crate::specs::Standard::standard_at, crate::specs::Standard::standard_operations))]
 pub fn standard_not(arguments: &[Value]) -> Result<Value, OperationRefusal>
     requires { FitKinds one_bool arguments.now }
-    ensures answer { Answers (of_bool (λ x. value (bool (not x))) (plains_of arguments.now)) result }
+    ensures answer { IsGiven (standard 9 (plains_of arguments.now)) result }
     ensures memory { HasMemory result }
 {
     match arguments {
@@ -59,9 +66,10 @@ pub fn standard_not(arguments: &[Value]) -> Result<Value, OperationRefusal>
 }
 
 /// Whether both hold. Takes no memory.
+#[tactic(auto, unfolding(crate::specs::Standard::standard_at, crate::specs::Standard::standard_operations))]
 pub fn standard_and(arguments: &[Value]) -> Result<Value, OperationRefusal>
     requires { FitKinds two_bools arguments.now }
-    ensures answer { Answers (of_bools (λ x y. value (bool (x && y))) (plains_of arguments.now)) result }
+    ensures answer { IsGiven (standard 10 (plains_of arguments.now)) result }
     ensures memory { HasMemory result }
 {
     match arguments {
@@ -71,9 +79,10 @@ pub fn standard_and(arguments: &[Value]) -> Result<Value, OperationRefusal>
 }
 
 /// Whether one or both hold. Takes no memory.
+#[tactic(auto, unfolding(crate::specs::Standard::standard_at, crate::specs::Standard::standard_operations))]
 pub fn standard_or(arguments: &[Value]) -> Result<Value, OperationRefusal>
     requires { FitKinds two_bools arguments.now }
-    ensures answer { Answers (of_bools (λ x y. value (bool (x || y))) (plains_of arguments.now)) result }
+    ensures answer { IsGiven (standard 11 (plains_of arguments.now)) result }
     ensures memory { HasMemory result }
 {
     match arguments {

@@ -1,41 +1,66 @@
-ghost use Rattle.std.specs.Prelude.{◌≡◌, ◌<◌, List, [], ◌∷◌, ◌++◌, All, map, length, Contains, IfOk, OnErr, OnOk, IfSome, IfNone, Some, slice_get};
-ghost use Rattle.wb_operations.specs.Outcome.{FitKinds, IsPlainKind, Answers, GivesKind, plains_of};
+//! How are operations looked up and called, whatever they mean?
+//!
+//! The standard ones need no closures; others are boxed by the caller. That all answer what M means is the clause `kept` of each
+//! call: a type cannot keep it beside a boxed closure.
+
+ghost use Rattle.std.specs.Prelude.{◌≡◌, ◌+◌, ◌<◌, List, [], ◌∷◌, ◌++◌, All, length, IfOk, OnErr, OnOk, IfSome, IfNone, Some, slice_get};
+ghost use Rattle.wb_values.specs.Kinds.{AreOfKinds};
+ghost use Rattle.wb_operations.specs.Given.{FitKinds, IsPlainKind, IsGiven, GivesKind, plains_of};
+ghost use Rattle.wb_operations.specs.Operations.{HasOperation, IsOperation};
+ghost use Rattle.wb_operations.specs.Standard.{standard, standard_signatures};
 ghost use Rattle.wb_operations.specs.Kept.{IsKept};
 
-use crate::{Meaning, Operation, OperationRefusal, Run};
+use crate::operation::call_run;
+use crate::standard::{run_standard, signatures};
+use crate::{Meaning, OperationRefusal, OperationSignatures, Run, Standard};
 use std::alloc::{AllocError, Global};
 use std::marker::PhantomData;
-use wb_base::{Kind, Names};
+use wb_base::Kind;
 use wb_values::Value;
 
-/// A table of operations with different names, numbered from 0 in the order in which they were added.
-///
-/// That its closures answer what M means is the clause `kept` of each call: a type cannot keep it beside a boxed closure.
+/// A table of operations with different names, numbered from 0. The first are the standard ones, where it has them, and the others
+/// are numbered in the order in which they were added.
 #[derive(Drop)]
 pub struct OperationTable<M: Meaning> {
     pub alloc: Global,
-    pub names: Names,
-    pub operations: Vec<Operation>,
+    pub signatures: OperationSignatures,
+    pub built_in: usize,
+    pub runs: Vec<Run>,
     pub of: PhantomData<M>,
+}
+
+/// A table of the sixteen standard operations. The only error is want of memory.
+pub fn standard_table(alloc: Global) -> Result<OperationTable<Standard>, AllocError>
+    ensures signatures { IfOk result (λ table. table.signatures ≡ standard_signatures) }
+    ensures kept { IfOk result (λ table. IsKept table.signatures table.built_in table.runs.items standard (λ run vs. Run.pre run vs) (λ run vs r. Run.post run vs r)) }
+{
+    let signatures = signatures(alloc)?;
+    Ok(OperationTable {
+        alloc,
+        signatures,
+        built_in: 16,
+        runs: Vec::new(alloc),
+        of: PhantomData,
+    })
 }
 
 impl<M: Meaning> OperationTable<M> {
     /// A table without operations. Takes no memory.
     pub fn new(alloc: Global) -> OperationTable<M>
-        ensures names { result.names ≡ [] }
-        ensures operations { result.operations.items ≡ [] }
-        ensures kept { IsKept result.names result.operations.items M.meaning (λ o. o.takes.items) (λ o. o.gives) (λ o vs r. Run.post o.run vs r) }
+        ensures signatures { result.signatures ≡ [] }
+        ensures kept { IsKept result.signatures result.built_in result.runs.items M.meaning (λ run vs. Run.pre run vs) (λ run vs r. Run.post run vs r) }
     {
         OperationTable {
             alloc,
-            names: Names::new(alloc),
-            operations: Vec::new(alloc),
+            signatures: OperationSignatures::new(alloc),
+            built_in: 0,
+            runs: Vec::new(alloc),
             of: PhantomData,
         }
     }
 
-    /// Adds an operation behind the others, and answers its number. The only error is want of memory, and then the closure is
-    /// dropped.
+    /// Adds an operation after the others, and answers its number. The only error is want of memory, and then the closure is
+    /// dropped. What it answers has to be known of every list, so a closure that is handed over has its clauses written at it.
     pub fn add(
         &mut self,
         name: &[u8],
@@ -43,76 +68,80 @@ impl<M: Meaning> OperationTable<M> {
         gives: Kind,
         run: Run,
     ) -> Result<usize, AllocError>
-        requires new { ¬ Contains self.old.names name.now }
+        requires new { ¬ HasOperation self.old.signatures name.now }
         requires takes { All IsPlainKind takes.now }
         requires gives { IsPlainKind gives }
         requires callable { (vs : _) → FitKinds takes.now vs.now → Run.pre run vs }
-        requires answers { (vs : _) (r : _) → FitKinds takes.now vs.now → Run.post run vs r → Answers (M.meaning (length self.old.operations.items) (plains_of vs.now)) r }
-        requires kind { (vs : _) → FitKinds takes.now vs → GivesKind gives (M.meaning (length self.old.operations.items) (plains_of vs)) }
-        requires kept { IsKept self.old.names self.old.operations.items M.meaning (λ o. o.takes.items) (λ o. o.gives) (λ o vs r. Run.post o.run vs r) }
-        ensures number { IfOk result (λ number. number ≡ length self.old.operations.items) }
-        ensures names { OnOk result (self.new.names ≡ self.old.names ++ name.now ∷ []) }
-        ensures takes { OnOk result (map (λ o. o.takes.items) self.new.operations.items ≡ map (λ o. o.takes.items) self.old.operations.items ++ takes.now ∷ []) }
-        ensures gives { OnOk result (map (λ o. o.gives) self.new.operations.items ≡ map (λ o. o.gives) self.old.operations.items ++ gives ∷ []) }
-        ensures err { OnErr result (self.new.names ≡ self.old.names) }
-        ensures err_operations { OnErr result (self.new.operations.items ≡ self.old.operations.items) }
-        ensures kept { IsKept self.new.names self.new.operations.items M.meaning (λ o. o.takes.items) (λ o. o.gives) (λ o vs r. Run.post o.run vs r) }
+        requires answers { (vs : _) (r : _) → FitKinds takes.now vs.now → Run.post run vs r → IsGiven (M.meaning (length self.old.signatures) (plains_of vs.now)) r }
+        requires kind { (values : _) → AreOfKinds takes.now values → GivesKind gives (M.meaning (length self.old.signatures) values) }
+        requires kept { IsKept self.old.signatures self.old.built_in self.old.runs.items M.meaning (λ run vs. Run.pre run vs) (λ run vs r. Run.post run vs r) }
+        ensures number { IfOk result (λ number. number ≡ length self.old.signatures) }
+        ensures ok { OnOk result (self.new.signatures ≡ self.old.signatures ++ record { name = name.now; takes = takes.now; gives = gives } ∷ []) }
+        ensures err { OnErr result (self.new.signatures ≡ self.old.signatures) }
+        ensures kept { IsKept self.new.signatures self.new.built_in self.new.runs.items M.meaning (λ run vs. Run.pre run vs) (λ run vs r. Run.post run vs r) }
     {
-        let number = self.operations.len();
-        let takes = Vec::from_slice(self.alloc, takes)?;
-        self.operations.reserve(1)?;
-        self.names.add(name)?;
-        self.operations
-            .push_reserved(Operation { takes, gives, run });
+        self.runs.reserve(1)?;
+        let number = self.signatures.add(name, takes, gives)?;
+        self.runs.push_reserved(run);
         Ok(number)
+    }
+
+    /// The names and the kinds of the operations. Takes no memory.
+    pub fn signatures(&self) -> &OperationSignatures
+        ensures { result.now ≡ self.now.signatures }
+    {
+        &self.signatures
     }
 
     /// How many operations there are. Takes no memory.
     pub fn len(&self) -> usize
-        ensures { result ≡ length self.now.operations.items }
+        ensures { result ≡ length self.now.signatures }
     {
-        self.operations.len()
+        self.signatures.len()
     }
 
     /// The operation of a name. Takes no memory, and about constant time.
     pub fn find(&self, name: &[u8]) -> Option<usize>
-        ensures found { IfSome result (λ number. slice_get self.now.names number ≡ Some name.now) }
-        ensures none { IfNone result (¬ Contains self.now.names name.now) }
+        ensures found { IfSome result (IsOperation self.now.signatures name.now) }
+        ensures none { IfNone result (¬ HasOperation self.now.signatures name.now) }
     {
-        self.names.find(name)
+        self.signatures.find(name)
     }
 
     /// The name of an operation. Takes no memory.
     pub fn name(&self, operation: usize) -> &[u8]
-        requires { operation < length self.now.names }
-        ensures { slice_get self.now.names operation ≡ Some result.now }
+        requires { operation < length self.now.signatures }
+        ensures { IfSome (slice_get self.now.signatures operation) (λ s. result.now ≡ s.name) }
     {
-        self.names.name(operation)
+        self.signatures.name(operation)
     }
 
     /// The kinds that an operation takes. Takes no memory.
     pub fn takes(&self, operation: usize) -> &[Kind]
-        requires { operation < length self.now.operations.items }
-        ensures { IfSome (slice_get self.now.operations.items operation) (λ o. result.now ≡ o.takes.items) }
+        requires { operation < length self.now.signatures }
+        ensures { IfSome (slice_get self.now.signatures operation) (λ s. result.now ≡ s.takes) }
     {
-        self.operations[operation].takes.as_slice()
+        self.signatures.takes(operation)
     }
 
     /// The kind that an operation gives. Takes no memory.
     pub fn gives(&self, operation: usize) -> Kind
-        requires { operation < length self.now.operations.items }
-        ensures { IfSome (slice_get self.now.operations.items operation) (λ o. result ≡ o.gives) }
+        requires { operation < length self.now.signatures }
+        ensures { IfSome (slice_get self.now.signatures operation) (λ s. result ≡ s.gives) }
     {
-        self.operations[operation].gives
+        self.signatures.gives(operation)
     }
 
     /// What an operation answers: the value or the fault that is meant, or want of memory.
     pub fn call(&self, operation: usize, arguments: &[Value]) -> Result<Value, OperationRefusal>
-        requires there { operation < length self.now.operations.items }
-        requires fits { (o : _) → slice_get self.now.operations.items operation ≡ Some o → FitKinds o.takes.items arguments.now }
-        requires kept { IsKept self.now.names self.now.operations.items M.meaning (λ o. o.takes.items) (λ o. o.gives) (λ o vs r. Run.post o.run vs r) }
-        ensures { Answers (M.meaning operation (plains_of arguments.now)) result }
+        requires there { operation < length self.now.signatures }
+        requires fits { (s : _) → slice_get self.now.signatures operation ≡ Some s → FitKinds s.takes arguments.now }
+        requires kept { IsKept self.now.signatures self.now.built_in self.now.runs.items M.meaning (λ run vs. Run.pre run vs) (λ run vs r. Run.post run vs r) }
+        ensures { IsGiven (M.meaning operation (plains_of arguments.now)) result }
     {
-        self.operations[operation].call(arguments)
+        if operation < self.built_in {
+            return run_standard(self.alloc, operation, arguments);
+        }
+        call_run(&self.runs[operation - self.built_in], arguments)
     }
 }

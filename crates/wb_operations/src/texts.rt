@@ -1,19 +1,22 @@
-//! The standard operations on texts.
+//! What do the standard operations on texts compute?
+//!
+//! Each answers its row of `specs/Standard`; which names and numbers they have is in `standard`.
 
-ghost use Rattle.std.specs.Prelude.{◌≡◌, ◌≤◌, ◌<◌, ◌^◌, ◌++◌, pos, length, IfOk, MatchOption};
+ghost use Rattle.std.specs.Prelude.{◌≡◌, ◌+◌, ◌≤◌, ◌++◌, length, IfOk};
 ghost use Rattle.std.specs.Fmt.{signed_decimal};
 ghost use Rattle.std.specs.Char.{is_ascii_digit};
 ghost use Rattle.std.specs.List.{list_all};
-ghost use Rattle.std.specs.Str.Parse.{AllDigits, digits_value};
 ghost use Rattle.wb_values.specs.Tree.{int, text};
-ghost use Rattle.wb_operations.specs.Outcome.{value, FitKinds, Answers, HasMemory, plains_of};
-ghost use Rattle.wb_operations.specs.Takes.{one_int, one_text, two_texts, of_int, of_text, of_texts};
-ghost use Rattle.wb_operations.specs.Rows.{joined, number_of, is_numeral, signed, written, inside_or_none};
+ghost use Rattle.wb_operations.specs.Given.{gives, FitKinds, IsGiven, HasMemory, plains_of};
+ghost use Rattle.wb_operations.specs.Takes.{one_int, one_text, two_texts};
+ghost use Rattle.wb_operations.specs.Standard.{standard};
+ghost use Rattle.wb_operations.specs.Rows.{joined, number_of, is_numeral, written, inside_or_none};
+ghost use Rattle.wb_base.specs.Decimal.{signed};
 
 use crate::OperationRefusal;
 use itoa::Buffer;
 use std::alloc::{AllocError, Global};
-use wb_base::Bytes;
+use wb_base::{Bytes, decimal};
 use wb_values::Value;
 
 /// Fault: a text that writes no number of 64 bits.
@@ -23,19 +26,11 @@ pub const TOO_LONG: u32 = 4;
 /// The greatest length of a text that `concat` gives, in bytes.
 pub const LONGEST_TEXT: usize = 16777216;
 
-// Two texts one behind the other.
-fn join(alloc: Global, x: &[u8], y: &[u8]) -> Result<Bytes, AllocError>
-    ensures { IfOk result (λ made. made ≡ x.now ++ y.now) }
-{
-    let mut bytes = Vec::from_slice(alloc, x)?;
-    bytes.extend_from_slice(y)?;
-    Bytes::from_slice(alloc, &bytes)
-}
-
 /// The first and then the second, with fault 4 above 16,777,216 bytes, in which case nothing is copied.
+#[tactic(auto, unfolding(crate::specs::Standard::standard_at, crate::specs::Standard::standard_operations))]
 pub fn standard_concat(alloc: Global, arguments: &[Value]) -> Result<Value, OperationRefusal>
     requires { FitKinds two_texts arguments.now }
-    ensures { Answers (of_texts joined (plains_of arguments.now)) result }
+    ensures answer { IsGiven (standard 12 (plains_of arguments.now)) result }
 {
     match arguments {
         [Value::Text(x), Value::Text(y)] => concat(alloc, x.as_slice(), y.as_slice()),
@@ -45,7 +40,7 @@ pub fn standard_concat(alloc: Global, arguments: &[Value]) -> Result<Value, Oper
 
 // The first and then the second.
 fn concat(alloc: Global, x: &[u8], y: &[u8]) -> Result<Value, OperationRefusal>
-    ensures { Answers (joined x.now y.now) result }
+    ensures { IsGiven (joined x.now y.now) result }
 {
     if x.len() + y.len() > LONGEST_TEXT {
         return Err(OperationRefusal::Fault(TOO_LONG));
@@ -56,10 +51,23 @@ fn concat(alloc: Global, x: &[u8], y: &[u8]) -> Result<Value, OperationRefusal>
     }
 }
 
+// Two texts one after the other, where each byte is copied once.
+fn join(alloc: Global, x: &[u8], y: &[u8]) -> Result<Bytes, AllocError>
+    requires { length x.now + length y.now ≤ 16777216 }
+    ensures { IfOk result (λ made. made ≡ x.now ++ y.now) }
+{
+    let mut bytes = Vec::new(alloc);
+    bytes.reserve(x.len() + y.len())?;
+    bytes.extend_from_slice(x)?;
+    bytes.extend_from_slice(y)?;
+    Bytes::from_vec(bytes)
+}
+
 /// How many bytes a text has. Takes no memory.
+#[tactic(auto, unfolding(crate::specs::Standard::standard_at, crate::specs::Standard::standard_operations))]
 pub fn standard_length(arguments: &[Value]) -> Result<Value, OperationRefusal>
     requires { FitKinds one_text arguments.now }
-    ensures answer { Answers (of_text (λ x. value (int (pos (length x)))) (plains_of arguments.now)) result }
+    ensures answer { IsGiven (standard 13 (plains_of arguments.now)) result }
     ensures memory { HasMemory result }
 {
     match arguments {
@@ -69,9 +77,10 @@ pub fn standard_length(arguments: &[Value]) -> Result<Value, OperationRefusal>
 }
 
 /// The number in decimal digits, with `-` before a negative.
+#[tactic(auto, unfolding(crate::specs::Standard::standard_at, crate::specs::Standard::standard_operations))]
 pub fn standard_to_text(alloc: Global, arguments: &[Value]) -> Result<Value, OperationRefusal>
     requires { FitKinds one_int arguments.now }
-    ensures { Answers (of_int (λ x. value (text (signed_decimal x))) (plains_of arguments.now)) result }
+    ensures answer { IsGiven (standard 14 (plains_of arguments.now)) result }
 {
     match arguments {
         [Value::Int(x)] => print(alloc, *x),
@@ -81,7 +90,7 @@ pub fn standard_to_text(alloc: Global, arguments: &[Value]) -> Result<Value, Ope
 
 // A number as a text.
 fn print(alloc: Global, number: i64) -> Result<Value, OperationRefusal>
-    ensures { Answers (value (text (signed_decimal number))) result }
+    ensures { IsGiven (gives (text (signed_decimal number))) result }
 {
     let mut buffer = Buffer::new();
     match Bytes::from_slice(alloc, buffer.format(number).as_bytes()) {
@@ -92,9 +101,10 @@ fn print(alloc: Global, number: i64) -> Result<Value, OperationRefusal>
 
 /// The number that a text writes: an optional `-` and one or more digits, of which the first may be 0. Fault 3 where it is no such
 /// text, or the number is outside 64 bits. Takes no memory.
+#[tactic(auto, unfolding(crate::specs::Standard::standard_at, crate::specs::Standard::standard_operations))]
 pub fn standard_to_int(arguments: &[Value]) -> Result<Value, OperationRefusal>
     requires { FitKinds one_text arguments.now }
-    ensures answer { Answers (of_text number_of (plains_of arguments.now)) result }
+    ensures answer { IsGiven (standard 15 (plains_of arguments.now)) result }
     ensures memory { HasMemory result }
 {
     match arguments {
@@ -105,7 +115,7 @@ pub fn standard_to_int(arguments: &[Value]) -> Result<Value, OperationRefusal>
 
 // The number that a text writes.
 fn read(text: &[u8]) -> Result<Value, OperationRefusal>
-    ensures answer { Answers (number_of text.now) result }
+    ensures answer { IsGiven (number_of text.now) result }
     ensures memory { HasMemory result }
 {
     if !text.is_empty() && text[0] == b'-' {
@@ -117,13 +127,13 @@ fn read(text: &[u8]) -> Result<Value, OperationRefusal>
 
 // The number with this sign that digits write.
 fn read_digits(negative: bool, digits: &[u8]) -> Result<Value, OperationRefusal>
-    ensures answer { Answers (written negative digits.now) result }
+    ensures answer { IsGiven (written negative digits.now) result }
     ensures memory { HasMemory result }
 {
     if !is_numeral(digits) {
         return Err(OperationRefusal::Fault(NO_NUMBER));
     }
-    match magnitude(digits) {
+    match decimal::magnitude(digits) {
         None => Err(OperationRefusal::Fault(NO_NUMBER)),
         Some(size) => with_sign(negative, size),
     }
@@ -143,35 +153,13 @@ fn are_digits(bytes: &[u8]) -> bool
     bytes.iter().all(|b| b.is_ascii_digit())
 }
 
-// The value of the digits, where it is below 2^64.
-fn magnitude(digits: &[u8]) -> Option<u64>
-    requires { AllDigits 10 digits.now }
-    ensures { MatchOption result (2 ^ 64 ≤ digits_value 10 digits.now) (λ size. size ≡ digits_value 10 digits.now) }
-{
-    let mut size: u64 = 0;
-    for digit in digits {
-        size = size.checked_mul(10)?.checked_add(u64::from(*digit - b'0'))?;
-    }
-    Some(size)
-}
-
 // The number or its negative, where it is inside 64 bits.
 fn with_sign(negative: bool, size: u64) -> Result<Value, OperationRefusal>
-    ensures answer { Answers (inside_or_none (signed negative size)) result }
+    ensures answer { IsGiven (inside_or_none (signed negative size)) result }
     ensures memory { HasMemory result }
 {
-    const LIMIT: u64 = 1 << 63;
-    if !negative {
-        if size < LIMIT {
-            Ok(Value::Int(size as i64))
-        } else {
-            Err(OperationRefusal::Fault(NO_NUMBER))
-        }
-    } else if size == 0 {
-        Ok(Value::Int(0))
-    } else if size <= LIMIT {
-        Ok(Value::Int(-((size - 1) as i64) - 1))
-    } else {
-        Err(OperationRefusal::Fault(NO_NUMBER))
+    match decimal::with_sign(negative, size) {
+        Some(number) => Ok(Value::Int(number)),
+        None => Err(OperationRefusal::Fault(NO_NUMBER)),
     }
 }

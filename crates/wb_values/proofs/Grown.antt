@@ -28,7 +28,7 @@ grown-begins ts [] = ([], sym (append-nil ts))
 grown-begins ts (y ∷ ys) = let h = grown-begins (ts ++ tree_of ts y ∷ []) ys in (tree_of ts y ∷ h.0, h.1 ∙ append_assoc ts (tree_of ts y ∷ []) h.0)
 
 -- a value stands for the same among more trees
-value-stable : (ts r : List Tree) (v : Value) → IsIn (length ts) v → value_in (ts ++ r) v ≡ value_in ts v
+pub value-stable : (ts r : List Tree) (v : Value) → IsIn (length ts) v → value_in (ts ++ r) v ≡ value_in ts v
 value-stable ts r (Int z) h = refl
 value-stable ts r (Bool b) h = refl
 value-stable ts r (Text s) h = refl

@@ -1,128 +1,183 @@
 -- A store's nodes and values: how trees and invariant follow when a node is added, when nodes are cut off, and at a place.
-use Rattle.std.proofs.Common.{◌≡◌, ℕ, zero, suc, ◌+◌, ◌<◌, ◌≤◌, List, [], ◌∷◌, ◌++◌, length, map, take, drop, All, get_or, refl, sym, subst, ap, ◌∙◌, arith, length-append, length-drop}
-use Rattle.std.proofs.lemmas.List.{map-append, take-append-le, drop-append-le, take-append-drop, take-map, get_or-map, drop_at, take_all, length-take-le, length-map}
-use Rattle.wb_values.specs.Tree.{node, empty}
+use Rattle.std.proofs.Common.{◌≡◌, ℕ, zero, suc, ◌+◌, ◌-◌, ◌<◌, ◌≤◌, List, [], ◌∷◌, ◌++◌, length, take, drop, All, get_or, refl, sym, subst, ap, ◌∙◌, arith, length-append, length-drop}
+use Rattle.std.proofs.lemmas.List.{take-append-le, drop-append-le, take-append-drop, drop_at, take_all, length-take-le}
+use Rattle.wb_values.specs.Tree.{Tree, node, empty}
 use Rattle.wb_values.specs.ValuesIn.{tree_in, values_in, IsIn}
 use Rattle.wb_values.specs.declared.value.Value.{Value}
 use Rattle.wb_values.specs.declared.node.Node.{Node}
-use Rattle.wb_values.specs.Trees.{built_of, tree_of, grown, trees_of, IsOrdered, IsLaid, IsStore}
+use Rattle.wb_values.specs.Trees.{Built, built_from, tree_of, grown, trees_of, IsOrdered, IsLaid, IsStore}
+use Rattle.wb_values.specs.Inner.Begin.{begin}
 use Rattle.wb_values.proofs.Grown.{grown-snoc, length-grown, grown-at, take-grown, ordered-snoc, ordered-take, ordered-at}
 
--- the children begin not behind their end
-pub laid-le : (start : ℕ) (ns : List Node) (end : ℕ) → IsLaid start ns end → start ≤ end
-laid-le start [] end h = omega arith
-laid-le start (n ∷ ns) end h = let k = laid-le (start + n.count) ns end h.1 in omega arith
+-- the children begin at their end at the latest
+laid-le : (start : ℕ) (ns : List Node) (end : ℕ) → IsLaid start ns end → start ≤ end
+laid-le start [] end h = omega (arith, h)
+laid-le start (n ∷ ns) end h = let k = laid-le n.end ns end h.1 in omega (arith, h.0, k)
 
 -- one node more
-pub laid-snoc : (start : ℕ) (ns : List Node) (end : ℕ) (n : Node) → IsLaid start ns end → n.first ≡ end → IsLaid start (ns ++ n ∷ []) (end + n.count)
-laid-snoc start [] end n h e = (e ∙ sym h, ap (λ (k : ℕ). k + n.count) h)
-laid-snoc start (m ∷ ms) end n h e = (h.0, laid-snoc (start + m.count) ms end n h.1 e)
+laid-snoc : (start : ℕ) (ns : List Node) (end : ℕ) (n : Node) → IsLaid start ns end → end ≤ n.end → IsLaid start (ns ++ n ∷ []) n.end
+laid-snoc start [] end n h le = (omega (arith, h, le), refl)
+laid-snoc start (m ∷ ms) end n h le = (h.0, laid-snoc m.end ms end n h.1 le)
 
 -- the first nodes end where the next begins
-pub laid-take : (start : ℕ) (ns : List Node) (end k : ℕ) (n : Node) → IsLaid start ns end → k < length ns → get_or ns k n ≡ n → IsLaid start (take k ns) n.first
-laid-take start [] end k n h lt is = absurd (omega arith)
-laid-take start (m ∷ ms) end zero n h lt is = sym h.0 ∙ ap (λ (x : Node). x.first) is
-laid-take start (m ∷ ms) end (suc k) n h lt is = (h.0, laid-take (start + m.count) ms end k n h.1 (omega arith) is)
+laid-take : (start : ℕ) (ns : List Node) (end k : ℕ) → IsLaid start ns end → k ≤ length ns → IsLaid start (take k ns) (begin start ns k)
+laid-take start ns end zero h le = refl
+laid-take start [] end (suc k) h le = absurd (omega (arith, le))
+laid-take start (m ∷ ms) end (suc k) h le = (h.0, laid-take m.end ms end k h.1 (omega (arith, le)))
 
--- the children of a node end inside
-pub laid-at : (start : ℕ) (ns : List Node) (end k : ℕ) (n : Node) → IsLaid start ns end → k < length ns → get_or ns k n ≡ n → n.first + n.count ≤ end
-laid-at start [] end k n h lt is = absurd (omega arith)
+-- the children of a node begin before the end of all
+pub begin-le : (start : ℕ) (ns : List Node) (end k : ℕ) → IsLaid start ns end → begin start ns k ≤ end
+begin-le start ns end zero h = laid-le start ns end h
+begin-le start [] end (suc k) h = laid-le start [] end h
+begin-le start (m ∷ ms) end (suc k) h = begin-le m.end ms end k h.1
+
+-- the children of a node end after their begin, and inside
+pub laid-at : (start : ℕ) (ns : List Node) (end k : ℕ) (n : Node) → IsLaid start ns end → k < length ns → get_or ns k n ≡ n → (begin start ns k ≤ n.end) × (n.end ≤ end)
+laid-at start [] end k n h lt is = absurd (omega (arith, lt))
 laid-at start (m ∷ ms) end zero n h lt is =
-    let k = laid-le (start + m.count) ms end h.1 in
-    subst (λ (x : Node). x.first + x.count ≤ end) is (omega arith)
-laid-at start (m ∷ ms) end (suc k) n h lt is = laid-at (start + m.count) ms end k n h.1 (omega arith) is
+    subst (λ (x : Node). (start ≤ x.end) × (x.end ≤ end)) is (h.0, laid-le m.end ms end h.1)
+laid-at start (m ∷ ms) end (suc k) n h lt is = laid-at m.end ms end k n h.1 (omega (arith, lt)) is
 
--- more values behind change no node
-built-stable : (n : Node) (vs more : List Value) → n.first + n.count ≤ length vs → built_of (vs ++ more) n ≡ built_of vs n
-built-stable n vs more h =
-    let a : drop n.first (vs ++ more) ≡ drop n.first vs ++ more = drop-append-le n.first vs more (omega arith) in
-    let b : take n.count (drop n.first vs ++ more) ≡ take n.count (drop n.first vs) = take-append-le n.count (drop n.first vs) more (omega (arith, length-drop n.first vs)) in
-    ap (λ (xs : List Value). (n.production, xs)) (ap (take n.count) a ∙ b)
+-- the children of a node begin at the end of those of the node before
+pub begin-after : (start : ℕ) (ns : List Node) (k : ℕ) (d : Node) → k < length ns → begin start ns (suc k) ≡ (get_or ns k d).end
+begin-after start [] k d lt = absurd (omega (arith, lt))
+begin-after start (m ∷ ms) zero d lt = refl
+begin-after start (m ∷ ms) (suc k) d lt = begin-after m.end ms k d (omega (arith, lt))
+
+-- more values after a slice don't change it
+slice-stable : (first count : ℕ) (vs more : List Value) → first + count ≤ length vs → take count (drop first (vs ++ more)) ≡ take count (drop first vs)
+slice-stable first count vs more h =
+    let a : drop first (vs ++ more) ≡ drop first vs ++ more = drop-append-le first vs more (omega (arith, h)) in
+    let b : take count (drop first vs ++ more) ≡ take count (drop first vs) = take-append-le count (drop first vs) more (omega (arith, length-drop first vs, h)) in
+    ap (take count) a ∙ b
 
 -- nor any of the nodes
-pub map-stable : (start : ℕ) (ns : List Node) (end : ℕ) (vs more : List Value) → IsLaid start ns end → end ≤ length vs → map (built_of (vs ++ more)) ns ≡ map (built_of vs) ns
-map-stable start [] end vs more h le = refl
-map-stable start (n ∷ ns) end vs more h le =
-    let k = laid-le (start + n.count) ns end h.1 in
-    let a = built-stable n vs more (omega arith) in
-    let b = map-stable (start + n.count) ns end vs more h.1 le in
-    cc
+built-stable : (start : ℕ) (ns : List Node) (end : ℕ) (vs more : List Value) → IsLaid start ns end → end ≤ length vs → built_from start (vs ++ more) ns ≡ built_from start vs ns
+built-stable start [] end vs more h le = refl
+built-stable start (n ∷ ns) end vs more h le =
+    let k = laid-le n.end ns end h.1 in
+    let a = slice-stable start (n.end - start) vs more (omega (arith, h.0, k, le)) in
+    let b = built-stable n.end ns end vs more h.1 le in
+    cc (a, b)
 
--- the nodes with their children, with one node more whose children are the values behind
-built-snoc : (ns : List Node) (vs cs : List Value) (n : Node) → IsStore ns vs → n.first ≡ length vs → n.count ≡ length cs → map (built_of (vs ++ cs)) (ns ++ n ∷ []) ≡ map (built_of vs) ns ++ (n.production, cs) ∷ []
-built-snoc ns vs cs n s f c =
-    let a = map-append (built_of (vs ++ cs)) ns (n ∷ []) in
-    let b = map-stable 0 ns (length vs) vs cs s.laid (omega arith) in
-    let d : drop n.first (vs ++ cs) ≡ cs = drop_at vs cs n.first (sym f) in
-    let e : take n.count cs ≡ cs = take_all n.count cs (omega arith) in
-    let g : built_of (vs ++ cs) n ≡ (n.production, cs) = ap (λ (xs : List Value). (n.production, xs)) (ap (take n.count) d ∙ e) in
-    cc
+-- the nodes with their children, with one node more whose children are the values after the others
+built-snoc : (start : ℕ) (ns : List Node) (vs cs : List Value) (n : Node) → IsLaid start ns (length vs) → n.end ≡ length vs + length cs → built_from start (vs ++ cs) (ns ++ n ∷ []) ≡ built_from start vs ns ++ (n.production, cs) ∷ []
+built-snoc start [] vs cs n h e =
+    let d : drop start (vs ++ cs) ≡ cs = drop_at vs cs start (sym h) in
+    let a : take (n.end - start) cs ≡ cs = take_all (n.end - start) cs (omega (arith, h, e)) in
+    ap (λ (xs : List Value). (n.production, xs) ∷ []) (ap (take (n.end - start)) d ∙ a)
+built-snoc start (m ∷ ms) vs cs n h e =
+    let k = laid-le m.end ms (length vs) h.1 in
+    let a = slice-stable start (m.end - start) vs cs (omega (arith, h.0, k)) in
+    let b = built-snoc m.end ms vs cs n h.1 e in
+    cc (a, b)
+
+-- the first nodes
+built-first : (start k : ℕ) (vs : List Value) (ns : List Node) → built_from start vs (take k ns) ≡ take k (built_from start vs ns)
+built-first start zero vs ns = refl
+built-first start (suc k) vs [] = refl
+built-first start (suc k) vs (n ∷ ns) = ap (λ (bs : List Built). (n.production, take (n.end - start) (drop start vs)) ∷ bs) (built-first n.end k vs ns)
+
+-- as many as nodes
+length-built : (start : ℕ) (vs : List Value) (ns : List Node) → length (built_from start vs ns) ≡ length ns
+length-built start vs [] = refl
+length-built start vs (n ∷ ns) = ap suc (length-built n.end vs ns)
+
+-- the node at a place, with its children
+built-at : (start : ℕ) (ns : List Node) (vs : List Value) (k : ℕ) (n : Node) (d : Built) → k < length ns → get_or ns k n ≡ n
+    → get_or (built_from start vs ns) k d ≡ (n.production, take (n.end - begin start ns k) (drop (begin start ns k) vs))
+built-at start [] vs k n d lt is = absurd (omega (arith, lt))
+built-at start (m ∷ ms) vs zero n d lt is = ap (λ (x : Node). (x.production, take (x.end - start) (drop start vs))) is
+built-at start (m ∷ ms) vs (suc k) n d lt is = built-at m.end ms vs k n d (omega (arith, lt)) is
 
 -- one node more is one tree more
-pub trees-snoc : (ns : List Node) (vs cs : List Value) (n : Node) → IsStore ns vs → n.first ≡ length vs → n.count ≡ length cs → trees_of (ns ++ n ∷ []) (vs ++ cs) ≡ trees_of ns vs ++ node n.production (values_in (trees_of ns vs) cs) ∷ []
+pub trees-snoc : (ns : List Node) (vs cs : List Value) (n : Node) → IsStore ns vs → n.end ≡ length vs + length cs → trees_of (ns ++ n ∷ []) (vs ++ cs) ≡ trees_of ns vs ++ node n.production (values_in (trees_of ns vs) cs) ∷ []
 unfolding trees_of
-trees-snoc ns vs cs n s f c = ap (grown []) (built-snoc ns vs cs n s f c) ∙ grown-snoc [] (map (built_of vs) ns) (n.production, cs)
+trees-snoc ns vs cs n s e = ap (grown []) (built-snoc 0 ns vs cs n s.laid e) ∙ grown-snoc [] (built_from 0 vs ns) (n.production, cs)
 
 -- one tree a node
 pub length-trees : (ns : List Node) (vs : List Value) → length (trees_of ns vs) ≡ length ns
 unfolding trees_of
-length-trees ns vs = length-grown [] (map (built_of vs) ns) ∙ omega (arith, length-map ns (built_of vs))
+length-trees ns vs = length-grown [] (built_from 0 vs ns) ∙ omega (arith, length-built 0 vs ns)
 
 -- a node more keeps the invariant
-pub store-snoc : (ns : List Node) (vs cs : List Value) (n : Node) → IsStore ns vs → n.first ≡ length vs → n.count ≡ length cs → All (IsIn (length ns)) cs → IsStore (ns ++ n ∷ []) (vs ++ cs)
-store-snoc ns vs cs n s f c below =
-    let len : length vs + n.count ≡ length (vs ++ cs) = omega (arith, length-append vs cs) in
-    let at : length ns ≡ 0 + length (map (built_of vs) ns) = omega (arith, length-map ns (built_of vs)) in
-    let o = ordered-snoc 0 (map (built_of vs) ns) (n.production, cs) s.ordered (subst (λ (k : ℕ). All (IsIn k) cs) at below) in
+pub store-snoc : (ns : List Node) (vs cs : List Value) (n : Node) → IsStore ns vs → n.end ≡ length vs + length cs → All (IsIn (length ns)) cs → IsStore (ns ++ n ∷ []) (vs ++ cs)
+store-snoc ns vs cs n s e below =
+    let len : n.end ≡ length (vs ++ cs) = omega (arith, length-append vs cs, e) in
+    let at : length ns ≡ 0 + length (built_from 0 vs ns) = omega (arith, length-built 0 vs ns) in
+    let o = ordered-snoc 0 (built_from 0 vs ns) (n.production, cs) s.ordered (subst (λ (k : ℕ). All (IsIn k) cs) at below) in
     record {
-      laid = subst (λ (k : ℕ). IsLaid 0 (ns ++ n ∷ []) k) len (laid-snoc 0 ns (length vs) n s.laid f);
-      ordered = subst (IsOrdered 0) (sym (built-snoc ns vs cs n s f c)) o;
+      laid = subst (λ (k : ℕ). IsLaid 0 (ns ++ n ∷ []) k) len (laid-snoc 0 ns (length vs) n s.laid (omega (arith, e)));
+      ordered = subst (IsOrdered 0) (sym (built-snoc 0 ns vs cs n s.laid e)) o;
     }
 
 -- the first nodes with the first values
-built-take : (ns : List Node) (vs : List Value) (k : ℕ) (n : Node) → IsStore ns vs → k < length ns → get_or ns k n ≡ n → map (built_of (take n.first vs)) (take k ns) ≡ take k (map (built_of vs) ns)
-built-take ns vs k n s lt is =
-    let le = laid-at 0 ns (length vs) k n s.laid lt is in
-    let len : length (take n.first vs) ≡ n.first = length-take-le n.first vs (omega arith) in
-    let a = map-stable 0 (take k ns) n.first (take n.first vs) (drop n.first vs) (laid-take 0 ns (length vs) k n s.laid lt is) (omega arith) in
-    let b = take-append-drop n.first vs in
-    sym (subst (λ (xs : List Value). map (built_of xs) (take k ns) ≡ map (built_of (take n.first vs)) (take k ns)) b a) ∙ sym (take-map (built_of vs) k ns)
+built-take : (ns : List Node) (vs : List Value) (k : ℕ) → IsStore ns vs → k ≤ length ns → built_from 0 (take (begin 0 ns k) vs) (take k ns) ≡ take k (built_from 0 vs ns)
+built-take ns vs k s le =
+    let first = begin 0 ns k in
+    let within = begin-le 0 ns (length vs) k s.laid in
+    let len : length (take first vs) ≡ first = length-take-le first vs within in
+    let a = built-stable 0 (take k ns) first (take first vs) (drop first vs) (laid-take 0 ns (length vs) k s.laid le) (omega (arith, len)) in
+    let b = take-append-drop first vs in
+    sym (subst (λ (xs : List Value). built_from 0 xs (take k ns) ≡ built_from 0 (take first vs) (take k ns)) b a) ∙ built-first 0 k vs ns
 
 -- the first nodes are the first trees
-pub trees-take : (ns : List Node) (vs : List Value) (k : ℕ) (n : Node) → IsStore ns vs → k < length ns → get_or ns k n ≡ n → trees_of (take k ns) (take n.first vs) ≡ take k (trees_of ns vs)
+pub trees-take : (ns : List Node) (vs : List Value) (k : ℕ) → IsStore ns vs → k ≤ length ns → trees_of (take k ns) (take (begin 0 ns k) vs) ≡ take k (trees_of ns vs)
 unfolding trees_of
-trees-take ns vs k n s lt is =
+trees-take ns vs k s le =
     let e : 0 + k ≡ k = omega arith in
-    let bs = map (built_of vs) ns in
-    ap (grown []) (built-take ns vs k n s lt is) ∙ sym (subst (λ (m : ℕ). take m (grown [] bs) ≡ grown [] (take k bs)) e (take-grown [] bs k))
+    let bs = built_from 0 vs ns in
+    ap (grown []) (built-take ns vs k s le) ∙ sym (subst (λ (m : ℕ). take m (grown [] bs) ≡ grown [] (take k bs)) e (take-grown [] bs k))
 
 -- the first nodes keep the invariant
-pub store-take : (ns : List Node) (vs : List Value) (k : ℕ) (n : Node) → IsStore ns vs → k < length ns → get_or ns k n ≡ n → IsStore (take k ns) (take n.first vs)
-store-take ns vs k n s lt is =
-    let le = laid-at 0 ns (length vs) k n s.laid lt is in
-    let len : n.first ≡ length (take n.first vs) = sym (length-take-le n.first vs (omega arith)) in
+pub store-take : (ns : List Node) (vs : List Value) (k : ℕ) → IsStore ns vs → k ≤ length ns → IsStore (take k ns) (take (begin 0 ns k) vs)
+store-take ns vs k s le =
+    let len : begin 0 ns k ≡ length (take (begin 0 ns k) vs) = sym (length-take-le (begin 0 ns k) vs (begin-le 0 ns (length vs) k s.laid)) in
     record {
-      laid = subst (λ (m : ℕ). IsLaid 0 (take k ns) m) len (laid-take 0 ns (length vs) k n s.laid lt is);
-      ordered = subst (IsOrdered 0) (sym (built-take ns vs k n s lt is)) (ordered-take 0 k (map (built_of vs) ns) s.ordered);
+      laid = subst (λ (m : ℕ). IsLaid 0 (take k ns) m) len (laid-take 0 ns (length vs) k s.laid le);
+      ordered = subst (IsOrdered 0) (sym (built-take ns vs k s le)) (ordered-take 0 k (built_from 0 vs ns) s.ordered);
     }
 
--- the node at a place, with its children
-built-at : (ns : List Node) (vs : List Value) (k : ℕ) (n : Node) → k < length ns → get_or ns k n ≡ n → get_or (map (built_of vs) ns) k (built_of vs n) ≡ built_of vs n
-built-at ns vs k n lt is = get_or-map (built_of vs) ns k n (built_of vs n) lt ∙ ap (built_of vs) is
+-- the children of the node at a place
+abbrev pub children_at : List Node → List Value → ℕ → Node → List Value
+children_at ns vs k n = take (n.end - begin 0 ns k) (drop (begin 0 ns k) vs)
 
 -- the tree at a place is that of the node there
-pub trees-at : (ns : List Node) (vs : List Value) (k : ℕ) (n : Node) → IsStore ns vs → k < length ns → get_or ns k n ≡ n → tree_in (trees_of ns vs) k ≡ tree_of (trees_of ns vs) (built_of vs n)
+trees-at : (ns : List Node) (vs : List Value) (k : ℕ) (n : Node) → IsStore ns vs → k < length ns → get_or ns k n ≡ n
+    → tree_in (trees_of ns vs) k ≡ tree_of (trees_of ns vs) (n.production, children_at ns vs k n)
 unfolding trees_of
 trees-at ns vs k n s lt is =
-    let bs = map (built_of vs) ns in
+    let bs = built_from 0 vs ns in
+    let b : Built = (n.production, children_at ns vs k n) in
     let e : 0 + k ≡ k = omega arith in
-    let below : k < length bs = omega (arith, length-map ns (built_of vs)) in
-    subst (λ (m : ℕ). get_or (grown [] bs) m (node 0 empty) ≡ tree_of (grown [] bs) (built_of vs n)) e (grown-at [] bs k (built_of vs n) (node 0 empty) below s.ordered (built-at ns vs k n lt is))
+    let below : k < length bs = omega (arith, length-built 0 vs ns, lt) in
+    subst (λ (m : ℕ). get_or (grown [] bs) m (node 0 empty) ≡ tree_of (grown [] bs) b) e (grown-at [] bs k b (node 0 empty) below s.ordered (built-at 0 ns vs k n b lt is))
 
 -- the children of the node at a place name lower trees alone
-pub below-at : (ns : List Node) (vs : List Value) (k : ℕ) (n : Node) → IsStore ns vs → k < length ns → get_or ns k n ≡ n → All (IsIn k) (take n.count (drop n.first vs))
+below-at : (ns : List Node) (vs : List Value) (k : ℕ) (n : Node) → IsStore ns vs → k < length ns → get_or ns k n ≡ n → All (IsIn k) (children_at ns vs k n)
 below-at ns vs k n s lt is =
-    let bs = map (built_of vs) ns in
+    let bs = built_from 0 vs ns in
+    let b : Built = (n.production, children_at ns vs k n) in
     let e : 0 + k ≡ k = omega arith in
-    let below : k < length bs = omega (arith, length-map ns (built_of vs)) in
-    subst (λ (m : ℕ). All (IsIn m) (take n.count (drop n.first vs))) e (ordered-at 0 bs k (built_of vs n) below s.ordered (built-at ns vs k n lt is))
+    let below : k < length bs = omega (arith, length-built 0 vs ns, lt) in
+    subst (λ (m : ℕ). All (IsIn m) b.1) e (ordered-at 0 bs k b below s.ordered (built-at 0 ns vs k n b lt is))
+
+-- what is known of the node at a place, in a store that shows these trees
+pub record NodeAt (trees : List Tree) (ns : List Node) (vs : List Value) (k : ℕ) (n : Node) : Type 0 where
+  pub begins : begin 0 ns k ≤ n.end
+  pub ends : n.end ≤ length vs
+  pub tree : node n.production (values_in trees (children_at ns vs k n)) ≡ tree_in trees k
+  pub below : All (IsIn k) (children_at ns vs k n)
+
+-- it is known of each
+pub node-at : (trees : List Tree) (ns : List Node) (vs : List Value) (k : ℕ) (n : Node) → IsStore ns vs → trees_of ns vs ≡ trees → k < length trees → n ≡ get_or ns k n
+    → NodeAt trees ns vs k n
+node-at trees ns vs k n s shown within is =
+    let lt : k < length ns = omega (arith, ap length shown, length-trees ns vs, within) in
+    let laid = laid-at 0 ns (length vs) k n s.laid lt (sym is) in
+    record {
+      begins = laid.0;
+      ends = laid.1;
+      tree = subst (λ (ts : List Tree). node n.production (values_in ts (children_at ns vs k n)) ≡ tree_in ts k) shown (sym (trees-at ns vs k n s lt (sym is)));
+      below = below-at ns vs k n s lt (sym is);
+    }

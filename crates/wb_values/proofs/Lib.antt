@@ -1,3 +1,4 @@
+pub mod CallerLemmas
 pub mod Grown
 pub mod Laid
 pub mod Moved

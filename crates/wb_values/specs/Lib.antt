@@ -1,7 +1,17 @@
-pub mod NameIndex
-pub mod Signature
-pub mod Signatures
+-- trees and values, as mathematical objects
 pub mod Tree
-pub mod TreeCode
-pub mod Trees
+-- the kinds of plain values
+pub mod Kinds
+-- the signatures of productions
+pub mod Signature
+-- trees and values that fit signatures
+pub mod Fits
+-- what stored values stand for
 pub mod ValuesIn
+-- the trees of a store
+pub mod Trees
+-- how signatures are kept
+pub mod Signatures
+-- where each name is used first
+pub mod NameIndex
+pub mod Inner

@@ -1,10 +1,14 @@
+//! How do the last values of one vector go after those of another?
+//!
+//! They are moved one by one into room that was made before, so that a refusal changes neither vector.
+
 ghost use Rattle.std.specs.Prelude.{◌≡◌, ◌≤◌, ◌++◌, length, take, drop, OnOk, OnErr};
 
 use crate::Value;
 use std::alloc::AllocError;
 use std::mem::replace;
 
-// Moves the values from a place on behind those of another vector, in order. The only error is want of memory.
+// Moves the values from a place on after those of another vector, in order. The only error is want of memory.
 pub(crate) fn move_end(
     from: &mut Vec<Value>,
     start: usize,

@@ -1,7 +1,10 @@
-// A node of a store: its production, and where its children lie in the store's list of values.
+//! What is kept of a node?
+//!
+//! Its children are the store's values from the end of those of the node before to its own end, so that it has 16 bytes.
+
+// A node of a store.
 #[derive(Clone, Copy)]
 pub(crate) struct Node {
     pub production: usize,
-    pub first: usize,
-    pub count: usize,
+    pub end: usize,
 }

@@ -1,3 +1,7 @@
+//! How are the signatures of productions kept, so that a printed name is found in about constant time?
+//!
+//! Names are kept once each, with the first production of each. Which trees fit signatures is in `specs/Fits`.
+
 ghost use Rattle.std.specs.Prelude.{◌≡◌, ◌↔◌, ℕ, List, ◌<◌, [], ◌∷◌, ◌++◌, length, IsTrue, IfOk, IfSome, IfNone, OnErr, OnOk, Some, slice_get};
 ghost use Rattle.wb_values.specs.Signature.{Signature, IsFirst, HasNone};
 ghost use Rattle.wb_values.specs.NameIndex.{IsIndex};
@@ -50,7 +54,7 @@ impl Signatures {
         }
     }
 
-    /// Adds the signature of a production behind the others, and answers its number. The only error is want of memory.
+    /// Adds the signature of a production after the others, and answers its number. The only error is want of memory.
     pub fn add(&mut self, name: &[u8], left: usize, children: &[Kind]) -> Result<usize, AllocError>
         ensures number { IfOk result (λ number. number ≡ length self.old) }
         ensures ok { OnOk result (self.new ≡ self.old ++ record { name = name.now; left = left; children = children.now } ∷ []) }

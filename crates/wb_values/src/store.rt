@@ -1,6 +1,11 @@
+//! How are trees kept, so that an id stands for one tree as long as the store holds it?
+//!
+//! Nodes and their children lie in two flat lists, so a tree with two children takes 80 bytes. What they stand for is in `specs/Trees`.
+
 ghost use Rattle.std.specs.Prelude.{◌≡◌, ◌↔◌, ◌<◌, ◌≤◌, ◌-◌, [], ◌∷◌, ◌++◌, length, take, All, IsTrue, IfOk, OnErr, OnOk};
 ghost use Rattle.wb_values.specs.Tree.{node, production_of, children_of};
 ghost use Rattle.wb_values.specs.ValuesIn.{tree_in, values_in, last, IsIn};
+ghost use Rattle.wb_values.specs.Inner.Begin.{begin};
 
 use crate::move_end::move_end;
 use crate::node::Node;
@@ -19,7 +24,7 @@ impl Model for TreeStore {
     ghost use Rattle.std.specs.Prelude.{List};
     ghost use Rattle.std.specs.Coded.{coded_list};
     ghost use Rattle.wb_values.specs.Tree.{Tree};
-    ghost use Rattle.wb_values.specs.TreeCode.{coded_tree};
+    ghost use Rattle.wb_values.specs.Inner.TreeCode.{coded_tree};
     ghost use Rattle.wb_values.specs.Trees.{trees_of, IsStore};
 
     ghost Value = { List Tree };
@@ -56,7 +61,7 @@ impl TreeStore {
         self.len() == 0
     }
 
-    /// Adds the tree of a production over these children, behind the others. The only error is want of memory, and then the
+    /// Adds the tree of a production over these children, after the others. The only error is want of memory, and then the
     /// children are dropped.
     pub fn build(
         &mut self,
@@ -69,8 +74,7 @@ impl TreeStore {
         ensures err { OnErr result (self.new ≡ self.old) }
     {
         let count = children.len();
-        let tree = self.build_from(production, &mut children, count)?;
-        Ok(tree)
+        self.build_from(production, &mut children, count)
     }
 
     /// Adds the tree of a production over the last values of a vector, so many of them, in order, and takes them off it. A caller
@@ -90,15 +94,11 @@ impl TreeStore {
         ensures err_values { OnErr result (values.new.items ≡ values.old.items) }
     {
         let tree = TreeId(self.nodes.len());
-        let node = Node {
-            production,
-            first: self.values.len(),
-            count,
-        };
         let start = values.len() - count;
         self.nodes.reserve(1)?;
         move_end(values, start, &mut self.values)?;
-        self.nodes.push_reserved(node);
+        let end = self.values.len();
+        self.nodes.push_reserved(Node { production, end });
         Ok(tree)
     }
 
@@ -107,11 +107,10 @@ impl TreeStore {
         requires { len ≤ length self.old }
         ensures { self.new ≡ take len self.old }
     {
-        if len < self.nodes.len() {
-            let kept = self.nodes[len].first;
-            self.values.truncate(kept);
-            self.nodes.truncate(len);
-        }
+        let nodes = self.nodes.as_slice();
+        let kept = begin(nodes, len);
+        self.values.truncate(kept);
+        self.nodes.truncate(len);
     }
 
     /// The production of a tree. Takes no memory.
@@ -128,8 +127,21 @@ impl TreeStore {
         ensures values { values_in self.now result.now ≡ children_of (tree_in self.now tree.0) }
         ensures below { All (IsIn tree.0) result.now }
     {
+        let nodes = self.nodes.as_slice();
+        let first = begin(nodes, tree.0);
         let node = self.nodes[tree.0];
         let values = self.values.as_slice();
-        &values[node.first..node.first + node.count]
+        &values[first..node.end]
     }
+}
+
+// Where the children of the node at a place begin: at the end of those of the node before.
+fn begin(nodes: &[Node], place: usize) -> usize
+    requires { place ≤ length nodes.now }
+    ensures { result ≡ begin 0 nodes.now place }
+{
+    if place == 0 {
+        return 0;
+    }
+    nodes[place - 1].end
 }

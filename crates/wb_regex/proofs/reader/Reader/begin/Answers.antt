@@ -7,7 +7,7 @@ use Rattle.wb_regex.proofs.ReaderSteps.{open_keeps, within_keeps, other_begun, t
 use Rattle.wb_regex.proofs.reader.Reader.begin.Goals as goal
 
 pub returns-in_ok-push-in-Open : goal.returns-in_ok-push-in-Open
-returns-in_ok-push-in-Open c = λ l ls h. (Before no_level (l ∷ ls), ap (λ x. begun x l ls) c.in-Open.is, open_keeps c.args.self.now _ l ls refl c.in_ok-push-in-Open.ensures refl refl h)
+returns-in_ok-push-in-Open c = λ l ls h. (Before no_level (l ∷ ls), ap (λ x. begun x l ls) c.in-Open.is, open_keeps c.args.self.now _ l ls refl c.in_ok-push-in-Open.ensures.ok refl refl h)
 
 pub returns-in-OpenClass : goal.returns-in-OpenClass
 returns-in-OpenClass c = λ l ls h. (Within Begin l ls, ap (λ x. begun x l ls) c.in-OpenClass.is, within_keeps c.args.self.now _ _ Begin l ls refl refl refl refl refl h)

@@ -1,4 +1,4 @@
-use Rattle.std.proofs.Common.{◌≡◌, ◌-◌, ◌++◌, ◌∷◌, [], List, All, length, drop, sym, ap, subst, ◌∙◌, arith, length-drop}
+use Rattle.std.proofs.Common.{◌≡◌, ◌+◌, ◌-◌, ◌++◌, ◌∷◌, [], List, All, length, drop, sym, ap, subst, ◌∙◌, arith, length-append}
 use Rattle.wb_values.specs.Tree.{Tree, node}
 use Rattle.wb_values.specs.ValuesIn.{values_in, last, IsIn}
 use Rattle.wb_values.proofs.Laid.{length-trees, trees-snoc, store-snoc}
@@ -9,13 +9,11 @@ invariant_of-self-2 c =
     let ns = c.self.inside.nodes.items in
     let vs = c.self.inside.values.items in
     let cs = last c.args.count c.args.values.now.items in
-    let len : length c.args.self.now ≡ length ns = sym (ap length c.self.view_is) ∙ length-trees ns vs in
-    let below = subst (λ n. All (IsIn n) cs) len c.requires.children in
-    let first : c.len-2.result ≡ length vs = c.len-2.ensures ∙ c.self.inside.values.ok.0 in
-    let start : c.len-3.result ≡ length c.args.values.now.items = c.len-3.ensures ∙ c.args.values.now.ok.0 in
-    let count : c.args.count ≡ length cs = omega (arith, length-drop (length c.args.values.now.items - c.args.count) c.args.values.now.items, c.requires.count) in
-    let cut : drop (c.len-3.result - c.args.count) c.args.values.now.items ≡ cs = ap (λ n. drop (n - c.args.count) c.args.values.now.items) start in
-    rw (c.push_reserved.ensures.items, c.in_ok-reserve.ensures.items, c.in_ok-move_end.ensures.to, cut) (store-snoc ns vs cs _ c.self.invariant first count below)
+    let below = subst (λ n. All (IsIn n) cs) (sym (ap length c.self.view_is) ∙ length-trees ns vs) c.requires.children in
+    let cut : drop (c.len-2.result - c.args.count) c.args.values.now.items ≡ cs = ap (λ n. drop (n - c.args.count) c.args.values.now.items) (c.len-2.ensures ∙ c.args.values.now.ok.0) in
+    let to : c.move_end.new.to.items ≡ vs ++ cs = c.in_ok-move_end.ensures.to ∙ ap (λ xs. vs ++ xs) cut in
+    let end : c.len-end.result ≡ length vs + length cs = c.len-end.ensures ∙ c.move_end.new.to.ok.0 ∙ ap length to ∙ length-append vs cs in
+    rw (c.push_reserved.ensures.items, c.in_ok-reserve.ensures.items, to) (store-snoc ns vs cs _ c.self.invariant end below)
 
 pub returns-clause-id : goal.returns-clause-id
 returns-clause-id c = c.len.ensures ∙ c.self.inside.nodes.ok.0 ∙ sym (length-trees c.self.inside.nodes.items c.self.inside.values.items) ∙ ap length c.self.view_is
@@ -25,9 +23,8 @@ returns-clause-ok c =
     let ns = c.self.inside.nodes.items in
     let vs = c.self.inside.values.items in
     let cs = last c.args.count c.args.values.now.items in
-    let first : c.len-2.result ≡ length vs = c.len-2.ensures ∙ c.self.inside.values.ok.0 in
-    let start : c.len-3.result ≡ length c.args.values.now.items = c.len-3.ensures ∙ c.args.values.now.ok.0 in
-    let count : c.args.count ≡ length cs = omega (arith, length-drop (length c.args.values.now.items - c.args.count) c.args.values.now.items, c.requires.count) in
-    let cut : drop (c.len-3.result - c.args.count) c.args.values.now.items ≡ cs = ap (λ n. drop (n - c.args.count) c.args.values.now.items) start in
-    rw (c.push_reserved.ensures.items, c.in_ok-reserve.ensures.items, c.in_ok-move_end.ensures.to, cut)
-    (trees-snoc ns vs cs _ c.self.invariant first count ∙ ap (λ (ts : List Tree). ts ++ node c.args.production (values_in ts cs) ∷ []) c.self.view_is)
+    let cut : drop (c.len-2.result - c.args.count) c.args.values.now.items ≡ cs = ap (λ n. drop (n - c.args.count) c.args.values.now.items) (c.len-2.ensures ∙ c.args.values.now.ok.0) in
+    let to : c.move_end.new.to.items ≡ vs ++ cs = c.in_ok-move_end.ensures.to ∙ ap (λ xs. vs ++ xs) cut in
+    let end : c.len-end.result ≡ length vs + length cs = c.len-end.ensures ∙ c.move_end.new.to.ok.0 ∙ ap length to ∙ length-append vs cs in
+    rw (c.push_reserved.ensures.items, c.in_ok-reserve.ensures.items, to)
+    (trees-snoc ns vs cs _ c.self.invariant end ∙ ap (λ (ts : List Tree). ts ++ node c.args.production (values_in ts cs) ∷ []) c.self.view_is)

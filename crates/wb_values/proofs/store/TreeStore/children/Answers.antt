@@ -1,52 +1,42 @@
-use Rattle.std.proofs.Common.{◌≡◌, ◌<◌, ◌+◌, ◌-◌, List, length, take, drop, sym, ap, ◌∙◌, arith}
-use Rattle.wb_values.specs.Tree.{Tree, children_of}
-use Rattle.wb_values.specs.ValuesIn.{tree_in, values_in}
-use Rattle.wb_values.proofs.Laid.{length-trees, trees-at, below-at, laid-at}
+use Rattle.std.proofs.Common.{List, length, ap, sym, ◌∙◌, arith}
+use Rattle.wb_values.specs.Tree.{children_of}
+use Rattle.wb_values.specs.Inner.Begin.{begin}
+use Rattle.wb_values.specs.declared.node.Node.{Node}
+use Rattle.wb_values.proofs.Laid.{length-trees, node-at}
 use Rattle.wb_values.proofs.store.TreeStore.children.Goals as goal
+
+pub begin-first-requires : goal.begin-first-requires
+begin-first-requires c = omega (arith, ap length c.self.view_is, length-trees c.self.inside.nodes.items c.self.inside.values.items, ap length c.as_slice-nodes.ensures.value, c.requires)
 
 pub index-node-requires : goal.index-node-requires
 index-node-requires c = omega (arith, ap length c.self.view_is, length-trees c.self.inside.nodes.items c.self.inside.values.items, c.self.inside.nodes.ok.0)
 
-pub overflow_add-result : goal.overflow_add-result
-overflow_add-result c =
-    let ns = c.self.inside.nodes.items in
-    let vs = c.self.inside.values.items in
-    let lt : c.args.tree.0 < length ns = omega (arith, ap length c.self.view_is, length-trees ns vs) in
-    let le = laid-at 0 ns (length vs) c.args.tree.0 c.index-node.result.now c.self.invariant.laid lt (sym c.index-node.ensures) in
-    omega (arith, c.self.inside.values.ok.0)
+pub offset_bounds-values-first : goal.offset_bounds-values-first
+offset_bounds-values-first c =
+    let n = node-at c.args.self.now c.self.inside.nodes.items c.self.inside.values.items c.args.tree.0 c.index-node.result.now c.self.invariant c.self.view_is c.requires c.index-node.ensures in
+    omega (arith, n.begins, n.ends, c.begin-first.ensures ∙ ap (λ (ns : List Node). begin 0 ns c.args.tree.0) c.as_slice-nodes.ensures.value, c.self.inside.values.ok, c.self.inside.values.small)
+
+pub slice_bounds-result-count : goal.slice_bounds-result-count
+slice_bounds-result-count c =
+    let n = node-at c.args.self.now c.self.inside.nodes.items c.self.inside.values.items c.args.tree.0 c.index-node.result.now c.self.invariant c.self.view_is c.requires c.index-node.ensures in
+    rw (c.begin-first.ensures, c.as_slice-nodes.ensures.value) n.begins
+
+pub slice_bounds-result-start : goal.slice_bounds-result-start
+slice_bounds-result-start c =
+    let n = node-at c.args.self.now c.self.inside.nodes.items c.self.inside.values.items c.args.tree.0 c.index-node.result.now c.self.invariant c.self.view_is c.requires c.index-node.ensures in
+    omega (arith, n.begins, n.ends, c.begin-first.ensures ∙ ap (λ (ns : List Node). begin 0 ns c.args.tree.0) c.as_slice-nodes.ensures.value, ap length c.as_slice-values.ensures.value)
 
 pub slice_bounds-result-end : goal.slice_bounds-result-end
 slice_bounds-result-end c =
-    let ns = c.self.inside.nodes.items in
-    let vs = c.self.inside.values.items in
-    let lt : c.args.tree.0 < length ns = omega (arith, ap length c.self.view_is, length-trees ns vs) in
-    let le = laid-at 0 ns (length vs) c.args.tree.0 c.index-node.result.now c.self.invariant.laid lt (sym c.index-node.ensures) in
-    omega (arith, ap length c.as_slice-values.ensures.value)
+    let n = node-at c.args.self.now c.self.inside.nodes.items c.self.inside.values.items c.args.tree.0 c.index-node.result.now c.self.invariant c.self.view_is c.requires c.index-node.ensures in
+    omega (arith, n.ends, ap length c.as_slice-values.ensures.value)
 
 pub returns-clause-values : goal.returns-clause-values
 returns-clause-values c =
-    let ns = c.self.inside.nodes.items in
-    let vs = c.self.inside.values.items in
-    let n = c.index-node.result.now in
-    let lt : c.args.tree.0 < length ns = omega (arith, ap length c.self.view_is, length-trees ns vs) in
-    let e = trees-at ns vs c.args.tree.0 n c.self.invariant lt (sym c.index-node.ensures) in
-    let f = ap children_of (sym (ap (λ (ts : List Tree). tree_in ts c.args.tree.0) c.self.view_is) ∙ e) in
-    let count : (n.first + n.count) - n.first ≡ n.count = omega arith in
-    rw (c.as_slice-values.ensures.value, count) (sym (f ∙ ap (λ (ts : List Tree). values_in ts (take n.count (drop n.first vs))) c.self.view_is))
+    let n = node-at c.args.self.now c.self.inside.nodes.items c.self.inside.values.items c.args.tree.0 c.index-node.result.now c.self.invariant c.self.view_is c.requires c.index-node.ensures in
+    rw (c.as_slice-values.ensures.value, c.begin-first.ensures, c.as_slice-nodes.ensures.value) (ap children_of n.tree)
 
 pub returns-clause-below : goal.returns-clause-below
 returns-clause-below c =
-    let ns = c.self.inside.nodes.items in
-    let vs = c.self.inside.values.items in
-    let n = c.index-node.result.now in
-    let lt : c.args.tree.0 < length ns = omega (arith, ap length c.self.view_is, length-trees ns vs) in
-    let count : (n.first + n.count) - n.first ≡ n.count = omega arith in
-    rw (c.as_slice-values.ensures.value, count) (below-at ns vs c.args.tree.0 n c.self.invariant lt (sym c.index-node.ensures))
-
-pub offset_bounds-values-node : goal.offset_bounds-values-node
-offset_bounds-values-node c =
-    let ns = c.self.inside.nodes.items in
-    let vs = c.self.inside.values.items in
-    let lt : c.args.tree.0 < length ns = omega (arith, ap length c.self.view_is, length-trees ns vs) in
-    let le = laid-at 0 ns (length vs) c.args.tree.0 c.index-node.result.now c.self.invariant.laid lt (sym c.index-node.ensures) in
-    omega (arith, c.self.inside.values.ok, c.self.inside.values.small)
+    let n = node-at c.args.self.now c.self.inside.nodes.items c.self.inside.values.items c.args.tree.0 c.index-node.result.now c.self.invariant c.self.view_is c.requires c.index-node.ensures in
+    rw (c.as_slice-values.ensures.value, c.begin-first.ensures, c.as_slice-nodes.ensures.value) n.below

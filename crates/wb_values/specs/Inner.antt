@@ -1,0 +1,3 @@
+-- What only proofs and private functions speak of.
+pub mod Begin
+pub mod TreeCode
