@@ -6,7 +6,7 @@ use Rattle.std.proofs.lemmas.Option.{same_Some}
 use Rattle.std.proofs.lemmas.Bool.{cases_lt}
 use Rattle.wb_regex.specs.declared.node.RegexNode.{RegexNode}
 use Rattle.wb_automata.specs.Machines.{node_holds}
-use Rattle.wb_automata.specs.Exploring.{AreRising}
+use Rattle.wb_automata.specs.Order.{AreRising}
 use Rattle.wb_automata.specs.Classes.{AreClasses, IsClassOf, ClassPass}
 
 -- before the first node all bytes are in one class

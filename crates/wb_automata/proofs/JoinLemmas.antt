@@ -1,6 +1,7 @@
 -- Nodes that are joined are those of expressions with places at their leaves.
 use Rattle.std.proofs.Common.{◌≡◌, ℕ, zero, suc, ◌+◌, ◌≤◌, ◌<◌, List, [], ◌∷◌, ◌++◌, refl, sym, ◌∙◌, ap, subst, arith, Some, length, get_or, add-one, map, length-append, length-take-le, take, append_assoc, ◌^◌, inl, inr}
-use Rattle.std.specs.Prelude.{slice_get, option_map}
+use Rattle.std.specs.Prelude.{slice_get, option_map, sum_by}
+use Rattle.std.proofs.lemmas.List.Sums.{sum_by-cons}
 use Rattle.std.proofs.lemmas.Bool.{cases_lt}
 use Rattle.std.proofs.lemmas.List.{get_or_append_left, get_or_push, take_more, map-append, length-map}
 use Rattle.std.proofs.lemmas.Option.{slice_get-get_or, slice_get-map, same_Some}
@@ -13,6 +14,7 @@ use Rattle.wb_automata.specs.Erasing.{Erases, leaf, sequence, choice, star, plus
 use Rattle.wb_automata.specs.Nodes as c
 use Rattle.wb_automata.specs.Joined.{raised, size_of, bound_of, AreJoined, AreAdded}
 use Rattle.wb_regex.specs.Filled.{Filled}
+use Rattle.wb_regex.specs.Matches.{Matches}
 use Rattle.wb_automata.proofs.NodeLemmas.{parts_more}
 use Rattle.wb_automata.proofs.PlaceLemmas.{slice_get_more}
 
@@ -133,7 +135,7 @@ join_step trees old new roots i root tree at h a = record {
   parts = λ k t lt here. elim (cases_lt k i) [
     | inl less ↦
         let p = h.parts k t less here in
-        record { source = p.source; covers = p.covers; filled = p.filled; embeds = λ j node is. subst (λ z. slice_get z (bound_of trees k + j) ≡ Some (raised (bound_of trees k) node)) (sym a.joins) (slice_get_more old (map (raised (length old)) a.source) (bound_of trees k + j) (raised (bound_of trees k) node) (p.embeds j node is)) }
+        record { source = p.source; covers = p.covers; filled = p.filled; not_empty = p.not_empty; embeds = λ j node is. subst (λ z. slice_get z (bound_of trees k + j) ≡ Some (raised (bound_of trees k) node)) (sym a.joins) (slice_get_more old (map (raised (length old)) a.source) (bound_of trees k + j) (raised (bound_of trees k) node) (p.embeds j node is)) }
     | inr past ↦
         let e : i ≡ k = omega arith in
         let same : tree ≡ t = same_Some tree t (sym at ∙ ap (slice_get trees) e ∙ here) in
@@ -142,6 +144,7 @@ join_step trees old new roots i root tree at h a = record {
           source = a.source;
           covers = subst (w.Covers a.source 0 (length a.source)) same a.covers;
           filled = subst Filled same a.filled;
+          not_empty = subst (λ z. ¬ Matches z []) same a.not_empty;
           embeds = λ j node is. subst (λ z. slice_get new (z + j) ≡ Some (raised z node)) m (ap (λ z. slice_get z (length old + j)) a.joins ∙ slice_get_behind old (map (raised (length old)) a.source) j ∙ slice_get-map (raised (length old)) a.source j ∙ ap (option_map (raised (length old))) is);
         }
   ];
@@ -165,6 +168,11 @@ join_begin trees = record { len = sym (bound_first trees); roots_len = refl; par
     bound_first : (ts : List Tree) → bound_of ts 0 ≡ 0
     bound_first [] = refl
     bound_first (t ∷ ts) = refl
+
+-- all trees have the nodes of each
+pub bound_sum : (trees : List Tree) → bound_of trees (length trees) ≡ sum_by size_of trees
+bound_sum [] = refl
+bound_sum (t ∷ ts) = ap (λ z. size_of t + z) (bound_sum ts) ∙ sym (sum_by-cons size_of t ts)
 
 -- nodes put behind others one by one
 pub raised_more : (old : List RegexNode) (more : List RegexNode) (i : ℕ) (node d : RegexNode) (f : RegexNode → RegexNode) → i < length more → node ≡ get_or more i d → (old ++ map f (take i more)) ++ f node ∷ [] ≡ old ++ map f (take (i + 1) more)

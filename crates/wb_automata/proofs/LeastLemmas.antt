@@ -1,15 +1,16 @@
 -- The first state that accepts has the least text.
-use Rattle.std.proofs.Common.{◌≡◌, ℕ, ◌+◌, ◌≤◌, ◌<◌, List, [], ◌∷◌, ◌++◌, refl, sym, ◌∙◌, ap, subst, arith, inl, inr, Some, length, get_or, append-nil}
+use Rattle.std.proofs.Common.{◌≡◌, ℕ, zero, suc, ◌+◌, ◌≤◌, ◌<◌, ◌⊎◌, Bool, List, [], ◌∷◌, ◌++◌, refl, sym, ◌∙◌, ap, subst, arith, inl, inr, Some, length, get_or, append-nil, set, true, false, length-set, get_or-set_same, get_or-set_other}
 use Rattle.std.specs.Prelude.{slice_get}
 use Rattle.std.proofs.lemmas.Bool.{cases_eq, cases_lt}
 use Rattle.std.proofs.lemmas.Option.{slice_get-get_or, slice_get_within, same_Some}
+use Rattle.wb_regex.specs.Filled.{Filled}
 use Rattle.wb_regex.specs.Tree.{Tree, Set, Sequence, Choice, Star, Plus, Maybe}
 use Rattle.wb_regex.specs.Matches as w
-use Rattle.wb_regex.specs.Filled.{Filled}
-use Rattle.wb_automata.specs.Order.{IsAtMost}
-use Rattle.wb_automata.specs.Automata.{Machine, IsMatch, GoesOn, LeadsTo, IsOrdered}
-use Rattle.wb_automata.specs.Overlaps.{IsLeastMatch, IsLeastShared, IsLeastState, AreApartBelow}
-use Rattle.wb_automata.proofs.OrderLemmas.{at_most_next}
+use Rattle.wb_termset.specs.Sets.{Has}
+use Rattle.wb_automata.specs.Order.{IsBefore, IsAtMost}
+use Rattle.wb_automata.specs.Automata.{AutomatonView, Path, IsEarlier, IsConsidered, IsMatch, MatchesIn, GoesOn, LeadsTo, IsOrdered}
+use Rattle.wb_automata.specs.Overlaps.{HasAll, IsLeastMatch, IsLeastShared, IsLeastState, AreApartBelow}
+use Rattle.wb_automata.proofs.OrderLemmas.{IsLatest, latest_next}
 use Rattle.wb_automata.proofs.WalkLemmas.{alike_same}
 
 -- an expression whose sets hold bytes matches some text
@@ -21,45 +22,50 @@ filled_match (Star r) f = ([], w.none refl)
 filled_match (Plus r) f = let (x, m) = filled_match r f in (x ++ [], w.once m (w.none refl) refl)
 filled_match (Maybe r) f = ([], w.absent refl)
 
-pub match_goes : (terminals : List Tree) (k : ℕ) (x : List ℕ) → IsMatch terminals k x → GoesOn terminals x
-match_goes terminals k x m = record { terminal = k; rest = []; is = subst (IsMatch terminals k) (sym (append-nil x)) m }
+pub match_goes : (automaton : AutomatonView) (s k : ℕ) (x : List ℕ) → MatchesIn automaton s k x → GoesOn automaton s x
+match_goes automaton s k x m = record { terminal = k; rest = []; is = subst (MatchesIn automaton s k) (sym (append-nil x)) m }
 
-pub first_leads : (machine : Machine) (state : ℕ) (text : List ℕ) → slice_get machine.texts state ≡ Some text → LeadsTo machine text state
-first_leads machine state text at = record { first = text; at = at; alike = alike_same machine.terminals text }
+-- the path of a state leads to it
+pub path_leads : (automaton : AutomatonView) (state : ℕ) (path : Path) → slice_get automaton.paths state ≡ Some path → LeadsTo automaton path.set path.text state
+path_leads automaton state path at = record { path = path; at = at; alike = alike_same automaton path }
+
+-- a text that leads to none of the first states isn't earlier than the path of the next
+pub late_path : (automaton : AutomatonView) (state s : ℕ) (path : Path) (text : List ℕ) → IsOrdered automaton → slice_get automaton.paths state ≡ Some path → GoesOn automaton s text → ((early : ℕ) → early < state → LeadsTo automaton s text early → ⊥) → IsLatest (record { set = s; text = text }) path
+late_path automaton state s path text ordered at g apart =
+    let f = ordered.every s text g in
+    elim (cases_lt f.state state) [
+      | inl early ↦ absurd (apart f.state early f.leads)
+      | inr late ↦ elim (cases_eq f.state state) [
+        | inl same ↦ subst (IsLatest (record { set = s; text = text })) (same_Some f.leads.path path (sym f.leads.at ∙ ap (slice_get automaton.paths) same ∙ at)) f.least
+        | inr after ↦ latest_next path f.leads.path (record { set = s; text = text }) (inr (ordered.sorted state f.state path f.leads.path (omega arith) at f.leads.at)) f.least
+      ]
+    ]
 
 -- the first state that accepts both
-pub least_state : (machine : Machine) (one other state : ℕ) → IsOrdered machine → state < length machine.texts → AreApartBelow machine one other state → ((text : List ℕ) → LeadsTo machine text state → IsMatch machine.terminals one text × IsMatch machine.terminals other text) → IsLeastState machine one other state
-least_state machine one other state ordered lt apart both =
-    let text : List ℕ = get_or machine.texts state [] in
-    let at : slice_get machine.texts state ≡ Some text = slice_get-get_or machine.texts state [] lt in
-    let (m, k) = both text (first_leads machine state text at) in
+pub least_state : (automaton : AutomatonView) (one other state : ℕ) → IsOrdered automaton → state < length automaton.paths → AreApartBelow automaton one other state → ((s : ℕ) (text : List ℕ) → LeadsTo automaton s text state → MatchesIn automaton s one text × MatchesIn automaton s other text) → IsLeastState automaton one other state
+least_state automaton one other state ordered lt apart both =
+    let path : Path = get_or automaton.paths state (record { set = 0; text = [] }) in
+    let at : slice_get automaton.paths state ≡ Some path = slice_get-get_or automaton.paths state (record { set = 0; text = [] }) lt in
+    let (m, k) = both path.set path.text (path_leads automaton state path at) in
     record {
-      text = text;
+      path = path;
       at = at;
       first = m;
       second = k;
-      least = λ shared p q.
-          let f = ordered.every shared (match_goes machine.terminals one shared p) in
-          elim (cases_lt f.state state) [
-            | inl early ↦ absurd (apart f.state shared early f.leads p q)
-            | inr late ↦ elim (cases_eq f.state state) [
-              | inl same ↦ subst (λ z. IsAtMost z shared) (same_Some f.leads.first text (sym f.leads.at ∙ ap (slice_get machine.texts) same ∙ at)) f.least
-              | inr behind ↦ at_most_next text f.leads.first shared (inr (ordered.sorted state f.state text f.leads.first (omega arith) at f.leads.at)) f.least
-            ]
-          ];
+      least = λ s shared p q. late_path automaton state s path shared ordered at (match_goes automaton s one shared p) (λ early less leads. apart early s shared less leads p q);
     }
 
 -- no state accepts both
-pub none_shared : (machine : Machine) (one other n : ℕ) → IsOrdered machine → length machine.texts ≤ n → AreApartBelow machine one other n → (text : List ℕ) → IsMatch machine.terminals one text → IsMatch machine.terminals other text → ⊥
-none_shared machine one other n ordered le apart text p q =
-    let f = ordered.every text (match_goes machine.terminals one text p) in
-    apart f.state text (omega (arith, slice_get_within machine.texts f.state f.leads.first f.leads.at)) f.leads p q
+pub none_shared : (automaton : AutomatonView) (one other n : ℕ) → IsOrdered automaton → length automaton.paths ≤ n → AreApartBelow automaton one other n → (s : ℕ) (text : List ℕ) → MatchesIn automaton s one text → MatchesIn automaton s other text → ⊥
+none_shared automaton one other n ordered le apart s text p q =
+    let f = ordered.every s text (match_goes automaton s one text p) in
+    apart f.state s text (omega (arith, slice_get_within automaton.paths f.state f.leads.path f.leads.at)) f.leads p q
 
 -- one state more
-pub apart_more : (machine : Machine) (one other n : ℕ) → AreApartBelow machine one other n → ((text : List ℕ) → LeadsTo machine text n → IsMatch machine.terminals one text → IsMatch machine.terminals other text → ⊥) → AreApartBelow machine one other (n + 1)
-apart_more machine one other n before here state text lt l p q = elim (cases_lt state n) [
-  | inl early ↦ before state text early l p q
-  | inr late ↦ here text (subst (LeadsTo machine text) (let e : state ≡ n = omega arith in e) l) p q
+pub apart_more : (automaton : AutomatonView) (one other n : ℕ) → AreApartBelow automaton one other n → ((s : ℕ) (text : List ℕ) → LeadsTo automaton s text n → MatchesIn automaton s one text → MatchesIn automaton s other text → ⊥) → AreApartBelow automaton one other (n + 1)
+apart_more automaton one other n before here state s text lt l p q = elim (cases_lt state n) [
+  | inl early ↦ before state s text early l p q
+  | inr late ↦ here s text (subst (LeadsTo automaton s text) (let e : state ≡ n = omega arith in e) l) p q
 ]
 
 -- what the first two terminals match
@@ -75,25 +81,34 @@ left_two terminals r s x e m = record { tree = r; at = ap (λ z. slice_get z 0) 
 pub right_two : (terminals : List Tree) (r s : Tree) (x : List ℕ) → terminals ≡ r ∷ s ∷ [] → w.Matches s x → IsMatch terminals 1 x
 right_two terminals r s x e m = record { tree = s; at = ap (λ z. slice_get z 1) e; matches = m }
 
-pub least_of_two : (machine : Machine) (r s : Tree) (state : ℕ) (text : List ℕ) → machine.terminals ≡ r ∷ s ∷ [] → slice_get machine.texts state ≡ Some text → IsLeastState machine 0 1 state → IsLeastShared r s text
-least_of_two machine r s state text e at l =
-    let same : l.text ≡ text = same_Some l.text text (sym l.at ∙ at) in
-    subst (IsLeastShared r s) same (record {
-      one = two_left machine.terminals r s l.text e l.first;
-      other = two_right machine.terminals r s l.text e l.second;
-      least = λ shared p q. l.least shared (left_two machine.terminals r s shared e p) (right_two machine.terminals r s shared e q);
-    })
+-- all terminals are in the one set
+pub in_all : (automaton : AutomatonView) (k : ℕ) (x : List ℕ) → HasAll 2 automaton.sets → k < 2 → IsMatch automaton.terminals k x → MatchesIn automaton 0 k x
+in_all automaton k x h lt m = record { considered = record { flags = h.set; at = ap (λ z. slice_get z 0) h.one; has = h.all k lt }; is = m }
 
-pub left_only : (terminals : List Tree) (r : Tree) (x : List ℕ) → terminals ≡ r ∷ [] → w.Matches r x → IsMatch terminals 0 x
-left_only terminals r x e m = record { tree = r; at = ap (λ z. slice_get z 0) e; matches = m }
+-- and that set is the first
+first_set : (sets : List (List Bool)) (set : List Bool) (s k : ℕ) → sets ≡ set ∷ [] → IsConsidered sets s k → s ≡ 0
+first_set sets set s k e c = (let lt = slice_get_within sets s c.flags c.at in omega (arith, ap length e))
 
-pub least_of_one : (machine : Machine) (r : Tree) (state : ℕ) (text : List ℕ) → machine.terminals ≡ r ∷ [] → slice_get machine.texts state ≡ Some text → IsLeastState machine 0 0 state → IsLeastMatch r text
-least_of_one machine r state text e at l =
-    let same : l.text ≡ text = same_Some l.text text (sym l.at ∙ at) in
-    subst (IsLeastMatch r) same (record {
-      matches = only_left l.text l.first;
-      least = λ other p. l.least other (left_only machine.terminals r other e p) (left_only machine.terminals r other e p);
+pub least_of_two : (automaton : AutomatonView) (r s : Tree) (state : ℕ) (text : List ℕ) → automaton.terminals ≡ r ∷ s ∷ [] → HasAll 2 automaton.sets → ((path : Path) → slice_get automaton.paths state ≡ Some path → text ≡ path.text) → IsLeastState automaton 0 1 state → IsLeastShared r s text
+least_of_two automaton r s state text e all at l =
+    subst (IsLeastShared r s) (sym (at l.path l.at)) (record {
+      one = two_left automaton.terminals r s l.path.text e l.first.is;
+      other = two_right automaton.terminals r s l.path.text e l.second.is;
+      least = λ shared p q. at_most shared (l.least 0 shared (in_all automaton 0 shared all (omega arith) (left_two automaton.terminals r s shared e p)) (in_all automaton 1 shared all (omega arith) (right_two automaton.terminals r s shared e q)));
     })
   where
-    only_left : (x : List ℕ) → IsMatch machine.terminals 0 x → w.Matches r x
-    only_left x m = subst (λ z. w.Matches z x) (same_Some m.tree r (sym m.at ∙ ap (λ z. slice_get z 0) e)) m.matches
+    at_most : (shared : List ℕ) → IsLatest (record { set = 0; text = shared }) l.path → IsAtMost l.path.text shared
+    at_most shared (inl e) = inl (ap (λ z. z.text) e)
+    at_most shared (inr (inl lt)) = absurd (omega arith)
+    at_most shared (inr (inr (same, before))) = inr before
+
+-- one set of all numbers below the count, as far as it is made
+pub record AllBelow (set : List Bool) (count i : ℕ) : Type 0 where
+  pub len : length set ≡ count
+  pub all : (t : ℕ) → t < i → Has set t
+
+pub all_more : (flags : List Bool) (count i : ℕ) → i < count → AllBelow flags count i → AllBelow (set flags i true) count (i + 1)
+all_more flags count i lt h = record {
+  len = length-set flags i true ∙ h.len;
+  all = λ t less. elim (cases_eq t i) [ inl e ↦ rw e (get_or-set_same flags i true false (omega (arith, h.len))) | inr other ↦ get_or-set_other flags i t true false other ∙ h.all t (omega arith) ];
+}

@@ -1,9 +1,11 @@
+pub mod AcceptedLemmas
 pub mod ClassLemmas
+pub mod CountLemmas
 pub mod Empties
 pub mod ErasingLemmas
-pub mod FlatLemmas
 pub mod Forests
 pub mod JoinLemmas
+pub mod KeyLemmas
 pub mod LeastLemmas
 pub mod MachineLemmas
 pub mod NodeLemmas
@@ -15,6 +17,7 @@ pub mod Ranges
 pub mod RootLemmas
 pub mod StateLemmas
 pub mod StandsLemmas
+pub mod StartLemmas
 pub mod Subs
 pub mod TableLemmas
 pub mod TextLemmas

@@ -3,11 +3,11 @@ use Rattle.std.proofs.Common.{◌≡◌, ℕ, zero, suc, ◌+◌, ◌<◌, List,
 use Rattle.std.specs.Prelude.{slice_get, Contains, All, ◌↔◌}
 use Rattle.std.proofs.lemmas.Bool.{cases_lt}
 use Rattle.std.proofs.lemmas.List.{get_or_past, get_or_default, get_or-replicate, length-replicate}
-use Rattle.std.proofs.lemmas.List.Elements.{All-weaker, All-nil}
+use Rattle.std.proofs.lemmas.List.Elements.{All-nil}
 use Rattle.std.proofs.lemmas.Option.{slice_get-get_or, slice_get_within, same_Some}
 use Rattle.wb_regex.specs.Tree.{Tree, Set}
 use Rattle.wb_regex.specs.declared.node.RegexNode.{RegexNode}
-use Rattle.wb_automata.specs.Linear.{Linear, Leaf}
+use Rattle.wb_automata.specs.Linear.{Linear, Leaf, Matches}
 use Rattle.wb_automata.specs.Erasing.{Erases}
 use Rattle.wb_automata.specs.Nodes.{Covers, AreParts, AreLasts, row}
 use Rattle.wb_automata.specs.Follows.{AreBelow}
@@ -16,7 +16,7 @@ use Rattle.wb_automata.specs.Machines.{holds_of}
 use Rattle.wb_automata.specs.Running.{IsFollow, IsEnds}
 use Rattle.wb_automata.specs.Sets.{Filled}
 use Rattle.wb_automata.specs.Tables.{HasPlaces, IsPlanted}
-use Rattle.wb_automata.proofs.ErasingLemmas.{placed_filled}
+use Rattle.wb_automata.proofs.ErasingLemmas.{placed_filled, erased}
 use Rattle.wb_automata.proofs.Forests.{locate}
 use Rattle.wb_automata.proofs.JoinLemmas.{place_all, bound_rises, bound_all, covers_size}
 use Rattle.wb_automata.proofs.NodeLemmas.{covers_spans}
@@ -39,21 +39,21 @@ bound_first [] = refl
 bound_first (t ∷ ts) = refl
 
 -- the places of the first tree, and those of the others behind them
-place_first : (nodes : List RegexNode) (m n : ℕ) (t : Tree) (ts : List Tree) (linear : Linear) (linears : List Linear) → Covers nodes m (m + n) linear → Erases nodes linear t → Filled (holds_of nodes) linear → n ≡ size_of t → Place nodes (linear ∷ linears) (m + bound_of (t ∷ ts) 0) (m + bound_of (t ∷ ts) (suc zero)) 0 t
-place_first nodes m n t ts linear linears covers erases filled long = record {
-  has = record { linear = linear; at = refl; erases = erases; filled = filled };
+place_first : (nodes : List RegexNode) (m n : ℕ) (t : Tree) (ts : List Tree) (linear : Linear) (linears : List Linear) → Covers nodes m (m + n) linear → Erases nodes linear t → Filled (holds_of nodes) linear → ¬ Matches (holds_of nodes) linear [] → n ≡ size_of t → Place nodes (linear ∷ linears) (m + bound_of (t ∷ ts) 0) (m + bound_of (t ∷ ts) (suc zero)) 0 t
+place_first nodes m n t ts linear linears covers erases filled some long = record {
+  has = record { linear = linear; at = refl; erases = erases; filled = filled; not_empty = some };
   covers = subst (λ z. Covers nodes z (m + bound_of (t ∷ ts) (suc zero)) linear) (let e : m ≡ m + 0 = omega arith in e) (subst (λ z. Covers nodes m z linear) (let e : m + n ≡ m + (size_of t + bound_of ts 0) = omega (arith, bound_first ts) in e) covers);
 }
 
 place_next : (nodes : List RegexNode) (m : ℕ) (t : Tree) (ts : List Tree) (linear : Linear) (linears : List Linear) (k : ℕ) (tree : Tree) → Place nodes linears (m + size_of t + bound_of ts k) (m + size_of t + bound_of ts (suc k)) k tree → Place nodes (linear ∷ linears) (m + bound_of (t ∷ ts) (suc k)) (m + bound_of (t ∷ ts) (suc (suc k))) (suc k) tree
 place_next nodes m t ts linear linears k tree p = record {
-  has = record { linear = p.has.linear; at = p.has.at; erases = p.has.erases; filled = p.has.filled };
+  has = record { linear = p.has.linear; at = p.has.at; erases = p.has.erases; filled = p.has.filled; not_empty = p.has.not_empty };
   covers = subst (λ z. Covers nodes z (m + (size_of t + bound_of ts (suc k))) p.has.linear) (let e : m + size_of t + bound_of ts k ≡ m + (size_of t + bound_of ts k) = omega arith in e) (subst (λ z. Covers nodes (m + size_of t + bound_of ts k) z p.has.linear) (let e : m + size_of t + bound_of ts (suc k) ≡ m + (size_of t + bound_of ts (suc k)) = omega arith in e) p.covers);
 }
 
-place_cases : (nodes : List RegexNode) (m n : ℕ) (t : Tree) (ts : List Tree) (linear : Linear) (linears : List Linear) → Covers nodes m (m + n) linear → Erases nodes linear t → Filled (holds_of nodes) linear → n ≡ size_of t → ((k : ℕ) (tree : Tree) → slice_get ts k ≡ Some tree → Place nodes linears (m + size_of t + bound_of ts k) (m + size_of t + bound_of ts (suc k)) k tree) → (k : ℕ) (tree : Tree) → slice_get (t ∷ ts) k ≡ Some tree → Place nodes (linear ∷ linears) (m + bound_of (t ∷ ts) k) (m + bound_of (t ∷ ts) (suc k)) k tree
-place_cases nodes m n t ts linear linears covers erases filled long rest zero tree at = subst (λ z. Place nodes (linear ∷ linears) (m + bound_of (t ∷ ts) 0) (m + bound_of (t ∷ ts) (suc zero)) 0 z) (same_Some t tree at) (place_first nodes m n t ts linear linears covers erases filled long)
-place_cases nodes m n t ts linear linears covers erases filled long rest (suc k) tree at = place_next nodes m t ts linear linears k tree (rest k tree at)
+place_cases : (nodes : List RegexNode) (m n : ℕ) (t : Tree) (ts : List Tree) (linear : Linear) (linears : List Linear) → Covers nodes m (m + n) linear → Erases nodes linear t → Filled (holds_of nodes) linear → ¬ Matches (holds_of nodes) linear [] → n ≡ size_of t → ((k : ℕ) (tree : Tree) → slice_get ts k ≡ Some tree → Place nodes linears (m + size_of t + bound_of ts k) (m + size_of t + bound_of ts (suc k)) k tree) → (k : ℕ) (tree : Tree) → slice_get (t ∷ ts) k ≡ Some tree → Place nodes (linear ∷ linears) (m + bound_of (t ∷ ts) k) (m + bound_of (t ∷ ts) (suc k)) k tree
+place_cases nodes m n t ts linear linears covers erases filled some long rest zero tree at = subst (λ z. Place nodes (linear ∷ linears) (m + bound_of (t ∷ ts) 0) (m + bound_of (t ∷ ts) (suc zero)) 0 z) (same_Some t tree at) (place_first nodes m n t ts linear linears covers erases filled some long)
+place_cases nodes m n t ts linear linears covers erases filled some long rest (suc k) tree at = place_next nodes m t ts linear linears k tree (rest k tree at)
 
 places_of : (nodes : List RegexNode) (m : ℕ) (trees : List Tree) → ((k : ℕ) (t : Tree) → slice_get trees k ≡ Some t → IsPart nodes (m + bound_of trees k) t) → Places nodes m trees
 places_of nodes m [] parts = record { linears = []; len = refl; each = λ k tree at. cc }
@@ -65,7 +65,7 @@ places_of nodes m (t ∷ ts) parts =
     record {
       linears = p.linear ∷ rest.linears;
       len = omega (arith, rest.len);
-      each = place_cases nodes m (length head.source) t ts p.linear rest.linears p.covers p.erases (placed_filled nodes p.erases head.filled) long rest.each;
+      each = place_cases nodes m (length head.source) t ts p.linear rest.linears p.covers p.erases (placed_filled nodes p.erases head.filled) (λ m. head.not_empty (erased nodes p.erases m)) long rest.each;
     }
 
 -- joined nodes are those of expressions with places
@@ -105,10 +105,10 @@ module _ (trees : List Tree) (nodes : List RegexNode) (roots : List ℕ) (h : Is
   pub planted_parts : AreParts nodes
   planted_parts k node at = let s = planted_sub k (slice_get_within nodes k node at) in parts_before k node s.covers refl at
 
-  pub planted_lasts : (last : List (List ℕ)) → AreLasts nodes last (length nodes) → AreBelow (length nodes + 1) last
+  pub planted_lasts : (last : List (List ℕ)) → AreLasts nodes last (length nodes) → AreBelow (length nodes) last
   planted_lasts last is j = elim (cases_lt j (length nodes)) [
-    | inl lt ↦ All-weaker (λ p. p < length nodes) (λ p. p < length nodes + 1) (λ p less. omega arith) (row last j) (last_below nodes last j is lt (planted_sub j lt))
-    | inr past ↦ subst (All (λ p. p < length nodes + 1)) (sym (get_or_past last j [] (omega (arith, is.len)))) (All-nil (λ p. p < length nodes + 1))
+    | inl lt ↦ last_below nodes last j is lt (planted_sub j lt)
+    | inr past ↦ subst (All (λ p. p < length nodes)) (sym (get_or_past last j [] (omega (arith, is.len)))) (All-nil (λ p. p < length nodes))
   ]
 
   pub planted_roots : All (λ r. r < length nodes) roots
@@ -128,7 +128,7 @@ module _ (trees : List Tree) (nodes : List RegexNode) (roots : List ℕ) (h : Is
         | inr (e, f) ↦ (let v = first_within l.tree (bound_of trees l.number) (bound_of trees (l.number + 1)) q spans f in let b = v.below in omega arith)
       ])
 
-  pub planted_ends : (ends : List (List ℕ)) → IsEnds nodes h.linears ends → AreBelow (length trees) ends
+  pub planted_ends : (ends : List (List ℕ)) → IsEnds h.linears ends → AreBelow (length trees) ends
   planted_ends ends is p = all_from (λ k. k < length trees) (row ends p) (λ k has. let x = (is p k).0 has in omega (arith, h.len, slice_get_within h.linears k x.tree x.at))
 
 -- rows that are all empty have nothing

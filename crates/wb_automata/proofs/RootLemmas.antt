@@ -1,8 +1,8 @@
 -- Begins and ends of roots.
-use Rattle.std.proofs.Common.{◌≡◌, ℕ, ◌+◌, Bool, true, false, List, [], ◌∷◌, refl, sym, ◌∙◌, ap, subst, arith, ◌⊎◌, inl, inr, length, get_or}
+use Rattle.std.proofs.Common.{◌≡◌, ℕ, ◌+◌, List, [], ◌∷◌, refl, sym, ◌∙◌, ap, subst, arith, ◌⊎◌, inl, inr, length, get_or}
 use Rattle.std.specs.Prelude.{◌↔◌, Contains}
-use Rattle.std.proofs.lemmas.Bool.{cases_lt, true≢false}
-use Rattle.wb_automata.specs.Nodes.{row, flag}
+use Rattle.std.proofs.lemmas.Bool.{cases_lt}
+use Rattle.wb_automata.specs.Nodes.{row}
 use Rattle.wb_automata.specs.Roots.{BeginAt, EndAt}
 use Rattle.wb_automata.proofs.NodeLemmas.{Contains-one}
 
@@ -13,66 +13,44 @@ pub record BeginPass (old follow first : List (List ℕ)) (roots : List ℕ) (m 
 pub begins_start : (old first : List (List ℕ)) (roots : List ℕ) (m : ℕ) → BeginPass old old first roots m 0
 begins_start old first roots m = record { len = refl; exact = λ p q. (λ h. inl h, λ h. elim h [ inl a ↦ a | inr b ↦ (let lt = b.below in absurd (omega arith)) ]) }
 
-pub begins_step : (old follow new first : List (List ℕ)) (roots xs ys : List ℕ) (m i : ℕ) → BeginPass old follow first roots m i → xs ≡ m ∷ [] → ys ≡ row first (get_or roots i 0) → length new ≡ length follow → ((p q : ℕ) → Contains (row new p) q ↔ (Contains (row follow p) q ⊎ (Contains xs p × Contains ys q))) → BeginPass old new first roots m (i + 1)
+pub begins_step : (old follow new first : List (List ℕ)) (roots xs ys : List ℕ) (m i : ℕ) → BeginPass old follow first roots m i → xs ≡ (m + i) ∷ [] → ys ≡ row first (get_or roots i 0) → length new ≡ length follow → ((p q : ℕ) → Contains (row new p) q ↔ (Contains (row follow p) q ⊎ (Contains xs p × Contains ys q))) → BeginPass old new first roots m (i + 1)
 begins_step old follow new first roots xs ys m i h e f len exact = record {
   len = len ∙ h.len;
   exact = λ p q. (
     λ has. elim ((exact p q).0 has) [
       | inl a ↦ elim ((h.exact p q).0 a) [ inl b ↦ inl b | inr b ↦ (let lt = b.below in inr (record { begin = b.begin; number = b.number; below = omega arith; has = b.has })) ]
-      | inr (a, b) ↦ inr (record { begin = (Contains-one m p).0 (subst (λ zs. Contains zs p) e a); number = i; below = omega arith; has = subst (λ zs. Contains zs q) f b })
+      | inr (a, b) ↦ inr (record { begin = (Contains-one (m + i) p).0 (subst (λ zs. Contains zs p) e a); number = i; below = omega arith; has = subst (λ zs. Contains zs q) f b })
     ],
     λ has. (exact p q).1 (elim has [
       | inl a ↦ inl ((h.exact p q).1 (inl a))
       | inr b ↦ elim (cases_lt b.number i) [
         | inl less ↦ inl ((h.exact p q).1 (inr (record { begin = b.begin; number = b.number; below = less; has = b.has })))
-        | inr past ↦ (let lt = b.below in let same : b.number ≡ i = omega arith in inr (subst (λ zs. Contains zs p) (sym e) ((Contains-one m p).1 b.begin), subst (λ zs. Contains zs q) (ap (λ z. row first (get_or roots z 0)) same ∙ sym f) b.has))
+        | inr past ↦ (let lt = b.below in let same : b.number ≡ i = omega arith in inr (subst (λ zs. Contains zs p) (sym e) ((Contains-one (m + i) p).1 (b.begin ∙ ap (λ z. m + z) same)), subst (λ zs. Contains zs q) (ap (λ z. row first (get_or roots z 0)) same ∙ sym f) b.has))
       ]
     ]),
   );
 }
 
--- one root
-pub end_some : (old mid new : List (List ℕ)) (last : List ℕ) (m k : ℕ) (empty : Bool) → empty ≡ true → ((p j : ℕ) → Contains (row mid p) j ↔ (Contains (row old p) j ⊎ (Contains last p × Contains (k ∷ []) j))) → ((p j : ℕ) → Contains (row new p) j ↔ (Contains (row mid p) j ⊎ (Contains (m ∷ []) p × Contains (k ∷ []) j))) → (p j : ℕ) → Contains (row new p) j ↔ (Contains (row old p) j ⊎ ((j ≡ k) × (Contains last p ⊎ ((p ≡ m) × (empty ≡ true)))))
-end_some old mid new last m k empty e f g p j = (
-  λ has. elim ((g p j).0 has) [
-    | inl a ↦ elim ((f p j).0 a) [ inl b ↦ inl b | inr (b, c) ↦ inr ((Contains-one k j).0 c, inl b) ]
-    | inr (b, c) ↦ inr ((Contains-one k j).0 c, inr ((Contains-one m p).0 b, e))
-  ],
-  λ has. (g p j).1 (elim has [
-    | inl a ↦ inl ((f p j).1 (inl a))
-    | inr (s, c) ↦ elim c [ inl b ↦ inl ((f p j).1 (inr (b, (Contains-one k j).1 s))) | inr (b, _) ↦ inr ((Contains-one m p).1 b, (Contains-one k j).1 s) ]
-  ]),
-)
-
-pub end_plain : (old new : List (List ℕ)) (last : List ℕ) (m k : ℕ) (empty : Bool) → empty ≡ false → ((p j : ℕ) → Contains (row new p) j ↔ (Contains (row old p) j ⊎ (Contains last p × Contains (k ∷ []) j))) → (p j : ℕ) → Contains (row new p) j ↔ (Contains (row old p) j ⊎ ((j ≡ k) × (Contains last p ⊎ ((p ≡ m) × (empty ≡ true)))))
-end_plain old new last m k empty e f p j = (
-  λ has. elim ((f p j).0 has) [ inl b ↦ inl b | inr (b, c) ↦ inr ((Contains-one k j).0 c, inl b) ],
-  λ has. (f p j).1 (elim has [
-    | inl a ↦ inl a
-    | inr (s, c) ↦ elim c [ inl b ↦ inr (b, (Contains-one k j).1 s) | inr (_, t) ↦ absurd (true≢false (sym t ∙ e)) ]
-  ]),
-)
-
-pub record EndPass (old ends last : List (List ℕ)) (empty : List Bool) (roots : List ℕ) (m i : ℕ) : Type 0 where
+pub record EndPass (old ends last : List (List ℕ)) (roots : List ℕ) (i : ℕ) : Type 0 where
   pub len : length ends ≡ length old
-  pub exact : (p k : ℕ) → Contains (row ends p) k ↔ (Contains (row old p) k ⊎ EndAt last empty roots m i p k)
+  pub exact : (p k : ℕ) → Contains (row ends p) k ↔ (Contains (row old p) k ⊎ EndAt last roots i p k)
 
-pub ends_start : (old last : List (List ℕ)) (empty : List Bool) (roots : List ℕ) (m : ℕ) → EndPass old old last empty roots m 0
-ends_start old last empty roots m = record { len = refl; exact = λ p k. (λ h. inl h, λ h. elim h [ inl a ↦ a | inr b ↦ (let lt = b.below in absurd (omega arith)) ]) }
+pub ends_start : (old last : List (List ℕ)) (roots : List ℕ) → EndPass old old last roots 0
+ends_start old last roots = record { len = refl; exact = λ p k. (λ h. inl h, λ h. elim h [ inl a ↦ a | inr b ↦ (let lt = b.below in absurd (omega arith)) ]) }
 
-pub ends_step : (old ends new last : List (List ℕ)) (empty : List Bool) (roots xs : List ℕ) (flag' : Bool) (m i : ℕ) → EndPass old ends last empty roots m i → xs ≡ row last (get_or roots i 0) → flag' ≡ flag empty (get_or roots i 0) → length new ≡ length ends → ((p j : ℕ) → Contains (row new p) j ↔ (Contains (row ends p) j ⊎ ((j ≡ i) × (Contains xs p ⊎ ((p ≡ m) × (flag' ≡ true)))))) → EndPass old new last empty roots m (i + 1)
-ends_step old ends new last empty roots xs flag' m i h e f len exact = record {
+pub ends_step : (old ends new last : List (List ℕ)) (roots xs : List ℕ) (i : ℕ) → EndPass old ends last roots i → xs ≡ row last (get_or roots i 0) → length new ≡ length ends → ((p j : ℕ) → Contains (row new p) j ↔ (Contains (row ends p) j ⊎ (Contains xs p × Contains (i ∷ []) j))) → EndPass old new last roots (i + 1)
+ends_step old ends new last roots xs i h e len exact = record {
   len = len ∙ h.len;
   exact = λ p k. (
     λ has. elim ((exact p k).0 has) [
       | inl a ↦ elim ((h.exact p k).0 a) [ inl b ↦ inl b | inr b ↦ (let lt = b.below in inr (record { below = omega arith; ends = b.ends })) ]
-      | inr (s, c) ↦ inr (record { below = omega arith; ends = subst (λ z. Contains (row last (get_or roots z 0)) p ⊎ ((p ≡ m) × (flag empty (get_or roots z 0) ≡ true))) (sym s) (elim c [ inl b ↦ inl (subst (λ zs. Contains zs p) e b) | inr (b, t) ↦ inr (b, sym f ∙ t) ]) })
+      | inr (c, s) ↦ let same : k ≡ i = (Contains-one i k).0 s in inr (record { below = omega arith; ends = subst (λ z. Contains (row last (get_or roots z 0)) p) (sym same) (subst (λ zs. Contains zs p) e c) })
     ],
     λ has. (exact p k).1 (elim has [
       | inl a ↦ inl ((h.exact p k).1 (inl a))
       | inr b ↦ elim (cases_lt k i) [
         | inl less ↦ inl ((h.exact p k).1 (inr (record { below = less; ends = b.ends })))
-        | inr past ↦ (let lt = b.below in let same : k ≡ i = omega arith in inr (same, elim (subst (λ z. Contains (row last (get_or roots z 0)) p ⊎ ((p ≡ m) × (flag empty (get_or roots z 0) ≡ true))) same b.ends) [ inl c ↦ inl (subst (λ zs. Contains zs p) (sym e) c) | inr (c, t) ↦ inr (c, f ∙ t) ]))
+        | inr past ↦ (let lt = b.below in let same : k ≡ i = omega arith in inr (subst (λ zs. Contains zs p) (sym e) (subst (λ z. Contains (row last (get_or roots z 0)) p) same b.ends), (Contains-one i k).1 same))
       ]
     ]),
   );

@@ -1,12 +1,11 @@
 -- Sets of leaves read exactly the texts that match.
-use Rattle.std.proofs.Common.{◌≡◌, ℕ, ◌+◌, ◌≤◌, Bool, true, List, [], ◌∷◌, ◌++◌, refl, sym, ◌∙◌, ap, subst, arith, inl, inr, append_assoc, append-nil, Some}
+use Rattle.std.proofs.Common.{◌≡◌, ℕ, ◌+◌, ◌≤◌, Bool, true, List, [], ◌∷◌, ◌++◌, refl, sym, ◌∙◌, ap, subst, arith, inl, inr, append_assoc, append-nil, Some, length}
 use Rattle.std.specs.Prelude.{slice_get, ◌↔◌, Contains}
 use Rattle.std.proofs.lemmas.Bool.{cases_eq, cases_lt}
-use Rattle.std.proofs.lemmas.Option.{same_Some}
+use Rattle.std.proofs.lemmas.Option.{same_Some, slice_get_within}
 use Rattle.wb_automata.specs.Linear.{Linear, Leaf, Sequence, Choice, Star, Plus, Maybe, Matches, one, seq, left, none, once, absent}
 use Rattle.wb_automata.specs.Positions.{First, Follow, After}
-use Rattle.wb_automata.specs.Sets.{Ranges, Filled, Rest, IsNext, Stands, Ends}
-use Rattle.wb_automata.proofs.Empties.{matches_empty, empty_matches}
+use Rattle.wb_automata.specs.Sets.{Ranges, Filled, Rest, IsNext, IsStartOf, Stands, Ends}
 use Rattle.wb_automata.proofs.Ranges.{Within, first_within, follow_within, after_within}
 use Rattle.wb_automata.proofs.Paths.{begun, begins, goes, comes, last_after, after_last}
 
@@ -24,8 +23,8 @@ same_number trees bound k l p h u v =
 same_tree : (trees : List Linear) (bound : ℕ → ℕ) (k l p : ℕ) (s t : Linear) → Ranges trees bound → slice_get trees k ≡ Some s → slice_get trees l ≡ Some t → Within (bound k) (bound (k + 1)) p → Within (bound l) (bound (l + 1)) p → s ≡ t
 same_tree trees bound k l p s t h e f u v = same_Some s t (sym e ∙ ap (slice_get trees) (same_number trees bound k l p h u v) ∙ f)
 
-module _ (holds : ℕ → ℕ → Bool) (trees : List Linear) (bound : ℕ → ℕ) (n : ℕ) (h : Ranges trees bound) (outside : (b : ℕ) → holds n b ≡ true → ⊥) where
-  forth : (set next : List ℕ) (b k : ℕ) (t : Linear) (w : List ℕ) → IsNext holds trees n set b next → slice_get trees k ≡ Some t → Rest holds n next t w → Rest holds n set t (b ∷ w)
+module _ (holds : ℕ → ℕ → Bool) (trees : List Linear) (bound : ℕ → ℕ) (n : ℕ) (considered : ℕ → Type 0) (h : Ranges trees bound) (outside : (k b : ℕ) → holds (n + k) b ≡ true → ⊥) where
+  forth : (set next : List ℕ) (b k : ℕ) (t : Linear) (w : List ℕ) → IsNext holds trees n set b next → slice_get trees k ≡ Some t → Rest holds n next k t w → Rest holds n set k t (b ∷ w)
   forth set next b k t w is at r =
       let target = (is r.leaf).0 r.has in
       let l = target.links in
@@ -33,7 +32,7 @@ module _ (holds : ℕ → ℕ → Bool) (trees : List Linear) (bound : ℕ → �
         leaf = target.from;
         has = target.has;
         is = elim r.is [
-          | inr (e, m) ↦ absurd (outside b (subst (λ o. holds o b ≡ true) e target.byte))
+          | inr (e, m) ↦ absurd (outside k b (subst (λ o. holds o b ≡ true) e target.byte))
           | inl after ↦
               let spans = h.spans k t at in
               let here : Within (bound k) (bound (k + 1)) r.leaf = after_within holds t (bound k) (bound (k + 1)) r.leaf w spans after in
@@ -44,13 +43,14 @@ module _ (holds : ℕ → ℕ → Bool) (trees : List Linear) (bound : ℕ → �
                     inl (comes holds t (bound k) (bound (k + 1)) target.from r.leaf b w spans (subst (λ s. Follow s target.from r.leaf) same f) target.byte after)
                 | inr (e, f) ↦
                     let v = first_within l.tree (bound l.number) (bound (l.number + 1)) r.leaf (h.spans l.number l.tree l.at) f in
+                    let number : l.number ≡ k = same_number trees bound l.number k r.leaf h v here in
                     let same : l.tree ≡ t = same_tree trees bound l.number k r.leaf l.tree t h l.at at v here in
-                    inr (e, begins holds t (bound k) (bound (k + 1)) b r.leaf w spans (subst (λ s. First s r.leaf) same f) target.byte after)
+                    inr (e ∙ ap (λ z. n + z) number, begins holds t (bound k) (bound (k + 1)) b r.leaf w spans (subst (λ s. First s r.leaf) same f) target.byte after)
               ]
         ];
       }
 
-  back : (set next : List ℕ) (b k : ℕ) (t : Linear) (w : List ℕ) → IsNext holds trees n set b next → slice_get trees k ≡ Some t → Rest holds n set t (b ∷ w) → Rest holds n next t w
+  back : (set next : List ℕ) (b k : ℕ) (t : Linear) (w : List ℕ) → IsNext holds trees n set b next → slice_get trees k ≡ Some t → Rest holds n set k t (b ∷ w) → Rest holds n next k t w
   back set next b k t w is at r = elim r.is [
     | inl after ↦
         let d = goes holds t r.leaf b (b ∷ w) w after refl in
@@ -60,33 +60,32 @@ module _ (holds : ℕ → ℕ → Bool) (trees : List Linear) (bound : ℕ → �
         record { leaf = d.at; has = (is d.at).1 (record { byte = d.byte; from = r.leaf; has = r.has; links = record { number = k; tree = t; at = at; link = inr (e, d.first) } }); is = inl d.after }
   ]
 
-  -- the begin
-  pub stands_first : (set : List ℕ) → ((p : ℕ) → Contains set p ↔ (p ≡ n)) → ((k : ℕ) (t : Linear) → slice_get trees k ≡ Some t → bound (k + 1) ≤ n) → Stands holds trees n set []
+  -- the starts of the considered expressions
+  pub stands_first : (set : List ℕ) → ((p : ℕ) → Contains set p ↔ IsStartOf n (length trees) considered p) → ((k : ℕ) (t : Linear) → slice_get trees k ≡ Some t → bound (k + 1) ≤ n) → Stands holds trees n considered set []
   stands_first set is below k t at w = (
-    λ r. elim r.is [
-      | inl after ↦ let v = after_within holds t (bound k) (bound (k + 1)) r.leaf w (h.spans k t at) after in let e : r.leaf ≡ n = (is r.leaf).0 r.has in let u = below k t at in absurd (omega arith)
-      | inr (e, m) ↦ m
-    ],
-    λ m. record { leaf = n; has = (is n).1 refl; is = inr (refl, m) },
+    λ r.
+        let s = (is r.leaf).0 r.has in
+        let place : r.leaf ≡ n + s.number = s.place in
+        elim r.is [
+          | inl after ↦ let v = after_within holds t (bound k) (bound (k + 1)) r.leaf w (h.spans k t at) after in let u = below k t at in absurd (omega arith)
+          | inr (e, m) ↦ (subst considered (let f : s.number ≡ k = omega arith in f) s.is, m)
+        ],
+    λ (c, m). record { leaf = n + k; has = (is (n + k)).1 (record { number = k; below = slice_get_within trees k t at; is = c; place = refl }); is = inr (refl, m) },
   )
 
   -- a step
-  pub stands_next : (set next : List ℕ) (b : ℕ) (x : List ℕ) → Stands holds trees n set x → IsNext holds trees n set b next → Stands holds trees n next (x ++ b ∷ [])
+  pub stands_next : (set next : List ℕ) (b : ℕ) (x : List ℕ) → Stands holds trees n considered set x → IsNext holds trees n set b next → Stands holds trees n considered next (x ++ b ∷ [])
   stands_next set next b x stands is k t at w = (
-    λ r. subst (Matches holds t) (sym (append_assoc x (b ∷ []) w)) ((stands k t at (b ∷ w)).0 (forth set next b k t w is at r)),
-    λ m. back set next b k t w is at ((stands k t at (b ∷ w)).1 (subst (Matches holds t) (append_assoc x (b ∷ []) w) m)),
+    λ r. let (c, m) = (stands k t at (b ∷ w)).0 (forth set next b k t w is at r) in (c, subst (Matches holds t) (sym (append_assoc x (b ∷ []) w)) m),
+    λ (c, m). back set next b k t w is at ((stands k t at (b ∷ w)).1 (c, subst (Matches holds t) (append_assoc x (b ∷ []) w) m)),
   )
 
-  -- it accepts exactly what matches
-  pub accepts : (set : List ℕ) (x : List ℕ) → Stands holds trees n set x → (k : ℕ) (t : Linear) → slice_get trees k ≡ Some t → Ends n set t ↔ Matches holds t x
-  accepts set x stands k t at = (
-    λ e. subst (Matches holds t) (append-nil x) ((stands k t at []).0 (record { leaf = e.leaf; has = e.has; is = elim e.is [ inl l ↦ inl (last_after holds t e.leaf l) | inr (same, empty) ↦ inr (same, empty_matches t empty) ] })),
-    λ m. let r = (stands k t at []).1 (subst (Matches holds t) (sym (append-nil x)) m) in record { leaf = r.leaf; has = r.has; is = elim r.is [ inl after ↦ inl (after_last holds t r.leaf [] after refl) | inr (same, m) ↦ inr (same, matches_empty m refl) ] },
+  -- it accepts exactly the considered expressions that match, of which none matches the empty text
+  pub accepts : (set : List ℕ) (x : List ℕ) → Stands holds trees n considered set x → (k : ℕ) (t : Linear) → slice_get trees k ≡ Some t → (Matches holds t [] → ⊥) → Ends set t ↔ (considered k × Matches holds t x)
+  accepts set x stands k t at some = (
+    λ e. let (c, m) = (stands k t at []).0 (record { leaf = e.leaf; has = e.has; is = inl (last_after holds t e.leaf e.is) }) in (c, subst (Matches holds t) (append-nil x) m),
+    λ (c, m). let r = (stands k t at []).1 (c, subst (Matches holds t) (sym (append-nil x)) m) in record { leaf = r.leaf; has = r.has; is = elim r.is [ inl after ↦ after_last holds t r.leaf [] after refl | inr (same, m') ↦ absurd (some m') ] },
   )
-
-  -- the empty set is left by nothing
-  pub dead : (set : List ℕ) (x : List ℕ) → Stands holds trees n set x → ((p : ℕ) → Contains set p → ⊥) → (k : ℕ) (t : Linear) (w : List ℕ) → slice_get trees k ≡ Some t → Matches holds t (x ++ w) → ⊥
-  dead set x stands empty k t w at m = let r = (stands k t at w).1 m in empty r.leaf r.has
 
 -- every other set can go on
 pub record SomeText (holds : ℕ → ℕ → Bool) (t : Linear) : Type 0 where
@@ -143,7 +142,7 @@ pub record Alive (holds : ℕ → ℕ → Bool) (trees : List Linear) (n : ℕ) 
   pub tree : Linear
   pub at : slice_get trees number ≡ Some tree
   pub text : List ℕ
-  pub rest : Rest holds n set tree text
+  pub rest : Rest holds n set number tree text
 
 pub alive : (holds : ℕ → ℕ → Bool) (trees : List Linear) (n : ℕ) (set next : List ℕ) (b q : ℕ) → ((k : ℕ) (t : Linear) → slice_get trees k ≡ Some t → Filled holds t) → IsNext holds trees n set b next → Contains next q → Alive holds trees n next
 alive holds trees n set next b q filled is has =

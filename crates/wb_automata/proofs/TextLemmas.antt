@@ -1,72 +1,94 @@
--- The text of a state is that of the state that it was found from, with a byte behind it.
-use Rattle.std.proofs.Common.{◌≡◌, ℕ, zero, suc, ◌+◌, ◌≤◌, ◌<◌, List, [], ◌∷◌, ◌++◌, sym, ◌∙◌, ap, subst, arith, Some, length, get_or, length-append, append_assoc, reverse}
+-- The text of a state is that of the state that it was found from, with a byte after it.
+use Rattle.std.proofs.Common.{◌≡◌, ℕ, zero, suc, ◌+◌, ◌≤◌, ◌<◌, List, [], ◌∷◌, ◌++◌, refl, sym, ◌∙◌, ap, subst, arith, Some, length, get_or, length-append, append_assoc, reverse}
 use Rattle.std.proofs.lemmas.List.{reverse-append}
-use Rattle.std.specs.Prelude.{slice_get}
+use Rattle.std.specs.Prelude.{slice_get, Option, None}
 use Rattle.std.proofs.lemmas.Option.{slice_get-get_or, slice_get_past, same_Some}
 use Rattle.wb_automata.specs.declared.origin.Origin.{Origin}
-use Rattle.wb_automata.specs.Found.{text_on, text_by, grown, texts_of}
+use Rattle.wb_automata.specs.Automata.{Path}
+use Rattle.wb_automata.specs.Found.{path_on, path_by, grown, paths_of}
 use Rattle.wb_automata.proofs.PlaceLemmas.{slice_get_more, slice_get_last}
 
-grown_keeps : (texts : List (List ℕ)) (os : List Origin) (k : ℕ) (x : List ℕ) → slice_get texts k ≡ Some x → slice_get (grown texts os) k ≡ Some x
-grown_keeps texts [] k x e = e
-grown_keeps texts (o ∷ os) k x e = grown_keeps (texts ++ text_by texts o ∷ []) os k x (slice_get_more texts (text_by texts o ∷ []) k x e)
+grown_keeps : (paths : List Path) (os : List Origin) (k : ℕ) (x : Path) → slice_get paths k ≡ Some x → slice_get (grown paths os) k ≡ Some x
+grown_keeps paths [] k x e = e
+grown_keeps paths (o ∷ os) k x e = grown_keeps (paths ++ path_by paths o ∷ []) os k x (slice_get_more paths (path_by paths o ∷ []) k x e)
 
--- the texts before a place, and the text there
-record Entry (texts : List (List ℕ)) (os : List Origin) (j : ℕ) (o : Origin) (place : ℕ) : Type 0 where
-  pub earlier : List (List ℕ)
+-- the paths before a place, and the path there
+record Entry (paths : List Path) (os : List Origin) (j : ℕ) (o : Origin) (place : ℕ) : Type 0 where
+  pub earlier : List Path
   pub len : length earlier ≡ place
-  pub keeps : (k : ℕ) (x : List ℕ) → slice_get earlier k ≡ Some x → slice_get (grown texts os) k ≡ Some x
-  pub is : slice_get (grown texts os) place ≡ Some (text_by earlier o)
+  pub keeps : (k : ℕ) (x : Path) → slice_get earlier k ≡ Some x → slice_get (grown paths os) k ≡ Some x
+  pub is : slice_get (grown paths os) place ≡ Some (path_by earlier o)
 
-entry : (texts : List (List ℕ)) (os : List Origin) (j : ℕ) (o : Origin) (place : ℕ) → place ≡ length texts + j → slice_get os j ≡ Some o → Entry texts os j o place
-entry texts [] j o place e at = cc
-entry texts (p ∷ os) zero o place e at =
+entry : (paths : List Path) (os : List Origin) (j : ℕ) (o : Origin) (place : ℕ) → place ≡ length paths + j → slice_get os j ≡ Some o → Entry paths os j o place
+entry paths [] j o place e at = cc
+entry paths (p ∷ os) zero o place e at =
     let same : p ≡ o = same_Some p o at in
-    let more : List (List ℕ) = texts ++ text_by texts p ∷ [] in
+    let more : List Path = paths ++ path_by paths p ∷ [] in
     record {
-      earlier = texts;
+      earlier = paths;
       len = omega arith;
-      keeps = λ k x h. grown_keeps more os k x (slice_get_more texts (text_by texts p ∷ []) k x h);
-      is = grown_keeps more os place (text_by texts o) (subst (λ z. slice_get more place ≡ Some (text_by texts z)) same (slice_get_last texts (text_by texts p) place (omega arith)));
+      keeps = λ k x h. grown_keeps more os k x (slice_get_more paths (path_by paths p ∷ []) k x h);
+      is = grown_keeps more os place (path_by paths o) (subst (λ z. slice_get more place ≡ Some (path_by paths z)) same (slice_get_last paths (path_by paths p) place (omega arith)));
     }
-entry texts (p ∷ os) (suc j) o place e at =
-    let more : List (List ℕ) = texts ++ text_by texts p ∷ [] in
-    let r = entry more os j o place (omega (arith, length-append texts (text_by texts p ∷ []))) at in
+entry paths (p ∷ os) (suc j) o place e at =
+    let more : List Path = paths ++ path_by paths p ∷ [] in
+    let r = entry more os j o place (omega (arith, length-append paths (path_by paths p ∷ []))) at in
     record { earlier = r.earlier; len = r.len; keeps = r.keeps; is = r.is }
 
 -- a state that was found from an earlier one
-pub text_from : (os : List Origin) (j : ℕ) (o : Origin) → slice_get os j ≡ Some o → o.from < j → (u : List ℕ) → slice_get (texts_of os) j ≡ Some u → (v : List ℕ) × (slice_get (texts_of os) o.from ≡ Some v) × (u ≡ v ++ o.byte ∷ [])
-unfolding texts_of
+pub text_from : (os : List Origin) (j : ℕ) (o : Origin) → slice_get os j ≡ Some o → o.from < j → (u : Path) → slice_get (paths_of os) j ≡ Some u → (v : Path) × (slice_get (paths_of os) o.from ≡ Some v) × (u.text ≡ v.text ++ o.byte ∷ [])
+unfolding paths_of
 text_from os j o at lt u is =
     let r = entry [] os j o j (omega arith) at in
-    let v : List ℕ = get_or r.earlier o.from [] in
-    let h : slice_get r.earlier o.from ≡ Some v = slice_get-get_or r.earlier o.from [] (omega (arith, r.len)) in
-    (v, r.keeps o.from v h, same_Some u (v ++ o.byte ∷ []) (sym is ∙ r.is ∙ ap (λ z. Some (text_on z o.byte)) h))
+    let v : Path = get_or r.earlier o.from u in
+    let h : slice_get r.earlier o.from ≡ Some v = slice_get-get_or r.earlier o.from u (omega (arith, r.len)) in
+    (v, r.keeps o.from v h, ap (λ z. z.text) (same_Some u (record { set = o.set; text = v.text ++ o.byte ∷ [] }) (sym is ∙ r.is ∙ ap (λ z. Some (path_on z o.set o.byte)) h)))
 
--- the first state
-pub text_none : (os : List Origin) (j : ℕ) (o : Origin) → slice_get os j ≡ Some o → j ≤ o.from → slice_get (texts_of os) j ≡ Some []
-unfolding texts_of
-text_none os j o at le =
+-- a state at the start of a set
+pub text_none : (os : List Origin) (j : ℕ) (o : Origin) → slice_get os j ≡ Some o → j ≤ o.from → (u : Path) → slice_get (paths_of os) j ≡ Some u → u.text ≡ []
+unfolding paths_of
+text_none os j o at le u is =
     let r = entry [] os j o j (omega arith) at in
-    r.is ∙ ap (λ z. Some (text_on z o.byte)) (slice_get_past r.earlier o.from (omega (arith, r.len)))
+    ap (λ z. z.text) (same_Some u (record { set = o.set; text = [] }) (sym is ∙ r.is ∙ ap (λ z. Some (path_on z o.set o.byte)) (slice_get_past r.earlier o.from (omega (arith, r.len)))))
 
-pub texts_len : (os : List Origin) → length (texts_of os) ≡ length os
-unfolding texts_of
-texts_len os = (let e = grown_len [] os in omega arith)
+-- the set is that of the origin
+pub set_at : (os : List Origin) (j : ℕ) (o : Origin) → slice_get os j ≡ Some o → (u : Path) → slice_get (paths_of os) j ≡ Some u → o.set ≡ u.set
+unfolding paths_of
+set_at os j o at u is =
+    let r = entry [] os j o j (omega arith) at in
+    set_on (slice_get r.earlier o.from) o.set o.byte ∙ ap (λ z. z.set) (same_Some (path_by r.earlier o) u (sym r.is ∙ is))
   where
-    grown_len : (texts : List (List ℕ)) (os : List Origin) → length (grown texts os) ≡ length texts + length os
-    grown_len texts [] = omega arith
-    grown_len texts (o ∷ os) = omega (arith, grown_len (texts ++ text_by texts o ∷ []) os, length-append texts (text_by texts o ∷ []))
+    set_on : (p : Option Path) (set b : ℕ) → set ≡ (path_on p set b).set
+    set_on None set b = refl
+    set_on (Some p) set b = refl
+
+pub paths_len : (os : List Origin) → length (paths_of os) ≡ length os
+unfolding paths_of
+paths_len os = (let e = grown_len [] os in omega arith)
+  where
+    grown_len : (paths : List Path) (os : List Origin) → length (grown paths os) ≡ length paths + length os
+    grown_len paths [] = omega arith
+    grown_len paths (o ∷ os) = omega (arith, grown_len (paths ++ path_by paths o ∷ []) os, length-append paths (path_by paths o ∷ []))
+
+-- what is read back of a state's text so far
+abbrev pub IsReadBack : List Origin → ℕ → ℕ → List ℕ → Type 0
+IsReadBack os state at bytes = (at < length os) × ((u v : Path) → slice_get (paths_of os) state ≡ Some u → slice_get (paths_of os) at ≡ Some v → u.text ≡ v.text ++ reverse bytes)
 
 -- one byte more is read back
-pub text_back : (os : List Origin) (state at : ℕ) (bytes new : List ℕ) (o : Origin) → slice_get os at ≡ Some o → o.from < at → new ≡ bytes ++ o.byte ∷ [] → (at < length os) × ((u : List ℕ) → slice_get (texts_of os) at ≡ Some u → slice_get (texts_of os) state ≡ Some (u ++ reverse bytes)) → (o.from < length os) × ((v : List ℕ) → slice_get (texts_of os) o.from ≡ Some v → slice_get (texts_of os) state ≡ Some (v ++ reverse new))
+pub text_back : (os : List Origin) (state at : ℕ) (bytes new : List ℕ) (o : Origin) → slice_get os at ≡ Some o → o.from < at → new ≡ bytes ++ o.byte ∷ [] → IsReadBack os state at bytes → IsReadBack os state o.from new
 text_back os state at bytes new o here lt e (within, before) = (
   omega arith,
-  λ v is.
-      let u : List ℕ = get_or (texts_of os) at [] in
-      let at_u : slice_get (texts_of os) at ≡ Some u = slice_get-get_or (texts_of os) at [] (omega (arith, texts_len os)) in
-      let (w, is_w, joins) = text_from os at o here lt u at_u in
-      let same : w ≡ v = same_Some w v (sym is_w ∙ is) in
-      let turned : u ++ reverse bytes ≡ v ++ reverse new = ap (λ z. z ++ reverse bytes) (joins ∙ ap (λ z. z ++ o.byte ∷ []) same) ∙ append_assoc v (o.byte ∷ []) (reverse bytes) ∙ sym (ap (λ z. v ++ reverse z) e ∙ ap (λ z. v ++ z) (reverse-append bytes (o.byte ∷ []))) in
-      before u at_u ∙ ap Some turned,
+  λ u v is is_v.
+      let w : Path = get_or (paths_of os) at u in
+      let at_w : slice_get (paths_of os) at ≡ Some w = slice_get-get_or (paths_of os) at u (omega (arith, paths_len os)) in
+      let (x, is_x, joins) = text_from os at o here lt w at_w in
+      let same : x ≡ v = same_Some x v (sym is_x ∙ is_v) in
+      before u w is at_w ∙ ap (λ z. z ++ reverse bytes) (joins ∙ ap (λ z. z.text ++ o.byte ∷ []) same) ∙ append_assoc v.text (o.byte ∷ []) (reverse bytes) ∙ sym (ap (λ z. v.text ++ reverse z) e ∙ ap (λ z. v.text ++ z) (reverse-append bytes (o.byte ∷ []))),
 )
+
+pub back_begin : (os : List Origin) (state : ℕ) → state < length os → IsReadBack os state state []
+back_begin os state lt = (lt, λ u v is is_v. ap (λ z. z.text) (same_Some u v (sym is ∙ is_v)) ∙ nothing v.text)
+  where
+    nothing : (xs : List ℕ) → xs ≡ xs ++ []
+    nothing [] = refl
+    nothing (x ∷ xs) = ap (λ z. x ∷ z) (nothing xs)

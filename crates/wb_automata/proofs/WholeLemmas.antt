@@ -1,26 +1,29 @@
 -- What was found is an automaton: each state stands for the texts that lead to it.
-use Rattle.std.proofs.Common.{◌≡◌, ℕ, zero, suc, ◌+◌, ◌/◌, ◌<◌, true, false, List, [], ◌∷◌, ◌++◌, refl, sym, ◌∙◌, ap, subst, arith, inl, inr, Option, Some, None, length, get_or}
+use Rattle.std.proofs.Common.{◌≡◌, ℕ, zero, suc, ◌+◌, ◌/◌, ◌<◌, Bool, true, false, List, [], ◌∷◌, ◌++◌, refl, sym, ◌∙◌, ap, subst, arith, inl, inr, Option, Some, None, length, get_or}
 use Rattle.std.specs.Prelude.{slice_get, ◌==◌, ◌↔◌, Contains}
 use Rattle.std.proofs.lemmas.Bool.{true≢false, cases_Bool}
 use Rattle.std.proofs.lemmas.List.{get_or_past}
 use Rattle.std.proofs.lemmas.Nat.Bits.{bit_at-zero}
 use Rattle.std.proofs.lemmas.Option.{slice_get-get_or, slice_get_within, same_Some}
+use Rattle.wb_termset.specs.Sets.{Has}
 use Rattle.wb_regex.specs.Tree.{Tree, Set}
 use Rattle.wb_regex.specs.declared.node.RegexNode.{RegexNode}
 use Rattle.wb_regex.specs.declared.node.RegexNode.TheVariants as n
+use Rattle.wb_automata.specs.declared.tables.Tables.{Tables}
 use Rattle.wb_automata.specs.Linear.{Linear, Matches}
+use Rattle.wb_automata.specs.Nodes.{row}
 use Rattle.wb_automata.specs.Machines.{Ahead, Reads, holds_of, node_holds}
-use Rattle.wb_automata.specs.Sets.{Stands, Ranges, IsNext, Filled}
-use Rattle.wb_automata.specs.Running.{IsForest, IsFollow}
-use Rattle.wb_automata.specs.Found.{Found, AreFound}
+use Rattle.wb_automata.specs.Sets.{Stands, Ranges, IsNext, IsStartOf, Filled}
+use Rattle.wb_automata.specs.Running.{IsForest}
+use Rattle.wb_automata.specs.Found.{Found, AreFound, IsSetStart, IsChild, on}
 use Rattle.wb_automata.specs.Exploring.{IsMove}
-use Rattle.wb_automata.specs.Automata.{IsMatch, GoesOn, AreAlike}
+use Rattle.wb_automata.specs.Automata.{AutomatonView, Path, IsConsidered, IsMatch, MatchesIn, GoesOn, AreAlike}
 use Rattle.wb_automata.specs.Tables.{AreTables}
 use Rattle.wb_automata.specs.Joined.{bound_of}
 use Rattle.wb_automata.specs.Kept.{IsStepOf}
 use Rattle.wb_automata.proofs.ErasingLemmas.{erased, placed}
 use Rattle.wb_automata.proofs.NodeLemmas.{covers_spans}
-use Rattle.wb_automata.proofs.StandsLemmas.{stands_first, stands_next, accepts, alive}
+use Rattle.wb_automata.proofs.StandsLemmas.{stands_first, stands_next, accepts, alive, some_text}
 
 forest_ranges : (nodes : List RegexNode) (trees : List Linear) (bound : ℕ → ℕ) → IsForest nodes trees bound → Ranges trees bound
 forest_ranges nodes trees bound h = record { spans = λ k t at. covers_spans (h.covers k t at); rises = h.rises }
@@ -28,117 +31,133 @@ forest_ranges nodes trees bound h = record { spans = λ k t at. covers_spans (h.
 pub blank : (b : ℕ) → node_holds (n.Set []) b ≡ false
 blank b = elim (cases_Bool (b / 256 == 0)) [ inl e ↦ rw (bit_at-zero, e) refl | inr e ↦ rw (bit_at-zero, e) refl ]
 
-outside : (nodes : List RegexNode) (b : ℕ) → holds_of nodes (length nodes) b ≡ true → ⊥
-outside nodes b h = true≢false (sym h ∙ ap (λ node. node_holds node b) (get_or_past nodes (length nodes) (n.Set []) (omega arith)) ∙ blank b)
+outside : (nodes : List RegexNode) (k b : ℕ) → holds_of nodes (length nodes + k) b ≡ true → ⊥
+outside nodes k b h = true≢false (sym h ∙ ap (λ node. node_holds node b) (get_or_past nodes (length nodes + k) (n.Set []) (omega arith)) ∙ blank b)
 
-next_is : (nodes : List RegexNode) (trees : List Linear) (follow : List (List ℕ)) (set next : List ℕ) (b : ℕ) → IsFollow nodes trees follow → ((q : ℕ) → Contains next q ↔ Reads nodes follow set b q) → IsNext (holds_of nodes) trees (length nodes) set b next
-next_is nodes trees follow set next b h is q = (
-  λ has. let (t, a) = (is q).0 has in record { byte = t; from = a.from; has = a.has; links = (h a.from q).0 a.follows },
-  λ t. (is q).1 (t.byte, record { from = t.from; has = t.has; follows = (h t.from q).1 t.links }),
-)
+-- a terminal of the expressions with places, and the other way round
+module _ (trees : List Tree) (sets : List (List Bool)) (t : Tables) (h : AreTables trees sets t) where
+  here : Ranges h.planted.linears (bound_of trees)
+  here = forest_ranges t.nodes.items h.planted.linears (bound_of trees) h.planted.forest
 
-only : (m p : ℕ) → Contains (m ∷ []) p ↔ (p ≡ m)
-only m p = (λ has. one_of m p has, λ e. (0, omega arith, sym e))
-  where
-    one_of : (m p : ℕ) → Contains (m ∷ []) p → p ≡ m
-    one_of m p (zero, lt, is) = sym is
-    one_of m p (suc k, lt, is) = absurd (omega arith)
+  -- the places are the state of the text from the start of the set
+  abbrev pub Represents : List ℕ → Path → Type 0
+  Represents places path = Stands (holds_of t.nodes.items) h.planted.linears (length t.nodes.items) (IsConsidered sets path.set) places path.text
 
-module _ (trees : List Tree) (nodes : List RegexNode) (follow ends : List (List ℕ)) (t : AreTables trees nodes follow ends) where
-  here : Ranges t.planted.linears (bound_of trees)
-  here = forest_ranges nodes t.planted.linears (bound_of trees) t.planted.forest
-
-  -- the set is the state of the text
-  abbrev pub Represents : List ℕ → List ℕ → Type 0
-  Represents set x = Stands (holds_of nodes) t.planted.linears (length nodes) set x
+  next_is : (places next : List ℕ) (b : ℕ) → ((q : ℕ) → Contains next q ↔ Reads t places b q) → IsNext (holds_of t.nodes.items) h.planted.linears (length t.nodes.items) places b next
+  next_is places next b is q = (
+    λ has. let (x, a) = (is q).0 has in record { byte = x; from = a.from; has = a.has; links = (h.is_follow a.from q).0 a.follows },
+    λ x. (is q).1 (x.byte, record { from = x.from; has = x.has; follows = (h.is_follow x.from q).1 x.links }),
+  )
 
   -- a step
-  pub step_represents : (set next text : List ℕ) (b : ℕ) → Represents set text → ((q : ℕ) → Contains next q ↔ Reads nodes follow set b q) → Represents next (text ++ b ∷ [])
-  step_represents set next text b stands is = stands_next (holds_of nodes) t.planted.linears (bound_of trees) (length nodes) here (outside nodes) set next b text stands (next_is nodes t.planted.linears follow set next b t.is_follow is)
+  pub step_represents : (places next : List ℕ) (path : Path) (b : ℕ) → Represents places path → ((q : ℕ) → Contains next q ↔ Reads t places b q) → Represents next (on path b)
+  step_represents places next path b stands is = stands_next (holds_of t.nodes.items) h.planted.linears (bound_of trees) (length t.nodes.items) (IsConsidered sets path.set) here (outside t.nodes.items) places next b path.text stands (next_is places next b is)
 
-  first_represents : Represents (length nodes ∷ []) []
-  first_represents = stands_first (holds_of nodes) t.planted.linears (bound_of trees) (length nodes) here (outside nodes) (length nodes ∷ []) (λ p. only (length nodes) p) (λ k l at. t.planted.forest.all (k + 1))
+  -- the start of a set
+  pub start_represents : (s : ℕ) → s < length sets → Represents (row t.starts s) (record { set = s; text = [] })
+  start_represents s lt =
+      let flags : List Bool = get_or sets s [] in
+      let at : slice_get sets s ≡ Some flags = slice_get-get_or sets s [] lt in
+      stands_first (holds_of t.nodes.items) h.planted.linears (bound_of trees) (length t.nodes.items) (IsConsidered sets s) here (outside t.nodes.items) (row t.starts s) (λ p. (
+        λ has. let x = (h.is_starts s flags at p).0 has in record { number = x.number; below = (let b = x.below in omega (arith, h.planted.len)); is = record { flags = flags; at = at; has = x.is }; place = x.place },
+        λ x. (h.is_starts s flags at p).1 (record { number = x.number; below = (let b = x.below in omega (arith, h.planted.len)); is = subst (λ z. Has z x.number) (same_Some x.is.flags flags (sym x.is.at ∙ at)) x.is.has; place = x.place })
+      )) (λ k l is. h.planted.forest.all (k + 1))
 
-  -- each state that was found is that of its first text
-  represents_below : (found : Found) → AreFound nodes follow found → (m j : ℕ) (set text : List ℕ) → j < m → slice_get found.sets j ≡ Some set → slice_get found.texts j ≡ Some text → Represents set text
-  represents_below found h zero j set text lt at at_text = absurd (omega arith)
-  represents_below found h (suc m) zero set text lt at at_text =
-      let e : length nodes ∷ [] ≡ set = same_Some (length nodes ∷ []) set (sym h.first ∙ at) in
-      let f : [] ≡ text = same_Some [] text (sym h.begin ∙ at_text) in
-      subst (λ z. Represents z text) e (subst (Represents (length nodes ∷ [])) f first_represents)
-  represents_below found h (suc m) (suc j) set text lt at at_text =
-      let c = h.child (suc j) (omega arith) (slice_get_within found.sets (suc j) set at) in
-      let lt' = c.earlier in
-      let stands : Represents c.set c.text = represents_below found h m c.from c.set c.text (omega arith) c.at c.at_text in
-      let next : Represents c.own (c.text ++ c.byte ∷ []) = step_represents c.set c.own c.text c.byte stands c.exact in
-      let e : c.own ≡ set = same_Some c.own set (sym c.here ∙ at) in
-      let f : c.text ++ c.byte ∷ [] ≡ text = same_Some (c.text ++ c.byte ∷ []) text (sym c.here_text ∙ at_text) in
-      subst (λ z. Represents z text) e (subst (Represents c.own) f next)
+  -- each state that was found is that of its path
+  represents_below : (found : Found) → AreFound t found → (m j : ℕ) (places : List ℕ) (path : Path) → j < m → slice_get found.sets j ≡ Some places → slice_get found.paths j ≡ Some path → Represents places path
+  represents_below found f zero j places path lt at at_path = absurd (omega arith)
+  represents_below found f (suc m) j places path lt at at_path = elim (f.each j (slice_get_within found.sets j places at)) [
+    | inl s ↦
+        let e : row t.starts s.set ≡ places = same_Some (row t.starts s.set) places (sym s.here ∙ at) in
+        let g : record { set = s.set; text = [] } ≡ path = same_Some (record { set = s.set; text = [] }) path (sym s.here_path ∙ at_path) in
+        subst (λ z. Represents z path) e (subst (Represents (row t.starts s.set)) g (start_represents s.set (omega (arith, s.below, h.starts_len))))
+    | inr c ↦
+        let less = c.earlier in
+        let stands : Represents c.set c.path = represents_below found f m c.from c.set c.path (omega arith) c.at c.at_path in
+        let next : Represents c.own (on c.path c.byte) = step_represents c.set c.own c.path c.byte stands c.exact in
+        let e : c.own ≡ places = same_Some c.own places (sym c.here ∙ at) in
+        let g : on c.path c.byte ≡ path = same_Some (on c.path c.byte) path (sym c.here_path ∙ at_path) in
+        subst (λ z. Represents z path) e (subst (Represents c.own) g next)
+  ]
 
-  pub represents : (found : Found) → AreFound nodes follow found → (j : ℕ) (set text : List ℕ) → slice_get found.sets j ≡ Some set → slice_get found.texts j ≡ Some text → Represents set text
-  represents found h j set text at at_text = represents_below found h (suc j) j set text (omega arith) at at_text
-
-  -- two texts of one state are alike
-  move_match : (set x y rest : List ℕ) (k : ℕ) → Represents set x → Represents set y → IsMatch trees k (x ++ rest) → IsMatch trees k (y ++ rest)
-  move_match set x y rest k p q m =
-      let h = t.planted.places k m.tree m.at in
-      record { tree = m.tree; at = m.at; matches = erased nodes h.erases ((q k h.linear h.at rest).0 ((p k h.linear h.at rest).1 (placed nodes h.erases m.matches))) }
-
-  pub alike : (set x y : List ℕ) → Represents set x → Represents set y → AreAlike trees x y
-  alike set x y p q k rest = (λ m. move_match set x y rest k p q m, λ m. move_match set y x rest k q p m)
+  pub represents : (found : Found) → AreFound t found → (j : ℕ) (places : List ℕ) (path : Path) → slice_get found.sets j ≡ Some places → slice_get found.paths j ≡ Some path → Represents places path
+  represents found f j places path at at_path = represents_below found f (suc j) j places path (omega arith) at at_path
 
   -- a terminal of the expressions with places
-  back_match : (k : ℕ) (l : Linear) (x : List ℕ) → slice_get t.planted.linears k ≡ Some l → Matches (holds_of nodes) l x → IsMatch trees k x
-  back_match k l x at m =
-      let tree : Tree = get_or trees k (Set []) in
-      let here : slice_get trees k ≡ Some tree = slice_get-get_or trees k (Set []) (omega (arith, t.planted.len, slice_get_within t.planted.linears k l at)) in
-      let h = t.planted.places k tree here in
-      let same : l ≡ h.linear = same_Some l h.linear (sym at ∙ h.at) in
-      record { tree = tree; at = here; matches = erased nodes h.erases (subst (λ z. Matches (holds_of nodes) z x) same m) }
+  tree_at : (k : ℕ) (l : Linear) → slice_get h.planted.linears k ≡ Some l → slice_get trees k ≡ Some (get_or trees k (Set []))
+  tree_at k l at = slice_get-get_or trees k (Set []) (omega (arith, h.planted.len, slice_get_within h.planted.linears k l at))
 
-  filled_all : (k : ℕ) (l : Linear) → slice_get t.planted.linears k ≡ Some l → Filled (holds_of nodes) l
+  back_match : (k : ℕ) (l : Linear) (x : List ℕ) → slice_get h.planted.linears k ≡ Some l → Matches (holds_of t.nodes.items) l x → IsMatch trees k x
+  back_match k l x at m =
+      let p = h.planted.places k (get_or trees k (Set [])) (tree_at k l at) in
+      record { tree = get_or trees k (Set []); at = tree_at k l at; matches = erased t.nodes.items p.erases (subst (λ z. Matches (holds_of t.nodes.items) z x) (same_Some l p.linear (sym at ∙ p.at)) m) }
+
+  filled_all : (k : ℕ) (l : Linear) → slice_get h.planted.linears k ≡ Some l → Filled (holds_of t.nodes.items) l
   filled_all k l at =
+      let p = h.planted.places k (get_or trees k (Set [])) (tree_at k l at) in
+      subst (Filled (holds_of t.nodes.items)) (same_Some p.linear l (sym p.at ∙ at)) p.filled
+
+  -- no terminal matches the empty text, and some text matches each
+  pub not_empty : (k : ℕ) → ¬ IsMatch trees k []
+  not_empty k m = let p = h.planted.places k m.tree m.at in p.not_empty (placed t.nodes.items p.erases m.matches)
+
+  pub filled : (k : ℕ) → k < length trees → (text : List ℕ) × IsMatch trees k text
+  filled k lt =
       let tree : Tree = get_or trees k (Set []) in
-      let here : slice_get trees k ≡ Some tree = slice_get-get_or trees k (Set []) (omega (arith, t.planted.len, slice_get_within t.planted.linears k l at)) in
-      let h = t.planted.places k tree here in
-      subst (Filled (holds_of nodes)) (same_Some h.linear l (sym h.at ∙ at)) h.filled
+      let p = h.planted.places k tree (slice_get-get_or trees k (Set []) lt) in
+      let s = some_text (holds_of t.nodes.items) p.linear p.filled in
+      (s.text, back_match k p.linear s.text p.at s.matches)
+
+  -- two paths of one state are alike
+  move_match : (found : Found) (places : List ℕ) (x y : Path) (rest : List ℕ) (k : ℕ) → Represents places x → Represents places y → MatchesIn (record { terminals = trees; sets = sets; paths = found.paths }) x.set k (x.text ++ rest) → MatchesIn (record { terminals = trees; sets = sets; paths = found.paths }) y.set k (y.text ++ rest)
+  move_match found places x y rest k p q m =
+      let at = h.planted.places k m.is.tree m.is.at in
+      let (c, r) = (q k at.linear at.at rest).0 ((p k at.linear at.at rest).1 (m.considered, placed t.nodes.items at.erases m.is.matches)) in
+      record { considered = c; is = record { tree = m.is.tree; at = m.is.at; matches = erased t.nodes.items at.erases r } }
+
+  pub alike : (found : Found) (places : List ℕ) (x y : Path) → Represents places x → Represents places y → AreAlike (record { terminals = trees; sets = sets; paths = found.paths }) x y
+  alike found places x y p q k rest = (λ m. move_match found places x y rest k p q m, λ m. move_match found places y x rest k q p m)
 
   -- where nothing reads the byte, no match goes on
-  pub stops : (set text : List ℕ) (b : ℕ) → Represents set text → ((q : ℕ) → Reads nodes follow set b q → ⊥) → ¬ GoesOn trees (text ++ b ∷ [])
-  stops set text b stands none g =
-      let next : Represents [] (text ++ b ∷ []) = step_represents set [] text b stands (λ q. (λ (k, bad, _). absurd (omega arith), λ r. absurd (none q r))) in
-      let h = t.planted.places g.terminal g.is.tree g.is.at in
-      let r = (next g.terminal h.linear h.at g.rest).1 (placed nodes h.erases g.is.matches) in
+  stops : (found : Found) (places : List ℕ) (path : Path) (b : ℕ) → Represents places path → ((q : ℕ) → Reads t places b q → ⊥) → ¬ GoesOn (record { terminals = trees; sets = sets; paths = found.paths }) path.set (path.text ++ b ∷ [])
+  stops found places path b stands none g =
+      let next : Represents [] (on path b) = step_represents places [] path b stands (λ q. (λ (k, bad, _). absurd (omega arith), λ r. absurd (none q r))) in
+      let at = h.planted.places g.terminal g.is.is.tree g.is.is.at in
+      let r = (next g.terminal at.linear at.at g.rest).1 (g.is.considered, placed t.nodes.items at.erases g.is.is.matches) in
       let (k, bad, _) = r.has in omega arith
 
   -- where some leaf reads it, some match goes on
-  pub goes : (set next text : List ℕ) (b q : ℕ) → Represents set text → ((q : ℕ) → Contains next q ↔ Reads nodes follow set b q) → Contains next q → GoesOn trees (text ++ b ∷ [])
-  goes set next text b q stands is has =
-      let a = alive (holds_of nodes) t.planted.linears (length nodes) set next b q filled_all (next_is nodes t.planted.linears follow set next b t.is_follow is) has in
-      let stood : Represents next (text ++ b ∷ []) = step_represents set next text b stands is in
-      record { terminal = a.number; rest = a.text; is = back_match a.number a.tree (text ++ b ∷ [] ++ a.text) a.at ((stood a.number a.tree a.at a.text).0 a.rest) }
+  goes : (found : Found) (places next : List ℕ) (path : Path) (b q : ℕ) → Represents places path → ((q : ℕ) → Contains next q ↔ Reads t places b q) → Contains next q → GoesOn (record { terminals = trees; sets = sets; paths = found.paths }) path.set (path.text ++ b ∷ [])
+  goes found places next path b q stands is has =
+      let a = alive (holds_of t.nodes.items) h.planted.linears (length t.nodes.items) places next b q filled_all (next_is places next b is) has in
+      let stood : Represents next (on path b) = step_represents places next path b stands is in
+      let (c, m) = (stood a.number a.tree a.at a.text).0 a.rest in
+      record { terminal = a.number; rest = a.text; is = record { considered = c; is = back_match a.number a.tree (path.text ++ b ∷ [] ++ a.text) a.at m } }
 
-  -- a state accepts what matches its text
-  pub accepts_exact : (set text : List ℕ) (k : ℕ) → Represents set text → Ahead ends set k ↔ IsMatch trees k text
-  accepts_exact set text k stands = (
+  -- a state accepts the terminals of the set that match its text
+  pub accepts_exact : (found : Found) (places : List ℕ) (path : Path) (k : ℕ) → Represents places path → Ahead t.ends places k ↔ MatchesIn (record { terminals = trees; sets = sets; paths = found.paths }) path.set k path.text
+  accepts_exact found places path k stands = (
     λ a.
-        let e = (t.is_ends a.from k).0 a.follows in
-        back_match k e.tree text e.at ((accepts (holds_of nodes) t.planted.linears (bound_of trees) (length nodes) here (outside nodes) set text stands k e.tree e.at).0 (record { leaf = a.from; has = a.has; is = e.ends })),
+        let e = (h.is_ends a.from k).0 a.follows in
+        let (c, m) = (accepts (holds_of t.nodes.items) h.planted.linears (bound_of trees) (length t.nodes.items) (IsConsidered sets path.set) here (outside t.nodes.items) places path.text stands k e.tree e.at (none_of k e.tree e.at)).0 (record { leaf = a.from; has = a.has; is = e.ends }) in
+        record { considered = c; is = back_match k e.tree path.text e.at m },
     λ m.
-        let h = t.planted.places k m.tree m.at in
-        let e = (accepts (holds_of nodes) t.planted.linears (bound_of trees) (length nodes) here (outside nodes) set text stands k h.linear h.at).1 (placed nodes h.erases m.matches) in
-        record { from = e.leaf; has = e.has; follows = (t.is_ends e.leaf k).1 (record { tree = h.linear; at = h.at; ends = e.is }) },
+        let at = h.planted.places k m.is.tree m.is.at in
+        let e = (accepts (holds_of t.nodes.items) h.planted.linears (bound_of trees) (length t.nodes.items) (IsConsidered sets path.set) here (outside t.nodes.items) places path.text stands k at.linear at.at at.not_empty).1 (m.considered, placed t.nodes.items at.erases m.is.matches) in
+        record { from = e.leaf; has = e.has; follows = (h.is_ends e.leaf k).1 (record { tree = at.linear; at = at.at; ends = e.is }) },
   )
+    where
+      none_of : (k : ℕ) (l : Linear) → slice_get h.planted.linears k ≡ Some l → ¬ Matches (holds_of t.nodes.items) l []
+      none_of k l at m = not_empty k (back_match k l [] at m)
 
   -- a move of the table is a step
-  pub move_step : (found : Found) (h : AreFound nodes follow found) (set text : List ℕ) (b : ℕ) (o : Option ℕ) → Represents set text → IsMove nodes follow found set text b o → IsStepOf (record { terminals = trees; texts = found.texts }) text b o
-  move_step found h set text b None stands none = stops set text b stands none
-  move_step found h set text b (Some j) stands m =
+  pub move_step : (found : Found) (f : AreFound t found) (places : List ℕ) (path : Path) (b : ℕ) (o : Option ℕ) → Represents places path → IsMove t found places path b o → IsStepOf (record { terminals = trees; sets = sets; paths = found.paths }) path b o
+  move_step found f places path b None stands none = stops found places path b stands none
+  move_step found f places path b (Some j) stands m =
       let (q, has) = m.some in
       record {
         own = m.own;
-        at = m.at_text;
-        alike = alike m.next (text ++ b ∷ []) m.own (step_represents set m.next text b stands m.exact) (represents found h j m.next m.own m.at m.at_text);
-        goes = goes set m.next text b q stands m.exact has;
-        least = m.least;
+        at = m.at_path;
+        alike = alike found m.next (on path b) m.own (step_represents places m.next path b stands m.exact) (represents found f j m.next m.own m.at m.at_path);
+        goes = goes found places m.next path b q stands m.exact has;
       }

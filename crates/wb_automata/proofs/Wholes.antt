@@ -2,9 +2,9 @@
 use Rattle.std.proofs.Common.{◌≡◌, ℕ, ◌+◌, ◌<◌, Bool, List, sym, ◌∙◌, subst, arith, ◌⊎◌, inl, inr, Some, length, get_or}
 use Rattle.std.specs.Prelude.{slice_get, ◌↔◌, Contains}
 use Rattle.std.proofs.lemmas.Option.{slice_get-get_or, slice_get_within}
-use Rattle.wb_automata.specs.Linear.{Linear, Leaf, empty_of}
+use Rattle.wb_automata.specs.Linear.{Linear, Leaf}
 use Rattle.wb_regex.specs.declared.node.RegexNode.{RegexNode}
-use Rattle.wb_automata.specs.Nodes.{AreFirsts, AreLasts, AreEmpties, Covers, row, flag, firsts, lasts}
+use Rattle.wb_automata.specs.Nodes.{AreFirsts, AreLasts, Covers, row, firsts, lasts}
 use Rattle.wb_automata.specs.Follows.{LinkIn}
 use Rattle.wb_automata.specs.Roots.{BeginAt, EndAt}
 use Rattle.wb_automata.specs.Running.{IsForest, IsFollow, IsEnds, AreRoots}
@@ -40,17 +40,15 @@ module _ (nodes : List RegexNode) (trees : List Linear) (bound : ℕ → ℕ) (r
     ]),
   )
 
-  pub ends_whole : (last table : List (List ℕ)) (empty : List Bool) → AreLasts nodes last (length nodes) → AreEmpties nodes empty (length nodes) → ((p k : ℕ) → Contains (row table p) k ↔ EndAt last empty roots (length nodes) (length roots) p k) → IsEnds nodes trees table
-  ends_whole last table empty hl he exact p k = (
+  pub ends_whole : (last table : List (List ℕ)) → AreLasts nodes last (length nodes) → ((p k : ℕ) → Contains (row table p) k ↔ EndAt last roots (length roots) p k) → IsEnds trees table
+  ends_whole last table hl exact p k = (
     λ has.
         let x = (exact p k).0 has in
         let t = get_or trees k (Leaf 0) in
         let at = tree_at k x.below in
         let e : row last (get_or roots k 0) ≡ lasts t = hl.each (bound k) (get_or roots k 0) t (root_below k t at) (covered k t at) in
-        let b : flag empty (get_or roots k 0) ≡ empty_of t = he.each (bound k) (get_or roots k 0) t (root_below k t at) (covered k t at) in
-        record { tree = t; at = at; ends = elim x.ends [ inl l ↦ inl ((lasts_is t p).0 (subst (λ zs. Contains zs p) e l)) | inr (m, y) ↦ inr (m, sym b ∙ y) ] },
+        record { tree = t; at = at; ends = (lasts_is t p).0 (subst (λ zs. Contains zs p) e x.ends) },
     λ x.
         let e : row last (get_or roots k 0) ≡ lasts x.tree = hl.each (bound k) (get_or roots k 0) x.tree (root_below k x.tree x.at) (covered k x.tree x.at) in
-        let b : flag empty (get_or roots k 0) ≡ empty_of x.tree = he.each (bound k) (get_or roots k 0) x.tree (root_below k x.tree x.at) (covered k x.tree x.at) in
-        (exact p k).1 (record { below = omega (arith, h.len, slice_get_within trees k x.tree x.at); ends = elim x.ends [ inl l ↦ inl (subst (λ zs. Contains zs p) (sym e) ((lasts_is x.tree p).1 l)) | inr (m, y) ↦ inr (m, b ∙ y) ] }),
+        (exact p k).1 (record { below = omega (arith, h.len, slice_get_within trees k x.tree x.at); ends = subst (λ zs. Contains zs p) (sym e) ((lasts_is x.tree p).1 x.ends) }),
   )

@@ -1,13 +1,20 @@
--- What the states of an automaton of several regular expressions say of the texts that lead to them.
-use Rattle.std.specs.Prelude.{◌≡◌, ◌<◌, ◌↔◌, ℕ, List, ◌++◌, Some, slice_get}
-use Rattle.wb_regex.specs.Tree.{Tree}
+-- What the states of an automaton of several regular expressions say of the texts that lead to them from the start of a set.
+use Rattle.std.specs.Prelude.{◌≡◌, ◌+◌, ◌^◌, ◌<◌, ◌↔◌, ◌⊎◌, ℕ, Bool, List, ◌++◌, Some, length, slice_get, sum_by}
+use Rattle.wb_regex.specs.Tree.{Tree, Set, Sequence, Choice, Star, Plus, Maybe}
 use Rattle.wb_regex.specs.Matches.{Matches}
-use Rattle.wb_automata.specs.Order.{IsBefore, IsAtMost}
+use Rattle.wb_termset.specs.Sets.{Has}
+use Rattle.wb_automata.specs.Order.{IsBefore}
 
--- an automaton: the expressions of its terminals, and for each of its states the first text that leads to it
-pub record Machine : Type 0 where
+-- a way to a state: the set at whose start it begins, and the text that is read from there
+pub record Path : Type 0 where
+  pub set : ℕ
+  pub text : List ℕ
+
+-- an automaton: the expressions of its terminals, the sets of terminals that are considered, and a path to each of its states
+pub record AutomatonView : Type 0 where
   pub terminals : List Tree
-  pub texts : List (List ℕ)
+  pub sets : List (List Bool)
+  pub paths : List Path
 
 -- the terminal with this number matches the text
 pub record IsMatch (terminals : List Tree) (terminal : ℕ) (text : List ℕ) : Type 0 where
@@ -15,29 +22,57 @@ pub record IsMatch (terminals : List Tree) (terminal : ℕ) (text : List ℕ) : 
   pub at : slice_get terminals terminal ≡ Some tree
   pub matches : Matches tree text
 
--- some terminal matches some text that begins so
-pub record GoesOn (terminals : List Tree) (text : List ℕ) : Type 0 where
+-- the terminal is in the set with this number
+pub record IsConsidered (sets : List (List Bool)) (set terminal : ℕ) : Type 0 where
+  pub flags : List Bool
+  pub at : slice_get sets set ≡ Some flags
+  pub has : Has flags terminal
+
+-- the terminal is in the set, and matches the text
+pub record MatchesIn (automaton : AutomatonView) (set terminal : ℕ) (text : List ℕ) : Type 0 where
+  pub considered : IsConsidered automaton.sets set terminal
+  pub is : IsMatch automaton.terminals terminal text
+
+-- some terminal of the set matches some text that begins so
+pub record GoesOn (automaton : AutomatonView) (set : ℕ) (text : List ℕ) : Type 0 where
   pub terminal : ℕ
   pub rest : List ℕ
-  pub is : IsMatch terminals terminal (text ++ rest)
+  pub is : MatchesIn automaton set terminal (text ++ rest)
 
--- whatever is put behind both texts, the same terminals match
-abbrev pub AreAlike : List Tree → List ℕ → List ℕ → Type 0
-AreAlike terminals x y = (terminal : ℕ) (rest : List ℕ) → IsMatch terminals terminal (x ++ rest) ↔ IsMatch terminals terminal (y ++ rest)
+-- whatever is put after both texts, the same terminals match, each of its set
+abbrev pub AreAlike : AutomatonView → Path → Path → Type 0
+AreAlike automaton p q = (terminal : ℕ) (rest : List ℕ) → MatchesIn automaton p.set terminal (p.text ++ rest) ↔ MatchesIn automaton q.set terminal (q.text ++ rest)
 
--- the text leads to the state: it is alike to the first text that does
-pub record LeadsTo (machine : Machine) (text : List ℕ) (state : ℕ) : Type 0 where
-  pub first : List ℕ
-  pub at : slice_get machine.texts state ≡ Some first
-  pub alike : AreAlike machine.terminals text first
+-- the text leads from the start of the set to the state: it is alike to the path by which the state was found
+pub record LeadsTo (automaton : AutomatonView) (set : ℕ) (text : List ℕ) (state : ℕ) : Type 0 where
+  pub path : Path
+  pub at : slice_get automaton.paths state ≡ Some path
+  pub alike : AreAlike automaton (record { set = set; text = text }) path
 
--- the text leads to a state, and the first text of that state isn't behind it
-pub record IsFound (machine : Machine) (text : List ℕ) : Type 0 where
+-- the one path has the lesser set, or the same set and the lesser text
+abbrev pub IsEarlier : Path → Path → Type 0
+IsEarlier p q = (p.set < q.set) ⊎ ((p.set ≡ q.set) × IsBefore p.text q.text)
+
+-- the text leads from the start of the set to a state, whose path is this one or an earlier one
+pub record IsFound (automaton : AutomatonView) (set : ℕ) (text : List ℕ) : Type 0 where
   pub state : ℕ
-  pub leads : LeadsTo machine text state
-  pub least : IsAtMost leads.first text
+  pub leads : LeadsTo automaton set text state
+  pub least : (leads.path ≡ record { set = set; text = text }) ⊎ IsEarlier leads.path (record { set = set; text = text })
 
--- states are numbered by their first texts, and each text with which a match may begin leads to a state
-pub record IsOrdered (machine : Machine) : Type 0 where
-  pub sorted : (i j : ℕ) (u v : List ℕ) → i < j → slice_get machine.texts i ≡ Some u → slice_get machine.texts j ≡ Some v → IsBefore u v
-  pub every : (text : List ℕ) → GoesOn machine.terminals text → IsFound machine text
+-- states are numbered by their paths, and each text with which a match may begin leads to a state
+pub record IsOrdered (automaton : AutomatonView) : Type 0 where
+  pub sorted : (i j : ℕ) (p q : Path) → i < j → slice_get automaton.paths i ≡ Some p → slice_get automaton.paths j ≡ Some q → IsEarlier p q
+  pub every : (set : ℕ) (text : List ℕ) → GoesOn automaton set text → IsFound automaton set text
+
+-- how many nodes an expression has as a tree
+abbrev pub size_of : Tree → ℕ
+size_of (Set words) = 1
+size_of (Sequence r s) = size_of r + size_of s + 1
+size_of (Choice r s) = size_of r + size_of s + 1
+size_of (Star r) = size_of r + 1
+size_of (Plus r) = size_of r + 1
+size_of (Maybe r) = size_of r + 1
+
+-- how many states there are at most: two to the power of all nodes and of a start for each terminal
+abbrev pub most_states : List Tree → ℕ
+most_states trees = 2 ^ (sum_by size_of trees + length trees)

@@ -2,7 +2,7 @@
 use Rattle.std.specs.Prelude.{◌≡◌, ◌<◌, ◌≤◌, ◌⊎◌, ℕ, List, [], ◌∷◌, ◌++◌, Some, length, slice_get, slice_index}
 use Rattle.wb_regex.specs.declared.node.RegexNode.{RegexNode}
 use Rattle.wb_automata.specs.Machines.{node_holds}
-use Rattle.wb_automata.specs.Exploring.{AreRising}
+use Rattle.wb_automata.specs.Order.{AreRising}
 
 -- each byte has a class, whose first byte is in the same of the first i nodes, and isn't greater
 pub record AreClasses (nodes : List RegexNode) (classes firsts : List ℕ) (i : ℕ) : Type 0 where

@@ -1,60 +1,80 @@
 -- Where bytes lead from the states that were found.
-use Rattle.std.specs.Prelude.{◌≡◌, ◌<◌, ◌≤◌, ◌↔◌, ℕ, Option, Some, None, List, [], ◌∷◌, ◌++◌, All, Contains, length, slice_get, slice_index, slice_index_or}
-use Rattle.wb_regex.specs.declared.node.RegexNode.{RegexNode}
-use Rattle.wb_automata.specs.Machines.{Ahead, Reads}
-use Rattle.wb_automata.specs.Order.{IsAtMost}
-use Rattle.wb_automata.specs.Found.{Found, AreFound, Extends, AllBefore}
+use Rattle.std.specs.Prelude.{◌≡◌, ◌+◌, ◌*◌, ◌^◌, ◌<◌, ◌≤◌, ◌↔◌, ◌⊎◌, ℕ, Option, Some, None, List, [], ◌∷◌, ◌++◌, All, Contains, length, slice_get, slice_index, slice_index_or}
+use Rattle.wb_automata.specs.declared.tables.Tables.{Tables}
+use Rattle.wb_automata.specs.Automata.{Path, IsEarlier}
+use Rattle.wb_automata.specs.Nodes.{row}
+use Rattle.wb_automata.specs.Machines.{Ahead, Reads, IsPlaceList}
+use Rattle.wb_automata.specs.Found.{Found, AreFound, Extends, AllBefore, on}
 
--- the byte leads from the leaves of a state to those of another, whose first text isn't behind that of the state with the byte
-pub record LeadsOn (nodes : List RegexNode) (follow : List (List ℕ)) (found : Found) (set text : List ℕ) (b j : ℕ) : Type 0 where
+-- the byte leads from the places of a state to those of another, whose path isn't later than that of the state with the byte
+pub record LeadsOn (t : Tables) (found : Found) (set : List ℕ) (path : Path) (b j : ℕ) : Type 0 where
   pub next : List ℕ
-  pub own : List ℕ
+  pub own : Path
   pub at : slice_get found.sets j ≡ Some next
-  pub at_text : slice_get found.texts j ≡ Some own
-  pub exact : (q : ℕ) → Contains next q ↔ Reads nodes follow set b q
+  pub at_path : slice_get found.paths j ≡ Some own
+  pub exact : (q : ℕ) → Contains next q ↔ Reads t set b q
   pub some : (q : ℕ) × Contains next q
-  pub least : IsAtMost own (text ++ b ∷ [])
+  pub least : (own ≡ on path b) ⊎ IsEarlier own (on path b)
 
 -- the move leads nowhere only where no leaf reads the byte, and else to the state of those that do
-abbrev pub IsMove : List RegexNode → List (List ℕ) → Found → List ℕ → List ℕ → ℕ → Option ℕ → Type 0
-IsMove nodes follow found set text b None = (q : ℕ) → Reads nodes follow set b q → ⊥
-IsMove nodes follow found set text b (Some j) = LeadsOn nodes follow found set text b j
+abbrev pub IsMove : Tables → Found → List ℕ → Path → ℕ → Option ℕ → Type 0
+IsMove t found set path b None = (q : ℕ) → Reads t set b q → ⊥
+IsMove t found set path b (Some j) = LeadsOn t found set path b j
 
--- the bytes rise
-abbrev pub AreRising : List ℕ → Type 0
-AreRising bytes = (i j : ℕ) → i < j → j < length bytes → slice_index bytes i < slice_index bytes j
+-- the moves of the first i states, and those of state i by the first c of the bytes, one after the other
+pub record AreMoves (t : Tables) (bytes : List ℕ) (found : Found) (moves : List (Option ℕ)) (i c : ℕ) : Type 0 where
+  pub len : length moves ≡ i * length bytes + c
+  pub lead : (j k : ℕ) (set : List ℕ) (path : Path) → (j < i) ⊎ ((j ≡ i) × (k < c)) → k < length bytes → slice_get found.sets j ≡ Some set → slice_get found.paths j ≡ Some path → IsMove t found set path (slice_index bytes k) (slice_index_or moves (j * length bytes + k) None)
 
--- every text is before that of the state with any byte behind it
+-- every path is earlier than that of the state with any byte after it
 pub record IsReady (found : Found) (i : ℕ) : Type 0 where
   pub set : List ℕ
-  pub text : List ℕ
+  pub path : Path
   pub at : slice_get found.sets i ≡ Some set
-  pub at_text : slice_get found.texts i ≡ Some text
-  pub ahead : (b : ℕ) → AllBefore found.texts (text ++ b ∷ [])
+  pub at_path : slice_get found.paths i ≡ Some path
+  pub ahead : (b : ℕ) → AllBefore found.paths (on path b)
 
--- a part of a row: the moves from the state i by the first c of the bytes
-pub record RowPass (nodes : List RegexNode) (follow : List (List ℕ)) (bytes : List ℕ) (old new : Found) (i : ℕ) (ahead : List ℕ) (moves : List (Option ℕ)) (c : ℕ) : Type 0 where
+-- each path begins at one of the first sets
+abbrev pub SetsBelow : ℕ → Found → Type 0
+SetsBelow top found = (j : ℕ) (path : Path) → slice_get found.paths j ≡ Some path → path.set < top
+
+-- within the state i: what may come after its places, and its moves by the first c of the bytes
+pub record RowPass (t : Tables) (bytes : List ℕ) (top : ℕ) (old found : Found) (i : ℕ) (ahead : List ℕ) (moves : List (Option ℕ)) (c : ℕ) : Type 0 where
   pub set : List ℕ
-  pub text : List ℕ
-  pub at : slice_get old.sets i ≡ Some set
-  pub at_text : slice_get old.texts i ≡ Some text
-  pub is : (q : ℕ) → Contains ahead q ↔ Ahead follow set q
-  pub below : All (λ q. q < length nodes) ahead
-  pub extends : Extends old new
-  pub found : AreFound nodes follow new
-  pub len : length moves ≡ c
-  pub lead : (k : ℕ) → k < c → IsMove nodes follow new set text (slice_index bytes k) (slice_index_or moves k None)
-  pub edge : (b : ℕ) → ((k : ℕ) → k < c → slice_index bytes k < b) → AllBefore new.texts (text ++ b ∷ [])
+  pub path : Path
+  pub at : slice_get found.sets i ≡ Some set
+  pub at_path : slice_get found.paths i ≡ Some path
+  pub is : (q : ℕ) → Contains ahead q ↔ Ahead t.follow set q
+  pub places : IsPlaceList (length t.nodes.items) ahead
+  pub extends : Extends old found
+  pub found_ok : AreFound t found
+  pub sets_below : SetsBelow top found
+  pub are_moves : AreMoves t bytes found moves i c
+  pub edge : (b : ℕ) → ((k : ℕ) → k < c → slice_index bytes k < b) → AllBefore found.paths (on path b)
 
--- a whole row
-abbrev pub IsRow : List RegexNode → List (List ℕ) → List ℕ → Found → Found → ℕ → List (Option ℕ) → Type 0
-IsRow nodes follow bytes old new i moves = (ahead : List ℕ) × RowPass nodes follow bytes old new i ahead moves (length bytes)
-
--- the rows of the first i states
-pub record RowsPass (nodes : List RegexNode) (follow : List (List ℕ)) (bytes : List ℕ) (found : Found) (rows : List (List (Option ℕ))) (i : ℕ) : Type 0 where
-  pub len : length rows ≡ i
+-- the moves of the first i states
+pub record RowsPass (t : Tables) (bytes : List ℕ) (top : ℕ) (found : Found) (moves : List (Option ℕ)) (i : ℕ) : Type 0 where
   pub within : i ≤ length found.sets
-  pub found_ok : AreFound nodes follow found
+  pub found_ok : AreFound t found
+  pub sets_below : SetsBelow top found
   pub ready : i < length found.sets → IsReady found i
-  pub row_len : (j : ℕ) → j < i → length (slice_index_or rows j []) ≡ length bytes
-  pub lead : (j : ℕ) (set text : List ℕ) → j < i → slice_get found.sets j ≡ Some set → slice_get found.texts j ≡ Some text → (k : ℕ) → k < length bytes → IsMove nodes follow found set text (slice_index bytes k) (slice_index_or (slice_index_or rows j []) k None)
+  pub are_moves : AreMoves t bytes found moves i 0
+
+-- the same, after states that were there before
+pub record RowsFrom (t : Tables) (bytes : List ℕ) (top : ℕ) (old found : Found) (moves : List (Option ℕ)) (i : ℕ) : Type 0 where
+  pub extends : Extends old found
+  pub rows : RowsPass t bytes top found moves i
+
+-- the state has the starts of the set, and no later path
+pub record StartsAt (t : Tables) (found : Found) (set state : ℕ) : Type 0 where
+  pub path : Path
+  pub at : slice_get found.sets state ≡ Some (row t.starts set)
+  pub at_path : slice_get found.paths state ≡ Some path
+  pub least : (path ≡ record { set = set; text = [] }) ⊎ IsEarlier path (record { set = set; text = [] })
+
+-- all states that are found from the starts of the first s sets, and all their moves
+pub record AreExplored (t : Tables) (bytes : List ℕ) (found : Found) (moves : List (Option ℕ)) (starts : List ℕ) (s : ℕ) : Type 0 where
+  pub few : length found.sets ≤ 2 ^ length t.follow
+  pub rows : RowsPass t bytes s found moves (length found.sets)
+  pub starts_len : length starts ≡ s
+  pub starts_at : (j : ℕ) → j < s → StartsAt t found j (slice_index starts j)

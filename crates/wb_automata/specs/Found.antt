@@ -1,83 +1,95 @@
--- States that are found one after another, each with its leaves and with the first text that leads to it.
-use Rattle.std.specs.Prelude.{◌≡◌, ◌+◌, ◌<◌, ◌≤◌, ◌↔◌, ◌⊎◌, ℕ, true, Option, Some, None, List, [], ◌∷◌, ◌++◌, All, Contains, length, slice_get}
+-- States that are found one after another, each with its places and with the path by which it was found.
+use Rattle.std.specs.Prelude.{◌≡◌, ◌+◌, ◌<◌, ◌≤◌, ◌↔◌, ◌⊎◌, ℕ, true, Option, Some, None, List, [], ◌∷◌, ◌++◌, Contains, length, slice_get}
 use Rattle.wb_regex.specs.declared.node.RegexNode.{RegexNode}
 use Rattle.wb_automata.specs.declared.origin.Origin.{Origin}
-use Rattle.wb_automata.specs.Machines.{holds_of, Reads}
-use Rattle.wb_automata.specs.Order.{IsBefore}
+use Rattle.wb_automata.specs.declared.tables.Tables.{Tables}
+use Rattle.wb_automata.specs.Automata.{Path, IsEarlier}
+use Rattle.wb_automata.specs.Nodes.{row}
+use Rattle.wb_automata.specs.Machines.{holds_of, Reads, IsPlaceList}
 
--- the leaves of each state, and its first text
+-- the places of each state, and its path
 pub record Found : Type 0 where
   pub sets : List (List ℕ)
-  pub texts : List (List ℕ)
+  pub paths : List Path
 
--- the text of another state with a byte behind it, and the empty text where there is none
-abbrev pub text_on : Option (List ℕ) → ℕ → List ℕ
-text_on None b = []
-text_on (Some text) b = text ++ b ∷ []
+-- the path with one byte more
+abbrev pub on : Path → ℕ → Path
+on path b = record { set = path.set; text = path.text ++ b ∷ [] }
 
--- the text of a state that was found from another by a byte
-abbrev pub text_by : List (List ℕ) → Origin → List ℕ
-text_by texts o = text_on (slice_get texts o.from) o.byte
+-- the path from a set's start that goes on from another, and the empty one where there is no other
+abbrev pub path_on : Option Path → ℕ → ℕ → Path
+path_on None set b = record { set = set; text = [] }
+path_on (Some path) set b = record { set = set; text = path.text ++ b ∷ [] }
 
--- the texts with those of further states behind them
-abbrev pub grown : List (List ℕ) → List Origin → List (List ℕ)
-grown texts [] = texts
-grown texts (o ∷ os) = grown (texts ++ text_by texts o ∷ []) os
+-- the path of a state that was found from another by a byte, or at the start of a set
+abbrev pub path_by : List Path → Origin → Path
+path_by paths o = path_on (slice_get paths o.from) o.set o.byte
 
--- the texts of states, by where each was found from
-unfoldable pub texts_of : List Origin → List (List ℕ)
-texts_of origins = grown [] origins
+-- the paths with those of further states after them
+abbrev pub grown : List Path → List Origin → List Path
+grown paths [] = paths
+grown paths (o ∷ os) = grown (paths ++ path_by paths o ∷ []) os
+
+-- the paths of states, by where each was found from
+unfoldable pub paths_of : List Origin → List Path
+paths_of origins = grown [] origins
 
 -- one more state
-abbrev pub pushed : Found → List ℕ → List ℕ → Found
-pushed found set text = record { sets = found.sets ++ set ∷ []; texts = found.texts ++ text ∷ [] }
+abbrev pub pushed : Found → List ℕ → Path → Found
+pushed found set path = record { sets = found.sets ++ set ∷ []; paths = found.paths ++ path ∷ [] }
 
--- the state is listed, as one of the old ones or as a new one with this text
-pub record IsPlaced (old : Found) (set text : List ℕ) (new : Found) (i : ℕ) : Type 0 where
+-- the state is listed, as one of the old ones or as a new one with this path
+pub record IsPlaced (old : Found) (set : List ℕ) (path : Path) (new : Found) (i : ℕ) : Type 0 where
   pub here : slice_get new.sets i ≡ Some set
-  pub change : (new ≡ old) ⊎ ((i ≡ length old.sets) × (new ≡ pushed old set text))
+  pub change : (new ≡ old) ⊎ ((i ≡ length old.sets) × (new ≡ pushed old set path))
 
 -- the byte leads to some of the leaves ahead, and they are a listed state
-pub record IsMovedTo (nodes : List RegexNode) (ahead text : List ℕ) (b : ℕ) (old new : Found) (j : ℕ) : Type 0 where
+pub record IsMovedTo (nodes : List RegexNode) (ahead : List ℕ) (path : Path) (b : ℕ) (old new : Found) (j : ℕ) : Type 0 where
   pub next : List ℕ
-  pub placed : IsPlaced old next text new j
+  pub placed : IsPlaced old next path new j
   pub exact : (q : ℕ) → Contains next q ↔ ((holds_of nodes q b ≡ true) × Contains ahead q)
   pub some : (q : ℕ) × Contains next q
+  pub places : IsPlaceList (length nodes) next
 
 -- where the byte leads, and to nothing only where none of the leaves ahead holds it
-abbrev pub IsMoved : List RegexNode → List ℕ → List ℕ → ℕ → Found → Found → Option ℕ → Type 0
-IsMoved nodes ahead text b old new None = (new ≡ old) × ((q : ℕ) → holds_of nodes q b ≡ true → Contains ahead q → ⊥)
-IsMoved nodes ahead text b old new (Some j) = IsMovedTo nodes ahead text b old new j
+abbrev pub IsMoved : List RegexNode → List ℕ → Path → ℕ → Found → Found → Option ℕ → Type 0
+IsMoved nodes ahead path b old new None = (new ≡ old) × ((q : ℕ) → holds_of nodes q b ≡ true → Contains ahead q → ⊥)
+IsMoved nodes ahead path b old new (Some j) = IsMovedTo nodes ahead path b old new j
 
--- every text of the list is before this one
-abbrev pub AllBefore : List (List ℕ) → List ℕ → Type 0
-AllBefore texts w = (j : ℕ) (u : List ℕ) → slice_get texts j ≡ Some u → IsBefore u w
+-- every path of the list is earlier than this one
+abbrev pub AllBefore : List Path → Path → Type 0
+AllBefore paths w = (j : ℕ) (u : Path) → slice_get paths j ≡ Some u → IsEarlier u w
+
+-- the state has the starts of a set, and the empty path from there
+pub record IsSetStart (t : Tables) (found : Found) (j : ℕ) : Type 0 where
+  pub set : ℕ
+  pub here : slice_get found.sets j ≡ Some (row t.starts set)
+  pub here_path : slice_get found.paths j ≡ Some (record { set = set; text = [] })
+  pub below : set < length t.starts
 
 -- the state was found from an earlier one by a byte
-pub record IsChild (nodes : List RegexNode) (follow : List (List ℕ)) (found : Found) (j : ℕ) : Type 0 where
+pub record IsChild (t : Tables) (found : Found) (j : ℕ) : Type 0 where
   pub from : ℕ
   pub byte : ℕ
   pub set : List ℕ
-  pub text : List ℕ
+  pub path : Path
   pub own : List ℕ
   pub earlier : from < j
   pub at : slice_get found.sets from ≡ Some set
-  pub at_text : slice_get found.texts from ≡ Some text
+  pub at_path : slice_get found.paths from ≡ Some path
   pub here : slice_get found.sets j ≡ Some own
-  pub here_text : slice_get found.texts j ≡ Some (text ++ byte ∷ [])
-  pub exact : (q : ℕ) → Contains own q ↔ Reads nodes follow set byte q
+  pub here_path : slice_get found.paths j ≡ Some (on path byte)
+  pub exact : (q : ℕ) → Contains own q ↔ Reads t set byte q
 
--- states as they are found: the begin first, and each other from an earlier one, in the order of their texts
-pub record AreFound (nodes : List RegexNode) (follow : List (List ℕ)) (found : Found) : Type 0 where
-  pub len : length found.texts ≡ length found.sets
-  pub below : (j : ℕ) (set : List ℕ) → slice_get found.sets j ≡ Some set → All (λ p. p < length nodes + 1) set
-  pub first : slice_get found.sets 0 ≡ Some (length nodes ∷ [])
-  pub begin : slice_get found.texts 0 ≡ Some []
-  pub child : (j : ℕ) → 0 < j → j < length found.sets → IsChild nodes follow found j
-  pub sorted : (i j : ℕ) (u v : List ℕ) → i < j → slice_get found.texts i ≡ Some u → slice_get found.texts j ≡ Some v → IsBefore u v
+-- states as they are found: each at the start of a set or from an earlier one, in the order of their paths
+pub record AreFound (t : Tables) (found : Found) : Type 0 where
+  pub len : length found.paths ≡ length found.sets
+  pub places : (j : ℕ) (set : List ℕ) → slice_get found.sets j ≡ Some set → IsPlaceList (length t.follow) set
+  pub each : (j : ℕ) → j < length found.sets → IsSetStart t found j ⊎ IsChild t found j
+  pub sorted : (i j : ℕ) (u v : Path) → i < j → slice_get found.paths i ≡ Some u → slice_get found.paths j ≡ Some v → IsEarlier u v
 
--- the states are as before, with others behind them
+-- the states are as before, with others after them
 pub record Extends (old new : Found) : Type 0 where
   pub sets : (j : ℕ) (set : List ℕ) → slice_get old.sets j ≡ Some set → slice_get new.sets j ≡ Some set
-  pub texts : (j : ℕ) (text : List ℕ) → slice_get old.texts j ≡ Some text → slice_get new.texts j ≡ Some text
+  pub paths : (j : ℕ) (path : Path) → slice_get old.paths j ≡ Some path → slice_get new.paths j ≡ Some path
   pub len : length old.sets ≤ length new.sets

@@ -1,8 +1,10 @@
 -- The nodes of several expressions, one behind the other in one list.
 use Rattle.std.specs.Prelude.{◌≡◌, ◌+◌, ◌<◌, ℕ, zero, suc, List, [], ◌∷◌, Some, slice_get, slice_index_or, length, map, ◌++◌}
-use Rattle.wb_regex.specs.Tree.{Tree, Set, Sequence, Choice, Star, Plus, Maybe}
+use Rattle.wb_regex.specs.Tree.{Tree}
+pub use Rattle.wb_automata.specs.Automata.{size_of}
 use Rattle.wb_regex.specs.Covers.{Covers}
 use Rattle.wb_regex.specs.Filled.{Filled}
+use Rattle.wb_regex.specs.Matches.{Matches}
 use Rattle.wb_regex.specs.declared.node.RegexNode.{RegexNode}
 use Rattle.wb_regex.specs.declared.node.RegexNode.TheVariants as n
 
@@ -15,15 +17,6 @@ raised m (n.Star i) = n.Star (m + i)
 raised m (n.Plus i) = n.Plus (m + i)
 raised m (n.Maybe i) = n.Maybe (m + i)
 
--- how many nodes a tree has
-abbrev pub size_of : Tree → ℕ
-size_of (Set words) = 1
-size_of (Sequence r s) = size_of r + size_of s + 1
-size_of (Choice r s) = size_of r + size_of s + 1
-size_of (Star r) = size_of r + 1
-size_of (Plus r) = size_of r + 1
-size_of (Maybe r) = size_of r + 1
-
 -- how many nodes the first k trees have
 abbrev pub bound_of : List Tree → ℕ → ℕ
 bound_of [] k = 0
@@ -35,6 +28,7 @@ pub record AreAdded (old new : List RegexNode) (t : Tree) (root : ℕ) : Type 0 
   pub source : List RegexNode
   pub covers : Covers source 0 (length source) t
   pub filled : Filled t
+  pub not_empty : ¬ Matches t []
   pub joins : new ≡ old ++ map (raised (length old)) source
   pub last : root + 1 ≡ length new
 
@@ -43,6 +37,7 @@ pub record IsPart (nodes : List RegexNode) (m : ℕ) (t : Tree) : Type 0 where
   pub source : List RegexNode
   pub covers : Covers source 0 (length source) t
   pub filled : Filled t
+  pub not_empty : ¬ Matches t []
   pub embeds : (k : ℕ) (node : RegexNode) → slice_get source k ≡ Some node → slice_get nodes (m + k) ≡ Some (raised m node)
 
 -- the nodes are those of the first i trees, and the roots are the last nodes of each

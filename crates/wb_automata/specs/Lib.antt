@@ -1,3 +1,4 @@
+pub mod Accepted
 pub mod Automata
 pub mod Classes
 pub mod Erasing
@@ -9,6 +10,7 @@ pub mod Kept
 pub mod Linear
 pub mod MachineCode
 pub mod Machines
+pub mod Moves
 pub mod Nodes
 pub mod Order
 pub mod Overlaps

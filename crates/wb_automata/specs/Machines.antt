@@ -1,9 +1,11 @@
 -- States as lists of leaves, and where a byte leads from them.
-use Rattle.std.specs.Prelude.{◌≡◌, ℕ, ◌+◌, ◌/◌, ◌%◌, ◌==◌, ◌&&◌, slice_index, List, [], Bool, true, false, slice_index_or, length, Contains}
+use Rattle.std.specs.Prelude.{◌≡◌, ℕ, ◌+◌, ◌<◌, ◌≤◌, All, ◌/◌, ◌%◌, ◌==◌, ◌&&◌, slice_index, List, [], Bool, true, false, slice_index_or, length, Contains}
 use Rattle.wb_regex.specs.declared.node.RegexNode.{RegexNode}
 use Rattle.wb_regex.specs.declared.node.RegexNode.TheVariants as n
 use Rattle.wb_automata.specs.Nodes.{row}
+use Rattle.wb_automata.specs.declared.tables.Tables.{Tables}
 use Rattle.wb_automata.specs.Follows.{AreBelow}
+use Rattle.wb_automata.specs.Order.{AreRising}
 use Rattle.std.specs.Int.{bit_at}
 
 -- the bits of these words say that the byte is in the set
@@ -22,10 +24,16 @@ node_holds (n.Maybe i) b = false
 abbrev pub holds_of : List RegexNode → ℕ → ℕ → Bool
 holds_of nodes p b = node_holds (slice_index_or nodes p (n.Set [])) b
 
--- the table has a row for each node and for the begin, and names leaves
-pub record IsTable (nodes : List RegexNode) (follow : List (List ℕ)) : Type 0 where
-  pub len : length follow ≡ length nodes + 1
-  pub below : AreBelow (length nodes) follow
+-- places below a number, in order
+pub record IsPlaceList (m : ℕ) (places : List ℕ) : Type 0 where
+  pub below : All (λ p. p < m) places
+  pub rising : AreRising places
+
+-- rows are for nodes and starts, and name leaves; each list of starts has places of rows
+pub record IsTable (t : Tables) : Type 0 where
+  pub len : length t.nodes.items ≤ length t.follow
+  pub below : AreBelow (length t.nodes.items) t.follow
+  pub starts : (s : ℕ) → IsPlaceList (length t.follow) (row t.starts s)
 
 -- the leaf may come behind some leaf of the set
 pub record Ahead (follow : List (List ℕ)) (set : List ℕ) (q : ℕ) : Type 0 where
@@ -34,5 +42,5 @@ pub record Ahead (follow : List (List ℕ)) (set : List ℕ) (q : ℕ) : Type 0 
   pub follows : Contains (row follow from) q
 
 -- the leaf is where the byte leads from the set
-abbrev pub Reads : List RegexNode → List (List ℕ) → List ℕ → ℕ → ℕ → Type 0
-Reads nodes follow set b q = (holds_of nodes q b ≡ true) × Ahead follow set q
+abbrev pub Reads : Tables → List ℕ → ℕ → ℕ → Type 0
+Reads t set b q = (holds_of t.nodes.items q b ≡ true) × Ahead t.follow set q

@@ -1,9 +1,10 @@
 -- The least texts that two regular expressions share, and that one matches.
-use Rattle.std.specs.Prelude.{◌≡◌, ◌<◌, ℕ, List, Some, slice_get}
+use Rattle.std.specs.Prelude.{◌≡◌, ◌<◌, ◌⊎◌, ℕ, Bool, List, [], ◌∷◌, Some, slice_get}
+use Rattle.wb_termset.specs.Sets.{Has}
 use Rattle.wb_regex.specs.Tree.{Tree}
 use Rattle.wb_regex.specs.Matches.{Matches, ShareText}
 use Rattle.wb_automata.specs.Order.{IsAtMost}
-use Rattle.wb_automata.specs.Automata.{Machine, IsMatch, LeadsTo}
+use Rattle.wb_automata.specs.Automata.{AutomatonView, Path, IsEarlier, MatchesIn, LeadsTo}
 use Rattle.wb_automata.specs.declared.shared.Overlap.{Overlap}
 use Rattle.wb_automata.specs.declared.shared.Overlap.TheVariants as o
 
@@ -23,14 +24,20 @@ abbrev pub IsOverlap : Tree → Tree → Overlap → Type 0
 IsOverlap left right (o.Both text) = IsLeastShared left right text
 IsOverlap left right o.Disjoint = ¬ ShareText left right
 
--- the first text of the state matches both terminals, and no text that does is before it
-pub record IsLeastState (machine : Machine) (one other state : ℕ) : Type 0 where
-  pub text : List ℕ
-  pub at : slice_get machine.texts state ≡ Some text
-  pub first : IsMatch machine.terminals one text
-  pub second : IsMatch machine.terminals other text
-  pub least : (shared : List ℕ) → IsMatch machine.terminals one shared → IsMatch machine.terminals other shared → IsAtMost text shared
+-- one set has all numbers below the count
+pub record HasAll (count : ℕ) (sets : List (List Bool)) : Type 0 where
+  pub set : List Bool
+  pub one : sets ≡ set ∷ []
+  pub all : (t : ℕ) → t < count → Has set t
+
+-- the text of the state's path matches both terminals, and no earlier path leads to texts that do
+pub record IsLeastState (automaton : AutomatonView) (one other state : ℕ) : Type 0 where
+  pub path : Path
+  pub at : slice_get automaton.paths state ≡ Some path
+  pub first : MatchesIn automaton path.set one path.text
+  pub second : MatchesIn automaton path.set other path.text
+  pub least : (set : ℕ) (shared : List ℕ) → MatchesIn automaton set one shared → MatchesIn automaton set other shared → (path ≡ record { set = set; text = shared }) ⊎ IsEarlier path (record { set = set; text = shared })
 
 -- no text that leads to one of the first n states matches both terminals
-abbrev pub AreApartBelow : Machine → ℕ → ℕ → ℕ → Type 0
-AreApartBelow machine one other n = (state : ℕ) (text : List ℕ) → state < n → LeadsTo machine text state → IsMatch machine.terminals one text → IsMatch machine.terminals other text → ⊥
+abbrev pub AreApartBelow : AutomatonView → ℕ → ℕ → ℕ → Type 0
+AreApartBelow automaton one other n = (state set : ℕ) (text : List ℕ) → state < n → LeadsTo automaton set text state → MatchesIn automaton set one text → MatchesIn automaton set other text → ⊥

@@ -2,7 +2,7 @@
 use Rattle.std.specs.Prelude.{◌≡◌, ℕ, ◌+◌, ◌<◌, ◌≤◌, List, true, ◌⊎◌, ◌↔◌, slice_get, slice_index_or, Some, length, Contains}
 use Rattle.wb_regex.specs.declared.node.RegexNode.{RegexNode}
 use Rattle.wb_automata.specs.Nodes.{row, Covers}
-use Rattle.wb_automata.specs.Linear.{Linear, empty_of}
+use Rattle.wb_automata.specs.Linear.{Linear}
 use Rattle.wb_automata.specs.Positions.{Last}
 use Rattle.wb_automata.specs.Sets.{Links}
 
@@ -17,13 +17,13 @@ abbrev pub IsFollow : List RegexNode → List Linear → List (List ℕ) → Typ
 IsFollow nodes trees follow = (p q : ℕ) → Contains (row follow p) q ↔ Links trees (length nodes) p q
 
 -- the table says which expressions may end with a leaf
-pub record Ending (nodes : List RegexNode) (trees : List Linear) (p k : ℕ) : Type 0 where
+pub record Ending (trees : List Linear) (p k : ℕ) : Type 0 where
   pub tree : Linear
   pub at : slice_get trees k ≡ Some tree
-  pub ends : Last tree p ⊎ ((p ≡ length nodes) × (empty_of tree ≡ true))
+  pub ends : Last tree p
 
-abbrev pub IsEnds : List RegexNode → List Linear → List (List ℕ) → Type 0
-IsEnds nodes trees table = (p k : ℕ) → Contains (row table p) k ↔ Ending nodes trees p k
+abbrev pub IsEnds : List Linear → List (List ℕ) → Type 0
+IsEnds trees table = (p k : ℕ) → Contains (row table p) k ↔ Ending trees p k
 
 -- the roots are the last nodes of the expressions, and the expressions are all of the nodes
 pub record AreRoots (nodes : List RegexNode) (trees : List Linear) (bound : ℕ → ℕ) (roots : List ℕ) : Type 0 where

@@ -1,6 +1,6 @@
 -- Sets of leaves as states: what they say of the texts that lead to them.
-use Rattle.std.specs.Prelude.{◌≡◌, ℕ, ◌+◌, ◌≤◌, List, ◌++◌, Bool, true, ◌⊎◌, ◌↔◌, slice_get, Some, Contains}
-use Rattle.wb_automata.specs.Linear.{Linear, Leaf, Sequence, Choice, Star, Plus, Maybe, Matches, empty_of}
+use Rattle.std.specs.Prelude.{◌≡◌, ℕ, ◌+◌, ◌≤◌, ◌<◌, List, ◌++◌, Bool, true, ◌⊎◌, ◌↔◌, slice_get, Some, Contains}
+use Rattle.wb_automata.specs.Linear.{Linear, Leaf, Sequence, Choice, Star, Plus, Maybe, Matches}
 use Rattle.wb_automata.specs.Positions.{Spans, First, Last, Follow, After}
 
 -- the expressions have their leaves in ranges of their own, one behind the other
@@ -17,18 +17,18 @@ Filled holds (Star r) = Filled holds r
 Filled holds (Plus r) = Filled holds r
 Filled holds (Maybe r) = Filled holds r
 
--- In some expression the leaf q may come behind the leaf p. The place n stands for the begin.
+-- In some expression the leaf q may come behind the leaf p. The place n + k is the start of expression k.
 pub record Links (trees : List Linear) (n p q : ℕ) : Type 0 where
   pub number : ℕ
   pub tree : Linear
   pub at : slice_get trees number ≡ Some tree
-  pub link : Follow tree p q ⊎ ((p ≡ n) × First tree q)
+  pub link : Follow tree p q ⊎ ((p ≡ n + number) × First tree q)
 
--- the text completes a match of the expression behind some leaf of the set
-pub record Rest (holds : ℕ → ℕ → Bool) (n : ℕ) (set : List ℕ) (t : Linear) (w : List ℕ) : Type 0 where
+-- the text completes a match of expression k, behind some leaf of the set or from its start
+pub record Rest (holds : ℕ → ℕ → Bool) (n : ℕ) (set : List ℕ) (k : ℕ) (t : Linear) (w : List ℕ) : Type 0 where
   pub leaf : ℕ
   pub has : Contains set leaf
-  pub is : After holds t leaf w ⊎ ((leaf ≡ n) × Matches holds t w)
+  pub is : After holds t leaf w ⊎ ((leaf ≡ n + k) × Matches holds t w)
 
 -- a leaf that the byte leads to
 pub record Target (holds : ℕ → ℕ → Bool) (trees : List Linear) (n : ℕ) (set : List ℕ) (b q : ℕ) : Type 0 where
@@ -41,12 +41,19 @@ pub record Target (holds : ℕ → ℕ → Bool) (trees : List Linear) (n : ℕ)
 abbrev pub IsNext : (ℕ → ℕ → Bool) → List Linear → ℕ → List ℕ → ℕ → List ℕ → Type 0
 IsNext holds trees n set b next = (q : ℕ) → Contains next q ↔ Target holds trees n set b q
 
--- the set is the state after this text
-abbrev pub Stands : (ℕ → ℕ → Bool) → List Linear → ℕ → List ℕ → List ℕ → Type 0
-Stands holds trees n set x = (k : ℕ) (t : Linear) → slice_get trees k ≡ Some t → (w : List ℕ) → Rest holds n set t w ↔ Matches holds t (x ++ w)
+-- the place is the start of an expression that is considered
+pub record IsStartOf (n count : ℕ) (considered : ℕ → Type 0) (p : ℕ) : Type 0 where
+  pub number : ℕ
+  pub below : number < count
+  pub is : considered number
+  pub place : p ≡ n + number
+
+-- with these expressions considered the set is the state after this text
+abbrev pub Stands : (ℕ → ℕ → Bool) → List Linear → ℕ → (ℕ → Type 0) → List ℕ → List ℕ → Type 0
+Stands holds trees n considered set x = (k : ℕ) (t : Linear) → slice_get trees k ≡ Some t → (w : List ℕ) → Rest holds n set k t w ↔ (considered k × Matches holds t (x ++ w))
 
 -- a match of the expression may end with some leaf of the set
-pub record Ends (n : ℕ) (set : List ℕ) (t : Linear) : Type 0 where
+pub record Ends (set : List ℕ) (t : Linear) : Type 0 where
   pub leaf : ℕ
   pub has : Contains set leaf
-  pub is : Last t leaf ⊎ ((leaf ≡ n) × (empty_of t ≡ true))
+  pub is : Last t leaf

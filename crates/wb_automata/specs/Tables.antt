@@ -1,14 +1,17 @@
 -- The tables of several expressions, over the nodes of all.
-use Rattle.std.specs.Prelude.{◌≡◌, ◌+◌, ℕ, List, Some, length, slice_get}
+use Rattle.std.specs.Prelude.{◌≡◌, ◌+◌, ◌<◌, ◌↔◌, ℕ, Bool, List, [], Some, Contains, length, slice_get}
 use Rattle.wb_regex.specs.Tree.{Tree}
 use Rattle.wb_regex.specs.declared.node.RegexNode.{RegexNode}
-use Rattle.wb_automata.specs.Linear.{Linear}
+use Rattle.wb_termset.specs.Sets.{Has}
+use Rattle.wb_automata.specs.declared.tables.Tables.{Tables}
+use Rattle.wb_automata.specs.Nodes.{row}
+use Rattle.wb_automata.specs.Linear.{Linear, Matches}
 use Rattle.wb_automata.specs.Erasing.{Erases}
 use Rattle.wb_automata.specs.Joined.{bound_of}
-use Rattle.wb_automata.specs.Machines.{holds_of, IsTable}
+use Rattle.wb_automata.specs.Machines.{holds_of, IsTable, IsPlaceList}
 use Rattle.wb_automata.specs.Follows.{AreBelow}
 use Rattle.wb_automata.specs.Running.{IsForest, IsFollow, IsEnds, AreRoots}
-use Rattle.wb_automata.specs.Sets.{Filled}
+use Rattle.wb_automata.specs.Sets.{Filled, IsStartOf}
 
 -- the tree has its places in the list of expressions whose leaves are places
 pub record HasPlaces (nodes : List RegexNode) (linears : List Linear) (k : ℕ) (tree : Tree) : Type 0 where
@@ -16,6 +19,7 @@ pub record HasPlaces (nodes : List RegexNode) (linears : List Linear) (k : ℕ) 
   pub at : slice_get linears k ≡ Some linear
   pub erases : Erases nodes linear tree
   pub filled : Filled (holds_of nodes) linear
+  pub not_empty : ¬ Matches (holds_of nodes) linear []
 
 -- the nodes are those of the trees, one behind the other
 pub record IsPlanted (trees : List Tree) (nodes : List RegexNode) (roots : List ℕ) : Type 0 where
@@ -25,12 +29,25 @@ pub record IsPlanted (trees : List Tree) (nodes : List RegexNode) (roots : List 
   pub are_roots : AreRoots nodes linears (bound_of trees) roots
   pub places : (k : ℕ) (tree : Tree) → slice_get trees k ≡ Some tree → HasPlaces nodes linears k tree
 
--- the tables say which leaves may come behind which, and which expressions may end with each
-pub record AreTables (trees : List Tree) (nodes : List RegexNode) (follow ends : List (List ℕ)) : Type 0 where
+-- the list has the starts of the expressions that are in a set
+abbrev pub IsStartsOf : ℕ → ℕ → List Bool → List ℕ → Type 0
+IsStartsOf n count flags starts = (p : ℕ) → Contains starts p ↔ IsStartOf n count (Has flags) p
+
+-- the tables say which leaves may come after which, which expressions may end with each, and with which starts each set begins
+pub record AreTables (trees : List Tree) (sets : List (List Bool)) (t : Tables) : Type 0 where
   pub roots : List ℕ
-  pub planted : IsPlanted trees nodes roots
-  pub is_follow : IsFollow nodes planted.linears follow
-  pub is_ends : IsEnds nodes planted.linears ends
-  pub follow_table : IsTable nodes follow
-  pub ends_len : length ends ≡ length nodes + 1
-  pub ends_below : AreBelow (length trees) ends
+  pub planted : IsPlanted trees t.nodes.items roots
+  pub is_follow : IsFollow t.nodes.items planted.linears t.follow
+  pub is_ends : IsEnds planted.linears t.ends
+  pub table : IsTable t
+  pub starts_len : length t.starts ≡ length sets
+  pub is_starts : (s : ℕ) (flags : List Bool) → slice_get sets s ≡ Some flags → IsStartsOf (length t.nodes.items) (length trees) flags (row t.starts s)
+  pub follow_len : length t.follow ≡ length t.nodes.items + length trees
+  pub ends_len : length t.ends ≡ length t.follow
+  pub ends_below : AreBelow (length trees) t.ends
+
+-- the lists of starts are those of the first i sets
+pub record AreStarts (n count : ℕ) (sets : List (List Bool)) (starts : List (List ℕ)) (i : ℕ) : Type 0 where
+  pub len : length starts ≡ i
+  pub each : (s : ℕ) (flags : List Bool) → s < i → slice_get sets s ≡ Some flags → IsStartsOf n count flags (row starts s)
+  pub places : (s : ℕ) → IsPlaceList (n + count) (row starts s)

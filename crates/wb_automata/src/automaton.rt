@@ -1,74 +1,84 @@
 //! The automaton of several regular expressions, by which a scanner reads.
 
-ghost use Rattle.std.specs.Prelude.{◌≡◌, ◌<◌, ◌↔◌, ◌++◌, ◌∷◌, ℕ, [], Contains, IfOk, IfSome, IsNone, IsTrue, List, Some, length, slice_get};
-ghost use Rattle.wb_automata.specs.Automata.{IsMatch, GoesOn, LeadsTo, IsOrdered};
+ghost use Rattle.std.specs.Prelude.{◌≡◌, ◌<◌, ◌≤◌, ◌↔◌, ◌++◌, ◌∷◌, ℕ, [], Contains, IfOk, IfSome, IsNone, IsTrue, List, Some, length, slice_get};
+ghost use Rattle.wb_automata.specs.Automata.{IsMatch, MatchesIn, GoesOn, LeadsTo, IsOrdered, Path, most_states};
+ghost use Rattle.wb_automata.specs.Order.{AreRising};
 
+use crate::accepted::accepted_of;
 use crate::classes::classes_of;
-use crate::flat::{accepted_of, flat_of};
+use crate::explore::explore;
+use crate::moves::state_from;
 use crate::origin::Origin;
 use crate::rows::Rows;
-use crate::states::explore;
 use crate::tables::tables_of;
 use crate::text::text_at;
 use std::alloc::{AllocError, Global};
 use std::marker::Model;
 use wb_base::{Bytes, push};
 use wb_regex::Regex;
+use wb_termset::TermSet;
 
-/// States that tell texts apart by what may still come: the steps over a text lead to a state that accepts exactly the
-/// terminals that match it.
+/// States that tell texts apart by what may still come: the steps over a text from the start of a set of terminals lead
+/// to a state that accepts exactly the terminals of this set that match the text.
 ///
-/// Terminals are numbered by their places in the list that the automaton was built from, and states from 0 on in the order
-/// of the first texts that lead to them, by length and then by bytes. Only states from which a match can be reached are kept.
+/// Terminals and sets are numbered by their places in the lists that the automaton was built from. States are numbered
+/// by the paths by which they were found: by sets, and for each set by texts, shorter ones first and then by bytes.
+/// Several sets may share a state, where the same of their terminals may still match.
 #[derive(Drop)]
 pub struct Automaton {
     terminals: Vec<Regex>,
-    start: usize,
+    sets: Vec<TermSet>,
+    starts: Vec<usize>,
     classes: Vec<usize>,
     width: usize,
-    moves: Vec<Option<usize>>,
+    moves: Vec<u32>,
     accepted: Rows,
     origins: Vec<Origin>,
 }
 
 impl Model for Automaton {
-    ghost use Rattle.wb_automata.specs.Automata.{Machine};
-    ghost use Rattle.wb_automata.specs.Found.{texts_of};
+    ghost use Rattle.std.specs.Prelude.{map};
+    ghost use Rattle.wb_automata.specs.Automata.{AutomatonView};
+    ghost use Rattle.wb_automata.specs.Moves.{move_at};
+    ghost use Rattle.wb_automata.specs.Found.{paths_of};
     ghost use Rattle.wb_automata.specs.Kept.{IsAutomaton};
-    ghost use Rattle.wb_automata.specs.MachineCode.{coded_machine};
+    ghost use Rattle.wb_automata.specs.MachineCode.{coded_automaton};
 
-    ghost Value = { Machine };
+    ghost Value = { AutomatonView };
 
-    ghost coded = { coded_machine };
+    ghost coded = { coded_automaton };
 
-    ghost view = { λ a. record { terminals = a.terminals.items; texts = texts_of a.origins.items } };
+    ghost view = { λ a. record { terminals = a.terminals.items; sets = a.sets.items; paths = paths_of a.origins.items } };
 
-    ghost invariant = { λ a. IsAutomaton (record { terminals = a.terminals.items; texts = texts_of a.origins.items }) a.start a.classes.items a.width a.moves.items a.accepted };
+    ghost invariant = { λ a. IsAutomaton (record { terminals = a.terminals.items; sets = a.sets.items; paths = paths_of a.origins.items }) a.starts.items a.classes.items a.width (map move_at a.moves.items) a.accepted };
 }
 
 impl Automaton {
-    /// The automaton of these expressions, of which it keeps copies. The only error is want of memory.
+    /// The automaton of these expressions and sets of them, of which it keeps copies. The only error is want of memory.
     ///
-    /// No clause bounds its size: at worst the states double with each position that a choice has to remember.
-    pub fn build(alloc: Global, terminals: &[Regex]) -> Result<Automaton, AllocError>
-        ensures { IfOk result (λ automaton. automaton.terminals ≡ terminals.now) }
+    /// Members of a set that aren't below the number of terminals count for nothing. Terminals that are in no common set
+    /// don't multiply; those of one set may: at worst its states double with each byte that a choice has to remember.
+    pub fn build(
+        alloc: Global,
+        terminals: &[Regex],
+        sets: &[TermSet],
+    ) -> Result<Automaton, AllocError>
+        ensures terminals { IfOk result (λ automaton. automaton.terminals ≡ terminals.now) }
+        ensures sets { IfOk result (λ automaton. automaton.sets ≡ sets.now) }
     {
-        let tables = tables_of(alloc, terminals)?;
-        let nodes = tables.nodes.as_slice();
-        let classes = classes_of(alloc, nodes)?;
-        let firsts = classes.firsts.as_slice();
-        let explored = explore(alloc, nodes, &tables.follow, firsts)?;
+        let tables = tables_of(alloc, terminals, sets)?;
+        let classes = classes_of(alloc, tables.nodes.as_slice())?;
+        let explored = explore(alloc, &tables, classes.firsts.as_slice())?;
         let accepted = accepted_of(alloc, terminals.len(), &tables.ends, &explored.states)?;
-        let width = firsts.len();
-        let rows = explored.rows.as_slice();
-        let moves = flat_of(alloc, rows, width)?;
         let kept = copies(alloc, terminals)?;
+        let kept_sets = set_copies(alloc, sets)?;
         Ok(Automaton {
             terminals: kept,
-            start: 0,
+            sets: kept_sets,
+            starts: explored.starts,
             classes: classes.of,
-            width,
-            moves,
+            width: classes.firsts.len(),
+            moves: explored.moves.into_codes(),
             accepted,
             origins: explored.states.into_origins(),
         })
@@ -76,57 +86,77 @@ impl Automaton {
 
     /// The expressions of the terminals. Takes no memory.
     pub fn terminals(&self) -> &[Regex]
-        ensures { result.now ≡ self.now.terminals }
+        ensures value { result.now ≡ self.now.terminals }
+        ensures not_empty { (terminal : ℕ) → ¬ IsMatch self.now.terminals terminal [] }
+        ensures filled { (terminal : ℕ) → terminal < length self.now.terminals → (text : List ℕ) × IsMatch self.now.terminals terminal text }
     {
         &self.terminals
     }
 
+    /// The sets of terminals. Takes no memory.
+    pub fn sets(&self) -> &[TermSet]
+        ensures { result.now ≡ self.now.sets }
+    {
+        &self.sets
+    }
+
     /// How many states there are, numbered from 0 on. Takes no memory.
     pub fn states(&self) -> usize
-        ensures count { result ≡ length self.now.texts }
+        ensures count { result ≡ length self.now.paths }
+        ensures few { result ≤ most_states self.now.terminals }
         ensures ordered { IsOrdered self.now }
     {
         self.origins.len()
     }
 
-    /// The state of the empty text. Takes no memory.
-    pub fn start(&self) -> usize
-        ensures state { result < length self.now.texts }
-        ensures leads { LeadsTo self.now [] result }
+    /// The state of the empty text, at the start of a set. Takes no memory.
+    pub fn start(&self, set: usize) -> usize
+        requires { set < length self.now.sets }
+        ensures state { result < length self.now.paths }
+        ensures leads { LeadsTo self.now set [] result }
     {
-        self.start
+        self.starts[set]
     }
 
-    /// The state after one byte more, or None where no match goes on so. Takes no memory.
+    /// The state after one byte more, or None where no match of a terminal of the set goes on so. Takes no memory.
     pub fn step(&self, state: usize, byte: u8) -> Option<usize>
-        requires { state < length self.now.texts }
-        ensures state { IfSome result (λ next. next < length self.now.texts) }
-        ensures leads { IfSome result (λ next. (text : List ℕ) → LeadsTo self.now text state → LeadsTo self.now (text ++ byte ∷ []) next) }
-        ensures none { (text : List ℕ) → LeadsTo self.now text state → IsNone result ↔ (¬ GoesOn self.now.terminals (text ++ byte ∷ [])) }
+        requires { state < length self.now.paths }
+        ensures state { IfSome result (λ next. next < length self.now.paths) }
+        ensures leads { IfSome result (λ next. (set : ℕ) (text : List ℕ) → LeadsTo self.now set text state → LeadsTo self.now set (text ++ byte ∷ []) next) }
+        ensures none { (set : ℕ) (text : List ℕ) → LeadsTo self.now set text state → IsNone result ↔ (¬ GoesOn self.now set (text ++ byte ∷ [])) }
     {
-        self.moves[state * self.width + self.classes[usize::from(byte)]]
+        state_from(self.moves[state * self.width + self.classes[usize::from(byte)]])
     }
 
-    /// Whether the terminal matches the texts that lead to the state. Takes no memory.
+    /// Whether the terminal is in the sets and matches the texts that lead to the state. Takes no memory.
     pub fn accepts(&self, state: usize, terminal: usize) -> bool
-        requires { state < length self.now.texts }
-        ensures { (text : List ℕ) → LeadsTo self.now text state → IsTrue result ↔ IsMatch self.now.terminals terminal text }
+        requires { state < length self.now.paths }
+        ensures { (set : ℕ) (text : List ℕ) → LeadsTo self.now set text state → IsTrue result ↔ MatchesIn self.now set terminal text }
     {
         has(self.accepted(state), terminal)
     }
 
-    /// The terminals that match the texts that lead to the state. Takes no memory.
+    /// The terminals that are in the sets and match the texts that lead to the state, in order. Takes no memory.
     pub fn accepted(&self, state: usize) -> &[usize]
-        requires { state < length self.now.texts }
-        ensures { (terminal : ℕ) (text : List ℕ) → LeadsTo self.now text state → Contains result.now terminal ↔ IsMatch self.now.terminals terminal text }
+        requires { state < length self.now.paths }
+        ensures exact { (terminal set : ℕ) (text : List ℕ) → LeadsTo self.now set text state → Contains result.now terminal ↔ MatchesIn self.now set terminal text }
+        ensures rising { AreRising result.now }
     {
         self.accepted.row(state)
     }
 
-    /// The first text that leads to the state. The only error is want of memory.
+    /// The set from whose start the state was found. Takes no memory.
+    pub fn set(&self, state: usize) -> usize
+        requires { state < length self.now.paths }
+        ensures { (path : Path) → slice_get self.now.paths state ≡ Some path → result ≡ path.set }
+    {
+        self.origins[state].set
+    }
+
+    /// The text by which the state was found. The only error is want of memory.
     pub fn text(&self, alloc: Global, state: usize) -> Result<Bytes, AllocError>
-        requires { state < length self.now.texts }
-        ensures { IfOk result (λ text. slice_get self.now.texts state ≡ Some text) }
+        requires { state < length self.now.paths }
+        ensures { IfOk result (λ text. (path : Path) → slice_get self.now.paths state ≡ Some path → text ≡ path.text) }
     {
         text_at(alloc, &self.origins, state)
     }
@@ -138,6 +168,16 @@ fn copies(alloc: Global, terminals: &[Regex]) -> Result<Vec<Regex>, AllocError>
     let mut kept = Vec::new(alloc);
     for regex in terminals {
         push(&mut kept, regex.copy()?)?;
+    }
+    Ok(kept)
+}
+
+fn set_copies(alloc: Global, sets: &[TermSet]) -> Result<Vec<TermSet>, AllocError>
+    ensures { IfOk result (λ kept. kept.items ≡ sets.now) }
+{
+    let mut kept = Vec::new(alloc);
+    for set in sets {
+        push(&mut kept, set.copy()?)?;
     }
     Ok(kept)
 }

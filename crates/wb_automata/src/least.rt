@@ -1,16 +1,17 @@
 //! The least text that two expressions share, and the least that one matches.
 //!
-//! States are numbered by their first texts, so the first state that accepts has the least text.
+//! States are numbered by their paths, so the first state that accepts has the least text.
 
 ghost use Rattle.std.specs.Prelude.{◌≡◌, ◌<◌, ◌∷◌, ℕ, [], false, List, IfOk, IfSome, IsNone, IsTrue, length};
-ghost use Rattle.wb_automata.specs.Automata.{IsMatch, LeadsTo};
-ghost use Rattle.wb_automata.specs.Overlaps.{IsLeastMatch, IsOverlap, IsLeastState};
+ghost use Rattle.wb_automata.specs.Automata.{LeadsTo, MatchesIn};
+ghost use Rattle.wb_automata.specs.Overlaps.{HasAll, IsLeastMatch, IsOverlap, IsLeastState};
 
 use crate::automaton::Automaton;
 use crate::shared::Overlap;
 use std::alloc::{AllocError, Global};
 use wb_base::{Bytes, push};
 use wb_regex::Regex;
+use wb_termset::TermSet;
 
 /// The least text that both expressions match, by length and then by bytes, or that there is none.
 ///
@@ -18,14 +19,10 @@ use wb_regex::Regex;
 pub fn overlap(alloc: Global, left: &Regex, right: &Regex) -> Result<Overlap, AllocError>
     ensures { IfOk result (IsOverlap left.now right.now) }
 {
-    let both = pair(alloc, left, right)?;
-    let automaton = Automaton::build(alloc, &both)?;
+    let automaton = automaton_of(alloc, left, right)?;
     match first_shared(&automaton, 0, 1) {
         None => Ok(Overlap::Disjoint),
-        Some(state) => {
-            let text = automaton.text(alloc, state)?;
-            Ok(Overlap::Both(text))
-        }
+        Some(state) => Ok(Overlap::Both(automaton.text(alloc, state)?)),
     }
 }
 
@@ -33,43 +30,61 @@ pub fn overlap(alloc: Global, left: &Regex, right: &Regex) -> Result<Overlap, Al
 pub fn least_text(alloc: Global, regex: &Regex) -> Result<Bytes, AllocError>
     ensures { IfOk result (IsLeastMatch regex.now) }
 {
-    // Each set holds a byte, so some text matches, and some state accepts.
+    // Each set holds a byte, so some text matches.
     let _nodes = regex.nodes();
-    let one = single(alloc, regex)?;
-    let automaton = Automaton::build(alloc, &one)?;
-    match first_shared(&automaton, 0, 0) {
-        None => unreachable!(),
-        Some(state) => {
-            let text = automaton.text(alloc, state)?;
-            Ok(text)
-        }
+    match overlap(alloc, regex, regex)? {
+        Overlap::Disjoint => unreachable!(),
+        Overlap::Both(text) => Ok(text),
     }
 }
 
-fn single(alloc: Global, regex: &Regex) -> Result<Vec<Regex>, AllocError>
-    ensures { IfOk result (λ one. one.items ≡ regex.now ∷ []) }
+/// The automaton of both, in one set.
+fn automaton_of(alloc: Global, left: &Regex, right: &Regex) -> Result<Automaton, AllocError>
+    ensures terminals { IfOk result (λ automaton. automaton.terminals ≡ left.now ∷ right.now ∷ []) }
+    ensures sets { IfOk result (λ automaton. HasAll 2 automaton.sets) }
 {
-    let mut one = Vec::new(alloc);
-    push(&mut one, regex.copy()?)?;
-    Ok(one)
+    let both = pair(alloc, left, right)?;
+    build_of(alloc, &both)
+}
+
+/// The automaton of these expressions, in one set.
+fn build_of(alloc: Global, terminals: &[Regex]) -> Result<Automaton, AllocError>
+    ensures terminals { IfOk result (λ automaton. automaton.terminals ≡ terminals.now) }
+    ensures sets { IfOk result (λ automaton. HasAll (length terminals.now) automaton.sets) }
+{
+    let sets = all_of(alloc, terminals.len())?;
+    Automaton::build(alloc, terminals, &sets)
+}
+
+/// One set of all numbers below the count.
+fn all_of(alloc: Global, count: usize) -> Result<Vec<TermSet>, AllocError>
+    ensures { IfOk result (λ sets. HasAll count sets.items) }
+{
+    let mut set = TermSet::new(alloc, count)?;
+    for number in 0..count {
+        set.insert(number);
+    }
+    let mut sets = Vec::new(alloc);
+    push(&mut sets, set)?;
+    Ok(sets)
 }
 
 fn pair(alloc: Global, left: &Regex, right: &Regex) -> Result<Vec<Regex>, AllocError>
     ensures { IfOk result (λ both. both.items ≡ left.now ∷ right.now ∷ []) }
 {
-    let mut both = single(alloc, left)?;
+    let mut both = Vec::new(alloc);
+    push(&mut both, left.copy()?)?;
     push(&mut both, right.copy()?)?;
     Ok(both)
 }
 
 /// The first state that accepts both terminals.
 fn first_shared(automaton: &Automaton, one: usize, other: usize) -> Option<usize>
-    ensures below { IfSome result (λ state. state < length automaton.now.texts) }
+    ensures below { IfSome result (λ state. state < length automaton.now.paths) }
     ensures some { IfSome result (IsLeastState automaton.now one other) }
-    ensures none { IsNone result → (text : List ℕ) → IsMatch automaton.now.terminals one text → IsMatch automaton.now.terminals other text → ⊥ }
+    ensures none { IsNone result → (set : ℕ) (text : List ℕ) → MatchesIn automaton.now set one text → MatchesIn automaton.now set other text → ⊥ }
 {
-    let count = automaton.states();
-    for state in 0..count {
+    for state in 0..automaton.states() {
         if accepts_both(automaton, state, one, other) {
             return Some(state);
         }
@@ -78,9 +93,9 @@ fn first_shared(automaton: &Automaton, one: usize, other: usize) -> Option<usize
 }
 
 fn accepts_both(automaton: &Automaton, state: usize, one: usize, other: usize) -> bool
-    requires { state < length automaton.now.texts }
-    ensures both { IsTrue result → (text : List ℕ) → LeadsTo automaton.now text state → IsMatch automaton.now.terminals one text × IsMatch automaton.now.terminals other text }
-    ensures apart { result ≡ false → (text : List ℕ) → LeadsTo automaton.now text state → IsMatch automaton.now.terminals one text → IsMatch automaton.now.terminals other text → ⊥ }
+    requires { state < length automaton.now.paths }
+    ensures both { IsTrue result → (set : ℕ) (text : List ℕ) → LeadsTo automaton.now set text state → MatchesIn automaton.now set one text × MatchesIn automaton.now set other text }
+    ensures apart { result ≡ false → (set : ℕ) (text : List ℕ) → LeadsTo automaton.now set text state → MatchesIn automaton.now set one text → MatchesIn automaton.now set other text → ⊥ }
 {
     automaton.accepts(state, one) && automaton.accepts(state, other)
 }

@@ -4,12 +4,14 @@
 //! deterministic), and a table of moves with a column for each class of bytes that no expression tells apart.
 #![tactic(auto)]
 
+mod accepted;
 mod automaton;
 mod classes;
-mod flat;
+mod explore;
 mod joined;
 mod least;
 mod machine;
+mod moves;
 mod origin;
 mod positions;
 mod rows;
@@ -17,8 +19,6 @@ mod shared;
 mod states;
 mod tables;
 mod terminals;
-#[cfg(test)]
-mod tests;
 mod text;
 
 pub use automaton::Automaton;

@@ -1,8 +1,9 @@
 //! From where a state was found.
 
-/// The state from which another was found first, and the byte that leads there. At the first state both are 0.
-#[derive(Clone, Copy, Debug, PartialEq, Eq)]
-pub struct Origin {
-    pub from: usize,
-    pub byte: u8,
+/// The set from whose start a state was found, and the state and the byte that lead there: at the start no lesser state.
+#[derive(Clone, Copy)]
+pub(crate) struct Origin {
+    pub(crate) set: usize,
+    pub(crate) from: usize,
+    pub(crate) byte: u8,
 }

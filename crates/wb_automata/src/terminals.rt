@@ -1,64 +1,85 @@
-//! Where expressions begin and end.
+//! Where expressions begin and end, and with which starts each set begins.
 
-ghost use Rattle.std.specs.Prelude.{◌≡◌, ℕ, ◌<◌, ◌+◌, ◌⊎◌, ◌↔◌, [], ◌∷◌, List, length, IfOk, IsTrue, All, Contains, true};
+ghost use Rattle.std.specs.Prelude.{◌≡◌, ℕ, ◌<◌, ◌≤◌, ◌+◌, ◌^◌, ◌⊎◌, ◌↔◌, length, IfOk, IsTrue, All, Contains};
+ghost use Rattle.wb_termset.specs.Sets.{Has};
 ghost use Rattle.wb_automata.specs.Nodes.{row};
 ghost use Rattle.wb_automata.specs.Follows.{AreBelow};
+ghost use Rattle.wb_automata.specs.Machines.{IsPlaceList};
 ghost use Rattle.wb_automata.specs.Roots.{BeginAt, EndAt};
+ghost use Rattle.wb_automata.specs.Tables.{AreStarts, IsStartsOf};
 
 use crate::positions::link;
-use crate::rows::Rows;
-use std::alloc::AllocError;
+use crate::rows::{Leaves, Rows};
+use std::alloc::{AllocError, Global};
+use wb_termset::TermSet;
 
-/// Behind the begin, the first leaves of each root.
-pub fn begins(follow: &mut Rows, first: &Rows, roots: &[usize], m: usize) -> Result<(), AllocError>
+/// After the start of each root, its first leaves. The starts have the last rows.
+pub(crate) fn begins(follow: &mut Rows, first: &Rows, roots: &[usize]) -> Result<(), AllocError>
     requires roots { All (λ r. r < length first.now) roots.now }
-    requires begin { m < length follow.old }
+    requires starts { length roots.now ≤ length follow.old }
     ensures len { length follow.new ≡ length follow.old }
-    ensures exact { IfOk result (λ _. (p q : ℕ) → Contains (row follow.new p) q ↔ (Contains (row follow.old p) q ⊎ BeginAt first.now roots.now m (length roots.now) p q)) }
+    ensures exact { IfOk result (λ _. (n : ℕ) → n + length roots.now ≡ length follow.old → (p q : ℕ) → Contains (row follow.new p) q ↔ (Contains (row follow.old p) q ⊎ BeginAt first.now roots.now n (length roots.now) p q)) }
 {
-    for root in roots {
-        link(follow, &[m], first.row(*root))?;
-    }
-    Ok(())
-}
-
-/// Leaf expression may end with its last leaves, and at the begin if it matches the empty text.
-fn end_by(
-    ends: &mut Rows,
-    last: &[usize],
-    empty: bool,
-    m: usize,
-    k: usize,
-) -> Result<(), AllocError>
-    requires last { All (λ p. p < length ends.old) last.now }
-    requires begin { m < length ends.old }
-    ensures len { length ends.new ≡ length ends.old }
-    ensures exact { IfOk result (λ _. (p j : ℕ) → Contains (row ends.new p) j ↔ (Contains (row ends.old p) j ⊎ ((j ≡ k) × (Contains last.now p ⊎ ((p ≡ m) × (empty ≡ true)))))) }
-{
-    link(ends, last, &[k])?;
-    if empty {
-        link(ends, &[m], &[k])?;
+    let n = follow.len() - roots.len();
+    for (k, root) in roots.iter().enumerate() {
+        link(follow, &[n + k], first.row(*root))?;
     }
     Ok(())
 }
 
 /// Which roots may end with each leaf.
-pub fn ends(
-    table: &mut Rows,
-    last: &Rows,
-    empty: &[bool],
-    roots: &[usize],
-    m: usize,
-) -> Result<(), AllocError>
+pub(crate) fn ends(table: &mut Rows, last: &Rows, roots: &[usize]) -> Result<(), AllocError>
     requires roots { All (λ r. r < length last.now) roots.now }
-    requires empty { length last.now ≡ length empty.now }
     requires last { AreBelow (length table.old) last.now }
-    requires begin { m < length table.old }
     ensures len { length table.new ≡ length table.old }
-    ensures exact { IfOk result (λ _. (p k : ℕ) → Contains (row table.new p) k ↔ (Contains (row table.old p) k ⊎ EndAt last.now empty.now roots.now m (length roots.now) p k)) }
+    ensures exact { IfOk result (λ _. (p k : ℕ) → Contains (row table.new p) k ↔ (Contains (row table.old p) k ⊎ EndAt last.now roots.now (length roots.now) p k)) }
 {
     for (k, root) in roots.iter().enumerate() {
-        end_by(table, last.row(*root), empty[*root], m, k)?;
+        link(table, last.row(*root), &[k])?;
     }
     Ok(())
+}
+
+/// The starts of the roots that are in each set, in order. There are this many roots.
+pub(crate) fn starts_of(
+    alloc: Global,
+    n: usize,
+    count: usize,
+    sets: &[TermSet],
+) -> Result<Rows, AllocError>
+    requires { n + count < 2 ^ 64 }
+    ensures { IfOk result (λ starts. AreStarts n count sets.now starts (length sets.now)) }
+{
+    let mut starts = Rows::new(alloc);
+    for set in sets {
+        let places = set_starts(alloc, n, count, set)?;
+        starts.push(places)?;
+    }
+    Ok(starts)
+}
+
+/// The starts of the roots in one set.
+fn set_starts(
+    alloc: Global,
+    n: usize,
+    count: usize,
+    set: &TermSet,
+) -> Result<Leaves, AllocError>
+    requires { n + count < 2 ^ 64 }
+    ensures exact { IfOk result (λ starts. IsStartsOf n count set.now starts) }
+    ensures places { IfOk result (λ starts. IsPlaceList (n + count) starts) }
+{
+    let mut places = Leaves::new(alloc);
+    for k in 0..count {
+        if is_member(set, k) {
+            places.push(n + k)?;
+        }
+    }
+    Ok(places)
+}
+
+fn is_member(set: &TermSet, number: usize) -> bool
+    ensures { IsTrue result ↔ Has set.now number }
+{
+    number < set.count() && set.contains(number)
 }

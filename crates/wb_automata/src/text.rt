@@ -1,16 +1,17 @@
 //! The text of a state, read back along the states that it was found from.
 
-ghost use Rattle.std.specs.Prelude.{◌≡◌, ◌<◌, IfOk, Some, length, slice_get, reverse};
-ghost use Rattle.wb_automata.specs.Found.{texts_of};
+ghost use Rattle.std.specs.Prelude.{◌≡◌, ◌<◌, IfOk, Some, length, slice_get};
+ghost use Rattle.wb_automata.specs.Automata.{Path};
+ghost use Rattle.wb_automata.specs.Found.{paths_of};
 
 use crate::origin::Origin;
 use std::alloc::{AllocError, Global};
 use wb_base::{Bytes, push};
 
-/// The first text of a state.
+/// The text of a state's path.
 pub(crate) fn text_at(alloc: Global, origins: &[Origin], state: usize) -> Result<Bytes, AllocError>
     requires { state < length origins.now }
-    ensures { IfOk result (λ text. slice_get (texts_of origins.now) state ≡ Some text) }
+    ensures { IfOk result (λ text. (path : Path) → slice_get (paths_of origins.now) state ≡ Some path → text ≡ path.text) }
 {
     let mut bytes = Vec::new(alloc);
     let mut at = state;

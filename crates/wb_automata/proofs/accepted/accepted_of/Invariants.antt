@@ -1,5 +1,5 @@
-use Rattle.wb_automata.specs.Kept.{AreAccepted}
-use Rattle.wb_automata.proofs.flat.accepted_of.Given as goal
+use Rattle.wb_automata.specs.Accepted.{AreAccepted}
+use Rattle.wb_automata.proofs.accepted.accepted_of.Given as goal
 
 abbrev pub invariant-loop-i : goal.invariant-loop-i
 invariant-loop-i l = AreAccepted l.ends l.states.sets l.accepted l.i

@@ -1,0 +1,39 @@
+-- The lists of accepted terminals.
+use Rattle.std.proofs.Common.{◌≡◌, ℕ, ◌+◌, ◌<◌, List, [], ◌∷◌, ◌++◌, refl, sym, ◌∙◌, ap, subst, arith, inl, inr, Some, length, get_or, length-append}
+use Rattle.std.specs.Prelude.{slice_get, Contains, ◌↔◌}
+use Rattle.std.proofs.lemmas.Bool.{cases_lt, cases_eq}
+use Rattle.std.proofs.lemmas.List.{get_or_append_left, get_or_push, get_or_past}
+use Rattle.std.proofs.lemmas.Option.{same_Some}
+use Rattle.wb_automata.specs.Nodes.{row}
+use Rattle.wb_automata.specs.Order.{AreRising}
+use Rattle.wb_automata.specs.Machines.{Ahead}
+use Rattle.wb_automata.specs.Accepted.{AreAccepted}
+
+pub rising_none : AreRising []
+rising_none i j lt below = absurd (omega arith)
+
+-- rows rise where each that is added does
+pub rising_more : (rows : List (List ℕ)) (all : List ℕ) → AreRising all → ((j : ℕ) → AreRising (row rows j)) → (j : ℕ) → AreRising (row (rows ++ all ∷ []) j)
+rising_more rows all rise before j = elim (cases_lt j (length rows)) [
+  | inl less ↦ rw (get_or_append_left rows (all ∷ []) [] j less) (before j)
+  | inr past ↦ elim (cases_eq j (length rows)) [
+    | inl e ↦ subst (λ z. AreRising (row (rows ++ all ∷ []) z)) (sym e) (rw (get_or_push rows all [] (length rows) refl) rise)
+    | inr ne ↦ rw (get_or_past (rows ++ all ∷ []) j [] (omega (arith, length-append rows (all ∷ [])))) rising_none
+  ]
+]
+
+pub accepted_none : (ends sets : List (List ℕ)) → AreAccepted ends sets [] 0
+accepted_none ends sets = record { len = refl; rising = λ j. rising_none; each = λ j k set lt. absurd (omega arith) }
+
+pub accepted_step : (ends sets accepted : List (List ℕ)) (set all : List ℕ) (i : ℕ) → slice_get sets i ≡ Some set → ((k : ℕ) → Contains all k ↔ Ahead ends set k) → AreRising all → AreAccepted ends sets accepted i → AreAccepted ends sets (accepted ++ all ∷ []) (i + 1)
+accepted_step ends sets accepted set all i at exact rise h = record {
+  len = omega (arith, h.len, length-append accepted (all ∷ []));
+  rising = rising_more accepted all rise h.rising;
+  each = λ j k own lt here. elim (cases_lt j i) [
+    | inl early ↦ rw (get_or_append_left accepted (all ∷ []) [] j (omega (arith, h.len))) (h.each j k own early here)
+    | inr past ↦
+        let same : j ≡ i = omega arith in
+        let is : set ≡ own = same_Some set own (sym at ∙ ap (slice_get sets) (sym same) ∙ here) in
+        subst (λ z. Contains (row (accepted ++ all ∷ []) z) k ↔ Ahead ends own k) (sym same) (rw (get_or_push accepted all [] i h.len) (subst (λ z. Contains all k ↔ Ahead ends z k) is (exact k)))
+  ];
+}
