@@ -121,9 +121,9 @@ few : (m : ℕ) (sets : List (List ℕ)) → Differ sets → ((j : ℕ) (set : L
 few m sets different places =
     subst (λ z. length sets ≤ z) (length-lists_below m)
     (length-le_from_is_member nat_list_eq_equiv sets (lists_below m) (distinct sets different) (λ q has.
-        let (i, lt, is) = Contains-from_any same_is q sets has in
-        let at : slice_get sets i ≡ Some q = slice_get-get_or sets i q lt ∙ ap Some is in
-        list_any-from_Contains nat_list_eq_equiv q (lists_below m) (listed m q (places i q at))))
+    let (i, lt, is) = Contains-from_any same_is q sets has in
+    let at : slice_get sets i ≡ Some q = slice_get-get_or sets i q lt ∙ ap Some is in
+    list_any-from_Contains nat_list_eq_equiv q (lists_below m) (listed m q (places i q at))))
 
 pub few_found : (t : Tables) (found : Found) → AreFound t found → Differ found.sets → length found.sets ≤ 2 ^ length t.follow
 few_found t found h different = few (length t.follow) found.sets different h.places

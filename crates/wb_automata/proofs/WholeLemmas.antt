@@ -60,7 +60,7 @@ module _ (trees : List Tree) (sets : List (List Bool)) (t : Tables) (h : AreTabl
       let at : slice_get sets s ≡ Some flags = slice_get-get_or sets s [] lt in
       stands_first (holds_of t.nodes.items) h.planted.linears (bound_of trees) (length t.nodes.items) (IsConsidered sets s) here (outside t.nodes.items) (row t.starts s) (λ p. (
         λ has. let x = (h.is_starts s flags at p).0 has in record { number = x.number; below = (let b = x.below in omega (arith, h.planted.len)); is = record { flags = flags; at = at; has = x.is }; place = x.place },
-        λ x. (h.is_starts s flags at p).1 (record { number = x.number; below = (let b = x.below in omega (arith, h.planted.len)); is = subst (λ z. Has z x.number) (same_Some x.is.flags flags (sym x.is.at ∙ at)) x.is.has; place = x.place })
+        λ x. (h.is_starts s flags at p).1 (record { number = x.number; below = (let b = x.below in omega (arith, h.planted.len)); is = subst (λ z. Has z x.number) (same_Some x.is.flags flags (sym x.is.at ∙ at)) x.is.has; place = x.place }),
       )) (λ k l is. h.planted.forest.all (k + 1))
 
   -- each state that was found is that of its path

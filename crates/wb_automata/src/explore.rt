@@ -25,11 +25,7 @@ pub(crate) struct Explored {
 }
 
 /// All states that texts lead to by these bytes.
-pub(crate) fn explore(
-    alloc: Global,
-    tables: &Tables,
-    bytes: &[u8],
-) -> Result<Explored, AllocError>
+pub(crate) fn explore(alloc: Global, tables: &Tables, bytes: &[u8]) -> Result<Explored, AllocError>
     requires table { IsTable tables.now }
     requires rising { AreRising bytes.now }
     ensures { IfOk result (λ e. AreExplored tables.now bytes.now e.states e.moves e.starts.items (length tables.now.starts)) }

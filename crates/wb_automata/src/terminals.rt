@@ -59,12 +59,7 @@ pub(crate) fn starts_of(
 }
 
 /// The starts of the roots in one set.
-fn set_starts(
-    alloc: Global,
-    n: usize,
-    count: usize,
-    set: &TermSet,
-) -> Result<Leaves, AllocError>
+fn set_starts(alloc: Global, n: usize, count: usize, set: &TermSet) -> Result<Leaves, AllocError>
     requires { n + count < 2 ^ 64 }
     ensures exact { IfOk result (λ starts. IsStartsOf n count set.now starts) }
     ensures places { IfOk result (λ starts. IsPlaceList (n + count) starts) }

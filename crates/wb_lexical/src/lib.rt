@@ -4,8 +4,7 @@
 mod clash;
 mod cycle;
 mod pair;
-#[cfg(test)]
-mod tests;
 
 pub use clash::{Clash, find_clash};
 pub use cycle::preference_cycle;
+pub use pair::prefers;

@@ -18,6 +18,6 @@ pub returns : goal.returns
 returns c =
     let keys = c.self.inside.sets.keys in
     let added : places_of c.insert_full.new.self.keys ≡ places_of keys ++ c.args.places.now ∷ [] = key_added keys c.insert_full.new.self.keys c.in_ok-set.set c.args.places.now c.in_ok-set.ensures.items (sym c.in_default.ensures.found) c.in_ok-insert_full.ensures.keys in
-    let paths : paths_of c.push.new.list.items ≡ paths_of c.self.inside.origins.items ++ path_by (paths_of c.self.inside.origins.items) c.args.origin ∷ [] = ap paths_of c.in_ok-push.ensures ∙ paths_more c.self.inside.origins.items c.args.origin in
+    let paths : paths_of c.push.new.list.items ≡ paths_of c.self.inside.origins.items ++ path_by (paths_of c.self.inside.origins.items) c.args.origin ∷ [] = ap paths_of c.in_ok-push.ensures.ok ∙ paths_more c.self.inside.origins.items c.args.origin in
     let count : c.len-state.result ≡ length (places_of keys) = c.len-state.ensures.len ∙ sym (length-map keys (λ key. key.items)) in
     rw (← c.self.view_is, added, paths) (record { here = slice_get_last (places_of keys) c.args.places.now c.len-state.result count; change = inr (count, refl) })
