@@ -17,7 +17,8 @@ nothing : {A : Type 0} (xs : List A) → length xs ≡ 0 → xs ≡ []
 nothing [] e = refl
 nothing (x ∷ xs) e = absurd (omega arith)
 
-rows_suc : (height width : ℕ) (codes row : List ℕ) → length codes ≡ height * width → length row ≡ width → rows_of (suc height) width (codes ++ row) ≡ rows_of height width codes ++ row ∷ []
+rows_suc : (height width : ℕ) (codes row : List ℕ) → length codes ≡ height * width → length row ≡ width →
+    rows_of (suc height) width (codes ++ row) ≡ rows_of height width codes ++ row ∷ []
 unfolding rows_of
 rows_suc zero width codes row e len =
     let none : codes ≡ [] = nothing codes (omega arith) in
@@ -31,11 +32,13 @@ rows_suc (suc height) width codes row e len =
     ∙ ap (λ (z : List ℕ). take width codes ∷ rows_of (suc height) width z) back ∙ ap (λ (z : List (List ℕ)). take width codes ∷ z) more
 
 -- a row more
-pub rows_of-more : (height width : ℕ) (codes row : List ℕ) → length codes ≡ height * width → length row ≡ width → rows_of (height + 1) width (codes ++ row) ≡ rows_of height width codes ++ row ∷ []
+pub rows_of-more : (height width : ℕ) (codes row : List ℕ) → length codes ≡ height * width → length row ≡ width →
+    rows_of (height + 1) width (codes ++ row) ≡ rows_of height width codes ++ row ∷ []
 rows_of-more height width codes row e len = rw add-one (rows_suc height width codes row e len)
 
 -- a row is a part of the list
-rows_at : (height width : ℕ) (codes : List ℕ) (s : ℕ) → s < height → get_or (rows_of height width codes) s [] ≡ take width (drop (s * width) codes)
+rows_at : (height width : ℕ) (codes : List ℕ) (s : ℕ) → s < height → get_or (rows_of height width codes) s [] ≡ take width
+    (drop (s * width) codes)
 unfolding rows_of
 rows_at zero width codes s lt = absurd (omega arith)
 rows_at (suc height) width codes zero lt = (let e : 0 * width ≡ 0 = omega arith in ap (λ n. take width (drop n codes)) (sym e))
@@ -47,18 +50,24 @@ module _ (height width : ℕ) (codes : List ℕ) (s : ℕ) where
   pub row_length : length codes ≡ height * width → s < height → length (get_or (rows_of height width codes) s []) ≡ width
   row_length e lt =
       let within = row_within height width s lt in
-      ap length (rows_at height width codes s lt) ∙ length-take-le width (drop (s * width) codes) (omega (arith, length-drop (s * width) codes))
+      ap length (rows_at height width codes s lt) ∙ length-take-le width (drop (s * width) codes)
+      (omega (arith, length-drop (s * width) codes))
 
   pub number_at : (j : ℕ) → s < height → j < width → get_or (get_or (rows_of height width codes) s []) j 0 ≡ get_or codes (s * width + j) 0
   number_at j lt less =
-      ap (λ (z : List ℕ). get_or z j 0) (rows_at height width codes s lt) ∙ get_or-take width (drop (s * width) codes) j 0 less ∙ get_or-drop (s * width) codes j 0
+      ap (λ (z : List ℕ). get_or z j 0) (rows_at height width codes s lt) ∙ get_or-take width (drop (s * width) codes) j 0 less
+      ∙ get_or-drop (s * width) codes j 0
 
 -- what a grid with a row more shows
-pub grid_more : (height more width : ℕ) (codes new row : List ℕ) → length codes ≡ height * width → length row ≡ width → more ≡ height + 1 → new ≡ codes ++ row → ◌≡◌ {A = GridView} (record { width = width; rows = rows_of more width new }) (record { width = width; rows = rows_of height width codes ++ row ∷ [] })
+pub grid_more : (height more width : ℕ) (codes new row : List ℕ) → length codes ≡ height * width → length row ≡ width → more ≡ height + 1 →
+    new ≡ codes ++ row → ◌≡◌ {A = GridView} (record { width = width; rows = rows_of more width new })
+    (record { width = width; rows = rows_of height width codes ++ row ∷ [] })
 grid_more height more width codes new row e len more_is new_is =
     let grid : List (List ℕ) → GridView = λ z. record { width = width; rows = z } in
     ap grid (ap (λ n. rows_of n width new) more_is ∙ ap (rows_of (height + 1) width) new_is ∙ rows_of-more height width codes row e len)
 
 -- the list is longer by a row
-pub length_more : (height more width : ℕ) (codes new row : List ℕ) → length codes ≡ height * width → length row ≡ width → more ≡ height + 1 → new ≡ codes ++ row → length new ≡ more * width
-length_more height more width codes new row e len more_is new_is = ap length new_is ∙ omega (arith, length-append codes row, ap (λ n. n * width) more_is)
+pub length_more : (height more width : ℕ) (codes new row : List ℕ) → length codes ≡ height * width → length row ≡ width →
+    more ≡ height + 1 → new ≡ codes ++ row → length new ≡ more * width
+length_more height more width codes new row e len more_is new_is = ap length new_is
+    ∙ omega (arith, length-append codes row, ap (λ n. n * width) more_is)

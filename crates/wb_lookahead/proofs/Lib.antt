@@ -1,10 +1,16 @@
-pub mod BeginsLemmas
+pub mod FillLemmas
 pub mod GridLemmas
+pub mod MarkLemmas
 pub mod PartLemmas
 pub mod PassLemmas
+pub mod PlaceLemmas
+pub mod PropagateLemmas
+pub mod RestLemmas
+pub mod RestRows
 pub mod RoomLemmas
 pub mod RowLemmas
 pub mod SpreadLemmas
+pub mod StandInLemmas
 pub mod StandLemmas
 pub mod StepLemmas
 pub mod TableLaws

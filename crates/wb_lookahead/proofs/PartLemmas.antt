@@ -17,7 +17,10 @@ abbrev with_row : GridView → List ℕ → GridView
 with_row grid row = record { width = grid.width; rows = grid.rows ++ row ∷ [] }
 
 -- one kernel more
-pub parts_more : {kernels : KernelsView} (old new : Parts) (n : ℕ) (codes gotos : List ℕ) (set : List Bool) → new.actions ≡ with_row old.actions codes → new.gotos ≡ with_row old.gotos gotos → new.valid.items ≡ old.valid.items ++ set ∷ [] → IsRowOf kernels n (map action_at codes) → AreGotos kernels n gotos kernels.grammar.nonterminals → IsValidSet kernels n set → ArePartsUpTo kernels old n → ArePartsUpTo kernels new (n + 1)
+pub parts_more : {kernels : KernelsView} (old new : Parts) (n : ℕ) (codes gotos : List ℕ) (set : List Bool) →
+    new.actions ≡ with_row old.actions codes → new.gotos ≡ with_row old.gotos gotos → new.valid.items ≡ old.valid.items ++ set ∷ [] →
+    IsRowOf kernels n (map action_at codes) → AreGotos kernels n gotos kernels.grammar.nonterminals → IsValidSet kernels n set →
+    ArePartsUpTo kernels old n → ArePartsUpTo kernels new (n + 1)
 parts_more {kernels} old new n codes gotos set actions_are gotos_are valid_is row goto_row valid p =
     let action_rows : new.actions.rows ≡ old.actions.rows ++ codes ∷ [] = ap (λ (g : GridView). g.rows) actions_are in
     let goto_rows : new.gotos.rows ≡ old.gotos.rows ++ gotos ∷ [] = ap (λ (g : GridView). g.rows) gotos_are in
@@ -29,20 +32,35 @@ parts_more {kernels} old new n codes gotos set actions_are gotos_are valid_is ro
       };
       nonterminals = ap (λ (g : GridView). g.width) gotos_are ∙ p.nonterminals;
       valid_len = ap length valid_is ∙ omega (arith, length-append old.valid.items (set ∷ []), p.valid_len);
-      actions = subst (λ (z : List (List ℕ)). (s : ℕ) → s < n + 1 → IsRowOf kernels s (map action_at (get_or z s []))) (sym action_rows) (each_more (λ s z. IsRowOf kernels s (map action_at z)) old.actions.rows codes [] n p.grids.actions_len p.actions row);
-      gotos = subst (λ (z : List (List ℕ)). (s : ℕ) → s < n + 1 → AreGotos kernels s (get_or z s []) kernels.grammar.nonterminals) (sym goto_rows) (each_more (λ s z. AreGotos kernels s z kernels.grammar.nonterminals) old.gotos.rows gotos [] n p.grids.gotos_len p.gotos goto_row);
-      valid = subst (λ (z : List (List Bool)). (s : ℕ) → s < n + 1 → IsValidSet kernels s (get_or z s [])) (sym valid_is) (each_more (IsValidSet kernels) old.valid.items set [] n p.valid_len p.valid valid);
+      actions = subst (λ (z : List (List ℕ)). (s : ℕ) → s < n + 1 → IsRowOf kernels s (map action_at (get_or z s []))) (sym action_rows)
+          (each_more (λ s z. IsRowOf kernels s (map action_at z)) old.actions.rows codes [] n p.grids.actions_len p.actions row);
+      gotos = subst (λ (z : List (List ℕ)). (s : ℕ) → s < n + 1 → AreGotos kernels s (get_or z s []) kernels.grammar.nonterminals)
+          (sym goto_rows) (each_more (λ s z. AreGotos kernels s z kernels.grammar.nonterminals) old.gotos.rows gotos [] n p.grids.gotos_len p.gotos goto_row);
+      valid = subst (λ (z : List (List Bool)). (s : ℕ) → s < n + 1 → IsValidSet kernels s (get_or z s [])) (sym valid_is)
+          (each_more (IsValidSet kernels) old.valid.items set [] n p.valid_len p.valid valid);
     }
 
 -- all kernels
-pub parts_all : {kernels : KernelsView} → AreKernels kernels → (parts : Parts) (terminals : ℕ) → terminals ≡ kernels.grammar.terminals → ArePartsUpTo kernels parts (count_of kernels) → AreTables kernels (record { terminals = terminals; nonterminals = parts.gotos.width; actions = map (map action_at) parts.actions.rows; gotos = map (map goto_at) parts.gotos.rows; valid = parts.valid.items })
+pub parts_all : {kernels : KernelsView} → AreKernels kernels → (parts : Parts) (terminals : ℕ) → terminals ≡ kernels.grammar.terminals →
+    ArePartsUpTo kernels parts (count_of kernels) →
+    AreTables kernels (record {
+      terminals = terminals;
+      nonterminals = parts.gotos.width;
+      actions = map (map action_at) parts.actions.rows;
+      gotos = map (map goto_at) parts.gotos.rows;
+      valid = parts.valid.items;
+    })
 parts_all {kernels} h parts terminals same p = record {
   terminals = same;
   nonterminals = p.nonterminals;
   count = p.valid_len;
-  actions = λ s t lt le. subst (λ row. IsAction kernels s t (action_in row t)) (sym (get_or-map (map action_at) parts.actions.rows s [] [] (omega (arith, p.grids.actions_len)))) (row_action h lt (p.actions s lt) t);
-  gotos = λ s b lt less. subst (λ row. IsGoto kernels s b (goto_in row b)) (sym (get_or-map (map goto_at) parts.gotos.rows s [] [] (omega (arith, p.grids.gotos_len))))
-      (subst (IsGoto kernels s b) (sym (get_or-map goto_at (get_or parts.gotos.rows s []) b 0 None (omega (arith, (p.gotos s lt).len)))) ((p.gotos s lt).each b less));
+  actions = λ s t lt le. subst (λ row. IsAction kernels s t (action_in row t))
+      (sym (get_or-map (map action_at) parts.actions.rows s [] [] (omega (arith, p.grids.actions_len))))
+      (row_action h lt (p.actions s lt) t);
+  gotos = λ s b lt less. subst (λ row. IsGoto kernels s b (goto_in row b))
+      (sym (get_or-map (map goto_at) parts.gotos.rows s [] [] (omega (arith, p.grids.gotos_len))))
+      (subst (IsGoto kernels s b) (sym (get_or-map goto_at (get_or parts.gotos.rows s []) b 0 None (omega (arith, (p.gotos s lt).len))))
+      ((p.gotos s lt).each b less));
   valid = p.valid;
   no_conflict = no_conflict h (λ s t lt a b x y. row_only h lt (p.actions s lt) t a x ∙ sym (row_only h lt (p.actions s lt) t b y));
 }

@@ -1,10 +1,10 @@
 -- How what is listed at an item is passed on.
-use Rattle.std.proofs.Common.{◌≡◌, ℕ, ◌+◌, ◌-◌, ◌<◌, ◌≤◌, Bool, true, false, List, [], ◌∷◌, ◌++◌, length, get_or, take, drop, replicate, set, Some, Result, Ok, Err, refl, sym, ◌∙◌, ap, subst, inl, inr, arith, length-drop}
+use Rattle.std.proofs.Common.{◌≡◌, ℕ, ◌+◌, ◌-◌, ◌<◌, ◌≤◌, ◌⊎◌, Bool, true, false, List, [], ◌∷◌, ◌++◌, length, get_or, take, drop, replicate, set, Some, Result, Ok, Err, refl, sym, ◌∙◌, ap, subst, inl, inr, arith, length-drop}
 use Rattle.std.specs.Prelude.{All, Contains, OnOk, IfSome, slice_get, option_map}
 use Rattle.std.proofs.lemmas.Bool.{cases_eq, cases_lt}
-use Rattle.std.proofs.lemmas.List.{take_all, get_or_past}
+use Rattle.std.proofs.lemmas.List.{take_all, get_or_past, length-map}
 use Rattle.std.proofs.lemmas.List.Elements.{All-get_or, All-contains}
-use Rattle.std.proofs.lemmas.Option.{slice_get-map, slice_get_read, slice_get-get_or, same_Some}
+use Rattle.std.proofs.lemmas.Option.{slice_get-map, slice_get_read, slice_get-get_or, slice_get_within, get_or_from_slice_get, same_Some}
 use Rattle.wb_base.specs.declared.symbol.Symbol.{Symbol}
 use Rattle.wb_base.specs.declared.symbol.Symbol.TheVariants.{Terminal, Nonterminal}
 use Rattle.wb_base.specs.Grammar.{GrammarView, Production}
@@ -12,7 +12,9 @@ use Rattle.wb_termset.specs.Sets.{Has, IsEmpty}
 use Rattle.wb_termset.proofs.CallerLemmas.{IsEmpty-replicate, Has-insert}
 use Rattle.wb_grammars.specs.declared.item.Item.{Item}
 use Rattle.wb_grammars.specs.Productions.{IsProduction, right_of, end_of}
-use Rattle.wb_grammars.specs.Derives.{IsFirst}
+use Rattle.wb_grammars.specs.Derives.{Derives, keep, IsFirst}
+use Rattle.wb_grammars.proofs.DerivesLemmas.{First-append, Derives-same}
+use Rattle.wb_grammars.proofs.ProductionLemmas.{production_once}
 use Rattle.wb_grammars.specs.Items.{after_dot, advance, initial_item, HasItem, start_item}
 use Rattle.wb_grammars.specs.Items as valid
 use Rattle.wb_grammars.specs.States.{close}
@@ -22,18 +24,17 @@ use Rattle.wb_items.specs.declared.item_lookahead.ItemLookahead.{ItemLookahead}
 use Rattle.wb_items.specs.Kernels.{KernelsView, AreKernels, LeadsTo, Precedes, closure_of, count_of, prefix_of}
 use Rattle.wb_items.specs.Lookaheads.{AreEmpty, AreLookaheadsOf, IsSetOf, items_in, row_of}
 use Rattle.wb_items.proofs.SymbolLemmas.{symbol_last, symbol_end, symbol_none}
-use Rattle.wb_lookahead.specs.declared.spread.Place.{Place}
-use Rattle.wb_lookahead.specs.Begins.{Begins}
-use Rattle.wb_lookahead.specs.Spreading.{FlowsTo, IsInitialItemOf, IsPassedOn, IsPlace, Lists, Spreads}
-use Rattle.wb_lookahead.proofs.BeginsLemmas.{begins_sound}
+use Rattle.wb_lookahead.specs.Inner.Spreading.{FlowsTo, IsFirstOf, IsItemPassed, IsPassedOn, IsSole, Keeps, Lists, StandsFor, itself, initial}
 use Rattle.wb_lookahead.proofs.StepLemmas.{initial_has, row_items}
+use Rattle.wb_lookahead.proofs.StandInLemmas.{item_flows}
 
 -- what follows of two clauses where a call succeeds
 pub on_ok_two : {A E : Type 0} (r : Result A E) {P Q R : Type 0} → (P → Q → R) → OnOk r P → OnOk r Q → OnOk r R
 on_ok_two (Ok x) f p q = f p q
 on_ok_two (Err e) f p q = p
 
-right_is : (g : GrammarView) (p : ℕ) (right : List Symbol) → p < length g.productions → IfSome (slice_get g.productions p) (λ r. right ≡ r.1) → right_of g p ≡ right
+right_is : (g : GrammarView) (p : ℕ) (right : List Symbol) → p < length g.productions →
+    IfSome (slice_get g.productions p) (λ r. right ≡ r.1) → right_of g p ≡ right
 right_is g p right lt e =
     let d : Production = (0, []) in
     let r : Production = get_or g.productions p d in
@@ -41,12 +42,15 @@ right_is g p right lt e =
     let is : right ≡ r.1 = subst (λ o. IfSome o (λ z. right ≡ z.1)) at e in
     after_initial g p r.0 r.1 at ∙ sym is
 
-pub rest_within : (g : GrammarView) (item : Item) (right : List Symbol) → item.production < length g.productions → IfSome (slice_get g.productions item.production) (λ r. right ≡ r.1) → (x : Symbol) (rest : List Symbol) → after_dot g item ≡ x ∷ rest → take (length right - (item.dot + 1)) (drop (item.dot + 1) right) ≡ rest
+pub rest_within : (g : GrammarView) (item : Item) (right : List Symbol) → item.production < length g.productions →
+    IfSome (slice_get g.productions item.production) (λ r. right ≡ r.1) → (x : Symbol) (rest : List Symbol) → after_dot g item ≡ x ∷ rest →
+    take (length right - (item.dot + 1)) (drop (item.dot + 1) right) ≡ rest
 rest_within g item right lt e x rest is =
     take_all (length right - (item.dot + 1)) (drop (item.dot + 1) right) (omega (arith, length-drop (item.dot + 1) right))
     ∙ ap (drop (item.dot + 1)) (sym (right_is g item.production right lt e)) ∙ after_advance g item x rest is
 
-pub rest_past : (g : GrammarView) (item : Item) → length g.productions ≤ item.production → (x : Symbol) (rest : List Symbol) → after_dot g item ≡ x ∷ rest → ◌≡◌ {A = List Symbol} [] rest
+pub rest_past : (g : GrammarView) (item : Item) → length g.productions ≤ item.production → (x : Symbol) (rest : List Symbol) →
+    after_dot g item ≡ x ∷ rest → ◌≡◌ {A = List Symbol} [] rest
 rest_past g item le x rest is = elim (cases_eq item.production (length g.productions)) [
   | inl last ↦ elim (cases_eq item.dot 0) [
     | inl left ↦ (let e = symbol_last g item last left in cc)
@@ -56,7 +60,9 @@ rest_past g item le x rest is = elim (cases_eq item.production (length g.product
 ]
 
 -- the set at an item is one alone
-pub set_once : {kernels : KernelsView} → AreKernels kernels → (lookaheads : List (List ItemLookahead)) → AreLookaheadsOf kernels lookaheads → (s : ℕ) → s < count_of kernels → (item : Item) (a b : List Bool) → IsSetOf lookaheads s item a → IsSetOf lookaheads s item b → a ≡ b
+pub set_once : {kernels : KernelsView} → AreKernels kernels → (lookaheads : List (List ItemLookahead)) →
+    AreLookaheadsOf kernels lookaheads → (s : ℕ) → s < count_of kernels → (item : Item) (a b : List Bool) → IsSetOf lookaheads s item a →
+    IsSetOf lookaheads s item b → a ≡ b
 set_once {kernels} h lookaheads shape s lt item a b (i, i_lt, i_is) (j, j_lt, j_is) =
     let row : List ItemLookahead = row_of lookaheads s in
     let x : ItemLookahead = record { item = item; set = a } in
@@ -67,8 +73,10 @@ set_once {kernels} h lookaheads shape s lt item a b (i, i_lt, i_is) (j, j_lt, j_
       | inl same ↦ ap (λ (z : ItemLookahead). z.set) (same_Some x y (sym at_i ∙ ap (slice_get row) same ∙ at_j))
       | inr other ↦
           let items : items_in row ≡ closure_of kernels s = row_items h lookaheads shape s lt in
-          let in_i : slice_get (closure_of kernels s) i ≡ Some item = ap (λ z. slice_get z i) (sym items) ∙ slice_get-map (λ (z : ItemLookahead). z.item) row i ∙ ap (option_map (λ (z : ItemLookahead). z.item)) at_i in
-          let in_j : slice_get (closure_of kernels s) j ≡ Some item = ap (λ z. slice_get z j) (sym items) ∙ slice_get-map (λ (z : ItemLookahead). z.item) row j ∙ ap (option_map (λ (z : ItemLookahead). z.item)) at_j in
+          let in_i : slice_get (closure_of kernels s) i ≡ Some item = ap (λ z. slice_get z i) (sym items)
+          ∙ slice_get-map (λ (z : ItemLookahead). z.item) row i ∙ ap (option_map (λ (z : ItemLookahead). z.item)) at_i in
+          let in_j : slice_get (closure_of kernels s) j ≡ Some item = ap (λ z. slice_get z j) (sym items)
+          ∙ slice_get-map (λ (z : ItemLookahead). z.item) row j ∙ ap (option_map (λ (z : ItemLookahead). z.item)) at_j in
           absurd (elim (cases_lt i j) [
             | inl less ↦ not_before item (h.in_order s i j item item less in_i in_j)
             | inr more ↦ not_before item (h.in_order s j i item item (omega arith) in_j in_i)
@@ -79,21 +87,10 @@ set_once {kernels} h lookaheads shape s lt item a b (i, i_lt, i_is) (j, j_lt, j_
     not_before item (inl less) = omega arith
     not_before item (inr less) = (let f = less.1 in omega arith)
 
--- what begins the rest flows to the initial items of the nonterminal
-flows_here : {kernels : KernelsView} → AreKernels kernels → (place : Place) → IsPlace kernels place → (behind : List Bool) → ((t : ℕ) → Has behind t → FlowsTo kernels place.state place.item t) → (b : ℕ) (rest : List Symbol) (u : ℕ) (item : Item) → after_dot kernels.grammar place.item ≡ Nonterminal b ∷ rest → Begins kernels.grammar behind rest u → IsInitialItemOf kernels.grammar b item → FlowsTo kernels place.state item u
-flows_here {kernels} h place p behind flows b rest u item is begins (q, right, rule, item_is) =
-    let (t0, v) = p.has in
-    let f0 : FlowsTo kernels place.state place.item t0 = flows_complete (prefix_of kernels) h.live h.states v place.state p.state (same_itself kernels.grammar (prefix_of kernels place.state)) in
-    let (t, f, first) = begins_sound kernels.grammar behind (FlowsTo kernels place.state place.item) t0 f0 flows rest u begins in
-    subst (λ z. FlowsTo kernels place.state z u) (sym item_is) (close place.item t b rest q u right f is rule first)
-
-pub opening_flows : {kernels : KernelsView} {g : GrammarView} → AreKernels kernels → kernels.grammar ≡ g → (place : Place) → IsPlace kernels place → (behind : List Bool) → ((t : ℕ) → Has behind t → FlowsTo kernels place.state place.item t) → (b : ℕ) (rest : List Symbol) (u : ℕ) (item : Item) → after_dot g place.item ≡ Nonterminal b ∷ rest → Begins g behind rest u → IsInitialItemOf g b item → FlowsTo kernels place.state item u
-opening_flows {kernels} h same place p behind flows b rest u item =
-    subst (λ g. after_dot g place.item ≡ Nonterminal b ∷ rest → Begins g behind rest u → IsInitialItemOf g b item → FlowsTo kernels place.state item u) same (flows_here h place p behind flows b rest u item)
-
 -- the start item is at the kernel of the empty prefix
 pub start_has : {kernels : KernelsView} → AreKernels kernels → HasItem kernels.grammar (prefix_of kernels 0) (start_item kernels.grammar)
-start_has {kernels} h = subst (λ z. HasItem kernels.grammar z (start_item kernels.grammar)) (sym h.states.first) (end_of kernels.grammar, valid.start)
+start_has {kernels} h = subst (λ z. HasItem kernels.grammar z (start_item kernels.grammar)) (sym h.states.first)
+    (end_of kernels.grammar, valid.start)
 
 pub first_within : {kernels : KernelsView} → AreKernels kernels → 0 < count_of kernels
 first_within {kernels} h = zero_state (prefix_of kernels) h.states
@@ -105,27 +102,114 @@ one_member n k empty one e f t has = elim (Has-insert empty k t (subst (λ z. Ha
 ]
 
 -- empty sets list nothing
-pub empty_lists : (lookaheads : List (List ItemLookahead)) → AreEmpty lookaheads → (s : ℕ) (item : Item) (t : ℕ) → Lists lookaheads s item t → ⊥
+pub empty_lists : (lookaheads : List (List ItemLookahead)) → AreEmpty lookaheads → (s : ℕ) (item : Item) (t : ℕ) →
+    Lists lookaheads s item t → ⊥
 empty_lists lookaheads empty s item t (a, there, has) = elim (cases_lt s (length lookaheads)) [
-  | inl lt ↦ All-contains (λ (looks : ItemLookahead). IsEmpty looks.set) (row_of lookaheads s) (record { item = item; set = a }) (All-get_or (All (λ (looks : ItemLookahead). IsEmpty looks.set)) lookaheads s [] lt empty) there t has
-  | inr past ↦ (let none : Contains [] (record { item = item; set = a }) = subst (λ z. Contains z (record { item = item; set = a })) (get_or_past lookaheads s [] past) there in absurd (omega (arith, none.1)))
+  | inl lt ↦ All-contains (λ (looks : ItemLookahead). IsEmpty looks.set) (row_of lookaheads s) (record { item = item; set = a })
+      (All-get_or (All (λ (looks : ItemLookahead). IsEmpty looks.set)) lookaheads s [] lt empty) there t has
+  | inr past ↦ (let none : Contains [] (record { item = item; set = a }) = subst (λ z. Contains z (record { item = item; set = a }))
+      (get_or_past lookaheads s [] past) there in absurd (omega (arith, none.1)))
 ]
 
+-- what begins the symbols after a nonterminal flows to its initial items
+pub open_flows : {kernels : KernelsView} {g : GrammarView} → AreKernels kernels → kernels.grammar ≡ g → (s : ℕ) → s < count_of kernels → (item : Item) →
+    HasItem kernels.grammar (prefix_of kernels s) item → (b p : ℕ) (rest : List Symbol) → after_dot g item ≡ Nonterminal b ∷ rest → IsFirstOf g b p →
+    (u : ℕ) → IsFirst g rest u → FlowsTo kernels s (initial_item p) u
+open_flows {kernels} h same s lt item has b p rest is first u begins =
+    let (t, f) = item_flows h s lt item has in
+    let here = ap (λ z. after_dot z item) same ∙ is in
+    let rule = subst (λ z. IsProduction z p b first.right) (sym same) first.production in
+    close item t b rest p u first.right f here rule
+    ((First-append kernels.grammar rest (Terminal t ∷ []) u).1 (inl (subst (λ z. IsFirst z rest u) (sym same) begins)))
+
+-- and where these symbols derive the empty text, what flows to the item does
+pub open_flows_on : (kernels : KernelsView) {g : GrammarView} → kernels.grammar ≡ g → (s : ℕ) (item : Item) (b p : ℕ) (rest : List Symbol) →
+    after_dot g item ≡ Nonterminal b ∷ rest → IsFirstOf g b p → Derives g rest [] → (t : ℕ) → FlowsTo kernels s item t → FlowsTo kernels s (initial_item p) t
+open_flows_on kernels same s item b p rest is first empty t f =
+    let here = ap (λ z. after_dot z item) same ∙ is in
+    let rule = subst (λ z. IsProduction z p b first.right) (sym same) first.production in
+    close item t b rest p t first.right f here rule
+    ((First-append kernels.grammar rest (Terminal t ∷ []) t).1 (inr (subst (λ z. Derives z rest []) (sym same) empty, ([], Derives-same kernels.grammar (Terminal t ∷ [])))))
+
+-- what begins these symbols with a terminal after them begins these, or is the terminal
+pub first_then : {g : GrammarView} (rest : List Symbol) (t u : ℕ) → IsFirst g (rest ++ Terminal t ∷ []) u → IsFirst g rest u ⊎ (Derives g rest [] × (t ≡ u))
+first_then {g} rest t u f = elim ((First-append g rest (Terminal t ∷ []) u).0 f) [
+  | inl here ↦ inl here
+  | inr (empty, (v, r)) ↦ inr (empty, alone r refl)
+]
+  where
+    alone : {x : List Symbol} {v : List Symbol} → Derives g (Terminal t ∷ []) x → x ≡ Terminal u ∷ v → t ≡ u
+    alone (keep y r) e = cc
+
+-- the initial item is there
+pub open_has : {kernels : KernelsView} {g : GrammarView} → AreKernels kernels → kernels.grammar ≡ g → (s : ℕ) (item : Item) →
+    HasItem kernels.grammar (prefix_of kernels s) item → (b p : ℕ) (rest : List Symbol) → after_dot g item ≡ Nonterminal b ∷ rest → IsFirstOf g b p →
+    HasItem kernels.grammar (prefix_of kernels s) (initial_item p)
+open_has {kernels} h same s item has b p rest is first =
+    initial_has h s b item rest p first.right has (ap (λ z. after_dot z item) same ∙ is) (subst (λ z. IsProduction z p b first.right) (sym same) first.production)
+
 -- what moved on and what was opened is all that is passed on
-pub passed_here : (kernels : KernelsView) {g : GrammarView} {old new : List (List ItemLookahead)} {w v : List Place} → kernels.grammar ≡ g → (place : Place) (x : Symbol) (rest : List Symbol) → after_dot g place.item ≡ x ∷ rest → (t : ℕ) → Spreads old w new v
-    → ((next : ℕ) → LeadsTo kernels place.state x next → Lists old next (advance place.item) t)
-    → ((u b q : ℕ) (more right : List Symbol) → after_dot g place.item ≡ Nonterminal b ∷ more → IsProduction g q b right → IsFirst g (more ++ Terminal t ∷ []) u → Lists new place.state (initial_item q) u)
-    → IsPassedOn kernels new place.state place.item t
-passed_here kernels {g} same place x rest is t spreads moves opens = record {
+pub item_passed : (kernels : KernelsView) {g : GrammarView} (old : List (List ItemLookahead)) {new : List (List ItemLookahead)} → kernels.grammar ≡ g → (s : ℕ) (item : Item)
+    (x : Symbol) (rest : List Symbol) → after_dot g item ≡ x ∷ rest → (t : ℕ) → Keeps old new →
+    ((next : ℕ) → LeadsTo kernels s x next → Lists old next (advance item) t) →
+    ((u b p : ℕ) (more : List Symbol) → after_dot g item ≡ Nonterminal b ∷ more → IsFirstOf g b p → IsFirst g (more ++ Terminal t ∷ []) u → Lists new s (initial_item p) u) →
+    IsItemPassed kernels new s item t
+item_passed kernels {g} old same s item x rest is t keeps moves opens = record {
   moves = λ y more next here leads.
-      let there : x ∷ rest ≡ y ∷ more = sym is ∙ sym (ap (λ z. after_dot z place.item) same) ∙ here in
+      let there : x ∷ rest ≡ y ∷ more = sym is ∙ sym (ap (λ z. after_dot z item) same) ∙ here in
       let first : y ≡ x = cc in
-      spreads.keeps next (advance place.item) t (moves next (subst (λ z. LeadsTo kernels place.state z next) first leads));
-  opens = λ b more q u right here rule first.
-      opens u b q more right (sym (ap (λ z. after_dot z place.item) same) ∙ here) (subst (λ z. IsProduction z q b right) same rule) (subst (λ z. IsFirst z (more ++ Terminal t ∷ []) u) same first);
+      keeps next (advance item) t (moves next (subst (λ z. LeadsTo kernels s z next) first leads));
+  opens = λ b more p u here first begins.
+      opens u b p more (sym (ap (λ z. after_dot z item) same) ∙ here) (subst (λ z. IsFirstOf z b p) same first) (subst (λ z. IsFirst z (more ++ Terminal t ∷ []) u) same begins);
 }
 
--- the initial items of a nonterminal after a dot are there
-pub opening_there : {kernels : KernelsView} {g : GrammarView} → AreKernels kernels → kernels.grammar ≡ g → (place : Place) → IsPlace kernels place → (b : ℕ) (rest : List Symbol) (q : ℕ) (right : List Symbol) → after_dot g place.item ≡ Nonterminal b ∷ rest → IsProduction g q b right → HasItem g (prefix_of kernels place.state) (initial_item q)
-opening_there {kernels} h same place p b rest q right =
-    subst (λ g. after_dot g place.item ≡ Nonterminal b ∷ rest → IsProduction g q b right → HasItem g (prefix_of kernels place.state) (initial_item q)) same (initial_has h place.state b place.item rest q right p.has)
+-- nothing flows on from a complete item
+pub complete_passed : (kernels : KernelsView) {g : GrammarView} {new : List (List ItemLookahead)} → kernels.grammar ≡ g → (s : ℕ) (item : Item) → after_dot g item ≡ [] → (t : ℕ) →
+    IsItemPassed kernels new s item t
+complete_passed kernels same s item none t = record {
+  moves = λ x rest next is leads. absurd (no_symbol x rest (sym (ap (λ z. after_dot z item) same ∙ none) ∙ is));
+  opens = λ b rest p u is first begins. absurd (no_symbol (Nonterminal b) rest (sym (ap (λ z. after_dot z item) same ∙ none) ∙ is));
+}
+  where
+    no_symbol : (x : Symbol) (rest : List Symbol) → [] ≡ x ∷ rest → ⊥
+    no_symbol x rest e = cc
+
+pub passed_kept : {kernels : KernelsView} (old : List (List ItemLookahead)) {new : List (List ItemLookahead)} {s : ℕ} {item : Item} {t : ℕ} → Keeps old new → IsItemPassed kernels old s item t → IsItemPassed kernels new s item t
+passed_kept old {s = s} {item} {t} keeps p = record {
+  moves = λ x rest next is leads. keeps next (advance item) t (p.moves x rest next is leads);
+  opens = λ b rest p' u is first begins. keeps s (initial_item p') u (p.opens b rest p' u is first begins);
+}
+
+-- an item that is no initial item stands for itself alone
+pub sole_passed : {kernels : KernelsView} {new : List (List ItemLookahead)} {s : ℕ} {one : Item} {t : ℕ} → IsSole kernels.grammar one → IsItemPassed kernels new s one t → IsPassedOn kernels new s one t
+sole_passed {kernels} {new} {s} {one} {t} sole passed item (itself e _) = subst (λ z. IsItemPassed kernels new s z t) e passed
+sole_passed sole passed item (initial b p q right first rule is item_is) = absurd (sole p b first.right first.production is)
+
+-- an initial item stands for those of its nonterminal
+pub initial_passed : {kernels : KernelsView} {new : List (List ItemLookahead)} {s : ℕ} {one : Item} {t : ℕ} (b p : ℕ) (w : List Symbol) → IsProduction kernels.grammar p b w → one ≡ initial_item p →
+    ((q : ℕ) (right : List Symbol) → IsProduction kernels.grammar q b right → IsItemPassed kernels new s (initial_item q) t) → IsPassedOn kernels new s one t
+initial_passed b p w rule is passed item (itself e sole) = absurd (sole p b w rule (sym e ∙ is))
+initial_passed {kernels} {new} {s} {one} {t} b p w rule is passed item (initial c r q right first other one_is item_is) =
+    let same : r ≡ p = ap (λ (i : Item). i.production) (sym one_is ∙ is) in
+    let left : c ≡ b = (production_once kernels.grammar p c b first.right w (subst (λ n. IsProduction kernels.grammar n c first.right) same first.production) rule).0 in
+    subst (λ z. IsItemPassed kernels new s z t) (sym item_is) (passed q right (subst (λ n. IsProduction kernels.grammar q n right) left other))
+
+-- the set at a place is that of its item
+pub set_at : {kernels : KernelsView} → AreKernels kernels → (lookaheads : List (List ItemLookahead)) → AreLookaheadsOf kernels lookaheads → (s : ℕ) → s < count_of kernels →
+    (item : Item) (at : ℕ) → slice_get (closure_of kernels s) at ≡ Some item → (looks : ItemLookahead) → slice_get (row_of lookaheads s) at ≡ Some looks →
+    IsSetOf lookaheads s item looks.set
+set_at {kernels} h lookaheads shape s lt item at here looks there =
+    let items = row_items h lookaheads shape s lt in
+    let listed : slice_get (closure_of kernels s) at ≡ Some looks.item =
+    ap (λ z. slice_get z at) (sym items) ∙ slice_get-map (λ (z : ItemLookahead). z.item) (row_of lookaheads s) at ∙ ap (option_map (λ (z : ItemLookahead). z.item)) there in
+    let is : looks.item ≡ item = same_Some looks.item item (sym listed ∙ here) in
+    subst (λ z. IsSetOf lookaheads s z looks.set) is (at, slice_get_within (row_of lookaheads s) at looks there, get_or_from_slice_get (row_of lookaheads s) at looks looks there)
+
+-- a place of a closure is one of the row
+pub place_in_row : {kernels : KernelsView} → AreKernels kernels → (lookaheads : List (List ItemLookahead)) → AreLookaheadsOf kernels lookaheads → (s : ℕ) → s < count_of kernels →
+    (item : Item) (at : ℕ) → slice_get (closure_of kernels s) at ≡ Some item → at < length (row_of lookaheads s)
+place_in_row {kernels} h lookaheads shape s lt item at here =
+    let items = row_items h lookaheads shape s lt in
+    let w = slice_get_within (closure_of kernels s) at item here in
+    let len = length-map (row_of lookaheads s) (λ (z : ItemLookahead). z.item) in
+    omega (arith, w, len, ap (λ (z : List Item). length z) items)

@@ -1,90 +1,129 @@
 -- How spreading goes on, one step after another.
-use Rattle.std.proofs.Common.{◌≡◌, ℕ, ◌+◌, ◌<◌, ◌≤◌, ◌⊎◌, Bool, true, List, [], ◌∷◌, ◌++◌, length, get_or, take, sym, ◌∙◌, ap, subst, inl, inr, arith, length-append}
-use Rattle.std.specs.Prelude.{Contains}
+use Rattle.std.proofs.Common.{◌≡◌, ℕ, ◌+◌, ◌<◌, ◌≤◌, ◌⊎◌, Bool, true, false, List, [], ◌∷◌, ◌++◌, length, get_or, take, Some, refl, sym, ◌∙◌, ap, subst, inl, inr, arith, length-append}
+use Rattle.std.specs.Prelude.{All, Contains, slice_get}
 use Rattle.std.proofs.lemmas.List.{take_more, take_all}
-use Rattle.std.proofs.lemmas.List.Elements.{All-push, Contains-append_left, Contains-push, Contains-push_cases}
+use Rattle.std.proofs.lemmas.List.Elements.{All-push, All-contains, Contains-append_left, Contains-push, Contains-push_cases}
 use Rattle.std.proofs.lemmas.Bool.{cases_eq}
+use Rattle.std.proofs.lemmas.Option.{same_Some}
 use Rattle.wb_grammars.specs.declared.item.Item.{Item}
 use Rattle.wb_termset.specs.Sets.{Has}
 use Rattle.wb_items.specs.declared.item_lookahead.ItemLookahead.{ItemLookahead}
-use Rattle.wb_items.specs.Kernels.{KernelsView, AreKernels}
-use Rattle.wb_lookahead.specs.Unions.{Unites}
-use Rattle.wb_lookahead.specs.declared.spread.Place.{Place}
-use Rattle.wb_lookahead.specs.Spreading.{AreSound, FlowsTo, IsPlace, Lists, Spreads}
+use Rattle.wb_items.specs.Kernels.{KernelsView, AreKernels, count_of}
+use Rattle.wb_items.specs.Lookaheads.{AreLookaheadsOf, items_in, row_of}
+use Rattle.wb_lookahead.specs.Inner.Unions.{Unites}
+use Rattle.wb_lookahead.specs.declared.worklist.Place.{Place}
+use Rattle.wb_lookahead.specs.Inner.Spreading.{AreSound, FlowsTo, IsPlace, Keeps, Lists, Spreads, Waits}
+use Rattle.wb_lookahead.specs.Inner.Waiting.{Adds}
 use Rattle.wb_lookahead.proofs.UnionLemmas.{lists_kept, lists_new, shape_kept}
 use Rattle.wb_lookahead.proofs.RoomLemmas.{room_less}
-use Rattle.wb_lookahead.proofs.StepLemmas.{rows_within}
+use Rattle.wb_lookahead.proofs.StepLemmas.{closure_at, rows_within}
 
 pub spreads_none : (l : List (List ItemLookahead)) (w : List Place) → Spreads l w l w
-spreads_none l w = record { keeps = λ s item t h. h; waits = λ p h. h; grew = λ p. inr (λ t h. h); less = omega arith }
+spreads_none l w = record { keeps = λ s item t h. h; waits = λ s item h. h; grew = λ s item. inr (λ t h. h); less = omega arith }
 
 pub spreads_then : {l m n : List (List ItemLookahead)} {v w x : List Place} → Spreads l v m w → Spreads m w n x → Spreads l v n x
 spreads_then {l} {m} {n} {v} {w} {x} p q = record {
   keeps = λ s item t h. q.keeps s item t (p.keeps s item t h);
-  waits = λ place h. q.waits place (p.waits place h);
-  grew = λ place. both place (q.grew place) (p.grew place);
+  waits = λ s item h. q.waits s item (p.waits s item h);
+  grew = λ s item. both s item (q.grew s item) (p.grew s item);
   less = (let a = p.less in let b = q.less in omega arith);
 }
   where
-    both : (place : Place) → Contains x place ⊎ ((t : ℕ) → Lists n place.state place.item t → Lists m place.state place.item t) → Contains w place ⊎ ((t : ℕ) → Lists m place.state place.item t → Lists l place.state place.item t) → Contains x place ⊎ ((t : ℕ) → Lists n place.state place.item t → Lists l place.state place.item t)
-    both place (inl waits) _ = inl waits
-    both place (inr same) (inl waited) = inl (q.waits place waited)
-    both place (inr same) (inr before) = inr (λ t h. before t (same t h))
+    both : (s : ℕ) (item : Item) → Waits x s item ⊎ ((t : ℕ) → Lists n s item t → Lists m s item t) → Waits w s item ⊎ ((t : ℕ) → Lists m s item t → Lists l s item t) →
+        Waits x s item ⊎ ((t : ℕ) → Lists n s item t → Lists l s item t)
+    both s item (inl waits) _ = inl waits
+    both s item (inr same) (inl waited) = inl (q.waits s item waited)
+    both s item (inr same) (inr before) = inr (λ t h. before t (same t h))
 
 abbrev item_of : ℕ → ℕ → Item
 item_of p d = record { production = p; dot = d }
 
-abbrev place_of : ℕ → Item → Place
-place_of s item = record { state = s; item = item }
-
-place_parts : (a b : Place) → a.state ≡ b.state → a.item ≡ b.item → a ≡ b
-place_parts a b s i = ap (λ z. place_of z a.item) s ∙ ap (place_of b.state) i
-
 item_parts : (a b : Item) → a.production ≡ b.production → a.dot ≡ b.dot → a ≡ b
 item_parts a b p d = ap (λ z. item_of z a.dot) p ∙ ap (item_of b.production) d
 
--- two places are the same, or not
-same_place : (a b : Place) → (a ≡ b) ⊎ (a ≡ b → ⊥)
-same_place a b = elim (cases_eq a.state b.state) [
-  | inr s ↦ inr (λ e. s (ap (λ (z : Place). z.state) e))
-  | inl s ↦ elim (cases_eq a.item.production b.item.production) [
-    | inr p ↦ inr (λ e. p (ap (λ (z : Place). z.item.production) e))
-    | inl p ↦ elim (cases_eq a.item.dot b.item.dot) [
-      | inr d ↦ inr (λ e. d (ap (λ (z : Place). z.item.dot) e))
-      | inl d ↦ inl (place_parts a b s (item_parts a.item b.item p d))
+-- two items of kernels are the same, or not
+same_at : (s k : ℕ) (a b : Item) → ((s ≡ k) × (a ≡ b)) ⊎ (((s ≡ k) × (a ≡ b)) → ⊥)
+same_at s k a b = elim (cases_eq s k) [
+  | inr s ↦ inr (λ e. s e.0)
+  | inl s ↦ elim (cases_eq a.production b.production) [
+    | inr p ↦ inr (λ e. p (ap (λ (z : Item). z.production) e.1))
+    | inl p ↦ elim (cases_eq a.dot b.dot) [
+      | inr d ↦ inr (λ e. d (ap (λ (z : Item). z.dot) e.1))
+      | inl d ↦ inl (s, item_parts a b p d)
     ]
   ]
 ]
 
-module _ {kernels : KernelsView} {old new : List (List ItemLookahead)} {place : Place} {added : List Bool} {b : Bool} {w : List Place} where
-  sound_kept : Unites old place.state place.item added b new → place.state < length old → AreSound kernels old w → ((t : ℕ) → Has added t → FlowsTo kernels place.state place.item t) → (s : ℕ) (item : Item) (t : ℕ) → Lists new s item t → FlowsTo kernels s item t
-  sound_kept u lt h flows s item t lists = elim (lists_new u lt s item t lists) [
-    | inl before ↦ h.sound s item t before
-    | inr (s_is, item_is, has) ↦ subst (λ z. FlowsTo kernels z item t) (sym s_is) (subst (λ z. FlowsTo kernels place.state z t) (sym item_is) (flows t has))
-  ]
+-- what waited waits, and the place that was added
+pub adds_waits : {old new : List Place} (place : Place) → Adds old place new → (s : ℕ) (item : Item) → Waits old s item → Waits new s item
+adds_waits {old} {new} place (inl is) s item (at, h) = (at, subst (λ z. Contains z (record { state = s; item = item; at = at })) (sym is) (Contains-append_left old (place ∷ []) (record { state = s; item = item; at = at }) h))
+adds_waits place (inr (is, _)) s item (at, h) = (at, subst (λ z. Contains z (record { state = s; item = item; at = at })) (sym is) h)
 
-  -- a union that adds something, whose place then waits
-  pub spread_sound : AreKernels kernels → IsPlace kernels place → Unites old place.state place.item added b new → AreSound kernels old w → ((t : ℕ) → Has added t → FlowsTo kernels place.state place.item t) → AreSound kernels new (w ++ place ∷ [])
-  spread_sound k p u h flows =
-      let lt : place.state < length old = (let e = rows_within k old h.shape in let f = p.state in omega arith) in
-      record { shape = shape_kept u lt h.shape; sound = sound_kept u lt h flows; places = All-push (IsPlace kernels) w place h.places p }
+pub adds_it : {kernels : KernelsView} {old new : List Place} {place : Place} → All (IsPlace kernels) old → IsPlace kernels place → Adds old place new → Waits new place.state place.item
+adds_it {old = old} {new} {place} places p (inl is) = (place.at, subst (λ z. Contains z place) (sym is) (Contains-push old place))
+adds_it {kernels} {old} {new} {place} places p (inr (is, (item, there))) =
+    let other : Place = record { state = place.state; item = item; at = place.at } in
+    let q : IsPlace kernels other = All-contains (IsPlace kernels) old other places there in
+    let same : item ≡ place.item = same_Some item place.item (sym q.here ∙ p.here) in
+    (place.at, subst (λ z. Contains z place) (sym is) (subst (λ z. Contains old (record { state = place.state; item = z; at = place.at })) same there))
 
-module _ {old new : List (List ItemLookahead)} {place : Place} {added : List Bool} {b : Bool} {w : List Place} where
-  pub spread_spreads : place.state < length old → Unites old place.state place.item added b new → b ≡ true → Spreads old w new (w ++ place ∷ [])
-  spread_spreads lt u grew = record {
-    keeps = lists_kept u lt;
-    waits = λ one h. Contains-append_left w (place ∷ []) one h;
-    grew = λ one. changes one (same_place one place);
-    less = (let less = room_less u lt grew in omega (arith, length-append w (place ∷ [])));
-  }
-    where
-      changes : (one : Place) → (one ≡ place) ⊎ (one ≡ place → ⊥) → Contains (w ++ place ∷ []) one ⊎ ((t : ℕ) → Lists new one.state one.item t → Lists old one.state one.item t)
-      changes one (inl same) = inl (subst (Contains (w ++ place ∷ [])) (sym same) (Contains-push w place))
-      changes one (inr other) = inr (λ t h. stays one other t (lists_new u lt one.state one.item t h))
-        where
-          stays : (one : Place) → (one ≡ place → ⊥) → (t : ℕ) → Lists old one.state one.item t ⊎ ((one.state ≡ place.state) × (one.item ≡ place.item) × Has added t) → Lists old one.state one.item t
-          stays one other t (inl before) = before
-          stays one other t (inr (s, i, has)) = absurd (other (place_parts one place s i))
+pub adds_places : {kernels : KernelsView} {old new : List Place} {place : Place} → All (IsPlace kernels) old → IsPlace kernels place → Adds old place new → All (IsPlace kernels) new
+adds_places {kernels} {old} {new} {place} places p (inl is) = subst (All (IsPlace kernels)) (sym is) (All-push (IsPlace kernels) old place places p)
+adds_places {kernels} places p (inr (is, _)) = subst (All (IsPlace kernels)) (sym is) places
+
+adds_length : {old new : List Place} (place : Place) → Adds old place new → length new ≤ length old + 1
+adds_length {old} {new} place (inl is) = (let e : length new ≡ length old + 1 = ap (λ (z : List Place). length z) is ∙ length-append old (place ∷ []) in omega (arith, e))
+adds_length {old} {new} place (inr (is, _)) = (let e : length new ≡ length old = ap (λ (z : List Place). length z) is in omega (arith, e))
+
+-- what a union leaves flows where it is listed
+pub union_sound : (kernels : KernelsView) (place : Place) {old new : List (List ItemLookahead)} {added : List Bool} {b : Bool} →
+    Unites old place.state place.item added b new → place.state < length old →
+    ((s : ℕ) (item : Item) (t : ℕ) → Lists old s item t → FlowsTo kernels s item t) → ((t : ℕ) → Has added t → FlowsTo kernels place.state place.item t) →
+    (s : ℕ) (item : Item) (t : ℕ) → Lists new s item t → FlowsTo kernels s item t
+union_sound kernels place u lt sound flows s item t lists = elim (lists_new u lt s item t lists) [
+  | inl before ↦ sound s item t before
+  | inr (s_is, item_is, has) ↦ subst (λ z. FlowsTo kernels z item t) (sym s_is) (subst (λ z. FlowsTo kernels place.state z t) (sym item_is) (flows t has))
+]
+
+pub state_within : {kernels : KernelsView} → AreKernels kernels → (place : Place) → place.state < count_of kernels → (old : List (List ItemLookahead)) → AreLookaheadsOf kernels old →
+    place.state < length old
+state_within k place lt old shape = (let e = rows_within k old shape in omega (arith, e, lt))
+
+-- numbers of a place
+abbrev pub place_of : ℕ → Item → ℕ → Place
+place_of s item at = record { state = s; item = item; at = at }
+
+pub is_place : {kernels : KernelsView} → AreKernels kernels → (lookaheads : List (List ItemLookahead)) → AreLookaheadsOf kernels lookaheads → (s : ℕ) → s < count_of kernels →
+    (item : Item) (at : ℕ) → slice_get (items_in (row_of lookaheads s)) at ≡ Some item → IsPlace kernels (place_of s item at)
+is_place k lookaheads shape s lt item at e = record { state = lt; here = closure_at k lookaheads shape s lt item at e }
+
+-- a union that adds something, whose place then waits
+pub spread_sound : {kernels : KernelsView} (place : Place) {old new : List (List ItemLookahead)} {added : List Bool} {b : Bool} {w v : List Place} → AreKernels kernels →
+    IsPlace kernels place → Unites old place.state place.item added b new → AreSound kernels old w → ((t : ℕ) → Has added t → FlowsTo kernels place.state place.item t) →
+    Adds w place v → AreSound kernels new v
+spread_sound {kernels} place {old} k p u h flows adds =
+    let lt = state_within k place p.state old h.shape in
+    record { shape = shape_kept u lt h.shape; sound = union_sound kernels place u lt h.sound flows; places = adds_places h.places p adds }
+
+-- the sets grew, and the place waits
+pub spread_spreads : {kernels : KernelsView} (place : Place) {old new : List (List ItemLookahead)} {added : List Bool} {b : Bool} {w v : List Place} → place.state < length old →
+    Unites old place.state place.item added b new → b ≡ true → All (IsPlace kernels) w → IsPlace kernels place → Adds w place v → Spreads old w new v
+spread_spreads {kernels} place {old} {new} {added} {b} {w} {v} lt u grew places p adds = record {
+  keeps = lists_kept u lt;
+  waits = adds_waits place adds;
+  grew = λ s item. changes s item (same_at s place.state item place.item);
+  less = (let less = room_less u lt grew in let more = adds_length place adds in omega (arith, less, more));
+}
+  where
+    stays : (s : ℕ) (item : Item) → (((s ≡ place.state) × (item ≡ place.item)) → ⊥) → (t : ℕ) → Lists old s item t ⊎ ((s ≡ place.state) × (item ≡ place.item) × Has added t) →
+        Lists old s item t
+    stays s item other t (inl before) = before
+    stays s item other t (inr (s_is, i_is, has)) = absurd (other (s_is, i_is))
+
+    changes : (s : ℕ) (item : Item) → ((s ≡ place.state) × (item ≡ place.item)) ⊎ (((s ≡ place.state) × (item ≡ place.item)) → ⊥) →
+        Waits v s item ⊎ ((t : ℕ) → Lists new s item t → Lists old s item t)
+    changes s item (inl same) = inl (subst (λ z. Waits v z item) (sym same.0) (subst (Waits v place.state) (sym same.1) (adds_it places p adds)))
+    changes s item (inr other) = inr (λ t h. stays s item other t (lists_new u lt s item t h))
 
 -- an element of a front that is one longer
 pub contains_more : {A : Type 0} (xs : List A) (i : ℕ) (d x : A) → i < length xs → Contains (take (i + 1) xs) x → Contains (take i xs) x ⊎ (get_or xs i d ≡ x)

@@ -23,14 +23,16 @@ use Rattle.wb_lookahead.specs.Rows.{Asks, shift, reduce, accept, IsReduction}
 use Rattle.wb_lookahead.proofs.StepLemmas.{step_once}
 
 -- an item asks for each action that stands
-pub stands_asked : (kernels : KernelsView) (s t : ℕ) (action : Action) → Stands kernels s t action → (item : Item) × HasItem kernels.grammar (prefix_of kernels s) item × Asks kernels s item t action
+pub stands_asked : (kernels : KernelsView) (s t : ℕ) (action : Action) → Stands kernels s t action → (item : Item) ×
+    HasItem kernels.grammar (prefix_of kernels s) item × Asks kernels s item t action
 stands_asked kernels s t (Shift n) (can, leads) = (can.item, can.has, shift can.rest n can.before_dot leads)
 stands_asked kernels s t (Reduce p) (lt, can) = (can.item, can.has, reduce p can.complete can.production lt can.lookahead)
 stands_asked kernels s t Accept can = (can.item, can.has, accept can.complete can.production can.lookahead)
 stands_asked kernels s t act.None none = absurd none
 
 -- where an action stands, the terminal is valid
-pub stands_valid : (kernels : KernelsView) (s t : ℕ) (action : Action) → Stands kernels s t action → IsValidTerminal kernels.grammar (prefix_of kernels s) t
+pub stands_valid : (kernels : KernelsView) (s t : ℕ) (action : Action) → Stands kernels s t action →
+    IsValidTerminal kernels.grammar (prefix_of kernels s) t
 stands_valid kernels s t (Shift n) (can, leads) = inl can
 stands_valid kernels s t (Reduce p) (lt, can) = inr (p, can)
 stands_valid kernels s t Accept can = inr (top_of kernels.grammar, can)
@@ -38,27 +40,32 @@ stands_valid kernels s t act.None none = absurd none
 
 module _ (kernels : KernelsView) (s t : ℕ) where
   -- a terminal that can be shifted leads to a kernel
-  pub shift_stands : AreKernels kernels → s < count_of kernels → CanShift kernels.grammar (prefix_of kernels s) t → (n : ℕ) × Stands kernels s t (Shift n)
+  pub shift_stands : AreKernels kernels → s < count_of kernels → CanShift kernels.grammar (prefix_of kernels s) t → (n : ℕ) ×
+      Stands kernels s t (Shift n)
   shift_stands h lt can =
       let on = onward (prefix_of kernels) h.live h.states s lt can.item (Terminal t) can.rest can.has can.before_dot in
       (on.to, (can, on.next))
 
   -- a production that can be reduced is one of the grammar, or the added one
-  pub reduction_stands : {p : ℕ} → CanReduce kernels.grammar (prefix_of kernels s) p t → (action : Action) × IsReduction (top_of kernels.grammar) p action × Stands kernels s t action
+  pub reduction_stands : {p : ℕ} → CanReduce kernels.grammar (prefix_of kernels s) p t → (action : Action) ×
+      IsReduction (top_of kernels.grammar) p action × Stands kernels s t action
   reduction_stands {p} can =
-      let le : p ≤ length kernels.grammar.productions = subst (λ n. n ≤ length kernels.grammar.productions) can.production (valid_production can.has.1) in
+      let le : p ≤ length kernels.grammar.productions = subst (λ n. n ≤ length kernels.grammar.productions) can.production
+      (valid_production can.has.1) in
       elim (cases_eq p (length kernels.grammar.productions)) [
         | inl top ↦ (Accept, inr (top, refl), subst (λ n. CanReduce kernels.grammar (prefix_of kernels s) n t) top can)
         | inr other ↦ (let lt : p < length kernels.grammar.productions = omega arith in (Reduce p, inl (lt, refl), (lt, can)))
       ]
 
   -- on a valid terminal some action stands
-  pub valid_stands : AreKernels kernels → s < count_of kernels → IsValidTerminal kernels.grammar (prefix_of kernels s) t → (action : Action) × Stands kernels s t action
+  pub valid_stands : AreKernels kernels → s < count_of kernels → IsValidTerminal kernels.grammar (prefix_of kernels s) t →
+      (action : Action) × Stands kernels s t action
   valid_stands h lt (inl can) = (let (n, stands) = shift_stands h lt can in (Shift n, stands))
   valid_stands h lt (inr (p, can)) = (let (action, is, stands) = reduction_stands can in (action, stands))
 
 -- of two different actions that stand one comes before the other
-pub before_or : (kernels : KernelsView) → AreKernels kernels → (s t : ℕ) (a b : Action) → Stands kernels s t a → Stands kernels s t b → a ≢ b → ¬ ComesBefore a b → ComesBefore b a
+pub before_or : (kernels : KernelsView) → AreKernels kernels → (s t : ℕ) (a b : Action) → Stands kernels s t a → Stands kernels s t b →
+    a ≢ b → ¬ ComesBefore a b → ComesBefore b a
 before_or kernels h s t (Shift n) (Shift m) (_, x) (_, y) differ not = absurd (differ (ap Shift (step_once h s (Terminal t) n m x y)))
 before_or kernels h s t (Shift n) (Reduce q) x y differ not = absurd (not tt)
 before_or kernels h s t (Shift n) Accept x y differ not = absurd (not tt)
@@ -84,31 +91,42 @@ not_shift top p n a (inl (_, x)) e = cc
 not_shift top p n a (inr (_, x)) e = cc
 
 -- where one action is at most, no prefix has a conflict
-pub no_conflict : {kernels : KernelsView} → AreKernels kernels → ((s t : ℕ) → s < count_of kernels → (a b : Action) → Stands kernels s t a → Stands kernels s t b → a ≡ b) → HasNoConflict kernels.grammar
+pub no_conflict : {kernels : KernelsView} → AreKernels kernels →
+    ((s t : ℕ) → s < count_of kernels → (a b : Action) → Stands kernels s t a → Stands kernels s t b → a ≡ b) →
+    HasNoConflict kernels.grammar
 no_conflict {kernels} h once prefix t conflict = at conflict
   where
     at : HasConflict kernels.grammar prefix t → ⊥
     at (inl (p, can, red)) =
         let (s, lt, same) = h.states.all prefix (red.item, red.has.0, red.has.1) in
-        let has : (item : Item) → HasItem kernels.grammar prefix item → HasItem kernels.grammar (prefix_of kernels s) item = λ item v. kernel_decides h.live v.1 (prefix_of kernels s) (same_back same) in
+        let has : (item : Item) → HasItem kernels.grammar prefix item →
+        HasItem kernels.grammar (prefix_of kernels s) item = λ item v. kernel_decides h.live v.1 (prefix_of kernels s)
+        (same_back same) in
         let (n, x) = shift_stands kernels s t h lt (shift_kept same has can) in
         let (b, is, y) = reduction_stands kernels s t (reduction_kept same has red) in
         not_shift (top_of kernels.grammar) p n b is (once s t lt (Shift n) b x y)
     at (inr (p, q, ne, one, two)) =
         let (s, lt, same) = h.states.all prefix (one.item, one.has.0, one.has.1) in
-        let has : (item : Item) → HasItem kernels.grammar prefix item → HasItem kernels.grammar (prefix_of kernels s) item = λ item v. kernel_decides h.live v.1 (prefix_of kernels s) (same_back same) in
+        let has : (item : Item) → HasItem kernels.grammar prefix item →
+        HasItem kernels.grammar (prefix_of kernels s) item = λ item v. kernel_decides h.live v.1 (prefix_of kernels s)
+        (same_back same) in
         let (a, a_is, x) = reduction_stands kernels s t (reduction_kept same has one) in
         let (b, b_is, y) = reduction_stands kernels s t (reduction_kept same has two) in
         ne (reductions_once (top_of kernels.grammar) p q a b a_is b_is (once s t lt a b x y))
 
 -- what leads from a kernel by a nonterminal
-pub goto_is : {kernels : KernelsView} → AreKernels kernels → (s b : ℕ) (goto : Option ℕ) → IfSome goto (LeadsTo kernels s (Nonterminal b)) → IsNone goto ↔ HasNoneBefore kernels.grammar (prefix_of kernels s) (Nonterminal b) → IsGoto kernels s b goto
+pub goto_is : {kernels : KernelsView} → AreKernels kernels → (s b : ℕ) (goto : Option ℕ) → IfSome goto (LeadsTo kernels s (Nonterminal b)) →
+    IsNone goto ↔ HasNoneBefore kernels.grammar (prefix_of kernels s) (Nonterminal b) → IsGoto kernels s b goto
 goto_is {kernels} h s b goto some none = record { some = λ n. (there n goto some, λ leads. only n goto some none.0 leads); none = none }
   where
-    there : (n : ℕ) (goto : Option ℕ) → IfSome goto (LeadsTo kernels s (Nonterminal b)) → goto ≡ Some n → LeadsTo kernels s (Nonterminal b) n
-    there n goto some e = (let at : IfSome (Some n) (LeadsTo kernels s (Nonterminal b)) = subst (λ z. IfSome z (LeadsTo kernels s (Nonterminal b))) e some in at)
+    there : (n : ℕ) (goto : Option ℕ) → IfSome goto (LeadsTo kernels s (Nonterminal b)) → goto ≡ Some n →
+        LeadsTo kernels s (Nonterminal b) n
+    there n goto some e = (let at : IfSome (Some n) (LeadsTo kernels s (Nonterminal b)) = subst
+        (λ z. IfSome z (LeadsTo kernels s (Nonterminal b))) e some in at)
 
-    only : (n : ℕ) (goto : Option ℕ) → IfSome goto (LeadsTo kernels s (Nonterminal b)) → (IsNone goto → HasNoneBefore kernels.grammar (prefix_of kernels s) (Nonterminal b)) → LeadsTo kernels s (Nonterminal b) n → goto ≡ Some n
+    only : (n : ℕ) (goto : Option ℕ) → IfSome goto (LeadsTo kernels s (Nonterminal b)) →
+        (IsNone goto → HasNoneBefore kernels.grammar (prefix_of kernels s) (Nonterminal b)) → LeadsTo kernels s (Nonterminal b) n →
+        goto ≡ Some n
     only n (Some m) some none leads = ap Some (step_once h s (Nonterminal b) m n some leads)
     only n None some none leads =
         let (item, t, v) = leads.2 in

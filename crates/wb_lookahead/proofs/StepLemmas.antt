@@ -1,6 +1,6 @@
 -- Steps between kernels, and the items that they lead to.
-use Rattle.std.proofs.Common.{◌≡◌, ℕ, ◌+◌, ◌<◌, List, [], ◌∷◌, length, get_or, refl, sym, ◌∙◌, ap, subst, arith}
-use Rattle.std.specs.Prelude.{All, Contains}
+use Rattle.std.proofs.Common.{◌≡◌, ℕ, ◌+◌, ◌<◌, List, [], ◌∷◌, length, get_or, Some, refl, sym, ◌∙◌, ap, subst, arith}
+use Rattle.std.specs.Prelude.{All, Contains, slice_get}
 use Rattle.std.proofs.lemmas.List.{get_or-map, length-map}
 use Rattle.std.proofs.lemmas.List.Elements.{All-get_or}
 use Rattle.wb_base.specs.declared.symbol.Symbol.{Symbol}
@@ -16,29 +16,54 @@ use Rattle.wb_items.specs.Kernels.{KernelsView, AreKernels, LeadsTo, closure_of,
 use Rattle.wb_items.specs.Lookaheads.{AreLookaheadsOf, items_in, row_of}
 
 -- a symbol leads to one kernel alone
-pub step_once : {kernels : KernelsView} → AreKernels kernels → (s : ℕ) (x : Symbol) (a b : ℕ) → LeadsTo kernels s x a → LeadsTo kernels s x b → a ≡ b
+pub step_once : {kernels : KernelsView} → AreKernels kernels → (s : ℕ) (x : Symbol) (a b : ℕ) → LeadsTo kernels s x a →
+    LeadsTo kernels s x b → a ≡ b
 step_once {kernels} h s x a b p q = h.states.each_once a b p.1 q.1 (same_then p.3 (same_back q.3))
 
 -- where a symbol leads, the items that move over it are
-pub step_has : {kernels : KernelsView} → AreKernels kernels → (s : ℕ) (x : Symbol) (next : ℕ) (item : Item) (rest : List Symbol) → LeadsTo kernels s x next → HasItem kernels.grammar (prefix_of kernels s) item → after_dot kernels.grammar item ≡ x ∷ rest → HasItem kernels.grammar (prefix_of kernels next) (advance item)
+pub step_has : {kernels : KernelsView} → AreKernels kernels → (s : ℕ) (x : Symbol) (next : ℕ) (item : Item) (rest : List Symbol) →
+    LeadsTo kernels s x next → HasItem kernels.grammar (prefix_of kernels s) item → after_dot kernels.grammar item ≡ x ∷ rest →
+    HasItem kernels.grammar (prefix_of kernels next) (advance item)
 step_has {kernels} h s x next item rest p (t, v) is =
     kernel_decides h.live (valid.move item x rest (prefix_of kernels s) v is refl refl) (prefix_of kernels next) (same_back p.3)
 
 -- the initial items of a nonterminal after a dot are there
-pub initial_has : {kernels : KernelsView} → AreKernels kernels → (s b : ℕ) (item : Item) (rest : List Symbol) (q : ℕ) (right : List Symbol) → HasItem kernels.grammar (prefix_of kernels s) item → after_dot kernels.grammar item ≡ Nonterminal b ∷ rest → IsProduction kernels.grammar q b right → HasItem kernels.grammar (prefix_of kernels s) (initial_item q)
+pub initial_has : {kernels : KernelsView} → AreKernels kernels → (s b : ℕ) (item : Item) (rest : List Symbol) (q : ℕ)
+    (right : List Symbol) → HasItem kernels.grammar (prefix_of kernels s) item → after_dot kernels.grammar item ≡ Nonterminal b ∷ rest →
+    IsProduction kernels.grammar q b right → HasItem kernels.grammar (prefix_of kernels s) (initial_item q)
 initial_has {kernels} h s b item rest q right (t, v) is rule =
     let (u, f) = h.live item (Nonterminal b) rest is t in (u, valid.close item t b rest q u right v is rule f)
 
-pub rows_within : {kernels : KernelsView} → AreKernels kernels → (lookaheads : List (List ItemLookahead)) → AreLookaheadsOf kernels lookaheads → length lookaheads ≡ count_of kernels
+pub rows_within : {kernels : KernelsView} → AreKernels kernels → (lookaheads : List (List ItemLookahead)) →
+    AreLookaheadsOf kernels lookaheads → length lookaheads ≡ count_of kernels
 rows_within h lookaheads shape = sym (length-map lookaheads items_in) ∙ ap length shape.items ∙ h.closures_len
 
-pub row_items : {kernels : KernelsView} → AreKernels kernels → (lookaheads : List (List ItemLookahead)) → AreLookaheadsOf kernels lookaheads → (s : ℕ) → s < count_of kernels → items_in (row_of lookaheads s) ≡ closure_of kernels s
-row_items h lookaheads shape s lt = sym (get_or-map items_in lookaheads s [] [] (omega (arith, rows_within h lookaheads shape))) ∙ ap (λ z. get_or z s []) shape.items
+pub row_items : {kernels : KernelsView} → AreKernels kernels → (lookaheads : List (List ItemLookahead)) →
+    AreLookaheadsOf kernels lookaheads → (s : ℕ) → s < count_of kernels → items_in (row_of lookaheads s) ≡ closure_of kernels s
+row_items h lookaheads shape s lt = sym (get_or-map items_in lookaheads s [] [] (omega (arith, rows_within h lookaheads shape)))
+    ∙ ap (λ z. get_or z s []) shape.items
 
 -- the row of a kernel has its items
-pub row_has : {kernels : KernelsView} → AreKernels kernels → (lookaheads : List (List ItemLookahead)) → AreLookaheadsOf kernels lookaheads → (s : ℕ) (item : Item) → s < count_of kernels → HasItem kernels.grammar (prefix_of kernels s) item → Contains (items_in (row_of lookaheads s)) item
-row_has h lookaheads shape s item lt has = subst (λ z. Contains z item) (sym (row_items h lookaheads shape s lt)) ((h.closures s lt item).1 has)
+pub row_has : {kernels : KernelsView} → AreKernels kernels → (lookaheads : List (List ItemLookahead)) → AreLookaheadsOf kernels lookaheads →
+    (s : ℕ) (item : Item) → s < count_of kernels → HasItem kernels.grammar (prefix_of kernels s) item →
+    Contains (items_in (row_of lookaheads s)) item
+row_has h lookaheads shape s item lt has = subst (λ z. Contains z item) (sym (row_items h lookaheads shape s lt))
+    ((h.closures s lt item).1 has)
 
 -- the sets of a row have room for every terminal and the end
-pub row_wide : {kernels : KernelsView} → AreKernels kernels → (lookaheads : List (List ItemLookahead)) → AreLookaheadsOf kernels lookaheads → (s : ℕ) → s < count_of kernels → All (λ (looks : ItemLookahead). length looks.set ≡ kernels.grammar.terminals + 1) (row_of lookaheads s)
-row_wide {kernels} h lookaheads shape s lt = All-get_or (All (λ (looks : ItemLookahead). length looks.set ≡ kernels.grammar.terminals + 1)) lookaheads s [] (omega (arith, rows_within h lookaheads shape)) shape.widths
+pub row_wide : {kernels : KernelsView} → AreKernels kernels → (lookaheads : List (List ItemLookahead)) →
+    AreLookaheadsOf kernels lookaheads → (s : ℕ) → s < count_of kernels →
+    All (λ (looks : ItemLookahead). length looks.set ≡ kernels.grammar.terminals + 1) (row_of lookaheads s)
+row_wide {kernels} h lookaheads shape s lt = All-get_or
+    (All (λ (looks : ItemLookahead). length looks.set ≡ kernels.grammar.terminals + 1)) lookaheads s []
+    (omega (arith, rows_within h lookaheads shape)) shape.widths
+
+-- a place of a row is that of the closure
+pub closure_at : {kernels : KernelsView} → AreKernels kernels → (lookaheads : List (List ItemLookahead)) → AreLookaheadsOf kernels lookaheads →
+    (s : ℕ) → s < count_of kernels → (item : Item) (at : ℕ) → slice_get (items_in (row_of lookaheads s)) at ≡ Some item → slice_get (closure_of kernels s) at ≡ Some item
+closure_at h lookaheads shape s lt item at e = ap (λ z. slice_get z at) (sym (row_items h lookaheads shape s lt)) ∙ e
+
+-- and a place of the closure one of the row
+pub row_at : {kernels : KernelsView} → AreKernels kernels → (lookaheads : List (List ItemLookahead)) → AreLookaheadsOf kernels lookaheads →
+    (s : ℕ) → s < count_of kernels → (item : Item) (at : ℕ) → slice_get (closure_of kernels s) at ≡ Some item → slice_get (items_in (row_of lookaheads s)) at ≡ Some item
+row_at h lookaheads shape s lt item at e = ap (λ z. slice_get z at) (row_items h lookaheads shape s lt) ∙ e

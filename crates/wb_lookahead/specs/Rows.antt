@@ -16,11 +16,15 @@ use Rattle.wb_lookahead.specs.Codes.{goto_at}
 use Rattle.wb_lookahead.specs.Contents.{action_in}
 use Rattle.wb_lookahead.specs.Tables.{Stands, ComesBefore, IsGoto}
 
--- the item asks for the action on the terminal: to shift the terminal after its dot, or, where it is complete, to reduce before its lookaheads
+-- the item asks for the action on the terminal: to shift the terminal after its dot, or, where it is complete, to reduce before its
+-- lookaheads
 pub data Asks (kernels : KernelsView) (s : ℕ) (item : Item) (t : ℕ) : Action → Type 0 where
-  shift : (rest : List Symbol) (n : ℕ) → after_dot kernels.grammar item ≡ Terminal t ∷ rest → LeadsTo kernels s (Terminal t) n → Asks kernels s item t (Shift n)
-  reduce : (p : ℕ) → after_dot kernels.grammar item ≡ [] → item.production ≡ p → p < length kernels.grammar.productions → IsLookahead kernels.grammar (prefix_of kernels s) item t → Asks kernels s item t (Reduce p)
-  accept : after_dot kernels.grammar item ≡ [] → item.production ≡ top_of kernels.grammar → IsLookahead kernels.grammar (prefix_of kernels s) item t → Asks kernels s item t Accept
+  shift : (rest : List Symbol) (n : ℕ) → after_dot kernels.grammar item ≡ Terminal t ∷ rest → LeadsTo kernels s (Terminal t) n →
+      Asks kernels s item t (Shift n)
+  reduce : (p : ℕ) → after_dot kernels.grammar item ≡ [] → item.production ≡ p → p < length kernels.grammar.productions →
+      IsLookahead kernels.grammar (prefix_of kernels s) item t → Asks kernels s item t (Reduce p)
+  accept : after_dot kernels.grammar item ≡ [] → item.production ≡ top_of kernels.grammar →
+      IsLookahead kernels.grammar (prefix_of kernels s) item t → Asks kernels s item t Accept
 
 -- the action is the reduction by the production
 abbrev pub IsReduction : ℕ → ℕ → Action → Type 0
@@ -45,7 +49,8 @@ pub record Puts (old : List Action) (set : ℕ → Type 0) (action : Action) (ne
 -- the refusal shows the two actions in order
 abbrev pub ShowsBoth : ℕ → ℕ → Action → Action → TableRefusal → Type 0
 ShowsBoth s t one other (Conflict s' t' first second) =
-    (s' ≡ s) × (t' ≡ t) × (((first ≡ one) × (second ≡ other) × ComesBefore one other) ⊎ ((first ≡ other) × (second ≡ one) × (¬ ComesBefore one other)))
+    (s' ≡ s) × (t' ≡ t) × (((first ≡ one) × (second ≡ other) × ComesBefore one other) ⊎
+    ((first ≡ other) × (second ≡ one) × (¬ ComesBefore one other)))
 ShowsBoth s t one other (NoMemory _) = ⊥
 
 -- another action than this one is in the row on a member of the set, and the refusal shows both
@@ -65,7 +70,8 @@ pub record AddsItem (kernels : KernelsView) (s : ℕ) (item : Item) (old new : L
 -- the actions for which the items at the first places ask are there, and each action there stands
 pub record RowUpTo (kernels : KernelsView) (s : ℕ) (row : List Action) (n : ℕ) : Type 0 where
   pub sound : IsSoundRow kernels s row
-  pub complete : (j t : ℕ) (item : Item) (action : Action) → j < n → slice_get (closure_of kernels s) j ≡ Some item → Asks kernels s item t action → action_in row t ≡ action
+  pub complete : (j t : ℕ) (item : Item) (action : Action) → j < n → slice_get (closure_of kernels s) j ≡ Some item →
+      Asks kernels s item t action → action_in row t ≡ action
 
 -- the row has the action at the kernel on each terminal
 abbrev pub IsRowOf : KernelsView → ℕ → List Action → Type 0

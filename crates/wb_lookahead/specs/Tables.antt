@@ -12,7 +12,9 @@ use Rattle.wb_lookahead.specs.declared.action.TableRefusal.{TableRefusal}
 use Rattle.wb_lookahead.specs.declared.action.TableRefusal.TheVariants.{Conflict, NoMemory}
 use Rattle.wb_lookahead.specs.Contents.{TablesView, size_of, action_of, goto_of, valid_of}
 
--- the action is at the kernel on the terminal: the terminal can be shifted and leads to the kernel that the shift names; the production that the reduction names is one of the grammar and can be reduced; or `S' -> S` can be reduced, which is to accept. To do nothing never stands
+-- the action is at the kernel on the terminal: the terminal can be shifted and leads to the kernel that the shift names; the production
+-- that the reduction names is one of the grammar and can be reduced; or `S' -> S` can be reduced, which is to accept. To do nothing never
+-- stands
 abbrev pub Stands : KernelsView → ℕ → ℕ → Action → Type 0
 Stands kernels s t (Shift n) = CanShift kernels.grammar (prefix_of kernels s) t × LeadsTo kernels s (Terminal t) n
 Stands kernels s t (Reduce p) = (p < length kernels.grammar.productions) × CanReduce kernels.grammar (prefix_of kernels s) p t
@@ -35,7 +37,8 @@ pub record IsValidSet (kernels : KernelsView) (s : ℕ) (set : List Bool) : Type
   pub len : length set ≡ kernels.grammar.terminals + 1
   pub each : (t : ℕ) → t ≤ kernels.grammar.terminals → Has set t ↔ IsValidTerminal kernels.grammar (prefix_of kernels s) t
 
--- the tables have for each kernel its actions, the kernels that nonterminals lead to and its valid terminals, and no prefix of the grammar has a conflict
+-- the tables have for each kernel its actions, the kernels that nonterminals lead to and its valid terminals, and no prefix of the grammar
+-- has a conflict
 pub record AreTables (kernels : KernelsView) (tables : TablesView) : Type 0 where
   pub terminals : tables.terminals ≡ kernels.grammar.terminals
   pub nonterminals : tables.nonterminals ≡ kernels.grammar.nonterminals

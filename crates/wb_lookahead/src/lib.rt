@@ -6,15 +6,14 @@
 #![tactic(auto)]
 
 mod action;
-mod begins;
-mod behind;
 mod cells;
 mod codes;
 mod contents;
+mod first_of;
 mod grid;
 mod parts;
-mod pass;
 mod plain;
+mod propagate;
 mod rows;
 #[cfg(test)]
 mod set_tests;
@@ -23,6 +22,7 @@ mod spread;
 mod table_tests;
 #[cfg(test)]
 mod tests;
+mod worklist;
 
 pub use action::{Action, TableRefusal};
 pub use contents::Tables;

@@ -1,25 +1,29 @@
-//! The lookaheads of all items, by spreading them until nothing waits.
+//! The lookaheads of all items: LALR(1) by propagation.
+//!
+//! Prefixes with the same kernel share their lookaheads, so the sets are those of the merged kernels. What passes from one item to
+//! others is in `propagate`.
 
-ghost use Rattle.std.specs.Prelude.{◌≡◌, [], IfOk, OnOk};
+ghost use Rattle.std.specs.Prelude.{◌≡◌, ◌<◌, ◌+◌, ◌↔◌, [], ℕ, IfOk, OnOk, length};
 ghost use Rattle.wb_grammar.specs.Facts.{AreFacts};
-ghost use Rattle.wb_items.specs.Kernels.{AreKernels};
+ghost use Rattle.wb_items.specs.Kernels.{AreKernels, closure_of, count_of};
 ghost use Rattle.wb_items.specs.Lookaheads.{AreEmpty, AreLookaheadsOf};
 ghost use Rattle.wb_items.specs.LookaheadSets.{AreLookaheads};
-ghost use Rattle.wb_lookahead.specs.Spreading.{AreSound, AreWaiting};
+ghost use Rattle.wb_items.specs.Table.{AreProductions};
+ghost use Rattle.wb_lookahead.specs.Inner.Spreading.{ArePropagated, AreSound, AreWaiting, IsContext, IsFilled, IsPlace, FlowsTo, Keeps, Lists, StandsFor};
 
-use crate::pass::pass_on;
-use crate::spread::{Place, spread};
+use crate::first_of::rests_of;
+use crate::propagate::{Context, first_production, pass_on};
+use crate::spread::{spread, unite};
+use crate::worklist::{Place, Worklist};
 use std::alloc::{AllocError, Global};
-use std::collections::VecDeque;
 use wb_base::Grammar;
 use wb_grammar::Facts;
-use wb_items::{Item, Kernels, Lookaheads, production_numbers};
+use wb_items::{Item, Kernels, Lookaheads, Numbers, production_numbers};
 use wb_termset::TermSet;
 
 /// The lookaheads of every item of every kernel's closure. The only error is want of memory.
 ///
-/// Prefixes with the same kernel share their lookaheads: these are the sets of the merged kernels. The sets are found by passing
-/// on, from each item whose set grew and in the order in which they grew, what flows from there to other items. No clause bounds the time.
+/// They are found by propagation over the items of kernels and the nonterminals that each kernel opens. No clause bounds the time.
 pub fn plain_lookaheads(
     alloc: Global,
     grammar: &Grammar,
@@ -30,50 +34,150 @@ pub fn plain_lookaheads(
     requires kernels { kernels.now.grammar ≡ grammar.now }
     ensures { IfOk result (AreLookaheads kernels.now) }
 {
-    let _count = kernels.count();
-    let mut lookaheads = Lookaheads::new(alloc, grammar, kernels)?;
-    let rules = production_numbers(alloc, grammar)?;
-    let mut waiting = VecDeque::new(alloc);
-    begin(alloc, grammar, kernels, &mut lookaheads, &mut waiting)?;
-    'waiting: while let Some(place) = waiting.pop_front() {
-        pass_on(
-            alloc,
-            grammar,
-            facts,
-            &rules,
-            kernels,
-            place,
-            &mut lookaheads,
-            &mut waiting,
-        )?;
-    }
+    let productions = production_numbers(alloc, grammar)?;
+    with_productions(alloc, grammar, facts, kernels, &productions)
+}
+
+// The same with the productions of each nonterminal.
+fn with_productions(
+    alloc: Global,
+    grammar: &Grammar,
+    facts: &Facts,
+    kernels: &Kernels,
+    productions: &[Numbers],
+) -> Result<Lookaheads, AllocError>
+    requires facts { AreFacts grammar.now facts.now }
+    requires kernels { kernels.now.grammar ≡ grammar.now }
+    requires productions { AreProductions grammar.now productions.now }
+    ensures { IfOk result (AreLookaheads kernels.now) }
+{
+    let count = kernels.count();
+    let rests = rests_of(alloc, grammar, facts)?;
+    let context = Context {
+        grammar,
+        kernels,
+        productions,
+        rests: &rests,
+    };
+    propagated(alloc, &context, count)
+}
+
+// The same with what rests of right sides begin with.
+fn propagated(alloc: Global, context: &Context, count: usize) -> Result<Lookaheads, AllocError>
+    requires context { IsContext context.now.kernels.now context.now.grammar.now context.now.productions.now context.now.rests.now }
+    requires count { count ≡ count_of context.now.kernels.now }
+    ensures { IfOk result (AreLookaheads context.now.kernels.now) }
+{
+    let mut lookaheads = Lookaheads::new(alloc, context.grammar, context.kernels)?;
+    propagate(alloc, context, &mut lookaheads)?;
+    fill(context, count, &mut lookaheads)?;
     Ok(lookaheads)
+}
+
+// Spreads the end of a text from the start item, until nothing waits.
+fn propagate(
+    alloc: Global,
+    context: &Context,
+    lookaheads: &mut Lookaheads,
+) -> Result<(), AllocError>
+    requires context { IsContext context.now.kernels.now context.now.grammar.now context.now.productions.now context.now.rests.now }
+    requires shape { AreLookaheadsOf context.now.kernels.now lookaheads.old }
+    requires empty { AreEmpty lookaheads.old }
+    ensures { OnOk result (ArePropagated context.now.kernels.now lookaheads.new) }
+{
+    let mut worklist = Worklist::new(alloc, context.kernels)?;
+    begin(alloc, context, lookaheads, &mut worklist)?;
+    'waiting: while let Some(place) = worklist.pop() {
+        pass_on(context, place, lookaheads, &mut worklist)?;
+    }
+    Ok(())
 }
 
 // Spreads the end of a text to the start item.
 fn begin(
     alloc: Global,
-    grammar: &Grammar,
-    kernels: &Kernels,
+    context: &Context,
     lookaheads: &mut Lookaheads,
-    waiting: &mut VecDeque<Place>,
+    worklist: &mut Worklist,
 ) -> Result<(), AllocError>
-    requires kernels { AreKernels kernels.now }
-    requires grammar { kernels.now.grammar ≡ grammar.now }
-    requires shape { AreLookaheadsOf kernels.now lookaheads.old }
+    requires context { IsContext context.now.kernels.now context.now.grammar.now context.now.productions.now context.now.rests.now }
+    requires shape { AreLookaheadsOf context.now.kernels.now lookaheads.old }
     requires empty { AreEmpty lookaheads.old }
-    requires nothing { waiting.old.items ≡ [] }
-    ensures sound { OnOk result (AreSound kernels.now lookaheads.new waiting.new.items) }
-    ensures waiting { OnOk result (AreWaiting kernels.now lookaheads.new waiting.new.items) }
+    requires nothing { worklist.old ≡ [] }
+    ensures sound { OnOk result (AreSound context.now.kernels.now lookaheads.new worklist.new) }
+    ensures waiting { OnOk result (AreWaiting context.now.kernels.now lookaheads.new worklist.new) }
 {
-    let Some(count) = grammar.terminals().checked_add(1) else {
-        return Err(AllocError);
-    };
-    let mut end = TermSet::new(alloc, count)?;
-    end.insert(grammar.terminals());
+    let mut end = TermSet::new(alloc, context.grammar.lookahead_count()?)?;
+    end.insert(context.grammar.terminals());
     let item = Item {
-        production: grammar.productions(),
+        production: context.grammar.productions(),
         dot: 0,
     };
-    spread(kernels, Place { state: 0, item }, &end, lookaheads, waiting)
+    spread(context.kernels, 0, item, &end, lookaheads, worklist)
+}
+
+// Gives each item the set of the one that stands for it.
+fn fill(context: &Context, count: usize, lookaheads: &mut Lookaheads) -> Result<(), AllocError>
+    requires context { IsContext context.now.kernels.now context.now.grammar.now context.now.productions.now context.now.rests.now }
+    requires count { count ≡ count_of context.now.kernels.now }
+    requires propagated { ArePropagated context.now.kernels.now lookaheads.old }
+    ensures { OnOk result (AreLookaheads context.now.kernels.now lookaheads.new) }
+{
+    'states: for state in 0..count {
+        fill_kernel(context, state, lookaheads)?;
+    }
+    Ok(())
+}
+
+// The same for one kernel.
+fn fill_kernel(
+    context: &Context,
+    state: usize,
+    lookaheads: &mut Lookaheads,
+) -> Result<(), AllocError>
+    requires context { IsContext context.now.kernels.now context.now.grammar.now context.now.productions.now context.now.rests.now }
+    requires state { state < count_of context.now.kernels.now }
+    requires propagated { ArePropagated context.now.kernels.now lookaheads.old }
+    ensures propagated { OnOk result (ArePropagated context.now.kernels.now lookaheads.new) }
+    ensures keeps { OnOk result (Keeps lookaheads.old lookaheads.new) }
+    ensures filled { OnOk result (IsFilled context.now.kernels.now lookaheads.new state (length (closure_of context.now.kernels.now state))) }
+{
+    'places: for (at, &item) in context.kernels.closure(state).iter().enumerate() {
+        fill_place(context, Place { state, item, at }, lookaheads)?;
+    }
+    Ok(())
+}
+
+// The same for one place.
+fn fill_place(
+    context: &Context,
+    place: Place,
+    lookaheads: &mut Lookaheads,
+) -> Result<(), AllocError>
+    requires context { IsContext context.now.kernels.now context.now.grammar.now context.now.productions.now context.now.rests.now }
+    requires place { IsPlace context.now.kernels.now place }
+    requires propagated { ArePropagated context.now.kernels.now lookaheads.old }
+    ensures propagated { OnOk result (ArePropagated context.now.kernels.now lookaheads.new) }
+    ensures keeps { OnOk result (Keeps lookaheads.old lookaheads.new) }
+    ensures filled { OnOk result ((t : ℕ) → FlowsTo context.now.kernels.now place.state place.item t → Lists lookaheads.new place.state place.item t) }
+{
+    let one = standing_for(context, place.item);
+    let set = lookaheads.of(place.state, one).copy()?;
+    unite(place, &set, lookaheads);
+    Ok(())
+}
+
+// The item that stands for this one.
+fn standing_for(context: &Context, item: Item) -> Item
+    requires { IsContext context.now.kernels.now context.now.grammar.now context.now.productions.now context.now.rests.now }
+    ensures { StandsFor context.now.grammar.now result item }
+{
+    if item.dot > 0 || item.production >= context.grammar.productions() {
+        return item;
+    }
+    let left = context.grammar.left(item.production);
+    match first_production(context, left) {
+        Some(production) => Item { production, dot: 0 },
+        None => item,
+    }
 }

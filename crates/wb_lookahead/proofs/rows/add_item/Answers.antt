@@ -15,48 +15,67 @@ use Rattle.wb_lookahead.proofs.StepLemmas.{row_has}
 use Rattle.wb_lookahead.proofs.rows.add_item.Goals as goal
 
 pub reduction-action-requires : goal.reduction-action-requires
-reduction-action-requires c = subst (λ (g : GrammarView). c.args.item.production ≤ length g.productions) c.requires.grammar (valid_production c.requires.item.1)
+reduction-action-requires c = subst (λ (g : GrammarView). c.args.item.production ≤ length g.productions) c.requires.grammar
+    (valid_production c.requires.item.1)
 
 pub of-requires-clause-item : goal.of-requires-clause-item
 of-requires-clause-item c = row_has c.requires.kernels c.args.lookaheads.now c.requires.lookaheads.shape c.args.state c.args.item c.requires.state c.requires.item
 
 pub returns-in_default-clause-ok : goal.returns-in_default-clause-ok
 returns-in_default-clause-ok c =
-    let complete : after_dot c.args.kernels.now.grammar c.args.item ≡ [] = subst (λ (g : GrammarView). after_dot g c.args.item ≡ []) (sym c.requires.grammar) c.in_default.ensures.symbol in
-    let is : IsReduction (length c.args.kernels.now.grammar.productions) c.args.item.production c.reduction-action.result = subst (λ (g : GrammarView). IsReduction (length g.productions) c.args.item.production c.reduction-action.result) (sym c.requires.grammar) c.reduction-action.ensures in
-    let exact : (t : ℕ) → Has c.of.result.now t ↔ IsLookahead c.args.kernels.now.grammar (prefix_of c.args.kernels.now c.args.state) c.args.item t = λ t. c.requires.lookaheads.exact c.args.state c.args.item c.of.result.now t c.requires.state c.of.ensures in
+    let complete : after_dot c.args.kernels.now.grammar c.args.item ≡ [] = subst (λ (g : GrammarView). after_dot g c.args.item ≡ [])
+    (sym c.requires.grammar) c.in_default.ensures.symbol in
+    let is : IsReduction (length c.args.kernels.now.grammar.productions) c.args.item.production c.reduction-action.result = subst
+    (λ (g : GrammarView). IsReduction (length g.productions) c.args.item.production c.reduction-action.result)
+    (sym c.requires.grammar) c.reduction-action.ensures in
+    let exact : (t : ℕ) → Has c.of.result.now t ↔ IsLookahead c.args.kernels.now.grammar
+    (prefix_of c.args.kernels.now c.args.state) c.args.item t = λ t. c.requires.lookaheads.exact c.args.state c.args.item c.of.result.now t c.requires.state c.of.ensures in
     on_ok_weaker c.put_all.result
     (puts_adds (Has c.of.result.now)
-    (λ t has. complete_stands c.args.kernels.now c.args.state c.args.item c.reduction-action.result c.requires.item complete is t ((exact t).0 has))
+    (λ t has. complete_stands c.args.kernels.now c.args.state c.args.item c.reduction-action.result c.requires.item complete is t
+    ((exact t).0 has))
     (λ t a asks. (let (look, e) = complete_asks complete is t a asks in ((exact t).1 look, e)))
     c.requires.sound)
     c.put_all.ensures.ok
 
 pub returns-in_default-clause-refused : goal.returns-in_default-clause-refused
 returns-in_default-clause-refused c =
-    let complete : after_dot c.args.kernels.now.grammar c.args.item ≡ [] = subst (λ (g : GrammarView). after_dot g c.args.item ≡ []) (sym c.requires.grammar) c.in_default.ensures.symbol in
-    let is : IsReduction (length c.args.kernels.now.grammar.productions) c.args.item.production c.reduction-action.result = subst (λ (g : GrammarView). IsReduction (length g.productions) c.args.item.production c.reduction-action.result) (sym c.requires.grammar) c.reduction-action.ensures in
-    let exact : (t : ℕ) → Has c.of.result.now t ↔ IsLookahead c.args.kernels.now.grammar (prefix_of c.args.kernels.now c.args.state) c.args.item t = λ t. c.requires.lookaheads.exact c.args.state c.args.item c.of.result.now t c.requires.state c.of.ensures in
-    IfErr-weaker c.put_all.result (IsClash c.args.state c.args.row.now (Has c.of.result.now) c.reduction-action.result) (IsTableRefusal c.args.kernels.now)
+    let complete : after_dot c.args.kernels.now.grammar c.args.item ≡ [] = subst (λ (g : GrammarView). after_dot g c.args.item ≡ [])
+    (sym c.requires.grammar) c.in_default.ensures.symbol in
+    let is : IsReduction (length c.args.kernels.now.grammar.productions) c.args.item.production c.reduction-action.result = subst
+    (λ (g : GrammarView). IsReduction (length g.productions) c.args.item.production c.reduction-action.result)
+    (sym c.requires.grammar) c.reduction-action.ensures in
+    let exact : (t : ℕ) → Has c.of.result.now t ↔ IsLookahead c.args.kernels.now.grammar
+    (prefix_of c.args.kernels.now c.args.state) c.args.item t = λ t. c.requires.lookaheads.exact c.args.state c.args.item c.of.result.now t c.requires.state c.of.ensures in
+    IfErr-weaker c.put_all.result (IsClash c.args.state c.args.row.now (Has c.of.result.now) c.reduction-action.result)
+    (IsTableRefusal c.args.kernels.now)
     (clash_refused (Has c.of.result.now) c.requires.kernels c.requires.state
-    (λ t has. complete_stands c.args.kernels.now c.args.state c.args.item c.reduction-action.result c.requires.item complete is t ((exact t).0 has))
+    (λ t has. complete_stands c.args.kernels.now c.args.state c.args.item c.reduction-action.result c.requires.item complete is t
+    ((exact t).0 has))
     c.requires.sound)
     c.put_all.ensures.refused
 
 pub returns-in_default-symbol-clause-ok : goal.returns-in_default-symbol-clause-ok
 returns-in_default-symbol-clause-ok c =
     let (rest, is) = c.in-Some.ensures.symbol in
-    let before : after_dot c.args.kernels.now.grammar c.args.item ≡ Nonterminal c.in_default-symbol.field-0 ∷ rest = subst (λ (g : GrammarView). after_dot g c.args.item ≡ Nonterminal c.in_default-symbol.field-0 ∷ rest) (sym c.requires.grammar) (is ∙ ap (λ x. x ∷ rest) c.in_default-symbol.is) in
-    adds_none c.args.state c.args.item c.args.row.now (nothing_asked c.args.state c.args.item c.in_default-symbol.field-0 rest before) c.requires.sound
+    let before : after_dot c.args.kernels.now.grammar c.args.item ≡ Nonterminal c.in_default-symbol.field-0 ∷ rest = subst
+    (λ (g : GrammarView). after_dot g c.args.item ≡ Nonterminal c.in_default-symbol.field-0 ∷ rest) (sym c.requires.grammar)
+    (is ∙ ap (λ x. x ∷ rest) c.in_default-symbol.is) in
+    adds_none c.args.state c.args.item c.args.row.now
+    (nothing_asked c.args.state c.args.item c.in_default-symbol.field-0 rest before) c.requires.sound
 
 pub returns-clause-ok : goal.returns-clause-ok
 returns-clause-ok c =
     let (rest, is) = c.in-Some.ensures.symbol in
-    let before : after_dot c.args.kernels.now.grammar c.args.item ≡ Terminal c.in-Terminal.terminal ∷ rest = subst (λ (g : GrammarView). after_dot g c.args.item ≡ Terminal c.in-Terminal.terminal ∷ rest) (sym c.requires.grammar) (is ∙ ap (λ x. x ∷ rest) c.in-Terminal.is) in
-    let leads : LeadsTo c.args.kernels.now c.args.state (Terminal c.in-Terminal.terminal) c.in-Some-next.next = c.in-Some-next.ensures.some in
+    let before : after_dot c.args.kernels.now.grammar c.args.item ≡ Terminal c.in-Terminal.terminal ∷ rest = subst
+    (λ (g : GrammarView). after_dot g c.args.item ≡ Terminal c.in-Terminal.terminal ∷ rest) (sym c.requires.grammar)
+    (is ∙ ap (λ x. x ∷ rest) c.in-Terminal.is) in
+    let leads : LeadsTo c.args.kernels.now c.args.state
+    (Terminal c.in-Terminal.terminal) c.in-Some-next.next = c.in-Some-next.ensures.some in
     on_ok_weaker c.put.result
     (puts_adds (λ t. t ≡ c.in-Terminal.terminal)
-    (λ t same. subst (λ z. Stands c.args.kernels.now c.args.state z (Shift c.in-Some-next.next)) (sym same) (record { item = c.args.item; rest = rest; has = c.requires.item; before_dot = before }, leads))
+    (λ t same. subst (λ z. Stands c.args.kernels.now c.args.state z (Shift c.in-Some-next.next)) (sym same)
+    (record { item = c.args.item; rest = rest; has = c.requires.item; before_dot = before }, leads))
     (shift_asks c.requires.kernels c.args.state c.args.item c.in-Terminal.terminal c.in-Some-next.next rest before leads)
     c.requires.sound)
     c.put.ensures.ok
@@ -64,10 +83,15 @@ returns-clause-ok c =
 pub returns-clause-refused : goal.returns-clause-refused
 returns-clause-refused c =
     let (rest, is) = c.in-Some.ensures.symbol in
-    let before : after_dot c.args.kernels.now.grammar c.args.item ≡ Terminal c.in-Terminal.terminal ∷ rest = subst (λ (g : GrammarView). after_dot g c.args.item ≡ Terminal c.in-Terminal.terminal ∷ rest) (sym c.requires.grammar) (is ∙ ap (λ x. x ∷ rest) c.in-Terminal.is) in
-    let leads : LeadsTo c.args.kernels.now c.args.state (Terminal c.in-Terminal.terminal) c.in-Some-next.next = c.in-Some-next.ensures.some in
-    IfErr-weaker c.put.result (IsClash c.args.state c.args.row.now (λ t. t ≡ c.in-Terminal.terminal) (Shift c.in-Some-next.next)) (IsTableRefusal c.args.kernels.now)
+    let before : after_dot c.args.kernels.now.grammar c.args.item ≡ Terminal c.in-Terminal.terminal ∷ rest = subst
+    (λ (g : GrammarView). after_dot g c.args.item ≡ Terminal c.in-Terminal.terminal ∷ rest) (sym c.requires.grammar)
+    (is ∙ ap (λ x. x ∷ rest) c.in-Terminal.is) in
+    let leads : LeadsTo c.args.kernels.now c.args.state
+    (Terminal c.in-Terminal.terminal) c.in-Some-next.next = c.in-Some-next.ensures.some in
+    IfErr-weaker c.put.result (IsClash c.args.state c.args.row.now (λ t. t ≡ c.in-Terminal.terminal) (Shift c.in-Some-next.next))
+    (IsTableRefusal c.args.kernels.now)
     (clash_refused (λ t. t ≡ c.in-Terminal.terminal) c.requires.kernels c.requires.state
-    (λ t same. subst (λ z. Stands c.args.kernels.now c.args.state z (Shift c.in-Some-next.next)) (sym same) (record { item = c.args.item; rest = rest; has = c.requires.item; before_dot = before }, leads))
+    (λ t same. subst (λ z. Stands c.args.kernels.now c.args.state z (Shift c.in-Some-next.next)) (sym same)
+    (record { item = c.args.item; rest = rest; has = c.requires.item; before_dot = before }, leads))
     c.requires.sound)
     c.put.ensures.refused

@@ -1,0 +1,31 @@
+-- What the symbols after a place of a right side begin with.
+use Rattle.std.specs.Prelude.{◌≡◌, ◌↔◌, ◌⊎◌, ◌+◌, ℕ, Bool, IsTrue, List, [], length, Some, drop, slice_get}
+use Rattle.wb_base.specs.declared.symbol.Symbol.{Symbol}
+use Rattle.wb_base.specs.Grammar.{GrammarView}
+use Rattle.wb_termset.specs.Sets.{Has}
+use Rattle.wb_grammars.specs.Productions.{IsProduction}
+use Rattle.wb_grammars.specs.Derives.{Derives, IsFirst}
+use Rattle.wb_lookahead.specs.declared.first_of.Rest.{Rest}
+
+-- the set has the terminals that begin what the symbols derive, and the answer says whether they derive the empty text
+pub record IsRest (g : GrammarView) (w : List Symbol) (rest : Rest) : Type 0 where
+  pub len : length rest.set ≡ g.terminals + 1
+  pub first : (u : ℕ) → Has rest.set u ↔ IsFirst g w u
+  pub empty : IsTrue rest.empty ↔ Derives g w []
+
+-- a set in the making: what begins all symbols is in it, or begins those that are left, and those before them derive the empty text
+pub record BeginsSoFar (g : GrammarView) (w : List Symbol) (set : List Bool) (left : List Symbol) : Type 0 where
+  pub len : length set ≡ g.terminals + 1
+  pub first : (u : ℕ) → IsFirst g w u ↔ (Has set u ⊎ IsFirst g left u)
+  pub empty : Derives g w [] ↔ Derives g left []
+
+-- for each place of the right side, what is after the symbol there
+pub record AreRestsOf (g : GrammarView) (right : List Symbol) (row : List Rest) : Type 0 where
+  pub len : length row ≡ length right
+  pub each : (d : ℕ) (rest : Rest) → slice_get row d ≡ Some rest → IsRest g (drop (d + 1) right) rest
+
+-- the same for each production
+pub record AreRests (g : GrammarView) (rests : List (List Rest)) : Type 0 where
+  pub len : length rests ≡ length g.productions
+  pub each : (p a : ℕ) (right : List Symbol) (row : List Rest) → slice_get rests p ≡ Some row → IsProduction g p a right →
+      AreRestsOf g right row

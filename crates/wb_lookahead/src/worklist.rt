@@ -1,0 +1,142 @@
+//! The places whose sets grew and are still to be passed on, each once, in the order in which they grew.
+//!
+//! A mark for each place of each kernel's closure says that the place waits; what is passed on from a place is in `propagate`.
+
+ghost use Rattle.std.specs.Prelude.{◌≡◌, ◌∷◌, [], IsTrue, ◌↔◌, MatchOption, IfOk, OnOk, slice_index_or, slice_set, false, replicate};
+ghost use Rattle.wb_lookahead.specs.Inner.Waiting.{Adds, IsMarked, MarksChange};
+
+use std::alloc::{AllocError, Global};
+use std::collections::VecDeque;
+use std::marker::Model;
+use wb_base::push;
+use wb_items::{Item, Kernels};
+
+// An item of a kernel's closure, and its place there.
+#[derive(Clone, Copy, Drop)]
+pub(crate) struct Place {
+    pub(crate) state: usize,
+    pub(crate) item: Item,
+    pub(crate) at: usize,
+}
+
+// A mark for each place of a closure.
+#[derive(Drop)]
+pub(crate) struct Marks {
+    marks: Vec<bool>,
+}
+
+impl Model for Marks {
+    ghost use Rattle.std.specs.Prelude.{List, Bool};
+
+    ghost Value = { List Bool };
+
+    ghost view = { λ m. m.marks.items };
+}
+
+impl Marks {
+    // No mark at so many places.
+    fn new(alloc: Global, count: usize) -> Result<Marks, AllocError>
+        ensures { IfOk result (λ marks. marks ≡ replicate count false) }
+    {
+        let marks = vec![in alloc; false; count]?;
+        Ok(Marks { marks })
+    }
+
+    // Whether the place has a mark.
+    fn at(&self, place: usize) -> bool
+        ensures { result ≡ slice_index_or self.now place false }
+    {
+        if place < self.marks.len() {
+            self.marks[place]
+        } else {
+            false
+        }
+    }
+
+    // Puts a mark at a place, or takes it away.
+    fn put(&mut self, place: usize, mark: bool)
+        ensures { self.new ≡ slice_set self.old place mark }
+    {
+        if place < self.marks.len() {
+            self.marks[place] = mark;
+        }
+    }
+}
+
+// The places that wait, first the one that waits longest.
+#[derive(Drop)]
+pub(crate) struct Worklist {
+    queue: VecDeque<Place>,
+    marks: Vec<Marks>,
+}
+
+impl Model for Worklist {
+    ghost use Rattle.std.specs.Prelude.{List};
+    ghost use Rattle.wb_lookahead.specs.declared.worklist.Place.{Place};
+    ghost use Rattle.wb_lookahead.specs.Inner.Waiting.{AreMarked};
+
+    ghost Value = { List Place };
+
+    ghost view = { λ w. w.queue.items };
+
+    ghost invariant = { λ w. AreMarked w.queue.items w.marks.items };
+}
+
+impl Worklist {
+    // Nothing waits.
+    pub(crate) fn new(alloc: Global, kernels: &Kernels) -> Result<Worklist, AllocError>
+        ensures { IfOk result (λ worklist. worklist ≡ []) }
+    {
+        let mut marks = Vec::new(alloc);
+        'states: for state in 0..kernels.count() {
+            push(&mut marks, Marks::new(alloc, kernels.closure(state).len())?)?;
+        }
+        Ok(Worklist {
+            queue: VecDeque::new(alloc),
+            marks,
+        })
+    }
+
+    // Puts a place after the others, unless one with its numbers waits.
+    pub(crate) fn add(&mut self, place: Place) -> Result<(), AllocError>
+        ensures { OnOk result (Adds self.old place self.new) }
+    {
+        if is_marked(&self.marks, place.state, place.at) {
+            return Ok(());
+        }
+        self.queue.push_back(place)?;
+        put_mark(&mut self.marks, place.state, place.at, true);
+        Ok(())
+    }
+
+    // Takes the first place.
+    pub(crate) fn pop(&mut self) -> Option<Place>
+        ensures { MatchOption result (self.old ≡ []) (λ place. self.old ≡ place ∷ self.new) }
+    {
+        let Some(place) = self.queue.pop_front() else {
+            return None;
+        };
+        put_mark(&mut self.marks, place.state, place.at, false);
+        Some(place)
+    }
+}
+
+// Whether the place of the kernel has a mark.
+fn is_marked(marks: &[Marks], state: usize, at: usize) -> bool
+    ensures { IsTrue result ↔ IsMarked marks.now state at }
+{
+    if state < marks.len() {
+        marks[state].at(at)
+    } else {
+        false
+    }
+}
+
+// Puts a mark at the place of the kernel, or takes it away.
+fn put_mark(marks: &mut Vec<Marks>, state: usize, at: usize, mark: bool)
+    ensures { MarksChange marks.old.items state at mark marks.new.items }
+{
+    if state < marks.len() {
+        marks[state].put(at, mark);
+    }
+}
