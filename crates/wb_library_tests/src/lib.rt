@@ -4,4 +4,10 @@
 #![tactic(auto)]
 
 #[cfg(test)]
+mod automata;
+#[cfg(test)]
 mod base;
+#[cfg(test)]
+mod lexical;
+#[cfg(test)]
+mod regex;

@@ -14,8 +14,6 @@ mod regex;
 mod scan;
 mod sets;
 mod symbol;
-#[cfg(test)]
-mod tests;
 
 pub use node::RegexNode;
 pub use read::read_regex;
