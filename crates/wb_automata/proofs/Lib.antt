@@ -2,6 +2,7 @@ pub mod AcceptedLemmas
 pub mod ClassLemmas
 pub mod CountLemmas
 pub mod Empties
+pub mod EndLemmas
 pub mod ErasingLemmas
 pub mod Forests
 pub mod JoinLemmas

@@ -8,42 +8,31 @@ use Rattle.wb_regex.specs.Tree.{Tree}
 use Rattle.wb_regex.specs.declared.node.RegexNode.{RegexNode}
 use Rattle.wb_automata.specs.declared.tables.Tables.{Tables}
 use Rattle.wb_automata.specs.Joined.{AreJoined, bound_of}
-use Rattle.wb_automata.specs.Nodes.{row, AreFirsts, AreLasts}
+use Rattle.wb_automata.specs.Nodes.{row}
 use Rattle.wb_automata.specs.Follows.{LinkIn}
 use Rattle.wb_automata.specs.Machines.{IsPlaceList}
 use Rattle.wb_automata.specs.Roots.{BeginAt, EndAt}
 use Rattle.wb_automata.specs.Running.{IsFollow, IsEnds}
-use Rattle.wb_automata.specs.Tables.{IsPlanted, AreTables, AreStarts}
+use Rattle.wb_automata.specs.Tables.{IsPlanted, AreTables, AreStarts, AreLinks}
 use Rattle.wb_automata.specs.Automata.{size_of}
 use Rattle.wb_automata.proofs.JoinLemmas.{bound_sum}
 use Rattle.wb_automata.proofs.PlantLemmas.{planted, planted_follow, planted_ends}
 use Rattle.wb_automata.proofs.Wholes.{follow_whole, ends_whole}
 
--- what the code says of its tables
-pub record MadeTables (trees : List Tree) (sets : List (List Bool)) (roots : List ℕ) (first last : List (List ℕ)) (t : Tables) : Type 0 where
-  pub joined : AreJoined trees t.nodes.items roots (length trees)
-  pub firsts : AreFirsts t.nodes.items first (length t.nodes.items)
-  pub lasts : AreLasts t.nodes.items last (length t.nodes.items)
-  pub follow_len : length t.follow ≡ length t.nodes.items + length roots
-  pub follow_exact : (p q : ℕ) → Contains (row t.follow p) q ↔ (LinkIn t.nodes.items first last 0 (length t.nodes.items) p q ⊎ BeginAt first roots (length t.nodes.items) (length roots) p q)
-  pub ends_len : length t.ends ≡ length t.nodes.items + length roots
-  pub ends_exact : (p k : ℕ) → Contains (row t.ends p) k ↔ EndAt last roots (length roots) p k
-  pub starts : AreStarts (length t.nodes.items) (length trees) sets t.starts (length sets)
-
-pub tables_whole : (trees : List Tree) (sets : List (List Bool)) (roots : List ℕ) (first last : List (List ℕ)) (t : Tables) → MadeTables trees sets roots first last t → AreTables trees sets t
-tables_whole trees sets roots first last t m =
-    let h : IsPlanted trees t.nodes.items roots = planted trees t.nodes.items roots m.joined in
-    let f : IsFollow t.nodes.items h.linears t.follow = follow_whole t.nodes.items h.linears (bound_of trees) roots h.forest h.are_roots first last t.follow m.firsts m.lasts m.follow_exact in
-    let e : IsEnds h.linears t.ends = ends_whole t.nodes.items h.linears (bound_of trees) roots h.forest h.are_roots last t.ends m.lasts m.ends_exact in
-    let follow_len : length t.follow ≡ length t.nodes.items + length trees = m.follow_len ∙ ap (λ z. length t.nodes.items + z) m.joined.roots_len in
+pub tables_whole : (trees : List Tree) (sets : List (List Bool)) (roots : List ℕ) (t : Tables) → AreJoined trees t.nodes.items roots (length trees) → AreLinks t.nodes.items roots t.follow t.ends → AreStarts (length t.nodes.items) (length trees) sets t.starts (length sets) → AreTables trees sets t
+tables_whole trees sets roots t joined m starts =
+    let h : IsPlanted trees t.nodes.items roots = planted trees t.nodes.items roots joined in
+    let f : IsFollow t.nodes.items h.linears t.follow = follow_whole t.nodes.items h.linears (bound_of trees) roots h.forest h.are_roots m.first m.last t.follow m.firsts m.lasts m.follow_exact in
+    let e : IsEnds h.linears t.ends = ends_whole t.nodes.items h.linears (bound_of trees) roots h.forest h.are_roots m.last t.ends m.lasts m.ends_exact in
+    let follow_len : length t.follow ≡ length t.nodes.items + length trees = m.follow_len ∙ ap (λ z. length t.nodes.items + z) joined.roots_len in
     record {
       roots = roots;
       planted = h;
       is_follow = f;
       is_ends = e;
-      table = record { len = omega (arith, follow_len); below = planted_follow trees t.nodes.items roots h t.follow f; starts = λ s. subst (λ z. IsPlaceList z (row t.starts s)) (sym follow_len) (m.starts.places s) };
-      starts_len = m.starts.len;
-      is_starts = λ s flags at. m.starts.each s flags (slice_get_within sets s flags at) at;
+      table = record { len = omega (arith, follow_len); below = planted_follow trees t.nodes.items roots h t.follow f; starts = λ s. subst (λ z. IsPlaceList z (row t.starts s)) (sym follow_len) (starts.places s) };
+      starts_len = starts.len;
+      is_starts = λ s flags at. starts.each s flags (slice_get_within sets s flags at) at;
       follow_len = follow_len;
       ends_len = m.ends_len ∙ sym m.follow_len;
       ends_below = planted_ends trees t.nodes.items roots h t.ends e;

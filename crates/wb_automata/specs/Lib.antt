@@ -1,6 +1,7 @@
 pub mod Accepted
 pub mod Automata
 pub mod Classes
+pub mod Ends
 pub mod Erasing
 pub mod Exploring
 pub mod Follows

@@ -1,15 +1,16 @@
 -- The tables of several expressions, over the nodes of all.
-use Rattle.std.specs.Prelude.{◌≡◌, ◌+◌, ◌<◌, ◌↔◌, ℕ, Bool, List, [], Some, Contains, length, slice_get}
+use Rattle.std.specs.Prelude.{◌≡◌, ◌+◌, ◌<◌, ◌↔◌, ◌⊎◌, ℕ, Bool, List, [], Some, Contains, length, slice_get}
 use Rattle.wb_regex.specs.Tree.{Tree}
 use Rattle.wb_regex.specs.declared.node.RegexNode.{RegexNode}
 use Rattle.wb_termset.specs.Sets.{Has}
 use Rattle.wb_automata.specs.declared.tables.Tables.{Tables}
-use Rattle.wb_automata.specs.Nodes.{row}
+use Rattle.wb_automata.specs.Nodes.{row, AreFirsts, AreLasts}
+use Rattle.wb_automata.specs.Roots.{BeginAt, EndAt}
 use Rattle.wb_automata.specs.Linear.{Linear, Matches}
 use Rattle.wb_automata.specs.Erasing.{Erases}
 use Rattle.wb_automata.specs.Joined.{bound_of}
 use Rattle.wb_automata.specs.Machines.{holds_of, IsTable, IsPlaceList}
-use Rattle.wb_automata.specs.Follows.{AreBelow}
+use Rattle.wb_automata.specs.Follows.{AreBelow, LinkIn}
 use Rattle.wb_automata.specs.Running.{IsForest, IsFollow, IsEnds, AreRoots}
 use Rattle.wb_automata.specs.Sets.{Filled, IsStartOf}
 
@@ -28,6 +29,17 @@ pub record IsPlanted (trees : List Tree) (nodes : List RegexNode) (roots : List 
   pub forest : IsForest nodes linears (bound_of trees)
   pub are_roots : AreRoots nodes linears (bound_of trees) roots
   pub places : (k : ℕ) (tree : Tree) → slice_get trees k ≡ Some tree → HasPlaces nodes linears k tree
+
+-- the rows are made from the first and last leaves of the nodes
+pub record AreLinks (nodes : List RegexNode) (roots : List ℕ) (follow ends : List (List ℕ)) : Type 0 where
+  pub first : List (List ℕ)
+  pub last : List (List ℕ)
+  pub firsts : AreFirsts nodes first (length nodes)
+  pub lasts : AreLasts nodes last (length nodes)
+  pub follow_len : length follow ≡ length nodes + length roots
+  pub follow_exact : (p q : ℕ) → Contains (row follow p) q ↔ (LinkIn nodes first last 0 (length nodes) p q ⊎ BeginAt first roots (length nodes) (length roots) p q)
+  pub ends_len : length ends ≡ length nodes + length roots
+  pub ends_exact : (p k : ℕ) → Contains (row ends p) k ↔ EndAt last roots (length roots) p k
 
 -- the list has the starts of the expressions that are in a set
 abbrev pub IsStartsOf : ℕ → ℕ → List Bool → List ℕ → Type 0

@@ -7,6 +7,7 @@
 mod accepted;
 mod automaton;
 mod classes;
+mod ends;
 mod explore;
 mod joined;
 mod least;

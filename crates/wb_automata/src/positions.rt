@@ -1,15 +1,17 @@
-//! First, last and follow.
+//! Which leaves may come after which in a match?
 
 ghost use Rattle.std.specs.Prelude.{◌≡◌, ℕ, ◌<◌, ◌≤◌, ◌++◌, ◌∷◌, [], List, length, IfOk, All, Contains, ◌↔◌, ◌⊎◌};
-ghost use Rattle.wb_automata.specs.Nodes.{AreParts, PartsBelow, empty_at, first_at, AreEmpties, AreFirsts, AreLasts, last_at, row};
+ghost use Rattle.wb_automata.specs.Nodes.{AreParts, PartsBelow, empty_at, AreEmpties, row};
+ghost use Rattle.wb_automata.specs.Ends.{rows_of};
 ghost use Rattle.wb_automata.specs.Follows.{AreBelow, LinkAt, AreFollows};
 
-use crate::rows::{Leaves, Rows};
+use crate::ends::{Side, ends_of};
+use crate::rows::Rows;
 use std::alloc::{AllocError, Global};
 use wb_regex::RegexNode;
 
 /// Whether each node matches the empty text.
-pub fn empties(alloc: Global, nodes: &[RegexNode]) -> Result<Vec<bool>, AllocError>
+pub(crate) fn empties(alloc: Global, nodes: &[RegexNode]) -> Result<Vec<bool>, AllocError>
     requires parts { AreParts nodes.now }
     ensures { IfOk result (λ all. AreEmpties nodes.now all.items (length nodes.now)) }
 {
@@ -35,97 +37,7 @@ fn empty_at(node: RegexNode, before: &[bool]) -> bool
     }
 }
 
-/// The leaves with which a match of each node may begin.
-pub fn firsts(alloc: Global, nodes: &[RegexNode], empty: &[bool]) -> Result<Rows, AllocError>
-    requires parts { AreParts nodes.now }
-    requires empty { AreEmpties nodes.now empty.now (length nodes.now) }
-    ensures { IfOk result (λ rows. AreFirsts nodes.now rows (length nodes.now)) }
-{
-    let mut rows = Rows::new(alloc);
-    for (place, node) in nodes.iter().enumerate() {
-        let leaves = first_at(alloc, place, *node, empty, &rows)?;
-        rows.push(leaves)?;
-    }
-    Ok(rows)
-}
-
-fn first_at(
-    alloc: Global,
-    place: usize,
-    node: RegexNode,
-    empty: &[bool],
-    rows: &Rows,
-) -> Result<Leaves, AllocError>
-    requires parts { PartsBelow (length rows.now) node }
-    requires empty { length rows.now ≤ length empty.now }
-    ensures { IfOk result (λ leaves. leaves ≡ first_at empty.now rows.now place node) }
-{
-    let mut leaves = Leaves::new(alloc);
-    match node {
-        RegexNode::Set(_) => leaves.push(place)?,
-        RegexNode::Sequence(i, j) => {
-            leaves.add(rows.row(i))?;
-            if empty[i] {
-                leaves.add(rows.row(j))?;
-            }
-        }
-        RegexNode::Choice(i, j) => {
-            leaves.add(rows.row(i))?;
-            leaves.add(rows.row(j))?;
-        }
-        RegexNode::Star(i) => leaves.add(rows.row(i))?,
-        RegexNode::Plus(i) => leaves.add(rows.row(i))?,
-        RegexNode::Maybe(i) => leaves.add(rows.row(i))?,
-    }
-    Ok(leaves)
-}
-
-/// The leaves with which a match of each node may end.
-pub fn lasts(alloc: Global, nodes: &[RegexNode], empty: &[bool]) -> Result<Rows, AllocError>
-    requires parts { AreParts nodes.now }
-    requires empty { AreEmpties nodes.now empty.now (length nodes.now) }
-    ensures { IfOk result (λ rows. AreLasts nodes.now rows (length nodes.now)) }
-{
-    let mut rows = Rows::new(alloc);
-    for (place, node) in nodes.iter().enumerate() {
-        let leaves = last_at(alloc, place, *node, empty, &rows)?;
-        rows.push(leaves)?;
-    }
-    Ok(rows)
-}
-
-fn last_at(
-    alloc: Global,
-    place: usize,
-    node: RegexNode,
-    empty: &[bool],
-    rows: &Rows,
-) -> Result<Leaves, AllocError>
-    requires parts { PartsBelow (length rows.now) node }
-    requires empty { length rows.now ≤ length empty.now }
-    ensures { IfOk result (λ leaves. leaves ≡ last_at empty.now rows.now place node) }
-{
-    let mut leaves = Leaves::new(alloc);
-    match node {
-        RegexNode::Set(_) => leaves.push(place)?,
-        RegexNode::Sequence(i, j) => {
-            leaves.add(rows.row(j))?;
-            if empty[j] {
-                leaves.add(rows.row(i))?;
-            }
-        }
-        RegexNode::Choice(i, j) => {
-            leaves.add(rows.row(i))?;
-            leaves.add(rows.row(j))?;
-        }
-        RegexNode::Star(i) => leaves.add(rows.row(i))?,
-        RegexNode::Plus(i) => leaves.add(rows.row(i))?,
-        RegexNode::Maybe(i) => leaves.add(rows.row(i))?,
-    }
-    Ok(leaves)
-}
-
-/// Behind each leaf of the one list, each leaf of the other.
+/// After each leaf of the one list, each leaf of the other.
 pub(crate) fn link(follow: &mut Rows, last: &[usize], first: &[usize]) -> Result<(), AllocError>
     requires below { All (λ p. p < length follow.old) last.now }
     ensures len { length follow.new ≡ length follow.old }
@@ -137,41 +49,68 @@ pub(crate) fn link(follow: &mut Rows, last: &[usize], first: &[usize]) -> Result
     Ok(())
 }
 
-fn link_at(node: RegexNode, first: &Rows, last: &Rows, follow: &mut Rows) -> Result<(), AllocError>
-    requires parts { PartsBelow (length first.now) node }
-    requires same { length last.now ≡ length first.now }
-    requires below { AreBelow (length follow.old) last.now }
+fn link_at(
+    alloc: Global,
+    nodes: &[RegexNode],
+    empty: &[bool],
+    node: RegexNode,
+    follow: &mut Rows,
+) -> Result<(), AllocError>
+    requires all { AreParts nodes.now }
+    requires empty { length empty.now ≡ length nodes.now }
+    requires parts { PartsBelow (length nodes.now) node }
+    requires below { AreBelow (length follow.old) (rows_of empty.now Side.Last nodes.now) }
     ensures len { length follow.new ≡ length follow.old }
-    ensures exact { IfOk result (λ _. (p q : ℕ) → Contains (row follow.new p) q ↔ (Contains (row follow.old p) q ⊎ LinkAt first.now last.now node p q)) }
+    ensures exact { IfOk result (λ _. (p q : ℕ) → Contains (row follow.new p) q ↔ (Contains (row follow.old p) q ⊎ LinkAt (rows_of empty.now Side.First nodes.now) (rows_of empty.now Side.Last nodes.now) node p q)) }
 {
     match node {
         RegexNode::Set(_) => {}
-        RegexNode::Sequence(i, j) => link(follow, last.row(i), first.row(j))?,
+        RegexNode::Sequence(i, j) => link_parts(alloc, nodes, empty, i, j, follow)?,
         RegexNode::Choice(_, _) => {}
-        RegexNode::Star(i) => link(follow, last.row(i), first.row(i))?,
-        RegexNode::Plus(i) => link(follow, last.row(i), first.row(i))?,
+        RegexNode::Star(i) => link_parts(alloc, nodes, empty, i, i, follow)?,
+        RegexNode::Plus(i) => link_parts(alloc, nodes, empty, i, i, follow)?,
         RegexNode::Maybe(_) => {}
     }
     Ok(())
 }
 
-/// Which leaves may come behind which, over all the nodes.
-pub fn add_follows(
+/// After each last leaf of the one node, each first leaf of the other.
+fn link_parts(
+    alloc: Global,
     nodes: &[RegexNode],
-    first: &Rows,
-    last: &Rows,
+    empty: &[bool],
+    i: usize,
+    j: usize,
+    follow: &mut Rows,
+) -> Result<(), AllocError>
+    requires all { AreParts nodes.now }
+    requires empty { length empty.now ≡ length nodes.now }
+    requires parts { (i < length nodes.now) × (j < length nodes.now) }
+    requires below { AreBelow (length follow.old) (rows_of empty.now Side.Last nodes.now) }
+    ensures len { length follow.new ≡ length follow.old }
+    ensures exact { IfOk result (λ _. (p q : ℕ) → Contains (row follow.new p) q ↔ (Contains (row follow.old p) q ⊎ (Contains (row (rows_of empty.now Side.Last nodes.now) i) p × Contains (row (rows_of empty.now Side.First nodes.now) j) q))) }
+{
+    let last = ends_of(alloc, nodes, empty, i, Side::Last)?;
+    let first = ends_of(alloc, nodes, empty, j, Side::First)?;
+    link(follow, last.as_slice(), first.as_slice())
+}
+
+/// Which leaves may come after which, over all the nodes.
+pub(crate) fn add_follows(
+    alloc: Global,
+    nodes: &[RegexNode],
+    empty: &[bool],
     follow: &mut Rows,
 ) -> Result<(), AllocError>
     requires parts { AreParts nodes.now }
-    requires first { length first.now ≡ length nodes.now }
-    requires last { length last.now ≡ length nodes.now }
-    requires below { AreBelow (length follow.old) last.now }
+    requires empty { length empty.now ≡ length nodes.now }
+    requires below { AreBelow (length follow.old) (rows_of empty.now Side.Last nodes.now) }
     requires none { (p q : ℕ) → Contains (row follow.old p) q → ⊥ }
     ensures len { length follow.new ≡ length follow.old }
-    ensures exact { IfOk result (λ _. AreFollows nodes.now first.now last.now follow.new (length follow.old) (length nodes.now)) }
+    ensures exact { IfOk result (λ _. AreFollows nodes.now (rows_of empty.now Side.First nodes.now) (rows_of empty.now Side.Last nodes.now) follow.new (length follow.old) (length nodes.now)) }
 {
     for node in nodes {
-        link_at(*node, first, last, follow)?;
+        link_at(alloc, nodes, empty, *node, follow)?;
     }
     Ok(())
 }

@@ -1,13 +1,15 @@
 //! The tables of several expressions: Glushkov's position automaton, in which the leaf that was read last is the state.
 
-ghost use Rattle.std.specs.Prelude.{◌≡◌, ◌+◌, ◌<◌, ◌↔◌, ◌⊎◌, ℕ, [], All, Contains, IfOk, length, replicate};
-ghost use Rattle.wb_automata.specs.Nodes.{row, AreParts, AreEmpties};
+ghost use Rattle.std.specs.Prelude.{◌≡◌, ◌+◌, ◌<◌, ◌↔◌, ◌⊎◌, ℕ, List, [], All, Contains, IfOk, length, replicate};
+ghost use Rattle.wb_automata.specs.Nodes.{row, AreParts, AreLasts};
+ghost use Rattle.wb_automata.specs.Ends.{rows_of};
 ghost use Rattle.wb_automata.specs.Follows.{AreBelow, LinkIn};
 ghost use Rattle.wb_automata.specs.Roots.{BeginAt, EndAt};
-ghost use Rattle.wb_automata.specs.Tables.{AreTables};
+ghost use Rattle.wb_automata.specs.Tables.{AreTables, AreLinks};
 
+use crate::ends::Side;
 use crate::joined::join;
-use crate::positions::{add_follows, empties, firsts, lasts};
+use crate::positions::{add_follows, empties};
 use crate::rows::{Leaves, Rows};
 use crate::terminals::{begins, ends, starts_of};
 use std::alloc::{AllocError, Global};
@@ -32,20 +34,34 @@ pub(crate) fn tables_of(
     ensures { IfOk result (λ t. AreTables terminals.now sets.now t) }
 {
     let all = join(alloc, terminals)?;
-    let nodes = all.nodes.as_slice();
-    let roots = all.roots.as_slice();
-    let starts = starts_of(alloc, nodes.len(), terminals.len(), sets)?;
-    let empty = empties(alloc, nodes)?;
-    let first = firsts(alloc, nodes, &empty)?;
-    let last = lasts(alloc, nodes, &empty)?;
-    let follow = follows(alloc, nodes, roots, &first, &last)?;
-    let ends = ends_of(alloc, nodes, roots, &last)?;
+    let starts = starts_of(alloc, all.nodes.len(), terminals.len(), sets)?;
+    let links = links_of(alloc, all.nodes.as_slice(), all.roots.as_slice())?;
     Ok(Tables {
         nodes: all.nodes,
-        follow,
-        ends,
+        follow: links.follow,
+        ends: links.ends,
         starts,
     })
+}
+
+/// What may come after each place, and which expressions may end with it.
+#[derive(Drop)]
+struct Links {
+    follow: Rows,
+    ends: Rows,
+}
+
+fn links_of(alloc: Global, nodes: &[RegexNode], roots: &[usize]) -> Result<Links, AllocError>
+    requires parts { AreParts nodes.now }
+    requires roots { All (λ r. r < length nodes.now) roots.now }
+    requires below { (last : List (List ℕ)) → AreLasts nodes.now last (length nodes.now) → AreBelow (length nodes.now) last }
+    ensures { IfOk result (λ links. AreLinks nodes.now roots.now links.follow links.ends) }
+{
+    let empty = empties(alloc, nodes)?;
+    let flags = empty.as_slice();
+    let follow = follows(alloc, nodes, roots, flags)?;
+    let ends = ends_table(alloc, nodes, roots, flags)?;
+    Ok(Links { follow, ends })
 }
 
 /// Which leaves may come after each place.
@@ -53,38 +69,37 @@ fn follows(
     alloc: Global,
     nodes: &[RegexNode],
     roots: &[usize],
-    first: &Rows,
-    last: &Rows,
+    empty: &[bool],
 ) -> Result<Rows, AllocError>
     requires parts { AreParts nodes.now }
-    requires first { length first.now ≡ length nodes.now }
-    requires last { length last.now ≡ length nodes.now }
-    requires below { AreBelow (length nodes.now) last.now }
+    requires empty { length empty.now ≡ length nodes.now }
+    requires below { AreBelow (length nodes.now) (rows_of empty.now Side.Last nodes.now) }
     requires roots { All (λ r. r < length nodes.now) roots.now }
     ensures len { IfOk result (λ f. length f ≡ length nodes.now + length roots.now) }
-    ensures exact { IfOk result (λ f. (p q : ℕ) → Contains (row f p) q ↔ (LinkIn nodes.now first.now last.now 0 (length nodes.now) p q ⊎ BeginAt first.now roots.now (length nodes.now) (length roots.now) p q)) }
+    ensures exact { IfOk result (λ f. (p q : ℕ) → Contains (row f p) q ↔ (LinkIn nodes.now (rows_of empty.now Side.First nodes.now) (rows_of empty.now Side.Last nodes.now) 0 (length nodes.now) p q ⊎ BeginAt (rows_of empty.now Side.First nodes.now) roots.now (length nodes.now) (length roots.now) p q)) }
 {
     let mut follow = blank(alloc, nodes, roots)?;
-    add_follows(nodes, first, last, &mut follow)?;
-    begins(&mut follow, first, roots)?;
+    add_follows(alloc, nodes, empty, &mut follow)?;
+    begins(alloc, nodes, empty, roots, &mut follow)?;
     Ok(follow)
 }
 
 /// Which expressions may end with each leaf.
-fn ends_of(
+fn ends_table(
     alloc: Global,
     nodes: &[RegexNode],
     roots: &[usize],
-    last: &Rows,
+    empty: &[bool],
 ) -> Result<Rows, AllocError>
-    requires last { length last.now ≡ length nodes.now }
-    requires below { AreBelow (length nodes.now) last.now }
+    requires parts { AreParts nodes.now }
+    requires empty { length empty.now ≡ length nodes.now }
+    requires below { AreBelow (length nodes.now) (rows_of empty.now Side.Last nodes.now) }
     requires roots { All (λ r. r < length nodes.now) roots.now }
     ensures len { IfOk result (λ t. length t ≡ length nodes.now + length roots.now) }
-    ensures exact { IfOk result (λ t. (p k : ℕ) → Contains (row t p) k ↔ EndAt last.now roots.now (length roots.now) p k) }
+    ensures exact { IfOk result (λ t. (p k : ℕ) → Contains (row t p) k ↔ EndAt (rows_of empty.now Side.Last nodes.now) roots.now (length roots.now) p k) }
 {
     let mut table = blank(alloc, nodes, roots)?;
-    ends(&mut table, last, roots)?;
+    ends(alloc, nodes, empty, roots, &mut table)?;
     Ok(table)
 }
 

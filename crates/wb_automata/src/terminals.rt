@@ -2,40 +2,61 @@
 
 ghost use Rattle.std.specs.Prelude.{◌≡◌, ℕ, ◌<◌, ◌≤◌, ◌+◌, ◌^◌, ◌⊎◌, ◌↔◌, length, IfOk, IsTrue, All, Contains};
 ghost use Rattle.wb_termset.specs.Sets.{Has};
-ghost use Rattle.wb_automata.specs.Nodes.{row};
+ghost use Rattle.wb_automata.specs.Nodes.{row, AreParts};
+ghost use Rattle.wb_automata.specs.Ends.{rows_of};
 ghost use Rattle.wb_automata.specs.Follows.{AreBelow};
 ghost use Rattle.wb_automata.specs.Machines.{IsPlaceList};
 ghost use Rattle.wb_automata.specs.Roots.{BeginAt, EndAt};
 ghost use Rattle.wb_automata.specs.Tables.{AreStarts, IsStartsOf};
 
+use crate::ends::{Side, ends_of};
 use crate::positions::link;
 use crate::rows::{Leaves, Rows};
 use std::alloc::{AllocError, Global};
+use wb_regex::RegexNode;
 use wb_termset::TermSet;
 
 /// After the start of each root, its first leaves. The starts have the last rows.
-pub(crate) fn begins(follow: &mut Rows, first: &Rows, roots: &[usize]) -> Result<(), AllocError>
-    requires roots { All (λ r. r < length first.now) roots.now }
+pub(crate) fn begins(
+    alloc: Global,
+    nodes: &[RegexNode],
+    empty: &[bool],
+    roots: &[usize],
+    follow: &mut Rows,
+) -> Result<(), AllocError>
+    requires parts { AreParts nodes.now }
+    requires empty { length empty.now ≡ length nodes.now }
+    requires roots { All (λ r. r < length nodes.now) roots.now }
     requires starts { length roots.now ≤ length follow.old }
     ensures len { length follow.new ≡ length follow.old }
-    ensures exact { IfOk result (λ _. (n : ℕ) → n + length roots.now ≡ length follow.old → (p q : ℕ) → Contains (row follow.new p) q ↔ (Contains (row follow.old p) q ⊎ BeginAt first.now roots.now n (length roots.now) p q)) }
+    ensures exact { IfOk result (λ _. (n : ℕ) → n + length roots.now ≡ length follow.old → (p q : ℕ) → Contains (row follow.new p) q ↔ (Contains (row follow.old p) q ⊎ BeginAt (rows_of empty.now Side.First nodes.now) roots.now n (length roots.now) p q)) }
 {
     let n = follow.len() - roots.len();
     for (k, root) in roots.iter().enumerate() {
-        link(follow, &[n + k], first.row(*root))?;
+        let first = ends_of(alloc, nodes, empty, *root, Side::First)?;
+        link(follow, &[n + k], first.as_slice())?;
     }
     Ok(())
 }
 
 /// Which roots may end with each leaf.
-pub(crate) fn ends(table: &mut Rows, last: &Rows, roots: &[usize]) -> Result<(), AllocError>
-    requires roots { All (λ r. r < length last.now) roots.now }
-    requires last { AreBelow (length table.old) last.now }
+pub(crate) fn ends(
+    alloc: Global,
+    nodes: &[RegexNode],
+    empty: &[bool],
+    roots: &[usize],
+    table: &mut Rows,
+) -> Result<(), AllocError>
+    requires parts { AreParts nodes.now }
+    requires empty { length empty.now ≡ length nodes.now }
+    requires roots { All (λ r. r < length nodes.now) roots.now }
+    requires last { AreBelow (length table.old) (rows_of empty.now Side.Last nodes.now) }
     ensures len { length table.new ≡ length table.old }
-    ensures exact { IfOk result (λ _. (p k : ℕ) → Contains (row table.new p) k ↔ (Contains (row table.old p) k ⊎ EndAt last.now roots.now (length roots.now) p k)) }
+    ensures exact { IfOk result (λ _. (p k : ℕ) → Contains (row table.new p) k ↔ (Contains (row table.old p) k ⊎ EndAt (rows_of empty.now Side.Last nodes.now) roots.now (length roots.now) p k)) }
 {
     for (k, root) in roots.iter().enumerate() {
-        link(table, last.row(*root), &[k])?;
+        let last = ends_of(alloc, nodes, empty, *root, Side::Last)?;
+        link(table, last.as_slice(), &[k])?;
     }
     Ok(())
 }

@@ -1,14 +1,16 @@
-use Rattle.std.proofs.Common.{◌≡◌, length, arith, ℕ, subst, ◌⊎◌}
+use Rattle.std.proofs.Common.{◌≡◌, ◌∙◌, length, arith, ℕ, subst, ◌⊎◌}
 use Rattle.std.specs.Prelude.{Contains, ◌↔◌}
 use Rattle.wb_automata.specs.Nodes.{row}
 use Rattle.wb_automata.specs.Roots.{EndAt}
+use Rattle.wb_automata.specs.declared.ends.Side.TheVariants.{Last}
+use Rattle.wb_automata.specs.Ends.{rows_of}
 use Rattle.wb_automata.proofs.RootLemmas.{ends_step}
 use Rattle.wb_automata.proofs.terminals.ends.Goals as goal
 
 pub loop-k-preserved : goal.loop-k-preserved
-loop-k-preserved c = ends_step c.args.table.now c.loop-k.table c.link.new.follow c.args.last.now c.args.roots.now c.row.result.now c.loop-k.k c.loop-k.invariant c.row.ensures c.in_ok-link.ensures.len c.in_ok-link.ensures.exact
+loop-k-preserved c = ends_step c.args.table.now c.loop-k.table c.link.new.follow (rows_of c.args.empty.now Last c.args.nodes.now) c.args.roots.now c.as_slice.result.now c.loop-k.k c.loop-k.invariant (c.as_slice.ensures ∙ c.in_ok-last.ensures) c.in_ok-link.ensures.len c.in_ok-link.ensures.exact
 
 pub returns-clause-exact : goal.returns-clause-exact
 returns-clause-exact c =
     let e : c.loop-k.k ≡ length c.args.roots.now = omega arith in
-    subst (λ i. (p k : ℕ) → Contains (row c.loop-k.table p) k ↔ (Contains (row c.args.table.now p) k ⊎ EndAt c.args.last.now c.args.roots.now i p k)) e c.loop-k.invariant.exact
+    subst (λ i. (p k : ℕ) → Contains (row c.loop-k.table p) k ↔ (Contains (row c.args.table.now p) k ⊎ EndAt (rows_of c.args.empty.now Last c.args.nodes.now) c.args.roots.now i p k)) e c.loop-k.invariant.exact

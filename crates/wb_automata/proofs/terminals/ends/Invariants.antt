@@ -1,5 +1,7 @@
+use Rattle.wb_automata.specs.declared.ends.Side.TheVariants.{Last}
+use Rattle.wb_automata.specs.Ends.{rows_of}
 use Rattle.wb_automata.proofs.RootLemmas.{EndPass}
 use Rattle.wb_automata.proofs.terminals.ends.Given as goal
 
 abbrev pub invariant-loop-k : goal.invariant-loop-k
-invariant-loop-k l = EndPass l.fn.table l.table l.last l.roots l.k
+invariant-loop-k l = EndPass l.fn.table l.table (rows_of l.empty Last l.nodes) l.roots l.k

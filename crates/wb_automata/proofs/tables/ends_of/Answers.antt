@@ -1,7 +1,0 @@
-use Rattle.std.proofs.Common.{◌+◌, length}
-use Rattle.wb_automata.proofs.PlantLemmas.{from_blank}
-use Rattle.wb_automata.specs.Roots.{EndAt}
-use Rattle.wb_automata.proofs.tables.ends_of.Goals as goal
-
-pub returns-clause-exact : goal.returns-clause-exact
-returns-clause-exact c = from_blank {A = EndAt c.args.last.now c.args.roots.now (length c.args.roots.now)} (length c.args.nodes.now + length c.args.roots.now) c.in_ok-table.table c.ends.new.table c.in_ok-table.ensures c.in_ok-ends.ensures.exact
