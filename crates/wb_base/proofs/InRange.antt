@@ -6,7 +6,7 @@ use Rattle.wb_base.specs.declared.grammar.Production.{Production}
 use Rattle.wb_base.specs.Grammar.{GrammarView, IsProductionBelow}
 use Rattle.wb_base.specs.Productions.{plain, plain_one}
 
--- one that stands at a place of the list
+-- one at a place of the list
 pub production_below : (terminals nonterminals : ℕ) (productions : List Production) (i : ℕ) (p : Production) → i < length (plain productions) → p ≡ get_or productions i p → All (IsProductionBelow terminals nonterminals) (plain productions) → IsProductionBelow terminals nonterminals (plain_one p)
 production_below terminals nonterminals productions i p within is all =
     let at : get_or (plain productions) i (plain_one p) ≡ plain_one p = get_or-map plain_one productions i p (plain_one p) (subst (λ n. i < n) (length-map productions plain_one) within) ∙ ap plain_one (sym is) in

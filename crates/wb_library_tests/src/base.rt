@@ -40,22 +40,21 @@ fn names_are_numbered_in_order(rt: HostRuntime) -> Result<(), Fail> {
 }
 
 // Whether a grammar of two productions is as it was made, and so is its copy.
-fn is_recursive(grammar: &mut Grammar) -> Result<bool, AllocError> {
+fn is_recursive(alloc: Global) -> Result<bool, AllocError> {
+    let mut grammar = Grammar::new(alloc, 1, 1, 0);
     let recursive = [Symbol::Nonterminal(0), Symbol::Terminal(0)];
-    let numbered = grammar.add(0, &[])? == 0 && grammar.add(0, &recursive)? == 1;
+    grammar.add(0, &[])?;
+    grammar.add(0, &recursive)?;
     let copy = grammar.copy()?;
     let counts = copy.terminals() == 1 && copy.nonterminals() == 1 && copy.start() == 0;
-    let parts = copy.productions() == 2;
-    Ok(numbered && counts && parts && copy.lookahead_count()? == 2)
+    let parts = copy.productions() == 2 && copy.left(1) == 0 && copy.right(0).is_empty();
+    let last = copy.right(1) == recursive.as_slice();
+    Ok(counts && parts && last && copy.lookahead_count()? == 2)
 }
 
 #[test]
 fn a_grammar_holds_its_productions(rt: HostRuntime) -> Result<(), Fail> {
-    let mut grammar = Grammar::new(rt.alloc(), 1, 1, 0);
-    assert!(rt; is_recursive(&mut grammar)?);
-    assert_eq!(rt; grammar.left(1), 0);
-    let recursive = [Symbol::Nonterminal(0), Symbol::Terminal(0)];
-    assert_eq!(rt; grammar.right(1), recursive.as_slice());
+    assert!(rt; is_recursive(rt.alloc())?);
     Ok(())
 }
 

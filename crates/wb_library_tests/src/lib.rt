@@ -11,3 +11,9 @@ mod base;
 mod lexical;
 #[cfg(test)]
 mod regex;
+#[cfg(test)]
+mod operation_tables;
+#[cfg(test)]
+mod operations;
+#[cfg(test)]
+mod values;

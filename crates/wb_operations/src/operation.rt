@@ -1,6 +1,6 @@
 //! How is an operation stored that a caller hands over?
 //!
-//! It is a boxed closure. That it answers what is meant stands in the clause `kept` of a table's calls.
+//! It is a boxed closure. That it answers what is meant is the clause `kept` of a table's calls.
 
 use crate::OperationRefusal;
 use wb_values::Value;

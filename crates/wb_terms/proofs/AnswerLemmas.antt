@@ -11,12 +11,12 @@ use Rattle.wb_terms.specs.declared.builder.Builder.{Builder}
 use Rattle.wb_terms.specs.Term.{Term, Argument, term}
 use Rattle.wb_terms.specs.TermText.{IsTermText}
 use Rattle.wb_terms.specs.Nodes.{SomeNode, EachNode, IsLeast}
-use Rattle.wb_terms.specs.Events.{term_onto}
+use Rattle.wb_terms.specs.Inner.Events.{term_onto}
 use Rattle.wb_terms.specs.TreeOf.{HasFirst, FitsNode, IsTreeOf, IsUnknown, IsWrong}
 use Rattle.wb_terms.specs.TermAnswer.{Answer, stands, bad, unknown, wrong, IsTermOf, HasUnknown, HasWrongChild, IsAnswer}
-use Rattle.wb_terms.specs.Zipper.{all_met, SomeEnded}
-use Rattle.wb_terms.specs.Built.{IsStored, IsKnown, FitsIfKnown, FindsUnknown, FindsWrong}
-use Rattle.wb_terms.specs.Holding.{Holds}
+use Rattle.wb_terms.specs.Inner.Zipper.{all_met, SomeEnded}
+use Rattle.wb_terms.specs.Inner.Built.{IsStored, IsKnown, FitsIfKnown, FindsUnknown, FindsWrong}
+use Rattle.wb_terms.specs.Inner.Holding.{Holds}
 use Rattle.wb_terms.proofs.LeastLemmas.{either, one_least}
 use Rattle.wb_terms.proofs.OntoLemmas.{term_met, some_in, some_out, each_in, same_term}
 use Rattle.wb_terms.proofs.ReadingLemmas.{one_onto, term_or_fault, one_first_fault}

@@ -9,9 +9,9 @@ use Rattle.wb_terms.specs.declared.event.Event.{Event}
 use Rattle.wb_terms.specs.declared.event.Event.TheVariants.{Begin}
 use Rattle.wb_terms.specs.declared.builder.Frame.{Frame}
 use Rattle.wb_terms.specs.declared.builder.Builder.{Builder}
-use Rattle.wb_terms.specs.Zipper.{zipper, all_met}
-use Rattle.wb_terms.specs.Built.{IsNumberOf, IsStored, FindsUnknown, FindsWrong}
-use Rattle.wb_terms.specs.Holding.{AreFrames, Holds}
+use Rattle.wb_terms.specs.Inner.Zipper.{zipper, all_met}
+use Rattle.wb_terms.specs.Inner.Built.{IsNumberOf, IsStored, FindsUnknown, FindsWrong}
+use Rattle.wb_terms.specs.Inner.Holding.{AreFrames, Holds}
 use Rattle.wb_terms.proofs.HoldLemmas.{shape_of, shape_begun}
 
 pub begun : {X E : Type 0} (ss : List Signature) (name : List ℕ) (at production start : ℕ) (b c : Builder) (r : Result X E) → c.values ≡ b.values → c.places ≡ b.places → c.faults ≡ b.faults → IsNumberOf ss name production → start ≡ length b.values.items

@@ -13,8 +13,8 @@ use Rattle.wb_terms.specs.declared.rules.Part.{Part}
 use Rattle.wb_terms.specs.declared.rules.Action.{Action}
 use Rattle.wb_terms.specs.Term.{Term, Argument, Arguments}
 use Rattle.wb_terms.specs.TermGrammar.{Tokens, Is, IsHead, IsTerm, AreArguments, AreMore, IsArgument, simple, owned, whole, nothing, some, ended, next, number, string, truth, untruth, below}
-use Rattle.wb_terms.specs.Events.{shift, qualified_name, term_onto, argument_onto, arguments_onto}
-use Rattle.wb_terms.specs.TermTable.{kind_of, term_rights, term_grammar}
+use Rattle.wb_terms.specs.Inner.Events.{shift, qualified_name, term_onto, argument_onto, arguments_onto}
+use Rattle.wb_terms.specs.Inner.TermTable.{kind_of, term_rights, term_grammar}
 
 -- symbols of the table
 abbrev pub Row : Type 0

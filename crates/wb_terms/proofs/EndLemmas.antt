@@ -14,9 +14,9 @@ use Rattle.wb_terms.specs.declared.event.Event.TheVariants.{End}
 use Rattle.wb_terms.specs.declared.builder.Frame.{Frame}
 use Rattle.wb_terms.specs.declared.builder.Builder.{Builder}
 use Rattle.wb_terms.specs.Term.{Argument, named, term, place_of}
-use Rattle.wb_terms.specs.Zipper.{Zipper, outside, inside, with_argument, arguments_of, closed, zipper, all_met}
-use Rattle.wb_terms.specs.Built.{IsNumberOf, IsStored, FindsUnknown, FindsWrong}
-use Rattle.wb_terms.specs.Holding.{AreFrames, Holds, AddsValue}
+use Rattle.wb_terms.specs.Inner.Zipper.{Zipper, outside, inside, with_argument, arguments_of, closed, zipper, all_met}
+use Rattle.wb_terms.specs.Inner.Built.{IsNumberOf, IsStored, FindsUnknown, FindsWrong}
+use Rattle.wb_terms.specs.Inner.Holding.{AreFrames, Holds, AddsValue}
 use Rattle.wb_terms.proofs.ZipLemmas.{zip_all}
 use Rattle.wb_terms.proofs.HoldLemmas.{Shape, shape_of, shape_closed, innermost_shape, start_within, places_long, unknown_outside, wrong_outside}
 

@@ -17,12 +17,12 @@ use Rattle.wb_terms.specs.declared.event.Event.TheVariants as e
 use Rattle.wb_terms.specs.declared.builder.Frame.{Frame}
 use Rattle.wb_terms.specs.declared.builder.Builder.{Builder}
 use Rattle.wb_terms.specs.Term.{Argument, named, term, place_of}
-use Rattle.wb_terms.specs.Nodes.{FindsLeast}
+use Rattle.wb_terms.specs.Inner.Least.{FindsLeast}
 use Rattle.wb_terms.specs.TreeOf.{IsUnknown, IsWrong}
-use Rattle.wb_terms.specs.Zipper.{Zipper, outside, inside, with_argument, arguments_of, zipper, all_met, OfInnermost, SomeEnded, EachEnded}
-use Rattle.wb_terms.specs.Noted.{lesser}
-use Rattle.wb_terms.specs.Built.{IsNumberOf, IsBuiltValue, AreBuilt, IsStored, IsKnown, FitsIfKnown, FindsUnknown, FindsWrong}
-use Rattle.wb_terms.specs.Holding.{AreFrames, Holds, AddsValue}
+use Rattle.wb_terms.specs.Inner.Zipper.{Zipper, outside, inside, with_argument, arguments_of, zipper, all_met, OfInnermost, SomeEnded, EachEnded}
+use Rattle.wb_terms.specs.Inner.Noted.{lesser}
+use Rattle.wb_terms.specs.Inner.Built.{IsNumberOf, IsBuiltValue, AreBuilt, IsStored, IsKnown, FitsIfKnown, FindsUnknown, FindsWrong}
+use Rattle.wb_terms.specs.Inner.Holding.{AreFrames, Holds, AddsValue}
 use Rattle.wb_terms.proofs.LeastLemmas.{either, lesser_least, same_least}
 use Rattle.wb_terms.proofs.ZipLemmas.{zip_weaker, zip_front, zip_back}
 

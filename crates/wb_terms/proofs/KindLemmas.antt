@@ -12,11 +12,11 @@ use Rattle.wb_values.specs.Tree.{Tree, Value, int, bool, text, node, production_
 use Rattle.wb_values.specs.Tree as v
 use Rattle.wb_values.specs.declared.value.Value.{Value as Stored}
 use Rattle.wb_terms.specs.Term.{Argument, named, plain, term, place_of}
-use Rattle.wb_terms.specs.Nodes.{FindsLeast}
-use Rattle.wb_terms.specs.Noted.{noted}
+use Rattle.wb_terms.specs.Inner.Least.{FindsLeast}
+use Rattle.wb_terms.specs.Inner.Noted.{noted}
 use Rattle.wb_terms.specs.TreeOf.{HasFirst, IsOfNonterminal, IsOfKind, IsWrong, IsWrongChild}
-use Rattle.wb_terms.specs.Built.{IsNumberOf, IsBuiltValue, IsStored, FitsIfKnown}
-use Rattle.wb_terms.specs.KindsFit.{IsOfLeft, FirstFit, KindsFit, IsWrongAmong}
+use Rattle.wb_terms.specs.Inner.Built.{IsNumberOf, IsBuiltValue, IsStored, FitsIfKnown}
+use Rattle.wb_terms.specs.Inner.KindsFit.{IsOfLeft, FirstFit, KindsFit, IsWrongAmong}
 use Rattle.wb_terms.proofs.LeastLemmas.{noted_least, same_least}
 
 -- nothing is there past the end

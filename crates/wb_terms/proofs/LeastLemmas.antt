@@ -2,8 +2,9 @@
 use Rattle.std.proofs.Common.{◌≡◌, ◌≤◌, ◌⊎◌, inl, inr, ℕ, Option, Some, None, Bool, true, false, refl, arith}
 use Rattle.std.specs.Prelude.{min}
 use Rattle.std.proofs.Math.Nat.{min-le_left, min-le_right}
-use Rattle.wb_terms.specs.Nodes.{IsLeast, FindsLeast}
-use Rattle.wb_terms.specs.Noted.{noted, lesser}
+use Rattle.wb_terms.specs.Nodes.{IsLeast}
+use Rattle.wb_terms.specs.Inner.Least.{FindsLeast}
+use Rattle.wb_terms.specs.Inner.Noted.{noted, lesser}
 
 -- from either
 pub either : {A B C : Type 0} → (A → C) → (B → C) → A ⊎ B → C

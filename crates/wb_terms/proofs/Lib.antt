@@ -2,6 +2,7 @@ pub mod AnswerLemmas
 pub mod BeginLemmas
 pub mod Complete
 pub mod EndLemmas
+pub mod FitLemmas
 pub mod HoldLemmas
 pub mod KindLemmas
 pub mod LeastLemmas

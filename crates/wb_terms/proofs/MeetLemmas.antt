@@ -8,7 +8,7 @@ use Rattle.wb_terms.specs.declared.event.Event.{Event}
 use Rattle.wb_terms.specs.declared.event.Event.TheVariants.{Int, Bool as Truth, Text}
 use Rattle.wb_terms.specs.declared.builder.Builder.{Builder}
 use Rattle.wb_terms.specs.Term.{plain}
-use Rattle.wb_terms.specs.Holding.{Holds, AddsValue}
+use Rattle.wb_terms.specs.Inner.Holding.{Holds, AddsValue}
 use Rattle.wb_terms.proofs.HoldLemmas.{holds_with}
 
 module _ {X E : Type 0} (ss : List Signature) (ts : List Tree) (b c : Builder) (event : Event) (at : ℕ) where

@@ -5,8 +5,8 @@ use Rattle.wb_terms.specs.declared.event.Event.{Event}
 use Rattle.wb_terms.specs.declared.event.Event.TheVariants.{Begin}
 use Rattle.wb_terms.specs.Term.{Term, Argument, Arguments, named, plain, term, empty, more, list_of}
 use Rattle.wb_terms.specs.Nodes.{SomeNode, SomeInArgument, SomeInArguments, EachNode, EachInArgument, EachInArguments}
-use Rattle.wb_terms.specs.Events.{term_onto, argument_onto, arguments_onto}
-use Rattle.wb_terms.specs.Zipper.{Zipper, outside, inside, with_argument, arguments_of, closed, zipper, OfInnermost, SomeEnded, EachEnded}
+use Rattle.wb_terms.specs.Inner.Events.{term_onto, argument_onto, arguments_onto}
+use Rattle.wb_terms.specs.Inner.Zipper.{Zipper, outside, inside, with_argument, arguments_of, closed, zipper, OfInnermost, SomeEnded, EachEnded}
 use Rattle.wb_terms.proofs.LeastLemmas.{either}
 
 -- arguments, one after another

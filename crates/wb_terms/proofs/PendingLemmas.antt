@@ -1,5 +1,5 @@
 -- What is still to be printed, once a tree is begun.
-use Rattle.std.proofs.Common.{◌≡◌, ℕ, suc, List, [], ◌∷◌, ◌++◌, Result, Ok, Err, true, All, drop, reverse, sym, ap, ◌∙◌, subst, arith, append_assoc}
+use Rattle.std.proofs.Common.{◌≡◌, ◌+◌, ℕ, suc, List, [], ◌∷◌, ◌++◌, Result, Ok, Err, true, All, length, length-append, drop, reverse, refl, sym, ap, ◌∙◌, subst, arith, append_assoc}
 use Rattle.std.specs.Result.{OnOk}
 use Rattle.std.proofs.lemmas.List.{reverse-append}
 use Rattle.wb_values.specs.Signature.{Signature}
@@ -8,7 +8,7 @@ use Rattle.wb_values.specs.ValuesIn.{values_in, IsIn}
 use Rattle.wb_values.specs.declared.value.Value.{Value as Stored}
 use Rattle.wb_terms.specs.declared.print.Pending.{Pending}
 use Rattle.wb_terms.specs.Printed.{name_of, printed_tree, printed_children}
-use Rattle.wb_terms.specs.Pending.{children_text, pending_text, ArePendingIn}
+use Rattle.wb_terms.specs.Inner.Pending.{children_text, pending_text, ArePendingIn}
 
 -- one more on the stack
 pub pushed : (ps qs : List Pending) (p : Pending) → qs ≡ ps ++ p ∷ [] → reverse qs ≡ p ∷ reverse ps
@@ -36,3 +36,11 @@ pushed_in count ps qs p e here there = subst (ArePendingIn count) (sym (pushed p
 pub others_in : (count : ℕ) (values : List Stored) → All (IsIn count) values → All (IsIn count) (drop 1 values)
 others_in count [] all = all
 others_in count (y ∷ values) all = λ k d lt. all (suc k) d (omega (arith, lt))
+
+-- the lengths of a tree that is begun
+pub length_begun : (ss : List Signature) (ts : List Tree) (t : Tree) (n : ℕ) (values : Pending) (ps qs : List Pending) → values.first ≡ true → n ≡ production_of t → values_in ts values.values.now ≡ children_of t
+    → qs ≡ ps ++ values ∷ [] → (length (name_of ss n) + 1) + length (pending_text ss ts (reverse qs)) ≡ length (printed_tree ss t) + length (pending_text ss ts (reverse ps))
+length_begun ss ts t n values ps qs first e f h =
+    let name = name_of ss n in
+    let whole = tree_begun {X = Unit {0}} {E = Unit {0}} ss ts t n values [] (name ++ 40 ∷ []) ps qs (Ok tt) first e f refl h in
+    omega (arith, ap length whole, length-append (name ++ 40 ∷ []) (pending_text ss ts (reverse qs)), length-append name (40 ∷ []), length-append (printed_tree ss t) (pending_text ss ts (reverse ps)))

@@ -11,10 +11,10 @@ use Rattle.wb_terms.specs.declared.refusal.TermRefusal.{TermRefusal}
 use Rattle.wb_terms.specs.declared.refusal.TermRefusal.TheVariants.{Bad, Unknown, WrongChild, NoMemory}
 use Rattle.wb_terms.specs.Term.{Term}
 use Rattle.wb_terms.specs.TermText.{IsTermText}
-use Rattle.wb_terms.specs.Events.{term_onto}
+use Rattle.wb_terms.specs.Inner.Events.{term_onto}
 use Rattle.wb_terms.specs.TreeOf.{IsTreeOf}
 use Rattle.wb_terms.specs.TermAnswer.{Answer, stands, IsAnswer, answer_of}
-use Rattle.wb_terms.specs.Holding.{Holds, IsFaultOf}
+use Rattle.wb_terms.specs.Inner.Holding.{Holds, IsFaultOf}
 use Rattle.wb_terms.proofs.AnswerLemmas.{one_answer}
 
 -- one event more

@@ -18,11 +18,11 @@ use Rattle.wb_tokens.proofs.PlacedLaws.{one_next}
 use Rattle.wb_terms.specs.Term.{Term}
 use Rattle.wb_terms.specs.TermGrammar.{Tokens, IsTerm}
 use Rattle.wb_terms.specs.TermText.{IsTermText, CanBegin, CannotFollow, IsFirstFault}
-use Rattle.wb_terms.specs.TermReading.{IsTermReading}
-use Rattle.wb_terms.specs.TermEntries.{term_entries}
-use Rattle.wb_terms.specs.TermLaws.{term_decided, term_ends}
-use Rattle.wb_terms.specs.TermTable.{term_grammar}
-use Rattle.wb_terms.specs.Events.{term_onto}
+use Rattle.wb_terms.specs.Inner.TermReading.{IsTermReading}
+use Rattle.wb_terms.specs.Inner.TermEntries.{term_entries}
+use Rattle.wb_terms.specs.Inner.TermLaws.{term_decided, term_ends}
+use Rattle.wb_terms.specs.Inner.TermTable.{term_grammar}
+use Rattle.wb_terms.specs.Inner.Events.{term_onto}
 use Rattle.wb_terms.proofs.Complete.{complete_term}
 use Rattle.wb_terms.proofs.Sound.{sound_term}
 

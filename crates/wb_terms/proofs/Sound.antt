@@ -16,8 +16,8 @@ use Rattle.wb_terms.specs.declared.rules.Part.{Part}
 use Rattle.wb_terms.specs.declared.rules.Action.{Action}
 use Rattle.wb_terms.specs.Term.{Term, Argument, Arguments}
 use Rattle.wb_terms.specs.TermGrammar.{Tokens, Is, IsHead, IsTerm, AreArguments, AreMore, IsArgument, simple, owned, whole, nothing, some, ended, next, number, string, truth, untruth, below}
-use Rattle.wb_terms.specs.Events.{qualified_name}
-use Rattle.wb_terms.specs.TermTable.{kind_of, mark_kind, word_kind, term_rights}
+use Rattle.wb_terms.specs.Inner.Events.{qualified_name}
+use Rattle.wb_terms.specs.Inner.TermTable.{kind_of, mark_kind, word_kind, term_rights}
 use Rattle.wb_terms.proofs.Complete.{Row, Gives}
 
 -- what a part of the grammar is: the first of the tokens are one, and these are left

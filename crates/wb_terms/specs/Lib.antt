@@ -1,19 +1,17 @@
-pub mod Built
-pub mod Events
-pub mod Holding
-pub mod KindsFit
-pub mod Lengths
-pub mod Nodes
-pub mod Noted
-pub mod Pending
-pub mod Printed
+-- terms, as trees of names and plain values with their places
 pub mod Term
-pub mod TermAnswer
-pub mod TermEntries
+-- the tokens that a term has
 pub mod TermGrammar
-pub mod TermLaws
-pub mod TermReading
-pub mod TermTable
+-- the bytes of a term, and the first place at which no term goes on
 pub mod TermText
+-- the nodes of a term
+pub mod Nodes
+-- the tree that a term stands for, and where a term doesn't fit
 pub mod TreeOf
-pub mod Zipper
+-- the answer for some bytes
+pub mod TermAnswer
+-- how a value is printed
+pub mod Printed
+-- which texts are too long
+pub mod Lengths
+pub mod Inner

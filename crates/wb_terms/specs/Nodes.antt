@@ -1,5 +1,5 @@
 -- The nodes of a term, and how the least place of some is found.
-use Rattle.std.specs.Prelude.{◌≤◌, ◌⊎◌, ℕ, List, Option, MatchOption}
+use Rattle.std.specs.Prelude.{◌≤◌, ◌⊎◌, ℕ, List}
 use Rattle.wb_terms.specs.Term.{Term, Argument, Arguments, named, plain, term, empty, more, list_of}
 
 module _ (Holds : List ℕ → ℕ → List Argument → Type 0) where
@@ -33,7 +33,3 @@ module _ (Holds : List ℕ → ℕ → List Argument → Type 0) where
 pub record IsLeast (Holds : ℕ → Type 0) (place : ℕ) : Type 0 where
   pub here : Holds place
   pub least : (at : ℕ) → Holds at → place ≤ at
-
--- the least place of which it holds, or there is none, and the fact holds
-abbrev pub FindsLeast : (ℕ → Type 0) → Type 0 → Option ℕ → Type 0
-FindsLeast Holds Fact found = MatchOption found (Fact × ((at : ℕ) → ¬ Holds at)) (IsLeast Holds)

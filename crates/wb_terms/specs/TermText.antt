@@ -24,13 +24,13 @@ pub record CanBegin (front : Tokens) : Type 0 where
   pub term : Term
   pub whole : IsTerm term (front ++ others) []
 
--- what stands next can't follow these tokens: a token with which no term goes on, the end where they are no term, or no token
+-- what comes next can't follow these tokens: a token with which no term goes on, the end where they are no term, or no token
 abbrev pub CannotFollow : Tokens → Next Token → Type 0
 CannotFollow front (Found x) = ¬ CanBegin (front ++ x ∷ [])
 CannotFollow front (End at) = (term : Term) → ¬ IsTerm term front []
 CannotFollow front (NoToken at) = Unit {0}
 
--- at this place stands the first thing that can't follow the tokens before it, which begin some term
+-- at this place is the first thing that can't follow the tokens before it, which begin some term
 pub record IsFirstFault (bytes : List ℕ) (place : ℕ) : Type 0 where
   pub front : Tokens
   pub from : ℕ

@@ -1,4 +1,4 @@
-//! Trees that are built from what is met in a term, and where the term doesn't fit.
+//! How are trees built from what is met in a term, and where does the term not fit?
 //!
 //! Every node is built as soon as it ends, also where a fault was met: the caller takes the trees back.
 
@@ -11,12 +11,12 @@ ghost use Rattle.wb_values.specs.declared.value.Value.TheVariants.{Int};
 ghost use Rattle.wb_terms.specs.declared.event.Event.{Event};
 ghost use Rattle.wb_terms.specs.declared.event.Event.TheVariants.{Begin, End};
 ghost use Rattle.wb_terms.specs.Term.{Term, Argument, place_of};
-ghost use Rattle.wb_terms.specs.Nodes.{FindsLeast};
+ghost use Rattle.wb_terms.specs.Inner.Least.{FindsLeast};
 ghost use Rattle.wb_terms.specs.TreeOf.{IsTreeOf, IsUnknown};
-ghost use Rattle.wb_terms.specs.Events.{term_onto};
-ghost use Rattle.wb_terms.specs.Zipper.{Zipper, inside, zipper};
-ghost use Rattle.wb_terms.specs.Built.{IsNumberOf, IsKnown, IsStored, FindsUnknown, FindsWrong};
-ghost use Rattle.wb_terms.specs.Holding.{AddsValue, Holds, HoldsSome, HoldsTerm, IsFaultOf};
+ghost use Rattle.wb_terms.specs.Inner.Events.{term_onto};
+ghost use Rattle.wb_terms.specs.Inner.Zipper.{Zipper, inside, zipper};
+ghost use Rattle.wb_terms.specs.Inner.Built.{IsNumberOf, IsKnown, IsStored, FindsUnknown, FindsWrong};
+ghost use Rattle.wb_terms.specs.Inner.Holding.{AddsValue, Holds, HoldsSome, HoldsTerm, IsFaultOf};
 
 use crate::event::Event;
 use crate::kinds::wrong_in;

@@ -1,3 +1,7 @@
+//! What is met in a term, from left to right?
+//!
+//! The table of `table` makes these of the tokens, and `builder` makes trees of them.
+
 use wb_base::Bytes;
 
 /// What is met in a term, from left to right. Places count bytes from the beginning of the text.

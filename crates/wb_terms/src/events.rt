@@ -1,7 +1,9 @@
-//! What was met in a term so far, in one flat list.
+//! How is what was met in a term kept?
+//!
+//! In one flat list, whose last entries the actions of the table change. What entries there are is in `event`.
 
 ghost use Rattle.std.specs.Prelude.{◌≡◌, ◌∷◌, [], OnOk, IfOk, MatchOption, reverse};
-ghost use Rattle.wb_terms.specs.Events.{with_owner, qualified, qualified_name};
+ghost use Rattle.wb_terms.specs.Inner.Events.{with_owner, qualified, qualified_name};
 
 use crate::event::Event;
 use std::alloc::{AllocError, Global};

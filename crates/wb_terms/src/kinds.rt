@@ -1,14 +1,16 @@
-//! Where a node of a term doesn't fit the signature of its production.
+//! Where does a node of a term not fit the signature of its production?
+//!
+//! Asked once for each node, when it ends. Which of several faults is reported is found by `least`.
 
 ghost use Rattle.std.specs.Prelude.{◌≡◌, ◌↔◌, ◌<◌, ◌≤◌, ℕ, List, All, length, map, IsTrue, slice_get, Some};
 ghost use Rattle.std.specs.List.{AllZip};
 ghost use Rattle.wb_values.specs.Signature.{Signature};
 ghost use Rattle.wb_values.specs.ValuesIn.{value_in, IsIn};
 ghost use Rattle.wb_terms.specs.Term.{Argument, place_of};
-ghost use Rattle.wb_terms.specs.Nodes.{FindsLeast};
+ghost use Rattle.wb_terms.specs.Inner.Least.{FindsLeast};
 ghost use Rattle.wb_terms.specs.TreeOf.{IsOfKind, IsWrong, IsWrongChild};
-ghost use Rattle.wb_terms.specs.Built.{IsNumberOf, IsStored, FitsIfKnown};
-ghost use Rattle.wb_terms.specs.KindsFit.{IsOfLeft, KindsFit};
+ghost use Rattle.wb_terms.specs.Inner.Built.{IsNumberOf, IsStored, FitsIfKnown};
+ghost use Rattle.wb_terms.specs.Inner.KindsFit.{IsOfLeft, KindsFit};
 
 use crate::least::noted;
 use wb_base::Kind;

@@ -1,7 +1,9 @@
-//! The least of some places.
+//! Which of some places is the least?
+//!
+//! Faults are found in the order in which nodes end, and reported in the order of their places.
 
 ghost use Rattle.std.specs.Prelude.{◌≡◌};
-ghost use Rattle.wb_terms.specs.Noted.{noted, lesser};
+ghost use Rattle.wb_terms.specs.Inner.Noted.{noted, lesser};
 
 /// The lesser of the place so far and this one, where this one counts.
 pub(crate) fn noted(least: Option<usize>, counts: bool, place: usize) -> Option<usize>

@@ -1,24 +1,23 @@
-//! How long the printed texts of values are, cut off behind the most that is printed.
+//! How long is the printed text of a value, cut off after the most that is printed?
 //!
-//! A tree may be a shared graph whose text would be astronomic, so lengths are found by numbers, once for each node of a store up
-//! to the root, before anything is printed.
+//! A tree may be a shared graph whose text would be astronomic, so its length is counted before anything is printed, as far as the limit.
 
-ghost use Rattle.std.specs.Prelude.{◌≡◌, ◌+◌, ◌<◌, ◌≤◌, List, length, IfOk};
+ghost use Rattle.std.specs.Prelude.{◌≡◌, ◌+◌, ◌<◌, All, length, reverse, IfOk, OnOk};
 ghost use Rattle.std.specs.Fmt.{signed_decimal};
 ghost use Rattle.wb_tokens.specs.Printing.{printed_byte, printed_text};
-ghost use Rattle.wb_values.specs.Signature.{Signature};
-ghost use Rattle.wb_values.specs.Tree.{Tree};
-ghost use Rattle.wb_values.specs.ValuesIn.{tree_in, value_in, IsIn};
-ghost use Rattle.wb_terms.specs.Printed.{printed_tree, printed_value};
-ghost use Rattle.wb_terms.specs.Lengths.{capped, AreLengths};
+ghost use Rattle.wb_values.specs.ValuesIn.{value_in, values_in, IsIn};
+ghost use Rattle.wb_terms.specs.Printed.{printed_value};
+ghost use Rattle.wb_terms.specs.Inner.Capped.{capped};
+ghost use Rattle.wb_terms.specs.Inner.Pending.{before, children_text, pending_text, pending_weight, value_weight, children_weight, ArePendingIn};
 
 use crate::name::printed_name;
+use crate::print::Pending;
 use itoa::Buffer;
 use std::alloc::{AllocError, Global};
 use wb_base::push;
-use wb_values::{Signatures, TreeId, TreeStore, Value};
+use wb_values::{Signatures, TreeStore, Value};
 
-/// The most bytes that a value is printed in.
+// The most bytes that a value is printed in.
 pub(crate) const LIMIT: usize = 16_777_216;
 
 // The sum of two lengths.
@@ -28,7 +27,7 @@ fn sum(length: usize, more: usize) -> usize
     length.saturating_add(more).min(LIMIT + 1)
 }
 
-// How many bytes stand for a byte in a string.
+// How many bytes a byte takes in a string.
 fn byte_length(b: u8) -> usize
     ensures { result ≡ length (printed_byte b) }
 {
@@ -60,57 +59,80 @@ fn int_length(value: i64) -> usize
     buffer.format(value).len()
 }
 
-// The length of a value, where those of the trees that it may be are there.
-fn value_length(value: &Value, lengths: &[usize]) -> usize
-    requires { IsIn (length lengths.now) value.now }
-    ensures { (signatures : List Signature) (trees : List Tree) → AreLengths signatures trees lengths.now →
-        result ≡ capped (length (printed_value signatures (value_in trees value.now))) }
+// The length of a plain value, or that of what comes before the children of a tree, which are then still to be counted.
+fn begin_length<'a>(
+    stack: &mut Vec<Pending<'a>>,
+    value: &Value,
+    signatures: &Signatures,
+    store: &'a TreeStore,
+) -> Result<usize, AllocError>
+    requires within { IsIn (length store.now) value.now }
+    requires pending { ArePendingIn (length store.now) (reverse stack.old.items) }
+    ensures length { IfOk result (λ n. capped (n + length (pending_text signatures.now store.now (reverse stack.new.items)))
+        ≡ capped (length (printed_value signatures.now (value_in store.now value.now)) + length (pending_text signatures.now store.now (reverse stack.old.items)))) }
+    ensures weight { OnOk result (pending_weight store.now (reverse stack.new.items)
+        ≡ value_weight (value_in store.now value.now) + pending_weight store.now (reverse stack.old.items)) }
+    ensures pending { OnOk result (ArePendingIn (length store.now) (reverse stack.new.items)) }
 {
     match value {
-        Value::Int(number) => sum(int_length(*number), 0),
-        Value::Bool(truth) => { if *truth { 4 } else { 5 } }
-        Value::Text(text) => text_length(text.as_slice()),
-        Value::Tree(tree) => lengths[tree.0],
+        Value::Int(number) => Ok(int_length(*number)),
+        Value::Bool(truth) => Ok(if *truth { 4 } else { 5 }),
+        Value::Text(text) => Ok(text_length(text.as_slice())),
+        Value::Tree(tree) => {
+            let values = store.children(*tree);
+            push(
+                stack,
+                Pending {
+                    first: true,
+                    values,
+                },
+            )?;
+            Ok(sum(printed_name(signatures, store.production(*tree)).len(), 1))
+        }
     }
 }
 
-// The length of a tree, where those of the trees before it are there.
-fn tree_length(signatures: &Signatures, store: &TreeStore, lengths: &[usize], tree: TreeId) -> usize
-    requires within { tree.0 < length store.now }
-    requires lengths { length lengths.now ≡ tree.0 }
-    requires are { AreLengths signatures.now store.now lengths.now }
-    ensures { result ≡ capped (length (printed_tree signatures.now (tree_in store.now tree.0))) }
-{
-    let children = store.children(tree);
-    let mut length = sum(printed_name(signatures, store.production(tree)).len(), 2);
-    let mut separator = 0;
-    for child in children {
-        length = sum(length, sum(separator, value_length(child, lengths)));
-        separator = 2;
-    }
-    length
-}
-
-// The lengths of the first trees, so many of them.
-fn tree_lengths(
-    alloc: Global,
+// The length of the next child of a node, or of its end.
+fn next_length<'a>(
+    stack: &mut Vec<Pending<'a>>,
+    next: Pending<'a>,
     signatures: &Signatures,
-    store: &TreeStore,
-    count: usize,
-) -> Result<Vec<usize>, AllocError>
-    requires { count ≤ length store.now }
-    ensures count { IfOk result (λ lengths. length lengths.items ≡ count) }
-    ensures are { IfOk result (λ lengths. AreLengths signatures.now store.now lengths.items) }
+    store: &'a TreeStore,
+) -> Result<usize, AllocError>
+    requires next { All (IsIn (length store.now)) next.values.now }
+    requires pending { ArePendingIn (length store.now) (reverse stack.old.items) }
+    ensures length { IfOk result (λ n. capped (n + length (pending_text signatures.now store.now (reverse stack.new.items)))
+        ≡ capped (length (children_text next.entry.first signatures.now (values_in store.now next.entry.values.now)) + (1 + length (pending_text signatures.now store.now (reverse stack.old.items))))) }
+    ensures weight { OnOk result (pending_weight store.now (reverse stack.new.items)
+        < children_weight (values_in store.now next.entry.values.now) + pending_weight store.now (reverse stack.old.items)) }
+    ensures pending { OnOk result (ArePendingIn (length store.now) (reverse stack.new.items)) }
 {
-    let mut lengths = Vec::new(alloc);
-    for place in 0..count {
-        let next = tree_length(signatures, store, &lengths, TreeId(place));
-        push(&mut lengths, next)?;
+    match next.values {
+        [] => Ok(1),
+        [child, others @ ..] => {
+            push(
+                stack,
+                Pending {
+                    first: false,
+                    values: others,
+                },
+            )?;
+            let length = begin_length(stack, child, signatures, store)?;
+            Ok(sum(separator_length(next.first), length))
+        }
     }
-    Ok(lengths)
 }
 
-/// The length of a value's printed text, or one more than the limit. The only error is want of memory.
+// The length of what comes before a child.
+fn separator_length(first: bool) -> usize
+    ensures { result ≡ length (before first) }
+{
+    if first { 0 } else { 2 }
+}
+
+// The length of a value's printed text, or one more than the limit. The only error is want of memory.
+//
+// It is counted as the text would be printed, and no further than to the limit, so that shared trees are no longer than that.
 pub(crate) fn printed_length(
     alloc: Global,
     value: &Value,
@@ -120,16 +142,13 @@ pub(crate) fn printed_length(
     requires { IsIn (length store.now) value.now }
     ensures { IfOk result (λ n. n ≡ capped (length (printed_value signatures.now (value_in store.now value.now)))) }
 {
-    let count = match value {
-        Value::Int(_) => 0,
-        Value::Bool(_) => 0,
-        Value::Text(_) => 0,
-        Value::Tree(tree) => {
-            let trees = store.len();
-            prove!(tree.0 < trees);
-            tree.0 + 1
-        }
-    };
-    let lengths = tree_lengths(alloc, signatures, store, count)?;
-    Ok(value_length(value, &lengths))
+    let mut stack = Vec::new(alloc);
+    let mut length = sum(begin_length(&mut stack, value, signatures, store)?, 0);
+    'count: while length <= LIMIT {
+        let Some(next) = stack.pop() else {
+            return Ok(length);
+        };
+        length = sum(length, next_length(&mut stack, next, signatures, store)?);
+    }
+    Ok(length)
 }

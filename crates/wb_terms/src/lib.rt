@@ -18,8 +18,6 @@ mod reading;
 mod refusal;
 mod rules;
 mod table;
-#[cfg(test)]
-mod tests;
 
 pub use print::print_value;
 pub use read::read_term;

@@ -1,4 +1,6 @@
-//! The printed name of a production.
+//! What is the printed name of a production?
+//!
+//! A number past the signatures has an empty one, so that printing needs no condition.
 
 ghost use Rattle.std.specs.Prelude.{◌≡◌};
 ghost use Rattle.wb_terms.specs.Printed.{name_of};

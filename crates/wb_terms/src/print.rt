@@ -1,11 +1,13 @@
-//! How a value is printed, with an explicit stack.
+//! How is a value printed, however deep its trees are?
+//!
+//! An explicit stack holds the children that are left, so nothing recurses. Whether the text is too long is found first, by `lengths`.
 
 ghost use Rattle.std.specs.Prelude.{◌≡◌, ◌+◌, ◌<◌, ◌≤◌, ◌++◌, ◌∷◌, [], All, List, length, reverse, true, false, IfErr, IfOk, OnOk};
 ghost use Rattle.wb_values.specs.ValuesIn.{value_in, values_in, IsIn};
 ghost use Rattle.wb_values.specs.Tree.{bool};
 ghost use Rattle.wb_terms.specs.Printed.{name_of, printed_plain, printed_value};
 ghost use Rattle.wb_terms.specs.Lengths.{IsTooLong};
-ghost use Rattle.wb_terms.specs.Pending.{before, children_text, pending_text, pending_weight, value_weight, children_weight, ArePendingIn};
+ghost use Rattle.wb_terms.specs.Inner.Pending.{before, children_text, pending_text, pending_weight, value_weight, children_weight, ArePendingIn};
 
 use crate::lengths::{LIMIT, printed_length};
 use crate::name::printed_name;
@@ -46,7 +48,7 @@ fn print_bool(out: &mut Vec<u8>, truth: bool) -> Result<(), AllocError>
     }
 }
 
-// Appends what stands before a child: nothing before the first one.
+// Appends what comes before a child: nothing before the first one.
 fn print_separator(out: &mut Vec<u8>, first: bool) -> Result<(), AllocError>
     ensures { OnOk result (out.new.items ≡ out.old.items ++ before first) }
 {
@@ -57,7 +59,7 @@ fn print_separator(out: &mut Vec<u8>, first: bool) -> Result<(), AllocError>
     }
 }
 
-// Appends a plain value, or what stands before the children of a tree, which are then to be printed first.
+// Appends a plain value, or what comes before the children of a tree, which are then to be printed first.
 fn begin_value<'a>(
     out: &mut Vec<u8>,
     stack: &mut Vec<Pending<'a>>,
@@ -145,8 +147,8 @@ fn printed(
 /// The printed text of a value, whose trees are those of the store.
 ///
 /// A production without signature is printed with an empty name. `TooLong` comes exactly where the text has more than 16,777,216
-/// bytes; nothing is printed then, since its length is found first. No clause bounds the work: it is linear in the nodes of the
-/// store up to the value's and in the text, and nothing recurses.
+/// bytes; nothing is printed then, since its length is counted first. No clause bounds the work: it is linear in the text, as far as
+/// the limit, and visits only nodes that the value has, a shared one once for each place. Nothing recurses.
 pub fn print_value(
     alloc: Global,
     value: &Value,

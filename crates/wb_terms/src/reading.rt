@@ -1,7 +1,9 @@
-//! What is met in a term, from its bytes.
+//! What is met in the bytes of a term?
+//!
+//! The tokens go through the predictive table of `table`, with an explicit stack.
 
 ghost use Rattle.std.specs.Prelude.{IfOk};
-ghost use Rattle.wb_terms.specs.TermReading.{IsTermReading};
+ghost use Rattle.wb_terms.specs.Inner.TermReading.{IsTermReading};
 
 use crate::events::Events;
 use crate::table::TermTable;

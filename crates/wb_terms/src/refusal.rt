@@ -1,4 +1,6 @@
-//! Why a term isn't read, and why a value isn't printed.
+//! Why is a term not read, and why a value not printed?
+//!
+//! Places count bytes from the beginning of the text; which cause comes first is said at `TermRefusal`.
 
 use std::alloc::AllocError;
 
@@ -6,12 +8,12 @@ use std::alloc::AllocError;
 /// of the text.
 #[derive(Debug, Drop)]
 pub enum TermRefusal {
-    /// The text isn't a term: at this place stands the first token that can't follow those before it, the first bytes that no token
+    /// The text isn't a term: at this place is the first token that can't follow those before it, the first bytes that no token
     /// begins, or the end of a text that ends too early.
     Bad(usize),
     /// The name at this place is that of no production. It is the first such name.
     Unknown(usize),
-    /// The node whose name stands at this place has a wrong number of children, or the child at this place is of a wrong kind. It is
+    /// The node whose name is at this place has a wrong number of children, or the child at this place is of a wrong kind. It is
     /// the first such place.
     WrongChild(usize),
     /// Memory is wanting.

@@ -1,14 +1,16 @@
-//! How a term is read: its tokens, its rules, and what each makes of what was met so far.
+//! How is a term read: its tokens, its rules, and what each makes of what was met so far?
+//!
+//! The rules are in `rules`, and what is made of them in `events`.
 
 ghost use Rattle.std.specs.Prelude.{◌≡◌, OnOk};
 ghost use denote.Enum.Bare.{same_true, true_same};
 ghost use Rattle.wb_terms.specs.contracts.rules.Kind.{the_type};
-ghost use Rattle.wb_terms.specs.Events.{shift_word};
-ghost use Rattle.wb_terms.specs.TermTable.{mark_kind, word_kind, term_grammar};
-ghost use Rattle.wb_terms.specs.TermEntries.{term_entries};
+ghost use Rattle.wb_terms.specs.Inner.Events.{shift_word};
+ghost use Rattle.wb_terms.specs.Inner.TermTable.{mark_kind, word_kind, term_grammar};
+ghost use Rattle.wb_terms.specs.Inner.TermEntries.{term_entries};
 ghost use Rattle.wb_tokens.specs.Placed.{IsNextIn};
 ghost use Rattle.wb_tokens.proofs.PlacedLaws.{one_next, advances};
-ghost use Rattle.wb_terms.specs.TermLaws.{term_sampled, term_decided, term_ends};
+ghost use Rattle.wb_terms.specs.Inner.TermLaws.{term_sampled, term_decided, term_ends};
 
 use crate::event::Event;
 use crate::events::Events;
@@ -108,7 +110,7 @@ impl Table for TermTable {
         }
     }
 
-    #[tactic(auto, unfolding(crate::specs::TermTable::term_rights, crate::specs::TermEntries::term_entries))]
+    #[tactic(auto, unfolding(crate::specs::Inner::TermTable::term_rights, crate::specs::Inner::TermEntries::term_entries))]
     fn rules(&self, part: Part) -> &[Rule<'_, Kind, Part, Action>] {
         match part {
             Part::Term => &TERM,

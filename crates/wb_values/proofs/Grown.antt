@@ -21,7 +21,7 @@ unfolding grown
 length-grown ts [] = omega arith
 length-grown ts (y ∷ ys) = let h = length-grown (ts ++ tree_of ts y ∷ []) ys in omega (arith, h, length-append ts (tree_of ts y ∷ []))
 
--- the trees that were there stay in front
+-- the trees that were there stay first
 pub grown-begins : (ts : List Tree) (xs : List Built) → (r : List Tree) × (grown ts xs ≡ ts ++ r)
 unfolding grown
 grown-begins ts [] = ([], sym (append-nil ts))

@@ -1,9 +1,9 @@
--- Values that move one by one from the end of one list behind those of another: what holds on the way, and at its end.
+-- Values that move one by one from the end of one list after those of another: what holds on the way, and at its end.
 use Rattle.std.proofs.Common.{◌≡◌, ℕ, ◌≤◌, ◌<◌, ◌-◌, ◌+◌, List, [], ◌∷◌, ◌++◌, length, take, drop, set, get_or, refl, sym, ap, ◌∙◌, arith, length-append, append_assoc, append-nil}
 use Rattle.std.proofs.lemmas.List.{drop_more, drop-drop, drop-set-lt, take-set-le, get_or-drop, length-set, drop_all}
 use Rattle.wb_values.specs.declared.value.Value.{Value}
 
--- the values before a place have moved, those from there on stand as they did, and there is room for them
+-- the values before a place have moved, those from there on are as they were, and there is room for them
 pub record Moved (start at len room : ℕ) (from now to new : List Value) : Type 0 where
   pub start_le : start ≤ at
   pub at_le : at ≤ len

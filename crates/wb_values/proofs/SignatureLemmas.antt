@@ -1,4 +1,4 @@
--- How the signatures of entries read: at a place, with one entry more, and where a name stands first.
+-- How the signatures of entries read: at a place, with one entry more, and where a name occurs first.
 use Rattle.std.proofs.Common.{◌≡◌, ℕ, zero, suc, ◌<◌, ◌+◌, List, [], ◌∷◌, ◌++◌, length, take, All, get_or, refl, sym, ap, subst, ◌∙◌, arith}
 use Rattle.std.specs.Prelude.{Some, IfSome, Contains, slice_get}
 use Rattle.std.proofs.lemmas.List.{get_or-map, map-append, length-map, get_or-take, length-take-le, get_or_default, get_or_read, take_more}
@@ -32,7 +32,7 @@ pub at-entry : (names : List (List ℕ)) (es : List Entry) (view : List Signatur
 at-entry names es view i e P shown lt is p =
     subst (λ (xs : List Signature). IfSome (slice_get xs i) P) shown (rw (signature-at names es i e lt is) p)
 
--- more names behind change no signature whose name was there
+-- more names after the others change no signature whose name was there
 signatures-kept : (names more : List (List ℕ)) (es : List Entry) → ((k : ℕ) (text : List ℕ) → slice_get names k ≡ Some text → slice_get more k ≡ Some text) → All (λ (k : ℕ). k < length names) (name_numbers es) → signatures_of more es ≡ signatures_of names es
 signatures-kept names more [] kept below = refl
 signatures-kept names more (e ∷ es) kept below =

@@ -5,7 +5,7 @@ use Rattle.wb_base.specs.declared.symbol.Kind.{Kind}
 use Rattle.wb_values.specs.declared.value.Value.{Value}
 use Rattle.wb_values.specs.ValuesIn.{value_in, tree_in}
 use Rattle.wb_terms.specs.TreeOf.{IsOfKind}
-use Rattle.wb_terms.specs.Built.{IsBuiltValue}
+use Rattle.wb_terms.specs.Inner.Built.{IsBuiltValue}
 use Rattle.wb_terms.proofs.KindLemmas.{tree_kind}
 use Rattle.wb_terms.proofs.kinds.is_of_kind.Goals as goal
 

@@ -1,6 +1,6 @@
 use Rattle.std.proofs.Common.{◌<◌, length, arith, sym, refl}
 use Rattle.std.proofs.lemmas.Slice.Zip.{AllZip-long}
-use Rattle.wb_terms.specs.Built.{IsStored}
+use Rattle.wb_terms.specs.Inner.Built.{IsStored}
 use Rattle.wb_terms.proofs.KindLemmas.{child_tested, kinds_tested, kinds_untested}
 use Rattle.wb_terms.proofs.kinds.wrong_child.Goals as goal
 

@@ -1,9 +1,9 @@
 use Rattle.std.proofs.Common.{◌≡◌, List, map}
 use Rattle.std.specs.List.{AllZip}
 use Rattle.wb_terms.specs.Term.{Argument, place_of}
-use Rattle.wb_terms.specs.Nodes.{FindsLeast}
-use Rattle.wb_terms.specs.Built.{IsStored}
-use Rattle.wb_terms.specs.KindsFit.{FirstFit, IsWrongAmong}
+use Rattle.wb_terms.specs.Inner.Least.{FindsLeast}
+use Rattle.wb_terms.specs.Inner.Built.{IsStored}
+use Rattle.wb_terms.specs.Inner.KindsFit.{FirstFit, IsWrongAmong}
 use Rattle.wb_terms.proofs.kinds.wrong_child.Given as goal
 
 abbrev pub invariant-loop-index : goal.invariant-loop-index

@@ -1,8 +1,8 @@
 use Rattle.std.proofs.Common.{length, arith, sym, ◌∙◌, subst}
 use Rattle.std.proofs.lemmas.Slice.Zip.{AllZip-long}
-use Rattle.wb_terms.specs.Nodes.{FindsLeast}
+use Rattle.wb_terms.specs.Inner.Least.{FindsLeast}
 use Rattle.wb_terms.specs.TreeOf.{IsWrong}
-use Rattle.wb_terms.specs.Built.{IsStored, FitsIfKnown}
+use Rattle.wb_terms.specs.Inner.Built.{IsStored, FitsIfKnown}
 use Rattle.wb_terms.proofs.KindLemmas.{node_tested, signature_at, equal, unequal}
 use Rattle.wb_terms.proofs.kinds.wrong_in.Goals as goal
 

@@ -3,7 +3,7 @@ use Rattle.std.specs.Result.{OnOk}
 use Rattle.wb_values.specs.ValuesIn.{value_in, tree_in}
 use Rattle.wb_values.specs.declared.value.Value.{Value}
 use Rattle.wb_terms.specs.Printed.{printed_value}
-use Rattle.wb_terms.specs.Pending.{pending_text}
+use Rattle.wb_terms.specs.Inner.Pending.{pending_text}
 use Rattle.wb_terms.proofs.PendingLemmas.{tree_begun}
 use Rattle.wb_terms.proofs.print.begin_value.Goals as goal
 

@@ -1,5 +1,5 @@
 use Rattle.std.proofs.Common.{◌∙◌, sym, subst}
-use Rattle.wb_terms.specs.TermReading.{IsTermReading}
+use Rattle.wb_terms.specs.Inner.TermReading.{IsTermReading}
 use Rattle.wb_terms.proofs.ReadLemmas.{tree_answer, fault_answer}
 use Rattle.wb_terms.proofs.read.add_term.Goals as goal
 

@@ -1,7 +1,7 @@
 use Rattle.std.proofs.Common.{[], List, reverse, take, sym, ap, ◌∙◌, subst, append-nil}
 use Rattle.std.proofs.lemmas.List.{take_all}
 use Rattle.wb_terms.specs.declared.event.Event.{Event}
-use Rattle.wb_terms.specs.Holding.{Holds}
+use Rattle.wb_terms.specs.Inner.Holding.{Holds}
 use Rattle.wb_terms.proofs.ReadLemmas.{met_more, found_tree, found_fault, trees_more}
 use Rattle.wb_terms.proofs.read.tree_of.Goals as goal
 

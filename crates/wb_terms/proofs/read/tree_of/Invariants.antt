@@ -1,6 +1,6 @@
 use Rattle.std.proofs.Common.{◌≡◌, List, ◌++◌, reverse, take}
 use Rattle.wb_values.specs.Tree.{Tree}
-use Rattle.wb_terms.specs.Holding.{Holds}
+use Rattle.wb_terms.specs.Inner.Holding.{Holds}
 use Rattle.wb_terms.proofs.read.tree_of.Given as goal
 
 abbrev pub invariant-loop-event : goal.invariant-loop-event

@@ -1,5 +1,5 @@
 use Rattle.std.proofs.Common.{refl, subst, ◌∙◌}
-use Rattle.wb_terms.specs.Built.{IsNumberOf}
+use Rattle.wb_terms.specs.Inner.Built.{IsNumberOf}
 use Rattle.wb_terms.proofs.BeginLemmas.{begun}
 use Rattle.wb_terms.proofs.builder.Builder.begin.Goals as goal
 

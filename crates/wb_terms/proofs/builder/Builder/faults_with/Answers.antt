@@ -1,7 +1,7 @@
 use Rattle.std.proofs.Common.{List, drop, sym, ap, ◌∙◌, subst}
 use Rattle.std.specs.List.{AllZip}
 use Rattle.wb_values.specs.declared.value.Value.{Value}
-use Rattle.wb_terms.specs.Built.{IsStored}
+use Rattle.wb_terms.specs.Inner.Built.{IsStored}
 use Rattle.wb_terms.proofs.EndLemmas.{to_end}
 use Rattle.wb_terms.proofs.builder.Builder.faults_with.Goals as goal
 

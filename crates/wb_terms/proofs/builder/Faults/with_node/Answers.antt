@@ -1,6 +1,6 @@
 use Rattle.std.proofs.Common.{sym, subst, Option, ℕ}
 use Rattle.wb_terms.specs.declared.event.Event.TheVariants.{End}
-use Rattle.wb_terms.specs.Built.{FindsUnknown, FindsWrong}
+use Rattle.wb_terms.specs.Inner.Built.{FindsUnknown, FindsWrong}
 use Rattle.std.proofs.Common.{◌∷◌}
 use Rattle.wb_terms.proofs.HoldLemmas.{unknown_ended, wrong_ended}
 use Rattle.wb_terms.proofs.builder.Faults.with_node.Goals as goal

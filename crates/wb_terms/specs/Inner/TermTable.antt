@@ -13,7 +13,7 @@ use Rattle.wb_terms.specs.declared.event.Event.{Event}
 use Rattle.wb_terms.specs.declared.rules.Kind.{Kind}
 use Rattle.wb_terms.specs.declared.rules.Part.{Part}
 use Rattle.wb_terms.specs.declared.rules.Action.{Action}
-use Rattle.wb_terms.specs.Events.{shift, act}
+use Rattle.wb_terms.specs.Inner.Events.{shift, act}
 
 -- the kind of a punctuation mark
 abbrev pub mark_kind : Punctuation → Kind

@@ -5,7 +5,7 @@ use Rattle.wb_predictive.specs.declared.reading.Outcome.TheVariants.{Whole, Stop
 use Rattle.wb_terms.specs.declared.event.Event.{Event}
 use Rattle.wb_terms.specs.Term.{Term}
 use Rattle.wb_terms.specs.TermText.{IsTermText, IsFirstFault}
-use Rattle.wb_terms.specs.Events.{term_onto}
+use Rattle.wb_terms.specs.Inner.Events.{term_onto}
 
 -- the bytes are a term, and this is what is met in it; or they first go wrong there
 abbrev pub IsTermReading : List ℕ → Outcome (List Event) → Type 0

@@ -12,9 +12,9 @@ use Rattle.wb_terms.specs.declared.refusal.TermRefusal.TheVariants.{Bad, Unknown
 use Rattle.wb_terms.specs.Term.{Term, place_of}
 use Rattle.wb_terms.specs.Nodes.{SomeNode, EachNode, IsLeast}
 use Rattle.wb_terms.specs.TreeOf.{HasFirst, IsUnknown, IsWrong}
-use Rattle.wb_terms.specs.Events.{term_onto}
-use Rattle.wb_terms.specs.Zipper.{Zipper, outside, inside, zipper, all_met}
-use Rattle.wb_terms.specs.Built.{IsNumberOf, IsStored, FindsUnknown, FindsWrong}
+use Rattle.wb_terms.specs.Inner.Events.{term_onto}
+use Rattle.wb_terms.specs.Inner.Zipper.{Zipper, outside, inside, zipper, all_met}
+use Rattle.wb_terms.specs.Inner.Built.{IsNumberOf, IsStored, FindsUnknown, FindsWrong}
 
 -- the frames are those of the nodes that were begun, the innermost first
 abbrev pub AreFrames : List Signature → Zipper → List Frame → Type 0

@@ -6,7 +6,7 @@ use Rattle.wb_values.specs.ValuesIn.{values_in, IsIn}
 use Rattle.wb_terms.specs.declared.print.Pending.{Pending}
 use Rattle.wb_terms.specs.Printed.{printed_children, printed_others}
 
--- what stands before a child: nothing before the first one
+-- what comes before a child: nothing before the first one
 abbrev pub before : Bool → List ℕ
 before true = []
 before false = 44 ∷ 32 ∷ []

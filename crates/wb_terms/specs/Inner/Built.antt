@@ -8,9 +8,9 @@ use Rattle.wb_values.specs.ValuesIn.{value_in, IsIn}
 use Rattle.wb_values.specs.declared.value.Value.{Value}
 use Rattle.wb_terms.specs.declared.event.Event.{Event}
 use Rattle.wb_terms.specs.Term.{Term, Argument, Arguments, named, plain, term, empty, more}
-use Rattle.wb_terms.specs.Nodes.{FindsLeast}
+use Rattle.wb_terms.specs.Inner.Least.{FindsLeast}
 use Rattle.wb_terms.specs.TreeOf.{HasFirst, IsOfKind, IsUnknown, IsWrong}
-use Rattle.wb_terms.specs.Zipper.{SomeEnded, EachEnded}
+use Rattle.wb_terms.specs.Inner.Zipper.{SomeEnded, EachEnded}
 
 -- the number stands for the name: that of its first production, or the count of the signatures where it has none
 abbrev pub IsNumberOf : List Signature → List ℕ → ℕ → Type 0

@@ -10,8 +10,8 @@ use Rattle.wb_tokens.specs.declared.punctuation.Punctuation.TheVariants as p
 use Rattle.wb_tokens.specs.declared.word.Word.TheVariants as w
 use Rattle.wb_terms.specs.declared.rules.Kind.{Kind}
 use Rattle.wb_terms.specs.declared.rules.Part.{Part}
-use Rattle.wb_terms.specs.TermTable.{kind_of, term_rights}
-use Rattle.wb_terms.specs.TermEntries.{term_entries}
+use Rattle.wb_terms.specs.Inner.TermTable.{kind_of, term_rights}
+use Rattle.wb_terms.specs.Inner.TermEntries.{term_entries}
 
 -- one token of lookahead decides
 pub term_decided : (n : Part) → is_decided (sameb the_type) Kind.End term_entries term_rights n ≡ true

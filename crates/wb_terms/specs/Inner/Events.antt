@@ -58,7 +58,7 @@ plain_onto (int z) place v = Int z place ∷ v
 plain_onto (bool b) place v = Bool b place ∷ v
 plain_onto (text s) place v = Text s place ∷ v
 
--- what is met in a term, behind what was met before
+-- what is met in a term, after what was met before
 abbrev mutual
   pub term_onto : Term → List Event → List Event
   term_onto (named name place arguments) v = End ∷ arguments_onto arguments (Begin name place ∷ v)

@@ -1,0 +1,14 @@
+-- What loops and private functions keep, and how the table of terms is laid out.
+pub mod Built
+pub mod Capped
+pub mod Events
+pub mod Holding
+pub mod KindsFit
+pub mod Least
+pub mod Noted
+pub mod Pending
+pub mod TermEntries
+pub mod TermLaws
+pub mod TermReading
+pub mod TermTable
+pub mod Zipper
