@@ -3,38 +3,45 @@ use Rattle.std.proofs.Common.{◌≡◌, ◌<◌, ◌-◌, ◌++◌, ◌∷◌, 
 use Rattle.std.specs.List.{sum}
 use Rattle.std.proofs.lemmas.Option.{slice_get_within, same_Some}
 use Rattle.wb_graph.specs.Graphs.{Edge, IsEdge}
-use Rattle.wb_graph.specs.Search.{State, IsSearch, KeepsMet, Advances, ClosesPath}
-use Rattle.wb_graph.specs.Taking.{IsLinked, Takes}
+use Rattle.wb_graph.specs.Inner.Search.{State, IsSearch, KeepsMet, Advances, ClosesPath}
+use Rattle.wb_graph.specs.Inner.Taking.{IsLinked, Takes}
 use Rattle.wb_graph.specs.declared.search.Colour.TheVariants.{White, Grey, Black}
-use Rattle.wb_graph.proofs.Places.{at_last, at_set_same}
+use Rattle.wb_lemmas.proofs.Places.{push_last}
+use Rattle.wb_graph.proofs.Places.{at_set_same}
 use Rattle.wb_graph.proofs.LeaveLemmas.{left}
 use Rattle.wb_graph.proofs.SearchLemmas.{before, retrailed, retaken, took, passed, entered, closes}
 
 module _ (edges : List Edge) (s : State) (firsts links : List ℕ) (linked : IsLinked edges firsts links) (h : IsSearch edges s.path s) where
   -- no edge of the last vertex is left
-  pub finishes : (new : State) (front : List ℕ) (v : ℕ) → firsts ≡ s.firsts → get_or s.firsts v 0 ≡ 0 → s.path ≡ front ++ v ∷ [] → new ≡ record s { firsts = firsts; links = links; colours = set s.colours v Black; path = front; finished = s.finished ++ v ∷ [] } → Advances edges s new
+  pub finishes : (new : State) (front : List ℕ) (v : ℕ) → firsts ≡ s.firsts → get_or s.firsts v 0 ≡ 0 → s.path ≡ front ++ v ∷ [] →
+      new ≡ record s { firsts = firsts; links = links; colours = set s.colours v Black; path = front; finished = s.finished ++ v ∷ [] } →
+      Advances edges s new
   finishes new front v same all e is =
       let kept = retaken edges s firsts links s.path linked same h in
-      let at_end = subst (λ path. slice_get path (length front) ≡ Some v) (sym e) (at_last front v) in
+      let at_end = subst (λ path. slice_get path (length front) ≡ Some v) (sym e) (push_last front v) in
       subst (λ n. Advances edges s n) (sym is) (record {
         search = left edges (record s { firsts = firsts; links = links }) front v e (ap (λ xs. get_or xs v 0) same ∙ all) kept;
         keeps = record {
           len = length-set s.colours v Black;
-          met = λ u white. before s.colours v u Black White (slice_get_within s.colours v Grey (h.on_path.grey v (length front) at_end)) (λ b. cc) white;
+          met = λ u white. before s.colours v u Black White (slice_get_within s.colours v Grey (h.on_path.grey v (length front) at_end))
+              (λ b. cc) white;
         };
         fewer = omega (arith, ap sum same, ap length e, length-append front (v ∷ []));
       })
 
-  module _ (u v : ℕ) (len : length firsts ≡ length s.firsts) (last : slice_get s.path (length s.path - 1) ≡ Some u) (takes : Takes edges s.firsts firsts u v) where
+  module _ (u v : ℕ) (len : length firsts ≡ length s.firsts) (last : slice_get s.path (length s.path - 1) ≡ Some u)
+      (takes : Takes edges s.firsts firsts u v) where
     -- the edge leads from the last vertex
     leads : (t : ℕ) → slice_get s.path (length s.path - 1) ≡ Some t → IsEdge edges t v
     leads t at = subst (λ x. IsEdge edges x v) (same_Some u t (sym last ∙ at)) takes.edge
 
     -- it leads to a vertex that wasn't met
-    pub goes_on : (new : State) → slice_get s.colours v ≡ Some White → new ≡ record s { firsts = firsts; links = links; colours = set s.colours v Grey; path = s.path ++ v ∷ [] } → Advances edges s new
+    pub goes_on : (new : State) → slice_get s.colours v ≡ Some White →
+        new ≡ record s { firsts = firsts; links = links; colours = set s.colours v Grey; path = s.path ++ v ∷ [] } → Advances edges s new
     goes_on new white is =
         subst (λ n. Advances edges s n) (sym is) (record {
-          search = entered edges (record s { firsts = firsts; links = links }) v white leads (took edges s firsts links u v linked len last takes h);
+          search = entered edges (record s { firsts = firsts; links = links }) v white leads
+              (took edges s firsts links u v linked len last takes h);
           keeps = record {
             len = length-set s.colours v Grey;
             met = λ t white'. before s.colours v t Grey White (slice_get_within s.colours v White white) (λ b. cc) white';
@@ -55,11 +62,14 @@ module _ (edges : List Edge) (s : State) (firsts links : List ℕ) (linked : IsL
     meets grey = closes edges s s.path v grey leads h
 
 -- a search of a root that wasn't met begins with the root on the path
-pub begins : (edges : List Edge) (s new : State) (v : ℕ) → s.path ≡ [] → IsSearch edges [] s → slice_get s.colours v ≡ Some White → new ≡ record s { colours = set s.colours v Grey; path = s.path ++ v ∷ [] } → IsSearch edges new.path new × KeepsMet s new × (¬ (slice_get new.colours v ≡ Some White))
+pub begins : (edges : List Edge) (s new : State) (v : ℕ) → s.path ≡ [] → IsSearch edges [] s → slice_get s.colours v ≡ Some White →
+    new ≡ record s { colours = set s.colours v Grey; path = s.path ++ v ∷ [] } → IsSearch edges new.path new × KeepsMet s new ×
+    (¬ (slice_get new.colours v ≡ Some White))
 begins edges s new v empty h white is =
     let within : v < length s.colours = slice_get_within s.colours v White white in
     subst (λ (n : State). IsSearch edges n.path n × KeepsMet s n × (¬ (slice_get n.colours v ≡ Some White))) (sym is) (
-      entered edges s v white (λ u at. nowhere u (subst (λ path. slice_get path (length path - 1) ≡ Some u) empty at)) (retrailed edges s [] (s.path ++ v ∷ []) empty h),
+      entered edges s v white (λ u at. nowhere u (subst (λ path. slice_get path (length path - 1) ≡ Some u) empty at))
+          (retrailed edges s [] (s.path ++ v ∷ []) empty h),
       record {
         len = length-set s.colours v Grey;
         met = λ u at. before s.colours v u Grey White within (λ b. cc) at;

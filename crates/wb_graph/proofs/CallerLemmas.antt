@@ -4,7 +4,7 @@ use Rattle.std.proofs.lemmas.Option.{slice_get_within, slice_get-get_or}
 use Rattle.wb_graph.specs.Graphs.{Edge, IsEdge, IsEdgeBelow, Walk, IsReached}
 use Rattle.wb_graph.specs.Graphs.Walk.{stay, step}
 use Rattle.wb_graph.specs.Orders.{IsOrder, IsCycle}
-use Rattle.wb_graph.proofs.Places.{place_of}
+use Rattle.wb_lemmas.proofs.Members.{place_of}
 use Rattle.wb_graph.proofs.TakingLemmas.{edge_below}
 
 -- two walks, the one behind the other, are a walk
@@ -20,13 +20,15 @@ reached_on edges from u v h edge = record { start = h.start; is_start = h.is_sta
 pub reached_start : (edges : List Edge) (from : List ℕ) (v : ℕ) → Contains from v → IsReached edges from v
 reached_start edges from v there = record { start = v; is_start = there; walk = stay v refl }
 
-module _ (count : ℕ) (edges : List Edge) (order cycle : List ℕ) (below : All (IsEdgeBelow count) edges) (h : IsOrder count edges order) (c : IsCycle edges cycle) where
+module _ (count : ℕ) (edges : List Edge) (order cycle : List ℕ) (below : All (IsEdgeBelow count) edges) (h : IsOrder count edges order)
+    (c : IsCycle edges cycle) where
   -- the place of a vertex that an edge leaves
   place_in : (u v : ℕ) → IsEdge edges u v → (i : ℕ) × (slice_get order i ≡ Some u)
   place_in u v edge = place_of order u (h.every u (edge_below count edges u v below edge).0)
 
   -- along a cycle the places in an order go down
-  falls : (k first v i j : ℕ) → slice_get cycle 0 ≡ Some first → slice_get order j ≡ Some first → slice_get cycle k ≡ Some v → slice_get order i ≡ Some v → i + k ≤ j
+  falls : (k first v i j : ℕ) → slice_get cycle 0 ≡ Some first → slice_get order j ≡ Some first → slice_get cycle k ≡ Some v →
+      slice_get order i ≡ Some v → i + k ≤ j
   falls zero first v i j begin at_first here at =
       let same : i ≡ j = h.once first i j (at ∙ sym here ∙ begin) at_first in
       omega arith

@@ -1,8 +1,13 @@
 mod AdvanceLemmas
 pub mod CallerLemmas
+mod ClosingLemmas
+mod ComponentLemmas
+mod GroupLemmas
 mod LeaveLemmas
+mod MarkLemmas
 mod OrderLemmas
 mod Places
 mod SearchLemmas
-mod SpreadLemmas
+mod StepLemmas
 mod TakingLemmas
+mod WorklistLemmas

@@ -14,26 +14,6 @@ read_last xs n x len some e =
     slice_get_read xs (length xs) (length xs - 1) x refl within (subst (λ k. x ≡ get_or xs (k - 1) x) len e)
 
 module _ {X : Type 0} where
-  -- an element that stands at a place is contained
-  pub contained : (xs : List X) (x : X) (i : ℕ) → slice_get xs i ≡ Some x → Contains xs x
-  contained xs x i at = (i, slice_get_within xs i x at, get_or_from_slice_get xs i x x at)
-
-  -- and the other way round
-  pub place_of : (xs : List X) (x : X) → Contains xs x → (i : ℕ) × (slice_get xs i ≡ Some x)
-  place_of xs x there = (there.0, slice_get-get_or xs there.0 x there.1 ∙ ap Some there.2)
-
-  -- an element of a list with one more at its end
-  pub at_push : (xs : List X) (x y : X) (i : ℕ) → slice_get (xs ++ x ∷ []) i ≡ Some y → (slice_get xs i ≡ Some y) ⊎ ((i ≡ length xs) × (x ≡ y))
-  at_push xs x y i at = grind (arith, gets, common_steps)
-
-  -- the elements before the last stay
-  pub at_before : (xs : List X) (x y : X) (i : ℕ) → slice_get xs i ≡ Some y → slice_get (xs ++ x ∷ []) i ≡ Some y
-  at_before xs x y i at = grind (arith, gets, common_steps)
-
-  -- the last
-  pub at_last : (xs : List X) (x : X) → slice_get (xs ++ x ∷ []) (length xs) ≡ Some x
-  at_last xs x = grind (arith, gets, common_steps)
-
   -- an element after a write to its place
   pub at_set_same : (xs : List X) (i : ℕ) (x : X) → i < length xs → slice_get (set xs i x) i ≡ Some x
   at_set_same xs i x within = grind (arith, gets, common_steps)

@@ -9,8 +9,8 @@ use Rattle.std.proofs.lemmas.List.Elements.{All-get_or}
 use Rattle.std.proofs.lemmas.List.Sums.{sum_by-set}
 use Rattle.std.proofs.lemmas.Option.{slice_get_within, get_or_from_slice_get, same_Some}
 use Rattle.wb_graph.specs.Graphs.{Edge, IsEdge, IsEdgeBelow}
-use Rattle.wb_graph.proofs.Places.{contained}
-use Rattle.wb_graph.specs.Taking.{IsLast, IsLinked, NothingTaken, Takes}
+use Rattle.wb_lemmas.proofs.Members.{contains_at}
+use Rattle.wb_graph.specs.Inner.Taking.{IsLast, IsLinked, NothingTaken, Takes}
 
 -- an edge's vertices are below the count
 pub edge_below : (count : ℕ) (edges : List Edge) (u v : ℕ) → All (IsEdgeBelow count) edges → IsEdge edges u v → IsEdgeBelow count (u, v)
@@ -23,12 +23,14 @@ same_edge edges u v t w j at at' =
     (ap (λ (p : Edge). p.0) e, ap (λ (p : Edge). p.1) e)
 
 -- a chain's first edge is in the list
-pub first_within : (edges : List Edge) (firsts links : List ℕ) (u : ℕ) → IsLinked edges firsts links → 0 < get_or firsts u 0 → get_or firsts u 0 - 1 < length edges
+pub first_within : (edges : List Edge) (firsts links : List ℕ) (u : ℕ) → IsLinked edges firsts links → 0 < get_or firsts u 0 →
+    get_or firsts u 0 - 1 < length edges
 first_within edges firsts links u h some =
     let (v, at) = h.leaves u (get_or firsts u 0 - 1) (omega arith) in slice_get_within edges (get_or firsts u 0 - 1) (u, v) at
 
 -- the first edge of u's chain is taken: the chain then begins at the place that the edge is linked to
-module _ (edges : List Edge) (firsts links : List ℕ) (u number place : ℕ) (h : IsLinked edges firsts links) (within : u < length firsts) (first : get_or firsts u 0 ≡ number + 1) (link : place ≡ get_or links number 0) where
+module _ (edges : List Edge) (firsts links : List ℕ) (u number place : ℕ) (h : IsLinked edges firsts links) (within : u < length firsts)
+    (first : get_or firsts u 0 ≡ number + 1) (link : place ≡ get_or links number 0) where
   first_edge : (v : ℕ) × (slice_get edges number ≡ Some (u, v))
   first_edge = h.leaves u number first
 
@@ -57,7 +59,7 @@ module _ (edges : List Edge) (firsts links : List ℕ) (u number place : ℕ) (h
       let (v, at) = first_edge in
       let e : (u, v) ≡ get_or edges number (0, 0) = sym (get_or_from_slice_get edges number (u, v) (0, 0) at) in
       subst (λ (edge : Edge). Takes edges firsts (set firsts u place) u edge.1) e (record {
-        edge = contained edges (u, v) number at;
+        edge = contains_at edges (u, v) number at;
         fewer = omega (arith, sum_by-set (λ x. x) firsts u place 0 within, before.within);
         here = λ w (k, low, at'). elim (cases_lt k number) [
           | inl less ↦ absurd (before.others k w (subst (λ x. x ≤ k) begins low) less at')
@@ -77,7 +79,9 @@ pub record IsBuilt (count : ℕ) (edges : List Edge) (number : ℕ) (firsts link
   pub links_last : (u v j : ℕ) → j < number → slice_get edges j ≡ Some (u, v) → IsLast edges u j (get_or links j 0)
 
 -- one more edge begins its vertex' chain, and is linked to what began it
-pub built_more : (count : ℕ) (edges : List Edge) (number : ℕ) (firsts links : List ℕ) (edge : Edge) → IsBuilt count edges number firsts links → edge.0 < count → slice_get edges number ≡ Some edge → IsBuilt count edges (number + 1) (set firsts edge.0 (number + 1)) (links ++ get_or firsts edge.0 0 ∷ [])
+pub built_more : (count : ℕ) (edges : List Edge) (number : ℕ) (firsts links : List ℕ) (edge : Edge) →
+    IsBuilt count edges number firsts links → edge.0 < count → slice_get edges number ≡ Some edge →
+    IsBuilt count edges (number + 1) (set firsts edge.0 (number + 1)) (links ++ get_or firsts edge.0 0 ∷ [])
 built_more count edges number firsts links (u, v) h within at = record {
   firsts_len = length-set firsts u (number + 1) ∙ h.firsts_len;
   links_len = grind (arith, common_steps, h.links_len);
@@ -101,7 +105,9 @@ built_more count edges number firsts links (u, v) h within at = record {
   links_last = λ t w j less at'. elim (cases_eq j number) [
     | inl same ↦
         let is : t ≡ u = (same_edge edges t w u v number (subst (λ x. slice_get edges x ≡ Some (t, w)) same at') at).0 in
-        let e : get_or (links ++ get_or firsts u 0 ∷ []) number 0 ≡ get_or firsts u 0 = subst (λ n. get_or (links ++ get_or firsts u 0 ∷ []) n 0 ≡ get_or firsts u 0) h.links_len (get_or-append_seam links (get_or firsts u 0) [] 0) in
+        let e : get_or (links ++ get_or firsts u 0 ∷ []) number 0 ≡ get_or firsts u 0 = subst
+        (λ n. get_or (links ++ get_or firsts u 0 ∷ []) n 0 ≡ get_or firsts u 0) h.links_len
+        (get_or-append_seam links (get_or firsts u 0) [] 0) in
         rw (same, e, is) (h.firsts_last u within)
     | inr early ↦
         let lt : j < length links = omega (arith, h.links_len) in
@@ -110,7 +116,8 @@ built_more count edges number firsts links (u, v) h within at = record {
 }
 
 -- with every edge in a chain, none is taken
-pub built_linked : (count : ℕ) (edges : List Edge) (firsts links : List ℕ) → IsBuilt count edges (length edges) firsts links → IsLinked edges firsts links
+pub built_linked : (count : ℕ) (edges : List Edge) (firsts links : List ℕ) → IsBuilt count edges (length edges) firsts links →
+    IsLinked edges firsts links
 built_linked count edges firsts links h = record {
   len = h.links_len;
   leaves = λ u j e. elim (cases_lt u count) [
@@ -121,7 +128,8 @@ built_linked count edges firsts links h = record {
 }
 
 -- and so nothing is taken
-pub built_nothing : (count : ℕ) (edges : List Edge) (firsts links : List ℕ) → All (IsEdgeBelow count) edges → IsBuilt count edges (length edges) firsts links → NothingTaken edges firsts
+pub built_nothing : (count : ℕ) (edges : List Edge) (firsts links : List ℕ) → All (IsEdgeBelow count) edges →
+    IsBuilt count edges (length edges) firsts links → NothingTaken edges firsts
 built_nothing count edges firsts links all h u v (j, low, at) =
-    let below = edge_below count edges u v all (contained edges (u, v) j at) in
+    let below = edge_below count edges u v all (contains_at edges (u, v) j at) in
     (h.firsts_last u below.0).others j v low (slice_get_within edges j (u, v) at) at

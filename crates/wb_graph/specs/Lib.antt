@@ -1,5 +1,7 @@
+-- graphs, walks, and what they reach
 pub mod Graphs
+-- topological orders and cycles
 pub mod Orders
-pub mod Search
-pub mod Spread
-pub mod Taking
+-- strongly connected components
+pub mod Components
+pub mod Inner

@@ -11,7 +11,7 @@ use std::alloc::{AllocError, Global};
 #[derive(Debug, Drop)]
 pub enum Order {
     /// Every vertex once, each behind the ends of its edges.
-    Order(Vec<usize>),
+    Sorted(Vec<usize>),
     /// The vertices of a cycle: an edge leads from each to the next, and from the last to the first.
     Cycle(Vec<usize>),
 }
@@ -30,7 +30,7 @@ pub fn order_of(alloc: Global, count: usize, edges: &[(usize, usize)]) -> Result
             return Ok(Order::Cycle(cycle_from(alloc, &search.path, vertex)?));
         }
     }
-    Ok(Order::Order(search.finished))
+    Ok(Order::Sorted(search.finished))
 }
 
 // The path from the vertex on.

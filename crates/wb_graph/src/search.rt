@@ -2,9 +2,9 @@
 
 ghost use Rattle.std.specs.Prelude.{◌≡◌, ◌<◌, ◌-◌, ◌++◌, ◌∷◌, ℕ, [], All, Contains, length, slice_get, slice_set, IfOk, IfSome, IfNone, OnOk};
 ghost use Rattle.wb_graph.specs.Graphs.{IsEdgeBelow};
-ghost use Rattle.wb_graph.specs.Search.{state_of, IsSearch, Advances, Visits, ClosesPath};
+ghost use Rattle.wb_graph.specs.Inner.Search.{state_of, IsSearch, Advances, Visits, ClosesPath};
 
-use crate::untaken::Untaken;
+use crate::edge_lists::EdgeLists;
 use std::alloc::{AllocError, Global};
 
 /// How far a search has come with a vertex: not met, on the path, or finished.
@@ -18,7 +18,7 @@ pub(crate) enum Colour {
 /// A search that has finished some vertices and stands at the last vertex of its path.
 #[derive(Drop)]
 pub(crate) struct Search {
-    untaken: Untaken,
+    untaken: EdgeLists,
     colours: Vec<Colour>,
     pub(crate) path: Vec<usize>,
     pub(crate) finished: Vec<usize>,
@@ -37,7 +37,7 @@ impl Search {
         ensures path { IfOk result (λ made. made.path.items ≡ []) }
     {
         Ok(Search {
-            untaken: Untaken::new(alloc, count, edges)?,
+            untaken: EdgeLists::new(alloc, count, edges)?,
             colours: vec![in alloc; Colour::White; count]?,
             path: Vec::new(alloc),
             finished: Vec::new(alloc),

@@ -1,8 +1,8 @@
 use Rattle.std.proofs.Common.{◌≡◌, ◌∙◌, [], Some, drop, slice_get, ap, sym, subst, arith}
-use Rattle.wb_graph.specs.Orders.{IsOrder, IsCycle}
-use Rattle.wb_graph.specs.Search.{state_of, ClosesPath}
+use Rattle.wb_graph.specs.Orders.{IsOrder, IsSimpleCycle}
+use Rattle.wb_graph.specs.Inner.Search.{state_of, ClosesPath}
 use Rattle.wb_graph.proofs.CallerLemmas.{order_excludes_cycle}
-use Rattle.wb_graph.proofs.OrderLemmas.{closed_cycle, searched_order}
+use Rattle.wb_graph.proofs.OrderLemmas.{closed_cycle, simple_cycle, searched_order}
 use Rattle.wb_graph.proofs.order.order_of.Goals as goal
 
 pub returns-in-Some-clause-ok : goal.returns-in-Some-clause-ok
@@ -11,22 +11,26 @@ returns-in-Some-clause-ok c =
     let closes : ClosesPath c.args.edges.now path c.in-Some.vertex = rw c.in-Some.is at c.in_ok-vertex.ensures.met in
     let (i, at, is) = c.in_ok-cycle_from.ensures in
     let here = subst (λ xs. slice_get xs i ≡ Some c.in-Some.vertex) c.deref.ensures.value at in
-    subst (IsCycle c.args.edges.now) (sym (is ∙ ap (drop i) c.deref.ensures.value)) (closed_cycle c.args.edges.now path c.in-Some.vertex i closes here)
+    subst (IsSimpleCycle c.args.edges.now) (sym (is ∙ ap (drop i) c.deref.ensures.value))
+    (simple_cycle c.args.edges.now path c.in-Some.vertex i closes here)
 
 pub returns-in-Some-clause-exact : goal.returns-in-Some-clause-exact
 returns-in-Some-clause-exact c list is_order =
     let path = c.visit.new.self.path.items in
     let closes : ClosesPath c.args.edges.now path c.in-Some.vertex = rw c.in-Some.is at c.in_ok-vertex.ensures.met in
     let (i, at) = closes.on_path in
-    order_excludes_cycle c.args.count c.args.edges.now list (drop i path) c.requires is_order (closed_cycle c.args.edges.now path c.in-Some.vertex i closes at)
+    order_excludes_cycle c.args.count c.args.edges.now list (drop i path) c.requires is_order
+    (closed_cycle c.args.edges.now path c.in-Some.vertex i closes at)
 
 pub returns-clause-ok : goal.returns-clause-ok
 returns-clause-ok c =
     let h = c.roots.invariant in
-    subst (λ n. IsOrder n c.args.edges.now c.roots.search.finished.items) h.len (searched_order c.args.edges.now [] (state_of c.roots.search) h.search h.path (λ v less. h.met v (omega (arith, h.len))))
+    subst (λ n. IsOrder n c.args.edges.now c.roots.search.finished.items) h.len
+    (searched_order c.args.edges.now [] (state_of c.roots.search) h.search h.path (λ v less. h.met v (omega (arith, h.len))))
 
 pub returns-clause-exact : goal.returns-clause-exact
 returns-clause-exact c list is_cycle =
     let h = c.roots.invariant in
-    let order = subst (λ n. IsOrder n c.args.edges.now c.roots.search.finished.items) h.len (searched_order c.args.edges.now [] (state_of c.roots.search) h.search h.path (λ v less. h.met v (omega (arith, h.len)))) in
+    let order = subst (λ n. IsOrder n c.args.edges.now c.roots.search.finished.items) h.len
+    (searched_order c.args.edges.now [] (state_of c.roots.search) h.search h.path (λ v less. h.met v (omega (arith, h.len)))) in
     order_excludes_cycle c.args.count c.args.edges.now c.roots.search.finished.items list c.requires order is_cycle

@@ -1,6 +1,6 @@
 use Rattle.std.proofs.Common.{◌≡◌, ◌+◌, ◌*◌, Some, length, slice_get}
 use Rattle.std.specs.List.{sum}
-use Rattle.wb_graph.specs.Search.{state_of, IsSearch, KeepsMet}
+use Rattle.wb_graph.specs.Inner.Search.{state_of, IsSearch, KeepsMet}
 use Rattle.wb_graph.specs.declared.search.Colour.TheVariants.{White}
 use Rattle.wb_graph.proofs.search.Search.visit.Given as goal
 

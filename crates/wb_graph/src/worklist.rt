@@ -1,0 +1,73 @@
+//! What walks reach, by edges that are taken one by one from the vertices that wait.
+
+ghost use Rattle.std.specs.Prelude.{◌≡◌, ◌<◌, All, length, slice_index_or, false, None, IfOk, OnOk};
+ghost use Rattle.wb_graph.specs.Graphs.{IsEdgeBelow, AreReached};
+ghost use Rattle.wb_graph.specs.Inner.Worklist.{worklist_of, marked, IsWorklist, AdvancesTo};
+
+use crate::edge_lists::EdgeLists;
+use std::alloc::{AllocError, Global};
+
+/// For each vertex from 0 to below the count, whether a walk of zero or more edges leads to it from a vertex of `from`.
+///
+/// A vertex may stand in `from` several times. The only error is want of memory.
+pub fn reachable_from(
+    alloc: Global,
+    count: usize,
+    edges: &[(usize, usize)],
+    from: &[usize],
+) -> Result<Vec<bool>, AllocError>
+    requires edges { All (IsEdgeBelow count) edges.now }
+    requires from { All (λ v. v < count) from.now }
+    ensures { IfOk result (λ flags. AreReached count edges.now from.now flags.items) }
+{
+    let mut worklist = Worklist {
+        untaken: EdgeLists::new(alloc, count, edges)?,
+        reached: vec![in alloc; false; count]?,
+        waiting: Vec::new(alloc),
+    };
+    'starts: for &start in from {
+        worklist.mark(start)?;
+    }
+    'steps: while !worklist.waiting.is_empty() {
+        worklist.advance(edges)?;
+    }
+    Ok(worklist.reached)
+}
+
+/// The vertices reached so far, and those of them of which edges may be left.
+#[derive(Drop)]
+struct Worklist {
+    untaken: EdgeLists,
+    reached: Vec<bool>,
+    waiting: Vec<usize>,
+}
+
+impl Worklist {
+    // Takes one edge of the vertex that waits last, or lets it wait no more.
+    fn advance(&mut self, edges: &[(usize, usize)]) -> Result<(), AllocError>
+        requires waiting { 0 < length self.old.waiting.items }
+        requires worklist { IsWorklist edges.now None (worklist_of self.old) }
+        ensures { OnOk result (AdvancesTo edges.now (worklist_of self.old) (worklist_of self.new)) }
+    {
+        let vertex = self.waiting[self.waiting.len() - 1];
+        if let Some(target) = self.untaken.take(edges, vertex) {
+            self.mark(target)?;
+            return Ok(());
+        }
+        self.waiting.pop();
+        Ok(())
+    }
+
+    // Reaches a vertex, which then waits if it is new.
+    fn mark(&mut self, vertex: usize) -> Result<(), AllocError>
+        requires { vertex < length self.old.reached.items }
+        ensures { OnOk result (worklist_of self.new ≡ marked (worklist_of self.old) vertex (slice_index_or self.old.reached.items vertex false)) }
+    {
+        if self.reached[vertex] {
+            return Ok(());
+        }
+        self.waiting.push(vertex)?;
+        self.reached[vertex] = true;
+        Ok(())
+    }
+}
