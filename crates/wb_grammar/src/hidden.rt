@@ -53,7 +53,7 @@ fn is_ordered(
 {
     let strict = strict_of(alloc, count, corners, hidden)?;
     match order_of(alloc, count, &strict)? {
-        Order::Order(_) => Ok(true),
+        Order::Sorted(_) => Ok(true),
         Order::Cycle(_) => Ok(false),
     }
 }

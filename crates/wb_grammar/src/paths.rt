@@ -6,7 +6,7 @@ ghost use Rattle.wb_grammar.specs.Paths.{IsPathTo, IsTrail, IsBackClosed};
 
 use std::alloc::{AllocError, Global};
 use wb_base::push;
-use wb_graph::reach;
+use wb_graph::reachable_from;
 
 // A path from a vertex to another, if there is one: both are in it, the one first and the other last.
 //
@@ -51,7 +51,7 @@ fn leads(
     ensures { IfOk result (λ leads. IsTrue leads ↔ IsReached edges.now (from ∷ []) to) }
 {
     let start = [from];
-    let reached = reach(alloc, count, edges, &start)?;
+    let reached = reachable_from(alloc, count, edges, &start)?;
     Ok(reached[to])
 }
 

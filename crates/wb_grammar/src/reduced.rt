@@ -12,7 +12,7 @@ use crate::part::Part;
 use crate::{GrammarRefusal, Reason};
 use std::alloc::{AllocError, Global};
 use wb_base::Grammar;
-use wb_graph::reach;
+use wb_graph::reachable_from;
 use wb_termset::TermSet;
 
 // Refuses a grammar that isn't reduced. The order lists productions; it changes the time alone.
@@ -47,7 +47,7 @@ fn unreachable_in(
 {
     let edges = edges(alloc, grammar, nullable, Part::Whole)?;
     let start = [grammar.start()];
-    let reached = reach(alloc, grammar.nonterminals(), &edges, &start)?;
+    let reached = reachable_from(alloc, grammar.nonterminals(), &edges, &start)?;
     Ok(first_unset(&reached))
 }
 

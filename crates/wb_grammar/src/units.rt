@@ -27,7 +27,7 @@ pub(crate) fn test_unit_cycles(
 {
     let edges = edges(alloc, grammar, nullable, Part::Alone)?;
     match order_of(alloc, grammar.nonterminals(), &edges)? {
-        Order::Order(_) => Ok(()),
+        Order::Sorted(_) => Ok(()),
         Order::Cycle(list) => Err(GrammarRefusal::UnitCycle(Sequence::from_vec(list))),
     }
 }

@@ -2,7 +2,7 @@
 
 ghost use Rattle.std.specs.Prelude.{◌↔◌, ℕ, All, IfOk, IfSome, IsNone, List};
 ghost use Rattle.wb_graph.specs.Graphs.{IsEdgeBelow};
-ghost use Rattle.wb_graph.specs.Orders.{IsCycle};
+ghost use Rattle.wb_graph.specs.Orders.{IsCycle, IsSimpleCycle};
 
 use std::alloc::{AllocError, Global};
 use wb_graph::{Order, order_of};
@@ -17,11 +17,11 @@ pub fn preference_cycle(
     preferences: &[(usize, usize)],
 ) -> Result<Option<Vec<usize>>, AllocError>
     requires { All (IsEdgeBelow count) preferences.now }
-    ensures cycle { IfOk result (λ found. IfSome found (λ cycle. IsCycle preferences.now cycle.items)) }
+    ensures cycle { IfOk result (λ found. IfSome found (λ cycle. IsSimpleCycle preferences.now cycle.items)) }
     ensures none { IfOk result (λ found. IsNone found ↔ ((cycle : List ℕ) → ¬ IsCycle preferences.now cycle)) }
 {
     match order_of(alloc, count, preferences)? {
-        Order::Order(_) => Ok(None),
+        Order::Sorted(_) => Ok(None),
         Order::Cycle(cycle) => Ok(Some(cycle)),
     }
 }
