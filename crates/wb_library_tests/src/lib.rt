@@ -8,6 +8,8 @@ mod automata;
 #[cfg(test)]
 mod base;
 #[cfg(test)]
+mod graph;
+#[cfg(test)]
 mod lexical;
 #[cfg(test)]
 mod regex;
