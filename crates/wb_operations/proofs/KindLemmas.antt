@@ -99,7 +99,7 @@ texts_give k given all (text x ∷ bool y ∷ ps) are = cc
 texts_give k given all (text x ∷ text y ∷ p ∷ ps) are = cc
 
 -- a choice gives a kind where both parts do
-chosen : (k : Kind) (b : Bool) (g h : Given) → GivesKind k g → GivesKind k h → GivesKind k (if b then g else h)
+pub chosen : (k : Kind) (b : Bool) (g h : Given) → GivesKind k g → GivesKind k h → GivesKind k (if b then g else h)
 chosen k true g h first second = first
 chosen k false g h first second = second
 

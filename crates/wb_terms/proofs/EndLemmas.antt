@@ -17,7 +17,7 @@ use Rattle.wb_terms.specs.Term.{Argument, named, term, place_of}
 use Rattle.wb_terms.specs.Inner.Zipper.{Zipper, outside, inside, with_argument, arguments_of, closed, zipper, all_met}
 use Rattle.wb_terms.specs.Inner.Built.{IsNumberOf, IsStored, FindsUnknown, FindsWrong}
 use Rattle.wb_terms.specs.Inner.Holding.{AreFrames, Holds, AddsValue}
-use Rattle.wb_terms.proofs.ZipLemmas.{zip_all}
+use Rattle.wb_lemmas.proofs.Zips.{zip_all}
 use Rattle.wb_terms.proofs.HoldLemmas.{Shape, shape_of, shape_closed, innermost_shape, start_within, places_long, unknown_outside, wrong_outside}
 
 -- the node of the last frame
@@ -60,10 +60,6 @@ all_within ss ts events b h = zip_all (IsStored ss ts) (IsIn (length ts)) (λ a 
 -- the sizes
 pub sizes : (ss : List Signature) (ts : List Tree) (events : List Event) (values : List Value) (places : List ℕ) (f : Frame) (fs : List Frame) (p : Popped ss ts events values places f fs) → (f.start + length p.met ≡ length values) × (length places ≡ length values)
 sizes ss ts events values places f fs p = (start_within ss ts p.name p.place p.met p.outer values places f (reverse fs) p.shape, places_long ss ts p.name p.place p.met p.outer values places f (reverse fs) p.shape)
-
--- the end of a slice
-pub to_end : {X : Type 0} (n : ℕ) (xs : List X) → take (length xs - n) (drop n xs) ≡ drop n xs
-to_end n xs = take_all (length xs - n) (drop n xs) (omega (arith, length-drop n xs))
 
 -- of all values the last so many
 pub last_from : (n count : ℕ) (xs : List Value) → n ≤ length xs → count ≡ length xs - n → (length xs - count) ≡ n

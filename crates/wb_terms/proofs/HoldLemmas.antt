@@ -20,11 +20,11 @@ use Rattle.wb_terms.specs.Term.{Argument, named, term, place_of}
 use Rattle.wb_terms.specs.Inner.Least.{FindsLeast}
 use Rattle.wb_terms.specs.TreeOf.{IsUnknown, IsWrong}
 use Rattle.wb_terms.specs.Inner.Zipper.{Zipper, outside, inside, with_argument, arguments_of, zipper, all_met, OfInnermost, SomeEnded, EachEnded}
-use Rattle.wb_terms.specs.Inner.Noted.{lesser}
+use Rattle.wb_terms.specs.Inner.Smallest.{smaller_of}
 use Rattle.wb_terms.specs.Inner.Built.{IsNumberOf, IsBuiltValue, AreBuilt, IsStored, IsKnown, FitsIfKnown, FindsUnknown, FindsWrong}
 use Rattle.wb_terms.specs.Inner.Holding.{AreFrames, Holds, AddsValue}
 use Rattle.wb_terms.proofs.LeastLemmas.{either, lesser_least, same_least}
-use Rattle.wb_terms.proofs.ZipLemmas.{zip_weaker, zip_front, zip_back}
+use Rattle.wb_lemmas.proofs.Zips.{zip_weaker, zip_front, zip_back}
 
 -- a value stands for the same among more trees
 value_stable : (ts r : List Tree) (x : Value) → IsIn (length ts) x → value_in (ts ++ r) x ≡ value_in ts x
@@ -153,15 +153,15 @@ module _ (ss : List Signature) (ts : List Tree) (name : List ℕ) (place : ℕ) 
 
 -- the faults once a node is ended
 pub unknown_ended : (ss : List Signature) (events : List Event) (name : List ℕ) (place : ℕ) (met : List Argument) (outer : Zipper) (found o : Option ℕ) → zipper events ≡ inside name place met outer
-    → FindsLeast (λ at. IsUnknown ss at name place met) (IsKnown ss name place met) found → FindsUnknown ss events o → FindsUnknown ss (e.End ∷ events) (lesser found o)
+    → FindsLeast (λ at. IsUnknown ss at name place met) (IsKnown ss name place met) found → FindsUnknown ss events o → FindsUnknown ss (e.End ∷ events) (smaller_of found o)
 unknown_ended ss events name place met outer found o is here before =
-    subst (λ z. FindsLeast (λ at. OfInnermost (IsUnknown ss at) z ⊥ ⊎ SomeEnded (IsUnknown ss at) events) (OfInnermost (IsKnown ss) z (Unit {0}) × EachEnded (IsKnown ss) events) (lesser found o)) (sym is)
+    subst (λ z. FindsLeast (λ at. OfInnermost (IsUnknown ss at) z ⊥ ⊎ SomeEnded (IsUnknown ss at) events) (OfInnermost (IsKnown ss) z (Unit {0}) × EachEnded (IsKnown ss) events) (smaller_of found o)) (sym is)
     (lesser_least (λ at. SomeEnded (IsUnknown ss at) events) (λ at. IsUnknown ss at name place met) (EachEnded (IsKnown ss) events) (IsKnown ss name place met) found o here before)
 
 pub wrong_ended : (ss : List Signature) (events : List Event) (name : List ℕ) (place : ℕ) (met : List Argument) (outer : Zipper) (found o : Option ℕ) → zipper events ≡ inside name place met outer
-    → FindsLeast (λ at. IsWrong ss at name place met) (FitsIfKnown ss name place met) found → FindsWrong ss events o → FindsWrong ss (e.End ∷ events) (lesser found o)
+    → FindsLeast (λ at. IsWrong ss at name place met) (FitsIfKnown ss name place met) found → FindsWrong ss events o → FindsWrong ss (e.End ∷ events) (smaller_of found o)
 wrong_ended ss events name place met outer found o is here before =
-    subst (λ z. FindsLeast (λ at. OfInnermost (IsWrong ss at) z ⊥ ⊎ SomeEnded (IsWrong ss at) events) (OfInnermost (FitsIfKnown ss) z (Unit {0}) × EachEnded (FitsIfKnown ss) events) (lesser found o)) (sym is)
+    subst (λ z. FindsLeast (λ at. OfInnermost (IsWrong ss at) z ⊥ ⊎ SomeEnded (IsWrong ss at) events) (OfInnermost (FitsIfKnown ss) z (Unit {0}) × EachEnded (FitsIfKnown ss) events) (smaller_of found o)) (sym is)
     (lesser_least (λ at. SomeEnded (IsWrong ss at) events) (λ at. IsWrong ss at name place met) (EachEnded (FitsIfKnown ss) events) (FitsIfKnown ss name place met) found o here before)
 
 -- nothing was begun, so nothing ends

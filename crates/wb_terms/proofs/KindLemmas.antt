@@ -1,6 +1,7 @@
 -- How the children of a node are tested, and what that says of it.
 use Rattle.std.proofs.Common.{◌≡◌, ◌≢◌, ◌+◌, ◌<◌, ◌≤◌, ◌⊎◌, ◌↔◌, inl, inr, ℕ, zero, suc, List, [], ◌∷◌, Option, Some, None, Bool, true, false, not, eqb, IsTrue, map, length, get_or, slice_get, IfSome, refl, sym, ap, ◌∙◌, subst, arith}
 use Rattle.std.specs.List.{AllZip}
+use Rattle.wb_lemmas.proofs.Zips.{beside}
 use Rattle.std.specs.Prelude.{min}
 use Rattle.std.proofs.lemmas.Option.{slice_get_read, slice_get_within, get_or_from_slice_get, slice_get-get_or}
 use Rattle.std.proofs.lemmas.List.{get_or-take, get_or-map, length-take-le}
@@ -13,7 +14,7 @@ use Rattle.wb_values.specs.Tree as v
 use Rattle.wb_values.specs.declared.value.Value.{Value as Stored}
 use Rattle.wb_terms.specs.Term.{Argument, named, plain, term, place_of}
 use Rattle.wb_terms.specs.Inner.Least.{FindsLeast}
-use Rattle.wb_terms.specs.Inner.Noted.{noted}
+use Rattle.wb_terms.specs.Inner.Smallest.{smallest_with}
 use Rattle.wb_terms.specs.TreeOf.{HasFirst, IsOfNonterminal, IsOfKind, IsWrong, IsWrongChild}
 use Rattle.wb_terms.specs.Inner.Built.{IsNumberOf, IsBuiltValue, IsStored, FitsIfKnown}
 use Rattle.wb_terms.specs.Inner.KindsFit.{IsOfLeft, FirstFit, KindsFit, IsWrongAmong}
@@ -97,7 +98,7 @@ module _ (signatures : List Signature) where
 
   -- one child more is tested
   pub kind_step : (arguments : List Argument) (kinds : List Kind) (i : ℕ) (a : Argument) (kind : Kind) (fits : Bool) (place : ℕ) (o : Option ℕ) → slice_get arguments i ≡ Some a → slice_get kinds i ≡ Some kind → (IsTrue fits ↔ IsOfKind signatures a kind) → place ≡ place_of a
-      → FindsLeast (IsWrongAmong signatures i arguments kinds) (FirstFit signatures i arguments kinds) o → FindsLeast (IsWrongAmong signatures (i + 1) arguments kinds) (FirstFit signatures (i + 1) arguments kinds) (noted (not fits) place o)
+      → FindsLeast (IsWrongAmong signatures i arguments kinds) (FirstFit signatures i arguments kinds) o → FindsLeast (IsWrongAmong signatures (i + 1) arguments kinds) (FirstFit signatures (i + 1) arguments kinds) (smallest_with (not fits) place o)
   kind_step arguments kinds i a kind fits place o there asked both at finds =
       noted_least (IsWrongAmong signatures i arguments kinds) (IsWrongAmong signatures (i + 1) arguments kinds) (FirstFit signatures i arguments kinds) (FirstFit signatures (i + 1) arguments kinds) (not fits) place o finds
       (λ fit counts j b l lt here want. fact fit (fitting fits counts) j b l (early_or j i lt) here want)
@@ -168,7 +169,7 @@ module _ (signatures : List Signature) where
   -- a node, by the test of its children and of their number
   pub node_tested : (name : List ℕ) (n at : ℕ) (arguments : List Argument) (kinds : List Kind) (differ : Bool) (s : Signature) (o : Option ℕ) → IsNumberOf signatures name n → slice_get signatures n ≡ Some s → kinds ≡ s.children
       → (differ ≡ false → length arguments ≡ length kinds) → (differ ≡ true → length arguments ≢ length kinds) → FindsLeast (IsWrongChild signatures arguments kinds) (KindsFit signatures arguments kinds) o
-      → FindsLeast (λ place. IsWrong signatures place name at arguments) (FitsIfKnown signatures name at arguments) (noted differ at o)
+      → FindsLeast (λ place. IsWrong signatures place name at arguments) (FitsIfKnown signatures name at arguments) (smallest_with differ at o)
   node_tested name n at arguments kinds differ s o number there same equal unequal finds =
       noted_least (IsWrongChild signatures arguments kinds) (λ place. IsWrong signatures place name at arguments) (KindsFit signatures arguments kinds) (FitsIfKnown signatures name at arguments) differ at o finds
       (λ fit counts f. subst (λ ks. AllZip (IsOfKind signatures) arguments ks) (kinds_of f) (fit_zip arguments kinds (equal counts) fit))
@@ -193,30 +194,17 @@ module _ (signatures : List Signature) where
       only place f (inl h) = inr (counted differ refl (λ e. h.0 (e ∙ ap length (kinds_of f))), omega (arith, h.1))
       only place f (inr w) = inl (subst (λ ks. IsWrongChild signatures arguments ks place) (sym (kinds_of f)) w)
 
--- what stands at a place of the first list, and that the two are related
-record At {A B : Type 0} (R : A → B → Type 0) (xs : List A) (y : B) (i : ℕ) : Type 0 where
-  pub other : A
-  pub there : slice_get xs i ≡ Some other
-  pub related : R other y
-
-zip_read : {A B : Type 0} (R : A → B → Type 0) (xs : List A) (ys : List B) (i : ℕ) (y : B) → AllZip R xs ys → slice_get ys i ≡ Some y → At R xs y i
-zip_read R [] [] i y all at = absurd (cc at)
-zip_read R [] (z ∷ ys) i y all at = absurd all
-zip_read R (x ∷ xs) [] i y all at = absurd all
-zip_read R (x ∷ xs) (z ∷ ys) zero y all at = record { other = x; there = refl; related = subst (λ w. R x w) (cc at) all.0 }
-zip_read R (x ∷ xs) (z ∷ ys) (suc i) y all at = let rest = zip_read R xs ys i y all.1 at in record { other = rest.other; there = rest.there; related = rest.related }
-
 -- one child more is tested, by what is read at its place
 pub child_tested : (signatures : List Signature) (trees : List Tree) (arguments : List Argument) (values : List Stored) (places : List ℕ) (kinds : List Kind) (i : ℕ) (x : Stored) (d : Kind) (place : ℕ) (fits : Bool) (o r : Option ℕ)
     → AllZip (IsStored signatures trees) arguments values → map place_of arguments ≡ places → i < length values → i < length kinds → x ≡ get_or values i x → place ≡ get_or places i 0
-    → ((a : Argument) → IsStored signatures trees a x → (IsTrue fits ↔ IsOfKind signatures a (get_or kinds i d))) → r ≡ noted (not fits) place o
+    → ((a : Argument) → IsStored signatures trees a x → (IsTrue fits ↔ IsOfKind signatures a (get_or kinds i d))) → r ≡ smallest_with (not fits) place o
     → FindsLeast (IsWrongAmong signatures i arguments kinds) (FirstFit signatures i arguments kinds) o → FindsLeast (IsWrongAmong signatures (i + 1) arguments kinds) (FirstFit signatures (i + 1) arguments kinds) r
 child_tested signatures trees arguments values places kinds i x d place fits o r zipped placed within asked is at both e finds =
-    let a = zip_read (IsStored signatures trees) arguments values i x zipped (slice_get_read values (length values) i x refl within is) in
-    let there : get_or (map place_of arguments) i 0 ≡ place_of a.other = get_or-map place_of arguments i a.other 0 (slice_get_within arguments i a.other a.there) ∙ ap place_of (get_or_from_slice_get arguments i a.other a.other a.there) in
+    let a = beside (IsStored signatures trees) arguments values i x zipped (slice_get_read values (length values) i x refl within is) in
+    let there : get_or (map place_of arguments) i 0 ≡ place_of a.other = get_or-map place_of arguments i a.other 0 (slice_get_within arguments i a.other a.at) ∙ ap place_of (get_or_from_slice_get arguments i a.other a.other a.at) in
     let here : place ≡ place_of a.other = at ∙ (ap (λ l. get_or l i 0) (sym placed) ∙ there) in
     subst (λ r. FindsLeast (IsWrongAmong signatures (i + 1) arguments kinds) (FirstFit signatures (i + 1) arguments kinds) r) (sym e)
-    (kind_step signatures arguments kinds i a.other (get_or kinds i d) fits place o a.there (slice_get-get_or kinds i d asked) (both a.other a.related) here finds)
+    (kind_step signatures arguments kinds i a.other (get_or kinds i d) fits place o a.at (slice_get-get_or kinds i d asked) (both a.other a.related) here finds)
 
 -- what is known of a signature that is there
 pub signature_at : (signatures : List Signature) (n : ℕ) (kinds : List Kind) → n < length signatures → IfSome (slice_get signatures n) (λ (s : Signature). kinds ≡ s.children) → (s : Signature) × (slice_get signatures n ≡ Some s) × (kinds ≡ s.children)
@@ -231,11 +219,3 @@ equal m n h = grind arith
 -- and two that differ aren't
 pub unequal : (m n : ℕ) → not (eqb m n) ≡ true → m ≢ n
 unequal m n h e = grind arith
-
--- what stands at one place of two lists is related
-pub zip_both_at : {A B : Type 0} (R : A → B → Type 0) (xs : List A) (ys : List B) (i : ℕ) (x : A) (y : B) → AllZip R xs ys → slice_get xs i ≡ Some x → slice_get ys i ≡ Some y → R x y
-zip_both_at R xs ys i x y all at there =
-    let a = zip_read R xs ys i y all there in
-    let same : Some a.other ≡ Some x = sym a.there ∙ at in
-    let e : a.other ≡ x = cc in
-    subst (λ z. R z y) e a.related

@@ -1,19 +1,16 @@
 -- The least place, with one place more, and of two properties together.
 use Rattle.std.proofs.Common.{◌≡◌, ◌≤◌, ◌⊎◌, inl, inr, ℕ, Option, Some, None, Bool, true, false, refl, arith}
 use Rattle.std.specs.Prelude.{min}
+use Rattle.wb_lemmas.proofs.Numbers.{min_is}
 use Rattle.std.proofs.Math.Nat.{min-le_left, min-le_right}
 use Rattle.wb_terms.specs.Nodes.{IsLeast}
 use Rattle.wb_terms.specs.Inner.Least.{FindsLeast}
-use Rattle.wb_terms.specs.Inner.Noted.{noted, lesser}
+use Rattle.wb_terms.specs.Inner.Smallest.{smallest_with, smaller_of}
 
 -- from either
 pub either : {A B C : Type 0} → (A → C) → (B → C) → A ⊎ B → C
 either f g (inl a) = f a
 either f g (inr b) = g b
-
--- the lesser of two is one of them
-min_is : (m n : ℕ) → ((min m n ≡ m) ⊎ (min m n ≡ n))
-min_is m n = grind arith
 
 -- what holds of both holds of the lesser
 of_min : (Q : ℕ → Type 0) (m n : ℕ) → Q m → Q n → Q (min m n)
@@ -21,7 +18,7 @@ of_min Q m n a b = either (λ (e : min m n ≡ m). rw e a) (λ (e : min m n ≡ 
 
 -- one place more, where it counts
 pub noted_least : (P Q : ℕ → Type 0) (F G : Type 0) (counts : Bool) (place : ℕ) (o : Option ℕ) → FindsLeast P F o → (F → counts ≡ false → G) → ((at : ℕ) → P at → Q at) → (counts ≡ true → Q place)
-    → ((at : ℕ) → Q at → P at ⊎ ((counts ≡ true) × (place ≤ at))) → FindsLeast Q G (noted counts place o)
+    → ((at : ℕ) → Q at → P at ⊎ ((counts ≡ true) × (place ≤ at))) → FindsLeast Q G (smallest_with counts place o)
 noted_least P Q F G false place None finds fact keeps new only = (fact finds.0 refl, λ at q. either (finds.1 at) (λ b. let wrong : false ≡ true = b.0 in absurd (cc)) (only at q))
 noted_least P Q F G false place (Some m) finds fact keeps new only = record {
   here = keeps m finds.here;
@@ -37,7 +34,7 @@ noted_least P Q F G true place (Some m) finds fact keeps new only = record {
 }
 
 -- two properties together
-pub lesser_least : (P Q : ℕ → Type 0) (F G : Type 0) (other o : Option ℕ) → FindsLeast Q G other → FindsLeast P F o → FindsLeast (λ at. Q at ⊎ P at) (G × F) (lesser other o)
+pub lesser_least : (P Q : ℕ → Type 0) (F G : Type 0) (other o : Option ℕ) → FindsLeast Q G other → FindsLeast P F o → FindsLeast (λ at. Q at ⊎ P at) (G × F) (smaller_of other o)
 lesser_least P Q F G None None g f = ((g.0, f.0), λ at s. either (g.1 at) (f.1 at) s)
 lesser_least P Q F G None (Some m) g f = record { here = inr f.here; least = λ at s. either (λ q. absurd (g.1 at q)) (f.least at) s }
 lesser_least P Q F G (Some place) o g f =

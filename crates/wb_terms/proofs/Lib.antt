@@ -14,4 +14,3 @@ pub mod ReadLemmas
 pub mod ReadingLemmas
 pub mod Sound
 pub mod TreeLemmas
-pub mod ZipLemmas

@@ -9,7 +9,8 @@ use Rattle.wb_terms.specs.Term.{Term, Argument, Arguments, named, plain, term, e
 use Rattle.wb_terms.specs.Nodes.{SomeNode, SomeInArgument, SomeInArguments, EachNode, EachInArgument, EachInArguments}
 use Rattle.wb_terms.specs.TreeOf.{HasFirst, IsOfKind, FitsNode, IsNumbered, IsNumberedValue, AreNumbered, IsUnknown, IsWrong, IsWrongChild}
 use Rattle.wb_terms.specs.Inner.Built.{IsNumberOf, IsBuilt, IsBuiltValue, AreBuilt, IsKnown, FitsIfKnown}
-use Rattle.wb_terms.proofs.KindLemmas.{one_first, one_signature, first_or_none, zip_both_at}
+use Rattle.wb_lemmas.proofs.Zips.{zip_both_at}
+use Rattle.wb_terms.proofs.KindLemmas.{one_first, one_signature, first_or_none}
 
 module _ (P Q : List ℕ → ℕ → List Argument → Type 0) (apart : (name : List ℕ) (place : ℕ) (arguments : List Argument) → P name place arguments → Q name place arguments → ⊥) where
   -- what holds of each node excludes what contradicts it

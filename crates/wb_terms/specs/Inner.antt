@@ -5,8 +5,8 @@ pub mod Events
 pub mod Holding
 pub mod KindsFit
 pub mod Least
-pub mod Noted
 pub mod Pending
+pub mod Smallest
 pub mod TermEntries
 pub mod TermLaws
 pub mod TermReading

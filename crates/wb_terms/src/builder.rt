@@ -20,8 +20,8 @@ ghost use Rattle.wb_terms.specs.Inner.Holding.{AddsValue, Holds, HoldsSome, Hold
 
 use crate::event::Event;
 use crate::kinds::wrong_in;
-use crate::least::lesser;
 use crate::refusal::TermRefusal;
+use crate::smallest::smaller_of;
 use std::alloc::{AllocError, Global};
 use wb_base::{Bytes, push};
 use wb_values::{Signatures, TreeId, TreeStore, Value};
@@ -105,8 +105,8 @@ impl Faults {
             places,
         );
         Faults {
-            unknown: lesser(self.unknown, unknown),
-            wrong: lesser(self.wrong, wrong),
+            unknown: smaller_of(self.unknown, unknown),
+            wrong: smaller_of(self.wrong, wrong),
         }
     }
 }
@@ -195,7 +195,7 @@ impl Builder {
     }
 
     /// What is met next. The only error is want of memory, and then trees were added at most.
-    pub fn meet(
+    pub fn handle(
         &mut self,
         signatures: &Signatures,
         store: &mut TreeStore,

@@ -4,17 +4,17 @@
 
 use wb_base::Bytes;
 
-/// What is met in a term, from left to right. Places count bytes from the beginning of the text.
+// What is met in a term, from left to right. Places count bytes from the beginning of the text.
 #[derive(Debug, Drop)]
-pub enum Event {
-    /// A name, with which a node begins.
+pub(crate) enum Event {
+    // A name, with which a node begins.
     Begin { name: Bytes, at: usize },
-    /// A number.
+    // A number.
     Int { value: i64, at: usize },
-    /// A truth value.
+    // A truth value.
     Bool { value: bool, at: usize },
-    /// A text.
+    // A text.
     Text { value: Bytes, at: usize },
-    /// A node ends.
+    // A node ends.
     End,
 }

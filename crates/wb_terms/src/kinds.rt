@@ -12,7 +12,7 @@ ghost use Rattle.wb_terms.specs.TreeOf.{IsOfKind, IsWrong, IsWrongChild};
 ghost use Rattle.wb_terms.specs.Inner.Built.{IsNumberOf, IsStored, FitsIfKnown};
 ghost use Rattle.wb_terms.specs.Inner.KindsFit.{IsOfLeft, KindsFit};
 
-use crate::least::noted;
+use crate::smallest::smallest_with;
 use wb_base::Kind;
 use wb_values::{Signatures, TreeStore, Value};
 
@@ -62,7 +62,7 @@ fn wrong_child(
     let mut least = None;
     for index in 0..values.len().min(kinds.len()) {
         let fits = is_of_kind(signatures, store, &values[index], kinds[index]);
-        least = noted(least, !fits, places[index]);
+        least = smallest_with(least, !fits, places[index]);
     }
     least
 }
@@ -88,5 +88,5 @@ pub(crate) fn wrong_in(
     }
     let kinds = signatures.children(production);
     let least = wrong_child(signatures, store, values, places, kinds);
-    noted(least, values.len() != kinds.len(), at)
+    smallest_with(least, values.len() != kinds.len(), at)
 }

@@ -9,7 +9,6 @@ mod builder;
 mod event;
 mod events;
 mod kinds;
-mod least;
 mod lengths;
 mod name;
 mod print;
@@ -17,6 +16,7 @@ mod read;
 mod reading;
 mod refusal;
 mod rules;
+mod smallest;
 mod table;
 
 pub use print::print_value;

@@ -37,7 +37,7 @@ fn tree_of(
 {
     let mut builder = Builder::new(alloc);
     for event in events {
-        builder.meet(signatures, store, event)?;
+        builder.handle(signatures, store, event)?;
     }
     builder.into_tree(signatures, store)
 }

@@ -55,7 +55,7 @@ fn shift_word(word: Word, at: usize, values: &mut Events) -> Result<(), AllocErr
 }
 
 /// The table of terms.
-pub struct TermTable;
+pub(crate) struct TermTable;
 
 impl Table for TermTable {
     type Kind = Kind;

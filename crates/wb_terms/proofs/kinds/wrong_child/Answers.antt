@@ -17,5 +17,5 @@ pub loop-index-preserved : goal.loop-index-preserved
 loop-index-preserved c = λ arguments zipped placed.
     let within : c.loop-index.index < length c.args.values.now = omega (arith, c.loop-index-test.true, c.min-index-end.ensures) in
     let asked : c.loop-index.index < length c.args.kinds.now = omega (arith, c.loop-index-test.true, c.min-index-end.ensures) in
-    child_tested c.args.signatures.now c.args.store.now arguments c.args.values.now c.args.places.now c.args.kinds.now c.loop-index.index c.index-values-index.result _ _ c.is_of_kind-fits.result c.loop-index.least c.noted-least.result
-    zipped placed within asked c.index-values-index.is refl c.is_of_kind-fits.ensures c.noted-least.ensures (c.loop-index.invariant arguments zipped placed)
+    child_tested c.args.signatures.now c.args.store.now arguments c.args.values.now c.args.places.now c.args.kinds.now c.loop-index.index c.index-values-index.result _ _ c.is_of_kind-fits.result c.loop-index.least c.smallest_with-least.result
+    zipped placed within asked c.index-values-index.is refl c.is_of_kind-fits.ensures c.smallest_with-least.ensures (c.loop-index.invariant arguments zipped placed)

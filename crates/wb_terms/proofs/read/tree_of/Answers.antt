@@ -8,15 +8,15 @@ use Rattle.wb_terms.proofs.read.tree_of.Goals as goal
 pub loop-event-init : goal.loop-event-init
 loop-event-init c = (c.new-builder.ensures c.args.signatures.now c.args.store.now, ([], sym (append-nil c.args.store.now)))
 
-pub meet-requires : goal.meet-requires
-meet-requires c = record { events = reverse (take c.loop-event.event-index c.args.events.now); holds = c.loop-event.invariant.0 }
+pub handle-requires : goal.handle-requires
+handle-requires c = record { events = reverse (take c.loop-event.event-index c.args.events.now); holds = c.loop-event.invariant.0 }
 
 pub loop-event-preserved : goal.loop-event-preserved
 loop-event-preserved c = (
-  subst (λ (v : List Event). Holds c.args.signatures.now c.meet.new.store v c.meet.new.self)
+  subst (λ (v : List Event). Holds c.args.signatures.now c.handle.new.store v c.handle.new.self)
       (sym (met_more c.args.events.now c.loop-event.event-index c.event-item.result c.loop-event-test.true c.event-item.is))
-      (c.in_ok-meet.ensures.ok (reverse (take c.loop-event.event-index c.args.events.now)) c.loop-event.invariant.0),
-  trees_more c.args.store.now c.loop-event.store c.meet.new.store c.loop-event.invariant.1 c.in_ok-meet.ensures.grown,
+      (c.in_ok-handle.ensures.ok (reverse (take c.loop-event.event-index c.args.events.now)) c.loop-event.invariant.0),
+  trees_more c.args.store.now c.loop-event.store c.handle.new.store c.loop-event.invariant.1 c.in_ok-handle.ensures.grown,
 )
 
 pub into_tree-requires : goal.into_tree-requires

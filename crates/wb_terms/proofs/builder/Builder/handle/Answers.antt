@@ -1,5 +1,5 @@
 use Rattle.wb_terms.proofs.MeetLemmas.{int_met, bool_met, text_met}
-use Rattle.wb_terms.proofs.builder.Builder.meet.Goals as goal
+use Rattle.wb_terms.proofs.builder.Builder.handle.Goals as goal
 
 pub returns-in-Int-clause-ok : goal.returns-in-Int-clause-ok
 returns-in-Int-clause-ok c = int_met c.args.signatures.now c.args.store.now c.args.self.now c.add_int.new.self c.args.event.now c.in-Int.at c.in-Int.value c.add_int.result c.in-Int.is c.add_int.ensures.ok
