@@ -130,3 +130,17 @@ stands_has {kernels} h s lt one item (initial b p q right first rule is item_is)
 -- an item with its dot at the left end is its production's initial item
 pub initial_is : (item : Item) → item.dot ≤ 0 → item ≡ initial_item item.production
 initial_is item le = (let e : item.dot ≡ 0 = omega arith in λ i. record { production = item.production; dot = e i })
+
+-- an item that is no initial item of the grammar's productions stands for itself alone
+pub sole_alone : (g : GrammarView) (one other : Item) → IsSole g one → StandsFor g one other → other ≡ one
+sole_alone g one other sole (itself e _) = sym e
+sole_alone g one other sole (initial b p q right first rule is other_is) = absurd (sole p b first.right first.production is)
+
+-- and an initial item that isn't that of the nonterminal's first production stands for none
+pub later_alone : (g : GrammarView) (one other : Item) (b : ℕ) (w : List Symbol) → IsProduction g one.production b w → one ≡ initial_item one.production →
+    (IsFirstOf g b one.production → ⊥) → StandsFor g one other → other ≡ one
+later_alone g one other b w rule is not (itself e sole) = absurd (sole one.production b w rule (sym e ∙ is))
+later_alone g one other b w rule is not (initial c p q right first other_rule one_is other_is) =
+    let same : p ≡ one.production = ap (λ (i : Item). i.production) (sym one_is) in
+    let left : c ≡ b = (production_once g one.production c b first.right w (subst (λ n. IsProduction g n c first.right) same first.production) rule).0 in
+    absurd (not (subst (λ z. IsFirstOf g z one.production) left (subst (IsFirstOf g c) same first)))

@@ -19,7 +19,7 @@ use Rattle.wb_lookahead.specs.declared.worklist.Place.{Place}
 use Rattle.wb_lookahead.specs.Inner.Spreading.{AreSound, AreWaiting, ArePropagated, FlowsTo, IsFilled, IsPassedOn, IsPlace, Keeps, Lists, ListsFor, Spreads, StandsFor, itself, initial, Waits}
 use Rattle.wb_lookahead.proofs.MarkLemmas.{contains_cases}
 use Rattle.wb_lookahead.proofs.PassLemmas.{empty_lists, passed_kept, set_once}
-use Rattle.wb_lookahead.proofs.StandInLemmas.{first_is, moved_sole, past_sole, stands_once}
+use Rattle.wb_lookahead.proofs.StandInLemmas.{first_is, moved_sole, past_sole, stands_has}
 
 -- after the first spread from empty sets, what is listed waits
 pub begun_waiting : {kernels : KernelsView} (old : List (List ItemLookahead)) {new : List (List ItemLookahead)} (w : List Place) {v : List Place} → AreEmpty old → Spreads old w new v →
@@ -86,13 +86,6 @@ all_passed {kernels} {lookaheads} {waiting} sound waits none = record {
     passed : (s : ℕ) (item : Item) (t : ℕ) → Lists lookaheads s item t → IsPassedOn kernels lookaheads s item t
     passed s item t l = at s item (waits.each s item) t l
 
--- a union at a place with the set of the item that stands for it fills the place
-pub place_filled : {kernels : KernelsView} {old : List (List ItemLookahead)} (new : List (List ItemLookahead)) {s : ℕ} {one item : Item} → ArePropagated kernels old → StandsFor kernels.grammar one item →
-    ((t : ℕ) → Lists old s one t → Lists new s item t) → (t : ℕ) → FlowsTo kernels s item t → Lists new s item t
-place_filled {kernels} {old} new {s} {one} {item} h stands added t f =
-    let (other, stands', lists) = h.complete s item t f in
-    added t (subst (λ z. Lists old s z t) (stands_once kernels.grammar other one item stands' stands) lists)
-
 -- when all places are filled, the sets are exactly the lookaheads
 pub all_filled : {kernels : KernelsView} {lookaheads : List (List ItemLookahead)} → AreKernels kernels → ArePropagated kernels lookaheads →
     ((s : ℕ) → s < count_of kernels → IsFilled kernels lookaheads s (length (closure_of kernels s))) → AreLookaheads kernels lookaheads
@@ -104,8 +97,10 @@ all_filled {kernels} {lookaheads} h propagated filled = record { shape = propaga
           λ has. laws.0 (propagated.sound s item t (a, set_is, has)),
           λ look.
               let f = laws.1 look in
-              let (j, at) = at_Contains (closure_of kernels s) item ((h.closures s lt item).1 (flows_has (prefix_of kernels) h.live h.states f)) in
-              let (b, other, has) = filled s lt j item t (slice_get_within (closure_of kernels s) j item at) at f in
+              let (one, stands, lists) = propagated.complete s item t f in
+              let has = flows_has (prefix_of kernels) h.live h.states f in
+              let (j, at) = at_Contains (closure_of kernels s) one ((h.closures s lt one).1 (stands_has h s lt one item stands has)) in
+              let (b, other, has) = filled s lt j one (slice_get_within (closure_of kernels s) j one at) at item t stands f in
               subst (λ z. Has z t) (set_once h lookaheads propagated.shape s lt item b a other set_is) has,
         )
 

@@ -3,13 +3,18 @@
 //! Prefixes with the same kernel share their lookaheads, so the sets are those of the merged kernels. What passes from one item to
 //! others is in `propagate`.
 
-ghost use Rattle.std.specs.Prelude.{◌≡◌, ◌<◌, ◌+◌, ◌↔◌, [], ℕ, IfOk, OnOk, length};
+ghost use Rattle.std.specs.Prelude.{◌≡◌, ◌<◌, ◌+◌, ◌↔◌, [], ℕ, List, IfOk, IfSome, MatchOption, OnOk, length};
+ghost use Rattle.wb_base.specs.declared.symbol.Symbol.{Symbol};
+ghost use Rattle.wb_termset.specs.Sets.{Has};
+ghost use Rattle.wb_grammars.specs.declared.item.Item.{Item};
+ghost use Rattle.wb_grammars.specs.Productions.{IsProduction};
+ghost use Rattle.wb_grammars.specs.Items.{HasItem, initial_item};
 ghost use Rattle.wb_grammar.specs.Facts.{AreFacts};
-ghost use Rattle.wb_items.specs.Kernels.{AreKernels, closure_of, count_of};
+ghost use Rattle.wb_items.specs.Kernels.{closure_of, count_of, prefix_of};
 ghost use Rattle.wb_items.specs.Lookaheads.{AreEmpty, AreLookaheadsOf};
 ghost use Rattle.wb_items.specs.LookaheadSets.{AreLookaheads};
 ghost use Rattle.wb_items.specs.Table.{AreProductions};
-ghost use Rattle.wb_lookahead.specs.Inner.Spreading.{ArePropagated, AreSound, AreWaiting, IsContext, IsFilled, IsPlace, FlowsTo, Keeps, Lists, StandsFor};
+ghost use Rattle.wb_lookahead.specs.Inner.Spreading.{ArePropagated, AreSound, AreWaiting, FlowsTo, IsContext, IsFilled, IsFilledFrom, IsFirstOf, IsPlace, Keeps, Lists, StandsFor};
 
 use crate::first_of::rests_of;
 use crate::propagate::{Context, first_production, pass_on};
@@ -143,13 +148,13 @@ fn fill_kernel(
     ensures filled { OnOk result (IsFilled context.now.kernels.now lookaheads.new state (length (closure_of context.now.kernels.now state))) }
 {
     'places: for (at, &item) in context.kernels.closure(state).iter().enumerate() {
-        fill_place(context, Place { state, item, at }, lookaheads)?;
+        fill_from(context, Place { state, item, at }, lookaheads)?;
     }
     Ok(())
 }
 
-// The same for one place.
-fn fill_place(
+// The same for the items for which the one at a place stands.
+fn fill_from(
     context: &Context,
     place: Place,
     lookaheads: &mut Lookaheads,
@@ -159,25 +164,56 @@ fn fill_place(
     requires propagated { ArePropagated context.now.kernels.now lookaheads.old }
     ensures propagated { OnOk result (ArePropagated context.now.kernels.now lookaheads.new) }
     ensures keeps { OnOk result (Keeps lookaheads.old lookaheads.new) }
-    ensures filled { OnOk result ((t : ℕ) → FlowsTo context.now.kernels.now place.state place.item t → Lists lookaheads.new place.state place.item t) }
+    ensures filled { OnOk result (IsFilledFrom context.now.kernels.now lookaheads.new place.state place.item) }
 {
-    let one = standing_for(context, place.item);
-    let set = lookaheads.of(place.state, one).copy()?;
-    unite(place, &set, lookaheads);
+    let Some(nonterminal) = opened_by(context, place.item) else {
+        return Ok(());
+    };
+    let set = lookaheads.at(place.state, place.at).copy()?;
+    fill_all(context, place.state, nonterminal, &set, lookaheads);
     Ok(())
 }
 
-// The item that stands for this one.
-fn standing_for(context: &Context, item: Item) -> Item
+// The nonterminal of whose first production this is the initial item.
+fn opened_by(context: &Context, item: Item) -> Option<usize>
     requires { IsContext context.now.kernels.now context.now.grammar.now context.now.productions.now context.now.rests.now }
-    ensures { StandsFor context.now.grammar.now result item }
+    ensures below { IfSome result (λ b. b < context.now.grammar.now.nonterminals) }
+    ensures is { MatchOption result ((other : Item) → StandsFor context.now.grammar.now item other → other ≡ item) (λ b. IsFirstOf context.now.grammar.now b item.production × (item ≡ initial_item item.production)) }
 {
     if item.dot > 0 || item.production >= context.grammar.productions() {
-        return item;
+        return None;
     }
     let left = context.grammar.left(item.production);
-    match first_production(context, left) {
-        Some(production) => Item { production, dot: 0 },
-        None => item,
+    if first_production(context, left) == Some(item.production) {
+        Some(left)
+    } else {
+        None
+    }
+}
+
+// Gives the terminals to the initial items of all productions of a nonterminal.
+fn fill_all(
+    context: &Context,
+    state: usize,
+    nonterminal: usize,
+    set: &TermSet,
+    lookaheads: &mut Lookaheads,
+)
+    requires context { IsContext context.now.kernels.now context.now.grammar.now context.now.productions.now context.now.rests.now }
+    requires nonterminal { nonterminal < context.now.grammar.now.nonterminals }
+    requires state { state < count_of context.now.kernels.now }
+    requires has { (q : ℕ) (right : List Symbol) → IsProduction context.now.kernels.now.grammar q nonterminal right → HasItem context.now.kernels.now.grammar (prefix_of context.now.kernels.now state) (initial_item q) }
+    requires len { length set.now ≡ context.now.kernels.now.grammar.terminals + 1 }
+    requires exact { (q t : ℕ) (right : List Symbol) → IsProduction context.now.kernels.now.grammar q nonterminal right → Has set.now t ↔ FlowsTo context.now.kernels.now state (initial_item q) t }
+    requires propagated { ArePropagated context.now.kernels.now lookaheads.old }
+    ensures propagated { ArePropagated context.now.kernels.now lookaheads.new }
+    ensures keeps { Keeps lookaheads.old lookaheads.new }
+    ensures filled { (q t : ℕ) (right : List Symbol) → IsProduction context.now.kernels.now.grammar q nonterminal right → FlowsTo context.now.kernels.now state (initial_item q) t → Lists lookaheads.new state (initial_item q) t }
+{
+    let numbers = context.productions[nonterminal].as_slice();
+    'productions: for &production in numbers {
+        let item = Item { production, dot: 0 };
+        let at = lookaheads.place(state, item);
+        unite(Place { state, item, at }, set, lookaheads);
     }
 }

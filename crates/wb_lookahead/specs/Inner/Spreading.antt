@@ -89,9 +89,13 @@ pub record ArePropagated (kernels : KernelsView) (lookaheads : List (List ItemLo
   pub sound : (s : ℕ) (item : Item) (t : ℕ) → Lists lookaheads s item t → FlowsTo kernels s item t
   pub complete : (s : ℕ) (item : Item) (t : ℕ) → FlowsTo kernels s item t → ListsFor kernels.grammar lookaheads s item t
 
--- what flows to the items at the first places of the kernel is listed there
+-- what flows to the items for which the one stands is listed there
+abbrev pub IsFilledFrom : KernelsView → List (List ItemLookahead) → ℕ → Item → Type 0
+IsFilledFrom kernels lookaheads s one = (item : Item) (t : ℕ) → StandsFor kernels.grammar one item → FlowsTo kernels s item t → Lists lookaheads s item t
+
+-- the same of each of the items at the first places of the kernel
 abbrev pub IsFilled : KernelsView → List (List ItemLookahead) → ℕ → ℕ → Type 0
-IsFilled kernels lookaheads s n = (j : ℕ) (item : Item) (t : ℕ) → j < n → slice_get (closure_of kernels s) j ≡ Some item → FlowsTo kernels s item t → Lists lookaheads s item t
+IsFilled kernels lookaheads s n = (j : ℕ) (one : Item) → j < n → slice_get (closure_of kernels s) j ≡ Some one → IsFilledFrom kernels lookaheads s one
 
 -- nothing that was listed is lost
 abbrev pub Keeps : List (List ItemLookahead) → List (List ItemLookahead) → Type 0
