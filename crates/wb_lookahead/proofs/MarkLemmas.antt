@@ -65,6 +65,16 @@ marked_more waiting marks new place h change s at marked = elim (change s at mar
       (place.item, subst (Contains (waiting ++ place ∷ [])) is (Contains-push waiting place))
 ]
 
+-- the same of one that is added before the others
+pub marked_before : (waiting : List Place) (marks new : List (List Bool)) (place : Place) → AreMarked waiting marks → MarksChange marks place.state place.at true new →
+    AreMarked (place ∷ waiting) new
+marked_before waiting marks new place h change s at marked = elim (change s at marked) [
+  | inl (old, _) ↦ (let (item, (k, lt, is)) = h s at old in (item, (suc k, omega arith, is)))
+  | inr (s_is, at_is, _) ↦
+      let is : place ≡ record { state = s; item = place.item; at = at } = λ i. record { state = sym s_is i; item = place.item; at = sym at_is i } in
+      (place.item, subst (Contains (place ∷ waiting)) is (0, omega arith, refl))
+]
+
 -- an element is the first, or one after it
 pub contains_cases : {A : Type 0} (x z : A) (xs : List A) → Contains (x ∷ xs) z → (x ≡ z) ⊎ Contains xs z
 contains_cases x z xs (zero, lt, is) = inl is

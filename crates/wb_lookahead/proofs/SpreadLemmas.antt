@@ -1,8 +1,8 @@
 -- How spreading goes on, one step after another.
-use Rattle.std.proofs.Common.{◌≡◌, ℕ, ◌+◌, ◌<◌, ◌≤◌, ◌⊎◌, Bool, true, false, List, [], ◌∷◌, ◌++◌, length, get_or, take, Some, refl, sym, ◌∙◌, ap, subst, inl, inr, arith, length-append}
+use Rattle.std.proofs.Common.{◌≡◌, ℕ, ◌+◌, ◌<◌, ◌≤◌, ◌⊎◌, zero, suc, Bool, true, false, List, [], ◌∷◌, ◌++◌, length, get_or, take, Some, refl, sym, ◌∙◌, ap, subst, inl, inr, arith, length-append}
 use Rattle.std.specs.Prelude.{All, Contains, slice_get}
 use Rattle.std.proofs.lemmas.List.{take_more, take_all}
-use Rattle.std.proofs.lemmas.List.Elements.{All-push, All-contains, Contains-append_left, Contains-push, Contains-push_cases}
+use Rattle.std.proofs.lemmas.List.Elements.{All-cons, All-push, All-contains, Contains-append_left, Contains-push, Contains-push_cases}
 use Rattle.std.proofs.lemmas.Bool.{cases_eq}
 use Rattle.std.proofs.lemmas.Option.{same_Some}
 use Rattle.wb_grammars.specs.declared.item.Item.{Item}
@@ -13,7 +13,7 @@ use Rattle.wb_items.specs.Lookaheads.{AreLookaheadsOf, items_in, row_of}
 use Rattle.wb_lookahead.specs.Inner.Unions.{Unites}
 use Rattle.wb_lookahead.specs.declared.worklist.Place.{Place}
 use Rattle.wb_lookahead.specs.Inner.Spreading.{AreSound, FlowsTo, IsPlace, Keeps, Lists, Spreads, Waits}
-use Rattle.wb_lookahead.specs.Inner.Waiting.{Adds}
+use Rattle.wb_lookahead.specs.Inner.Waiting.{Adds, in_front, at_end, stays}
 use Rattle.wb_lookahead.proofs.UnionLemmas.{lists_kept, lists_new, shape_kept}
 use Rattle.wb_lookahead.proofs.RoomLemmas.{room_less}
 use Rattle.wb_lookahead.proofs.StepLemmas.{closure_at, rows_within}
@@ -54,26 +54,38 @@ same_at s k a b = elim (cases_eq s k) [
   ]
 ]
 
+-- numbers of a place
+abbrev pub place_of : ℕ → Item → ℕ → Place
+place_of s item at = record { state = s; item = item; at = at }
+
+-- an element after a first one
+contains_later : (place one : Place) (old : List Place) → Contains old one → Contains (place ∷ old) one
+contains_later place one old (k, lt, is) = (suc k, omega arith, is)
+
 -- what waited waits, and the place that was added
 pub adds_waits : {old new : List Place} (place : Place) → Adds old place new → (s : ℕ) (item : Item) → Waits old s item → Waits new s item
-adds_waits {old} {new} place (inl is) s item (at, h) = (at, subst (λ z. Contains z (record { state = s; item = item; at = at })) (sym is) (Contains-append_left old (place ∷ []) (record { state = s; item = item; at = at }) h))
-adds_waits place (inr (is, _)) s item (at, h) = (at, subst (λ z. Contains z (record { state = s; item = item; at = at })) (sym is) h)
+adds_waits {old} place (in_front is) s item (at, h) = (at, subst (λ z. Contains z (place_of s item at)) (sym is) (contains_later place (place_of s item at) old h))
+adds_waits {old} place (at_end is) s item (at, h) = (at, subst (λ z. Contains z (place_of s item at)) (sym is) (Contains-append_left old (place ∷ []) (place_of s item at) h))
+adds_waits place (stays other is there) s item (at, h) = (at, subst (λ z. Contains z (place_of s item at)) (sym is) h)
 
 pub adds_it : {kernels : KernelsView} {old new : List Place} {place : Place} → All (IsPlace kernels) old → IsPlace kernels place → Adds old place new → Waits new place.state place.item
-adds_it {old = old} {new} {place} places p (inl is) = (place.at, subst (λ z. Contains z place) (sym is) (Contains-push old place))
-adds_it {kernels} {old} {new} {place} places p (inr (is, (item, there))) =
-    let other : Place = record { state = place.state; item = item; at = place.at } in
+adds_it {place = place} places p (in_front is) = (place.at, subst (λ z. Contains z place) (sym is) (0, omega arith, refl))
+adds_it {old = old} {place = place} places p (at_end is) = (place.at, subst (λ z. Contains z place) (sym is) (Contains-push old place))
+adds_it {kernels} {old} {new} {place} places p (stays item is there) =
+    let other : Place = place_of place.state item place.at in
     let q : IsPlace kernels other = All-contains (IsPlace kernels) old other places there in
     let same : item ≡ place.item = same_Some item place.item (sym q.here ∙ p.here) in
-    (place.at, subst (λ z. Contains z place) (sym is) (subst (λ z. Contains old (record { state = place.state; item = z; at = place.at })) same there))
+    (place.at, subst (λ z. Contains z place) (sym is) (subst (λ z. Contains old (place_of place.state z place.at)) same there))
 
 pub adds_places : {kernels : KernelsView} {old new : List Place} {place : Place} → All (IsPlace kernels) old → IsPlace kernels place → Adds old place new → All (IsPlace kernels) new
-adds_places {kernels} {old} {new} {place} places p (inl is) = subst (All (IsPlace kernels)) (sym is) (All-push (IsPlace kernels) old place places p)
-adds_places {kernels} places p (inr (is, _)) = subst (All (IsPlace kernels)) (sym is) places
+adds_places {kernels} {old} {new} {place} places p (in_front is) = subst (All (IsPlace kernels)) (sym is) (All-cons (IsPlace kernels) place old p places)
+adds_places {kernels} {old} {new} {place} places p (at_end is) = subst (All (IsPlace kernels)) (sym is) (All-push (IsPlace kernels) old place places p)
+adds_places {kernels} places p (stays item is there) = subst (All (IsPlace kernels)) (sym is) places
 
 adds_length : {old new : List Place} (place : Place) → Adds old place new → length new ≤ length old + 1
-adds_length {old} {new} place (inl is) = (let e : length new ≡ length old + 1 = ap (λ (z : List Place). length z) is ∙ length-append old (place ∷ []) in omega (arith, e))
-adds_length {old} {new} place (inr (is, _)) = (let e : length new ≡ length old = ap (λ (z : List Place). length z) is in omega (arith, e))
+adds_length {old} {new} place (in_front is) = (let e : length new ≡ length (place ∷ old) = ap (λ (z : List Place). length z) is in omega (arith, e))
+adds_length {old} {new} place (at_end is) = (let e : length new ≡ length old + 1 = ap (λ (z : List Place). length z) is ∙ length-append old (place ∷ []) in omega (arith, e))
+adds_length {old} {new} place (stays item is there) = (let e : length new ≡ length old = ap (λ (z : List Place). length z) is in omega (arith, e))
 
 -- what a union leaves flows where it is listed
 pub union_sound : (kernels : KernelsView) (place : Place) {old new : List (List ItemLookahead)} {added : List Bool} {b : Bool} →
@@ -88,10 +100,6 @@ union_sound kernels place u lt sound flows s item t lists = elim (lists_new u lt
 pub state_within : {kernels : KernelsView} → AreKernels kernels → (place : Place) → place.state < count_of kernels → (old : List (List ItemLookahead)) → AreLookaheadsOf kernels old →
     place.state < length old
 state_within k place lt old shape = (let e = rows_within k old shape in omega (arith, e, lt))
-
--- numbers of a place
-abbrev pub place_of : ℕ → Item → ℕ → Place
-place_of s item at = record { state = s; item = item; at = at }
 
 pub is_place : {kernels : KernelsView} → AreKernels kernels → (lookaheads : List (List ItemLookahead)) → AreLookaheadsOf kernels lookaheads → (s : ℕ) → s < count_of kernels →
     (item : Item) (at : ℕ) → slice_get (items_in (row_of lookaheads s)) at ≡ Some item → IsPlace kernels (place_of s item at)
@@ -115,15 +123,15 @@ spread_spreads {kernels} place {old} {new} {added} {b} {w} {v} lt u grew places 
   less = (let less = room_less u lt grew in let more = adds_length place adds in omega (arith, less, more));
 }
   where
-    stays : (s : ℕ) (item : Item) → (((s ≡ place.state) × (item ≡ place.item)) → ⊥) → (t : ℕ) → Lists old s item t ⊎ ((s ≡ place.state) × (item ≡ place.item) × Has added t) →
+    kept : (s : ℕ) (item : Item) → (((s ≡ place.state) × (item ≡ place.item)) → ⊥) → (t : ℕ) → Lists old s item t ⊎ ((s ≡ place.state) × (item ≡ place.item) × Has added t) →
         Lists old s item t
-    stays s item other t (inl before) = before
-    stays s item other t (inr (s_is, i_is, has)) = absurd (other (s_is, i_is))
+    kept s item other t (inl before) = before
+    kept s item other t (inr (s_is, i_is, has)) = absurd (other (s_is, i_is))
 
     changes : (s : ℕ) (item : Item) → ((s ≡ place.state) × (item ≡ place.item)) ⊎ (((s ≡ place.state) × (item ≡ place.item)) → ⊥) →
         Waits v s item ⊎ ((t : ℕ) → Lists new s item t → Lists old s item t)
     changes s item (inl same) = inl (subst (λ z. Waits v z item) (sym same.0) (subst (Waits v place.state) (sym same.1) (adds_it places p adds)))
-    changes s item (inr other) = inr (λ t h. stays s item other t (lists_new u lt s item t h))
+    changes s item (inr other) = inr (λ t h. kept s item other t (lists_new u lt s item t h))
 
 -- an element of a front that is one longer
 pub contains_more : {A : Type 0} (xs : List A) (i : ℕ) (d x : A) → i < length xs → Contains (take (i + 1) xs) x → Contains (take i xs) x ⊎ (get_or xs i d ≡ x)

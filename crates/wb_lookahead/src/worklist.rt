@@ -1,8 +1,9 @@
-//! The places whose sets grew and are still to be passed on, each once, in the order in which they grew.
+//! The places whose sets grew and are still to be passed on, each once.
 //!
-//! A mark for each place of each kernel's closure says that the place waits; what is passed on from a place is in `propagate`.
+//! A mark for each place of each kernel's closure says that the place waits. Places of the kernel that was taken last come first, since
+//! its sets are then at hand. What is passed on from a place is in `propagate`.
 
-ghost use Rattle.std.specs.Prelude.{◌≡◌, ◌∷◌, [], IsTrue, ◌↔◌, MatchOption, IfOk, OnOk, slice_index_or, slice_set, false, replicate};
+ghost use Rattle.std.specs.Prelude.{◌≡◌, ◌⊎◌, ◌++◌, ◌∷◌, [], IsTrue, ◌↔◌, MatchOption, IfOk, OnErr, OnOk, slice_index_or, slice_set, false, replicate};
 ghost use Rattle.wb_lookahead.specs.Inner.Waiting.{Adds, IsMarked, MarksChange};
 
 use std::alloc::{AllocError, Global};
@@ -63,9 +64,10 @@ impl Marks {
     }
 }
 
-// The places that wait, first the one that waits longest.
+// The places that wait, and the kernel of the one that was taken last.
 #[derive(Drop)]
 pub(crate) struct Worklist {
+    state: usize,
     queue: VecDeque<Place>,
     marks: Vec<Marks>,
 }
@@ -92,19 +94,20 @@ impl Worklist {
             push(&mut marks, Marks::new(alloc, kernels.closure(state).len())?)?;
         }
         Ok(Worklist {
+            state: 0,
             queue: VecDeque::new(alloc),
             marks,
         })
     }
 
-    // Puts a place after the others, unless one with its numbers waits.
+    // Puts a place before the others or after them, unless one with its numbers waits.
     pub(crate) fn add(&mut self, place: Place) -> Result<(), AllocError>
         ensures { OnOk result (Adds self.old place self.new) }
     {
         if is_marked(&self.marks, place.state, place.at) {
             return Ok(());
         }
-        self.queue.push_back(place)?;
+        put_place(&mut self.queue, place.state == self.state, place)?;
         put_mark(&mut self.marks, place.state, place.at, true);
         Ok(())
     }
@@ -117,8 +120,22 @@ impl Worklist {
             return None;
         };
         put_mark(&mut self.marks, place.state, place.at, false);
+        self.state = place.state;
         Some(place)
     }
+}
+
+// Puts a place before the others or after them.
+fn put_place(queue: &mut VecDeque<Place>, in_front: bool, place: Place) -> Result<(), AllocError>
+    ensures ok { OnOk result ((queue.new.items ≡ place ∷ queue.old.items) ⊎ (queue.new.items ≡ queue.old.items ++ place ∷ [])) }
+    ensures err { OnErr result (queue.new.items ≡ queue.old.items) }
+{
+    if in_front {
+        queue.push_front(place)?;
+    } else {
+        queue.push_back(place)?;
+    }
+    Ok(())
 }
 
 // Whether the place of the kernel has a mark.

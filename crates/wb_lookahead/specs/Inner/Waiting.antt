@@ -11,10 +11,11 @@ IsMarked marks s at = slice_index_or (slice_index_or marks s []) at false ≡ tr
 abbrev pub AreMarked : List Place → List (List Bool) → Type 0
 AreMarked waiting marks = (s at : ℕ) → IsMarked marks s at → (item : Item) × Contains waiting (record { state = s; item = item; at = at })
 
--- the place was put after the others, or some item waits at its numbers and nothing changed
-abbrev pub Adds : List Place → Place → List Place → Type 0
-Adds old place new =
-    (new ≡ old ++ place ∷ []) ⊎ ((new ≡ old) × ((item : Item) × Contains old (record { state = place.state; item = item; at = place.at })))
+-- the place was put before the others or after them, or some item waits at its numbers and nothing changed
+pub data Adds (old : List Place) (place : Place) : List Place → Type 0 where
+  in_front : {new : List Place} → new ≡ place ∷ old → Adds old place new
+  at_end : {new : List Place} → new ≡ old ++ place ∷ [] → Adds old place new
+  stays : (item : Item) {new : List Place} → new ≡ old → Contains old (record { state = place.state; item = item; at = place.at }) → Adds old place new
 
 -- at other places no mark is new, and at this one there is none but this
 abbrev pub MarksChange : List (List Bool) → ℕ → ℕ → Bool → List (List Bool) → Type 0
