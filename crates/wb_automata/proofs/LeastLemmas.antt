@@ -6,7 +6,7 @@ use Rattle.std.proofs.lemmas.Option.{slice_get-get_or, slice_get_within, same_So
 use Rattle.wb_regex.specs.Filled.{Filled}
 use Rattle.wb_regex.specs.Tree.{Tree, Set, Sequence, Choice, Star, Plus, Maybe}
 use Rattle.wb_regex.specs.Matches as w
-use Rattle.wb_termset.specs.Sets.{Has}
+use Rattle.wb_termset.specs.Sets.{IsMember}
 use Rattle.wb_automata.specs.Order.{IsBefore, IsAtMost}
 use Rattle.wb_automata.specs.Automata.{AutomatonView, Path, IsEarlier, IsConsidered, IsMatch, MatchesIn, GoesOn, LeadsTo, IsOrdered}
 use Rattle.wb_automata.specs.Overlaps.{HasAll, IsLeastMatch, IsLeastShared, IsLeastState, AreApartBelow}
@@ -105,7 +105,7 @@ least_of_two automaton r s state text e all at l =
 -- one set of all numbers below the count, as far as it is made
 pub record AllBelow (set : List Bool) (count i : ℕ) : Type 0 where
   pub len : length set ≡ count
-  pub all : (t : ℕ) → t < i → Has set t
+  pub all : (t : ℕ) → t < i → IsMember set t
 
 pub all_more : (flags : List Bool) (count i : ℕ) → i < count → AllBelow flags count i → AllBelow (set flags i true) count (i + 1)
 all_more flags count i lt h = record {

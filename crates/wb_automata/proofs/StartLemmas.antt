@@ -5,7 +5,7 @@ use Rattle.std.proofs.lemmas.Bool.{cases_lt, cases_eq}
 use Rattle.std.proofs.lemmas.List.{get_or_append_left, get_or_push, get_or_past, get_or_default}
 use Rattle.std.proofs.lemmas.List.Elements.{Contains-append_left, Contains-push, Contains-push_cases, All-contains}
 use Rattle.std.proofs.lemmas.Option.{same_Some}
-use Rattle.wb_termset.specs.Sets.{Has}
+use Rattle.wb_termset.specs.Sets.{IsMember}
 use Rattle.wb_automata.specs.Nodes.{row}
 use Rattle.wb_automata.specs.Order.{AreRising}
 use Rattle.wb_automata.specs.Machines.{IsPlaceList}
@@ -28,13 +28,13 @@ rising_push xs x rise below i j lt within = elim (cases_lt j (length xs)) [
 
 -- the starts of those of the first k roots that are in the set
 pub record StartPass (n : ℕ) (flags : List Bool) (places : List ℕ) (k : ℕ) : Type 0 where
-  pub exact : (p : ℕ) → Contains places p ↔ IsStartOf n k (Has flags) p
+  pub exact : (p : ℕ) → Contains places p ↔ IsStartOf n k (IsMember flags) p
   pub rising : AreRising places
 
 pub start_none : (n : ℕ) (flags : List Bool) → StartPass n flags [] 0
 start_none n flags = record { exact = λ p. (λ (k, lt, is). absurd (omega arith), λ s. (let lt = s.below in absurd (omega arith))); rising = rising_none }
 
-pub start_more : (n : ℕ) (flags : List Bool) (places : List ℕ) (k : ℕ) → Has flags k → StartPass n flags places k → StartPass n flags (places ++ (n + k) ∷ []) (k + 1)
+pub start_more : (n : ℕ) (flags : List Bool) (places : List ℕ) (k : ℕ) → IsMember flags k → StartPass n flags places k → StartPass n flags (places ++ (n + k) ∷ []) (k + 1)
 start_more n flags places k has h = record {
   exact = λ p. (
     λ is. elim (Contains-push_cases places (n + k) p is) [
@@ -49,13 +49,13 @@ start_more n flags places k has h = record {
   rising = rising_push places (n + k) h.rising (λ y is. let s = (h.exact y).0 is in let lt = s.below in let place = s.place in omega arith);
 }
 
-pub start_skip : (n : ℕ) (flags : List Bool) (places : List ℕ) (k : ℕ) → (Has flags k → ⊥) → StartPass n flags places k → StartPass n flags places (k + 1)
+pub start_skip : (n : ℕ) (flags : List Bool) (places : List ℕ) (k : ℕ) → (IsMember flags k → ⊥) → StartPass n flags places k → StartPass n flags places (k + 1)
 start_skip n flags places k none h = record {
   exact = λ p. (
     λ is. let s = (h.exact p).0 is in let lt = s.below in record { number = s.number; below = omega arith; is = s.is; place = s.place },
     λ s. elim (cases_lt s.number k) [
       | inl less ↦ (h.exact p).1 (record { number = s.number; below = less; is = s.is; place = s.place })
-      | inr past ↦ (let lt = s.below in let e : s.number ≡ k = omega arith in absurd (none (subst (Has flags) e s.is)))
+      | inr past ↦ (let lt = s.below in let e : s.number ≡ k = omega arith in absurd (none (subst (IsMember flags) e s.is)))
     ],
   );
   rising = h.rising;

@@ -5,7 +5,7 @@ use Rattle.std.proofs.lemmas.Bool.{true≢false, cases_Bool}
 use Rattle.std.proofs.lemmas.List.{get_or_past}
 use Rattle.std.proofs.lemmas.Nat.Bits.{bit_at-zero}
 use Rattle.std.proofs.lemmas.Option.{slice_get-get_or, slice_get_within, same_Some}
-use Rattle.wb_termset.specs.Sets.{Has}
+use Rattle.wb_termset.specs.Sets.{IsMember}
 use Rattle.wb_regex.specs.Tree.{Tree, Set}
 use Rattle.wb_regex.specs.declared.node.RegexNode.{RegexNode}
 use Rattle.wb_regex.specs.declared.node.RegexNode.TheVariants as n
@@ -60,7 +60,7 @@ module _ (trees : List Tree) (sets : List (List Bool)) (t : Tables) (h : AreTabl
       let at : slice_get sets s ≡ Some flags = slice_get-get_or sets s [] lt in
       stands_first (holds_of t.nodes.items) h.planted.linears (bound_of trees) (length t.nodes.items) (IsConsidered sets s) here (outside t.nodes.items) (row t.starts s) (λ p. (
         λ has. let x = (h.is_starts s flags at p).0 has in record { number = x.number; below = (let b = x.below in omega (arith, h.planted.len)); is = record { flags = flags; at = at; has = x.is }; place = x.place },
-        λ x. (h.is_starts s flags at p).1 (record { number = x.number; below = (let b = x.below in omega (arith, h.planted.len)); is = subst (λ z. Has z x.number) (same_Some x.is.flags flags (sym x.is.at ∙ at)) x.is.has; place = x.place }),
+        λ x. (h.is_starts s flags at p).1 (record { number = x.number; below = (let b = x.below in omega (arith, h.planted.len)); is = subst (λ z. IsMember z x.number) (same_Some x.is.flags flags (sym x.is.at ∙ at)) x.is.has; place = x.place }),
       )) (λ k l is. h.planted.forest.all (k + 1))
 
   -- each state that was found is that of its path

@@ -2,7 +2,7 @@
 use Rattle.std.specs.Prelude.{◌≡◌, ◌+◌, ◌^◌, ◌<◌, ◌↔◌, ◌⊎◌, ℕ, Bool, List, ◌++◌, Some, length, slice_get, sum_by}
 use Rattle.wb_regex.specs.Tree.{Tree, Set, Sequence, Choice, Star, Plus, Maybe}
 use Rattle.wb_regex.specs.Matches.{Matches}
-use Rattle.wb_termset.specs.Sets.{Has}
+use Rattle.wb_termset.specs.Sets.{IsMember}
 use Rattle.wb_automata.specs.Order.{IsBefore}
 
 -- a way to a state: the set at whose start it begins, and the text that is read from there
@@ -26,7 +26,7 @@ pub record IsMatch (terminals : List Tree) (terminal : ℕ) (text : List ℕ) : 
 pub record IsConsidered (sets : List (List Bool)) (set terminal : ℕ) : Type 0 where
   pub flags : List Bool
   pub at : slice_get sets set ≡ Some flags
-  pub has : Has flags terminal
+  pub has : IsMember flags terminal
 
 -- the terminal is in the set, and matches the text
 pub record MatchesIn (automaton : AutomatonView) (set terminal : ℕ) (text : List ℕ) : Type 0 where

@@ -1,6 +1,6 @@
 -- The least texts that two regular expressions share, and that one matches.
 use Rattle.std.specs.Prelude.{◌≡◌, ◌<◌, ◌⊎◌, ℕ, Bool, List, [], ◌∷◌, Some, slice_get}
-use Rattle.wb_termset.specs.Sets.{Has}
+use Rattle.wb_termset.specs.Sets.{IsMember}
 use Rattle.wb_regex.specs.Tree.{Tree}
 use Rattle.wb_regex.specs.Matches.{Matches, ShareText}
 use Rattle.wb_automata.specs.Order.{IsAtMost}
@@ -28,7 +28,7 @@ IsOverlap left right o.Disjoint = ¬ ShareText left right
 pub record HasAll (count : ℕ) (sets : List (List Bool)) : Type 0 where
   pub set : List Bool
   pub one : sets ≡ set ∷ []
-  pub all : (t : ℕ) → t < count → Has set t
+  pub all : (t : ℕ) → t < count → IsMember set t
 
 -- the text of the state's path matches both terminals, and no earlier path leads to texts that do
 pub record IsLeastState (automaton : AutomatonView) (one other state : ℕ) : Type 0 where

@@ -2,7 +2,7 @@
 use Rattle.std.specs.Prelude.{◌≡◌, ◌+◌, ◌<◌, ◌↔◌, ◌⊎◌, ℕ, Bool, List, [], Some, Contains, length, slice_get}
 use Rattle.wb_regex.specs.Tree.{Tree}
 use Rattle.wb_regex.specs.declared.node.RegexNode.{RegexNode}
-use Rattle.wb_termset.specs.Sets.{Has}
+use Rattle.wb_termset.specs.Sets.{IsMember}
 use Rattle.wb_automata.specs.declared.tables.Tables.{Tables}
 use Rattle.wb_automata.specs.Nodes.{row, AreFirsts, AreLasts}
 use Rattle.wb_automata.specs.Roots.{BeginAt, EndAt}
@@ -43,7 +43,7 @@ pub record AreLinks (nodes : List RegexNode) (roots : List ℕ) (follow ends : L
 
 -- the list has the starts of the expressions that are in a set
 abbrev pub IsStartsOf : ℕ → ℕ → List Bool → List ℕ → Type 0
-IsStartsOf n count flags starts = (p : ℕ) → Contains starts p ↔ IsStartOf n count (Has flags) p
+IsStartsOf n count flags starts = (p : ℕ) → Contains starts p ↔ IsStartOf n count (IsMember flags) p
 
 -- the tables say which leaves may come after which, which expressions may end with each, and with which starts each set begins
 pub record AreTables (trees : List Tree) (sets : List (List Bool)) (t : Tables) : Type 0 where

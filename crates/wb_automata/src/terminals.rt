@@ -1,7 +1,7 @@
 //! Where expressions begin and end, and with which starts each set begins.
 
 ghost use Rattle.std.specs.Prelude.{◌≡◌, ℕ, ◌<◌, ◌≤◌, ◌+◌, ◌^◌, ◌⊎◌, ◌↔◌, length, IfOk, IsTrue, All, Contains};
-ghost use Rattle.wb_termset.specs.Sets.{Has};
+ghost use Rattle.wb_termset.specs.Sets.{IsMember};
 ghost use Rattle.wb_automata.specs.Nodes.{row, AreParts};
 ghost use Rattle.wb_automata.specs.Ends.{rows_of};
 ghost use Rattle.wb_automata.specs.Follows.{AreBelow};
@@ -95,7 +95,7 @@ fn set_starts(alloc: Global, n: usize, count: usize, set: &TermSet) -> Result<Le
 }
 
 fn is_member(set: &TermSet, number: usize) -> bool
-    ensures { IsTrue result ↔ Has set.now number }
+    ensures { IsTrue result ↔ IsMember set.now number }
 {
     number < set.count() && set.contains(number)
 }

@@ -6,7 +6,7 @@ use Rattle.wb_base.specs.declared.symbol.Symbol.{Symbol}
 use Rattle.wb_base.specs.declared.symbol.Symbol.TheVariants.{Terminal, Nonterminal}
 use Rattle.wb_base.specs.Grammar.{GrammarView, IsSymbolBelow}
 use Rattle.wb_termset.specs.Sets.{IsSubset, Grew}
-use Rattle.wb_termset.proofs.CallerLemmas.{Has-insert}
+use Rattle.wb_termset.proofs.CallerLemmas.{IsMember-insert}
 use Rattle.wb_grammars.specs.Productions.{IsProduction}
 use Rattle.wb_grammars.specs.Derives.{Derives, done, keep, expand, IsText, empty, next}
 use Rattle.wb_grammars.specs.Shape.{IsProductive}
@@ -42,7 +42,7 @@ built_exact g terminals set len sound closed = record {
 
 -- a built nonterminal more
 pub built_insert : (g : GrammarView) (terminals : Bool) (flags : List Bool) (p a : ℕ) (right : List Symbol) → AreBuilt g terminals flags → IsProduction g p a right → All (Holds terminals flags) right → AreBuilt g terminals (set flags a true)
-built_insert g terminals flags p a right sound rule all b has = elim (Has-insert flags a b has) [
+built_insert g terminals flags p a right sound rule all b has = elim (IsMember-insert flags a b has) [
   | inl old ↦ sound b old
   | inr same ↦ rw same (nonterminal p a right rule (built_within g terminals flags sound right all) nothing)
 ]

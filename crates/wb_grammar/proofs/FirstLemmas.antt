@@ -7,7 +7,7 @@ use Rattle.std.proofs.lemmas.Bool.{true≢false, cases_eq, cases_lt}
 use Rattle.wb_base.specs.declared.symbol.Symbol.{Symbol}
 use Rattle.wb_base.specs.declared.symbol.Symbol.TheVariants.{Terminal, Nonterminal}
 use Rattle.wb_base.specs.Grammar.{GrammarView}
-use Rattle.wb_termset.specs.Sets.{Has, IsUnion, Grew, members}
+use Rattle.wb_termset.specs.Sets.{IsMember, IsUnion, Grew, members}
 use Rattle.wb_termset.proofs.CallerLemmas.{IsEmpty-replicate, members_le, members_mono, members_grow}
 use Rattle.wb_grammars.specs.Productions.{IsProduction}
 use Rattle.wb_grammars.specs.Derives.{Derives, done, keep, expand, IsNullable, IsFirst}
@@ -17,7 +17,7 @@ use Rattle.wb_grammar.specs.Firsts.{CanBegin, AreFirsts, IsFirstClosedAt, SetsWi
 
 -- after the symbols before `left`, the terminals in the set, and those that can begin `left`, are those that can begin all
 abbrev pub Begun : List Bool → List (List Bool) → List Symbol → List Bool → List Symbol → Type 0
-Begun nullable rows all set left = (t : ℕ) → CanBegin nullable rows all t ↔ (Has set t ⊎ CanBegin nullable rows left t)
+Begun nullable rows all set left = (t : ℕ) → CanBegin nullable rows all t ↔ (IsMember set t ⊎ CanBegin nullable rows left t)
 
 -- a pass over the productions, which has come to p
 pub record FirstPass (g : GrammarView) (nullable : List Bool) (before rows : List (List Bool)) (p : ℕ) (some : Bool) : Type 0 where
@@ -61,7 +61,7 @@ room_grow (x ∷ old) (y ∷ new) (suc a) e h n p q grew =
     omega (arith, members_le y, rest)
 
 -- what can begin the symbols by sound sets is in First
-pub begin_sound : (g : GrammarView) (nullable : List Bool) (rows : List (List Bool)) → ((a : ℕ) → Has nullable a → IsNullable g a) → AreFirsts g rows → (w : List Symbol) (t : ℕ) → CanBegin nullable rows w t → IsFirst g w t
+pub begin_sound : (g : GrammarView) (nullable : List Bool) (rows : List (List Bool)) → ((a : ℕ) → IsMember nullable a → IsNullable g a) → AreFirsts g rows → (w : List Symbol) (t : ℕ) → CanBegin nullable rows w t → IsFirst g w t
 begin_sound g nullable rows n sound [] t h = absurd h
 begin_sound g nullable rows n sound (Terminal u ∷ w) t h = (w, rw h (Derives-same g (Terminal u ∷ w)))
 begin_sound g nullable rows n sound (Nonterminal b ∷ w) t h = elim h [
@@ -71,14 +71,14 @@ begin_sound g nullable rows n sound (Nonterminal b ∷ w) t h = elim h [
 
 -- the case of a production, from what holds of its right side and of the later symbols
 begin_expand : (g : GrammarView) (nullable : List Bool) (rows : List (List Bool)) (a : ℕ) (w u v rest : List Symbol) (t : ℕ)
-    → (u ≡ [] → Has nullable a) → ((z : List Symbol) → u ≡ Terminal t ∷ z → Has (set_of rows a) t)
+    → (u ≡ [] → IsMember nullable a) → ((z : List Symbol) → u ≡ Terminal t ∷ z → IsMember (set_of rows a) t)
     → ((z : List Symbol) → v ≡ Terminal t ∷ z → CanBegin nullable rows w t)
     → Terminal t ∷ rest ≡ u ++ v → CanBegin nullable rows (Nonterminal a ∷ w) t
 begin_expand g nullable rows a w [] v rest t empty first later is = inr (empty refl, later rest (sym is))
 begin_expand g nullable rows a w (y ∷ u) v rest t empty first later is = inl (first u (cc))
 
 -- what is in First can begin the symbols by closed sets
-pub begin_complete : {g : GrammarView} (nullable : List Bool) (rows : List (List Bool)) → ((a : ℕ) → IsNullable g a → Has nullable a) → ((p : ℕ) → IsFirstClosedAt g nullable rows p) → {w x : List Symbol} → Derives g w x → (t : ℕ) (v : List Symbol) → x ≡ Terminal t ∷ v → CanBegin nullable rows w t
+pub begin_complete : {g : GrammarView} (nullable : List Bool) (rows : List (List Bool)) → ((a : ℕ) → IsNullable g a → IsMember nullable a) → ((p : ℕ) → IsFirstClosedAt g nullable rows p) → {w x : List Symbol} → Derives g w x → (t : ℕ) (v : List Symbol) → x ≡ Terminal t ∷ v → CanBegin nullable rows w t
 begin_complete nullable rows n closed done t v e = cc
 begin_complete nullable rows n closed (keep (Terminal u) r) t v e = cc
 begin_complete nullable rows n closed (keep (Nonterminal b) r) t v e = cc
@@ -104,12 +104,12 @@ first_exact g nullable rows n shape sound closed =
     }
 
 -- a union with what can begin a right side is sound
-pub sound_add : (g : GrammarView) (nullable new begin : List Bool) (rows : List (List Bool)) (p a : ℕ) (right : List Symbol) → IsNullableSet g nullable → AreFirsts g rows → IsProduction g p a right → a < length rows → ((t : ℕ) → Has begin t → CanBegin nullable rows right t) → IsUnion (set_of rows a) begin new → AreFirsts g (set rows a new)
+pub sound_add : (g : GrammarView) (nullable new begin : List Bool) (rows : List (List Bool)) (p a : ℕ) (right : List Symbol) → IsNullableSet g nullable → AreFirsts g rows → IsProduction g p a right → a < length rows → ((t : ℕ) → IsMember begin t → CanBegin nullable rows right t) → IsUnion (set_of rows a) begin new → AreFirsts g (set rows a new)
 sound_add g nullable new begin rows p a right n sound rule lt exact union b t has =
     elim (cases_eq b a) [
       | inl same ↦
           let at : set_of (set rows a new) b ≡ new = rw same (get_or-set_same rows a new [] lt) in
-          let has' : Has new t = ap (λ s. get_or s t false) (sym at) ∙ has in
+          let has' : IsMember new t = ap (λ s. get_or s t false) (sym at) ∙ has in
           elim ((union.each t).0 has') [
             | inl old ↦ rw same (sound a t old)
             | inr fresh ↦ (let (v, r) = begin_sound g nullable rows (λ b. (n.each b).0) sound right t (exact t fresh) in

@@ -3,7 +3,7 @@ use Rattle.std.proofs.Common.{◌≡◌, ℕ, ◌<◌, Bool, true, false, List, 
 use Rattle.std.specs.Prelude.{Option, MatchOption}
 use Rattle.std.proofs.lemmas.Bool.{true≢false}
 use Rattle.wb_base.specs.Grammar.{GrammarView}
-use Rattle.wb_termset.specs.Sets.{Has}
+use Rattle.wb_termset.specs.Sets.{IsMember}
 use Rattle.wb_graph.specs.Graphs.{Edge, AreReached}
 use Rattle.wb_grammars.specs.Shape.{IsReachable, IsProductive}
 use Rattle.wb_grammar.specs.declared.part.Part.TheVariants.{Whole}
@@ -23,7 +23,7 @@ unreachable_found g s edges flags n start (Some a) same at are reached h =
     (omega (arith, from.len, h.0), λ r. true≢false (sym ((from.each a).1 ((reached_is g s edges are a).1 r)) ∙ h.1))
 
 pub unproductive_found : (g : GrammarView) (set : List Bool) (found : Option ℕ) → IsBuiltSet g true set
-    → MatchOption found ((a : ℕ) → a < length set → Has set a) (λ a. (a < length set) × (¬ Has set a))
+    → MatchOption found ((a : ℕ) → a < length set → IsMember set a) (λ a. (a < length set) × (¬ IsMember set a))
     → MatchOption found ((a : ℕ) → a < g.nonterminals → IsProductive g a) (λ a. (a < g.nonterminals) × (¬ IsProductive g a))
 unproductive_found g set None is h = λ a lt. (productive_built g a).0 ((is.each a).0 (h a (omega (arith, is.len))))
 unproductive_found g set (Some a) is h = (omega (arith, is.len, h.0), λ p. h.1 ((is.each a).1 ((productive_built g a).1 p)))

@@ -2,7 +2,7 @@
 use Rattle.std.specs.Prelude.{◌≡◌, ◌+◌, ◌↔◌, ℕ, Bool, List, [], ◌∷◌, All, length, slice_index_or}
 use Rattle.wb_base.specs.declared.symbol.Symbol.TheVariants.{Nonterminal}
 use Rattle.wb_base.specs.Grammar.{GrammarView}
-use Rattle.wb_termset.specs.Sets.{Has}
+use Rattle.wb_termset.specs.Sets.{IsMember}
 use Rattle.wb_grammars.specs.Derives.{IsNullable, IsFirst}
 use Rattle.wb_grammars.specs.Shape.{IsReduced, IsLive}
 use Rattle.wb_grammars.specs.Cycles.{HasNoUnitCycle, HasNoHiddenLeftRecursion}
@@ -19,7 +19,7 @@ set_of sets a = slice_index_or sets a []
 -- the set has the nonterminals that derive the empty text, and the grammar has so many
 pub record IsNullableSet (g : GrammarView) (set : List Bool) : Type 0 where
   pub len : length set ≡ g.nonterminals
-  pub each : (a : ℕ) → Has set a ↔ IsNullable g a
+  pub each : (a : ℕ) → IsMember set a ↔ IsNullable g a
 
 -- a set for each nonterminal, with room for the terminals and the end of a text
 pub record AreSets (g : GrammarView) (sets : List (List Bool)) : Type 0 where
@@ -29,7 +29,7 @@ pub record AreSets (g : GrammarView) (sets : List (List Bool)) : Type 0 where
 -- the set of each nonterminal has the terminals that begin what it derives
 pub record AreFirstSets (g : GrammarView) (sets : List (List Bool)) : Type 0 where
   pub shape : AreSets g sets
-  pub each : (a t : ℕ) → Has (set_of sets a) t ↔ IsFirst g (Nonterminal a ∷ []) t
+  pub each : (a t : ℕ) → IsMember (set_of sets a) t ↔ IsFirst g (Nonterminal a ∷ []) t
 
 -- the facts are those of the grammar, which is reduced and has neither unit cycles nor hidden left recursion; so some terminal begins what is after any dot
 pub record AreFacts (g : GrammarView) (facts : FactsState) : Type 0 where

@@ -3,7 +3,7 @@ use Rattle.std.specs.Prelude.{◌≡◌, ℕ, ◌<◌, ◌⊎◌, Bool, List, []
 use Rattle.wb_base.specs.declared.symbol.Symbol.{Symbol}
 use Rattle.wb_base.specs.declared.symbol.Symbol.TheVariants.{Terminal, Nonterminal}
 use Rattle.wb_base.specs.Grammar.{GrammarView}
-use Rattle.wb_termset.specs.Sets.{Has, IsSubset, Grew}
+use Rattle.wb_termset.specs.Sets.{IsMember, IsSubset, Grew}
 use Rattle.wb_grammars.specs.Productions.{IsProduction}
 use Rattle.wb_grammars.specs.Derives.{IsFirst}
 use Rattle.wb_grammar.specs.Facts.{set_of}
@@ -12,15 +12,15 @@ use Rattle.wb_grammar.specs.Facts.{set_of}
 abbrev pub CanBegin : List Bool → List (List Bool) → List Symbol → ℕ → Type 0
 CanBegin nullable sets [] t = ⊥
 CanBegin nullable sets (Terminal u ∷ w) t = t ≡ u
-CanBegin nullable sets (Nonterminal b ∷ w) t = Has (set_of sets b) t ⊎ (Has nullable b × CanBegin nullable sets w t)
+CanBegin nullable sets (Nonterminal b ∷ w) t = IsMember (set_of sets b) t ⊎ (IsMember nullable b × CanBegin nullable sets w t)
 
 -- each member of each set is in First
 abbrev pub AreFirsts : GrammarView → List (List Bool) → Type 0
-AreFirsts g sets = (a t : ℕ) → Has (set_of sets a) t → IsFirst g (Nonterminal a ∷ []) t
+AreFirsts g sets = (a t : ℕ) → IsMember (set_of sets a) t → IsFirst g (Nonterminal a ∷ []) t
 
 -- the production adds nothing
 abbrev pub IsFirstClosedAt : GrammarView → List Bool → List (List Bool) → ℕ → Type 0
-IsFirstClosedAt g nullable sets p = (a : ℕ) (right : List Symbol) → IsProduction g p a right → (t : ℕ) → CanBegin nullable sets right t → Has (set_of sets a) t
+IsFirstClosedAt g nullable sets p = (a : ℕ) (right : List Symbol) → IsProduction g p a right → (t : ℕ) → CanBegin nullable sets right t → IsMember (set_of sets a) t
 
 -- every set is within the other of its number
 abbrev pub SetsWithin : List (List Bool) → List (List Bool) → Type 0

@@ -3,7 +3,7 @@
 ghost use Rattle.std.specs.Prelude.{◌≡◌, ◌+◌, ◌<◌, ◌↔◌, ◌∷◌, [], ℕ, IsTrue, length};
 ghost use Rattle.wb_base.specs.declared.symbol.Symbol.TheVariants.{Nonterminal};
 ghost use Rattle.wb_base.specs.Grammar.{GrammarView};
-ghost use Rattle.wb_termset.specs.Sets.{Has};
+ghost use Rattle.wb_termset.specs.Sets.{IsMember};
 ghost use Rattle.wb_grammars.specs.Derives.{IsNullable, IsFirst};
 ghost use Rattle.wb_grammar.specs.Facts.{AreFacts, set_of};
 
@@ -32,7 +32,7 @@ impl Facts {
     /// Whether the nonterminal derives the empty text. Takes no memory.
     pub fn nullable(&self, nonterminal: usize) -> bool
         requires { nonterminal < length self.now.nullable }
-        ensures set { IsTrue result ↔ Has self.now.nullable nonterminal }
+        ensures set { IsTrue result ↔ IsMember self.now.nullable nonterminal }
         ensures exact { (g : GrammarView) → AreFacts g self.now → IsTrue result ↔ IsNullable g nonterminal }
     {
         self.nullable.contains(nonterminal)
@@ -46,7 +46,7 @@ impl Facts {
         requires { nonterminal < length self.now.first }
         ensures set { result.now ≡ set_of self.now.first nonterminal }
         ensures count { (g : GrammarView) → AreFacts g self.now → length result.now ≡ g.terminals + 1 }
-        ensures exact { (g : GrammarView) → AreFacts g self.now → (t : ℕ) → Has result.now t ↔ IsFirst g (Nonterminal nonterminal ∷ []) t }
+        ensures exact { (g : GrammarView) → AreFacts g self.now → (t : ℕ) → IsMember result.now t ↔ IsFirst g (Nonterminal nonterminal ∷ []) t }
     {
         &self.first[nonterminal]
     }

@@ -2,7 +2,7 @@
 
 ghost use Rattle.std.specs.Prelude.{◌≡◌, ℕ, ◌+◌, ◌<◌, ◌↔◌, false, length, All, IfOk, IsTrue, replicate, slice_set};
 ghost use Rattle.wb_base.specs.Grammar.{IsSymbolBelow};
-ghost use Rattle.wb_termset.specs.Sets.{Has, Grew, IsUnion};
+ghost use Rattle.wb_termset.specs.Sets.{IsMember, Grew, IsUnion};
 ghost use Rattle.wb_grammar.specs.Facts.{IsNullableSet, AreSets, AreFirstSets, set_of};
 ghost use Rattle.wb_grammar.specs.Firsts.{CanBegin, AreFirsts, IsFirstClosedAt, SetsWithin, SetsGrew};
 
@@ -140,7 +140,7 @@ fn begin_of(
     requires nullable { length nullable.now ≡ length sets.now }
     requires symbols { All (IsSymbolBelow terminals (length sets.now)) symbols.now }
     ensures len { IfOk result (λ set. length set ≡ terminals + 1) }
-    ensures exact { IfOk result (λ set. (t : ℕ) → Has set t ↔ CanBegin nullable.now sets.now symbols.now t) }
+    ensures exact { IfOk result (λ set. (t : ℕ) → IsMember set t ↔ CanBegin nullable.now sets.now symbols.now t) }
 {
     let Some(count) = terminals.checked_add(1) else {
         return Err(AllocError);

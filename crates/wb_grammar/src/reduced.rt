@@ -1,7 +1,7 @@
 //! Whether every nonterminal is reachable from the start and derives some text.
 
 ghost use Rattle.std.specs.Prelude.{◌≡◌, ◌<◌, ℕ, Bool, true, false, length, All, IfOk, IfErr, OnOk, MatchOption, slice_index_or};
-ghost use Rattle.wb_termset.specs.Sets.{Has};
+ghost use Rattle.wb_termset.specs.Sets.{IsMember};
 ghost use Rattle.wb_grammars.specs.Shape.{IsReachable, IsProductive, IsReduced};
 ghost use Rattle.wb_grammar.specs.Facts.{IsNullableSet};
 ghost use Rattle.wb_grammar.specs.Refusals.{IsTrueRefusal};
@@ -78,7 +78,7 @@ fn first_unset(flags: &[bool]) -> Option<usize>
 
 // The first number that isn't in the set.
 fn first_missing(set: &TermSet) -> Option<usize>
-    ensures { MatchOption result ((a : ℕ) → a < length set.now → Has set.now a) (λ a. (a < length set.now) × (¬ Has set.now a)) }
+    ensures { MatchOption result ((a : ℕ) → a < length set.now → IsMember set.now a) (λ a. (a < length set.now) × (¬ IsMember set.now a)) }
 {
     'numbers: for number in 0..set.count() {
         if !set.contains(number) {

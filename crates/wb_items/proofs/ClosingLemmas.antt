@@ -7,8 +7,8 @@ use Rattle.std.proofs.lemmas.Bool.{cases_eq}
 use Rattle.wb_base.specs.declared.symbol.Symbol.{Symbol}
 use Rattle.wb_base.specs.declared.symbol.Symbol.TheVariants.{Nonterminal}
 use Rattle.wb_base.specs.Grammar.{GrammarView}
-use Rattle.wb_termset.specs.Sets.{Has}
-use Rattle.wb_termset.proofs.CallerLemmas.{IsSubset-insert, Has-insert_same, Has-insert, IsEmpty-replicate, has_or_not}
+use Rattle.wb_termset.specs.Sets.{IsMember}
+use Rattle.wb_termset.proofs.CallerLemmas.{IsSubset-insert, IsMember-insert_same, IsMember-insert, IsEmpty-replicate, has_or_not}
 use Rattle.wb_grammars.specs.declared.item.Item.{Item}
 use Rattle.wb_grammars.specs.Productions.{IsProduction}
 use Rattle.wb_grammars.specs.Items.{after_dot, initial_item}
@@ -61,7 +61,7 @@ closing_start g items = record {
 }
 
 -- nothing new is after the dot at the place
-pub closing_pass : (g : GrammarView) (items : List Item) (set : List Bool) (closure : List Item) (place : ℕ) → ((item : Item) (b : ℕ) (rest : List Symbol) → slice_get closure place ≡ Some item → after_dot g item ≡ Nonterminal b ∷ rest → Has set b) → IsClosing g items set closure place → IsClosing g items set closure (place + 1)
+pub closing_pass : (g : GrammarView) (items : List Item) (set : List Bool) (closure : List Item) (place : ℕ) → ((item : Item) (b : ℕ) (rest : List Symbol) → slice_get closure place ≡ Some item → after_dot g item ≡ Nonterminal b ∷ rest → IsMember set b) → IsClosing g items set closure place → IsClosing g items set closure (place + 1)
 closing_pass g items set closure place here h = record {
   len = h.len;
   front = h.front;
@@ -81,7 +81,7 @@ pub closing_more : (g : GrammarView) (items : List Item) (flags : List Bool) (cl
 closing_more g items flags closure place item b rest numbers here before lt rules h = record {
   len = length-set flags b true ∙ h.len;
   front = λ z k. Contains_left closure (map initial_item numbers) z (h.front z k);
-  complete = λ c q right has rule. elim (Has-insert flags b c has) [
+  complete = λ c q right has rule. elim (IsMember-insert flags b c has) [
     | inl old ↦ Contains_left closure (map initial_item numbers) (initial_item q) (h.complete c q right old rule)
     | inr same ↦
         let (j, at) = at_Contains numbers q (rules.complete q right (subst (λ k. IsProduction g q k right) same rule)) in
@@ -102,7 +102,7 @@ closing_more g items flags closure place item b rest numbers here before lt rule
         | inl same ↦
             let e : item ≡ z = at_once closure place item z here (subst (λ k. slice_get closure k ≡ Some z) same old) in
             let f : b ≡ c = nonterminal_same b c rest more (sym before ∙ ap (after_dot g) e ∙ is) in
-            subst (Has (set flags b true)) f (Has-insert_same flags b lt)
+            subst (IsMember (set flags b true)) f (IsMember-insert_same flags b lt)
         | inr ne ↦ IsSubset-insert flags b c (h.closed p z c more (omega arith) old is)
       ];
 }
@@ -119,11 +119,11 @@ closing_done g items flags closure list place past h there back item =
     (λ k. (let (p, at) = at_Contains closure item (back item k) in h.sound p item at), λ c. there item (closing_back g items flags closure place past h c))
 
 -- the nonterminal after the dot at the place is known
-pub closing_known : (g : GrammarView) (items : List Item) (flags : List Bool) (closure : List Item) (place : ℕ) (item : Item) (b : ℕ) (rest : List Symbol) → slice_get closure place ≡ Some item → after_dot g item ≡ Nonterminal b ∷ rest → ((¬ Has flags b) → ⊥) → IsClosing g items flags closure place → IsClosing g items flags closure (place + 1)
+pub closing_known : (g : GrammarView) (items : List Item) (flags : List Bool) (closure : List Item) (place : ℕ) (item : Item) (b : ℕ) (rest : List Symbol) → slice_get closure place ≡ Some item → after_dot g item ≡ Nonterminal b ∷ rest → ((¬ IsMember flags b) → ⊥) → IsClosing g items flags closure place → IsClosing g items flags closure (place + 1)
 closing_known g items flags closure place item b rest here before known h = closing_pass g items flags closure place (λ z c more at is.
     let e : item ≡ z = at_once closure place item z here at in
     let f : b ≡ c = nonterminal_same b c rest more (sym before ∙ ap (after_dot g) e ∙ is) in
     elim (has_or_not flags c) [
       | inl has ↦ has
-      | inr without ↦ absurd (known (subst (λ k. ¬ Has flags k) (sym f) without))
+      | inr without ↦ absurd (known (subst (λ k. ¬ IsMember flags k) (sym f) without))
     ]) h

@@ -1,7 +1,7 @@
 -- Sets of terminals for the items of numbered kernels.
 use Rattle.std.specs.Prelude.{◌≡◌, ◌↔◌, ℕ, ◌+◌, Bool, true, IsTrue, List, [], length, map, Some, All, Contains, slice_get, slice_index_or, slice_set}
 use Rattle.wb_grammars.specs.declared.item.Item.{Item}
-use Rattle.wb_termset.specs.Sets.{Has, IsEmpty}
+use Rattle.wb_termset.specs.Sets.{IsMember, IsEmpty}
 use Rattle.wb_items.specs.declared.item_lookahead.ItemLookahead.{ItemLookahead}
 use Rattle.wb_items.specs.Kernels.{KernelsView}
 
@@ -29,7 +29,7 @@ pub record Inserts (old : List (List ItemLookahead)) (s : ℕ) (item : Item) (te
   pub at : slice_get (row_of old s) place ≡ Some looks
   pub is : looks.item ≡ item
   pub after : new ≡ slice_set old s (slice_set (row_of old s) place (record looks { set = slice_set looks.set terminal true }))
-  pub was_new : IsTrue answer ↔ (¬ Has looks.set terminal)
+  pub was_new : IsTrue answer ↔ (¬ IsMember looks.set terminal)
 
 -- the items are those of the kernels' closures, place by place, and each set has room for the terminals and the end of a text
 pub record AreLookaheadsOf (kernels : KernelsView) (lookaheads : List (List ItemLookahead)) : Type 0 where

@@ -1,7 +1,7 @@
 //! The items of one kernel, each with a set of terminals.
 
 ghost use Rattle.std.specs.Prelude.{◌≡◌, ◌<◌, ◌↔◌, List, Bool, IsTrue, true, false, IfOk, Some, length, All, Contains, slice_get, slice_set};
-ghost use Rattle.wb_termset.specs.Sets.{Has, IsEmpty, IsUnion, Grew};
+ghost use Rattle.wb_termset.specs.Sets.{IsMember, IsEmpty, IsUnion, Grew};
 ghost use Rattle.wb_grammars.specs.declared.item.Item.{Item};
 ghost use Rattle.wb_items.specs.declared.item_lookahead.ItemLookahead.{ItemLookahead};
 ghost use Rattle.wb_items.specs.Kernels.{AreInOrder};
@@ -76,7 +76,7 @@ impl Row {
         requires place { place < length self.old }
         requires terminal { (looks : ItemLookahead) → slice_get self.old place ≡ Some looks → terminal < length looks.set }
         ensures after { (looks : ItemLookahead) × (slice_get self.old place ≡ Some looks) × (self.new ≡ slice_set self.old place (record looks { set = slice_set looks.set terminal true })) }
-        ensures new { (looks : ItemLookahead) → slice_get self.old place ≡ Some looks → IsTrue result ↔ (¬ Has looks.set terminal) }
+        ensures new { (looks : ItemLookahead) → slice_get self.old place ≡ Some looks → IsTrue result ↔ (¬ IsMember looks.set terminal) }
     {
         self.looks[place].set.insert(terminal)
     }

@@ -1,7 +1,7 @@
 //! Sets of terminals for the items of each kernel.
 
 ghost use Rattle.std.specs.Prelude.{◌≡◌, ◌<◌, ◌↔◌, List, Bool, IsTrue, true, false, IfOk, Some, length, Contains, slice_get, slice_set};
-ghost use Rattle.wb_termset.specs.Sets.{Has, IsUnion, Grew};
+ghost use Rattle.wb_termset.specs.Sets.{IsMember, IsUnion, Grew};
 ghost use Rattle.wb_grammars.specs.declared.item.Item.{Item};
 ghost use Rattle.wb_items.specs.declared.item_lookahead.ItemLookahead.{ItemLookahead};
 ghost use Rattle.wb_items.specs.Lookaheads.{AreLookaheadsOf, AreEmpty, ChangesAt, Inserts, IsSetOf, items_in, row_of};
@@ -106,7 +106,7 @@ impl Lookaheads {
         requires place { place < length (row_of self.old state) }
         requires terminal { (looks : ItemLookahead) → slice_get (row_of self.old state) place ≡ Some looks → terminal < length looks.set }
         ensures after { ChangesAt self.old state place (λ set. slice_set set terminal true) self.new }
-        ensures new { (looks : ItemLookahead) → slice_get (row_of self.old state) place ≡ Some looks → IsTrue result ↔ (¬ Has looks.set terminal) }
+        ensures new { (looks : ItemLookahead) → slice_get (row_of self.old state) place ≡ Some looks → IsTrue result ↔ (¬ IsMember looks.set terminal) }
     {
         self.rows[state].insert(place, terminal)
     }

@@ -12,10 +12,12 @@ mod graph;
 #[cfg(test)]
 mod lexical;
 #[cfg(test)]
-mod regex;
-#[cfg(test)]
 mod operation_tables;
 #[cfg(test)]
 mod operations;
+#[cfg(test)]
+mod regex;
+#[cfg(test)]
+mod termset;
 #[cfg(test)]
 mod values;

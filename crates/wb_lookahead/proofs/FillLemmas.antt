@@ -4,7 +4,7 @@ use Rattle.std.specs.Prelude.{slice_get, ◌↔◌}
 use Rattle.std.proofs.lemmas.Bool.{cases_eq}
 use Rattle.std.proofs.lemmas.Option.{same_Some}
 use Rattle.wb_base.specs.Grammar.{GrammarView}
-use Rattle.wb_termset.specs.Sets.{Has}
+use Rattle.wb_termset.specs.Sets.{IsMember}
 use Rattle.wb_grammars.specs.declared.item.Item.{Item}
 use Rattle.wb_items.specs.declared.item_lookahead.ItemLookahead.{ItemLookahead}
 use Rattle.wb_items.specs.Kernels.{KernelsView, closure_of}
@@ -24,7 +24,7 @@ of_stands kernels {one = one} {item} same stands = subst (λ z. StandsFor z one 
 
 -- a union with terminals that flow to the item of the place
 pub union_propagated : {kernels : KernelsView} {old new : List (List ItemLookahead)} {set : List Bool} {b : Bool} (place : Place) → place.state < length old → ArePropagated kernels old →
-    ((t : ℕ) → Has set t → FlowsTo kernels place.state place.item t) → Unites old place.state place.item set b new → ArePropagated kernels new
+    ((t : ℕ) → IsMember set t → FlowsTo kernels place.state place.item t) → Unites old place.state place.item set b new → ArePropagated kernels new
 union_propagated {kernels} {old} {new} {set} place lt h flows u = record {
   shape = shape_kept u lt h.shape;
   sound = union_sound kernels place u lt h.sound flows;

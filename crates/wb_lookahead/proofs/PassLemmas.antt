@@ -8,8 +8,8 @@ use Rattle.std.proofs.lemmas.Option.{slice_get-map, slice_get_read, slice_get-ge
 use Rattle.wb_base.specs.declared.symbol.Symbol.{Symbol}
 use Rattle.wb_base.specs.declared.symbol.Symbol.TheVariants.{Terminal, Nonterminal}
 use Rattle.wb_base.specs.Grammar.{GrammarView, Production}
-use Rattle.wb_termset.specs.Sets.{Has, IsEmpty}
-use Rattle.wb_termset.proofs.CallerLemmas.{IsEmpty-replicate, Has-insert}
+use Rattle.wb_termset.specs.Sets.{IsMember, IsEmpty}
+use Rattle.wb_termset.proofs.CallerLemmas.{IsEmpty-replicate, IsMember-insert}
 use Rattle.wb_grammars.specs.declared.item.Item.{Item}
 use Rattle.wb_grammars.specs.Productions.{IsProduction, right_of, end_of}
 use Rattle.wb_grammars.specs.Derives.{Derives, keep, IsFirst}
@@ -95,9 +95,9 @@ start_has {kernels} h = subst (λ z. HasItem kernels.grammar z (start_item kerne
 pub first_within : {kernels : KernelsView} → AreKernels kernels → 0 < count_of kernels
 first_within {kernels} h = zero_state (prefix_of kernels) h.states
 
-pub one_member : (n k : ℕ) (empty one : List Bool) → empty ≡ replicate n false → one ≡ set empty k true → (t : ℕ) → Has one t → t ≡ k
-one_member n k empty one e f t has = elim (Has-insert empty k t (subst (λ z. Has z t) f has)) [
-  | inl before ↦ absurd (IsEmpty-replicate n t (subst (λ z. Has z t) e before))
+pub one_member : (n k : ℕ) (empty one : List Bool) → empty ≡ replicate n false → one ≡ set empty k true → (t : ℕ) → IsMember one t → t ≡ k
+one_member n k empty one e f t has = elim (IsMember-insert empty k t (subst (λ z. IsMember z t) f has)) [
+  | inl before ↦ absurd (IsEmpty-replicate n t (subst (λ z. IsMember z t) e before))
   | inr same ↦ same
 ]
 

@@ -4,7 +4,7 @@ use Rattle.std.specs.Prelude.{All, Contains, slice_get}
 use Rattle.std.proofs.lemmas.List.Elements.{All-contains}
 use Rattle.wb_base.specs.declared.symbol.Symbol.{Symbol}
 use Rattle.wb_base.specs.Grammar.{GrammarView}
-use Rattle.wb_termset.specs.Sets.{Has}
+use Rattle.wb_termset.specs.Sets.{IsMember}
 use Rattle.wb_grammars.specs.declared.item.Item.{Item}
 use Rattle.wb_grammars.specs.Productions.{IsProduction}
 use Rattle.wb_grammars.specs.Items.{initial_item, HasItem}
@@ -37,8 +37,8 @@ held_len {kernels} h lookaheads shape s lt item set is =
 
 -- what is listed at an item is in its set
 pub listed_held : {kernels : KernelsView} → AreKernels kernels → (lookaheads : List (List ItemLookahead)) → AreLookaheadsOf kernels lookaheads → (s : ℕ) → s < count_of kernels → (item : Item)
-    (set : List Bool) → IsSetOf lookaheads s item set → (t : ℕ) → Lists lookaheads s item t → Has set t
-listed_held h lookaheads shape s lt item set is t (other, there, has) = subst (λ z. Has z t) (set_once h lookaheads shape s lt item other set there is) has
+    (set : List Bool) → IsSetOf lookaheads s item set → (t : ℕ) → Lists lookaheads s item t → IsMember set t
+listed_held h lookaheads shape s lt item set is t (other, there, has) = subst (λ z. IsMember z t) (set_once h lookaheads shape s lt item other set there is) has
 
 -- the productions of a nonterminal, by the grammar of the kernels
 pub productions_here : (kernels : KernelsView) {g : GrammarView} → kernels.grammar ≡ g → (rows : List (List ℕ)) → AreProductions g rows → (b : ℕ) (numbers : List ℕ) →

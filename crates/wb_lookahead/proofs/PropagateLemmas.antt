@@ -5,7 +5,7 @@ use Rattle.std.proofs.lemmas.Option.{slice_get-get_or, slice_get_within, same_So
 use Rattle.wb_base.specs.declared.symbol.Symbol.{Symbol}
 use Rattle.wb_base.specs.declared.symbol.Symbol.TheVariants.{Terminal, Nonterminal}
 use Rattle.wb_base.specs.Grammar.{GrammarView, Production}
-use Rattle.wb_termset.specs.Sets.{Has}
+use Rattle.wb_termset.specs.Sets.{IsMember}
 use Rattle.wb_grammars.specs.declared.item.Item.{Item}
 use Rattle.wb_grammars.specs.Productions.{IsProduction}
 use Rattle.wb_grammars.specs.Derives.{Derives, done, IsFirst}
@@ -58,8 +58,8 @@ nothing_begins g item le x rest is u f = nothing_first u (subst (λ z. IsFirst g
 pub open_lists : (g : GrammarView) (set : List Bool) (lookaheads : List (List ItemLookahead)) (s : ℕ) (item : Item) (n p0 : ℕ) (rest0 : List Symbol) →
     after_dot g item ≡ Nonterminal n ∷ rest0 → IsFirstOf g n p0 →
     ((u : ℕ) → IsFirst g rest0 u → Lists lookaheads s (initial_item p0) u) →
-    (Derives g rest0 [] → (t : ℕ) → Has set t → Lists lookaheads s (initial_item p0) t) →
-    (t u b p : ℕ) (rest : List Symbol) → after_dot g item ≡ Nonterminal b ∷ rest → IsFirstOf g b p → Has set t → IsFirst g (rest ++ Terminal t ∷ []) u →
+    (Derives g rest0 [] → (t : ℕ) → IsMember set t → Lists lookaheads s (initial_item p0) t) →
+    (t u b p : ℕ) (rest : List Symbol) → after_dot g item ≡ Nonterminal b ∷ rest → IsFirstOf g b p → IsMember set t → IsFirst g (rest ++ Terminal t ∷ []) u →
     Lists lookaheads s (initial_item p) u
 open_lists g set lookaheads s item n p0 rest0 here first0 of_rest of_set t u b p rest at first has begins =
     let heads : Nonterminal b ∷ rest ≡ Nonterminal n ∷ rest0 = sym at ∙ here in

@@ -5,8 +5,8 @@ use Rattle.std.proofs.lemmas.Bool.{true≢false}
 use Rattle.wb_base.specs.declared.symbol.Symbol.{Symbol}
 use Rattle.wb_base.specs.declared.symbol.Symbol.TheVariants.{Terminal, Nonterminal}
 use Rattle.wb_base.specs.Grammar.{GrammarView}
-use Rattle.wb_termset.specs.Sets.{Has, IsUnion, IsEmpty}
-use Rattle.wb_termset.proofs.CallerLemmas.{Has-insert, Has-insert_same, IsSubset-insert}
+use Rattle.wb_termset.specs.Sets.{IsMember, IsUnion, IsEmpty}
+use Rattle.wb_termset.proofs.CallerLemmas.{IsMember-insert, IsMember-insert_same, IsSubset-insert}
 use Rattle.wb_grammars.specs.Derives.{Derives, done, keep, expand, IsFirst}
 use Rattle.wb_grammars.proofs.DerivesLemmas.{Derives-same, Derives-append, Derives-split, First-append, nil_parts}
 use Rattle.wb_lookahead.specs.declared.first_of.Rest.{Rest}
@@ -50,7 +50,7 @@ begins_start g w set len none = record {
 -- a nonterminal that derives the empty text
 pub begins_on : (g : GrammarView) (w left : List Symbol) (set first union : List Bool) (b : ℕ) →
     BeginsSoFar g w set (Nonterminal b ∷ left) → IsUnion set first union →
-    ((t : ℕ) → Has first t ↔ IsFirst g (Nonterminal b ∷ []) t) → Derives g (Nonterminal b ∷ []) [] → BeginsSoFar g w union left
+    ((t : ℕ) → IsMember first t ↔ IsFirst g (Nonterminal b ∷ []) t) → Derives g (Nonterminal b ∷ []) [] → BeginsSoFar g w union left
 begins_on g w left set first union b h joined is nullable = record {
   len = joined.len ∙ h.len;
   first = λ u. (
@@ -78,7 +78,7 @@ begins_on g w left set first union b h joined is nullable = record {
 -- one that doesn't: nothing after it counts
 pub begins_stop : (g : GrammarView) (w left : List Symbol) (set first union : List Bool) (b : ℕ) →
     BeginsSoFar g w set (Nonterminal b ∷ left) → IsUnion set first union →
-    ((t : ℕ) → Has first t ↔ IsFirst g (Nonterminal b ∷ []) t) → (Derives g (Nonterminal b ∷ []) [] → ⊥) →
+    ((t : ℕ) → IsMember first t ↔ IsFirst g (Nonterminal b ∷ []) t) → (Derives g (Nonterminal b ∷ []) [] → ⊥) →
     IsRest g w (record { set = union; empty = false })
 begins_stop g w left set first union b h joined is not = record {
   len = joined.len ∙ h.len;
@@ -101,7 +101,7 @@ begins_stop g w left set first union b h joined is not = record {
 -- a terminal: nothing after it counts
 pub begins_terminal : (g : GrammarView) (w left : List Symbol) (set new : List Bool) (v : ℕ) → BeginsSoFar g w set (Terminal v ∷ left) →
     length new ≡ length set →
-    ((u : ℕ) → Has new u ↔ (Has set u ⊎ (u ≡ v))) → IsRest g w (record { set = new; empty = false })
+    ((u : ℕ) → IsMember new u ↔ (IsMember set u ⊎ (u ≡ v))) → IsRest g w (record { set = new; empty = false })
 begins_terminal g w left set new v h len is = record {
   len = len ∙ h.len;
   first = λ u. (
@@ -139,6 +139,6 @@ pub begins_insert : (g : GrammarView) (w left all : List Symbol) (set new : List
 begins_insert g w left all set new v all_is lt h is =
     begins_terminal g w left set new v (subst (BeginsSoFar g w set) all_is h) (ap (λ (z : List Bool). length z) is ∙ length-set set v true)
     (λ u. (
-      λ has. Has-insert set v u (subst (λ z. Has z u) is has),
-      λ p. subst (λ z. Has z u) (sym is) (elim p [ inl old ↦ IsSubset-insert set v u old | inr same ↦ subst (Has (slice_set set v true)) (sym same) (Has-insert_same set v lt) ]),
+      λ has. IsMember-insert set v u (subst (λ z. IsMember z u) is has),
+      λ p. subst (λ z. IsMember z u) (sym is) (elim p [ inl old ↦ IsSubset-insert set v u old | inr same ↦ subst (IsMember (slice_set set v true)) (sym same) (IsMember-insert_same set v lt) ]),
     ))

@@ -8,7 +8,7 @@ use Rattle.std.proofs.lemmas.List.{get_or_append_left}
 use Rattle.std.proofs.lemmas.Option.{slice_get_within}
 use Rattle.wb_base.specs.declared.symbol.Symbol.{Symbol}
 use Rattle.wb_base.specs.declared.symbol.Symbol.TheVariants.{Terminal, Nonterminal}
-use Rattle.wb_termset.specs.Sets.{Has}
+use Rattle.wb_termset.specs.Sets.{IsMember}
 use Rattle.wb_grammars.specs.declared.item.Item.{Item}
 use Rattle.wb_grammars.specs.Productions.{top_of}
 use Rattle.wb_grammars.specs.Items.{after_dot, HasItem}
@@ -193,7 +193,7 @@ module _ {kernels : KernelsView} {s : ℕ} {row : List Action} where
 
   -- the terminals with an action are the valid ones
   pub row_valid : AreKernels kernels → s < count_of kernels → IsRowOf kernels s row → (set : List Bool) → length set ≡ length row →
-      ((t : ℕ) → Has set t ↔ (action_in row t ≢ act.None)) → IsValidSet kernels s set
+      ((t : ℕ) → IsMember set t ↔ (action_in row t ≢ act.None)) → IsValidSet kernels s set
   row_valid h lt is set len each = record {
     len = len ∙ is.sound.len;
     each = λ t le. (

@@ -6,7 +6,7 @@ use Rattle.std.proofs.lemmas.List.Elements.{All-cons, All-push, All-contains, Co
 use Rattle.std.proofs.lemmas.Bool.{cases_eq}
 use Rattle.std.proofs.lemmas.Option.{same_Some}
 use Rattle.wb_grammars.specs.declared.item.Item.{Item}
-use Rattle.wb_termset.specs.Sets.{Has}
+use Rattle.wb_termset.specs.Sets.{IsMember}
 use Rattle.wb_items.specs.declared.item_lookahead.ItemLookahead.{ItemLookahead}
 use Rattle.wb_items.specs.Kernels.{KernelsView, AreKernels, count_of}
 use Rattle.wb_items.specs.Lookaheads.{AreLookaheadsOf, items_in, row_of}
@@ -90,7 +90,7 @@ adds_length {old} {new} place (stays item is there) = (let e : length new ≡ le
 -- what a union leaves flows where it is listed
 pub union_sound : (kernels : KernelsView) (place : Place) {old new : List (List ItemLookahead)} {added : List Bool} {b : Bool} →
     Unites old place.state place.item added b new → place.state < length old →
-    ((s : ℕ) (item : Item) (t : ℕ) → Lists old s item t → FlowsTo kernels s item t) → ((t : ℕ) → Has added t → FlowsTo kernels place.state place.item t) →
+    ((s : ℕ) (item : Item) (t : ℕ) → Lists old s item t → FlowsTo kernels s item t) → ((t : ℕ) → IsMember added t → FlowsTo kernels place.state place.item t) →
     (s : ℕ) (item : Item) (t : ℕ) → Lists new s item t → FlowsTo kernels s item t
 union_sound kernels place u lt sound flows s item t lists = elim (lists_new u lt s item t lists) [
   | inl before ↦ sound s item t before
@@ -107,7 +107,7 @@ is_place k lookaheads shape s lt item at e = record { state = lt; here = closure
 
 -- a union that adds something, whose place then waits
 pub spread_sound : {kernels : KernelsView} (place : Place) {old new : List (List ItemLookahead)} {added : List Bool} {b : Bool} {w v : List Place} → AreKernels kernels →
-    IsPlace kernels place → Unites old place.state place.item added b new → AreSound kernels old w → ((t : ℕ) → Has added t → FlowsTo kernels place.state place.item t) →
+    IsPlace kernels place → Unites old place.state place.item added b new → AreSound kernels old w → ((t : ℕ) → IsMember added t → FlowsTo kernels place.state place.item t) →
     Adds w place v → AreSound kernels new v
 spread_sound {kernels} place {old} k p u h flows adds =
     let lt = state_within k place p.state old h.shape in
@@ -123,7 +123,7 @@ spread_spreads {kernels} place {old} {new} {added} {b} {w} {v} lt u grew places 
   less = (let less = room_less u lt grew in let more = adds_length place adds in omega (arith, less, more));
 }
   where
-    kept : (s : ℕ) (item : Item) → (((s ≡ place.state) × (item ≡ place.item)) → ⊥) → (t : ℕ) → Lists old s item t ⊎ ((s ≡ place.state) × (item ≡ place.item) × Has added t) →
+    kept : (s : ℕ) (item : Item) → (((s ≡ place.state) × (item ≡ place.item)) → ⊥) → (t : ℕ) → Lists old s item t ⊎ ((s ≡ place.state) × (item ≡ place.item) × IsMember added t) →
         Lists old s item t
     kept s item other t (inl before) = before
     kept s item other t (inr (s_is, i_is, has)) = absurd (other (s_is, i_is))

@@ -6,7 +6,7 @@ use Rattle.std.proofs.lemmas.List.{get_or-map, map-set, set-get_or}
 use Rattle.std.proofs.lemmas.List.Elements.{All-set, All-get_or}
 use Rattle.std.proofs.lemmas.Option.{slice_get-map, slice_get_within, get_or_from_slice_get, same_Some}
 use Rattle.wb_grammars.specs.declared.item.Item.{Item}
-use Rattle.wb_termset.specs.Sets.{Has}
+use Rattle.wb_termset.specs.Sets.{IsMember}
 use Rattle.wb_items.specs.declared.item_lookahead.ItemLookahead.{ItemLookahead}
 use Rattle.wb_items.specs.Kernels.{KernelsView}
 use Rattle.wb_items.specs.Lookaheads.{AreLookaheadsOf, items_in, row_of}
@@ -15,7 +15,7 @@ use Rattle.wb_lookahead.specs.Inner.Spreading.{Lists}
 
 -- a terminal is in a set at the item of the row
 abbrev pub RowLists : List ItemLookahead → Item → ℕ → Type 0
-RowLists row item t = (s : List Bool) × Contains row (record { item = item; set = s }) × Has s t
+RowLists row item t = (s : List Bool) × Contains row (record { item = item; set = s }) × IsMember s t
 
 looks_at : {row new : List ItemLookahead} {p : ℕ} {added : List Bool} {b : Bool} (u : UnitesIn row p added b new) (d : ItemLookahead) →
     get_or row p d ≡ u.looks
@@ -53,7 +53,7 @@ row_keeps {row} {new} {p} u item t (s, (k, lt, e), has) =
             u.union,
             subst (λ z. Contains new (record { item = z; set = u.union })) item_is (new_holds u),
             (u.joined.each t).1
-                (inl (subst (λ z. Has z t) (sym set_is) has)),
+                (inl (subst (λ z. IsMember z t) (sym set_is) has)),
           )
       | inr other ↦ (
         s,
@@ -65,20 +65,20 @@ row_keeps {row} {new} {p} u item t (s, (k, lt, e), has) =
 
 -- what the new row lists it listed, or it was added
 pub row_new : {row new : List ItemLookahead} {p : ℕ} {added : List Bool} {b : Bool} (u : UnitesIn row p added b new) →
-    (item : Item) (t : ℕ) → RowLists new item t → RowLists row item t ⊎ ((item ≡ u.looks.item) × Has added t)
+    (item : Item) (t : ℕ) → RowLists new item t → RowLists row item t ⊎ ((item ≡ u.looks.item) × IsMember added t)
 row_new {row} {new} {p} {added} u item t (s, holds, has) = go (subst (λ z. Contains z (looks_of item s)) u.is holds)
   where
     old_looks : RowLists row u.looks.item t → u.looks.item ≡ item → RowLists row item t
     old_looks h e = subst (λ z. RowLists row z t) e h
 
-    go : Contains (set row p (changed u)) (looks_of item s) → RowLists row item t ⊎ ((item ≡ u.looks.item) × Has added t)
+    go : Contains (set row p (changed u)) (looks_of item s) → RowLists row item t ⊎ ((item ≡ u.looks.item) × IsMember added t)
     go (k, lt, e) = elim (cases_eq k p) [
       | inl same ↦
           let is : changed u ≡ looks_of item s = sym (get_or-set_same row p (changed u) (looks_of item s) (place_within u))
           ∙ ap (λ z. get_or (set row p (changed u)) z (looks_of item s)) (sym same) ∙ e in
           let set_is : u.union ≡ s = ap (λ (z : ItemLookahead). z.set) is in
           let item_is : u.looks.item ≡ item = ap (λ (z : ItemLookahead). z.item) is in
-          elim ((u.joined.each t).0 (subst (λ z. Has z t) (sym set_is) has)) [
+          elim ((u.joined.each t).0 (subst (λ z. IsMember z t) (sym set_is) has)) [
             | inl old ↦ inl (old_looks (u.looks.set, (p, place_within u, looks_at u u.looks), old) item_is)
             | inr fresh ↦ inr (sym item_is, fresh)
           ]
@@ -95,7 +95,7 @@ row_new {row} {new} {p} {added} u item t (s, holds, has) = go (subst (λ z. Cont
     ]
 
 pub row_added : {row new : List ItemLookahead} {p : ℕ} {added : List Bool} {b : Bool} (u : UnitesIn row p added b new) → (t : ℕ) →
-    Has added t → RowLists new u.looks.item t
+    IsMember added t → RowLists new u.looks.item t
 row_added u t has = (u.union, new_holds u, (u.joined.each t).1 (inr has))
 
 -- the item at the place
@@ -121,7 +121,7 @@ module _ {old new : List (List ItemLookahead)} {s : ℕ} {item : Item} {added : 
 
   -- what is listed was listed, or was added
   pub lists_new : Unites old s item added b new → s < length old → (k : ℕ) (i : Item) (t : ℕ) → Lists new k i t → Lists old k i t ⊎
-      ((k ≡ s) × (i ≡ item) × Has added t)
+      ((k ≡ s) × (i ≡ item) × IsMember added t)
   lists_new u lt k i t h = elim (cases_eq k s) [
     | inl same ↦
         elim (row_new u.in_row i t (subst (λ z. RowLists z i t) (ap (row_of new) same ∙ row_same u lt) h)) [
@@ -132,7 +132,7 @@ module _ {old new : List (List ItemLookahead)} {s : ℕ} {item : Item} {added : 
   ]
 
   -- what was added is listed
-  pub lists_added : Unites old s item added b new → s < length old → (t : ℕ) → Has added t → Lists new s item t
+  pub lists_added : Unites old s item added b new → s < length old → (t : ℕ) → IsMember added t → Lists new s item t
   lists_added u lt t has = subst (λ z. RowLists z item t) (sym (row_same u lt))
       (subst (λ z. RowLists u.row z t) (item_at u.in_row item u.at) (row_added u.in_row t has))
 

@@ -1,7 +1,7 @@
 -- When nothing waits, the sets are the lookaheads.
 use Rattle.std.proofs.Common.{◌≡◌, ℕ, zero, suc, ◌<◌, ◌⊎◌, Bool, List, [], ◌∷◌, ◌++◌, length, Some, refl, sym, ◌∙◌, ap, subst, inl, inr, arith}
 use Rattle.std.specs.Prelude.{All, Contains, ◌↔◌, slice_get}
-use Rattle.wb_termset.specs.Sets.{Has}
+use Rattle.wb_termset.specs.Sets.{IsMember}
 use Rattle.wb_grammars.specs.declared.item.Item.{Item}
 use Rattle.wb_grammars.specs.Items.{start_item}
 use Rattle.wb_grammars.specs.Productions.{end_of}
@@ -91,7 +91,7 @@ pub all_filled : {kernels : KernelsView} {lookaheads : List (List ItemLookahead)
     ((s : ℕ) → s < count_of kernels → IsFilled kernels lookaheads s (length (closure_of kernels s))) → AreLookaheads kernels lookaheads
 all_filled {kernels} {lookaheads} h propagated filled = record { shape = propagated.shape; exact = exact }
   where
-    exact : (s : ℕ) (item : Item) (a : List Bool) (t : ℕ) → s < count_of kernels → IsSetOf lookaheads s item a → Has a t ↔ IsLookahead kernels.grammar (prefix_of kernels s) item t
+    exact : (s : ℕ) (item : Item) (a : List Bool) (t : ℕ) → s < count_of kernels → IsSetOf lookaheads s item a → IsMember a t ↔ IsLookahead kernels.grammar (prefix_of kernels s) item t
     exact s item a t lt set_is =
         let laws = flows_exact kernels.grammar (count_of kernels) (prefix_of kernels) (LeadsTo kernels) h.live h.states s lt item t in (
           λ has. laws.0 (propagated.sound s item t (a, set_is, has)),
@@ -101,7 +101,7 @@ all_filled {kernels} {lookaheads} h propagated filled = record { shape = propaga
               let has = flows_has (prefix_of kernels) h.live h.states f in
               let (j, at) = at_Contains (closure_of kernels s) one ((h.closures s lt one).1 (stands_has h s lt one item stands has)) in
               let (b, other, has) = filled s lt j one (slice_get_within (closure_of kernels s) j one at) at item t stands f in
-              subst (λ z. Has z t) (set_once h lookaheads propagated.shape s lt item b a other set_is) has,
+              subst (λ z. IsMember z t) (set_once h lookaheads propagated.shape s lt item b a other set_is) has,
         )
 
 -- without the first that waits, the sets are as sound

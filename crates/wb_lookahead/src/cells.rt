@@ -1,7 +1,7 @@
 //! Actions put into a row, one on each terminal.
 
 ghost use Rattle.std.specs.Prelude.{◌≡◌, ◌≤◌, ◌<◌, ◌↔◌, IsTrue, IfErr, OnOk, length};
-ghost use Rattle.wb_termset.specs.Sets.{Has};
+ghost use Rattle.wb_termset.specs.Sets.{IsMember};
 ghost use Rattle.wb_lookahead.specs.Tables.{ComesBefore};
 ghost use Rattle.wb_lookahead.specs.Rows.{IsClash, IsReduction, Puts, ShowsBoth};
 
@@ -17,8 +17,8 @@ pub(crate) fn put_all(
     row: &mut [Action],
 ) -> Result<(), TableRefusal>
     requires { length row.old ≡ length set.now }
-    ensures ok { OnOk result (Puts row.old (Has set.now) action row.new) }
-    ensures refused { IfErr result (IsClash state row.old (Has set.now) action) }
+    ensures ok { OnOk result (Puts row.old (IsMember set.now) action row.new) }
+    ensures refused { IfErr result (IsClash state row.old (IsMember set.now) action) }
 {
     'terminals: for terminal in 0..set.count() {
         if set.contains(terminal) {

@@ -5,7 +5,7 @@
 
 ghost use Rattle.std.specs.Prelude.{◌≡◌, ◌<◌, ◌+◌, ◌↔◌, [], ℕ, List, IfOk, IfSome, MatchOption, OnOk, length};
 ghost use Rattle.wb_base.specs.declared.symbol.Symbol.{Symbol};
-ghost use Rattle.wb_termset.specs.Sets.{Has};
+ghost use Rattle.wb_termset.specs.Sets.{IsMember};
 ghost use Rattle.wb_grammars.specs.declared.item.Item.{Item};
 ghost use Rattle.wb_grammars.specs.Productions.{IsProduction};
 ghost use Rattle.wb_grammars.specs.Items.{HasItem, initial_item};
@@ -204,7 +204,7 @@ fn fill_all(
     requires state { state < count_of context.now.kernels.now }
     requires has { (q : ℕ) (right : List Symbol) → IsProduction context.now.kernels.now.grammar q nonterminal right → HasItem context.now.kernels.now.grammar (prefix_of context.now.kernels.now state) (initial_item q) }
     requires len { length set.now ≡ context.now.kernels.now.grammar.terminals + 1 }
-    requires exact { (q t : ℕ) (right : List Symbol) → IsProduction context.now.kernels.now.grammar q nonterminal right → Has set.now t ↔ FlowsTo context.now.kernels.now state (initial_item q) t }
+    requires exact { (q t : ℕ) (right : List Symbol) → IsProduction context.now.kernels.now.grammar q nonterminal right → IsMember set.now t ↔ FlowsTo context.now.kernels.now state (initial_item q) t }
     requires propagated { ArePropagated context.now.kernels.now lookaheads.old }
     ensures propagated { ArePropagated context.now.kernels.now lookaheads.new }
     ensures keeps { Keeps lookaheads.old lookaheads.new }

@@ -7,7 +7,7 @@ ghost use Rattle.std.specs.Prelude.{◌≡◌, ◌+◌, ◌<◌, ◌^◌, ◌∷
 ghost use Rattle.wb_base.specs.declared.symbol.Symbol.{Symbol};
 ghost use Rattle.wb_base.specs.declared.symbol.Symbol.TheVariants.{Terminal, Nonterminal};
 ghost use Rattle.wb_base.specs.Grammar.{IsSymbolBelow};
-ghost use Rattle.wb_termset.specs.Sets.{Has};
+ghost use Rattle.wb_termset.specs.Sets.{IsMember};
 ghost use Rattle.wb_grammars.specs.Productions.{IsProduction};
 ghost use Rattle.wb_grammars.specs.Derives.{IsFirst};
 ghost use Rattle.wb_grammars.specs.Items.{after_dot, advance, initial_item, HasItem};
@@ -67,11 +67,11 @@ fn pass_all(
     requires state { state < count_of context.now.kernels.now }
     requires has { (q : ℕ) (right : List Symbol) → IsProduction context.now.kernels.now.grammar q nonterminal right → HasItem context.now.kernels.now.grammar (prefix_of context.now.kernels.now state) (initial_item q) }
     requires len { length set.now ≡ context.now.kernels.now.grammar.terminals + 1 }
-    requires flows { (q t : ℕ) (right : List Symbol) → IsProduction context.now.kernels.now.grammar q nonterminal right → Has set.now t → FlowsTo context.now.kernels.now state (initial_item q) t }
+    requires flows { (q t : ℕ) (right : List Symbol) → IsProduction context.now.kernels.now.grammar q nonterminal right → IsMember set.now t → FlowsTo context.now.kernels.now state (initial_item q) t }
     requires sound { AreSound context.now.kernels.now lookaheads.old worklist.old }
     ensures sound { OnOk result (AreSound context.now.kernels.now lookaheads.new worklist.new) }
     ensures spreads { OnOk result (Spreads lookaheads.old worklist.old lookaheads.new worklist.new) }
-    ensures passed { OnOk result ((q t : ℕ) (right : List Symbol) → IsProduction context.now.kernels.now.grammar q nonterminal right → Has set.now t → IsItemPassed context.now.kernels.now lookaheads.new state (initial_item q) t) }
+    ensures passed { OnOk result ((q t : ℕ) (right : List Symbol) → IsProduction context.now.kernels.now.grammar q nonterminal right → IsMember set.now t → IsItemPassed context.now.kernels.now lookaheads.new state (initial_item q) t) }
 {
     let numbers = context.productions[nonterminal].as_slice();
     'productions: for &production in numbers {
@@ -94,11 +94,11 @@ fn pass_item(
     requires state { state < count_of context.now.kernels.now }
     requires has { HasItem context.now.kernels.now.grammar (prefix_of context.now.kernels.now state) item }
     requires len { length set.now ≡ context.now.kernels.now.grammar.terminals + 1 }
-    requires flows { (t : ℕ) → Has set.now t → FlowsTo context.now.kernels.now state item t }
+    requires flows { (t : ℕ) → IsMember set.now t → FlowsTo context.now.kernels.now state item t }
     requires sound { AreSound context.now.kernels.now lookaheads.old worklist.old }
     ensures sound { OnOk result (AreSound context.now.kernels.now lookaheads.new worklist.new) }
     ensures spreads { OnOk result (Spreads lookaheads.old worklist.old lookaheads.new worklist.new) }
-    ensures passed { OnOk result ((t : ℕ) → Has set.now t → IsItemPassed context.now.kernels.now lookaheads.new state item t) }
+    ensures passed { OnOk result ((t : ℕ) → IsMember set.now t → IsItemPassed context.now.kernels.now lookaheads.new state item t) }
 {
     let Some(symbol) = symbol_after(context.grammar, item) else {
         return Ok(());
@@ -131,11 +131,11 @@ fn move_on(
     requires symbol { (rest : List Symbol) × (after_dot kernels.now.grammar item ≡ symbol ∷ rest) }
     requires room { item.dot + 1 < 2 ^ 64 }
     requires len { length set.now ≡ kernels.now.grammar.terminals + 1 }
-    requires flows { (t : ℕ) → Has set.now t → FlowsTo kernels.now state item t }
+    requires flows { (t : ℕ) → IsMember set.now t → FlowsTo kernels.now state item t }
     requires sound { AreSound kernels.now lookaheads.old worklist.old }
     ensures sound { OnOk result (AreSound kernels.now lookaheads.new worklist.new) }
     ensures spreads { OnOk result (Spreads lookaheads.old worklist.old lookaheads.new worklist.new) }
-    ensures lists { OnOk result ((t next : ℕ) → LeadsTo kernels.now state symbol next → Has set.now t → Lists lookaheads.new next (advance item) t) }
+    ensures lists { OnOk result ((t next : ℕ) → LeadsTo kernels.now state symbol next → IsMember set.now t → Lists lookaheads.new next (advance item) t) }
 {
     let Some(next) = kernels.next(state, symbol) else {
         return Ok(());
@@ -163,11 +163,11 @@ fn open_after(
     requires symbol { (rest : List Symbol) × (after_dot context.now.grammar.now item ≡ symbol ∷ rest) }
     requires below { IsSymbolBelow context.now.grammar.now.terminals context.now.grammar.now.nonterminals symbol }
     requires len { length set.now ≡ context.now.kernels.now.grammar.terminals + 1 }
-    requires flows { (t : ℕ) → Has set.now t → FlowsTo context.now.kernels.now state item t }
+    requires flows { (t : ℕ) → IsMember set.now t → FlowsTo context.now.kernels.now state item t }
     requires sound { AreSound context.now.kernels.now lookaheads.old worklist.old }
     ensures sound { OnOk result (AreSound context.now.kernels.now lookaheads.new worklist.new) }
     ensures spreads { OnOk result (Spreads lookaheads.old worklist.old lookaheads.new worklist.new) }
-    ensures lists { OnOk result ((t u b p : ℕ) (rest : List Symbol) → after_dot context.now.grammar.now item ≡ Nonterminal b ∷ rest → IsFirstOf context.now.grammar.now b p → Has set.now t → IsFirst context.now.grammar.now (rest ++ Terminal t ∷ []) u → Lists lookaheads.new state (initial_item p) u) }
+    ensures lists { OnOk result ((t u b p : ℕ) (rest : List Symbol) → after_dot context.now.grammar.now item ≡ Nonterminal b ∷ rest → IsFirstOf context.now.grammar.now b p → IsMember set.now t → IsFirst context.now.grammar.now (rest ++ Terminal t ∷ []) u → Lists lookaheads.new state (initial_item p) u) }
 {
     let Symbol::Nonterminal(nonterminal) = symbol else {
         return Ok(());

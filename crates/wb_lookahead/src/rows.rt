@@ -1,7 +1,7 @@
 //! The actions, the kernels after nonterminals, and the valid terminals of one kernel.
 
 ghost use Rattle.std.specs.Prelude.{◌≡◌, ◌≢◌, ◌<◌, ◌↔◌, ℕ, IfErr, IfOk, OnOk, length};
-ghost use Rattle.wb_termset.specs.Sets.{Has};
+ghost use Rattle.wb_termset.specs.Sets.{IsMember};
 ghost use Rattle.wb_grammars.specs.Items.{HasItem};
 ghost use Rattle.wb_items.specs.Kernels.{AreKernels, count_of, prefix_of};
 ghost use Rattle.wb_items.specs.LookaheadSets.{AreLookaheads};
@@ -96,7 +96,7 @@ pub(crate) fn gotos_at(
 // The terminals on which the row has an action.
 pub(crate) fn valid_in(alloc: Global, row: &[Action]) -> Result<TermSet, AllocError>
     ensures len { IfOk result (λ set. length set ≡ length row.now) }
-    ensures each { IfOk result (λ set. (t : ℕ) → Has set t ↔ (action_in row.now t ≢ Action.None)) }
+    ensures each { IfOk result (λ set. (t : ℕ) → IsMember set t ↔ (action_in row.now t ≢ Action.None)) }
 {
     let mut set = TermSet::new(alloc, row.len())?;
     'terminals: for terminal in 0..row.len() {

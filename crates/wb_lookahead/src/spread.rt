@@ -1,7 +1,7 @@
 //! How a set of terminals spreads to an item of a kernel.
 
 ghost use Rattle.std.specs.Prelude.{◌≡◌, ◌+◌, ◌<◌, ℕ, All, OnOk, Some, length, slice_get};
-ghost use Rattle.wb_termset.specs.Sets.{Has};
+ghost use Rattle.wb_termset.specs.Sets.{IsMember};
 ghost use Rattle.wb_grammars.specs.Items.{HasItem};
 ghost use Rattle.wb_items.specs.Kernels.{AreKernels, count_of, prefix_of};
 ghost use Rattle.wb_items.specs.Lookaheads.{items_in, row_of};
@@ -26,11 +26,11 @@ pub(crate) fn spread(
     requires state { state < count_of kernels.now }
     requires has { HasItem kernels.now.grammar (prefix_of kernels.now state) item }
     requires len { length set.now ≡ kernels.now.grammar.terminals + 1 }
-    requires flows { (t : ℕ) → Has set.now t → FlowsTo kernels.now state item t }
+    requires flows { (t : ℕ) → IsMember set.now t → FlowsTo kernels.now state item t }
     requires sound { AreSound kernels.now lookaheads.old worklist.old }
     ensures sound { OnOk result (AreSound kernels.now lookaheads.new worklist.new) }
     ensures spreads { OnOk result (Spreads lookaheads.old worklist.old lookaheads.new worklist.new) }
-    ensures lists { OnOk result ((t : ℕ) → Has set.now t → Lists lookaheads.new state item t) }
+    ensures lists { OnOk result ((t : ℕ) → IsMember set.now t → Lists lookaheads.new state item t) }
 {
     let at = lookaheads.place(state, item);
     if unite(Place { state, item, at }, set, lookaheads) {

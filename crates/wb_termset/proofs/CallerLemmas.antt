@@ -3,17 +3,17 @@ use Rattle.std.proofs.Common.{◌≡◌, ◌<◌, ◌≤◌, ◌+◌, ◌⊎◌,
 use Rattle.std.proofs.lemmas.List.{set-get_or, get_or_past, get_or-replicate, length-replicate}
 use Rattle.std.proofs.lemmas.List.Sums.{sum_by-cons, count_by-le-length}
 use Rattle.std.proofs.lemmas.Bool.{cases_eq, cases_lt, cases_Bool, true≢false}
-use Rattle.wb_termset.specs.Sets.{Has, IsSubset, IsUnion, IsEmpty, Grew, members}
+use Rattle.wb_termset.specs.Sets.{IsMember, IsSubset, IsUnion, IsEmpty, Grew, members}
 
 -- a number is a member or not
-pub has_or_not : (s : List Bool) (n : ℕ) → Has s n ⊎ (¬ Has s n)
+pub has_or_not : (s : List Bool) (n : ℕ) → IsMember s n ⊎ (¬ IsMember s n)
 has_or_not s n = elim (cases_Bool (get_or s n false)) [
   | inl on ↦ inl on
   | inr off ↦ inr (λ has. true≢false (sym has ∙ off))
 ]
 
 -- a member is below the count
-pub has_below : (s : List Bool) (n : ℕ) → Has s n → n < length s
+pub has_below : (s : List Bool) (n : ℕ) → IsMember s n → n < length s
 has_below s n has = elim (cases_lt n (length s)) [
   | inl within ↦ within
   | inr past ↦ absurd (true≢false (sym has ∙ get_or_past s n false past))
@@ -54,23 +54,23 @@ IsSubset-insert s n m has = elim (cases_eq m n) [
 ]
 
 -- it adds the number
-pub Has-insert_same : (s : List Bool) (n : ℕ) → n < length s → Has (set s n true) n
-Has-insert_same s n within = get_or-set_same s n true false within
+pub IsMember-insert_same : (s : List Bool) (n : ℕ) → n < length s → IsMember (set s n true) n
+IsMember-insert_same s n within = get_or-set_same s n true false within
 
 -- and no other
-pub Has-insert : (s : List Bool) (n m : ℕ) → Has (set s n true) m → Has s m ⊎ (m ≡ n)
-Has-insert s n m has = elim (cases_eq m n) [
+pub IsMember-insert : (s : List Bool) (n m : ℕ) → IsMember (set s n true) m → IsMember s m ⊎ (m ≡ n)
+IsMember-insert s n m has = elim (cases_eq m n) [
   | inl same ↦ inr same
   | inr other ↦ inl (sym (get_or-set_other s n m true false other) ∙ has)
 ]
 
 -- to insert a member changes nothing
-pub insert_member : (s : List Bool) (n : ℕ) → Has s n → set s n true ≡ s
+pub insert_member : (s : List Bool) (n : ℕ) → IsMember s n → set s n true ≡ s
 insert_member s n has = ap (λ b. set s n b) (sym has) ∙ set-get_or s n false
 
 -- a set with the members of the old one and n holds what an insertion of n gives
-pub IsSubset-insert_least : (s t : List Bool) (n : ℕ) → IsSubset s t → Has t n → IsSubset (set s n true) t
-IsSubset-insert_least s t n sub at m has = elim (Has-insert s n m has) [
+pub IsSubset-insert_least : (s t : List Bool) (n : ℕ) → IsSubset s t → IsMember t n → IsSubset (set s n true) t
+IsSubset-insert_least s t n sub at m has = elim (IsMember-insert s n m has) [
   | inl old ↦ sub m old
   | inr same ↦ rw same at
 ]

@@ -5,7 +5,8 @@ use Rattle.std.proofs.lemmas.Nat.{pow-add}
 use Rattle.std.proofs.Math.Nat.{div-div-eq-div-mul, div-le_self}
 use Rattle.std.proofs.lemmas.Nat.Bits.{bit_at-zero, bit_at_above, bit_at-trailing_zeros}
 use Rattle.std.specs.Int.{bit_at, trailing_zeros}
-use Rattle.wb_termset.specs.Words.{bit_of, IsFirstBit}
+use Rattle.wb_termset.specs.Words.{bit_of}
+use Rattle.wb_termset.specs.Inner.FirstBit.{IsFirstBit}
 use Rattle.wb_termset.proofs.BitLemmas.{bit_of-at}
 
 -- bits of a word that is shifted down

@@ -6,8 +6,9 @@ use Rattle.std.proofs.lemmas.List.{length-replicate, get_or-replicate, get_or_pa
 use Rattle.std.proofs.lemmas.List.FromFn.{length-map-range_with_len, get_or-map-range_with_len}
 use Rattle.std.proofs.lemmas.Nat.Bits.{bit_at-zero}
 use Rattle.std.specs.Prelude.{IsTrue, IsNone, IfSome, ◌↔◌, ◌||◌}
-use Rattle.wb_termset.specs.Words.{bit_of, flags_of, AreWords, IsFirstBit}
-use Rattle.wb_termset.specs.Sets.{Has, IsSubset, IsUnion, Meet, Grew, IsNextMember, HasNoneFrom}
+use Rattle.wb_termset.specs.Words.{bit_of, flags_of, AreWords}
+use Rattle.wb_termset.specs.Inner.FirstBit.{IsFirstBit}
+use Rattle.wb_termset.specs.Sets.{IsMember, IsSubset, IsUnion, Intersects, Grew, IsNextMember, HasNoneFrom}
 
 -- there are as many flags as the count
 length-flags_of : (count : ℕ) (words : List ℕ) → length (flags_of count words) ≡ count
@@ -72,11 +73,11 @@ module _ {count : ℕ} {words : List ℕ} {set : List Bool} (h : Shows count wor
   flag_at n = ap (λ s. get_or s n false) (sym h.view) ∙ flag_is count words h.in_words n
 
   -- a bit is set exactly at a member
-  pub has_is : (n : ℕ) (result : Bool) → result ≡ bit_of words n → IsTrue result ↔ Has set n
+  pub has_is : (n : ℕ) (result : Bool) → result ≡ bit_of words n → IsTrue result ↔ IsMember set n
   has_is n result e = (λ t. flag_at n ∙ sym e ∙ t, λ t. e ∙ sym (flag_at n) ∙ t)
 
   -- a bit that is clear is no member
-  pub has_not : (n : ℕ) → bit_of words n ≡ false → ¬ Has set n
+  pub has_not : (n : ℕ) → bit_of words n ≡ false → ¬ IsMember set n
   has_not n off has = true≢false (sym has ∙ flag_at n ∙ off)
 
   -- the words of a set have at most 2 ^ 64 bits
@@ -165,7 +166,7 @@ module _ {count count' : ℕ} {words other : List ℕ} {set' set'' : List Bool} 
   )
 
   -- a bit in both is a common member
-  pub meet_is : (result : Bool) → (result ≡ true → (m : ℕ) × (bit_of words m ≡ true) × (bit_of other m ≡ true)) → (result ≡ false → (m : ℕ) → bit_of words m ≡ true → bit_of other m ≡ false) → IsTrue result ↔ Meet set' set''
+  pub meet_is : (result : Bool) → (result ≡ true → (m : ℕ) × (bit_of words m ≡ true) × (bit_of other m ≡ true)) → (result ≡ false → (m : ℕ) → bit_of words m ≡ true → bit_of other m ≡ false) → IsTrue result ↔ Intersects set' set''
   meet_is result met apart = (
     λ t. let (m, on, both) = met t in (m, flag_at h m ∙ on, flag_at h' m ∙ both),
     λ (m, one, two). elim (cases_Bool result) [

@@ -1,9 +1,9 @@
 //! A set of numbers as a type: its bits lie in words, of which `words` reads and writes single bits.
 
 ghost use Rattle.std.specs.Prelude.{◌≡◌, ◌+◌, ◌^◌, ◌<◌, ◌↔◌, true, false, length, replicate, IfOk, IfSome, IsNone, IsTrue, slice_set};
-ghost use Rattle.wb_termset.specs.Sets.{Has, IsSubset, IsUnion, IsEmpty, Grew, Meet, IsNextMember, HasNoneFrom};
+ghost use Rattle.wb_termset.specs.Sets.{IsMember, IsSubset, IsUnion, IsEmpty, Grew, Intersects, IsNextMember, HasNoneFrom};
 
-use crate::words::{are_within, first_bit, has_bit, join_words, meet, set_bit};
+use crate::words::{first_bit, has_bit, intersects, is_subset, set_bit, union_words};
 use std::alloc::{AllocError, Global};
 use std::marker::Model;
 
@@ -46,7 +46,7 @@ impl TermSet {
     /// Whether the number is a member.
     pub fn contains(&self, number: usize) -> bool
         requires { number < length self.now }
-        ensures { IsTrue result ↔ Has self.now number }
+        ensures { IsTrue result ↔ IsMember self.now number }
     {
         has_bit(&self.words, number)
     }
@@ -55,7 +55,7 @@ impl TermSet {
     pub fn insert(&mut self, number: usize) -> bool
         requires { number < length self.old }
         ensures after { self.new ≡ slice_set self.old number true }
-        ensures new { IsTrue result ↔ (¬ Has self.old number) }
+        ensures new { IsTrue result ↔ (¬ IsMember self.old number) }
         ensures grew { IsTrue result → Grew self.old self.new }
         ensures stayed { result ≡ false → self.new ≡ self.old }
     {
@@ -69,7 +69,7 @@ impl TermSet {
         ensures grew { IsTrue result → Grew self.old self.new }
         ensures stayed { result ≡ false → self.new ≡ self.old }
     {
-        join_words(&mut self.words, &other.words)
+        union_words(&mut self.words, &other.words)
     }
 
     /// Whether each member is a member of the other set.
@@ -77,7 +77,7 @@ impl TermSet {
         requires { length self.now ≡ length other.now }
         ensures { IsTrue result ↔ IsSubset self.now other.now }
     {
-        are_within(&self.words, &other.words)
+        is_subset(&self.words, &other.words)
     }
 
     /// Whether both sets have the same members.
@@ -91,9 +91,9 @@ impl TermSet {
     /// Whether some number is a member of both sets.
     pub fn intersects(&self, other: &TermSet) -> bool
         requires { length self.now ≡ length other.now }
-        ensures { IsTrue result ↔ Meet self.now other.now }
+        ensures { IsTrue result ↔ Intersects self.now other.now }
     {
-        meet(&self.words, &other.words)
+        intersects(&self.words, &other.words)
     }
 
     /// The least member at or above a number, which may be any.

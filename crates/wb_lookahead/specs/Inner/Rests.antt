@@ -2,7 +2,7 @@
 use Rattle.std.specs.Prelude.{◌≡◌, ◌↔◌, ◌⊎◌, ◌+◌, ℕ, Bool, IsTrue, List, [], length, Some, drop, slice_get}
 use Rattle.wb_base.specs.declared.symbol.Symbol.{Symbol}
 use Rattle.wb_base.specs.Grammar.{GrammarView}
-use Rattle.wb_termset.specs.Sets.{Has}
+use Rattle.wb_termset.specs.Sets.{IsMember}
 use Rattle.wb_grammars.specs.Productions.{IsProduction}
 use Rattle.wb_grammars.specs.Derives.{Derives, IsFirst}
 use Rattle.wb_lookahead.specs.declared.first_of.Rest.{Rest}
@@ -10,13 +10,13 @@ use Rattle.wb_lookahead.specs.declared.first_of.Rest.{Rest}
 -- the set has the terminals that begin what the symbols derive, and the answer says whether they derive the empty text
 pub record IsRest (g : GrammarView) (w : List Symbol) (rest : Rest) : Type 0 where
   pub len : length rest.set ≡ g.terminals + 1
-  pub first : (u : ℕ) → Has rest.set u ↔ IsFirst g w u
+  pub first : (u : ℕ) → IsMember rest.set u ↔ IsFirst g w u
   pub empty : IsTrue rest.empty ↔ Derives g w []
 
 -- a set in the making: what begins all symbols is in it, or begins those that are left, and those before them derive the empty text
 pub record BeginsSoFar (g : GrammarView) (w : List Symbol) (set : List Bool) (left : List Symbol) : Type 0 where
   pub len : length set ≡ g.terminals + 1
-  pub first : (u : ℕ) → IsFirst g w u ↔ (Has set u ⊎ IsFirst g left u)
+  pub first : (u : ℕ) → IsFirst g w u ↔ (IsMember set u ⊎ IsFirst g left u)
   pub empty : Derives g w [] ↔ Derives g left []
 
 -- for each place of the right side, what is after the symbol there

@@ -4,7 +4,7 @@ use Rattle.std.specs.List.{sum_by}
 use Rattle.wb_base.specs.declared.symbol.Symbol.{Symbol}
 use Rattle.wb_base.specs.declared.symbol.Symbol.TheVariants.{Terminal, Nonterminal}
 use Rattle.wb_base.specs.Grammar.{GrammarView}
-use Rattle.wb_termset.specs.Sets.{Has, members}
+use Rattle.wb_termset.specs.Sets.{IsMember, members}
 use Rattle.wb_grammars.specs.declared.item.Item.{Item}
 use Rattle.wb_grammars.specs.Productions.{IsProduction, end_of}
 use Rattle.wb_grammars.specs.Derives.{IsFirst}
@@ -27,7 +27,7 @@ pub record IsContext (kernels : KernelsView) (g : GrammarView) (productions : Li
 
 -- the terminal is in the set at the item of the kernel
 abbrev pub Lists : List (List ItemLookahead) → ℕ → Item → ℕ → Type 0
-Lists lookaheads s item t = (set : List Bool) × IsSetOf lookaheads s item set × Has set t
+Lists lookaheads s item t = (set : List Bool) × IsSetOf lookaheads s item set × IsMember set t
 
 -- the production is the nonterminal's first
 pub record IsFirstOf (g : GrammarView) (b p : ℕ) : Type 0 where

@@ -2,8 +2,8 @@ use Rattle.std.proofs.Common.{◌≡◌, ◌+◌, ◌<◌, length, sym, ◌∙�
 use Rattle.std.specs.Prelude.{slice_set, true}
 use Rattle.std.proofs.lemmas.Grind.{common_steps}
 use Rattle.wb_base.specs.Grammar.{GrammarView}
-use Rattle.wb_termset.specs.Sets.{Has}
-use Rattle.wb_termset.proofs.CallerLemmas.{Has-insert_same}
+use Rattle.wb_termset.specs.Sets.{IsMember}
+use Rattle.wb_termset.proofs.CallerLemmas.{IsMember-insert_same}
 use Rattle.wb_grammars.specs.Items.{HasItem, initial_item}
 use Rattle.wb_grammars.specs.Productions.{end_of}
 use Rattle.wb_grammars.specs.States.{start}
@@ -38,8 +38,8 @@ returns-clause-waiting c =
     let last : c.terminals.result ≡ end_of K.grammar = c.terminals.ensures ∙ ap (λ (g : GrammarView). g.terminals) (sym c.requires.context.of_grammar) in
     let count = c.in_ok-lookahead_count.ensures.count in
     let fits : c.terminals.result < length c.in_ok-end.end = grind (arith, common_steps) in
-    let has : Has c.insert.new.self (end_of K.grammar) =
-    subst (Has c.insert.new.self) last (subst (λ z. Has z c.terminals.result) (sym c.insert.ensures.after) (Has-insert_same c.in_ok-end.end c.terminals.result fits)) in
+    let has : IsMember c.insert.new.self (end_of K.grammar) =
+    subst (IsMember c.insert.new.self) last (subst (λ z. IsMember z c.terminals.result) (sym c.insert.ensures.after) (IsMember-insert_same c.in_ok-end.end c.terminals.result fits)) in
     on_ok_two c.spread.result
     (λ lists spreads. begun_waiting c.args.lookaheads.now c.args.worklist.now c.requires.empty spreads
     (subst (λ p. Lists c.spread.new.lookaheads 0 (initial_item p) (end_of K.grammar)) top (lists (end_of K.grammar) has)))

@@ -2,7 +2,7 @@ use Rattle.std.proofs.Common.{◌≡◌, ◌↔◌, ℕ, ◌≤◌, [], ◌∷�
 use Rattle.std.proofs.lemmas.Result.{on_ok_weaker, IfErr-weaker}
 use Rattle.wb_base.specs.declared.symbol.Symbol.TheVariants.{Terminal, Nonterminal}
 use Rattle.wb_base.specs.Grammar.{GrammarView}
-use Rattle.wb_termset.specs.Sets.{Has}
+use Rattle.wb_termset.specs.Sets.{IsMember}
 use Rattle.wb_grammars.specs.Items.{after_dot}
 use Rattle.wb_grammars.specs.Lookaheads.{IsLookahead}
 use Rattle.wb_items.specs.Kernels.{LeadsTo, prefix_of}
@@ -28,10 +28,10 @@ returns-in_default-clause-ok c =
     let is : IsReduction (length c.args.kernels.now.grammar.productions) c.args.item.production c.reduction-action.result = subst
     (λ (g : GrammarView). IsReduction (length g.productions) c.args.item.production c.reduction-action.result)
     (sym c.requires.grammar) c.reduction-action.ensures in
-    let exact : (t : ℕ) → Has c.of.result.now t ↔ IsLookahead c.args.kernels.now.grammar
+    let exact : (t : ℕ) → IsMember c.of.result.now t ↔ IsLookahead c.args.kernels.now.grammar
     (prefix_of c.args.kernels.now c.args.state) c.args.item t = λ t. c.requires.lookaheads.exact c.args.state c.args.item c.of.result.now t c.requires.state c.of.ensures in
     on_ok_weaker c.put_all.result
-    (puts_adds (Has c.of.result.now)
+    (puts_adds (IsMember c.of.result.now)
     (λ t has. complete_stands c.args.kernels.now c.args.state c.args.item c.reduction-action.result c.requires.item complete is t
     ((exact t).0 has))
     (λ t a asks. (let (look, e) = complete_asks complete is t a asks in ((exact t).1 look, e)))
@@ -45,11 +45,11 @@ returns-in_default-clause-refused c =
     let is : IsReduction (length c.args.kernels.now.grammar.productions) c.args.item.production c.reduction-action.result = subst
     (λ (g : GrammarView). IsReduction (length g.productions) c.args.item.production c.reduction-action.result)
     (sym c.requires.grammar) c.reduction-action.ensures in
-    let exact : (t : ℕ) → Has c.of.result.now t ↔ IsLookahead c.args.kernels.now.grammar
+    let exact : (t : ℕ) → IsMember c.of.result.now t ↔ IsLookahead c.args.kernels.now.grammar
     (prefix_of c.args.kernels.now c.args.state) c.args.item t = λ t. c.requires.lookaheads.exact c.args.state c.args.item c.of.result.now t c.requires.state c.of.ensures in
-    IfErr-weaker c.put_all.result (IsClash c.args.state c.args.row.now (Has c.of.result.now) c.reduction-action.result)
+    IfErr-weaker c.put_all.result (IsClash c.args.state c.args.row.now (IsMember c.of.result.now) c.reduction-action.result)
     (IsTableRefusal c.args.kernels.now)
-    (clash_refused (Has c.of.result.now) c.requires.kernels c.requires.state
+    (clash_refused (IsMember c.of.result.now) c.requires.kernels c.requires.state
     (λ t has. complete_stands c.args.kernels.now c.args.state c.args.item c.reduction-action.result c.requires.item complete is t
     ((exact t).0 has))
     c.requires.sound)

@@ -1,7 +1,7 @@
 use Rattle.std.proofs.Common.{◌≡◌, ◌<◌, ◌∙◌, List, Bool, true, Some, length, sym, ap, subst}
 use Rattle.std.specs.Prelude.{slice_get, slice_set, IsTrue, ◌↔◌}
 use Rattle.std.proofs.lemmas.Option.{slice_get-get_or}
-use Rattle.wb_termset.specs.Sets.{Has}
+use Rattle.wb_termset.specs.Sets.{IsMember}
 use Rattle.wb_items.specs.declared.item_lookahead.ItemLookahead.{ItemLookahead}
 use Rattle.wb_items.specs.Kernels.{AreInOrder}
 use Rattle.wb_items.proofs.ListLemmas.{at_once}
@@ -28,4 +28,4 @@ returns-clause-new c = λ other there.
     let looks = c.index_mut.result.now in
     let at = slice_get-get_or c.self.inside.looks.items c.args.place looks lt ∙ ap Some (sym c.index_mut.ensures.value) in
     let same : looks ≡ other = at_once c.self.inside.looks.items c.args.place looks other at (subst (λ (row : List ItemLookahead). slice_get row c.args.place ≡ Some other) (sym c.self.view_is) there) in
-    subst (λ (z : ItemLookahead). IsTrue c.insert.result ↔ (¬ Has z.set c.args.terminal)) same c.insert.ensures.new
+    subst (λ (z : ItemLookahead). IsTrue c.insert.result ↔ (¬ IsMember z.set c.args.terminal)) same c.insert.ensures.new

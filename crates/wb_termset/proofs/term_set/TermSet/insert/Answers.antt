@@ -1,6 +1,6 @@
 use Rattle.std.proofs.Common.{not, sym, ◌∙◌, ap}
 use Rattle.std.proofs.lemmas.Bool.{not-true, not-false, false_from_ne_true}
-use Rattle.wb_termset.proofs.CallerLemmas.{Has-insert_same, insert_member}
+use Rattle.wb_termset.proofs.CallerLemmas.{IsMember-insert_same, insert_member}
 use Rattle.wb_termset.proofs.ViewLemmas.{whole, shows, in_room, flag_at, has_not, inserted}
 use Rattle.wb_termset.proofs.term_set.TermSet.insert.Goals as goal
 
@@ -33,7 +33,7 @@ returns-clause-grew c t =
     let view = (inserted h c.set_bit.new.words c.args.number c.requires c.set_bit.auto.words c.set_bit.ensures.same c.set_bit.ensures.other).view in (
       c.args.number,
       has_not h c.args.number (not-true _ (sym c.set_bit.ensures.new ∙ t)),
-      rw (w, view) (Has-insert_same c.args.self.now c.args.number c.requires),
+      rw (w, view) (IsMember-insert_same c.args.self.now c.args.number c.requires),
     )
 
 pub returns-clause-stayed : goal.returns-clause-stayed

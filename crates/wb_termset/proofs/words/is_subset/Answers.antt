@@ -1,6 +1,6 @@
 use Rattle.std.proofs.Common.{arith}
 use Rattle.wb_termset.proofs.BitLemmas.{within_each, beyond_at}
-use Rattle.wb_termset.proofs.words.are_within.Goals as goal
+use Rattle.wb_termset.proofs.words.is_subset.Goals as goal
 
 pub returns-then-words-k-clause-beyond : goal.returns-then-words-k-clause-beyond
 returns-then-words-k-clause-beyond c _ =

@@ -1,6 +1,6 @@
 use Rattle.std.proofs.Common.{◌≡◌, length, arith}
 use Rattle.wb_termset.proofs.BitLemmas.{Joined-each, Joined-grew}
-use Rattle.wb_termset.proofs.words.join_words.Goals as goal
+use Rattle.wb_termset.proofs.words.union_words.Goals as goal
 
 pub returns-clause-each : goal.returns-clause-each
 returns-clause-each c =

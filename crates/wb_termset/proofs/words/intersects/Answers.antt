@@ -1,6 +1,6 @@
 use Rattle.std.proofs.Common.{arith}
-use Rattle.wb_termset.proofs.MeetLemmas.{met_at, apart_each}
-use Rattle.wb_termset.proofs.words.meet.Goals as goal
+use Rattle.wb_termset.proofs.IntersectLemmas.{met_at, apart_each}
+use Rattle.wb_termset.proofs.words.intersects.Goals as goal
 
 pub returns-then-words-k-ne0-clause-met : goal.returns-then-words-k-ne0-clause-met
 returns-then-words-k-ne0-clause-met c _ =

@@ -1,0 +1,78 @@
+//! Sets of numbers: members across words, unions, subsets, and members in their order.
+use std::alloc::{AllocError, Global};
+use std::test::Fail;
+use wb_termset::TermSet;
+
+// The set of these numbers below 200.
+fn set_of(alloc: Global, numbers: &[usize]) -> Result<TermSet, AllocError> {
+    let mut set = TermSet::new(alloc, 200)?;
+    for &number in numbers {
+        if number < set.count() {
+            set.insert(number);
+        }
+    }
+    Ok(set)
+}
+
+// Whether two sets are disjoint, and then not, after the second is added to the first; the first then grew once.
+fn is_joined(low: &mut TermSet, high: &TermSet) -> bool {
+    if low.count() != high.count() {
+        return false;
+    }
+    let apart = !low.intersects(high) && !high.is_subset(low);
+    let grew = low.union_with(high);
+    let stayed = !low.union_with(high);
+    apart && grew && stayed && low.intersects(high) && high.is_subset(low) && !low.equals(high)
+}
+
+// Whether the set's members are these, in their order.
+fn has_members(set: &TermSet, members: &[usize]) -> bool {
+    let mut from = 0;
+    for &member in members {
+        match set.next_member(from) {
+            Some(number) if number == member && member < usize::MAX => from = member + 1,
+            _ => return false,
+        }
+    }
+    set.next_member(from).is_none()
+}
+
+// Whether 64 is new once, and 63 and 129 are members already.
+fn is_added(set: &mut TermSet) -> bool {
+    if set.count() != 200 {
+        return false;
+    }
+    let new = set.insert(64);
+    let old = set.insert(64) || set.insert(129);
+    new && !old && set.contains(63) && !set.contains(65)
+}
+
+#[test]
+fn numbers_are_new_once(rt: HostRuntime) -> Result<(), Fail> {
+    let mut set = set_of(rt.alloc(), &[63, 129])?;
+    assert!(rt; is_added(&mut set));
+    Ok(())
+}
+
+#[test]
+fn members_come_in_increasing_order(rt: HostRuntime) -> Result<(), Fail> {
+    let set = set_of(rt.alloc(), &[199, 5, 64, 63])?;
+    assert!(rt; has_members(&set, &[5, 63, 64, 199]));
+    assert!(rt; set.next_member(usize::MAX).is_none() && !set.is_empty());
+    Ok(())
+}
+
+#[test]
+fn unions_and_subsets_agree(rt: HostRuntime) -> Result<(), Fail> {
+    let mut low = set_of(rt.alloc(), &[1])?;
+    let high = set_of(rt.alloc(), &[64])?;
+    assert!(rt; is_joined(&mut low, &high));
+    Ok(())
+}
+
+#[test]
+fn a_copy_is_equal(rt: HostRuntime) -> Result<(), Fail> {
+    let set = set_of(rt.alloc(), &[0, 199])?.copy()?;
+    assert!(rt; has_members(&set, &[0, 199]));
+    Ok(())
+}
