@@ -5,7 +5,7 @@ use Rattle.wb_syntax.specs.declared.item.Child.{Child}
 use Rattle.wb_syntax.specs.declared.expression.Equation.{Equation}
 use Rattle.wb_syntax.specs.declared.expression.Target.{Target}
 use Rattle.wb_syntax.specs.Tokens.{Lexeme}
-use Rattle.wb_syntax.specs.Expression.{nodes_of}
+use Rattle.wb_expressions.specs.Expression.{nodes_of}
 use Rattle.wb_syntax.specs.Offsets.{unplaced_equation}
 use Rattle.wb_syntax.specs.PartGrammar as part
 use Rattle.wb_syntax.specs.PartGrammar.{IsKind, AreFurtherNames, AreNames, AreNeeds, AreOptionalNeeds, AreChildren, IsTarget, AreEquations, IsBlock}

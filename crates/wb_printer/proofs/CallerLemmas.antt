@@ -4,12 +4,13 @@ use Rattle.std.specs.Prelude.{codes}
 use Rattle.wb_tokens.specs.declared.token.Token.{Token}
 use Rattle.wb_tokens.specs.declared.token.Token.TheVariants as t
 use Rattle.wb_tokens.specs.declared.punctuation.Punctuation.TheVariants as p
-use Rattle.wb_syntax.specs.declared.expression.Node.{Node}
-use Rattle.wb_syntax.specs.declared.expression.Node.TheVariants as n
+use Rattle.wb_syntax.specs.Expression.{Node}
+use Rattle.wb_expressions.specs.declared.node.Node.TheVariants as n
 use Rattle.wb_syntax.specs.declared.expression.Equation.{Equation}
 use Rattle.wb_syntax.specs.declared.item.Item.{Item}
 use Rattle.wb_syntax.specs.declared.item.Item.TheVariants as i
-use Rattle.wb_syntax.specs.Expression.{Expression, Expressions, Int, Text, Truth, Label, Read, Lexeme, Top, Forward, Build, Call, If, none, more, size, size_of_all, nodes_of}
+use Rattle.wb_syntax.specs.Expression.{Expression, Expressions}
+use Rattle.wb_expressions.specs.Expression.{Int, Text, Truth, Label, Read, Lexeme, Top, Forward, Build, Call, If, none, more, size, size_of_all, nodes_of}
 use Rattle.wb_syntax.specs.SpecText.{SpecState}
 use Rattle.wb_syntax.specs.Offsets.{unplaced, unplaced_equation}
 use Rattle.wb_syntax.specs.Canonical as canonical
@@ -20,7 +21,7 @@ use Rattle.wb_printer.specs.ExpressionTokens.{expression_tokens}
 use Rattle.wb_printer.specs.PartTokens as tokens_of
 use Rattle.wb_printer.specs.ItemTokens.{item_tokens, equations_of, AreItemTokens}
 use Rattle.wb_printer.specs.PartTokens.{AreEquationTokens, target_tokens}
-use Rattle.wb_printer.proofs.NodeLemmas.{whole_stands, size_some}
+use Rattle.wb_expressions.proofs.PlaceLemmas.{whole_stands, size_some}
 use Rattle.wb_printer.proofs.GrammarTokens.{tokens, of_item, of_header}
 
 -- the expressions at these places

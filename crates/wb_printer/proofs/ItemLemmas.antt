@@ -7,7 +7,8 @@ use Rattle.wb_tokens.specs.declared.token.Token.TheVariants as t
 use Rattle.wb_tokens.specs.declared.punctuation.Punctuation.TheVariants as p
 use Rattle.wb_syntax.specs.declared.expression.Equation.{Equation}
 use Rattle.wb_syntax.specs.declared.item.Item.{Item}
-use Rattle.wb_syntax.specs.Expression.{Expression, nodes_of}
+use Rattle.wb_syntax.specs.Expression.{Expression}
+use Rattle.wb_expressions.specs.Expression.{nodes_of}
 use Rattle.wb_printer.specs.Output.{Output, put, after}
 use Rattle.wb_printer.specs.ExpressionTokens.{expression_tokens}
 use Rattle.wb_printer.specs.ItemTokens.{AreLinesOf, AreItemTokens}

@@ -2,10 +2,11 @@
 use Rattle.std.proofs.Common.{◌≡◌, ◌+◌, ◌-◌, ◌<◌, ℕ, suc, ◌++◌, ◌∷◌, [], List, ap, ◌∙◌, refl, sym, subst, arith, append_assoc, length, length-append}
 use Rattle.std.specs.Prelude.{slice_index_or}
 use Rattle.std.proofs.lemmas.List.{get_or_at, append-nil}
-use Rattle.wb_syntax.specs.declared.expression.Node.{Node}
-use Rattle.wb_syntax.specs.declared.expression.Node.TheVariants as n
-use Rattle.wb_syntax.specs.Expression.{Expression, Expressions, Int, Text, Truth, Label, Read, Lexeme, Top, Forward, Build, Call, If, none, more, size, size_of_all, nodes_from, all_nodes_from, places_from, nodes_of}
-use Rattle.wb_syntax.proofs.Nodes.{nodes_len, all_nodes_len}
+use Rattle.wb_syntax.specs.Expression.{Node}
+use Rattle.wb_expressions.specs.declared.node.Node.TheVariants as n
+use Rattle.wb_syntax.specs.Expression.{Expression, Expressions}
+use Rattle.wb_expressions.specs.Expression.{Int, Text, Truth, Label, Read, Lexeme, Top, Forward, Build, Call, If, none, more, size, size_of_all, nodes_from, all_nodes_from, places_from, nodes_of}
+use Rattle.wb_expressions.proofs.Nodes.{nodes_len, all_nodes_len}
 use Rattle.wb_printer.specs.Walk.{HasNode, Stands, AllStand}
 
 module _ (nodes : List Node) where

@@ -10,7 +10,8 @@ use Rattle.wb_syntax.specs.declared.expression.Target.TheVariants as g
 use Rattle.wb_syntax.specs.declared.item.NamedKind.{NamedKind}
 use Rattle.wb_syntax.specs.declared.item.NamedKind.TheVariants as k
 use Rattle.wb_syntax.specs.declared.item.Child.{Child}
-use Rattle.wb_syntax.specs.Expression.{Expression, nodes_of}
+use Rattle.wb_syntax.specs.Expression.{Expression}
+use Rattle.wb_expressions.specs.Expression.{nodes_of}
 use Rattle.wb_printer.specs.ExpressionTokens.{expression_tokens}
 
 -- a kind

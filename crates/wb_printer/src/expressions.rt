@@ -1,8 +1,9 @@
 //! How an expression is written, with a stack of what is still to come.
 
 ghost use Rattle.std.specs.Prelude.{◌≡◌, [], ◌∷◌, List, ℕ, IfOk, OnOk, MatchOption, true, false};
-ghost use Rattle.wb_syntax.specs.declared.expression.Node.{Node};
-ghost use Rattle.wb_syntax.specs.Expression.{Expression, nodes_of};
+ghost use Rattle.wb_syntax.specs.Expression.{Node};
+ghost use Rattle.wb_syntax.specs.Expression.{Expression};
+ghost use Rattle.wb_expressions.specs.Expression.{nodes_of};
 ghost use Rattle.wb_printer.specs.Output.{put, after};
 ghost use Rattle.wb_printer.specs.ExpressionTokens.{truth_token, dotted, expression_tokens};
 ghost use Rattle.wb_printer.specs.Walk.{separator, HasNode, Continues};

@@ -1,7 +1,8 @@
 //! How kinds, names, children and equations are written.
 
 ghost use Rattle.std.specs.Prelude.{◌≡◌, [], ◌∷◌, ◌++◌, List, OnOk};
-ghost use Rattle.wb_syntax.specs.Expression.{Expression, nodes_of};
+ghost use Rattle.wb_syntax.specs.Expression.{Expression};
+ghost use Rattle.wb_expressions.specs.Expression.{nodes_of};
 ghost use Rattle.wb_tokens.specs.declared.token.Token.{Token};
 ghost use Rattle.wb_tokens.specs.declared.token.Token.TheVariants as t;
 ghost use Rattle.wb_tokens.specs.declared.punctuation.Punctuation.TheVariants as p;

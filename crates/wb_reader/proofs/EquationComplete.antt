@@ -10,7 +10,8 @@ use Rattle.wb_syntax.specs.declared.expression.Target.{Target}
 use Rattle.wb_syntax.specs.declared.expression.Target.TheVariants as g
 use Rattle.wb_syntax.specs.declared.item.Production.{Production}
 use Rattle.wb_syntax.specs.Tokens.{Lexeme, IsMark}
-use Rattle.wb_syntax.specs.Expression.{Expression, nodes_of}
+use Rattle.wb_syntax.specs.Expression.{Expression}
+use Rattle.wb_expressions.specs.Expression.{nodes_of}
 use Rattle.wb_syntax.specs.ExpressionGrammar.{IsExpression}
 use Rattle.wb_syntax.specs.PartGrammar as grammar
 use Rattle.wb_syntax.specs.PartGrammar.{IsTarget, AreEquations, IsBlock}

@@ -1,7 +1,7 @@
 -- What actions make of the parts of expressions.
 use Rattle.std.specs.Prelude.{ℕ, true, false, List, [], ◌∷◌, ◌++◌, length}
-use Rattle.wb_syntax.specs.declared.expression.Node.{Node}
-use Rattle.wb_syntax.specs.declared.expression.Node.TheVariants as n
+use Rattle.wb_syntax.specs.Expression.{Node}
+use Rattle.wb_expressions.specs.declared.node.Node.TheVariants as n
 use Rattle.wb_reader.specs.declared.part.ExpressionAction.{ExpressionAction}
 use Rattle.wb_reader.specs.declared.builder.SpecBuilder.{SpecBuilder}
 use Rattle.wb_reader.specs.Builder.{on_top}

@@ -1,7 +1,7 @@
 //! What actions make of the parts of expressions. Each does nothing more where a part is missing, which no reading meets.
 
 ghost use Rattle.std.specs.Prelude.{◌≡◌, OnOk};
-ghost use Rattle.wb_syntax.specs.declared.expression.Node.TheVariants as n;
+ghost use Rattle.wb_expressions.specs.declared.node.Node.TheVariants as n;
 ghost use Rattle.wb_reader.specs.BuildExpressions.{with_node, with_number, with_string, with_label, with_read, with_placed_read, with_arguments, with_argument, with_call, with_if};
 
 use crate::builder::SpecBuilder;

@@ -1,9 +1,10 @@
 -- How many nodes expressions have, and where they stand behind others.
 use Rattle.std.proofs.Common.{◌≡◌, ◌+◌, ◌-◌, ℕ, List, [], ◌∷◌, ◌++◌, refl, length, arith}
 use Rattle.std.proofs.lemmas.List.{length-append}
-use Rattle.wb_syntax.specs.declared.expression.Node.{Node}
-use Rattle.wb_syntax.specs.declared.expression.Node.TheVariants as n
-use Rattle.wb_syntax.specs.Expression.{Expression, Expressions, Int, Text, Truth, Label, Read, Lexeme, Top, Forward, Build, Call, If, none, more, size, size_of_all, nodes_from, all_nodes_from, places_from}
+use Rattle.wb_syntax.specs.Expression.{Node}
+use Rattle.wb_expressions.specs.declared.node.Node.TheVariants as n
+use Rattle.wb_syntax.specs.Expression.{Expression, Expressions}
+use Rattle.wb_expressions.specs.Expression.{Int, Text, Truth, Label, Read, Lexeme, Top, Forward, Build, Call, If, none, more, size, size_of_all, nodes_from, all_nodes_from, places_from}
 
 mutual
   pub nodes_len : (at : ℕ) (e : Expression) → length (nodes_from at e) ≡ size e

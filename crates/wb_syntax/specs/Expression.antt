@@ -1,7 +1,7 @@
 -- Expressions as trees, and the nodes by which a list keeps one.
 use Rattle.std.specs.Prelude.{ℕ, ◌+◌, ◌-◌, suc, ℤ, Bool, List, [], ◌∷◌, ◌++◌}
-use Rattle.wb_syntax.specs.declared.expression.Node.{Node}
-use Rattle.wb_syntax.specs.declared.expression.Node.TheVariants as n
+use Rattle.wb_syntax.specs.Expression.{Node}
+use Rattle.wb_expressions.specs.declared.node.Node.TheVariants as n
 
 mutual
   -- an expression

@@ -9,7 +9,8 @@ use Rattle.wb_syntax.specs.declared.expression.Equation.{Equation}
 use Rattle.wb_syntax.specs.declared.expression.Target.{Target}
 use Rattle.wb_syntax.specs.declared.expression.Target.TheVariants as g
 use Rattle.wb_syntax.specs.Tokens.{Lexeme, IsWord, IsMark, IsName}
-use Rattle.wb_syntax.specs.Expression.{Expression, nodes_of}
+use Rattle.wb_syntax.specs.Expression.{Expression}
+use Rattle.wb_expressions.specs.Expression.{nodes_of}
 use Rattle.wb_syntax.specs.ExpressionGrammar.{IsExpression}
 
 -- kind = 'int' | 'bool' | 'text' | NAME

@@ -1,5 +1,5 @@
 use Rattle.std.proofs.Common.{List, length}
-use Rattle.wb_syntax.specs.declared.expression.Node.{Node}
+use Rattle.wb_syntax.specs.Expression.{Node}
 use Rattle.wb_printer.specs.Walk.{Continues}
 use Rattle.wb_printer.proofs.expressions.next_whole.Given as goal
 

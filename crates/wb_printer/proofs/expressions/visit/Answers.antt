@@ -4,8 +4,8 @@ use Rattle.std.proofs.lemmas.Int.{to_z-of_z}
 use Rattle.std.proofs.lemmas.Result.{on_ok_weaker}
 use Rattle.wb_tokens.specs.declared.token.Token.TheVariants as t
 use Rattle.wb_tokens.specs.declared.punctuation.Punctuation.TheVariants as p
-use Rattle.wb_syntax.specs.declared.expression.Node.TheVariants as n
-use Rattle.wb_syntax.specs.Expression.{Int, Text, Truth, Label, Read, Lexeme, Top, Forward}
+use Rattle.wb_expressions.specs.declared.node.Node.TheVariants as n
+use Rattle.wb_expressions.specs.Expression.{Int, Text, Truth, Label, Read, Lexeme, Top, Forward}
 use Rattle.wb_tokens.specs.declared.word.Word.TheVariants as w
 use Rattle.wb_printer.specs.ExpressionTokens.{dotted}
 use Rattle.wb_printer.specs.Output.{Output, put, after}

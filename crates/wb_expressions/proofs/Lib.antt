@@ -1,0 +1,5 @@
+pub mod NodeLemmas
+pub mod Nodes
+pub mod OneExpression
+pub mod PartLemmas
+pub mod PlaceLemmas
