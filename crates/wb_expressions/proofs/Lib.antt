@@ -1,3 +1,4 @@
+pub mod AppendLemmas
 pub mod NodeLemmas
 pub mod Nodes
 pub mod OneExpression

@@ -5,7 +5,6 @@ use Rattle.wb_expressions.specs.declared.node.Node.{Node}
 use Rattle.wb_expressions.specs.declared.node.Node.TheVariants as n
 use Rattle.wb_expressions.specs.Expression.{Expression, Expressions, Int, Text, Truth, Label, Read, Lexeme, Top, Forward, Build, Call, If, none, more, size, size_of_all, nodes_from, all_nodes_from, places_from}
 
-
 module _ {L A P O : Type 0} where
   mutual
     pub nodes_len : (at : ℕ) (e : Expression L A P O) → length (nodes_from at e) ≡ size e
@@ -34,10 +33,3 @@ module _ {L A P O : Type 0} where
     pub all_nodes_len : (at : ℕ) (es : Expressions L A P O) → length (all_nodes_from at es) ≡ size_of_all es
     all_nodes_len at none = refl
     all_nodes_len at (more e es) = let l = length-append (nodes_from at e) (all_nodes_from (at + size e) es) in let i = nodes_len at e in let j = all_nodes_len (at + size e) es in omega (arith, l, i, j)
-
-  -- the nodes of an expression behind a list
-  pub behind_len : (list : List (Node L A P O)) (e : Expression L A P O) → length (list ++ nodes_from (length list) e) ≡ length list + size e
-  behind_len list e = let l = length-append list (nodes_from (length list) e) in let i = nodes_len (length list) e in omega (arith, l, i)
-
-  pub all_behind_len : (list : List (Node L A P O)) (es : Expressions L A P O) → length (list ++ all_nodes_from (length list) es) ≡ length list + size_of_all es
-  all_behind_len list es = let l = length-append list (all_nodes_from (length list) es) in let i = all_nodes_len (length list) es in omega (arith, l, i)

@@ -9,7 +9,6 @@ pub mod Flows
 pub mod GrammarTokens
 pub mod ItemLemmas
 pub mod LineFlows
-pub mod NodeLemmas
 pub mod OutputLemmas
 pub mod PrintedTokens
 pub mod ReadsLemmas

@@ -22,7 +22,7 @@ use Rattle.wb_reader.specs.Rights.{spec_rights}
 use Rattle.wb_reader.specs.Builder.{with_name, with_integer}
 use Rattle.wb_reader.proofs.Taking.{Row, Makes}
 use Rattle.wb_reader.proofs.Giving.{word_given, mark_given, name_given, integer_given, string_given}
-use Rattle.wb_reader.proofs.Nodes.{behind_len, all_behind_len, more_nodes, more_places, if_nodes, if_root}
+use Rattle.wb_expressions.proofs.AppendLemmas.{behind_len, all_behind_len, more_nodes, more_places, if_nodes, if_root}
 use Rattle.wb_reader.proofs.ExpressionSound.{begun, grown, collecting, collected, recollect, rooted}
 
 -- an integer of either kind

@@ -20,7 +20,7 @@ use Rattle.wb_reader.specs.Rights.{spec_rights}
 use Rattle.wb_reader.specs.Builder.{with_name}
 use Rattle.wb_reader.proofs.Taking.{Row, Makes, Split, OneOf, chosen, acted, word_taken, mark_taken, name_taken, integer_taken, string_taken}
 use Rattle.wb_reader.proofs.Joins.{joined_one, joined}
-use Rattle.wb_reader.proofs.Nodes.{behind_len, all_behind_len, more_nodes, more_places, if_nodes, if_root}
+use Rattle.wb_expressions.proofs.AppendLemmas.{behind_len, all_behind_len, more_nodes, more_places, if_nodes, if_root}
 
 -- the parts with these nodes at the top
 abbrev pub begun : SpecBuilder → List Node → List (List Node) → SpecBuilder

@@ -10,7 +10,6 @@ mod ItemComplete
 mod ItemSound
 mod Joins
 mod Many
-mod Nodes
 pub mod OneText
 mod PartComplete
 mod PartSound

@@ -20,7 +20,7 @@ use Rattle.wb_reader.specs.Rights.{spec_rights}
 use Rattle.wb_reader.specs.Builder.{with_name, with_integer}
 use Rattle.wb_reader.proofs.Taking.{Row, Makes, Split, OneOf, chosen, acted, word_taken, mark_taken, name_taken, integer_taken, string_taken}
 use Rattle.wb_reader.proofs.Joins.{joined_one, joined}
-use Rattle.wb_reader.proofs.Nodes.{behind_len, all_behind_len, if_nodes, if_root}
+use Rattle.wb_expressions.proofs.AppendLemmas.{behind_len, all_behind_len, if_nodes, if_root}
 use Rattle.wb_reader.proofs.ExpressionSound.{begun, grown, ExpressionBelow, rooted, arguments_of_rows, tail_of_rows}
 
 -- an integer

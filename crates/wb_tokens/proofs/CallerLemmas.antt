@@ -2,11 +2,11 @@
 -- stands in a text as its token is in `StandingLemmas`.
 use Rattle.std.proofs.Common.{◌≡◌, ℕ, ◌<◌, ◌^◌, List, length, ℤ, get_or, FitsSigned, w64}
 use Rattle.std.specs.Fmt.{signed_decimal}
-use Rattle.wb_tokens.specs.NextToken.{IsTokenAt, IsNext}
+use Rattle.wb_tokens.specs.NextToken.{IsTokenAt, IsNextIn}
 use Rattle.wb_tokens.specs.Printing.{printed_text}
 use Rattle.wb_tokens.specs.Spelling.{Spells, IsToken}
 use Rattle.wb_tokens.specs.declared.token.Layout.{Layout}
-use Rattle.wb_tokens.specs.declared.token.Next.{Next}
+use Rattle.wb_predictive.specs.declared.table.Next.{Next}
 use Rattle.wb_tokens.specs.declared.token.Token.{Token}
 use Rattle.wb_tokens.specs.declared.token.Token.TheVariants as t
 use Rattle.wb_tokens.proofs.OnlyLemmas as only
@@ -21,7 +21,7 @@ pub token_only : (text : List ℕ) (a b : Token) (at i j : ℕ) → IsTokenAt te
 token_only = only.token_only
 
 -- one thing comes next
-pub next_only : (layout : Layout) (text : List ℕ) (from : ℕ) (a b : Next) → IsNext layout text from a → IsNext layout text from b → a ≡ b
+pub next_only : (layout : Layout) (text : List ℕ) (from : ℕ) (a b : Next Token) → IsNextIn layout text from a → IsNextIn layout text from b → a ≡ b
 next_only = only.next_only
 
 -- a printed integer is that integer

@@ -5,12 +5,12 @@ use Rattle.std.proofs.lemmas.Str.Parse.{digit_from_value}
 use Rattle.std.specs.Char.{is_ascii_digit}
 use Rattle.std.specs.List.{list_all}
 use Rattle.std.specs.Str.Parse.{IsNumeral}
-use Rattle.wb_tokens.specs.Longest.{beginning_of}
+use Rattle.wb_tokens.specs.Longest.{first_class}
 use Rattle.wb_tokens.specs.Spelling.{IsInteger, IsString, IsRegexBody, Spells}
 use Rattle.wb_base.specs.Identifiers.{is_letter, is_name_byte}
 use Rattle.wb_tokens.specs.Words.{word_text, punctuation_text}
-use Rattle.wb_tokens.specs.declared.beginning.Beginning.{Beginning}
-use Rattle.wb_tokens.specs.declared.beginning.Beginning.TheVariants.{Letter, Number, Quote, Slash, Mark}
+use Rattle.wb_tokens.specs.declared.token_class.TokenClass.{TokenClass}
+use Rattle.wb_tokens.specs.declared.token_class.TokenClass.TheVariants.{Letter, Number, Quote, Slash, Mark}
 use Rattle.wb_tokens.specs.declared.punctuation.Punctuation.{Punctuation}
 use Rattle.wb_tokens.specs.declared.punctuation.Punctuation.TheVariants as p
 use Rattle.wb_tokens.specs.declared.token.Token.{Token}
@@ -19,18 +19,18 @@ use Rattle.wb_tokens.specs.declared.word.Word.{Word}
 use Rattle.wb_tokens.specs.declared.word.Word.TheVariants as w
 
 -- the kind of a token
-abbrev pub kind_of : Token → Beginning
-kind_of (t.Name text) = Letter
-kind_of (t.Word word) = Letter
-kind_of (t.Int value) = Number
-kind_of (t.Text text) = Quote
-kind_of (t.Regex body) = Slash
-kind_of (t.Punctuation mark) = Mark
+abbrev pub class_of : Token → TokenClass
+class_of (t.Name text) = Letter
+class_of (t.Word word) = Letter
+class_of (t.Int value) = Number
+class_of (t.Text text) = Quote
+class_of (t.Regex body) = Slash
+class_of (t.Punctuation mark) = Mark
 
 -- what each word is
 record IsWordText (x : List ℕ) : Type 0 where
   some : 0 < length x
-  letter : beginning_of (get_or x 0 0) ≡ Letter
+  letter : first_class (get_or x 0 0) ≡ Letter
   bytes : list_all is_name_byte x ≡ true
 
 -- each reserved word is such a text
@@ -74,7 +74,7 @@ word_is w.True = record { some = omega arith; letter = refl; bytes = refl }
 -- what each mark is
 record IsMarkText (x : List ℕ) : Type 0 where
   some : 0 < length x
-  mark : beginning_of (get_or x 0 0) ≡ Mark
+  mark : first_class (get_or x 0 0) ≡ Mark
 
 -- each mark is such a text
 mark_is : (mark : Punctuation) → IsMarkText (punctuation_text mark)
@@ -91,7 +91,7 @@ mark_is p.CloseParenthesis = record { some = omega arith; mark = refl }
 mark_is p.At = record { some = omega arith; mark = refl }
 
 -- a letter begins names and reserved words
-pub letter_is : (b : ℕ) → is_letter b ≡ true → beginning_of b ≡ Letter
+pub letter_is : (b : ℕ) → is_letter b ≡ true → first_class b ≡ Letter
 letter_is b h = ap (λ t. cond t Letter (cond (is_ascii_digit b || eqb b 45) Number (cond (eqb b 34) Quote (cond (eqb b 47) Slash Mark)))) h
 
 -- a byte from `0` to `9` is a digit
@@ -103,13 +103,13 @@ digit_no_letter : (b : ℕ) → 48 ≤ b → b ≤ 57 → is_letter b ≡ false
 digit_no_letter b low high = grind arith
 
 -- a digit begins integers
-digit_begins : (b : ℕ) → 48 ≤ b → b ≤ 57 → beginning_of b ≡ Number
+digit_begins : (b : ℕ) → 48 ≤ b → b ≤ 57 → first_class b ≡ Number
 digit_begins b low high =
     ap (λ t. cond t Letter (cond (is_ascii_digit b || eqb b 45) Number (cond (eqb b 34) Quote (cond (eqb b 47) Slash Mark)))) (digit_no_letter b low high)
     ∙ ap (λ t. cond (t || eqb b 45) Number (cond (eqb b 34) Quote (cond (eqb b 47) Slash Mark))) (digit_is b low high)
 
 -- a numeral begins with a digit
-numeral_begins : (x : List ℕ) → IsNumeral 10 x → beginning_of (get_or x 0 0) ≡ Number
+numeral_begins : (x : List ℕ) → IsNumeral 10 x → first_class (get_or x 0 0) ≡ Number
 numeral_begins [] h = absurd (omega (arith, h.0))
 numeral_begins (c ∷ cs) h = let r = digit_from_value c h.1.0 in digit_begins c r.0 r.1
 
@@ -125,18 +125,18 @@ spelled_some (t.Regex body) x s = subst (λ y. 0 < length y) (sym s.0) (omega ar
 spelled_some (t.Punctuation mark) x s = subst (λ y. 0 < length y) (sym s) (mark_is mark).some
 
 -- the first byte of a token tells its kind
-pub spelled_beginning : (token : Token) (x : List ℕ) → Spells token x → beginning_of (get_or x 0 0) ≡ kind_of token
+pub spelled_beginning : (token : Token) (x : List ℕ) → Spells token x → first_class (get_or x 0 0) ≡ class_of token
 spelled_beginning (t.Name text) [] s = absurd s.1
 spelled_beginning (t.Name text) (b ∷ x) s = letter_is b s.1.0
-spelled_beginning (t.Word word) x s = ap (λ y. beginning_of (get_or y 0 0)) s ∙ (word_is word).letter
+spelled_beginning (t.Word word) x s = ap (λ y. first_class (get_or y 0 0)) s ∙ (word_is word).letter
 spelled_beginning (t.Int value) x (IsInteger.positive n e) = numeral_begins x n
-spelled_beginning (t.Int value) x (IsInteger.negative n e f) = ap (λ y. beginning_of (get_or y 0 0)) e
-spelled_beginning (t.Text text) x s = ap (λ y. beginning_of (get_or y 0 0)) s.quoted
-spelled_beginning (t.Regex body) x s = ap (λ y. beginning_of (get_or y 0 0)) s.0
-spelled_beginning (t.Punctuation mark) x s = ap (λ y. beginning_of (get_or y 0 0)) s ∙ (mark_is mark).mark
+spelled_beginning (t.Int value) x (IsInteger.negative n e f) = ap (λ y. first_class (get_or y 0 0)) e
+spelled_beginning (t.Text text) x s = ap (λ y. first_class (get_or y 0 0)) s.quoted
+spelled_beginning (t.Regex body) x s = ap (λ y. first_class (get_or y 0 0)) s.0
+spelled_beginning (t.Punctuation mark) x s = ap (λ y. first_class (get_or y 0 0)) s ∙ (mark_is mark).mark
 
 -- a letter begins names and reserved words, and their bytes are letters, digits and `_`
-pub name_bytes : (token : Token) (x : List ℕ) → Spells token x → kind_of token ≡ Letter → list_all is_name_byte x ≡ true
+pub name_bytes : (token : Token) (x : List ℕ) → Spells token x → class_of token ≡ Letter → list_all is_name_byte x ≡ true
 name_bytes (t.Name text) [] s k = refl
 name_bytes (t.Name text) (b ∷ x) s k = ap (λ t. (t || is_ascii_digit b) && list_all is_name_byte x) s.1.0 ∙ s.1.1
 name_bytes (t.Word word) x s k = ap (list_all is_name_byte) s ∙ (word_is word).bytes
@@ -170,19 +170,19 @@ choice_slash false false false true h = refl
 choice_slash false false false false h = cc
 
 -- a name or a reserved word begins with a letter
-pub begins_letter : (b : ℕ) → beginning_of b ≡ Letter → is_letter b ≡ true
+pub begins_letter : (b : ℕ) → first_class b ≡ Letter → is_letter b ≡ true
 begins_letter b h = choice_letter (is_letter b) (is_ascii_digit b || eqb b 45) (eqb b 34) (eqb b 47) h
 
 -- a string begins with a quote
-pub begins_quote : (b : ℕ) → beginning_of b ≡ Quote → b ≡ 34
+pub begins_quote : (b : ℕ) → first_class b ≡ Quote → b ≡ 34
 begins_quote b h = eqb-true b 34 (choice_quote (is_letter b) (is_ascii_digit b || eqb b 45) (eqb b 34) (eqb b 47) h)
 
 -- a regular expression begins with a slash
-pub begins_slash : (b : ℕ) → beginning_of b ≡ Slash → b ≡ 47
+pub begins_slash : (b : ℕ) → first_class b ≡ Slash → b ≡ 47
 begins_slash b h = eqb-true b 47 (choice_slash (is_letter b) (is_ascii_digit b || eqb b 45) (eqb b 34) (eqb b 47) h)
 
 -- a token that begins with a digit or a minus is an integer
-pub number_is : (token : Token) (x : List ℕ) → Spells token x → kind_of token ≡ Number → (z : ℤ) × (token ≡ t.Int z) × IsInteger x z
+pub number_is : (token : Token) (x : List ℕ) → Spells token x → class_of token ≡ Number → (z : ℤ) × (token ≡ t.Int z) × IsInteger x z
 number_is (t.Name text) x s k = cc
 number_is (t.Word word) x s k = cc
 number_is (t.Int value) x s k = (value, refl, s)
@@ -191,7 +191,7 @@ number_is (t.Regex body) x s k = cc
 number_is (t.Punctuation mark) x s k = cc
 
 -- a token that begins with a quote is a string
-pub string_is : (token : Token) (x : List ℕ) → Spells token x → kind_of token ≡ Quote → (text : List ℕ) × (token ≡ t.Text text) × IsString x text
+pub string_is : (token : Token) (x : List ℕ) → Spells token x → class_of token ≡ Quote → (text : List ℕ) × (token ≡ t.Text text) × IsString x text
 string_is (t.Name text) x s k = cc
 string_is (t.Word word) x s k = cc
 string_is (t.Int value) x s k = cc
@@ -200,7 +200,7 @@ string_is (t.Regex body) x s k = cc
 string_is (t.Punctuation mark) x s k = cc
 
 -- a token that begins with a slash is a regular expression
-pub regex_is : (token : Token) (x : List ℕ) → Spells token x → kind_of token ≡ Slash
+pub regex_is : (token : Token) (x : List ℕ) → Spells token x → class_of token ≡ Slash
     → (body : List ℕ) × (token ≡ t.Regex body) × (x ≡ 47 ∷ (body ++ 47 ∷ [])) × (body ≢ []) × IsRegexBody body
 regex_is (t.Name text) x s k = cc
 regex_is (t.Word word) x s k = cc
@@ -210,7 +210,7 @@ regex_is (t.Regex body) x s k = (body, refl, s.0, s.1, s.2)
 regex_is (t.Punctuation mark) x s k = cc
 
 -- any other token is a punctuation mark
-pub punctuation_is : (token : Token) (x : List ℕ) → Spells token x → kind_of token ≡ Mark → (mark : Punctuation) × (token ≡ t.Punctuation mark) × (x ≡ punctuation_text mark)
+pub punctuation_is : (token : Token) (x : List ℕ) → Spells token x → class_of token ≡ Mark → (mark : Punctuation) × (token ≡ t.Punctuation mark) × (x ≡ punctuation_text mark)
 punctuation_is (t.Name text) x s k = cc
 punctuation_is (t.Word word) x s k = cc
 punctuation_is (t.Int value) x s k = cc

@@ -9,10 +9,10 @@ use Rattle.std.proofs.lemmas.Str.Parse.{IsDigitsTest, numerals_by_value, digit_f
 use Rattle.std.specs.Char.{is_ascii_digit, digit_value}
 use Rattle.std.specs.List.{list_all}
 use Rattle.std.specs.Str.Parse.{AllDigits, IsNumeral, digits_value}
-use Rattle.wb_tokens.specs.Longest.{beginning_of, IsLongest}
+use Rattle.wb_tokens.specs.Longest.{first_class, IsLongest}
 use Rattle.wb_tokens.specs.Numbers.{signed, digit_count, number_of, FindsNumber}
 use Rattle.wb_tokens.specs.Spelling.{IsInteger}
-use Rattle.wb_tokens.specs.declared.beginning.Beginning.TheVariants.{Number}
+use Rattle.wb_tokens.specs.declared.token_class.TokenClass.TheVariants.{Number}
 use Rattle.wb_tokens.specs.declared.token.Token.{Token}
 use Rattle.wb_tokens.specs.declared.token.Token.TheVariants as t
 use Rattle.wb_tokens.proofs.FirstByteLemmas.{digit_is, number_is}
@@ -105,7 +105,7 @@ whole_at text negative digits s some =
     (whole negative digits some)
 
 -- a number in range is the longest token
-pub integer_longest : (text : List ℕ) (negative : Bool) (digits : List ℕ) → IsSigned text negative digits → beginning_of (get_or text 0 0) ≡ Number
+pub integer_longest : (text : List ℕ) (negative : Bool) (digits : List ℕ) → IsSigned text negative digits → first_class (get_or text 0 0) ≡ Number
     → (value : ℤ) (n count : ℕ) → FindsNumber negative digits (Some (value, n)) → count ≡ length (sign negative) + n → IsLongest text (t.Int value) count
 integer_longest text negative digits s begins value n count found e =
     let at : count ≡ length (sign negative) + digit_count digits = omega (arith, e, found.1) in
@@ -149,7 +149,7 @@ no_token text negative digits s z count l none =
     (cases_lt h.taken (digit_count digits))
 
 -- where there is no digit, or the number is out of range, no token begins
-pub integer_none : (text : List ℕ) (negative : Bool) (digits : List ℕ) → IsSigned text negative digits → beginning_of (get_or text 0 0) ≡ Number
+pub integer_none : (text : List ℕ) (negative : Bool) (digits : List ℕ) → IsSigned text negative digits → first_class (get_or text 0 0) ≡ Number
     → FindsNumber negative digits None → (token : Token) (count : ℕ) → IsLongest text token count → ⊥
 integer_none text negative digits s begins none token count l =
     let i = number_is token (take count text) l.spelled (sym (prefix_kind text token count l.spelled) ∙ begins) in

@@ -1,6 +1,7 @@
 pub mod CallerLemmas
 mod FirstByteLemmas
 mod IntegerLemmas
+pub mod KindLaws
 mod LongestLemmas
 mod MarkLemmas
 mod OnlyLemmas

@@ -5,21 +5,21 @@ use Rattle.std.proofs.lemmas.List.Folds.{list_all_at}
 use Rattle.std.proofs.lemmas.List.Sums.{prefix_len-le-length, prefix_len_stops, prefix_len_is}
 use Rattle.std.specs.Char.{is_ascii_digit}
 use Rattle.std.specs.List.{list_all, prefix_len}
-use Rattle.wb_tokens.specs.Longest.{beginning_of, IsLongest}
+use Rattle.wb_tokens.specs.Longest.{first_class, IsLongest}
 use Rattle.wb_tokens.specs.Spelling.{Spells, HasValueInRange}
 use Rattle.wb_base.specs.Identifiers.{is_letter, is_name_byte, IsIdentifier}
 use Rattle.wb_tokens.specs.declared.token.Token.{Token}
-use Rattle.wb_tokens.proofs.FirstByteLemmas.{kind_of, spelled_some, spelled_beginning, name_bytes, letter_is}
+use Rattle.wb_tokens.proofs.FirstByteLemmas.{class_of, spelled_some, spelled_beginning, name_bytes, letter_is}
 
 -- a prefix that is a token has a byte
 pub prefix_some : (text : List ℕ) (token : Token) (count : ℕ) → Spells token (take count text) → 0 < count
 prefix_some text token count s = omega (arith, spelled_some token (take count text) s, length-take count text)
 
 -- the first byte of the text tells the kind of each prefix that is a token
-pub prefix_kind : (text : List ℕ) (token : Token) (count : ℕ) → Spells token (take count text) → beginning_of (get_or text 0 0) ≡ kind_of token
+pub prefix_kind : (text : List ℕ) (token : Token) (count : ℕ) → Spells token (take count text) → first_class (get_or text 0 0) ≡ class_of token
 prefix_kind text token count s =
     let some = prefix_some text token count s in
-    ap beginning_of (sym (get_or-take count text 0 0 some)) ∙ spelled_beginning token (take count text) s
+    ap first_class (sym (get_or-take count text 0 0 some)) ∙ spelled_beginning token (take count text) s
 
 -- what is before the end of a run passes the test, by one byte more
 before_step : (p : ℕ → Bool) (b : ℕ) (x : List ℕ) (t : Bool) → p b ≡ t → list_all p (take (prefix_len p x) x) ≡ true

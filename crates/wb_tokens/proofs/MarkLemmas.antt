@@ -3,10 +3,10 @@ use Rattle.std.proofs.Common.{◌≡◌, ℕ, ◌≤◌, List, [], ◌∷◌, �
 use Rattle.std.proofs.Math.Seq.{take-append_seam}
 use Rattle.std.proofs.lemmas.Bool.{cases_Bool, eqb-true}
 use Rattle.std.proofs.lemmas.List.{take-append-drop}
-use Rattle.wb_tokens.specs.Longest.{beginning_of, IsLongest}
+use Rattle.wb_tokens.specs.Longest.{first_class, IsLongest}
 use Rattle.wb_tokens.specs.Marks.{single_mark, colon_at, mark_at}
 use Rattle.wb_tokens.specs.Words.{punctuation_text}
-use Rattle.wb_tokens.specs.declared.beginning.Beginning.TheVariants.{Mark}
+use Rattle.wb_tokens.specs.declared.token_class.TokenClass.TheVariants.{Mark}
 use Rattle.wb_tokens.specs.declared.punctuation.Punctuation.{Punctuation}
 use Rattle.wb_tokens.specs.declared.punctuation.Punctuation.TheVariants as p
 use Rattle.wb_tokens.specs.declared.token.Token.{Token}
@@ -108,7 +108,7 @@ reaches_at text mark count h =
     subst (λ l. Reaches l mark) (ap (λ l. l ++ drop count text) (sym h) ∙ take-append-drop count text) (reaches mark (drop count text))
 
 -- the mark that is found is the longest token
-pub mark_longest : (text : List ℕ) (found : Punctuation) → beginning_of (get_or text 0 0) ≡ Mark → mark_at text ≡ Some found
+pub mark_longest : (text : List ℕ) (found : Punctuation) → first_class (get_or text 0 0) ≡ Mark → mark_at text ≡ Some found
     → IsLongest text (t.Punctuation found) (length (punctuation_text found))
 mark_longest text found begins h =
     let f = mark_found text found h in
@@ -128,7 +128,7 @@ mark_longest text found begins h =
     }
 
 -- where none is found, no token begins
-pub mark_none : (text : List ℕ) → beginning_of (get_or text 0 0) ≡ Mark → mark_at text ≡ None → (token : Token) (count : ℕ) → IsLongest text token count → ⊥
+pub mark_none : (text : List ℕ) → first_class (get_or text 0 0) ≡ Mark → mark_at text ≡ None → (token : Token) (count : ℕ) → IsLongest text token count → ⊥
 mark_none text begins h token count l =
     let i = punctuation_is token (take count text) l.spelled (sym (prefix_kind text token count l.spelled) ∙ begins) in
     let r = reaches_at text i.0 count i.2 in

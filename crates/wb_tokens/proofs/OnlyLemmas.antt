@@ -5,18 +5,18 @@ use Rattle.std.proofs.lemmas.List.{append_cancel_right}
 use Rattle.std.specs.Prelude.{slice_range}
 use Rattle.std.specs.Str.Parse.{digits_value, IsNumeral}
 use Rattle.wb_tokens.specs.Longest.{IsLongest}
-use Rattle.wb_tokens.specs.NextToken.{IsTokenAt, IsNext}
+use Rattle.wb_tokens.specs.NextToken.{IsTokenAt, IsNextIn}
 use Rattle.wb_tokens.specs.Spelling.{IsInteger, IsString, Spells}
 use Rattle.wb_tokens.specs.Words.{word_text}
 use Rattle.wb_base.specs.Identifiers.{IsReserved}
-use Rattle.wb_tokens.specs.declared.beginning.Beginning.TheVariants.{Letter}
+use Rattle.wb_tokens.specs.declared.token_class.TokenClass.TheVariants.{Letter}
 use Rattle.wb_tokens.specs.declared.token.Layout.{Layout}
-use Rattle.wb_tokens.specs.declared.token.Next.{Next}
-use Rattle.wb_tokens.specs.declared.token.Next.TheVariants as n
+use Rattle.wb_predictive.specs.declared.table.Next.{Next}
+use Rattle.wb_predictive.specs.declared.table.Next.TheVariants as n
 use Rattle.wb_tokens.specs.declared.token.Token.{Token}
 use Rattle.wb_tokens.specs.declared.token.Token.TheVariants as t
 use Rattle.wb_tokens.specs.declared.word.Word.{Word}
-use Rattle.wb_tokens.proofs.FirstByteLemmas.{kind_of, spelled_beginning, number_is, string_is, regex_is, punctuation_is}
+use Rattle.wb_tokens.proofs.FirstByteLemmas.{class_of, spelled_beginning, number_is, string_is, regex_is, punctuation_is}
 use Rattle.wb_tokens.proofs.PartLemmas.{same_string}
 use Rattle.wb_tokens.proofs.SkippingLemmas.{skips_only}
 use Rattle.wb_tokens.proofs.WordLemmas.{same_word, same_mark, word_reserved}
@@ -37,7 +37,7 @@ same_text x a b s r =
     (same_string (34 ∷ []) [] s.stands refl r.stands f).1
 
 -- what is a name is no other token
-only_name : (x text : List ℕ) (b : Token) → x ≡ text → ¬ IsReserved x → Spells b x → Letter ≡ kind_of b → t.Name text ≡ b
+only_name : (x text : List ℕ) (b : Token) → x ≡ text → ¬ IsReserved x → Spells b x → Letter ≡ class_of b → t.Name text ≡ b
 only_name x text (t.Name other) e free s k = ap t.Name (sym e ∙ s.0)
 only_name x text (t.Word word) e free s k = absurd (free (subst IsReserved (sym s) (word_reserved word)))
 only_name x text (t.Int value) e free s k = cc
@@ -46,7 +46,7 @@ only_name x text (t.Regex body) e free s k = cc
 only_name x text (t.Punctuation mark) e free s k = cc
 
 -- what is a reserved word is no other token
-only_word : (x : List ℕ) (word : Word) (b : Token) → x ≡ word_text word → Spells b x → Letter ≡ kind_of b → t.Word word ≡ b
+only_word : (x : List ℕ) (word : Word) (b : Token) → x ≡ word_text word → Spells b x → Letter ≡ class_of b → t.Word word ≡ b
 only_word x word (t.Name other) e s k = absurd (s.2 (subst IsReserved (sym e) (word_reserved word)))
 only_word x word (t.Word other) e s k = ap t.Word (same_word word other (sym e ∙ s))
 only_word x word (t.Int value) e s k = cc
@@ -58,7 +58,7 @@ only_word x word (t.Punctuation mark) e s k = cc
 pub same_token : (x : List ℕ) (a b : Token) → Spells a x → Spells b x → a ≡ b
 same_token x a b s r = by_kind a s (sym (spelled_beginning a x s) ∙ spelled_beginning b x r)
   where
-    by_kind : (a : Token) → Spells a x → kind_of a ≡ kind_of b → a ≡ b
+    by_kind : (a : Token) → Spells a x → class_of a ≡ class_of b → a ≡ b
     by_kind (t.Name text) s k = only_name x text b s.0 s.2 r k
     by_kind (t.Word word) s k = only_word x word b s r k
     by_kind (t.Int value) s k = let i = number_is b x r (sym k) in ap t.Int (same_integer x value i.0 s i.2) ∙ sym i.1
@@ -79,22 +79,24 @@ token_only text a b at i j x y =
     (same_token (slice_range text at i) a b x.spelled (subst (λ k. Spells b (slice_range text at k)) (sym same) y.spelled), same)
 
 -- one thing comes next
-pub next_only : (layout : Layout) (text : List ℕ) (from : ℕ) (a b : Next) → IsNext layout text from a → IsNext layout text from b → a ≡ b
-next_only layout text from (n.Token x at i) (n.Token y at' j) h k =
-    let places = skips_only h.skipped k.skipped in
-    let same = token_only text x y at i j h.stands (subst (λ p. IsTokenAt text y p j) (sym places) k.stands) in
-    let tokens = same.0 in let ends = same.1 in cc
-next_only layout text from (n.Token x at i) (n.End at') h k =
+pub next_only : (layout : Layout) (text : List ℕ) (from : ℕ) (a b : Next Token) → IsNextIn layout text from a → IsNextIn layout text from b → a ≡ b
+next_only layout text from (n.Found x) (n.Found y) h k =
+    let places : x.at ≡ y.at = skips_only h.skipped k.skipped in
+    let same = token_only text x.token y.token x.at x.end y.end h.stands (subst (λ p. IsTokenAt text y.token p y.end) (sym places) k.stands) in
+    let tokens = same.0 in let ends = same.1 in
+    ap n.Found (ap (λ t. record { token = t; at = x.at; end = x.end }) tokens
+        ∙ (ap (λ p. record { token = y.token; at = p; end = x.end }) places ∙ ap (λ e. record { token = y.token; at = y.at; end = e }) ends))
+next_only layout text from (n.Found x) (n.End at') h k =
     let places = skips_only h.skipped k.skipped in absurd (omega (arith, places, k.last, h.stands.ordered, h.stands.within))
-next_only layout text from (n.Token x at i) (n.NoToken at') h k =
-    let places = skips_only h.skipped k.skipped in absurd (k.none_stands x i (subst (λ p. IsTokenAt text x p i) places h.stands))
-next_only layout text from (n.End at) (n.Token y at' j) h k =
+next_only layout text from (n.Found x) (n.NoToken at') h k =
+    let places = skips_only h.skipped k.skipped in absurd (k.none_stands x.token x.end (subst (λ p. IsTokenAt text x.token p x.end) places h.stands))
+next_only layout text from (n.End at) (n.Found y) h k =
     let places = skips_only h.skipped k.skipped in absurd (omega (arith, places, h.last, k.stands.ordered, k.stands.within))
 next_only layout text from (n.End at) (n.End at') h k = ap n.End (skips_only h.skipped k.skipped)
 next_only layout text from (n.End at) (n.NoToken at') h k =
     let places = skips_only h.skipped k.skipped in absurd (omega (arith, places, h.last, k.within))
-next_only layout text from (n.NoToken at) (n.Token y at' j) h k =
-    let places = skips_only h.skipped k.skipped in absurd (h.none_stands y j (subst (λ p. IsTokenAt text y p j) (sym places) k.stands))
+next_only layout text from (n.NoToken at) (n.Found y) h k =
+    let places = skips_only h.skipped k.skipped in absurd (h.none_stands y.token y.end (subst (λ p. IsTokenAt text y.token p y.end) (sym places) k.stands))
 next_only layout text from (n.NoToken at) (n.End at') h k =
     let places = skips_only h.skipped k.skipped in absurd (omega (arith, places, k.last, h.within))
 next_only layout text from (n.NoToken at) (n.NoToken at') h k = ap n.NoToken (skips_only h.skipped k.skipped)

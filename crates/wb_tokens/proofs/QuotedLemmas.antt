@@ -1,11 +1,11 @@
 -- What stands between two quotes or slashes is the longest string or regular expression.
 use Rattle.std.proofs.Common.{◌≡◌, ℕ, suc, ◌+◌, ◌<◌, ◌≤◌, List, [], ◌∷◌, ◌++◌, Some, None, length, get_or, take, drop, sym, ap, ◌∙◌, subst, arith, length-take, length-append, append_assoc}
 use Rattle.std.proofs.lemmas.List.{take-append-drop, take_more, drop_more}
-use Rattle.wb_tokens.specs.Longest.{beginning_of, IsLongest}
+use Rattle.wb_tokens.specs.Longest.{first_class, IsLongest}
 use Rattle.wb_tokens.specs.Parts.{string_part, regex_part, FindsString, FindsRegex}
 use Rattle.wb_tokens.specs.Skipping.{HasByte}
 use Rattle.wb_tokens.specs.Spelling.{IsStringBody, IsString, IsRegexBody}
-use Rattle.wb_tokens.specs.declared.beginning.Beginning.TheVariants.{Quote, Slash}
+use Rattle.wb_tokens.specs.declared.token_class.TokenClass.TheVariants.{Quote, Slash}
 use Rattle.wb_tokens.specs.declared.token.Token.{Token}
 use Rattle.wb_tokens.specs.declared.token.Token.TheVariants as t
 use Rattle.wb_tokens.proofs.FirstByteLemmas.{string_is, regex_is, begins_quote, begins_slash}
@@ -107,39 +107,39 @@ regex_empty x found token count l =
     i.3 (sym same.0)
 
 -- a text that begins with a quote
-quote_first : (text : List ℕ) → 0 < length text → beginning_of (get_or text 0 0) ≡ Quote → 34 ∷ drop 1 text ≡ text
+quote_first : (text : List ℕ) → 0 < length text → first_class (get_or text 0 0) ≡ Quote → 34 ∷ drop 1 text ≡ text
 quote_first text some begins = sym (headed text 34 some (begins_quote (get_or text 0 0) begins))
 
 -- a text that begins with a slash
-slash_first : (text : List ℕ) → 0 < length text → beginning_of (get_or text 0 0) ≡ Slash → 47 ∷ drop 1 text ≡ text
+slash_first : (text : List ℕ) → 0 < length text → first_class (get_or text 0 0) ≡ Slash → 47 ∷ drop 1 text ≡ text
 slash_first text some begins = sym (headed text 47 some (begins_slash (get_or text 0 0) begins))
 
 -- a string that was found behind its quote is the longest token
-pub string_found : (text decoded : List ℕ) (place : ℕ) → 0 < length text → beginning_of (get_or text 0 0) ≡ Quote
+pub string_found : (text decoded : List ℕ) (place : ℕ) → 0 < length text → first_class (get_or text 0 0) ≡ Quote
     → FindsString (drop 1 text) (Some (decoded, place)) → IsLongest text (t.Text decoded) (place + 2)
 string_found text decoded place some begins found =
     subst (λ l. IsLongest l (t.Text decoded) (place + 2)) (quote_first text some begins) (string_longest (drop 1 text) decoded place found)
 
 -- where no string was found behind a quote, no token begins
-pub string_missing : (text : List ℕ) → 0 < length text → beginning_of (get_or text 0 0) ≡ Quote → FindsString (drop 1 text) None
+pub string_missing : (text : List ℕ) → 0 < length text → first_class (get_or text 0 0) ≡ Quote → FindsString (drop 1 text) None
     → (token : Token) (count : ℕ) → IsLongest text token count → ⊥
 string_missing text some begins none token count l =
     string_none (drop 1 text) none token count (subst (λ x. IsLongest x token count) (sym (quote_first text some begins)) l)
 
 -- a regular expression that was found behind its slash is the longest token
-pub regex_found : (text : List ℕ) (place : ℕ) → 0 < length text → beginning_of (get_or text 0 0) ≡ Slash → 0 < place
+pub regex_found : (text : List ℕ) (place : ℕ) → 0 < length text → first_class (get_or text 0 0) ≡ Slash → 0 < place
     → FindsRegex (drop 1 text) (Some place) → IsLongest text (t.Regex (take place (drop 1 text))) (place + 2)
 regex_found text place some begins more found =
     subst (λ l. IsLongest l (t.Regex (take place (drop 1 text))) (place + 2)) (slash_first text some begins) (regex_longest (drop 1 text) place more found)
 
 -- where none was found behind a slash, no token begins
-pub regex_missing : (text : List ℕ) → 0 < length text → beginning_of (get_or text 0 0) ≡ Slash → FindsRegex (drop 1 text) None
+pub regex_missing : (text : List ℕ) → 0 < length text → first_class (get_or text 0 0) ≡ Slash → FindsRegex (drop 1 text) None
     → (token : Token) (count : ℕ) → IsLongest text token count → ⊥
 regex_missing text some begins none token count l =
     regex_none (drop 1 text) none token count (subst (λ x. IsLongest x token count) (sym (slash_first text some begins)) l)
 
 -- where a slash stands behind a slash, no token begins
-pub regex_without : (text : List ℕ) → 0 < length text → beginning_of (get_or text 0 0) ≡ Slash → FindsRegex (drop 1 text) (Some 0)
+pub regex_without : (text : List ℕ) → 0 < length text → first_class (get_or text 0 0) ≡ Slash → FindsRegex (drop 1 text) (Some 0)
     → (token : Token) (count : ℕ) → IsLongest text token count → ⊥
 regex_without text some begins found token count l =
     regex_empty (drop 1 text) found token count (subst (λ x. IsLongest x token count) (sym (slash_first text some begins)) l)

@@ -7,7 +7,7 @@ use Rattle.std.specs.Bool.{⊤}
 use Rattle.std.specs.Char.{is_ascii_digit}
 use Rattle.std.specs.List.{list_all, prefix_len}
 use Rattle.std.specs.Str.Parse.{IsNumeral, digits_value}
-use Rattle.wb_tokens.specs.Longest.{beginning_of, IsLongest}
+use Rattle.wb_tokens.specs.Longest.{first_class, IsLongest}
 use Rattle.wb_tokens.specs.Marks.{mark_at}
 use Rattle.wb_tokens.specs.NextToken.{IsTokenAt}
 use Rattle.wb_tokens.specs.Numbers.{digit_count, FindsNumber, signed}
@@ -15,12 +15,12 @@ use Rattle.wb_tokens.specs.Skipping.{HasByte}
 use Rattle.wb_tokens.specs.Spelling.{IsInteger, IsString, IsStringBody, IsRegexBody, Spells, HasValueInRange, IsToken}
 use Rattle.wb_base.specs.Identifiers.{is_name_byte}
 use Rattle.wb_tokens.specs.Words.{punctuation_text}
-use Rattle.wb_tokens.specs.declared.beginning.Beginning.TheVariants.{Letter, Number}
+use Rattle.wb_tokens.specs.declared.token_class.TokenClass.TheVariants.{Letter, Number}
 use Rattle.wb_tokens.specs.declared.punctuation.Punctuation.{Punctuation}
 use Rattle.wb_tokens.specs.declared.punctuation.Punctuation.TheVariants as p
 use Rattle.wb_tokens.specs.declared.token.Token.{Token}
 use Rattle.wb_tokens.specs.declared.token.Token.TheVariants as t
-use Rattle.wb_tokens.proofs.FirstByteLemmas.{kind_of, spelled_some, spelled_beginning, name_bytes, begins_letter}
+use Rattle.wb_tokens.proofs.FirstByteLemmas.{class_of, spelled_some, spelled_beginning, name_bytes, begins_letter}
 use Rattle.wb_tokens.proofs.IntegerLemmas.{digit_run, integer_longest}
 use Rattle.wb_tokens.proofs.LongestLemmas.{name_longest}
 use Rattle.wb_tokens.proofs.MarkLemmas.{mark_longest}
@@ -74,11 +74,11 @@ run_length test (b ∷ x) rest all s =
     ap (λ t. cond t (1 + prefix_len test (x ++ rest)) 0) h.0 ∙ omega (arith, i)
 
 -- the first byte of a spelling tells the kind in a text
-begins : (token : Token) (x rest : List ℕ) → Spells token x → beginning_of (get_or (x ++ rest) 0 0) ≡ kind_of token
-begins token x rest s = ap beginning_of (get_or_append_left x rest 0 0 (spelled_some token x s)) ∙ spelled_beginning token x s
+begins : (token : Token) (x rest : List ℕ) → Spells token x → first_class (get_or (x ++ rest) 0 0) ≡ class_of token
+begins token x rest s = ap first_class (get_or_append_left x rest 0 0 (spelled_some token x s)) ∙ spelled_beginning token x s
 
 -- a name or a reserved word
-name_stands : (token : Token) (x rest : List ℕ) → Spells token x → HasValueInRange token → kind_of token ≡ Letter → StopsAt is_name_byte rest
+name_stands : (token : Token) (x rest : List ℕ) → Spells token x → HasValueInRange token → class_of token ≡ Letter → StopsAt is_name_byte rest
     → IsLongest (x ++ rest) token (length x)
 name_stands token x rest s range kind stops =
     let e = run_length is_name_byte x rest (name_bytes token x s kind) stops in
@@ -99,7 +99,7 @@ no_minus [] rest n = absurd (omega (arith, n.0))
 no_minus (c ∷ x) rest n = λ e. let r = digit_from_value c n.1.0 in omega (arith, r, e)
 
 -- an integer
-integer_stands : (x rest : List ℕ) (z : ℤ) → IsInteger x z → FitsSigned w64 z → StopsAt is_ascii_digit rest → beginning_of (get_or (x ++ rest) 0 0) ≡ Number
+integer_stands : (x rest : List ℕ) (z : ℤ) → IsInteger x z → FitsSigned w64 z → StopsAt is_ascii_digit rest → first_class (get_or (x ++ rest) 0 0) ≡ Number
     → IsLongest (x ++ rest) (t.Int z) (length x)
 integer_stands x rest z (IsInteger.positive n e) fits stops first =
     integer_longest (x ++ rest) false (x ++ rest) (record { joined = refl; plain = λ _. no_minus x rest n }) first z (length x) (length x)

@@ -1,3 +1,4 @@
+pub mod Kinds
 pub mod Longest
 pub mod Marks
 pub mod NextToken
@@ -7,4 +8,3 @@ pub mod Printing
 pub mod Skipping
 pub mod Spelling
 pub mod Words
-pub mod Placed

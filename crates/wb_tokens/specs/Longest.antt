@@ -4,8 +4,8 @@ use Rattle.std.specs.Char.{is_ascii_digit}
 use Rattle.wb_tokens.specs.Spelling.{Spells, HasValueInRange}
 use Rattle.wb_base.specs.Identifiers.{is_letter}
 use Rattle.wb_tokens.specs.declared.token.Token.{Token}
-use Rattle.wb_tokens.specs.declared.beginning.Beginning.{Beginning}
-use Rattle.wb_tokens.specs.declared.beginning.Beginning.TheVariants.{Letter, Number, Quote, Slash, Mark}
+use Rattle.wb_tokens.specs.declared.token_class.TokenClass.{TokenClass}
+use Rattle.wb_tokens.specs.declared.token_class.TokenClass.TheVariants.{Letter, Number, Quote, Slash, Mark}
 
 -- the longest token at the beginning has so many bytes
 pub record IsLongest (text : List ℕ) (token : Token) (count : ℕ) : Type 0 where
@@ -21,7 +21,7 @@ FindsLongest text None = (token : Token) (count : ℕ) → ¬ IsLongest text tok
 FindsLongest text (Some found) = IsLongest text found.0 found.1
 
 -- what a token that begins with the byte can be
-abbrev pub beginning_of : ℕ → Beginning
-beginning_of b =
+abbrev pub first_class : ℕ → TokenClass
+first_class b =
     if is_letter b then Letter else if is_ascii_digit b || b == 45 then Number else if b == 34 then Quote
     else if b == 47 then Slash else Mark

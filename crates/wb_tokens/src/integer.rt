@@ -4,11 +4,11 @@ ghost use Rattle.std.specs.Prelude.{◌≡◌, ◌^◌, ◌≤◌, ◌<◌, ◌�
 ghost use Rattle.std.specs.Char.{is_ascii_digit};
 ghost use Rattle.std.specs.Int.{w64};
 ghost use Rattle.std.specs.Str.Parse.{AllDigits, digits_value};
-ghost use Rattle.wb_tokens.specs.Longest.{beginning_of, FindsLongest};
+ghost use Rattle.wb_tokens.specs.Longest.{first_class, FindsLongest};
 ghost use Rattle.wb_tokens.specs.Numbers.{signed, digit_count, FindsNumber};
 
 use crate::Token;
-use crate::beginning::Beginning;
+use crate::token_class::TokenClass;
 
 // How many digits the bytes begin with.
 fn digit_count(text: &[u8]) -> usize
@@ -76,7 +76,7 @@ fn number(negative: bool, text: &[u8]) -> Option<(i64, usize)>
 /// The integer that the bytes begin with, and its length.
 pub fn integer(text: &[u8]) -> Option<(Token, usize)>
     requires some { 0 < length text.now }
-    requires begins { beginning_of (slice_index text.now 0) ≡ Beginning.Number }
+    requires begins { first_class (slice_index text.now 0) ≡ TokenClass.Number }
     ensures { FindsLongest text.now result }
 {
     if text[0] == b'-' {

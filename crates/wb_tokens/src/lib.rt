@@ -4,11 +4,10 @@
 //! and terms are read by `next_token`; what follows what in them is no matter of this crate.
 #![tactic(auto)]
 
-mod beginning;
 mod integer;
+mod kind;
 mod name;
 mod next;
-mod placed;
 mod print;
 mod punctuation;
 mod regex;
@@ -17,11 +16,12 @@ mod string;
 #[cfg(test)]
 mod tests;
 mod token;
+mod token_class;
 mod word;
 
 pub use next::next_token;
-pub use placed::next_in;
 pub use print::{print_int, print_text};
 pub use punctuation::Punctuation;
-pub use token::{Layout, Next, Token};
+pub use kind::TokenKind;
+pub use token::{Layout, Token};
 pub use word::Word;

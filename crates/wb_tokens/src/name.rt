@@ -2,11 +2,11 @@
 
 ghost use Rattle.std.specs.Prelude.{◌≡◌, ◌<◌, true, length, slice_index, IfOk, Some};
 ghost use Rattle.std.specs.List.{prefix_len};
-ghost use Rattle.wb_tokens.specs.Longest.{beginning_of, FindsLongest};
+ghost use Rattle.wb_tokens.specs.Longest.{first_class, FindsLongest};
 ghost use Rattle.wb_base.specs.Identifiers.{is_letter, is_name_byte};
 
 use crate::Token;
-use crate::beginning::{Beginning, is_letter};
+use crate::token_class::{TokenClass, is_letter};
 use crate::word::word_of;
 use std::alloc::{AllocError, Global};
 use wb_base::Bytes;
@@ -33,7 +33,7 @@ fn name_len(text: &[u8]) -> usize
 /// The name or the reserved word that the bytes begin with, and its length.
 pub fn name(alloc: Global, text: &[u8]) -> Result<Option<(Token, usize)>, AllocError>
     requires some { 0 < length text.now }
-    requires begins { beginning_of (slice_index text.now 0) ≡ Beginning.Letter }
+    requires begins { first_class (slice_index text.now 0) ≡ TokenClass.Letter }
     ensures { IfOk result (FindsLongest text.now) }
 {
     let length = name_len(text);

@@ -2,36 +2,38 @@
 
 ghost use Rattle.std.specs.Prelude.{◌≡◌, ◌≤◌, ◌<◌, length, IfOk};
 ghost use Rattle.wb_tokens.specs.Longest.{FindsLongest};
-ghost use Rattle.wb_tokens.specs.NextToken.{IsNext, GoesForward};
-ghost use Rattle.wb_tokens.specs.declared.token.Next.{Next};
+ghost use Rattle.wb_tokens.specs.NextToken.{IsNextIn, GoesForward};
+ghost use Rattle.wb_predictive.specs.declared.table.Next.{Next};
+ghost use Rattle.wb_tokens.specs.declared.token.Token.{Token};
 
-use crate::beginning::{Beginning, beginning_of};
+use crate::token_class::{TokenClass, first_class};
 use crate::integer::integer;
 use crate::name::name;
 use crate::punctuation::longest_mark;
 use crate::regex::regex;
 use crate::skipping::skip_layout;
 use crate::string::string;
-use crate::{Layout, Next, Token};
+use crate::{Layout, Token};
 use std::alloc::{AllocError, Global};
+use wb_predictive::{Next, Placed};
 
 // The longest token that the bytes begin with, and its length.
 fn longest_token(alloc: Global, text: &[u8]) -> Result<Option<(Token, usize)>, AllocError>
     requires { 0 < length text.now }
     ensures { IfOk result (FindsLongest text.now) }
 {
-    match beginning_of(text[0]) {
-        Beginning::Letter => name(alloc, text),
-        Beginning::Number => Ok(integer(text)),
-        Beginning::Quote => string(alloc, text),
-        Beginning::Slash => regex(alloc, text),
-        Beginning::Mark => Ok(longest_mark(text)),
+    match first_class(text[0]) {
+        TokenClass::Letter => name(alloc, text),
+        TokenClass::Number => Ok(integer(text)),
+        TokenClass::Quote => string(alloc, text),
+        TokenClass::Slash => regex(alloc, text),
+        TokenClass::Mark => Ok(longest_mark(text)),
     }
 }
 
-/// What stands in a text from a place on, behind layout: the longest token, the end of the text, or bytes that begin no token.
+/// What is next in a text from a place on, after layout: the longest token, the end of the text, or bytes that begin no token.
 ///
-/// Places count bytes from the beginning of the text; to go on, call again from the place behind the token. An integer goes on as
+/// Places count bytes from the beginning of the text; to go on, call again from the token's end. An integer goes on as
 /// long as digits do, so one that is out of range is no token, and no shorter one is read. The only error is want of memory, which
 /// is taken for the bytes of a name, a string or a regular expression alone. No clause bounds the work: it is linear in the bytes
 /// of the layout and the token, and where no token begins at most in those of the line.
@@ -40,11 +42,11 @@ pub fn next_token(
     text: &[u8],
     from: usize,
     layout: Layout,
-) -> Result<Next, AllocError>
+) -> Result<Next<Token>, AllocError>
     requires { from ≤ length text.now }
-    ensures ok { IfOk result (IsNext layout text.now from) }
+    ensures ok { IfOk result (IsNextIn layout text.now from) }
     ensures only { IfOk result (λ next.
-        (other : Next) → IsNext layout text.now from other → other ≡ next) }
+        (other : Next Token) → IsNextIn layout text.now from other → other ≡ next) }
     ensures forward { IfOk result (GoesForward text.now from) }
 {
     let at = skip_layout(text, from, layout);
@@ -52,11 +54,11 @@ pub fn next_token(
         return Ok(Next::End { at });
     }
     match longest_token(alloc, &text[at..])? {
-        Some((token, length)) => Ok(Next::Token {
+        Some((token, length)) => Ok(Next::Found(Placed {
             token,
             at,
-            behind: at + length,
-        }),
+            end: at + length,
+        })),
         None => Ok(Next::NoToken { at }),
     }
 }

@@ -1,12 +1,12 @@
 //! The punctuation marks.
 
 ghost use Rattle.std.specs.Prelude.{◌≡◌, ◌<◌, length, slice_index};
-ghost use Rattle.wb_tokens.specs.Longest.{beginning_of, FindsLongest};
+ghost use Rattle.wb_tokens.specs.Longest.{first_class, FindsLongest};
 ghost use Rattle.wb_tokens.specs.Words.{punctuation_text};
 ghost use Rattle.wb_tokens.specs.Marks.{mark_at, colon_at, single_mark};
 
 use crate::Token;
-use crate::beginning::Beginning;
+use crate::token_class::TokenClass;
 
 /// A punctuation mark.
 #[derive(Clone, Copy, Debug, PartialEq, Eq)]
@@ -98,7 +98,7 @@ fn mark(text: &[u8]) -> Option<Punctuation>
 /// The punctuation mark that the bytes begin with, and its length.
 pub fn longest_mark(text: &[u8]) -> Option<(Token, usize)>
     requires some { 0 < length text.now }
-    requires begins { beginning_of (slice_index text.now 0) ≡ Beginning.Mark }
+    requires begins { first_class (slice_index text.now 0) ≡ TokenClass.Mark }
     ensures { FindsLongest text.now result }
 {
     let mark = mark(text)?;

@@ -1,11 +1,11 @@
 //! Regular expressions, as tokens.
 
 ghost use Rattle.std.specs.Prelude.{◌≡◌, ◌≤◌, ◌<◌, true, length, slice_index, IfOk};
-ghost use Rattle.wb_tokens.specs.Longest.{beginning_of, FindsLongest};
+ghost use Rattle.wb_tokens.specs.Longest.{first_class, FindsLongest};
 ghost use Rattle.wb_tokens.specs.Parts.{regex_part, regex_escape, FindsRegex};
 
 use crate::Token;
-use crate::beginning::Beginning;
+use crate::token_class::TokenClass;
 use crate::skipping::has_byte;
 use std::alloc::{AllocError, Global};
 use wb_base::Bytes;
@@ -49,7 +49,7 @@ fn regex_body(x: &[u8]) -> Option<usize>
 /// The regular expression that the bytes begin with, and its length.
 pub fn regex(alloc: Global, text: &[u8]) -> Result<Option<(Token, usize)>, AllocError>
     requires some { 0 < length text.now }
-    requires begins { beginning_of (slice_index text.now 0) ≡ Beginning.Slash }
+    requires begins { first_class (slice_index text.now 0) ≡ TokenClass.Slash }
     ensures { IfOk result (FindsLongest text.now) }
 {
     let Some(place) = regex_body(&text[1..]) else {

@@ -1,12 +1,12 @@
 //! Strings.
 
 ghost use Rattle.std.specs.Prelude.{◌≡◌, ◌≤◌, ◌<◌, true, length, slice_index, IfOk, IfSome, Option, option_map, List, ℕ, Vec};
-ghost use Rattle.wb_tokens.specs.Longest.{beginning_of, FindsLongest};
+ghost use Rattle.wb_tokens.specs.Longest.{first_class, FindsLongest};
 ghost use Rattle.wb_tokens.specs.Parts.{string_part, escape_at, hexadecimal_at, FindsString};
 ghost use Rattle.wb_tokens.specs.Spelling.{is_plain, escaped_byte, hex_value};
 
 use crate::Token;
-use crate::beginning::Beginning;
+use crate::token_class::TokenClass;
 use crate::skipping::has_byte;
 use std::alloc::{AllocError, Global};
 use wb_base::Bytes;
@@ -97,7 +97,7 @@ fn string_body(alloc: Global, x: &[u8]) -> Result<Option<(Vec<u8>, usize)>, Allo
 /// The string that the bytes begin with, and its length.
 pub fn string(alloc: Global, text: &[u8]) -> Result<Option<(Token, usize)>, AllocError>
     requires some { 0 < length text.now }
-    requires begins { beginning_of (slice_index text.now 0) ≡ Beginning.Quote }
+    requires begins { first_class (slice_index text.now 0) ≡ TokenClass.Quote }
     ensures { IfOk result (FindsLongest text.now) }
 {
     let Some((decoded, place)) = string_body(alloc, &text[1..])? else {

@@ -28,22 +28,3 @@ pub enum Layout {
     /// Nothing else.
     Plain,
 }
-
-/// What stands in a text behind layout. Places count bytes from the beginning of the text.
-#[derive(Debug, Drop)]
-pub enum Next {
-    /// A token, from its first byte to before the byte at `behind`.
-    Token {
-        token: Token,
-        at: usize,
-        behind: usize,
-    },
-    /// Nothing: the text ends here.
-    End {
-        at: usize,
-    },
-    /// Bytes that begin no token.
-    NoToken {
-        at: usize,
-    },
-}

@@ -1,6 +1,6 @@
 use Rattle.std.proofs.Common.{arith}
 use Rattle.std.proofs.lemmas.List.{take_rest}
-use Rattle.wb_tokens.specs.declared.token.Next.TheVariants as n
+use Rattle.wb_predictive.specs.declared.table.Next.TheVariants as n
 use Rattle.wb_tokens.proofs.OnlyLemmas.{next_only, stands_at, longest_at}
 use Rattle.wb_tokens.proofs.next.next_token.Goals as goal
 

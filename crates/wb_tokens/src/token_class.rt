@@ -1,12 +1,12 @@
 //! What the first byte of a token says of it.
 
 ghost use Rattle.std.specs.Prelude.{◌≡◌};
-ghost use Rattle.wb_tokens.specs.Longest.{beginning_of};
+ghost use Rattle.wb_tokens.specs.Longest.{first_class};
 ghost use Rattle.wb_base.specs.Identifiers.{is_letter};
 
 /// What a token that begins with a byte can be.
 #[derive(Clone, Copy, Debug)]
-pub enum Beginning {
+pub enum TokenClass {
     /// A name or a reserved word.
     Letter,
     /// An integer.
@@ -27,18 +27,18 @@ pub fn is_letter(b: u8) -> bool
 }
 
 /// What a token that begins with the byte can be.
-pub fn beginning_of(b: u8) -> Beginning
-    ensures { result ≡ beginning_of b }
+pub fn first_class(b: u8) -> TokenClass
+    ensures { result ≡ first_class b }
 {
     if is_letter(b) {
-        Beginning::Letter
+        TokenClass::Letter
     } else if b.is_ascii_digit() || b == b'-' {
-        Beginning::Number
+        TokenClass::Number
     } else if b == b'"' {
-        Beginning::Quote
+        TokenClass::Quote
     } else if b == b'/' {
-        Beginning::Slash
+        TokenClass::Slash
     } else {
-        Beginning::Mark
+        TokenClass::Mark
     }
 }
