@@ -1,5 +1,5 @@
 -- The canonical text of a specification.
-use Rattle.std.specs.Prelude.{◌≡◌, ℕ, ◌||◌, Bool, true, false, List, [], ◌∷◌, ◌++◌, map, codes, if◌then◌else◌}
+use Rattle.std.specs.Prelude.{◌≡◌, ℕ, pos, ◌||◌, Bool, true, false, List, [], ◌∷◌, ◌++◌, map, codes, if◌then◌else◌}
 use Rattle.std.specs.Fmt.{signed_decimal}
 use Rattle.wb_tokens.specs.declared.token.Token.{Token}
 use Rattle.wb_tokens.specs.declared.token.Token.TheVariants as t
@@ -7,10 +7,11 @@ use Rattle.wb_tokens.specs.declared.punctuation.Punctuation.TheVariants as p
 use Rattle.wb_tokens.specs.Words.{word_text, punctuation_text}
 use Rattle.wb_tokens.specs.Printing.{printed_text}
 use Rattle.wb_syntax.specs.declared.item.Item.{Item}
-use Rattle.wb_syntax.specs.declared.written.WrittenItem.{WrittenItem}
+use Rattle.wb_syntax.specs.declared.pattern.Pattern.{Pattern}
+use Rattle.wb_syntax.specs.declared.pattern.WrittenPattern.{WrittenPattern}
 use Rattle.wb_syntax.specs.Tokens.{Lexeme}
 use Rattle.wb_syntax.specs.ItemGrammar.{IsItem, IsHeader}
-use Rattle.wb_syntax.specs.SpecText.{SpecState, IsReadAs}
+use Rattle.wb_syntax.specs.SpecText.{SpecView, IsReadAs}
 use Rattle.wb_syntax.specs.Offsets.{unplaced}
 
 -- a token as it is printed: a regular expression keeps its bytes, an integer is decimal without leading zeros, and a string is as values are printed
@@ -49,27 +50,31 @@ abbrev pub IsLine : List Lexeme → List ℕ → Type 0
 IsLine lexemes line = line ≡ line_of (map (λ x. x.token) lexemes)
 
 -- the line is an item's: its tokens are the item but for places
-pub record IsItemLine (item : Item) (text : List ℕ) : Type 0 where
+pub record IsItemLine (item : Item Pattern) (text : List ℕ) : Type 0 where
   pub lexemes : List Lexeme
-  pub written : WrittenItem
-  pub other : Item
+  pub written : Item WrittenPattern
+  pub other : Item Pattern
   pub grammar : IsItem lexemes written
   pub read : IsReadAs written other
   pub same : unplaced other ≡ unplaced item
   pub line : IsLine lexemes text
 
 -- the lines of items, each ended by LF
-pub data AreItemLines : List Item → List ℕ → Type 0 where
+pub data AreItemLines : List (Item Pattern) → List ℕ → Type 0 where
   nothing : AreItemLines [] []
-  next : {item : Item} {rest : List Item} {line text whole : List ℕ} → IsItemLine item line → AreItemLines rest text → whole ≡ line ++ 10 ∷ text
+  next : {item : Item Pattern} {rest : List (Item Pattern)} {line text whole : List ℕ} → IsItemLine item line → AreItemLines rest text → whole ≡ line ++ 10 ∷ text
       → AreItemLines (item ∷ rest) whole
 
--- the text is the specification's canonical one: `format 1;`, the header and each item on lines of their own, each ended by LF
-pub record IsCanonical (spec : SpecState) (text : List ℕ) : Type 0 where
+-- the line that tells the format
+abbrev pub format_line : ℕ → List ℕ
+format_line format = codes "format " ++ signed_decimal (pos format) ++ codes ";"
+
+-- the text is the specification's canonical one: its format, the header and each item on lines of their own, each ended by LF
+pub record IsCanonical (spec : SpecView) (text : List ℕ) : Type 0 where
   pub lexemes : List Lexeme
   pub header : List ℕ
   pub items : List ℕ
-  pub is_header : IsHeader lexemes spec.host spec.name spec.for_host
+  pub is_header : IsHeader lexemes spec.name spec.header
   pub header_line : IsLine lexemes header
   pub item_lines : AreItemLines spec.items items
-  pub whole : text ≡ codes "format 1;" ++ 10 ∷ (header ++ 10 ∷ items)
+  pub whole : text ≡ format_line spec.format ++ 10 ∷ (header ++ 10 ∷ items)

@@ -2,9 +2,9 @@
 use Rattle.std.specs.Prelude.{◌≡◌, ℕ, List, [], ◌∷◌, ◌++◌, Option, Some, None}
 use Rattle.wb_tokens.specs.declared.word.Word.TheVariants as word
 use Rattle.wb_tokens.specs.declared.punctuation.Punctuation.TheVariants as p
-use Rattle.wb_syntax.specs.declared.item.NamedKind.{NamedKind}
-use Rattle.wb_syntax.specs.declared.item.NamedKind.TheVariants as k
-use Rattle.wb_syntax.specs.declared.item.Child.{Child}
+use Rattle.wb_syntax.specs.declared.production.NamedKind.{NamedKind}
+use Rattle.wb_syntax.specs.declared.production.NamedKind.TheVariants as k
+use Rattle.wb_syntax.specs.declared.production.Child.{Child}
 use Rattle.wb_syntax.specs.declared.expression.Equation.{Equation}
 use Rattle.wb_syntax.specs.declared.expression.Target.{Target}
 use Rattle.wb_syntax.specs.declared.expression.Target.TheVariants as g

@@ -1,3 +1,7 @@
+//! What is an equation for, and what does it say?
+//!
+//! Its expression is a list of nodes; what lists are expressions is in `wb_expressions`.
+
 use wb_base::{Bytes, Sequence};
 
 /// A node of an expression, with names. A list of them is an expression: the parts of a node come before it, from left to right, and
@@ -5,7 +9,7 @@ use wb_base::{Bytes, Sequence};
 pub type Node = wb_expressions::Node<Bytes, Bytes, Bytes, Bytes>;
 
 /// What an equation is for.
-#[derive(Drop)]
+#[derive(Clone, Drop)]
 pub enum Target {
     /// A synthesized attribute of the production's top.
     Top(Bytes),
@@ -30,7 +34,7 @@ pub enum Target {
 }
 
 /// An equation.
-#[derive(Drop)]
+#[derive(Clone, Drop)]
 pub struct Equation {
     /// The place of its first token, in bytes from the beginning of the file.
     pub offset: usize,

@@ -1,122 +1,94 @@
-use crate::{Equation, Pattern};
+//! Which forms has an item, and what does each keep?
+//!
+//! Forms are grouped by what they hold: a regular expression, which is read later than the rest; names alone; or equations. So a form of
+//! names alone stands in one enum, and what is said of regular expressions or equations needs no line for it.
+
+use crate::{Equation, NamedKind, Production, ProductionRole, Role};
 use wb_base::{Bytes, Sequence};
 
-/// The kind of an attribute or a child, by name.
-#[derive(Drop)]
-pub enum NamedKind {
-    /// A number.
-    Int,
-    /// A truth value.
-    Bool,
-    /// A text.
-    Text,
-    /// What this name stands for: a nonterminal, or for a child of a concrete production a terminal.
-    Name(Bytes),
+/// An item of a specification. `P` is its regular expression, as written or as read.
+#[derive(Clone, Drop)]
+pub struct Item<P> {
+    /// The place of its first token, in bytes from the beginning of the file.
+    pub offset: usize,
+    /// What it says.
+    pub form: ItemForm<P>,
 }
 
-/// A child of a production.
-#[derive(Drop)]
-pub struct Child {
-    /// The label by which equations name it.
-    pub label: Bytes,
-    /// Its kind.
-    pub kind: NamedKind,
-}
-
-/// A production with its equations.
-#[derive(Drop)]
-pub struct Production {
-    /// Its name.
-    pub name: Bytes,
-    /// The nonterminal on its left.
-    pub left: Bytes,
-    /// Its children, from left to right.
-    pub children: Sequence<Child>,
-    /// Its equations, in the order in which they are written.
-    pub equations: Sequence<Equation>,
-}
-
-/// An item of a specification. Each keeps the place of its first token, in bytes from the beginning of the file.
-#[derive(Drop)]
-pub enum Item {
-    /// A terminal and what it matches.
-    Terminal {
-        offset: usize,
+/// What an item says.
+#[derive(Clone, Drop)]
+pub enum ItemForm<P> {
+    /// A terminal, layout or a marking terminal, and what it matches.
+    Lexical {
+        /// Which of the three.
+        role: Role,
+        /// Its name.
         name: Bytes,
-        pattern: Pattern,
+        /// What it matches.
+        pattern: P,
     },
-    /// Layout and what it matches.
-    Ignore {
-        offset: usize,
-        name: Bytes,
-        pattern: Pattern,
-    },
-    /// A marking terminal and what it matches.
-    Marking {
-        offset: usize,
-        name: Bytes,
-        pattern: Pattern,
-    },
-    /// The first is preferred to the second.
-    Prefer {
-        offset: usize,
-        first: Bytes,
-        second: Bytes,
-    },
-    /// A nonterminal.
-    Nonterminal {
-        offset: usize,
-        name: Bytes,
-    },
-    /// The start.
-    Start {
-        offset: usize,
-        name: Bytes,
-    },
-    /// Extensions may add productions to this nonterminal.
-    Extensible {
-        offset: usize,
-        name: Bytes,
-    },
-    /// A synthesized attribute.
-    Synthesized {
-        offset: usize,
-        name: Bytes,
-        kind: NamedKind,
-    },
-    /// An inherited attribute.
-    Inherited {
-        offset: usize,
-        name: Bytes,
-        kind: NamedKind,
-    },
-    /// An attribute occurs on a nonterminal, with its flow type where one is written.
-    Occurs {
-        offset: usize,
-        attribute: Bytes,
-        nonterminal: Bytes,
-        needs: Option<Sequence<Bytes>>,
-    },
-    /// The flow type of what the productions of this nonterminal forward to.
-    ForwardOn {
-        offset: usize,
-        nonterminal: Bytes,
-        needs: Sequence<Bytes>,
-    },
-    /// A production of the concrete grammar.
-    Concrete {
-        offset: usize,
-        production: Production,
-    },
-    /// A production that no text has.
-    Abstract {
-        offset: usize,
+    /// Something of names alone.
+    Plain(PlainForm),
+    /// A production, of the concrete grammar or abstract.
+    Production {
+        /// Which of the two.
+        role: ProductionRole,
+        /// The production.
         production: Production,
     },
     /// Further equations of a production.
     Aspect {
-        offset: usize,
+        /// The production.
         name: Bytes,
+        /// The equations, in the order in which they are written.
         equations: Sequence<Equation>,
+    },
+}
+
+/// What an item of names alone says.
+#[derive(Clone, Drop)]
+pub enum PlainForm {
+    /// The first is preferred to the second.
+    Prefer {
+        /// The first.
+        first: Bytes,
+        /// The second.
+        second: Bytes,
+    },
+    /// A nonterminal of this name.
+    Nonterminal(Bytes),
+    /// The nonterminal of this name is the start.
+    Start(Bytes),
+    /// Extensions may add productions to the nonterminal of this name.
+    Extensible(Bytes),
+    /// A synthesized attribute.
+    Synthesized {
+        /// Its name.
+        name: Bytes,
+        /// Its kind.
+        kind: NamedKind,
+    },
+    /// An inherited attribute.
+    Inherited {
+        /// Its name.
+        name: Bytes,
+        /// Its kind.
+        kind: NamedKind,
+    },
+    /// An attribute occurs on a nonterminal.
+    Occurs {
+        /// The attribute.
+        attribute: Bytes,
+        /// The nonterminal.
+        nonterminal: Bytes,
+        /// Its flow type, where one is written.
+        needs: Option<Sequence<Bytes>>,
+    },
+    /// The flow type of what the productions of a nonterminal forward to.
+    ForwardOn {
+        /// The nonterminal.
+        nonterminal: Bytes,
+        /// The flow type.
+        needs: Sequence<Bytes>,
     },
 }

@@ -1,5 +1,19 @@
+//! What is kept of a regular expression before it is read, and after?
+//!
+//! Its bytes both times, since it is printed as it is written.
+
+use std::alloc::AllocError;
 use wb_base::Bytes;
 use wb_regex::Regex;
+
+/// A regular expression as it is written, not read yet.
+#[derive(Drop)]
+pub struct WrittenPattern {
+    /// The bytes between the slashes.
+    pub bytes: Bytes,
+    /// The place of the slash before them.
+    pub at: usize,
+}
 
 /// A regular expression as it is written, with what it says.
 #[derive(Drop)]
@@ -8,6 +22,20 @@ pub struct Pattern {
     pub bytes: Bytes,
     /// What they say.
     pub regex: Regex,
+}
+
+impl Clone for Pattern {
+    ghost use Rattle.std.specs.Prelude.{◌≡◌};
+
+    ghost is_clone = { λ pattern copy. copy ≡ pattern };
+
+    fn clone(&self) -> Result<Pattern, AllocError> {
+        let bytes = self.bytes.copy()?;
+        Ok(Pattern {
+            bytes,
+            regex: self.regex.copy()?,
+        })
+    }
 }
 
 /// What a regular expression of an item is for.

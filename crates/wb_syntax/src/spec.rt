@@ -1,9 +1,14 @@
-ghost use Rattle.std.specs.Prelude.{◌≡◌, IfOk};
-ghost use Rattle.wb_syntax.specs.SpecText.{HasText};
+//! Which values are specifications?
+//!
+//! Those that some text has as its reading, so that callers know of names and expressions what the grammar says of them.
 
-use crate::Item;
-use crate::copy_item::copy_items;
-use std::alloc::{AllocError, Global};
+ghost use Rattle.std.specs.Prelude.{◌≡◌, All, IfOk};
+ghost use Rattle.wb_syntax.specs.SpecText.{HasText};
+ghost use Rattle.wb_syntax.specs.Names.{HasNames};
+ghost use Rattle.wb_syntax.specs.Equations.{HasWholeEquations};
+
+use crate::{Header, Item, Pattern};
+use std::alloc::AllocError;
 use std::marker::Model;
 use wb_base::{Bytes, Sequence};
 
@@ -13,47 +18,36 @@ use wb_base::{Bytes, Sequence};
 /// bytes say. What its names stand for, and whether they are declared, is open.
 #[derive(Drop)]
 pub struct Spec {
-    alloc: Global,
     format: u32,
-    host: bool,
     name: Bytes,
-    for_host: Bytes,
-    items: Sequence<Item>,
+    header: Header,
+    items: Sequence<Item<Pattern>>,
 }
 
 impl Model for Spec {
-    ghost use Rattle.wb_syntax.specs.SpecText.{SpecState, HasText};
+    ghost use Rattle.wb_syntax.specs.SpecText.{SpecView, HasText};
     ghost use Rattle.std.specs.Coded.{codes};
     ghost use Rattle.wb_regex.specs.contracts.regex.Regex as regex;
 
-    ghost Value = { SpecState };
+    ghost Value = { SpecView };
 
     ghost coded = { Prim.hlevel (codes, regex.the_row.coded) };
 
-    ghost view = { λ s. record { format = s.format; host = s.host; name = s.name; for_host = s.for_host; items = s.items } };
+    ghost view = { λ s. record { format = s.format; name = s.name; header = s.header; items = s.items } };
 
-    ghost invariant = { λ s. HasText (record { format = s.format; host = s.host; name = s.name; for_host = s.for_host; items = s.items }) };
+    ghost invariant = { λ s. HasText (record { format = s.format; name = s.name; header = s.header; items = s.items }) };
 }
 
 impl Spec {
-    /// A specification of these parts, which some text has as its reading. `for_host` is empty in a host. Takes no memory.
-    pub fn new(
-        alloc: Global,
-        format: u32,
-        host: bool,
-        name: Bytes,
-        for_host: Bytes,
-        items: Sequence<Item>,
-    ) -> Spec
-        requires { HasText (record { format = format; host = host; name = name; for_host = for_host; items = items }) }
-        ensures { result ≡ record { format = format; host = host; name = name; for_host = for_host; items = items } }
+    /// A specification of these parts, which some text has as its reading. Takes no memory.
+    pub fn new(format: u32, name: Bytes, header: Header, items: Sequence<Item<Pattern>>) -> Spec
+        requires { HasText (record { format = format; name = name; header = header; items = items }) }
+        ensures { result ≡ record { format = format; name = name; header = header; items = items } }
     {
         Spec {
-            alloc,
             format,
-            host,
             name,
-            for_host,
+            header,
             items,
         }
     }
@@ -65,13 +59,6 @@ impl Spec {
         self.format
     }
 
-    /// Whether it is a host, and else an extension. Takes no memory.
-    pub fn is_host(&self) -> bool
-        ensures { result ≡ self.now.host }
-    {
-        self.host
-    }
-
     /// Its name. Takes no memory.
     pub fn name(&self) -> &[u8]
         ensures { result.now ≡ self.now.name }
@@ -79,17 +66,21 @@ impl Spec {
         self.name.as_slice()
     }
 
-    /// The name of the host that an extension is for; nothing in a host. Takes no memory.
-    pub fn for_host(&self) -> &[u8]
-        ensures { result.now ≡ self.now.for_host }
+    /// Whether it is a host, or an extension of which. Takes no memory.
+    pub fn header(&self) -> &Header
+        ensures { result.now ≡ self.now.header }
     {
-        self.for_host.as_slice()
+        &self.header
     }
 
     /// Its items, in the order of the text. Takes no memory.
-    pub fn items(&self) -> &[Item]
+    ///
+    /// Some text has the specification, so each name in it is a name, and the nodes of each equation are one whole expression.
+    pub fn items(&self) -> &[Item<Pattern>]
         ensures items { result.now ≡ self.now.items }
         ensures text { HasText self.now }
+        ensures names { HasNames self.now }
+        ensures whole { All HasWholeEquations result.now }
     {
         self.items.as_slice()
     }
@@ -98,13 +89,13 @@ impl Spec {
     pub fn copy(&self) -> Result<Spec, AllocError>
         ensures { IfOk result (λ made. made ≡ self.now) }
     {
+        let name = self.name.copy()?;
+        let header = self.header.clone()?;
         Ok(Spec {
-            alloc: self.alloc,
             format: self.format,
-            host: self.host,
-            name: self.name.copy()?,
-            for_host: self.for_host.copy()?,
-            items: copy_items(self.alloc, self.items.as_slice())?,
+            name,
+            header,
+            items: self.items.clone()?,
         })
     }
 }
