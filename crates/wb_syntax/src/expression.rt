@@ -9,7 +9,7 @@ use wb_base::{Bytes, Sequence};
 pub type Node = wb_expressions::Node<Bytes, Bytes, Bytes, Bytes>;
 
 /// What an equation is for.
-#[derive(Clone, Drop)]
+#[derive(Drop)]
 pub enum Target {
     /// A synthesized attribute of the production's top.
     Top(Bytes),
@@ -34,7 +34,7 @@ pub enum Target {
 }
 
 /// An equation.
-#[derive(Clone, Drop)]
+#[derive(Drop)]
 pub struct Equation {
     /// The place of its first token, in bytes from the beginning of the file.
     pub offset: usize,

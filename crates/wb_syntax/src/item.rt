@@ -7,7 +7,7 @@ use crate::{Equation, NamedKind, Production, ProductionRole, Role};
 use wb_base::{Bytes, Sequence};
 
 /// An item of a specification. `P` is its regular expression, as written or as read.
-#[derive(Clone, Drop)]
+#[derive(Drop)]
 pub struct Item<P> {
     /// The place of its first token, in bytes from the beginning of the file.
     pub offset: usize,
@@ -16,7 +16,7 @@ pub struct Item<P> {
 }
 
 /// What an item says.
-#[derive(Clone, Drop)]
+#[derive(Drop)]
 pub enum ItemForm<P> {
     /// A terminal, layout or a marking terminal, and what it matches.
     Lexical {
@@ -46,7 +46,7 @@ pub enum ItemForm<P> {
 }
 
 /// What an item of names alone says.
-#[derive(Clone, Drop)]
+#[derive(Drop)]
 pub enum PlainForm {
     /// The first is preferred to the second.
     Prefer {

@@ -2,7 +2,6 @@
 //!
 //! Its bytes both times, since it is printed as it is written.
 
-use std::alloc::AllocError;
 use wb_base::Bytes;
 use wb_regex::Regex;
 
@@ -22,20 +21,6 @@ pub struct Pattern {
     pub bytes: Bytes,
     /// What they say.
     pub regex: Regex,
-}
-
-impl Clone for Pattern {
-    ghost use Rattle.std.specs.Prelude.{◌≡◌};
-
-    ghost is_clone = { λ pattern copy. copy ≡ pattern };
-
-    fn clone(&self) -> Result<Pattern, AllocError> {
-        let bytes = self.bytes.copy()?;
-        Ok(Pattern {
-            bytes,
-            regex: self.regex.copy()?,
-        })
-    }
 }
 
 /// What a regular expression of an item is for.

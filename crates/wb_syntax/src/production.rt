@@ -6,7 +6,7 @@ use crate::Equation;
 use wb_base::{Bytes, Sequence};
 
 /// The kind of an attribute or a child, by name.
-#[derive(Clone, Drop)]
+#[derive(Drop)]
 pub enum NamedKind {
     /// A number.
     Int,
@@ -19,7 +19,7 @@ pub enum NamedKind {
 }
 
 /// A child of a production.
-#[derive(Clone, Drop)]
+#[derive(Drop)]
 pub struct Child {
     /// The label by which equations name it.
     pub label: Bytes,
@@ -28,7 +28,7 @@ pub struct Child {
 }
 
 /// A production with its equations.
-#[derive(Clone, Drop)]
+#[derive(Drop)]
 pub struct Production {
     /// Its name.
     pub name: Bytes,

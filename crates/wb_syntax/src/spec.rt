@@ -10,6 +10,7 @@ ghost use Rattle.wb_syntax.specs.Equations.{HasWholeEquations};
 use crate::{Header, Item, Pattern};
 use std::alloc::AllocError;
 use std::marker::Model;
+use std::rc::RcSlice;
 use wb_base::{Bytes, Sequence};
 
 /// A specification: a host or an extension, with its items in the order of its text.
@@ -21,35 +22,41 @@ pub struct Spec {
     format: u32,
     name: Bytes,
     header: Header,
-    items: Sequence<Item<Pattern>>,
+    items: RcSlice<Item<Pattern>>,
 }
 
 impl Model for Spec {
     ghost use Rattle.wb_syntax.specs.SpecText.{SpecView, HasText};
     ghost use Rattle.std.specs.Coded.{codes};
+    ghost use Rattle.std.specs.Rc.{rc_slice_items};
     ghost use Rattle.wb_regex.specs.contracts.regex.Regex as regex;
 
     ghost Value = { SpecView };
 
     ghost coded = { Prim.hlevel (codes, regex.the_row.coded) };
 
-    ghost view = { λ s. record { format = s.format; name = s.name; header = s.header; items = s.items } };
+    ghost view = { λ s. record { format = s.format; name = s.name; header = s.header; items = rc_slice_items s.items } };
 
-    ghost invariant = { λ s. HasText (record { format = s.format; name = s.name; header = s.header; items = s.items }) };
+    ghost invariant = { λ s. HasText (record { format = s.format; name = s.name; header = s.header; items = rc_slice_items s.items }) };
 }
 
 impl Spec {
-    /// A specification of these parts, which some text has as its reading. Takes no memory.
-    pub fn new(format: u32, name: Bytes, header: Header, items: Sequence<Item<Pattern>>) -> Spec
+    /// A specification of these parts, which some text has as its reading. The only error is want of memory.
+    pub fn new(
+        format: u32,
+        name: Bytes,
+        header: Header,
+        items: Sequence<Item<Pattern>>,
+    ) -> Result<Spec, AllocError>
         requires { HasText (record { format = format; name = name; header = header; items = items }) }
-        ensures { result ≡ record { format = format; name = name; header = header; items = items } }
+        ensures { IfOk result (λ made. made ≡ record { format = format; name = name; header = header; items = items }) }
     {
-        Spec {
+        Ok(Spec {
             format,
             name,
             header,
-            items,
-        }
+            items: RcSlice::from_vec(items.into_vec())?,
+        })
     }
 
     /// The number of its format. Takes no memory.
@@ -85,7 +92,7 @@ impl Spec {
         self.items.as_slice()
     }
 
-    /// An equal specification. The only error is want of memory.
+    /// An equal specification, which shares the items. The only error is that something has too many copies to be counted.
     pub fn copy(&self) -> Result<Spec, AllocError>
         ensures { IfOk result (λ made. made ≡ self.now) }
     {
