@@ -7,7 +7,7 @@ use Rattle.wb_tokens.specs.declared.punctuation.Punctuation.TheVariants as p
 use Rattle.wb_syntax.specs.declared.expression.Equation.{Equation}
 use Rattle.wb_syntax.specs.declared.expression.Target.{Target}
 use Rattle.wb_syntax.specs.declared.expression.Target.TheVariants as g
-use Rattle.wb_syntax.specs.declared.item.Production.{Production}
+use Rattle.wb_syntax.specs.declared.production.Production.{Production}
 use Rattle.wb_syntax.specs.Tokens.{Lexeme, IsMark}
 use Rattle.wb_syntax.specs.Expression.{Expression}
 use Rattle.wb_expressions.specs.Expression.{nodes_of}
@@ -15,7 +15,7 @@ use Rattle.wb_syntax.specs.ExpressionGrammar.{IsExpression}
 use Rattle.wb_syntax.specs.PartGrammar as grammar
 use Rattle.wb_syntax.specs.PartGrammar.{IsTarget, AreEquations, IsBlock}
 use Rattle.wb_syntax.specs.ItemGrammar.{IsProduction, whole}
-use Rattle.wb_reader.specs.declared.kind.Kind.{Kind}
+use Rattle.wb_tokens.specs.declared.kind.TokenKind.TheVariants as kind
 use Rattle.wb_reader.specs.declared.part.Part.{Part}
 use Rattle.wb_reader.specs.declared.part.Action.{Action}
 use Rattle.wb_reader.specs.declared.part.ItemAction.{ItemAction}
@@ -44,8 +44,8 @@ listed a others equations = record a { equations = equations ∷ others }
 value_of_rows : (a : SpecBuilder) (others : List (List Equation)) (front : List Equation) (f : Row) (w : List Lexeme) (b : SpecBuilder) (target : Target) (at : ℕ) → OneOf (spec_rights Part.Value) f w (targeted (listed a others front) target at) b → Split (λ u e. (v : List Lexeme) × (s : Lexeme) × IsExpression v e × IsMark p.Semicolon s × (u ≡ v ++ s ∷ [])) (λ e. listed a others (front ++ record { offset = at; target = target; nodes = nodes_of e } ∷ [])) f w b
 unfolding spec_rights
 value_of_rows a others front f w b target at (inl d) =
-    let s = expression_sound (targeted (listed a others front) target at) [] a.nodes (Token Kind.Semicolon ∷ Act (Action.Part PartAction.AddEquation) ∷ f) w b (acted d) in
-    let c = mark_taken p.Semicolon refl s.5 in
+    let s = expression_sound (targeted (listed a others front) target at) [] a.nodes (Token (kind.Mark p.Semicolon) ∷ Act (Action.Part PartAction.AddEquation) ∷ f) w b (acted d) in
+    let c = mark_taken p.Semicolon s.5 in
     (s.0 ++ c.0 ∷ [], c.1, s.2, (s.0, c.0, s.3, c.2, refl), joined_one s.0 s.1 c.1 c.0 w s.4 c.3, acted c.4)
 value_of_rows a others front f w b target at (inr e) = absurd e
 
@@ -61,33 +61,33 @@ equation_with a others front f w b x y v target i e d =
 equation_of_rows : (a : SpecBuilder) (others : List (List Equation)) (front : List Equation) (f : Row) (w : List Lexeme) (b : SpecBuilder) → OneOf (spec_rights Part.Equation) (Nonterminal Part.Equations ∷ f) w (listed a others front) b → Element IsEquation Part.Equations f (listed a others) front w b
 unfolding spec_rights
 equation_of_rows a others front f w b (inl d) =
-    let x = word_taken word.Top refl d in
-    let c = mark_taken p.Dot refl x.4 in
+    let x = word_taken word.Top d in
+    let c = mark_taken p.Dot x.4 in
     let y = name_taken c.4 in
-    let e = mark_taken p.Equals refl y.5 in
+    let e = mark_taken p.Equals y.5 in
     equation_with a others front f w b x.0 (c.0 ∷ y.0 ∷ e.0 ∷ []) e.1 (g.Top y.2) (grammar.top x.2 c.2 y.3 e.2) (x.3 ∙ ap (λ z. x.0 ∷ z) (c.3 ∙ ap (λ z. c.0 ∷ z) (y.4 ∙ ap (λ z. y.0 ∷ z) e.3))) (acted e.4)
 equation_of_rows a others front f w b (inr (inl d)) =
     let x = name_taken d in
-    let c = mark_taken p.Dot refl x.5 in
+    let c = mark_taken p.Dot x.5 in
     let y = name_taken c.4 in
-    let e = mark_taken p.Equals refl y.5 in
+    let e = mark_taken p.Equals y.5 in
     equation_with a others front f w b x.0 (c.0 ∷ y.0 ∷ e.0 ∷ []) e.1 (g.Label x.2 y.2) (grammar.label x.3 c.2 y.3 e.2) (x.4 ∙ ap (λ z. x.0 ∷ z) (c.3 ∙ ap (λ z. c.0 ∷ z) (y.4 ∙ ap (λ z. y.0 ∷ z) e.3))) (acted e.4)
 equation_of_rows a others front f w b (inr (inr (inl d))) =
-    let x = word_taken word.Forward refl d in
-    let c = mark_taken p.Dot refl x.4 in
+    let x = word_taken word.Forward d in
+    let c = mark_taken p.Dot x.4 in
     let y = name_taken c.4 in
-    let e = mark_taken p.Equals refl y.5 in
+    let e = mark_taken p.Equals y.5 in
     equation_with a others front f w b x.0 (c.0 ∷ y.0 ∷ e.0 ∷ []) e.1 (g.Forward y.2) (grammar.forward x.2 c.2 y.3 e.2) (x.3 ∙ ap (λ z. x.0 ∷ z) (c.3 ∙ ap (λ z. c.0 ∷ z) (y.4 ∙ ap (λ z. y.0 ∷ z) e.3))) (acted e.4)
 equation_of_rows a others front f w b (inr (inr (inr (inl d)))) =
-    let x = word_taken word.Local refl d in
+    let x = word_taken word.Local d in
     let l = name_taken x.4 in
-    let c = mark_taken p.Colon refl l.5 in
+    let c = mark_taken p.Colon l.5 in
     let y = name_taken c.4 in
-    let e = mark_taken p.Equals refl y.5 in
+    let e = mark_taken p.Equals y.5 in
     equation_with a others front f w b x.0 (l.0 ∷ c.0 ∷ y.0 ∷ e.0 ∷ []) e.1 (g.Local l.2 y.2) (grammar.local x.2 l.3 c.2 y.3 e.2) (x.3 ∙ ap (λ z. x.0 ∷ z) (l.4 ∙ ap (λ z. l.0 ∷ z) (c.3 ∙ ap (λ z. c.0 ∷ z) (y.4 ∙ ap (λ z. y.0 ∷ z) e.3)))) (acted e.4)
 equation_of_rows a others front f w b (inr (inr (inr (inr (inl d))))) =
-    let x = word_taken word.Forwards refl d in
-    let t = word_taken word.To refl x.4 in
+    let x = word_taken word.Forwards d in
+    let t = word_taken word.To x.4 in
     equation_with a others front f w b x.0 (t.0 ∷ []) t.1 g.ForwardsTo (grammar.forwards_to x.2 t.2) (x.3 ∙ ap (λ z. x.0 ∷ z) t.3) (acted t.4)
 equation_of_rows a others front f w b (inr (inr (inr (inr (inr e))))) = absurd e
 
@@ -110,9 +110,9 @@ equations_sound a others f w b d =
 block_of_rows : (a : SpecBuilder) (f : Row) (w : List Lexeme) (b : SpecBuilder) → OneOf (spec_rights Part.Block) f w a b → Split IsBlock (λ es. listed a a.equations es) f w b
 unfolding spec_rights
 block_of_rows a f w b (inl d) =
-    let o = mark_taken p.OpenBrace refl d in
-    let s = equations_sound a a.equations (Token Kind.CloseBrace ∷ f) o.1 b (acted o.4) in
-    let c = mark_taken p.CloseBrace refl s.5 in
+    let o = mark_taken p.OpenBrace d in
+    let s = equations_sound a a.equations (Token (kind.Mark p.CloseBrace) ∷ f) o.1 b (acted o.4) in
+    let c = mark_taken p.CloseBrace s.5 in
     (o.0 ∷ (s.0 ++ c.0 ∷ []), c.1, s.2, record { open_brace = o.0; inner = s.0; close_brace = c.0; is_open = o.2; are_equations = s.3; is_close = c.2; whole = refl }, o.3 ∙ ap (λ y. o.0 ∷ y) (joined_one s.0 s.1 c.1 c.0 o.1 s.4 c.3), c.4)
 block_of_rows a f w b (inr e) = absurd e
 
@@ -124,9 +124,9 @@ production_of_rows : (a : SpecBuilder) (f : Row) (w : List Lexeme) (b : SpecBuil
 unfolding spec_rights
 production_of_rows a f w b (inl d) =
     let x = name_taken d in
-    let c = mark_taken p.Colon refl x.5 in
+    let c = mark_taken p.Colon x.5 in
     let l = name_taken c.4 in
-    let m = mark_taken p.Becomes refl l.5 in
+    let m = mark_taken p.Becomes l.5 in
     let named = record a { names = record { bytes = l.2; at = l.0.at } ∷ record { bytes = x.2; at = x.0.at } ∷ a.names } in
     let s = children_sound named a.children (Nonterminal Part.Block ∷ Act (Action.Item ItemAction.Production) ∷ f) m.1 b (acted m.4) in
     let t = block_sound (record named { children = s.2 ∷ a.children }) (Act (Action.Item ItemAction.Production) ∷ f) s.1 b s.5 in

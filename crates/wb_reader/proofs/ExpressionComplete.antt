@@ -13,7 +13,7 @@ use Rattle.wb_syntax.specs.Expression.{Expression, Expressions}
 use Rattle.wb_expressions.specs.Expression.{Int, Text, Truth, Label, Read, Lexeme as LexemeOf, Top, Forward, Build, Call, If, none, more, size, nodes_from, all_nodes_from, places_from}
 use Rattle.wb_syntax.specs.ExpressionGrammar as grammar
 use Rattle.wb_syntax.specs.ExpressionGrammar.{IsExpression, AreArguments, AreFurther}
-use Rattle.wb_reader.specs.declared.kind.Kind.{Kind}
+use Rattle.wb_tokens.specs.declared.kind.TokenKind.TheVariants as kind
 use Rattle.wb_reader.specs.declared.part.Part.{Part}
 use Rattle.wb_reader.specs.declared.part.Action.{Action}
 use Rattle.wb_reader.specs.declared.part.ExpressionAction.{ExpressionAction}
@@ -26,7 +26,7 @@ use Rattle.wb_expressions.proofs.AppendLemmas.{behind_len, all_behind_len, more_
 use Rattle.wb_reader.proofs.ExpressionSound.{begun, grown, collecting, collected, recollect, rooted}
 
 -- an integer of either kind
-number_given : (c : Bool) {f : Row} {w : List Lexeme} {a b : SpecBuilder} → Makes (Token (cond c Kind.One Kind.Number) ∷ f) w a b → Makes (Nonterminal Part.Integer ∷ f) w a b
+number_given : (c : Bool) {f : Row} {w : List Lexeme} {a b : SpecBuilder} → Makes (Token (cond c kind.One kind.Number) ∷ f) w a b → Makes (Nonterminal Part.Integer ∷ f) w a b
 unfolding spec_rights
 number_given true d = expand 0 refl d
 number_given false d = expand 1 refl d

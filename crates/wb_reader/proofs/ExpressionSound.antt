@@ -11,14 +11,14 @@ use Rattle.wb_syntax.specs.Expression.{Expression, Expressions}
 use Rattle.wb_expressions.specs.Expression.{Int, Text, Truth, Label, Read, Lexeme as LexemeOf, Top, Forward, Build, Call, If, none, more, size, nodes_from, all_nodes_from, places_from}
 use Rattle.wb_syntax.specs.ExpressionGrammar as grammar
 use Rattle.wb_syntax.specs.ExpressionGrammar.{IsExpression, AreArguments, AreFurther}
-use Rattle.wb_reader.specs.declared.kind.Kind.{Kind}
+use Rattle.wb_tokens.specs.declared.kind.TokenKind.TheVariants as kind
 use Rattle.wb_reader.specs.declared.part.Part.{Part}
 use Rattle.wb_reader.specs.declared.part.Action.{Action}
 use Rattle.wb_reader.specs.declared.part.ExpressionAction.{ExpressionAction}
 use Rattle.wb_reader.specs.declared.builder.SpecBuilder.{SpecBuilder}
 use Rattle.wb_reader.specs.Rights.{spec_rights}
 use Rattle.wb_reader.specs.Builder.{with_name}
-use Rattle.wb_reader.proofs.Taking.{Row, Makes, Split, OneOf, chosen, acted, word_taken, mark_taken, name_taken, integer_taken, string_taken}
+use Rattle.wb_reader.proofs.Taking.{Row, Makes, Split, OneOf, chosen, acted, word_taken, mark_taken, name_taken, string_taken}
 use Rattle.wb_reader.proofs.Joins.{joined_one, joined}
 use Rattle.wb_expressions.proofs.AppendLemmas.{behind_len, all_behind_len, more_nodes, more_places, if_nodes, if_root}
 
@@ -61,7 +61,7 @@ further_of_rows : (m : ℕ) (E : ExpressionBelow m) (o : ℕ) (again : (a : Spec
 unfolding spec_rights
 further_of_rows m E o again a list rest front others f w b h g (inl d) = ([], w, none, grammar.no_more, refl, recollect a f w b rest others list (list ++ []) front (front ++ []) (sym (append-nil list)) (sym (append-nil front)) d)
 further_of_rows m E o again a list rest front others f w b h g (inr (inl d)) =
-    let r = mark_taken p.Comma refl d in
+    let r = mark_taken p.Comma d in
     let l : length w ≡ suc (length r.1) = ap length r.3 in
     let s = E (record a { arguments = front ∷ others }) list rest (Act (Action.Expression ExpressionAction.AddArgument) ∷ Nonterminal Part.FurtherArguments ∷ f) r.1 b (omega (arith, l, g)) r.4 in
     let k : length r.1 ≡ length s.0 + length s.1 = ap length s.4 ∙ length-append s.0 s.1 in
@@ -91,7 +91,7 @@ read_of_rows a l at list rest x dot f w b i j (inl d) =
     let r = name_taken d in
     (r.0 ∷ [], r.1, Read l r.2, grammar.read i j r.3, r.4, rooted a f r.1 b rest _ _ (length list) (length list + 1 - 1) refl (omega arith) (acted r.5))
 read_of_rows a l at list rest x dot f w b i j (inr (inl d)) =
-    let r = word_taken word.Lexeme refl d in
+    let r = word_taken word.Lexeme d in
     (r.0 ∷ [], r.1, LexemeOf l, grammar.lexeme i j r.2, r.3, rooted a f r.1 b rest _ _ (length list) (length list + 1 - 1) refl (omega arith) (acted r.4))
 read_of_rows a l at list rest x dot f w b i j (inr (inr e)) = absurd e
 
@@ -100,14 +100,14 @@ pub tail_of_rows : (m : ℕ) (E : ExpressionBelow m) (a : SpecBuilder) (l : List
 unfolding spec_rights
 tail_of_rows m E a l at list rest x f w b g i (inl d) = ([], w, Label l, grammar.label i, refl, rooted a f w b rest _ _ (length list) (length list + 1 - 1) refl (omega arith) (acted d))
 tail_of_rows m E a l at list rest x f w b g i (inr (inl d)) =
-    let r = mark_taken p.Dot refl d in
+    let r = mark_taken p.Dot d in
     let s = read_of_rows a l at list rest x r.0 f r.1 b i r.2 (chosen r.4) in
     (r.0 ∷ s.0, s.1, s.2, s.3, r.3 ∙ ap (λ y. r.0 ∷ y) s.4, s.5)
 tail_of_rows m E a l at list rest x f w b g i (inr (inr (inl d))) =
-    let r = mark_taken p.OpenParenthesis refl d in
+    let r = mark_taken p.OpenParenthesis d in
     let k : length w ≡ suc (length r.1) = ap length r.3 in
-    let s = arguments_of_rows m E (with_name l at a) list rest a.arguments (Token Kind.CloseParenthesis ∷ Act (Action.Expression ExpressionAction.Build) ∷ f) r.1 b (omega (arith, k, g)) (chosen (acted r.4)) in
-    let c = mark_taken p.CloseParenthesis refl s.5 in
+    let s = arguments_of_rows m E (with_name l at a) list rest a.arguments (Token (kind.Mark p.CloseParenthesis) ∷ Act (Action.Expression ExpressionAction.Build) ∷ f) r.1 b (omega (arith, k, g)) (chosen (acted r.4)) in
+    let c = mark_taken p.CloseParenthesis s.5 in
     let z = all_behind_len list s.2 in
     (r.0 ∷ (s.0 ++ c.0 ∷ []), c.1, Build l s.2, grammar.build c.0 i r.2 s.3 c.2 refl, r.3 ∙ ap (λ y. r.0 ∷ y) (joined_one s.0 s.1 c.1 c.0 r.1 s.4 c.3), rooted a f c.1 b rest _ _ _ (length list + size (Build l s.2) - 1) (append_assoc list (all_nodes_from (length list) s.2) (n.Build l (places_from (length list) s.2) ∷ [])) (omega (arith, z)) (acted c.4))
 tail_of_rows m E a l at list rest x f w b g i (inr (inr (inr e))) = absurd e

@@ -8,7 +8,7 @@ use Rattle.wb_tokens.specs.declared.token.Token.{Token}
 use Rattle.wb_tokens.specs.declared.token.Token.TheVariants as t
 use Rattle.wb_tokens.specs.declared.word.Word.TheVariants as word
 use Rattle.wb_tokens.specs.declared.punctuation.Punctuation.TheVariants as p
-use Rattle.wb_tokens.specs.Placed.{IsNextIn}
+use Rattle.wb_tokens.specs.NextToken.{IsNextIn}
 use Rattle.wb_tokens.proofs.PlacedLaws.{one_next}
 use Rattle.std.specs.Prelude.{Option, Some, None, MatchOption, IsTrue}
 use Rattle.wb_syntax.specs.declared.written.WrittenSpec.{WrittenSpec}
@@ -66,7 +66,7 @@ module _ (bytes : List ℕ) where
       (subst (λ (x : Lexeme). x.token ≡ t.Word word.Format) e r.is_format, subst (λ (x : Lexeme). IsOtherNumber x.token) f r.is_other, subst (λ (x : Lexeme). x.token ≡ t.Punctuation p.Semicolon) g r.is_semicolon)
 
   first_number : (w : List Lexeme) (spec : WrittenSpec) → IsSpecification w spec → (a b : Lexeme) × (v : List Lexeme) × (w ≡ a ∷ b ∷ v) × (b.token ≡ t.Int (pos 1))
-  first_number w spec (whole {f = a} {n = b} h i j k l e) = (a, b, _, e, i)
+  first_number w spec (whole {f = a} {n = b} h known i j k l e) = (a, b, _, e, subst (λ m. b.token ≡ t.Int (pos m)) known i)
 
   two : (a b : Lexeme) (v : List Lexeme) (to : ℕ) → Spells (IsNextIn WithComments bytes) 0 (a ∷ b ∷ v) to → Stands 0 a × Stands a.end b
   two a b v to (next i (next j r)) = (i, j)

@@ -1,4 +1,3 @@
-mod Classes
 mod EquationComplete
 mod EquationSound
 pub mod Excluding

@@ -1,17 +1,17 @@
 -- Bytes have one outcome as a specification.
 use Rattle.std.proofs.Common.{◌≡◌, ℕ, List, sym, ap, ◌∙◌, subst}
-use denote.Enum.Bare.{sameb, same_true, true_same}
 use Rattle.wb_predictive.specs.declared.reading.Outcome.{Outcome}
 use Rattle.wb_predictive.specs.declared.reading.Outcome.TheVariants.{Whole, Stopped}
 use Rattle.wb_predictive.specs.Reading.{IsOutcome}
 use Rattle.wb_predictive.proofs.CallerLemmas.{one_outcome}
 use Rattle.wb_tokens.specs.declared.token.Layout.TheVariants.{WithComments}
-use Rattle.wb_tokens.specs.Placed.{IsNextIn}
+use Rattle.wb_tokens.specs.NextToken.{IsNextIn}
 use Rattle.wb_tokens.proofs.PlacedLaws.{one_next}
 use Rattle.wb_syntax.specs.declared.written.WrittenSpec.{WrittenSpec}
-use Rattle.wb_syntax.specs.SpecText.{SpecState, IsWrittenText, IsSpecText, IsReadSpec}
-use Rattle.wb_reader.specs.contracts.kind.Kind.{the_type}
-use Rattle.wb_reader.specs.declared.kind.Kind.TheVariants.{End}
+use Rattle.wb_syntax.specs.SpecText.{SpecView, IsWrittenText, IsSpecText, IsReadSpec}
+use Rattle.wb_tokens.specs.declared.kind.TokenKind.TheVariants.{End}
+use Rattle.wb_tokens.specs.SameKind.{same_kind}
+use Rattle.wb_tokens.proofs.KindLaws.{kinds_same}
 use Rattle.wb_reader.specs.declared.builder.SpecBuilder.{SpecBuilder}
 use Rattle.wb_reader.specs.Entries.{spec_entries}
 use Rattle.wb_reader.specs.Laws.{spec_decided, spec_ends}
@@ -24,7 +24,7 @@ use Rattle.wb_reader.proofs.PatternLemmas.{one_spec}
 
 -- bytes have one outcome by the table
 same_outcome : (bytes : List ℕ) (o : Outcome SpecBuilder) → IsOutcome spec_grammar (IsNextIn WithComments bytes) empty o → (p : Outcome SpecBuilder) → IsOutcome spec_grammar (IsNextIn WithComments bytes) empty p → o ≡ p
-same_outcome bytes o r p s = one_outcome (sameb the_type) (λ a b. (same_true the_type tt a b, true_same the_type a b)) End spec_entries spec_grammar spec_decided spec_ends (IsNextIn WithComments bytes) (one_next WithComments bytes) empty o r p s
+same_outcome bytes o r p s = one_outcome same_kind kinds_same End spec_entries spec_grammar spec_decided spec_ends (IsNextIn WithComments bytes) (one_next WithComments bytes) empty o r p s
 
 -- bytes are written as one specification
 pub one_written : (bytes : List ℕ) (a b : WrittenSpec) → IsWrittenText bytes a → IsWrittenText bytes b → a ≡ b
@@ -42,5 +42,5 @@ pub one_fault : (bytes : List ℕ) (at place : ℕ) → IsSyntaxFault bytes at �
 one_fault bytes at place r s = let e = same_outcome bytes (Stopped at) (table_fault bytes at r) (Stopped place) (table_fault bytes place s) in cc
 
 -- bytes are one specification
-pub one_text : (bytes : List ℕ) (a b : SpecState) → IsSpecText bytes a → IsSpecText bytes b → a ≡ b
+pub one_text : (bytes : List ℕ) (a b : SpecView) → IsSpecText bytes a → IsSpecText bytes b → a ≡ b
 one_text bytes a b r s = one_spec r.written a b r.read (subst (λ w. IsReadSpec w b) (one_written bytes s.written r.written s.text r.text) s.read)

@@ -3,13 +3,13 @@ use Rattle.std.proofs.Common.{◌≡◌, ◌≤◌, ◌<◌, ℕ, zero, suc, Lis
 use Rattle.wb_predictive.specs.declared.symbol.Symbol.TheVariants.{Token, Nonterminal, Act}
 use Rattle.wb_tokens.specs.declared.word.Word.TheVariants as word
 use Rattle.wb_tokens.specs.declared.punctuation.Punctuation.TheVariants as p
-use Rattle.wb_syntax.specs.declared.item.NamedKind.{NamedKind}
-use Rattle.wb_syntax.specs.declared.item.NamedKind.TheVariants as k
-use Rattle.wb_syntax.specs.declared.item.Child.{Child}
+use Rattle.wb_syntax.specs.declared.production.NamedKind.{NamedKind}
+use Rattle.wb_syntax.specs.declared.production.NamedKind.TheVariants as k
+use Rattle.wb_syntax.specs.declared.production.Child.{Child}
 use Rattle.wb_syntax.specs.Tokens.{Lexeme, IsWord, IsMark, IsName}
 use Rattle.wb_syntax.specs.PartGrammar as grammar
 use Rattle.wb_syntax.specs.PartGrammar.{IsKind, AreFurtherNames, AreNames, AreNeeds, AreOptionalNeeds, AreChildren}
-use Rattle.wb_reader.specs.declared.kind.Kind.{Kind}
+use Rattle.wb_tokens.specs.declared.kind.TokenKind.TheVariants as kind
 use Rattle.wb_reader.specs.declared.part.Part.{Part}
 use Rattle.wb_reader.specs.declared.builder.SpecBuilder.{SpecBuilder}
 use Rattle.wb_reader.specs.Rights.{spec_rights}
@@ -21,9 +21,9 @@ use Rattle.wb_reader.proofs.Joins.{joined_one, joined}
 -- a kind
 kind_of_rows : {f : Row} {w : List Lexeme} {a b : SpecBuilder} → OneOf (spec_rights Part.Kind) f w a b → Split IsKind (λ kind. with_kind kind a) f w b
 unfolding spec_rights
-kind_of_rows (inl d) = let r = word_taken word.Int refl d in (r.0 ∷ [], r.1, k.Int, grammar.int r.2, r.3, acted r.4)
-kind_of_rows (inr (inl d)) = let r = word_taken word.Bool refl d in (r.0 ∷ [], r.1, k.Bool, grammar.bool r.2, r.3, acted r.4)
-kind_of_rows (inr (inr (inl d))) = let r = word_taken word.Text refl d in (r.0 ∷ [], r.1, k.Text, grammar.text r.2, r.3, acted r.4)
+kind_of_rows (inl d) = let r = word_taken word.Int d in (r.0 ∷ [], r.1, k.Int, grammar.int r.2, r.3, acted r.4)
+kind_of_rows (inr (inl d)) = let r = word_taken word.Bool d in (r.0 ∷ [], r.1, k.Bool, grammar.bool r.2, r.3, acted r.4)
+kind_of_rows (inr (inr (inl d))) = let r = word_taken word.Text d in (r.0 ∷ [], r.1, k.Text, grammar.text r.2, r.3, acted r.4)
 kind_of_rows (inr (inr (inr (inl d)))) = let r = name_taken d in (r.0 ∷ [], r.1, k.Name r.2, grammar.name r.3, r.4, acted r.5)
 kind_of_rows (inr (inr (inr (inr e)))) = absurd e
 
@@ -38,7 +38,7 @@ further_name : (a : SpecBuilder) (others : List (List (List ℕ))) (front : List
 unfolding spec_rights
 further_name a others front f w b (inl d) = inl d
 further_name a others front f w b (inr (inl d)) =
-    let r = mark_taken p.Comma refl d in
+    let r = mark_taken p.Comma d in
     let s = name_taken r.4 in
     inr (r.0 ∷ s.0 ∷ [], s.1, s.2, (r.0, s.0, r.2, s.3, refl), omega arith, r.3 ∙ ap (λ y. r.0 ∷ y) s.4, acted s.5)
 further_name a others front f w b (inr (inr e)) = absurd e
@@ -64,10 +64,10 @@ names_of_rows a others f w b (inr (inr e)) = absurd e
 needs_of_rows : (a : SpecBuilder) (f : Row) (w : List Lexeme) (b : SpecBuilder) → OneOf (spec_rights Part.Needs) f w a b → Split AreNeeds (λ ns. record a { lists = ns ∷ a.lists }) f w b
 unfolding spec_rights
 needs_of_rows a f w b (inl d) =
-    let r = word_taken word.Needs refl d in
-    let o = mark_taken p.OpenBrace refl r.4 in
-    let s = names_of_rows a a.lists (Token Kind.CloseBrace ∷ f) o.1 b (chosen (acted o.4)) in
-    let c = mark_taken p.CloseBrace refl s.5 in
+    let r = word_taken word.Needs d in
+    let o = mark_taken p.OpenBrace r.4 in
+    let s = names_of_rows a a.lists (Token (kind.Mark p.CloseBrace) ∷ f) o.1 b (chosen (acted o.4)) in
+    let c = mark_taken p.CloseBrace s.5 in
     let whole : w ≡ (r.0 ∷ o.0 ∷ (s.0 ++ c.0 ∷ [])) ++ c.1 = r.3 ∙ ap (λ y. r.0 ∷ y) (o.3 ∙ ap (λ y. o.0 ∷ y) (joined_one s.0 s.1 c.1 c.0 o.1 s.4 c.3)) in
     (r.0 ∷ o.0 ∷ (s.0 ++ c.0 ∷ []), c.1, s.2, record { needs = r.0; open_brace = o.0; listed = s.0; close_brace = c.0; is_needs = r.2; is_open = o.2; are_names = s.3; is_close = c.2; whole = refl }, whole, c.4)
 needs_of_rows a f w b (inr e) = absurd e
@@ -96,7 +96,7 @@ unfolding spec_rights
 one_child a others front f w b (inl d) = inl d
 one_child a others front f w b (inr (inl d)) =
     let r = name_taken d in
-    let c = mark_taken p.Colon refl r.5 in
+    let c = mark_taken p.Colon r.5 in
     let s = kind_sound c.4 in
     inr (r.0 ∷ c.0 ∷ s.0, s.1, record { label = r.2; kind = s.2 }, (r.0, c.0, s.0, r.3, c.2, s.3, refl), omega arith, r.4 ∙ ap (λ y. r.0 ∷ y) (c.3 ∙ ap (λ y. c.0 ∷ y) s.4), acted s.5)
 one_child a others front f w b (inr (inr e)) = absurd e

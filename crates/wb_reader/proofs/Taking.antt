@@ -3,24 +3,23 @@ use Rattle.std.proofs.Common.{◌≡◌, ℕ, ℤ, zero, suc, pos, List, [], ◌
 use Rattle.wb_predictive.specs.declared.symbol.Symbol.{Symbol}
 use Rattle.wb_predictive.specs.declared.symbol.Symbol.TheVariants.{Token, Nonterminal, Act}
 use Rattle.wb_predictive.specs.Grammar.{Derives, done, token, expand, act as acts}
-use Rattle.wb_tokens.specs.declared.token.Token.{Token as Lexical}
-use Rattle.wb_tokens.specs.declared.token.Token.TheVariants as t
 use Rattle.wb_tokens.specs.declared.word.Word.{Word}
 use Rattle.wb_tokens.specs.declared.punctuation.Punctuation.{Punctuation}
 use Rattle.wb_syntax.specs.Tokens.{Lexeme, IsWord, IsMark, IsName, IsInt, IsString, IsRegex}
-use Rattle.wb_reader.specs.declared.kind.Kind.{Kind}
+use Rattle.wb_tokens.specs.declared.kind.TokenKind.{TokenKind}
+use Rattle.wb_tokens.specs.declared.kind.TokenKind.TheVariants as kind
 use Rattle.wb_reader.specs.declared.part.Part.{Part}
 use Rattle.wb_reader.specs.declared.part.Action.{Action}
 use Rattle.wb_reader.specs.declared.builder.SpecBuilder.{SpecBuilder}
-use Rattle.wb_reader.specs.Kinds.{kind_of}
+use Rattle.wb_tokens.specs.Kinds.{kind_of}
+use Rattle.wb_tokens.proofs.KindLaws.{word_by_kind, mark_by_kind, name_by_kind, number_by_kind, one_by_kind, string_by_kind, regex_by_kind}
 use Rattle.wb_reader.specs.Rights.{spec_rights}
 use Rattle.wb_reader.specs.Builder.{with_name, with_integer, with_text, with_pattern}
 use Rattle.wb_reader.specs.Table.{spec_grammar, shift, word_shift, act}
-use Rattle.wb_reader.proofs.Classes.{class_of, token_class, class_of_token, word, mark, name, integer, string, regex, word_by_class, mark_by_class, name_by_class, integer_by_class, string_by_class, regex_by_class, one_is_one}
 
 -- a row of symbols
 abbrev pub Row : Type 0
-Row = List (Symbol Kind Part Action)
+Row = List (Symbol TokenKind Part Action)
 
 -- the row derives the tokens, and makes of the first parts the second
 abbrev pub Makes : Row → List Lexeme → SpecBuilder → SpecBuilder → Type 0
@@ -31,52 +30,56 @@ abbrev pub Split : {T : Type 0} → (List Lexeme → T → Type 0) → (T → Sp
 Split {T} Is made f w b = (u v : List Lexeme) × (value : T) × Is u value × (w ≡ u ++ v) × Makes f v (made value) b
 
 -- a token, and then the rest
-taken : {k : Kind} {f : Row} {w : List Lexeme} {a b : SpecBuilder} → Makes (Token k ∷ f) w a b → (x : Lexeme) × (v : List Lexeme) × (kind_of x.token ≡ k) × (w ≡ x ∷ v) × Makes f v (shift x.token x.at x.end a) b
+taken : {k : TokenKind} {f : Row} {w : List Lexeme} {a b : SpecBuilder} → Makes (Token k ∷ f) w a b → (x : Lexeme) × (v : List Lexeme) × (kind_of x.token ≡ k) × (w ≡ x ∷ v) × Makes f v (shift x.token x.at x.end a) b
 taken (token {x = x} {v = v} h d e) = (x, v, h, e, d)
 
-class_at : {k : Kind} (x : Lexical) → kind_of x ≡ k → token_class x ≡ class_of k
-class_at x h = sym (class_of_token x) ∙ ap class_of h
-
-pub word_taken : {k : Kind} {f : Row} {w : List Lexeme} {a b : SpecBuilder} (y : Word) → class_of k ≡ word y → Makes (Token k ∷ f) w a b → (x : Lexeme) × (v : List Lexeme) × IsWord y x × (w ≡ x ∷ v) × Makes f v (word_shift y x.at a) b
-word_taken {f = f} {a = a} {b = b} y c d =
+pub word_taken : {f : Row} {w : List Lexeme} {a b : SpecBuilder} (y : Word) → Makes (Token (kind.Word y) ∷ f) w a b
+    → (x : Lexeme) × (v : List Lexeme) × IsWord y x × (w ≡ x ∷ v) × Makes f v (word_shift y x.at a) b
+word_taken {f = f} {a = a} {b = b} y d =
     let r = taken d in
-    let h = word_by_class r.0.token y (class_at r.0.token r.2 ∙ c) in
+    let h = word_by_kind r.0.token y r.2 in
     (r.0, r.1, h, r.3, subst (λ z. Makes f r.1 (shift z r.0.at r.0.end a) b) h r.4)
 
-pub mark_taken : {k : Kind} {f : Row} {w : List Lexeme} {a b : SpecBuilder} (m : Punctuation) → class_of k ≡ mark m → Makes (Token k ∷ f) w a b → (x : Lexeme) × (v : List Lexeme) × IsMark m x × (w ≡ x ∷ v) × Makes f v a b
-mark_taken {f = f} {a = a} {b = b} m c d =
+pub mark_taken : {f : Row} {w : List Lexeme} {a b : SpecBuilder} (m : Punctuation) → Makes (Token (kind.Mark m) ∷ f) w a b
+    → (x : Lexeme) × (v : List Lexeme) × IsMark m x × (w ≡ x ∷ v) × Makes f v a b
+mark_taken {f = f} {a = a} {b = b} m d =
     let r = taken d in
-    let h = mark_by_class r.0.token m (class_at r.0.token r.2 ∙ c) in
+    let h = mark_by_kind r.0.token m r.2 in
     (r.0, r.1, h, r.3, subst (λ z. Makes f r.1 (shift z r.0.at r.0.end a) b) h r.4)
 
-pub name_taken : {f : Row} {w : List Lexeme} {a b : SpecBuilder} → Makes (Token Kind.Name ∷ f) w a b → (x : Lexeme) × (v : List Lexeme) × (n : List ℕ) × IsName n x × (w ≡ x ∷ v) × Makes f v (with_name n x.at a) b
+pub name_taken : {f : Row} {w : List Lexeme} {a b : SpecBuilder} → Makes (Token kind.Name ∷ f) w a b
+    → (x : Lexeme) × (v : List Lexeme) × (n : List ℕ) × IsName n x × (w ≡ x ∷ v) × Makes f v (with_name n x.at a) b
 name_taken {f = f} {a = a} {b = b} d =
     let r = taken d in
-    let h = name_by_class r.0.token (class_at r.0.token r.2) in
+    let h = name_by_kind r.0.token r.2 in
     (r.0, r.1, h.0, h.1, r.3, subst (λ z. Makes f r.1 (shift z r.0.at r.0.end a) b) h.1 r.4)
 
-pub integer_taken : {k : Kind} {f : Row} {w : List Lexeme} {a b : SpecBuilder} → class_of k ≡ integer → Makes (Token k ∷ f) w a b → (x : Lexeme) × (v : List Lexeme) × (z : ℤ) × IsInt z x × (w ≡ x ∷ v) × Makes f v (with_integer z a) b
-integer_taken {f = f} {a = a} {b = b} c d =
+pub number_taken : {f : Row} {w : List Lexeme} {a b : SpecBuilder} → Makes (Token kind.Number ∷ f) w a b
+    → (x : Lexeme) × (v : List Lexeme) × (z : ℤ) × IsInt z x × (w ≡ x ∷ v) × Makes f v (with_integer z a) b
+number_taken {f = f} {a = a} {b = b} d =
     let r = taken d in
-    let h = integer_by_class r.0.token (class_at r.0.token r.2 ∙ c) in
+    let h = number_by_kind r.0.token r.2 in
     (r.0, r.1, h.0, h.1, r.3, subst (λ z. Makes f r.1 (shift z r.0.at r.0.end a) b) h.1 r.4)
 
-pub one_taken : {f : Row} {w : List Lexeme} {a b : SpecBuilder} → Makes (Token Kind.One ∷ f) w a b → (x : Lexeme) × (v : List Lexeme) × IsInt (pos 1) x × (w ≡ x ∷ v) × Makes f v (with_integer (pos 1) a) b
+pub one_taken : {f : Row} {w : List Lexeme} {a b : SpecBuilder} → Makes (Token kind.One ∷ f) w a b
+    → (x : Lexeme) × (v : List Lexeme) × IsInt (pos 1) x × (w ≡ x ∷ v) × Makes f v (with_integer (pos 1) a) b
 one_taken {f = f} {a = a} {b = b} d =
     let r = taken d in
-    let h = one_is_one r.0.token r.2 in
+    let h = one_by_kind r.0.token r.2 in
     (r.0, r.1, h, r.3, subst (λ z. Makes f r.1 (shift z r.0.at r.0.end a) b) h r.4)
 
-pub string_taken : {f : Row} {w : List Lexeme} {a b : SpecBuilder} → Makes (Token Kind.String ∷ f) w a b → (x : Lexeme) × (v : List Lexeme) × (s : List ℕ) × IsString s x × (w ≡ x ∷ v) × Makes f v (with_text s a) b
+pub string_taken : {f : Row} {w : List Lexeme} {a b : SpecBuilder} → Makes (Token kind.String ∷ f) w a b
+    → (x : Lexeme) × (v : List Lexeme) × (s : List ℕ) × IsString s x × (w ≡ x ∷ v) × Makes f v (with_text s a) b
 string_taken {f = f} {a = a} {b = b} d =
     let r = taken d in
-    let h = string_by_class r.0.token (class_at r.0.token r.2) in
+    let h = string_by_kind r.0.token r.2 in
     (r.0, r.1, h.0, h.1, r.3, subst (λ z. Makes f r.1 (shift z r.0.at r.0.end a) b) h.1 r.4)
 
-pub regex_taken : {f : Row} {w : List Lexeme} {a b : SpecBuilder} → Makes (Token Kind.Regex ∷ f) w a b → (x : Lexeme) × (v : List Lexeme) × (body : List ℕ) × IsRegex body x × (w ≡ x ∷ v) × Makes f v (with_pattern body x.at a) b
+pub regex_taken : {f : Row} {w : List Lexeme} {a b : SpecBuilder} → Makes (Token kind.Regex ∷ f) w a b
+    → (x : Lexeme) × (v : List Lexeme) × (body : List ℕ) × IsRegex body x × (w ≡ x ∷ v) × Makes f v (with_pattern body x.at a) b
 regex_taken {f = f} {a = a} {b = b} d =
     let r = taken d in
-    let h = regex_by_class r.0.token (class_at r.0.token r.2) in
+    let h = regex_by_kind r.0.token r.2 in
     (r.0, r.1, h.0, h.1, r.3, subst (λ z. Makes f r.1 (shift z r.0.at r.0.end a) b) h.1 r.4)
 
 -- an action, and then the rest

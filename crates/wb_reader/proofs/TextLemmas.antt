@@ -10,7 +10,7 @@ use Rattle.wb_predictive.specs.declared.reading.Outcome.TheVariants.{Whole, Stop
 use Rattle.wb_predictive.specs.Reading.{IsOutcome, IsReading, IsFirstFault as IsTableFault, CannotFollow as CannotFollowTable}
 use Rattle.wb_tokens.specs.declared.token.Layout.TheVariants.{WithComments}
 use Rattle.wb_tokens.specs.declared.token.Token.{Token}
-use Rattle.wb_tokens.specs.Placed.{IsNextIn}
+use Rattle.wb_tokens.specs.NextToken.{IsNextIn}
 use Rattle.wb_syntax.specs.declared.written.WrittenSpec.{WrittenSpec}
 use Rattle.wb_syntax.specs.Tokens.{Lexeme}
 use Rattle.wb_syntax.specs.ItemGrammar.{IsSpecification, whole}
@@ -46,7 +46,7 @@ text_of_spec w spec r = subst (λ v. Makes start_row v empty (finished empty spe
 
 -- the specification of the whole parts is the one that they were made of
 written_finished : (w : List Lexeme) (spec : WrittenSpec) → IsSpecification w spec → written_of (finished empty spec) ≡ spec
-written_finished w spec (whole h i j k l e) = refl
+written_finished w spec (whole h known i j k l e) = refl
 
 -- a text that the table has read whole
 pub written_whole : (bytes : List ℕ) (last : SpecBuilder) → IsReading spec_grammar (IsNextIn WithComments bytes) empty last → IsWrittenText bytes (written_of last)

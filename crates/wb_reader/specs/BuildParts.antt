@@ -1,7 +1,7 @@
 -- What actions make of kinds, flow types, children, productions and equations.
 use Rattle.std.specs.Prelude.{ℕ, List, [], ◌∷◌, ◌++◌, Option, Some, None}
-use Rattle.wb_syntax.specs.declared.item.NamedKind.{NamedKind}
-use Rattle.wb_syntax.specs.declared.item.NamedKind.TheVariants as k
+use Rattle.wb_syntax.specs.declared.production.NamedKind.{NamedKind}
+use Rattle.wb_syntax.specs.declared.production.NamedKind.TheVariants as k
 use Rattle.wb_syntax.specs.declared.expression.Target.{Target}
 use Rattle.wb_syntax.specs.declared.expression.Target.TheVariants as g
 use Rattle.wb_reader.specs.declared.part.PartAction.{PartAction}

@@ -1,5 +1,6 @@
 -- What is read of a specification so far, and what tokens add to it.
-use Rattle.std.specs.Prelude.{ℕ, ℤ, false, List, [], ◌∷◌}
+use Rattle.std.specs.Prelude.{ℕ, ℤ, List, [], ◌∷◌}
+use Rattle.wb_syntax.specs.declared.header.Header.TheVariants as h
 use Rattle.wb_syntax.specs.declared.written.WrittenSpec.{WrittenSpec}
 use Rattle.wb_reader.specs.declared.builder.SpecBuilder.{SpecBuilder}
 
@@ -10,7 +11,12 @@ on_top (x ∷ rest) otherwise made = made x rest
 
 -- no parts
 abbrev pub empty : SpecBuilder
-empty = record { names = []; places = []; integers = []; texts = []; patterns = []; kinds = []; lists = []; needs = []; children = []; targets = []; nodes = []; roots = []; arguments = []; equations = []; productions = []; header = record { host = false; name = []; for_host = [] }; items = [] }
+empty = record {
+  names = []; places = []; integers = []; texts = []; patterns = [];
+  kinds = []; lists = []; needs = []; children = []; targets = []; nodes = [];
+  roots = []; arguments = []; equations = []; productions = [];
+  format = 0; name = []; header = h.Host; items = [];
+}
 
 -- a name was read at this place
 abbrev pub with_name : List ℕ → ℕ → SpecBuilder → SpecBuilder
@@ -34,4 +40,4 @@ with_pattern bytes at v = record v { patterns = record { bytes = bytes; at = at 
 
 -- the specification of the whole parts
 abbrev pub written_of : SpecBuilder → WrittenSpec
-written_of v = record { format = 1; host = v.header.host; name = v.header.name; for_host = v.header.for_host; items = v.items }
+written_of v = record { format = v.format; name = v.name; header = v.header; items = v.items }

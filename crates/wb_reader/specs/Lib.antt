@@ -3,7 +3,6 @@ pub mod BuildItems
 pub mod BuildParts
 pub mod Builder
 pub mod Entries
-pub mod Kinds
 pub mod Laws
 pub mod OneAnswer
 pub mod Patterns

@@ -2,16 +2,24 @@
 use Rattle.std.specs.Prelude.{◌≡◌, ◌≤◌, ◌+◌, ℕ, List, ◌∷◌, ◌++◌, All, length}
 use Rattle.wb_regex.specs.Text.{IsFirstFault}
 use Rattle.wb_regex.specs.Answer.{IsEmptyRegex}
-use Rattle.wb_syntax.specs.declared.written.WrittenItem.{WrittenItem}
-use Rattle.wb_syntax.specs.declared.written.WrittenItem.TheVariants.{Pattern, Plain}
+use Rattle.wb_syntax.specs.declared.item.Item.{Item}
+use Rattle.wb_syntax.specs.declared.item.ItemForm.{ItemForm}
+use Rattle.wb_syntax.specs.declared.item.ItemForm.TheVariants as f
+use Rattle.wb_syntax.specs.declared.pattern.WrittenPattern.{WrittenPattern}
 use Rattle.wb_reader.specs.declared.refusal.SpecRefusal.{SpecRefusal}
 use Rattle.wb_reader.specs.declared.refusal.SpecRefusal.TheVariants.{TooLong, WrongFormat, Syntax, BadRegex, MatchesEmpty, NoMemory}
 use Rattle.wb_reader.specs.Refusals.{IsTaken}
 
--- the item's regular expression stands with its slashes within the bytes that a file may have
-abbrev pub IsPlaced : WrittenItem → Type 0
-IsPlaced (Pattern offset role name bytes at) = at + length bytes + 2 ≤ 1048576
-IsPlaced (Plain item) = Unit {0}
+-- the regular expression of the form, where it has one, is with its slashes within the bytes that a file may have
+abbrev pub IsPlacedForm : ItemForm WrittenPattern → Type 0
+IsPlacedForm (f.Lexical role name pattern) = pattern.at + length pattern.bytes + 2 ≤ 1048576
+IsPlacedForm (f.Plain plain) = Unit {0}
+IsPlacedForm (f.Production role production) = Unit {0}
+IsPlacedForm (f.Aspect name equations) = Unit {0}
+
+-- and so is that of the item
+abbrev pub IsPlaced : Item WrittenPattern → Type 0
+IsPlaced item = IsPlacedForm item.form
 
 -- why a regular expression isn't taken
 abbrev pub OnPattern : List ℕ → List ℕ → ℕ → SpecRefusal → Type 0
@@ -31,22 +39,28 @@ IsNoMemory (BadRegex place) = ⊥
 IsNoMemory (MatchesEmpty name) = ⊥
 IsNoMemory (NoMemory error) = Unit {0}
 
+-- why a form isn't taken
+abbrev pub OnForm : ItemForm WrittenPattern → SpecRefusal → Type 0
+OnForm (f.Lexical role name pattern) refusal = OnPattern name pattern.bytes pattern.at refusal
+OnForm (f.Plain plain) refusal = IsNoMemory refusal
+OnForm (f.Production role production) refusal = IsNoMemory refusal
+OnForm (f.Aspect name equations) refusal = IsNoMemory refusal
+
 -- why an item isn't taken
-abbrev pub OnItem : WrittenItem → SpecRefusal → Type 0
-OnItem (Pattern offset role name bytes at) refusal = OnPattern name bytes at refusal
-OnItem (Plain item) refusal = IsNoMemory refusal
+abbrev pub OnItem : Item WrittenPattern → SpecRefusal → Type 0
+OnItem item refusal = OnForm item.form refusal
 
 -- one of the items is refused so, and those before it are taken
-pub record IsFirstOn (items : List WrittenItem) (refusal : SpecRefusal) : Type 0 where
-  pub before : List WrittenItem
-  pub after : List WrittenItem
-  pub item : WrittenItem
+pub record IsFirstOn (items : List (Item WrittenPattern)) (refusal : SpecRefusal) : Type 0 where
+  pub before : List (Item WrittenPattern)
+  pub after : List (Item WrittenPattern)
+  pub item : Item WrittenPattern
   pub split : items ≡ before ++ item ∷ after
   pub taken : All IsTaken before
   pub refused : OnItem item refusal
 
 -- why the first of the items that isn't taken isn't; memory may run out at any
-abbrev pub OnItems : List WrittenItem → SpecRefusal → Type 0
+abbrev pub OnItems : List (Item WrittenPattern) → SpecRefusal → Type 0
 OnItems items TooLong = ⊥
 OnItems items WrongFormat = ⊥
 OnItems items (Syntax place) = ⊥

@@ -8,17 +8,19 @@ use Rattle.wb_tokens.specs.declared.token.Token.{Token}
 use Rattle.wb_tokens.specs.declared.token.Token.TheVariants as t
 use Rattle.wb_tokens.specs.declared.word.Word.TheVariants as w
 use Rattle.wb_tokens.specs.declared.punctuation.Punctuation.TheVariants as p
-use Rattle.wb_tokens.specs.Placed.{IsNextIn}
-use Rattle.wb_regex.specs.Tree.{Tree}
+use Rattle.wb_tokens.specs.NextToken.{IsNextIn}
 use Rattle.wb_regex.specs.Text.{IsFirstFault}
 use Rattle.wb_regex.specs.Answer.{IsEmptyRegex}
 use Rattle.wb_syntax.specs.declared.pattern.Role.{Role}
-use Rattle.wb_syntax.specs.declared.written.WrittenItem.{WrittenItem}
-use Rattle.wb_syntax.specs.declared.written.WrittenItem.TheVariants.{Pattern, Plain}
+use Rattle.wb_syntax.specs.declared.item.Item.{Item}
+use Rattle.wb_syntax.specs.declared.item.ItemForm.{ItemForm}
+use Rattle.wb_syntax.specs.declared.item.ItemForm.TheVariants as f
+use Rattle.wb_regex.specs.Tree.{Tree}
+use Rattle.wb_syntax.specs.declared.pattern.WrittenPattern.{WrittenPattern}
 use Rattle.wb_syntax.specs.declared.written.WrittenSpec.{WrittenSpec}
 use Rattle.wb_syntax.specs.Tokens.{Lexeme, IsWord, IsMark}
 use Rattle.wb_syntax.specs.ItemGrammar.{IsSpecification}
-use Rattle.wb_syntax.specs.SpecText.{SpecState, IsWrittenText, IsPattern, IsSpecText}
+use Rattle.wb_syntax.specs.SpecText.{SpecView, IsWrittenText, IsPattern, IsSpecText}
 use Rattle.wb_reader.specs.declared.refusal.SpecRefusal.{SpecRefusal}
 use Rattle.wb_reader.specs.declared.refusal.SpecRefusal.TheVariants.{TooLong, WrongFormat, Syntax, BadRegex, MatchesEmpty, NoMemory}
 
@@ -64,20 +66,30 @@ pub record IsSyntaxFault (bytes : List ℕ) (at : ℕ) : Type 0 where
   pub fault : CannotFollow front next
   pub place : place_of next ≡ at
 
--- the item has no regular expression, or one that is taken
-abbrev pub IsTaken : WrittenItem → Type 0
-IsTaken (Pattern offset role name bytes at) = (tree : Tree) × IsPattern bytes tree
-IsTaken (Plain item) = Unit {0}
+-- the form has no regular expression, or one that is taken
+abbrev pub IsTakenForm : ItemForm WrittenPattern → Type 0
+IsTakenForm (f.Lexical role name pattern) = (tree : Tree) × IsPattern pattern.bytes tree
+IsTakenForm (f.Plain plain) = Unit {0}
+IsTakenForm (f.Production role production) = Unit {0}
+IsTakenForm (f.Aspect name equations) = Unit {0}
 
--- the bytes stand in the grammar, and this regular expression is the first that may not be taken: those before it are
+-- and so has the item
+abbrev pub IsTaken : Item WrittenPattern → Type 0
+IsTaken item = IsTakenForm item.form
+
+-- the item with this regular expression
+abbrev pub lexical_item : ℕ → Role → List ℕ → List ℕ → ℕ → Item WrittenPattern
+lexical_item offset role name bytes at = record { offset = offset; form = f.Lexical role name (record { bytes = bytes; at = at }) }
+
+-- the bytes are in the grammar, and this regular expression is the first that may not be taken: those before it are
 pub record HasPattern (text name bytes : List ℕ) (at : ℕ) : Type 0 where
   pub spec : WrittenSpec
   pub written : IsWrittenText text spec
-  pub before : List WrittenItem
-  pub after : List WrittenItem
+  pub before : List (Item WrittenPattern)
+  pub after : List (Item WrittenPattern)
   pub offset : ℕ
   pub role : Role
-  pub items : spec.items ≡ before ++ Pattern offset role name bytes at ∷ after
+  pub items : spec.items ≡ before ++ lexical_item offset role name bytes at ∷ after
   pub taken : All IsTaken before
 
 -- the first regular expression that isn't taken is none, and at this place of the text it goes wrong
@@ -107,7 +119,7 @@ HasCause bytes (MatchesEmpty name) = IsShort bytes × IsEmptyPattern bytes name
 HasCause bytes (NoMemory error) = Unit {0}
 
 -- the bytes are a specification that is taken
-abbrev pub IsAcceptedText : List ℕ → SpecState → Type 0
+abbrev pub IsAcceptedText : List ℕ → SpecView → Type 0
 IsAcceptedText bytes spec = IsShort bytes × IsSpecText bytes spec
 
 -- of the refusals only that of what can't follow, and want of memory

@@ -1,15 +1,15 @@
 -- The grammar of specifications as a table, and what it makes of the parts of one.
 use Rattle.std.specs.Prelude.{ℕ}
 use Rattle.wb_predictive.specs.Grammar.{Grammar}
-use Rattle.wb_tokens.specs.declared.token.Token.{Token as Lexeme}
+use Rattle.wb_tokens.specs.declared.token.Token.{Token}
 use Rattle.wb_tokens.specs.declared.token.Token.TheVariants as t
 use Rattle.wb_tokens.specs.declared.word.Word.{Word}
 use Rattle.wb_tokens.specs.declared.word.Word.TheVariants as w
-use Rattle.wb_reader.specs.declared.kind.Kind.{Kind}
 use Rattle.wb_reader.specs.declared.part.Part.{Part}
 use Rattle.wb_reader.specs.declared.part.Action.{Action}
 use Rattle.wb_reader.specs.declared.builder.SpecBuilder.{SpecBuilder}
-use Rattle.wb_reader.specs.Kinds.{kind_of}
+use Rattle.wb_tokens.specs.declared.kind.TokenKind.{TokenKind}
+use Rattle.wb_tokens.specs.Kinds.{kind_of}
 use Rattle.wb_reader.specs.Rights.{spec_rights}
 use Rattle.wb_reader.specs.Builder.{with_name, with_place, with_integer, with_text, with_pattern}
 use Rattle.wb_reader.specs.BuildItems.{item_act}
@@ -20,42 +20,25 @@ use Rattle.wb_reader.specs.BuildExpressions.{expression_act}
 abbrev pub word_shift : Word → ℕ → SpecBuilder → SpecBuilder
 word_shift w.Abstract at v = with_place at v
 word_shift w.Aspect at v = with_place at v
-word_shift w.Bool at v = v
 word_shift w.Concrete at v = with_place at v
-word_shift w.Else at v = v
-word_shift w.End at v = v
 word_shift w.Extensible at v = with_place at v
-word_shift w.Extension at v = v
-word_shift w.False at v = v
-word_shift w.For at v = v
-word_shift w.Format at v = v
 word_shift w.Forward at v = with_place at v
 word_shift w.Forwards at v = with_place at v
-word_shift w.Host at v = v
-word_shift w.If at v = v
 word_shift w.Ignore at v = with_place at v
 word_shift w.Inh at v = with_place at v
-word_shift w.Int at v = v
-word_shift w.Lexeme at v = v
 word_shift w.Local at v = with_place at v
 word_shift w.Marking at v = with_place at v
-word_shift w.Needs at v = v
 word_shift w.Nonterminal at v = with_place at v
 word_shift w.Occurs at v = with_place at v
-word_shift w.On at v = v
-word_shift w.Over at v = v
 word_shift w.Prefer at v = with_place at v
 word_shift w.Start at v = with_place at v
 word_shift w.Syn at v = with_place at v
 word_shift w.Terminal at v = with_place at v
-word_shift w.Text at v = v
-word_shift w.Then at v = v
-word_shift w.To at v = v
 word_shift w.Top at v = with_place at v
-word_shift w.True at v = v
+word_shift word at v = v
 
 -- names, integers, strings and regular expressions are kept until an action takes them
-abbrev pub shift : Lexeme → ℕ → ℕ → SpecBuilder → SpecBuilder
+abbrev pub shift : Token → ℕ → ℕ → SpecBuilder → SpecBuilder
 shift (t.Name text) at end v = with_name text at v
 shift (t.Word word) at end v = word_shift word at v
 shift (t.Int value) at end v = with_integer value v
@@ -70,5 +53,5 @@ act (Action.Part action) v = part_act action v
 act (Action.Expression action) v = expression_act action v
 
 -- the grammar
-abbrev pub spec_grammar : Grammar Kind Part Action Lexeme SpecBuilder
+abbrev pub spec_grammar : Grammar TokenKind Part Action Token SpecBuilder
 spec_grammar = record { start = Part.File; rights = spec_rights; kind_of = kind_of; shift = shift; act = act }

@@ -9,7 +9,7 @@ ghost use Rattle.wb_reader.specs.Table.{word_shift, act};
 use crate::builder::SpecBuilder;
 use crate::part::{Action, ExpressionAction, ItemAction, PartAction};
 use std::alloc::{AllocError, Global};
-use wb_syntax::{NamedKind, Node, Role};
+use wb_syntax::{NamedKind, Node};
 use wb_tokens::Word;
 
 /// A reserved word was read: its place is kept where it may begin an item, an equation or a read.
@@ -48,14 +48,15 @@ fn item_act(alloc: Global, action: ItemAction, values: &mut SpecBuilder) -> Resu
             values.begin();
             Ok(())
         },
-        ItemAction::Host => values.add_host(alloc),
+        ItemAction::Host => {
+            values.add_host();
+            Ok(())
+        }
         ItemAction::Extension => {
             values.add_extension();
             Ok(())
         }
-        ItemAction::Terminal => values.add_pattern(Role::Terminal),
-        ItemAction::Ignore => values.add_pattern(Role::Ignore),
-        ItemAction::Marking => values.add_pattern(Role::Marking),
+        ItemAction::Lexical(role) => values.add_lexical(role),
         ItemAction::Prefer => values.add_prefer(),
         ItemAction::Nonterminal => values.add_nonterminal(),
         ItemAction::Start => values.add_start(),
@@ -64,8 +65,7 @@ fn item_act(alloc: Global, action: ItemAction, values: &mut SpecBuilder) -> Resu
         ItemAction::Inherited => values.add_inherited(),
         ItemAction::Occurs => values.add_occurs(),
         ItemAction::ForwardOn => values.add_forward_on(),
-        ItemAction::Concrete => values.add_concrete(),
-        ItemAction::Abstract => values.add_abstract(),
+        ItemAction::ProductionItem(role) => values.add_production_item(role),
         ItemAction::Aspect => values.add_aspect(),
         ItemAction::BeginChildren => values.begin_children(alloc),
         ItemAction::Production => values.add_production(),

@@ -1,59 +1,72 @@
-//! What actions make of the parts of headers and items. Each does nothing more where a part is missing, which no reading meets.
+//! What do actions make of the parts of headers and items?
+//!
+//! Each does nothing more where a part is missing, which no reading meets. Parts of items are in `build_parts`.
 
 ghost use Rattle.std.specs.Prelude.{◌≡◌, OnOk};
-ghost use Rattle.wb_syntax.specs.declared.item.Item.TheVariants as i;
-ghost use Rattle.wb_reader.specs.BuildItems.{with_begin, with_host, with_extension, with_item, with_named, with_pair, with_role, with_attribute, with_occurs, with_forward_on, with_children, with_production, with_production_item, with_aspect};
+ghost use Rattle.wb_syntax.specs.declared.item.ItemForm.TheVariants as f;
+ghost use Rattle.wb_syntax.specs.declared.item.PlainForm.TheVariants as i;
+ghost use Rattle.wb_reader.specs.BuildItems.{format_of, with_begin, with_host, with_extension, with_item, with_named, with_pair, with_role, with_attribute, with_occurs, with_forward_on, with_children, with_production, with_production_item, with_aspect};
 
 use crate::builder::SpecBuilder;
-use crate::header::Header;
 use std::alloc::{AllocError, Global};
-use wb_base::Bytes;
 use wb_lists::List;
-use wb_syntax::{Item, Production, Role, WrittenItem};
+use wb_syntax::{Header, Item, ItemForm, PlainForm, Production, ProductionRole, Role, WrittenPattern};
+
+// The format of this number.
+fn format_of(value: i64) -> u32
+    ensures { result ≡ format_of value }
+{
+    if value == 1 { 1 } else { 0 }
+}
 
 impl SpecBuilder {
-    /// The number of the format was read. Takes no memory.
-    pub fn begin(&mut self)
+    // The number of the format was read. Takes no memory.
+    pub(crate) fn begin(&mut self)
         ensures { self.new ≡ with_begin self.old }
     {
-        self.integers.pop();
+        let Some(value) = self.integers.pop() else {
+            return;
+        };
+        self.format = format_of(value);
     }
 
-    /// A host's header is whole. The only error is want of memory.
-    pub fn add_host(&mut self, alloc: Global) -> Result<(), AllocError>
-        ensures ok { OnOk result (self.new ≡ with_host self.old) }
+    // A host's header is whole. Takes no memory.
+    pub(crate) fn add_host(&mut self)
+        ensures { self.new ≡ with_host self.old }
     {
         let Some(name) = self.names.pop() else {
-            return Ok(());
+            return;
         };
-        let for_host = Bytes::from_slice(alloc, &[])?;
-        self.header = Header {
-            host: true,
-            name: name.bytes,
-            for_host,
-        };
-        Ok(())
+        self.name = name.bytes;
+        self.header = Header::Host;
     }
 
-    /// An extension's header is whole. Takes no memory.
-    pub fn add_extension(&mut self)
+    // An extension's header is whole. Takes no memory.
+    pub(crate) fn add_extension(&mut self)
         ensures { self.new ≡ with_extension self.old }
     {
-        let Some(for_host) = self.names.pop() else {
+        let Some(host) = self.names.pop() else {
             return;
         };
         let Some(name) = self.names.pop() else {
             return;
         };
-        self.header = Header {
-            host: false,
-            name: name.bytes,
-            for_host: for_host.bytes,
-        };
+        self.name = name.bytes;
+        self.header = Header::Extension { host: host.bytes };
     }
 
-    /// An item with a regular expression is whole. The only error is want of memory.
-    pub fn add_pattern(&mut self, role: Role) -> Result<(), AllocError>
+    // An item is whole. The only error is want of memory.
+    fn add_item(&mut self, form: ItemForm<WrittenPattern>) -> Result<(), AllocError>
+        ensures ok { OnOk result (self.new ≡ with_item form self.old) }
+    {
+        let Some(offset) = self.places.pop() else {
+            return Ok(());
+        };
+        self.items.push(Item { offset, form })
+    }
+
+    // An item with a regular expression is whole. The only error is want of memory.
+    pub(crate) fn add_lexical(&mut self, role: Role) -> Result<(), AllocError>
         ensures ok { OnOk result (self.new ≡ with_role role self.old) }
     {
         let Some(pattern) = self.patterns.pop() else {
@@ -62,21 +75,16 @@ impl SpecBuilder {
         let Some(name) = self.names.pop() else {
             return Ok(());
         };
-        let Some(offset) = self.places.pop() else {
-            return Ok(());
-        };
-        self.items.push(WrittenItem::Pattern {
-            offset,
+        self.add_item(ItemForm::Lexical {
             role,
             name: name.bytes,
-            bytes: pattern.bytes,
-            at: pattern.at,
+            pattern,
         })
     }
 
-    /// A preference is whole. The only error is want of memory.
-    pub fn add_prefer(&mut self) -> Result<(), AllocError>
-        ensures ok { OnOk result (self.new ≡ with_pair (λ at first second. i.Prefer at first second) self.old) }
+    // A preference is whole. The only error is want of memory.
+    pub(crate) fn add_prefer(&mut self) -> Result<(), AllocError>
+        ensures ok { OnOk result (self.new ≡ with_pair (λ first second. f.Plain (i.Prefer first second)) self.old) }
     {
         let Some(second) = self.names.pop() else {
             return Ok(());
@@ -84,67 +92,45 @@ impl SpecBuilder {
         let Some(first) = self.names.pop() else {
             return Ok(());
         };
-        let Some(offset) = self.places.pop() else {
-            return Ok(());
-        };
-        self.items.push(WrittenItem::Plain(Item::Prefer {
-            offset,
+        self.add_item(ItemForm::Plain(PlainForm::Prefer {
             first: first.bytes,
             second: second.bytes,
         }))
     }
 
-    /// A nonterminal's declaration is whole. The only error is want of memory.
-    pub fn add_nonterminal(&mut self) -> Result<(), AllocError>
-        ensures ok { OnOk result (self.new ≡ with_named (λ at name. i.Nonterminal at name) self.old) }
+    // A nonterminal's declaration is whole. The only error is want of memory.
+    pub(crate) fn add_nonterminal(&mut self) -> Result<(), AllocError>
+        ensures ok { OnOk result (self.new ≡ with_named (λ name. f.Plain (i.Nonterminal name)) self.old) }
     {
         let Some(name) = self.names.pop() else {
             return Ok(());
         };
-        let Some(offset) = self.places.pop() else {
-            return Ok(());
-        };
-        self.items.push(WrittenItem::Plain(Item::Nonterminal {
-            offset,
-            name: name.bytes,
-        }))
+        self.add_item(ItemForm::Plain(PlainForm::Nonterminal(name.bytes)))
     }
 
-    /// The start's declaration is whole. The only error is want of memory.
-    pub fn add_start(&mut self) -> Result<(), AllocError>
-        ensures ok { OnOk result (self.new ≡ with_named (λ at name. i.Start at name) self.old) }
+    // The start's declaration is whole. The only error is want of memory.
+    pub(crate) fn add_start(&mut self) -> Result<(), AllocError>
+        ensures ok { OnOk result (self.new ≡ with_named (λ name. f.Plain (i.Start name)) self.old) }
     {
         let Some(name) = self.names.pop() else {
             return Ok(());
         };
-        let Some(offset) = self.places.pop() else {
-            return Ok(());
-        };
-        self.items.push(WrittenItem::Plain(Item::Start {
-            offset,
-            name: name.bytes,
-        }))
+        self.add_item(ItemForm::Plain(PlainForm::Start(name.bytes)))
     }
 
-    /// A permission to extend is whole. The only error is want of memory.
-    pub fn add_extensible(&mut self) -> Result<(), AllocError>
-        ensures ok { OnOk result (self.new ≡ with_named (λ at name. i.Extensible at name) self.old) }
+    // A permission to extend is whole. The only error is want of memory.
+    pub(crate) fn add_extensible(&mut self) -> Result<(), AllocError>
+        ensures ok { OnOk result (self.new ≡ with_named (λ name. f.Plain (i.Extensible name)) self.old) }
     {
         let Some(name) = self.names.pop() else {
             return Ok(());
         };
-        let Some(offset) = self.places.pop() else {
-            return Ok(());
-        };
-        self.items.push(WrittenItem::Plain(Item::Extensible {
-            offset,
-            name: name.bytes,
-        }))
+        self.add_item(ItemForm::Plain(PlainForm::Extensible(name.bytes)))
     }
 
-    /// A synthesized attribute is whole. The only error is want of memory.
-    pub fn add_synthesized(&mut self) -> Result<(), AllocError>
-        ensures ok { OnOk result (self.new ≡ with_attribute (λ at name kind. i.Synthesized at name kind) self.old) }
+    // A synthesized attribute is whole. The only error is want of memory.
+    pub(crate) fn add_synthesized(&mut self) -> Result<(), AllocError>
+        ensures ok { OnOk result (self.new ≡ with_attribute (λ name kind. i.Synthesized name kind) self.old) }
     {
         let Some(kind) = self.kinds.pop() else {
             return Ok(());
@@ -152,19 +138,15 @@ impl SpecBuilder {
         let Some(name) = self.names.pop() else {
             return Ok(());
         };
-        let Some(offset) = self.places.pop() else {
-            return Ok(());
-        };
-        self.items.push(WrittenItem::Plain(Item::Synthesized {
-            offset,
+        self.add_item(ItemForm::Plain(PlainForm::Synthesized {
             name: name.bytes,
             kind,
         }))
     }
 
-    /// An inherited attribute is whole. The only error is want of memory.
-    pub fn add_inherited(&mut self) -> Result<(), AllocError>
-        ensures ok { OnOk result (self.new ≡ with_attribute (λ at name kind. i.Inherited at name kind) self.old) }
+    // An inherited attribute is whole. The only error is want of memory.
+    pub(crate) fn add_inherited(&mut self) -> Result<(), AllocError>
+        ensures ok { OnOk result (self.new ≡ with_attribute (λ name kind. i.Inherited name kind) self.old) }
     {
         let Some(kind) = self.kinds.pop() else {
             return Ok(());
@@ -172,18 +154,14 @@ impl SpecBuilder {
         let Some(name) = self.names.pop() else {
             return Ok(());
         };
-        let Some(offset) = self.places.pop() else {
-            return Ok(());
-        };
-        self.items.push(WrittenItem::Plain(Item::Inherited {
-            offset,
+        self.add_item(ItemForm::Plain(PlainForm::Inherited {
             name: name.bytes,
             kind,
         }))
     }
 
-    /// An occurrence is whole. The only error is want of memory.
-    pub fn add_occurs(&mut self) -> Result<(), AllocError>
+    // An occurrence is whole. The only error is want of memory.
+    pub(crate) fn add_occurs(&mut self) -> Result<(), AllocError>
         ensures ok { OnOk result (self.new ≡ with_occurs self.old) }
     {
         let Some(needs) = self.needs.pop() else {
@@ -195,19 +173,15 @@ impl SpecBuilder {
         let Some(attribute) = self.names.pop() else {
             return Ok(());
         };
-        let Some(offset) = self.places.pop() else {
-            return Ok(());
-        };
-        self.items.push(WrittenItem::Plain(Item::Occurs {
-            offset,
+        self.add_item(ItemForm::Plain(PlainForm::Occurs {
             attribute: attribute.bytes,
             nonterminal: nonterminal.bytes,
             needs,
         }))
     }
 
-    /// A flow type of forwarded trees is whole. The only error is want of memory.
-    pub fn add_forward_on(&mut self) -> Result<(), AllocError>
+    // A flow type of forwarded trees is whole. The only error is want of memory.
+    pub(crate) fn add_forward_on(&mut self) -> Result<(), AllocError>
         ensures ok { OnOk result (self.new ≡ with_forward_on self.old) }
     {
         let Some(needs) = self.lists.pop() else {
@@ -216,46 +190,24 @@ impl SpecBuilder {
         let Some(name) = self.names.pop() else {
             return Ok(());
         };
-        let Some(offset) = self.places.pop() else {
-            return Ok(());
-        };
-        self.items.push(WrittenItem::Plain(Item::ForwardOn {
-            offset,
+        self.add_item(ItemForm::Plain(PlainForm::ForwardOn {
             nonterminal: name.bytes,
             needs: needs.into_sequence(),
         }))
     }
 
-    /// A concrete production is whole. The only error is want of memory.
-    pub fn add_concrete(&mut self) -> Result<(), AllocError>
-        ensures ok { OnOk result (self.new ≡ with_production_item (λ at production. i.Concrete at production) self.old) }
+    // An item with a production is whole. The only error is want of memory.
+    pub(crate) fn add_production_item(&mut self, role: ProductionRole) -> Result<(), AllocError>
+        ensures ok { OnOk result (self.new ≡ with_production_item role self.old) }
     {
         let Some(production) = self.productions.pop() else {
             return Ok(());
         };
-        let Some(offset) = self.places.pop() else {
-            return Ok(());
-        };
-        self.items
-            .push(WrittenItem::Plain(Item::Concrete { offset, production }))
+        self.add_item(ItemForm::Production { role, production })
     }
 
-    /// An abstract production is whole. The only error is want of memory.
-    pub fn add_abstract(&mut self) -> Result<(), AllocError>
-        ensures ok { OnOk result (self.new ≡ with_production_item (λ at production. i.Abstract at production) self.old) }
-    {
-        let Some(production) = self.productions.pop() else {
-            return Ok(());
-        };
-        let Some(offset) = self.places.pop() else {
-            return Ok(());
-        };
-        self.items
-            .push(WrittenItem::Plain(Item::Abstract { offset, production }))
-    }
-
-    /// Further equations of a production are whole. The only error is want of memory.
-    pub fn add_aspect(&mut self) -> Result<(), AllocError>
+    // Further equations of a production are whole. The only error is want of memory.
+    pub(crate) fn add_aspect(&mut self) -> Result<(), AllocError>
         ensures ok { OnOk result (self.new ≡ with_aspect self.old) }
     {
         let Some(equations) = self.equations.pop() else {
@@ -264,25 +216,21 @@ impl SpecBuilder {
         let Some(name) = self.names.pop() else {
             return Ok(());
         };
-        let Some(offset) = self.places.pop() else {
-            return Ok(());
-        };
-        self.items.push(WrittenItem::Plain(Item::Aspect {
-            offset,
+        self.add_item(ItemForm::Aspect {
             name: name.bytes,
             equations: equations.into_sequence(),
-        }))
+        })
     }
 
-    /// Children begin. The only error is want of memory.
-    pub fn begin_children(&mut self, alloc: Global) -> Result<(), AllocError>
+    // Children begin. The only error is want of memory.
+    pub(crate) fn begin_children(&mut self, alloc: Global) -> Result<(), AllocError>
         ensures ok { OnOk result (self.new ≡ with_children self.old) }
     {
         self.children.push(List::new(alloc))
     }
 
-    /// A production is whole. The only error is want of memory.
-    pub fn add_production(&mut self) -> Result<(), AllocError>
+    // A production is whole. The only error is want of memory.
+    pub(crate) fn add_production(&mut self) -> Result<(), AllocError>
         ensures ok { OnOk result (self.new ≡ with_production self.old) }
     {
         let Some(equations) = self.equations.pop() else {

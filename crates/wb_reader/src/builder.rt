@@ -1,15 +1,14 @@
 //! What is read of a specification so far: whole items, and on stacks what an action will put together.
 
-ghost use Rattle.std.specs.Prelude.{◌≡◌, OnOk, IfOk};
+ghost use Rattle.std.specs.Prelude.{◌≡◌, OnOk};
 ghost use Rattle.wb_reader.specs.Builder.{empty, written_of, with_name, with_place, with_integer, with_text, with_pattern};
 
-use crate::header::Header;
 use std::alloc::{AllocError, Global};
 use wb_base::{Bytes, Sequence};
 use wb_lists::{List, Stack};
-use wb_syntax::{Child, Equation, NamedKind, Node, Production, Target, WrittenItem, WrittenSpec};
+use wb_syntax::{Child, Equation, Header, Item, NamedKind, Node, Production, Target, WrittenPattern, WrittenSpec};
 
-/// A name, or the bytes of a regular expression, with the place of its first byte.
+/// A name, with the place of its first byte.
 #[derive(Drop)]
 pub struct PlacedBytes {
     pub bytes: Bytes,
@@ -35,7 +34,7 @@ pub struct SpecBuilder {
     /// Strings.
     pub texts: Stack<Bytes>,
     /// Regular expressions, by the bytes between their slashes; the place is that of the first slash.
-    pub patterns: Stack<PlacedBytes>,
+    pub patterns: Stack<WrittenPattern>,
     /// Kinds.
     pub kinds: Stack<NamedKind>,
     /// Lists of names.
@@ -56,18 +55,22 @@ pub struct SpecBuilder {
     pub equations: Stack<List<Equation>>,
     /// Productions.
     pub productions: Stack<Production>,
-    /// The last header; an empty one before it is read.
+    /// The number of the format, and 0 before it is read.
+    pub format: u32,
+    /// The specification's name, and nothing before it is read.
+    pub name: Bytes,
+    /// The last header.
     pub header: Header,
     /// The whole items, in order.
-    pub items: List<WrittenItem>,
+    pub items: List<Item<WrittenPattern>>,
 }
 
 impl SpecBuilder {
-    /// No parts. The only error is want of memory.
-    pub fn new(alloc: Global) -> Result<SpecBuilder, AllocError>
-        ensures ok { IfOk result (λ made. made ≡ empty) }
+    // No parts. Takes no memory.
+    pub(crate) fn new(alloc: Global) -> SpecBuilder
+        ensures { result ≡ empty }
     {
-        Ok(SpecBuilder {
+        SpecBuilder {
             names: Stack::new(alloc),
             places: Stack::new(alloc),
             integers: Stack::new(alloc),
@@ -83,62 +86,57 @@ impl SpecBuilder {
             arguments: Stack::new(alloc),
             equations: Stack::new(alloc),
             productions: Stack::new(alloc),
-            header: Header {
-                host: false,
-                name: Bytes::from_slice(alloc, &[])?,
-                for_host: Bytes::from_slice(alloc, &[])?,
-            },
+            format: 0,
+            name: Bytes::empty(),
+            header: Header::Host,
             items: List::new(alloc),
-        })
+        }
     }
 
-    /// A name was read at this place. The only error is want of memory.
-    pub fn read_name(&mut self, bytes: Bytes, at: usize) -> Result<(), AllocError>
+    // A name was read at this place. The only error is want of memory.
+    pub(crate) fn read_name(&mut self, bytes: Bytes, at: usize) -> Result<(), AllocError>
         ensures ok { OnOk result (self.new ≡ with_name bytes at self.old) }
     {
         self.names.push(PlacedBytes { bytes, at })
     }
 
-    /// A word that may begin an item, an equation or a read was read at this place. The only error is want of memory.
-    pub fn read_place(&mut self, at: usize) -> Result<(), AllocError>
+    // A word that may begin an item, an equation or a read was read at this place. The only error is want of memory.
+    pub(crate) fn read_place(&mut self, at: usize) -> Result<(), AllocError>
         ensures ok { OnOk result (self.new ≡ with_place at self.old) }
     {
         self.places.push(at)
     }
 
-    /// An integer was read. The only error is want of memory.
-    pub fn read_integer(&mut self, value: i64) -> Result<(), AllocError>
+    // An integer was read. The only error is want of memory.
+    pub(crate) fn read_integer(&mut self, value: i64) -> Result<(), AllocError>
         ensures ok { OnOk result (self.new ≡ with_integer value self.old) }
     {
         self.integers.push(value)
     }
 
-    /// A string was read. The only error is want of memory.
-    pub fn read_text(&mut self, text: Bytes) -> Result<(), AllocError>
+    // A string was read. The only error is want of memory.
+    pub(crate) fn read_text(&mut self, text: Bytes) -> Result<(), AllocError>
         ensures ok { OnOk result (self.new ≡ with_text text self.old) }
     {
         self.texts.push(text)
     }
 
-    /// A regular expression was read at this place. The only error is want of memory.
-    pub fn read_pattern(&mut self, bytes: Bytes, at: usize) -> Result<(), AllocError>
+    // A regular expression was read at this place. The only error is want of memory.
+    pub(crate) fn read_pattern(&mut self, bytes: Bytes, at: usize) -> Result<(), AllocError>
         ensures ok { OnOk result (self.new ≡ with_pattern bytes at self.old) }
     {
-        self.patterns.push(PlacedBytes { bytes, at })
+        self.patterns.push(WrittenPattern { bytes, at })
     }
 
-    /// The specification of the whole parts. Takes no memory.
-    pub fn into_written(self) -> WrittenSpec
+    // The specification of the whole parts. Takes no memory.
+    pub(crate) fn into_written(self) -> WrittenSpec
         ensures { result ≡ written_of self }
     {
-        let items = self.items.into_sequence();
-        let header = self.header;
         WrittenSpec {
-            format: 1,
-            host: header.host,
-            name: header.name,
-            for_host: header.for_host,
-            items,
+            format: self.format,
+            name: self.name,
+            header: self.header,
+            items: self.items.into_sequence(),
         }
     }
 }

@@ -9,82 +9,82 @@
 //! arguments  = [expression (',' expression)*]
 //! ```
 
-use crate::kind::Kind;
 use crate::part::{Action, ExpressionAction, Part, SpecRule};
 use wb_predictive::Rule;
 use wb_predictive::Symbol::{Act, Nonterminal, Token};
+use wb_tokens::{Punctuation, TokenKind, Word};
 
 pub static EXPRESSION: [SpecRule; 9] = [
     Rule {
-        kinds: &[Kind::One, Kind::Number],
+        kinds: &[TokenKind::One, TokenKind::Number],
         right: &[
             Nonterminal(Part::Integer),
             Act(Action::Expression(ExpressionAction::Number)),
         ],
     },
     Rule {
-        kinds: &[Kind::String],
+        kinds: &[TokenKind::String],
         right: &[
-            Token(Kind::String),
+            Token(TokenKind::String),
             Act(Action::Expression(ExpressionAction::String)),
         ],
     },
     Rule {
-        kinds: &[Kind::True],
+        kinds: &[TokenKind::Word(Word::True)],
         right: &[
-            Token(Kind::True),
+            Token(TokenKind::Word(Word::True)),
             Act(Action::Expression(ExpressionAction::True)),
         ],
     },
     Rule {
-        kinds: &[Kind::False],
+        kinds: &[TokenKind::Word(Word::False)],
         right: &[
-            Token(Kind::False),
+            Token(TokenKind::Word(Word::False)),
             Act(Action::Expression(ExpressionAction::False)),
         ],
     },
     Rule {
-        kinds: &[Kind::Name],
-        right: &[Token(Kind::Name), Nonterminal(Part::Tail)],
+        kinds: &[TokenKind::Name],
+        right: &[Token(TokenKind::Name), Nonterminal(Part::Tail)],
     },
     Rule {
-        kinds: &[Kind::Top],
+        kinds: &[TokenKind::Word(Word::Top)],
         right: &[
-            Token(Kind::Top),
-            Token(Kind::Dot),
-            Token(Kind::Name),
+            Token(TokenKind::Word(Word::Top)),
+            Token(TokenKind::Mark(Punctuation::Dot)),
+            Token(TokenKind::Name),
             Act(Action::Expression(ExpressionAction::ReadTop)),
         ],
     },
     Rule {
-        kinds: &[Kind::Forward],
+        kinds: &[TokenKind::Word(Word::Forward)],
         right: &[
-            Token(Kind::Forward),
-            Token(Kind::Dot),
-            Token(Kind::Name),
+            Token(TokenKind::Word(Word::Forward)),
+            Token(TokenKind::Mark(Punctuation::Dot)),
+            Token(TokenKind::Name),
             Act(Action::Expression(ExpressionAction::ReadForward)),
         ],
     },
     Rule {
-        kinds: &[Kind::At],
+        kinds: &[TokenKind::Mark(Punctuation::At)],
         right: &[
-            Token(Kind::At),
-            Token(Kind::Name),
-            Token(Kind::OpenParenthesis),
+            Token(TokenKind::Mark(Punctuation::At)),
+            Token(TokenKind::Name),
+            Token(TokenKind::Mark(Punctuation::OpenParenthesis)),
             Act(Action::Expression(ExpressionAction::BeginArguments)),
             Nonterminal(Part::Arguments),
-            Token(Kind::CloseParenthesis),
+            Token(TokenKind::Mark(Punctuation::CloseParenthesis)),
             Act(Action::Expression(ExpressionAction::Call)),
         ],
     },
     Rule {
-        kinds: &[Kind::If],
+        kinds: &[TokenKind::Word(Word::If)],
         right: &[
-            Token(Kind::If),
+            Token(TokenKind::Word(Word::If)),
             Nonterminal(Part::Expression),
-            Token(Kind::Then),
+            Token(TokenKind::Word(Word::Then)),
             Nonterminal(Part::Expression),
-            Token(Kind::Else),
+            Token(TokenKind::Word(Word::Else)),
             Nonterminal(Part::Expression),
             Act(Action::Expression(ExpressionAction::If)),
         ],
@@ -94,25 +94,25 @@ pub static EXPRESSION: [SpecRule; 9] = [
 pub static TAIL: [SpecRule; 3] = [
     Rule {
         kinds: &[
-            Kind::Else,
-            Kind::Then,
-            Kind::Semicolon,
-            Kind::Comma,
-            Kind::CloseParenthesis,
+            TokenKind::Word(Word::Else),
+            TokenKind::Word(Word::Then),
+            TokenKind::Mark(Punctuation::Semicolon),
+            TokenKind::Mark(Punctuation::Comma),
+            TokenKind::Mark(Punctuation::CloseParenthesis),
         ],
         right: &[Act(Action::Expression(ExpressionAction::Label))],
     },
     Rule {
-        kinds: &[Kind::Dot],
-        right: &[Token(Kind::Dot), Nonterminal(Part::Read)],
+        kinds: &[TokenKind::Mark(Punctuation::Dot)],
+        right: &[Token(TokenKind::Mark(Punctuation::Dot)), Nonterminal(Part::Read)],
     },
     Rule {
-        kinds: &[Kind::OpenParenthesis],
+        kinds: &[TokenKind::Mark(Punctuation::OpenParenthesis)],
         right: &[
-            Token(Kind::OpenParenthesis),
+            Token(TokenKind::Mark(Punctuation::OpenParenthesis)),
             Act(Action::Expression(ExpressionAction::BeginArguments)),
             Nonterminal(Part::Arguments),
-            Token(Kind::CloseParenthesis),
+            Token(TokenKind::Mark(Punctuation::CloseParenthesis)),
             Act(Action::Expression(ExpressionAction::Build)),
         ],
     },
@@ -120,16 +120,16 @@ pub static TAIL: [SpecRule; 3] = [
 
 pub static READ: [SpecRule; 2] = [
     Rule {
-        kinds: &[Kind::Name],
+        kinds: &[TokenKind::Name],
         right: &[
-            Token(Kind::Name),
+            Token(TokenKind::Name),
             Act(Action::Expression(ExpressionAction::Read)),
         ],
     },
     Rule {
-        kinds: &[Kind::Lexeme],
+        kinds: &[TokenKind::Word(Word::Lexeme)],
         right: &[
-            Token(Kind::Lexeme),
+            Token(TokenKind::Word(Word::Lexeme)),
             Act(Action::Expression(ExpressionAction::Lexeme)),
         ],
     },
@@ -137,21 +137,21 @@ pub static READ: [SpecRule; 2] = [
 
 pub static ARGUMENTS: [SpecRule; 2] = [
     Rule {
-        kinds: &[Kind::CloseParenthesis],
+        kinds: &[TokenKind::Mark(Punctuation::CloseParenthesis)],
         right: &[],
     },
     Rule {
         kinds: &[
-            Kind::False,
-            Kind::Forward,
-            Kind::If,
-            Kind::Top,
-            Kind::True,
-            Kind::At,
-            Kind::Name,
-            Kind::One,
-            Kind::Number,
-            Kind::String,
+            TokenKind::Word(Word::False),
+            TokenKind::Word(Word::Forward),
+            TokenKind::Word(Word::If),
+            TokenKind::Word(Word::Top),
+            TokenKind::Word(Word::True),
+            TokenKind::Mark(Punctuation::At),
+            TokenKind::Name,
+            TokenKind::One,
+            TokenKind::Number,
+            TokenKind::String,
         ],
         right: &[
             Nonterminal(Part::Expression),
@@ -163,13 +163,13 @@ pub static ARGUMENTS: [SpecRule; 2] = [
 
 pub static FURTHER_ARGUMENTS: [SpecRule; 2] = [
     Rule {
-        kinds: &[Kind::CloseParenthesis],
+        kinds: &[TokenKind::Mark(Punctuation::CloseParenthesis)],
         right: &[],
     },
     Rule {
-        kinds: &[Kind::Comma],
+        kinds: &[TokenKind::Mark(Punctuation::Comma)],
         right: &[
-            Token(Kind::Comma),
+            Token(TokenKind::Mark(Punctuation::Comma)),
             Nonterminal(Part::Expression),
             Act(Action::Expression(ExpressionAction::AddArgument)),
             Nonterminal(Part::FurtherArguments),
@@ -179,11 +179,11 @@ pub static FURTHER_ARGUMENTS: [SpecRule; 2] = [
 
 pub static INTEGER: [SpecRule; 2] = [
     Rule {
-        kinds: &[Kind::One],
-        right: &[Token(Kind::One)],
+        kinds: &[TokenKind::One],
+        right: &[Token(TokenKind::One)],
     },
     Rule {
-        kinds: &[Kind::Number],
-        right: &[Token(Kind::Number)],
+        kinds: &[TokenKind::Number],
+        right: &[Token(TokenKind::Number)],
     },
 ];

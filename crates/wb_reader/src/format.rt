@@ -4,7 +4,7 @@ ghost use Rattle.std.specs.Prelude.{◌≡◌, ◌≤◌, ◌↔◌, IfOk, IsTru
 ghost use Rattle.wb_predictive.specs.declared.table.Placed.{Placed};
 ghost use Rattle.wb_predictive.specs.declared.table.Next.TheVariants.{Found};
 ghost use Rattle.wb_tokens.specs.declared.token.Layout.TheVariants.{WithComments};
-ghost use Rattle.wb_tokens.specs.Placed.{IsNextIn};
+ghost use Rattle.wb_tokens.specs.NextToken.{IsNextIn};
 ghost use Rattle.wb_syntax.specs.Tokens.{Lexeme};
 ghost use Rattle.wb_tokens.specs.declared.token.Token.TheVariants as t;
 ghost use Rattle.wb_tokens.specs.declared.word.Word.TheVariants as w;
@@ -13,7 +13,7 @@ ghost use Rattle.wb_reader.specs.Refusals.{IsOtherNumber, IsOtherFormat};
 
 use std::alloc::{AllocError, Global};
 use wb_predictive::{Next, Placed};
-use wb_tokens::{Layout, Punctuation, Token, Word, next_in};
+use wb_tokens::{Layout, Punctuation, Token, Word, next_token};
 
 // The token that stands next behind a place, if one does.
 fn next_lexeme(
@@ -27,7 +27,7 @@ fn next_lexeme(
         (λ x. IsNextIn WithComments bytes.now from (Found x))) }
     ensures within { IfOk result (λ found. MatchOption found (Unit {0}) (λ x. x.end ≤ length bytes.now)) }
 {
-    match next_in(alloc, bytes, from, Layout::WithComments)? {
+    match next_token(alloc, bytes, from, Layout::WithComments)? {
         Next::Found(lexeme) => Ok(Some(lexeme)),
         Next::End { at: _ } => Ok(None),
         Next::NoToken { at: _ } => Ok(None),

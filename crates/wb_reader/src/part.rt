@@ -1,7 +1,8 @@
 //! The grammar of specifications, as a table: its nonterminals and actions.
 
-use crate::kind::Kind;
 use wb_predictive::Rule;
+use wb_syntax::{ProductionRole, Role};
+use wb_tokens::TokenKind;
 
 /// The parts of a text, the grammar's nonterminals.
 #[derive(Clone, Copy, Debug, PartialEq, Eq)]
@@ -35,9 +36,7 @@ pub enum ItemAction {
     Begin,
     Host,
     Extension,
-    Terminal,
-    Ignore,
-    Marking,
+    Lexical(Role),
     Prefer,
     Nonterminal,
     Start,
@@ -46,8 +45,7 @@ pub enum ItemAction {
     Inherited,
     Occurs,
     ForwardOn,
-    Concrete,
-    Abstract,
+    ProductionItem(ProductionRole),
     Aspect,
     BeginChildren,
     Production,
@@ -103,4 +101,4 @@ pub enum Action {
 }
 
 /// A rule of the table.
-pub type SpecRule = Rule<'static, Kind, Part, Action>;
+pub type SpecRule = Rule<'static, TokenKind, Part, Action>;

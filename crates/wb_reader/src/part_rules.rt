@@ -13,37 +13,37 @@
 //! value    = expression ';'
 //! ```
 
-use crate::kind::Kind;
 use crate::part::{Action, Part, PartAction, SpecRule};
 use wb_predictive::Rule;
 use wb_predictive::Symbol::{Act, Nonterminal, Token};
+use wb_tokens::{Punctuation, TokenKind, Word};
 
 pub static KIND: [SpecRule; 4] = [
     Rule {
-        kinds: &[Kind::Int],
-        right: &[Token(Kind::Int), Act(Action::Part(PartAction::IntKind))],
+        kinds: &[TokenKind::Word(Word::Int)],
+        right: &[Token(TokenKind::Word(Word::Int)), Act(Action::Part(PartAction::IntKind))],
     },
     Rule {
-        kinds: &[Kind::Bool],
-        right: &[Token(Kind::Bool), Act(Action::Part(PartAction::BoolKind))],
+        kinds: &[TokenKind::Word(Word::Bool)],
+        right: &[Token(TokenKind::Word(Word::Bool)), Act(Action::Part(PartAction::BoolKind))],
     },
     Rule {
-        kinds: &[Kind::Text],
-        right: &[Token(Kind::Text), Act(Action::Part(PartAction::TextKind))],
+        kinds: &[TokenKind::Word(Word::Text)],
+        right: &[Token(TokenKind::Word(Word::Text)), Act(Action::Part(PartAction::TextKind))],
     },
     Rule {
-        kinds: &[Kind::Name],
-        right: &[Token(Kind::Name), Act(Action::Part(PartAction::NameKind))],
+        kinds: &[TokenKind::Name],
+        right: &[Token(TokenKind::Name), Act(Action::Part(PartAction::NameKind))],
     },
 ];
 
 pub static OPTIONAL_NEEDS: [SpecRule; 2] = [
     Rule {
-        kinds: &[Kind::Semicolon],
+        kinds: &[TokenKind::Mark(Punctuation::Semicolon)],
         right: &[Act(Action::Part(PartAction::NoNeeds))],
     },
     Rule {
-        kinds: &[Kind::Needs],
+        kinds: &[TokenKind::Word(Word::Needs)],
         right: &[
             Nonterminal(Part::Needs),
             Act(Action::Part(PartAction::SomeNeeds)),
@@ -52,25 +52,25 @@ pub static OPTIONAL_NEEDS: [SpecRule; 2] = [
 ];
 
 pub static NEEDS: [SpecRule; 1] = [Rule {
-    kinds: &[Kind::Needs],
+    kinds: &[TokenKind::Word(Word::Needs)],
     right: &[
-        Token(Kind::Needs),
-        Token(Kind::OpenBrace),
+        Token(TokenKind::Word(Word::Needs)),
+        Token(TokenKind::Mark(Punctuation::OpenBrace)),
         Act(Action::Part(PartAction::BeginNames)),
         Nonterminal(Part::Names),
-        Token(Kind::CloseBrace),
+        Token(TokenKind::Mark(Punctuation::CloseBrace)),
     ],
 }];
 
 pub static NAMES: [SpecRule; 2] = [
     Rule {
-        kinds: &[Kind::CloseBrace],
+        kinds: &[TokenKind::Mark(Punctuation::CloseBrace)],
         right: &[],
     },
     Rule {
-        kinds: &[Kind::Name],
+        kinds: &[TokenKind::Name],
         right: &[
-            Token(Kind::Name),
+            Token(TokenKind::Name),
             Act(Action::Part(PartAction::AddName)),
             Nonterminal(Part::FurtherNames),
         ],
@@ -79,14 +79,14 @@ pub static NAMES: [SpecRule; 2] = [
 
 pub static FURTHER_NAMES: [SpecRule; 2] = [
     Rule {
-        kinds: &[Kind::CloseBrace],
+        kinds: &[TokenKind::Mark(Punctuation::CloseBrace)],
         right: &[],
     },
     Rule {
-        kinds: &[Kind::Comma],
+        kinds: &[TokenKind::Mark(Punctuation::Comma)],
         right: &[
-            Token(Kind::Comma),
-            Token(Kind::Name),
+            Token(TokenKind::Mark(Punctuation::Comma)),
+            Token(TokenKind::Name),
             Act(Action::Part(PartAction::AddName)),
             Nonterminal(Part::FurtherNames),
         ],
@@ -95,14 +95,14 @@ pub static FURTHER_NAMES: [SpecRule; 2] = [
 
 pub static CHILDREN: [SpecRule; 2] = [
     Rule {
-        kinds: &[Kind::OpenBrace],
+        kinds: &[TokenKind::Mark(Punctuation::OpenBrace)],
         right: &[],
     },
     Rule {
-        kinds: &[Kind::Name],
+        kinds: &[TokenKind::Name],
         right: &[
-            Token(Kind::Name),
-            Token(Kind::Colon),
+            Token(TokenKind::Name),
+            Token(TokenKind::Mark(Punctuation::Colon)),
             Nonterminal(Part::Kind),
             Act(Action::Part(PartAction::AddChild)),
             Nonterminal(Part::Children),
@@ -111,27 +111,27 @@ pub static CHILDREN: [SpecRule; 2] = [
 ];
 
 pub static BLOCK: [SpecRule; 1] = [Rule {
-    kinds: &[Kind::OpenBrace],
+    kinds: &[TokenKind::Mark(Punctuation::OpenBrace)],
     right: &[
-        Token(Kind::OpenBrace),
+        Token(TokenKind::Mark(Punctuation::OpenBrace)),
         Act(Action::Part(PartAction::BeginEquations)),
         Nonterminal(Part::Equations),
-        Token(Kind::CloseBrace),
+        Token(TokenKind::Mark(Punctuation::CloseBrace)),
     ],
 }];
 
 pub static EQUATIONS: [SpecRule; 2] = [
     Rule {
-        kinds: &[Kind::CloseBrace],
+        kinds: &[TokenKind::Mark(Punctuation::CloseBrace)],
         right: &[],
     },
     Rule {
         kinds: &[
-            Kind::Forward,
-            Kind::Forwards,
-            Kind::Local,
-            Kind::Top,
-            Kind::Name,
+            TokenKind::Word(Word::Forward),
+            TokenKind::Word(Word::Forwards),
+            TokenKind::Word(Word::Local),
+            TokenKind::Word(Word::Top),
+            TokenKind::Name,
         ],
         right: &[Nonterminal(Part::Equation), Nonterminal(Part::Equations)],
     },
@@ -139,55 +139,55 @@ pub static EQUATIONS: [SpecRule; 2] = [
 
 pub static EQUATION: [SpecRule; 5] = [
     Rule {
-        kinds: &[Kind::Top],
+        kinds: &[TokenKind::Word(Word::Top)],
         right: &[
-            Token(Kind::Top),
-            Token(Kind::Dot),
-            Token(Kind::Name),
-            Token(Kind::Equals),
+            Token(TokenKind::Word(Word::Top)),
+            Token(TokenKind::Mark(Punctuation::Dot)),
+            Token(TokenKind::Name),
+            Token(TokenKind::Mark(Punctuation::Equals)),
             Act(Action::Part(PartAction::TopTarget)),
             Nonterminal(Part::Value),
         ],
     },
     Rule {
-        kinds: &[Kind::Name],
+        kinds: &[TokenKind::Name],
         right: &[
-            Token(Kind::Name),
-            Token(Kind::Dot),
-            Token(Kind::Name),
-            Token(Kind::Equals),
+            Token(TokenKind::Name),
+            Token(TokenKind::Mark(Punctuation::Dot)),
+            Token(TokenKind::Name),
+            Token(TokenKind::Mark(Punctuation::Equals)),
             Act(Action::Part(PartAction::LabelTarget)),
             Nonterminal(Part::Value),
         ],
     },
     Rule {
-        kinds: &[Kind::Forward],
+        kinds: &[TokenKind::Word(Word::Forward)],
         right: &[
-            Token(Kind::Forward),
-            Token(Kind::Dot),
-            Token(Kind::Name),
-            Token(Kind::Equals),
+            Token(TokenKind::Word(Word::Forward)),
+            Token(TokenKind::Mark(Punctuation::Dot)),
+            Token(TokenKind::Name),
+            Token(TokenKind::Mark(Punctuation::Equals)),
             Act(Action::Part(PartAction::ForwardTarget)),
             Nonterminal(Part::Value),
         ],
     },
     Rule {
-        kinds: &[Kind::Local],
+        kinds: &[TokenKind::Word(Word::Local)],
         right: &[
-            Token(Kind::Local),
-            Token(Kind::Name),
-            Token(Kind::Colon),
-            Token(Kind::Name),
-            Token(Kind::Equals),
+            Token(TokenKind::Word(Word::Local)),
+            Token(TokenKind::Name),
+            Token(TokenKind::Mark(Punctuation::Colon)),
+            Token(TokenKind::Name),
+            Token(TokenKind::Mark(Punctuation::Equals)),
             Act(Action::Part(PartAction::LocalTarget)),
             Nonterminal(Part::Value),
         ],
     },
     Rule {
-        kinds: &[Kind::Forwards],
+        kinds: &[TokenKind::Word(Word::Forwards)],
         right: &[
-            Token(Kind::Forwards),
-            Token(Kind::To),
+            Token(TokenKind::Word(Word::Forwards)),
+            Token(TokenKind::Word(Word::To)),
             Act(Action::Part(PartAction::ForwardsToTarget)),
             Nonterminal(Part::Value),
         ],
@@ -196,21 +196,21 @@ pub static EQUATION: [SpecRule; 5] = [
 
 pub static VALUE: [SpecRule; 1] = [Rule {
     kinds: &[
-        Kind::False,
-        Kind::Forward,
-        Kind::If,
-        Kind::Top,
-        Kind::True,
-        Kind::At,
-        Kind::Name,
-        Kind::One,
-        Kind::Number,
-        Kind::String,
+        TokenKind::Word(Word::False),
+        TokenKind::Word(Word::Forward),
+        TokenKind::Word(Word::If),
+        TokenKind::Word(Word::Top),
+        TokenKind::Word(Word::True),
+        TokenKind::Mark(Punctuation::At),
+        TokenKind::Name,
+        TokenKind::One,
+        TokenKind::Number,
+        TokenKind::String,
     ],
     right: &[
         Act(Action::Part(PartAction::BeginNodes)),
         Nonterminal(Part::Expression),
-        Token(Kind::Semicolon),
+        Token(TokenKind::Mark(Punctuation::Semicolon)),
         Act(Action::Part(PartAction::AddEquation)),
     ],
 }];

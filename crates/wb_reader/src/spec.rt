@@ -1,7 +1,7 @@
 //! Specifications, from their bytes.
 
 ghost use Rattle.std.specs.Prelude.{◌≡◌, IfOk, IfErr};
-ghost use Rattle.wb_syntax.specs.SpecText.{SpecState};
+ghost use Rattle.wb_syntax.specs.SpecText.{SpecView};
 ghost use Rattle.wb_reader.specs.Refusals.{HasCause, IsAcceptedText};
 
 use crate::format::is_other_format;
@@ -22,7 +22,7 @@ const LIMIT: usize = 1_048_576;
 /// bytes, and nothing recurses.
 pub fn read_spec(alloc: Global, bytes: &[u8]) -> Result<Spec, SpecRefusal>
     ensures ok { IfOk result (λ spec. IsAcceptedText bytes.now spec) }
-    ensures only { IfOk result (λ spec. (other : SpecState) → IsAcceptedText bytes.now other → other ≡ spec) }
+    ensures only { IfOk result (λ spec. (other : SpecView) → IsAcceptedText bytes.now other → other ≡ spec) }
     ensures refused { IfErr result (HasCause bytes.now) }
 {
     if bytes.len() > LIMIT {
@@ -33,12 +33,11 @@ pub fn read_spec(alloc: Global, bytes: &[u8]) -> Result<Spec, SpecRefusal>
     }
     let written = read_written(alloc, bytes)?;
     let items = read_items(alloc, written.items.into_vec())?;
-    Ok(Spec::new(
-        alloc,
+    let spec = Spec::new(
         written.format,
-        written.host,
         written.name,
-        written.for_host,
+        written.header,
         Sequence::from_vec(items),
-    ))
+    )?;
+    Ok(spec)
 }

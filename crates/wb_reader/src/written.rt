@@ -16,7 +16,7 @@ pub fn read_written(alloc: Global, bytes: &[u8]) -> Result<WrittenSpec, SpecRefu
     ensures ok { IfOk result (λ spec. IsWrittenText bytes.now spec) }
     ensures refused { IfErr result (OnSyntax bytes.now) }
 {
-    let parts = SpecBuilder::new(alloc)?;
+    let parts = SpecBuilder::new(alloc);
     match read_all(alloc, &SpecTable, bytes, parts)? {
         Outcome::Whole(parts) => Ok(parts.into_written()),
         Outcome::Stopped { at } => Err(SpecRefusal::Syntax(at)),

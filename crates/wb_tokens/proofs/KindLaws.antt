@@ -4,7 +4,6 @@ use Rattle.std.specs.Prelude.{◌==◌}
 use denote.Enum.Bare.{same_true, true_same}
 use Rattle.wb_tokens.specs.contracts.word.Word as word_type
 use Rattle.wb_tokens.specs.contracts.punctuation.Punctuation as mark_type
-use Rattle.wb_tokens.specs.contracts.kind.TokenKindPartialEq.TheImpl.{ghosts}
 use Rattle.wb_tokens.specs.declared.kind.TokenKind.{TokenKind}
 use Rattle.wb_tokens.specs.declared.kind.TokenKind.TheVariants.{Word, Mark, Name, One, Number, String, Regex, End}
 use Rattle.wb_tokens.specs.declared.punctuation.Punctuation.{Punctuation}
@@ -12,10 +11,7 @@ use Rattle.wb_tokens.specs.declared.token.Token.{Token}
 use Rattle.wb_tokens.specs.declared.token.Token.TheVariants as t
 use Rattle.wb_tokens.specs.declared.word.Word.{Word as ReservedWord}
 use Rattle.wb_tokens.specs.Kinds.{kind_of, integer_kind}
-
--- the test whether two kinds are the same
-abbrev pub same_kind : TokenKind → TokenKind → Bool
-same_kind = ghosts.eq
+use Rattle.wb_tokens.specs.SameKind.{same_kind}
 
 -- where the test holds, they are
 same_kind_true : (a b : TokenKind) → same_kind a b ≡ true → a ≡ b

@@ -5,6 +5,7 @@ pub mod NextToken
 pub mod Numbers
 pub mod Parts
 pub mod Printing
+pub mod SameKind
 pub mod Skipping
 pub mod Spelling
 pub mod Words

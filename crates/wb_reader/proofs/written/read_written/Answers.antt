@@ -2,7 +2,7 @@ use Rattle.std.proofs.Common.{subst, sym}
 use Rattle.wb_predictive.specs.Reading.{IsOutcome}
 use Rattle.wb_predictive.specs.declared.reading.Outcome.TheVariants.{Whole, Stopped}
 use Rattle.wb_tokens.specs.declared.token.Layout.TheVariants.{WithComments}
-use Rattle.wb_tokens.specs.Placed.{IsNextIn}
+use Rattle.wb_tokens.specs.NextToken.{IsNextIn}
 use Rattle.wb_syntax.specs.SpecText.{IsWrittenText}
 use Rattle.wb_reader.specs.Builder.{empty}
 use Rattle.wb_reader.specs.Table.{spec_grammar}
@@ -10,7 +10,7 @@ use Rattle.wb_reader.proofs.TextLemmas.{whole_outcome, stopped_outcome}
 use Rattle.wb_reader.proofs.written.read_written.Goals as goal
 
 pub returns-in-Whole-clause-ok : goal.returns-in-Whole-clause-ok
-returns-in-Whole-clause-ok c = subst (λ spec. IsWrittenText c.args.bytes.now spec) (sym c.into_written.ensures) (whole_outcome c.args.bytes.now c.in_ok-parts.parts c.in_ok-parts.ensures.ok c.in_ok-parts-2.field-0 c.in_ok-parts-2.ensures.ok c.in-Whole.parts c.in-Whole.is)
+returns-in-Whole-clause-ok c = subst (λ spec. IsWrittenText c.args.bytes.now spec) (sym c.into_written.ensures) (whole_outcome c.args.bytes.now c.new-parts.result c.new-parts.ensures c.in_ok-parts.field-0 c.in_ok-parts.ensures.ok c.in-Whole.parts c.in-Whole.is)
 
 pub returns-in-Stopped-clause-refused : goal.returns-in-Stopped-clause-refused
-returns-in-Stopped-clause-refused c = stopped_outcome c.args.bytes.now c.in_ok-parts.parts c.in_ok-parts.ensures.ok c.in_ok-parts-2.field-0 c.in_ok-parts-2.ensures.ok c.in-Stopped.at c.in-Stopped.is
+returns-in-Stopped-clause-refused c = stopped_outcome c.args.bytes.now c.new-parts.result c.new-parts.ensures c.in_ok-parts.field-0 c.in_ok-parts.ensures.ok c.in-Stopped.at c.in-Stopped.is
