@@ -1,20 +1,21 @@
 -- The same tokens at other places are the same item but for places.
-use Rattle.std.proofs.Common.{◌≡◌, ℕ, List, [], ◌∷◌, ◌++◌, refl, sym, ap, ◌∙◌}
-use Rattle.wb_tokens.specs.declared.token.Token.TheVariants as t
-use Rattle.wb_tokens.specs.declared.punctuation.Punctuation.TheVariants as p
-use Rattle.wb_regex.specs.Tree.{Tree}
-use Rattle.wb_syntax.specs.declared.item.Production.{Production}
+use Rattle.std.proofs.Common.{◌≡◌, ℕ, List, [], ◌∷◌, ◌++◌, refl, sym, ap, ◌∙◌, subst}
+use Rattle.wb_syntax.specs.declared.production.Production.{Production}
+use Rattle.wb_syntax.specs.declared.production.ProductionRole.{ProductionRole}
+use Rattle.wb_syntax.specs.declared.production.ProductionRole.TheVariants as kinds
 use Rattle.wb_syntax.specs.declared.item.Item.{Item}
-use Rattle.wb_syntax.specs.declared.item.Item.TheVariants as i
+use Rattle.wb_syntax.specs.declared.item.ItemForm.{ItemForm}
+use Rattle.wb_syntax.specs.declared.item.ItemForm.TheVariants as forms
+use Rattle.wb_syntax.specs.declared.item.PlainForm.{PlainForm}
+use Rattle.wb_syntax.specs.declared.pattern.Pattern.{Pattern}
 use Rattle.wb_syntax.specs.declared.pattern.Role.{Role}
 use Rattle.wb_syntax.specs.declared.pattern.Role.TheVariants as r
-use Rattle.wb_syntax.specs.declared.written.WrittenItem.{WrittenItem}
-use Rattle.wb_syntax.specs.declared.written.WrittenItem.TheVariants.{Pattern, Plain}
+use Rattle.wb_syntax.specs.declared.pattern.WrittenPattern.{WrittenPattern}
 use Rattle.wb_syntax.specs.Tokens.{Lexeme}
 use Rattle.wb_syntax.specs.ItemGrammar as item
-use Rattle.wb_syntax.specs.ItemGrammar.{IsProduction, IsItem, IsRole}
-use Rattle.wb_syntax.specs.SpecText.{IsReadAs, pattern_item}
-use Rattle.wb_syntax.specs.Offsets.{unplaced, unplaced_production}
+use Rattle.wb_syntax.specs.ItemGrammar.{IsProduction, IsProductionRole, IsPlain, IsItem, IsRole}
+use Rattle.wb_syntax.specs.SpecText.{IsReadForm, IsReadAs}
+use Rattle.wb_syntax.specs.Offsets.{unplaced, unplaced_form, unplaced_production}
 use Rattle.wb_printer.proofs.Alike.{Alike, done, step, headed, halves, closed, alike_as}
 use Rattle.wb_printer.proofs.AlikeParts.{kind_alike, needs_alike, optional_alike, children_alike, block_alike}
 
@@ -40,93 +41,111 @@ production_alike xs q (item.whole {n = n} {c = c} {l = l} {b = m} {u = u} {v = v
       same = ap (λ y. record { name = name; left = left; children = cs; equations = y }) block.same;
     }
 
--- the lexemes are an item, and once it is read it is this one but for places
-pub record HasItem (ys : List Lexeme) (one : Item) : Type 0 where
-  pub written : WrittenItem
-  pub other : Item
-  pub grammar : IsItem ys written
-  pub read : IsReadAs written other
-  pub same : unplaced other ≡ unplaced one
-
--- an item without a regular expression
-plain : (ys : List Lexeme) (other one : Item) → IsItem ys (Plain other) → unplaced other ≡ unplaced one → HasItem ys one
-plain ys other one h e = record { written = Plain other; other = other; grammar = h; read = refl; same = e }
-
--- the same tokens are the same such item but for places
-plain_alike : (xs : List Lexeme) (one : Item) → IsItem xs (Plain one) → (ys : List Lexeme) → Alike xs ys → HasItem ys one
+-- the same tokens are the same item of names alone
+plain_alike : (xs : List Lexeme) (one : PlainForm) → IsPlain xs one → (ys : List Lexeme) → Alike xs ys → IsPlain ys one
 plain_alike xs one (item.prefer {first = f} {second = g} h j k l m) ys (step {y = x} q (step r (step s (step u (step v done))))) =
-    plain ys (i.Prefer x.at f g) one (item.prefer (q ∙ h) (r ∙ j) (s ∙ k) (u ∙ l) (v ∙ m)) refl
-plain_alike xs one (item.nonterminal {name = name} h j k) ys (step {y = x} q (step r (step s done))) = plain ys (i.Nonterminal x.at name) one (item.nonterminal (q ∙ h) (r ∙ j) (s ∙ k)) refl
-plain_alike xs one (item.start {name = name} h j k) ys (step {y = x} q (step r (step s done))) = plain ys (i.Start x.at name) one (item.start (q ∙ h) (r ∙ j) (s ∙ k)) refl
-plain_alike xs one (item.extensible {name = name} h j k) ys (step {y = x} q (step r (step s done))) = plain ys (i.Extensible x.at name) one (item.extensible (q ∙ h) (r ∙ j) (s ∙ k)) refl
+    item.prefer (q ∙ h) (r ∙ j) (s ∙ k) (u ∙ l) (v ∙ m)
+plain_alike xs one (item.nonterminal {name = name} h j k) ys (step {y = x} q (step r (step s done))) = item.nonterminal (q ∙ h) (r ∙ j) (s ∙ k)
+plain_alike xs one (item.start {name = name} h j k) ys (step {y = x} q (step r (step s done))) = item.start (q ∙ h) (r ∙ j) (s ∙ k)
+plain_alike xs one (item.extensible {name = name} h j k) ys (step {y = x} q (step r (step s done))) = item.extensible (q ∙ h) (r ∙ j) (s ∙ k)
 plain_alike xs one (item.synthesized {x = x} {n = n} {c = c} s {u = u} {name = name} {kind = kind} h j k l m g) ys a =
     let b = headed x (n ∷ c ∷ (u ++ s ∷ [])) ys (alike_as xs _ ys g a) in
     let d = headed n (c ∷ (u ++ s ∷ [])) b.tail b.others in
     let e = headed c (u ++ s ∷ []) d.tail d.others in
     let f = closed u s e.tail e.others in
-    plain ys (i.Synthesized b.head.at name kind) one (item.synthesized f.last (b.same ∙ h) (d.same ∙ j) (e.same ∙ k) (kind_alike u kind l f.inner f.first) (f.same ∙ m)
-    (b.whole ∙ ap (λ y. b.head ∷ y) (d.whole ∙ ap (λ y. d.head ∷ y) (e.whole ∙ ap (λ y. e.head ∷ y) f.whole)))) refl
+    item.synthesized f.last (b.same ∙ h) (d.same ∙ j) (e.same ∙ k) (kind_alike u kind l f.inner f.first) (f.same ∙ m)
+    (b.whole ∙ ap (λ y. b.head ∷ y) (d.whole ∙ ap (λ y. d.head ∷ y) (e.whole ∙ ap (λ y. e.head ∷ y) f.whole)))
 plain_alike xs one (item.inherited {x = x} {n = n} {c = c} s {u = u} {name = name} {kind = kind} h j k l m g) ys a =
     let b = headed x (n ∷ c ∷ (u ++ s ∷ [])) ys (alike_as xs _ ys g a) in
     let d = headed n (c ∷ (u ++ s ∷ [])) b.tail b.others in
     let e = headed c (u ++ s ∷ []) d.tail d.others in
     let f = closed u s e.tail e.others in
-    plain ys (i.Inherited b.head.at name kind) one (item.inherited f.last (b.same ∙ h) (d.same ∙ j) (e.same ∙ k) (kind_alike u kind l f.inner f.first) (f.same ∙ m)
-    (b.whole ∙ ap (λ y. b.head ∷ y) (d.whole ∙ ap (λ y. d.head ∷ y) (e.whole ∙ ap (λ y. e.head ∷ y) f.whole)))) refl
+    item.inherited f.last (b.same ∙ h) (d.same ∙ j) (e.same ∙ k) (kind_alike u kind l f.inner f.first) (f.same ∙ m)
+    (b.whole ∙ ap (λ y. b.head ∷ y) (d.whole ∙ ap (λ y. d.head ∷ y) (e.whole ∙ ap (λ y. e.head ∷ y) f.whole)))
 plain_alike xs one (item.occurs {x = x} {a = m} {o = o} {n = n} s {u = u} {attribute = attribute} {nonterminal = nonterminal} {needs = needs} h j k l w q g) ys a =
     let b = headed x (m ∷ o ∷ n ∷ (u ++ s ∷ [])) ys (alike_as xs _ ys g a) in
     let d = headed m (o ∷ n ∷ (u ++ s ∷ [])) b.tail b.others in
     let e = headed o (n ∷ (u ++ s ∷ [])) d.tail d.others in
     let z = headed n (u ++ s ∷ []) e.tail e.others in
     let f = closed u s z.tail z.others in
-    plain ys (i.Occurs b.head.at attribute nonterminal needs) one
-    (item.occurs f.last (b.same ∙ h) (d.same ∙ j) (e.same ∙ k) (z.same ∙ l) (optional_alike u needs w f.inner f.first) (f.same ∙ q)
-    (b.whole ∙ ap (λ y. b.head ∷ y) (d.whole ∙ ap (λ y. d.head ∷ y) (e.whole ∙ ap (λ y. e.head ∷ y) (z.whole ∙ ap (λ y. z.head ∷ y) f.whole))))) refl
+    item.occurs f.last (b.same ∙ h) (d.same ∙ j) (e.same ∙ k) (z.same ∙ l) (optional_alike u needs w f.inner f.first) (f.same ∙ q)
+    (b.whole ∙ ap (λ y. b.head ∷ y) (d.whole ∙ ap (λ y. d.head ∷ y) (e.whole ∙ ap (λ y. e.head ∷ y) (z.whole ∙ ap (λ y. z.head ∷ y) f.whole))))
 plain_alike xs one (item.forward_on {x = x} {o = o} {n = n} s {u = u} {nonterminal = nonterminal} {needs = needs} h j k l m g) ys a =
     let b = headed x (o ∷ n ∷ (u ++ s ∷ [])) ys (alike_as xs _ ys g a) in
     let d = headed o (n ∷ (u ++ s ∷ [])) b.tail b.others in
     let e = headed n (u ++ s ∷ []) d.tail d.others in
     let f = closed u s e.tail e.others in
-    plain ys (i.ForwardOn b.head.at nonterminal needs) one
-    (item.forward_on f.last (b.same ∙ h) (d.same ∙ j) (e.same ∙ k) (needs_alike u needs l f.inner f.first) (f.same ∙ m)
-    (b.whole ∙ ap (λ y. b.head ∷ y) (d.whole ∙ ap (λ y. d.head ∷ y) (e.whole ∙ ap (λ y. e.head ∷ y) f.whole)))) refl
-plain_alike xs one (item.concrete {u = u} {production = production} h s) ys (step {y = x} {ys = zs} q a) =
-    let m = production_alike u production s zs a in
-    plain ys (i.Concrete x.at m.other) one (item.concrete (q ∙ h) m.is) (ap (λ y. i.Concrete 0 y) m.same)
-plain_alike xs one (item.abstracted {u = u} {production = production} h s) ys (step {y = x} {ys = zs} q a) =
-    let m = production_alike u production s zs a in
-    plain ys (i.Abstract x.at m.other) one (item.abstracted (q ∙ h) m.is) (ap (λ y. i.Abstract 0 y) m.same)
-plain_alike xs one (item.aspect {u = u} {name = name} {equations = es} h j s) ys (step {y = x} q (step {ys = zs} k a)) =
-    let m = block_alike u es s zs a in
-    plain ys (i.Aspect x.at name m.others) one (item.aspect (q ∙ h) (k ∙ j) m.is) (ap (λ y. i.Aspect 0 name y) m.same)
+    item.forward_on f.last (b.same ∙ h) (d.same ∙ j) (e.same ∙ k) (needs_alike u needs l f.inner f.first) (f.same ∙ m)
+    (b.whole ∙ ap (λ y. b.head ∷ y) (d.whole ∙ ap (λ y. d.head ∷ y) (e.whole ∙ ap (λ y. e.head ∷ y) f.whole)))
 
--- the word with which an item with a regular expression begins
+-- the words of roles
 role_alike : (role : Role) (x y : Lexeme) → y.token ≡ x.token → IsRole role x → IsRole role y
 role_alike r.Terminal x y e h = e ∙ h
 role_alike r.Ignore x y e h = e ∙ h
 role_alike r.Marking x y e h = e ∙ h
 
--- an item with a regular expression at two places
-pattern_unplaced : (role : Role) (a b : ℕ) (name bytes : List ℕ) (tree : Tree) → unplaced (pattern_item role a name bytes tree) ≡ unplaced (pattern_item role b name bytes tree)
-pattern_unplaced r.Terminal a b name bytes tree = refl
-pattern_unplaced r.Ignore a b name bytes tree = refl
-pattern_unplaced r.Marking a b name bytes tree = refl
+production_role_alike : (role : ProductionRole) (x y : Lexeme) → y.token ≡ x.token → IsProductionRole role x → IsProductionRole role y
+production_role_alike kinds.Concrete x y e h = e ∙ h
+production_role_alike kinds.Abstract x y e h = e ∙ h
 
--- an item with a regular expression
-pattern_alike : (x n y s : Lexeme) (role : Role) (name bytes : List ℕ) (one : Item) → IsRole role x → n.token ≡ t.Name name → y.token ≡ t.Regex bytes → s.token ≡ t.Punctuation p.Semicolon
-    → IsReadAs (Pattern x.at role name bytes y.at) one → (ys : List Lexeme) → Alike (x ∷ n ∷ y ∷ s ∷ []) ys → HasItem ys one
-pattern_alike x n y s role name bytes one h j k l read ys (step {y = a} q (step v (step {y = c} u (step o done)))) = record {
-  written = Pattern a.at role name bytes c.at;
-  other = pattern_item role a.at name bytes read.0;
-  grammar = item.pattern (role_alike role x a q h) (v ∙ j) (u ∙ k) (o ∙ l);
+-- the lexemes are an item, and once it is read it is of this form but for places
+record HasForm (ys : List Lexeme) (form : ItemForm Pattern) : Type 0 where
+  written : Item WrittenPattern
+  other : ItemForm Pattern
+  grammar : IsItem ys written
+  read : IsReadForm written.form other
+  same : unplaced_form other ≡ unplaced_form form
+
+form_alike : (xs : List Lexeme) (written : Item WrittenPattern) (form : ItemForm Pattern) → IsItem xs written → IsReadForm written.form form
+    → (ys : List Lexeme) → Alike xs ys → HasForm ys form
+form_alike xs written form (item.lexical {x = x} {role = role} {name = name} {bytes = bytes} h j k l) read ys (step {y = a} q (step v (step {y = c} u (step o done)))) = record {
+  written = record { offset = a.at; form = forms.Lexical role name (record { bytes = bytes; at = c.at }) };
+  other = forms.Lexical role name (record { bytes = bytes; regex = read.0 });
+  grammar = item.lexical (role_alike role x a q h) (v ∙ j) (u ∙ k) (o ∙ l);
   read = (read.0, read.1, refl);
-  same = pattern_unplaced role a.at x.at name bytes read.0 ∙ ap unplaced (sym read.2);
+  same = ap unplaced_form (sym read.2);
 }
+form_alike xs written form (item.plain {x = x} {u = u} {form = one} h) read ys a =
+    let b = headed x u ys a in record {
+      written = record { offset = b.head.at; form = forms.Plain one };
+      other = forms.Plain one;
+      grammar = subst (λ z. IsItem z (record { offset = b.head.at; form = forms.Plain one })) (sym b.whole)
+          (item.plain (subst (λ z. IsPlain z one) b.whole (plain_alike (x ∷ u) one h ys a)));
+      read = refl;
+      same = ap unplaced_form (sym read);
+    }
+form_alike xs written form (item.production {x = w} {u = u} {role = role} {production = production} h s) read ys (step {y = x} {ys = zs} q a) =
+    let m = production_alike u production s zs a in record {
+      written = record { offset = x.at; form = forms.Production role m.other };
+      other = forms.Production role m.other;
+      grammar = item.production (production_role_alike role w x q h) m.is;
+      read = refl;
+      same = ap (λ y. forms.Production role y) m.same ∙ ap unplaced_form (sym read);
+    }
+form_alike xs written form (item.aspect {u = u} {name = name} {equations = es} h j s) read ys (step {y = x} q (step {ys = zs} k a)) =
+    let m = block_alike u es s zs a in record {
+      written = record { offset = x.at; form = forms.Aspect name m.others };
+      other = forms.Aspect name m.others;
+      grammar = item.aspect (q ∙ h) (k ∙ j) m.is;
+      read = refl;
+      same = ap (λ y. forms.Aspect name y) m.same ∙ ap unplaced_form (sym read);
+    }
+
+-- the lexemes are an item, and once it is read it is this one but for places
+pub record HasItem (ys : List Lexeme) (one : Item Pattern) : Type 0 where
+  pub written : Item WrittenPattern
+  pub other : Item Pattern
+  pub grammar : IsItem ys written
+  pub read : IsReadAs written other
+  pub same : unplaced other ≡ unplaced one
 
 -- the same tokens are the same item but for places
-pub item_alike : (xs : List Lexeme) (written : WrittenItem) (one : Item) → IsItem xs written → IsReadAs written one → (ys : List Lexeme) → Alike xs ys → HasItem ys one
-item_alike xs (Plain other) one h e ys a =
-    let m = plain_alike xs other h ys a in
-    record { written = m.written; other = m.other; grammar = m.grammar; read = m.read; same = m.same ∙ ap unplaced (sym e) }
-item_alike xs written one (item.pattern {x = x} {n = n} {y = y} {s = s} {role = role} {name = name} {bytes = bytes} h j k l) read ys a =
-    pattern_alike x n y s role name bytes one h j k l read ys a
+pub item_alike : (xs : List Lexeme) (written : Item WrittenPattern) (one : Item Pattern) → IsItem xs written → IsReadAs written one → (ys : List Lexeme) → Alike xs ys → HasItem ys one
+item_alike xs written one h read ys a =
+    let m = form_alike xs written one.form h read.form ys a in record {
+      written = m.written;
+      other = record { offset = m.written.offset; form = m.other };
+      grammar = m.grammar;
+      read = record { offset = refl; form = m.read };
+      same = ap (λ form. record { offset = 0; form = form }) m.same;
+    }

@@ -5,12 +5,13 @@ use Rattle.std.specs.List.{AllZip}
 use Rattle.std.proofs.lemmas.List.{append_assoc, append-nil}
 use Rattle.wb_tokens.specs.declared.token.Token.{Token}
 use Rattle.wb_syntax.specs.declared.item.Item.{Item}
-use Rattle.wb_syntax.specs.declared.written.WrittenItem.{WrittenItem}
+use Rattle.wb_syntax.specs.declared.pattern.Pattern.{Pattern}
+use Rattle.wb_syntax.specs.declared.pattern.WrittenPattern.{WrittenPattern}
 use Rattle.wb_syntax.specs.declared.written.WrittenSpec.{WrittenSpec}
 use Rattle.wb_syntax.specs.Tokens.{Lexeme}
 use Rattle.wb_syntax.specs.ItemGrammar as item
 use Rattle.wb_syntax.specs.ItemGrammar.{AreItems, IsSpecification}
-use Rattle.wb_syntax.specs.SpecText.{SpecState, IsReadAs, HasText}
+use Rattle.wb_syntax.specs.SpecText.{SpecView, IsReadAs, HasText}
 use Rattle.wb_syntax.specs.Canonical as canonical
 use Rattle.wb_syntax.specs.Canonical.{printed, follows_closely, leads_closely, line_of, AreItemLines}
 use Rattle.wb_printer.specs.Output.{Output, put, after, ended, after_lines}
@@ -64,12 +65,12 @@ after_all o (ts ∷ lines) e =
     after_all (ended (after o ts)) lines (ended_closely (after o ts)) ∙ (ap (λ y. y ++ text_of lines) (ended_line o ts e) ∙ (append_assoc (o.text ++ line_of ts) (10 ∷ []) (text_of lines) ∙ append_assoc o.text (line_of ts) (10 ∷ text_of lines)))
 
 -- items of the grammar, once they are read, have lines
-pub record HaveLines (items : List Item) : Type 0 where
+pub record HaveLines (items : List (Item Pattern)) : Type 0 where
   pub lines : List (List Token)
   pub are : AreLinesOf items lines
   pub text : AreItemLines items (text_of lines)
 
-lines_of : (v : List Lexeme) (written : List WrittenItem) (items : List Item) → AreItems v written → AllZip IsReadAs written items → HaveLines items
+lines_of : (v : List Lexeme) (written : List (Item WrittenPattern)) (items : List (Item Pattern)) → AreItems v written → AllZip IsReadAs written items → HaveLines items
 lines_of v written [] item.nothing z = record { lines = []; are = tokens_of.nothing; text = canonical.nothing }
 lines_of v written (x ∷ xs) item.nothing z = absurd z
 lines_of v written [] (item.next h r e) z = absurd z
@@ -77,9 +78,9 @@ lines_of v written (x ∷ xs) (item.next {u = u} {v = w} {item = one} {rest = re
     let i = lines_of w rest xs r z.1 in
     record { lines = tokens u ∷ i.lines; are = tokens_of.next (of_item u one x h z.0) i.are; text = canonical.next (record { lexemes = u; written = one; other = x; grammar = h; read = z.0; same = refl; line = refl }) i.text refl }
 
-of_spec : (w : List Lexeme) (written : WrittenSpec) (items : List Item) → IsSpecification w written → AllZip IsReadAs written.items items → HaveLines items
-of_spec w written items (item.whole {v = v} {items = ws} h j k l r e) z = lines_of v ws items r z
+of_spec : (w : List Lexeme) (written : WrittenSpec) (items : List (Item Pattern)) → IsSpecification w written → AllZip IsReadAs written.items items → HaveLines items
+of_spec w written items (item.whole {v = v} {items = ws} h known j k l r e) z = lines_of v ws items r z
 
 -- the items of a specification have lines
-pub text_lines : (spec : SpecState) → HasText spec → HaveLines spec.items
+pub text_lines : (spec : SpecView) → HasText spec → HaveLines spec.items
 text_lines spec (bytes, small, r) = of_spec r.text.tokens r.written spec.items r.text.specification r.read.items

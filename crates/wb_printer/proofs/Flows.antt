@@ -8,7 +8,7 @@ use Rattle.wb_predictive.specs.declared.table.Next.TheVariants.{End}
 use Rattle.wb_tokens.specs.declared.token.Layout.TheVariants.{WithComments}
 use Rattle.wb_tokens.specs.declared.token.Token.{Token}
 use Rattle.wb_tokens.specs.NextToken.{IsTokenAt}
-use Rattle.wb_tokens.specs.Placed.{IsNextIn}
+use Rattle.wb_tokens.specs.NextToken.{IsNextIn}
 use Rattle.wb_tokens.specs.Skipping.{is_blank, IsLayoutPiece, blank, comment, SkipsLayout, stop, skip}
 use Rattle.wb_tokens.specs.Spelling.{IsToken}
 use Rattle.wb_tokens.proofs.StandingLemmas.{Ends, stands}

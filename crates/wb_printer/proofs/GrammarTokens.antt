@@ -1,20 +1,25 @@
 -- The tokens of expressions, items and headers that stand in the grammar.
-use Rattle.std.proofs.Common.{◌≡◌, ℕ, Bool, List, [], ◌∷◌, ◌++◌, map, refl, sym, ap, ◌∙◌, subst, Option}
+use Rattle.std.proofs.Common.{◌≡◌, ℕ, List, [], ◌∷◌, ◌++◌, map, refl, sym, ap, ◌∙◌, subst, Option}
 use Rattle.std.proofs.lemmas.List.{map-append, append_assoc}
 use Rattle.wb_tokens.specs.declared.token.Token.{Token}
 use Rattle.wb_tokens.specs.declared.token.Token.TheVariants as t
 use Rattle.wb_tokens.specs.declared.punctuation.Punctuation.TheVariants as p
-use Rattle.wb_syntax.specs.declared.item.NamedKind.{NamedKind}
-use Rattle.wb_syntax.specs.declared.item.Child.{Child}
-use Rattle.wb_syntax.specs.declared.item.Production.{Production}
-use Rattle.wb_syntax.specs.declared.item.Item.{Item}
-use Rattle.wb_syntax.specs.declared.item.Item.TheVariants as i
 use Rattle.wb_syntax.specs.declared.expression.Equation.{Equation}
 use Rattle.wb_syntax.specs.declared.expression.Target.{Target}
+use Rattle.wb_syntax.specs.declared.header.Header.{Header}
+use Rattle.wb_syntax.specs.declared.item.Item.{Item}
+use Rattle.wb_syntax.specs.declared.item.ItemForm.{ItemForm}
+use Rattle.wb_syntax.specs.declared.item.ItemForm.TheVariants as f
+use Rattle.wb_syntax.specs.declared.item.PlainForm.{PlainForm}
+use Rattle.wb_syntax.specs.declared.pattern.Pattern.{Pattern}
 use Rattle.wb_syntax.specs.declared.pattern.Role.{Role}
 use Rattle.wb_syntax.specs.declared.pattern.Role.TheVariants as r
-use Rattle.wb_syntax.specs.declared.written.WrittenItem.{WrittenItem}
-use Rattle.wb_syntax.specs.declared.written.WrittenItem.TheVariants.{Pattern, Plain}
+use Rattle.wb_syntax.specs.declared.pattern.WrittenPattern.{WrittenPattern}
+use Rattle.wb_syntax.specs.declared.production.NamedKind.{NamedKind}
+use Rattle.wb_syntax.specs.declared.production.Child.{Child}
+use Rattle.wb_syntax.specs.declared.production.Production.{Production}
+use Rattle.wb_syntax.specs.declared.production.ProductionRole.{ProductionRole}
+use Rattle.wb_syntax.specs.declared.production.ProductionRole.TheVariants as kinds
 use Rattle.wb_syntax.specs.Tokens.{Lexeme}
 use Rattle.wb_syntax.specs.Expression.{Expression, Expressions}
 use Rattle.wb_syntax.specs.ExpressionGrammar as e
@@ -22,11 +27,13 @@ use Rattle.wb_syntax.specs.ExpressionGrammar.{IsExpression, AreArguments, AreFur
 use Rattle.wb_syntax.specs.PartGrammar as part
 use Rattle.wb_syntax.specs.PartGrammar.{IsKind, AreFurtherNames, AreNames, AreNeeds, AreOptionalNeeds, AreChildren, IsTarget, AreEquations, IsBlock}
 use Rattle.wb_syntax.specs.ItemGrammar as item
-use Rattle.wb_syntax.specs.ItemGrammar.{IsProduction, IsItem, IsHeader, IsRole}
-use Rattle.wb_syntax.specs.SpecText.{IsReadAs}
+use Rattle.wb_syntax.specs.ItemGrammar.{IsProduction, IsProductionRole, IsPlain, IsItem, IsHeader, IsRole}
+use Rattle.wb_syntax.specs.Equations.{equations_of}
+use Rattle.wb_syntax.proofs.CallerLemmas.{read_equations}
+use Rattle.wb_syntax.specs.SpecText.{IsReadForm, IsReadAs}
 use Rattle.wb_printer.specs.ExpressionTokens.{expression_tokens, arguments_tokens, further_tokens}
 use Rattle.wb_printer.specs.PartTokens as tokens_of
-use Rattle.wb_printer.specs.ItemTokens.{production_tokens, item_tokens, equations_of, AreItemTokens, header_tokens}
+use Rattle.wb_printer.specs.ItemTokens.{role_word, production_word, plain_tokens, production_tokens, form_tokens, AreItemTokens, header_tokens}
 use Rattle.wb_printer.specs.PartTokens.{kind_token, further_names, names_tokens, needs_tokens, optional_needs_tokens, children_tokens, target_tokens, AreEquationTokens, block_tokens}
 
 -- the tokens of lexemes
@@ -145,48 +152,79 @@ of_production xs q (item.whole {n = n} {c = c} {l = l} {b = b} {u = u} {v = v} {
     let whole : tokens xs ≡ n.token ∷ c.token ∷ l.token ∷ b.token ∷ (tokens u ++ tokens v) = ap tokens g ∙ ap (λ y. n.token ∷ c.token ∷ l.token ∷ b.token ∷ y) (tokens_append u v) in
     (d.0, d.1, cc)
 
--- an item without equations
-plain : (one : Item) (ts : List Token) → equations_of one ≡ [] → ts ≡ item_tokens one [] → AreItemTokens one ts
-plain one ts none_there whole = record { inner = []; equations = subst (λ l. AreEquationTokens l []) (sym none_there) tokens_of.nothing; whole = whole }
-
--- the tokens of an item with a regular expression
-of_pattern : (x n y s : Lexeme) (role : Role) (name bytes : List ℕ) (read : Item) → IsRole role x → n.token ≡ t.Name name → y.token ≡ t.Regex bytes → s.token ≡ t.Punctuation p.Semicolon → IsReadAs (Pattern x.at role name bytes y.at) read → AreItemTokens read (x.token ∷ n.token ∷ y.token ∷ s.token ∷ [])
-of_pattern x n y s r.Terminal name bytes read h j k l q = subst (λ one. AreItemTokens one (x.token ∷ n.token ∷ y.token ∷ s.token ∷ [])) (sym q.2) (plain (i.Terminal x.at name (record { bytes = bytes; regex = q.0 })) _ refl (cc))
-of_pattern x n y s r.Ignore name bytes read h j k l q = subst (λ one. AreItemTokens one (x.token ∷ n.token ∷ y.token ∷ s.token ∷ [])) (sym q.2) (plain (i.Ignore x.at name (record { bytes = bytes; regex = q.0 })) _ refl (cc))
-of_pattern x n y s r.Marking name bytes read h j k l q = subst (λ one. AreItemTokens one (x.token ∷ n.token ∷ y.token ∷ s.token ∷ [])) (sym q.2) (plain (i.Marking x.at name (record { bytes = bytes; regex = q.0 })) _ refl (cc))
-
--- the tokens of an item of the grammar
-grammar_item : (xs : List Lexeme) (one : Item) → IsItem xs (Plain one) → AreItemTokens one (tokens xs)
-grammar_item xs one (item.prefer h j k l m) = plain one _ refl (cc)
-grammar_item xs one (item.nonterminal h j k) = plain one _ refl (cc)
-grammar_item xs one (item.start h j k) = plain one _ refl (cc)
-grammar_item xs one (item.extensible h j k) = plain one _ refl (cc)
-grammar_item xs one (item.synthesized {x = x} {n = n} {c = c} s {u = u} {kind = kind} h j k l m g) =
+-- an item of names alone
+plain_item : (xs : List Lexeme) (one : PlainForm) → IsPlain xs one → tokens xs ≡ plain_tokens one
+plain_item xs one (item.prefer h j k l m) = cc
+plain_item xs one (item.nonterminal h j k) = cc
+plain_item xs one (item.start h j k) = cc
+plain_item xs one (item.extensible h j k) = cc
+plain_item xs one (item.synthesized {x = x} {n = n} {c = c} s {u = u} {kind = kind} h j k l m g) =
     let a = of_kind u kind l in
     let whole : tokens xs ≡ x.token ∷ n.token ∷ c.token ∷ (tokens u ++ s.token ∷ []) = ap tokens g ∙ ap (λ y. x.token ∷ n.token ∷ c.token ∷ y) (tokens_append u (s ∷ [])) in
-    plain one _ refl (cc)
-grammar_item xs one (item.inherited {x = x} {n = n} {c = c} s {u = u} {kind = kind} h j k l m g) =
+    cc
+plain_item xs one (item.inherited {x = x} {n = n} {c = c} s {u = u} {kind = kind} h j k l m g) =
     let a = of_kind u kind l in
     let whole : tokens xs ≡ x.token ∷ n.token ∷ c.token ∷ (tokens u ++ s.token ∷ []) = ap tokens g ∙ ap (λ y. x.token ∷ n.token ∷ c.token ∷ y) (tokens_append u (s ∷ [])) in
-    plain one _ refl (cc)
-grammar_item xs one (item.occurs {x = x} {a = a} {o = o} {n = n} s {u = u} {needs = needs} h j k l m q g) =
+    cc
+plain_item xs one (item.occurs {x = x} {a = a} {o = o} {n = n} s {u = u} {needs = needs} h j k l m q g) =
     let b = of_optional u needs m in
     let whole : tokens xs ≡ x.token ∷ a.token ∷ o.token ∷ n.token ∷ (tokens u ++ s.token ∷ []) = ap tokens g ∙ ap (λ y. x.token ∷ a.token ∷ o.token ∷ n.token ∷ y) (tokens_append u (s ∷ [])) in
-    plain one _ refl (cc)
-grammar_item xs one (item.forward_on {x = x} {o = o} {n = n} s {u = u} {needs = needs} h j k l m g) =
+    cc
+plain_item xs one (item.forward_on {x = x} {o = o} {n = n} s {u = u} {needs = needs} h j k l m g) =
     let b = of_needs u needs l in
     let whole : tokens xs ≡ x.token ∷ o.token ∷ n.token ∷ (tokens u ++ s.token ∷ []) = ap tokens g ∙ ap (λ y. x.token ∷ o.token ∷ n.token ∷ y) (tokens_append u (s ∷ [])) in
-    plain one _ refl (cc)
-grammar_item xs one (item.concrete {u = u} {production = q} h s) = let d = of_production u q s in let f = d.2 in record { inner = d.0; equations = d.1; whole = cc }
-grammar_item xs one (item.abstracted {u = u} {production = q} h s) = let d = of_production u q s in let f = d.2 in record { inner = d.0; equations = d.1; whole = cc }
-grammar_item xs one (item.aspect {u = u} {equations = es} h j s) = let d = of_block u es s in let f = d.2 in record { inner = d.0; equations = d.1; whole = cc }
+    cc
+
+-- the words of roles
+role_of : (role : Role) (x : Lexeme) → IsRole role x → x.token ≡ t.Word (role_word role)
+role_of r.Terminal x h = h
+role_of r.Ignore x h = h
+role_of r.Marking x h = h
+
+production_role_of : (role : ProductionRole) (x : Lexeme) → IsProductionRole role x → x.token ≡ t.Word (production_word role)
+production_role_of kinds.Concrete x h = h
+production_role_of kinds.Abstract x h = h
+
+-- the tokens of a form, once it is read: its equations' and its own
+record HaveTokens (written : ItemForm WrittenPattern) (ts : List Token) : Type 0 where
+  inner : List Token
+  equations : AreEquationTokens (equations_of written) inner
+  whole : (form : ItemForm Pattern) → IsReadForm written form → ts ≡ form_tokens form inner
+
+form_of : (xs : List Lexeme) (written : Item WrittenPattern) → IsItem xs written → HaveTokens written.form (tokens xs)
+form_of xs written (item.lexical {x = x} {n = n} {y = y} {s = s} {role = role} {name = name} {bytes = bytes} h j k l) = record {
+  inner = [];
+  equations = tokens_of.nothing;
+  whole = λ form e. let word = role_of role x h in let is = e.2 in let own : tokens xs ≡ form_tokens (f.Lexical role name (record { bytes = bytes; regex = e.0 })) [] = cc in own ∙ ap (λ z. form_tokens z []) (sym is);
+}
+form_of xs written (item.plain {form = one} h) = record {
+  inner = [];
+  equations = tokens_of.nothing;
+  whole = λ form e. plain_item xs one h ∙ ap (λ z. form_tokens z []) (sym e);
+}
+form_of xs written (item.production {x = x} {u = u} {role = role} {production = q} h s) =
+    let d = of_production u q s in
+    let word = production_role_of role x h in
+    let rest = d.2 in
+    let own : tokens xs ≡ form_tokens (f.Production role q) d.0 = cc in
+    record { inner = d.0; equations = d.1; whole = λ form e. own ∙ ap (λ z. form_tokens z d.0) (sym e) }
+form_of xs written (item.aspect {u = u} {name = name} {equations = es} h j s) =
+    let d = of_block u es s in
+    let rest = d.2 in
+    let own : tokens xs ≡ form_tokens (f.Aspect name es) d.0 = cc in
+    record { inner = d.0; equations = d.1; whole = λ form e. own ∙ ap (λ z. form_tokens z d.0) (sym e) }
 
 -- the lexemes of an item, once it is read, have its tokens
-pub of_item : (xs : List Lexeme) (written : WrittenItem) (one : Item) → IsItem xs written → IsReadAs written one → AreItemTokens one (tokens xs)
-of_item xs (Plain other) one s e = subst (λ x. AreItemTokens x (tokens xs)) (sym e) (grammar_item xs other s)
-of_item xs written one (item.pattern {x = x} {n = n} {y = y} {s = s} {role = role} {name = name} {bytes = bytes} h j k l) e = of_pattern x n y s role name bytes one h j k l e
+pub of_item : (xs : List Lexeme) (written : Item WrittenPattern) (one : Item Pattern) → IsItem xs written → IsReadAs written one → AreItemTokens one (tokens xs)
+of_item xs written one s e =
+    let r = form_of xs written s in
+    record {
+      inner = r.inner;
+      equations = subst (λ es. AreEquationTokens es r.inner) (sym (read_equations written.form one.form e.form)) r.equations;
+      whole = r.whole one.form e.form;
+    }
 
 -- the tokens of a header
-pub of_header : (xs : List Lexeme) (host : Bool) (name for_host : List ℕ) → IsHeader xs host name for_host → tokens xs ≡ header_tokens host name for_host
-of_header xs host name for_host (item.host h j k) = cc
-of_header xs host name for_host (item.extension h j k l m) = cc
+pub of_header : (xs : List Lexeme) (name : List ℕ) (header : Header) → IsHeader xs name header → tokens xs ≡ header_tokens name header
+of_header xs name header (item.host h j k) = cc
+of_header xs name header (item.extension h j k l m) = cc

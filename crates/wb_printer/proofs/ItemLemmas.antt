@@ -7,6 +7,7 @@ use Rattle.wb_tokens.specs.declared.token.Token.TheVariants as t
 use Rattle.wb_tokens.specs.declared.punctuation.Punctuation.TheVariants as p
 use Rattle.wb_syntax.specs.declared.expression.Equation.{Equation}
 use Rattle.wb_syntax.specs.declared.item.Item.{Item}
+use Rattle.wb_syntax.specs.declared.pattern.Pattern.{Pattern}
 use Rattle.wb_syntax.specs.Expression.{Expression}
 use Rattle.wb_expressions.specs.Expression.{nodes_of}
 use Rattle.wb_printer.specs.Output.{Output, put, after}
@@ -66,21 +67,21 @@ no_equation list i tokens h are = at (drop i list) tokens (none_from list i h) a
   at l tokens q (AreEquationTokens.next e nodes are whole) = cc
 
 -- the first item and the others
-first_item : (list : List Item) (x : Item) (others : List Item) (lines : List (List Token)) → list ≡ x ∷ others → AreLinesOf list lines
+first_item : (list : List (Item Pattern)) (x : Item Pattern) (others : List (Item Pattern)) (lines : List (List Token)) → list ≡ x ∷ others → AreLinesOf list lines
     → (tokens : List Token) × (rest : List (List Token)) × AreItemTokens x tokens × AreLinesOf others rest × (lines ≡ tokens ∷ rest)
 first_item list x others lines q AreLinesOf.nothing = cc
 first_item list x others lines q (AreLinesOf.next {item = y} {rest = ys} {tokens = tokens} {lines = rest} item are) =
     let here : y ≡ x = cc in
     let further : ys ≡ others = cc in
-    (tokens, rest, subst (λ (z : Item). AreItemTokens z tokens) here item, subst (λ (l : List Item). AreLinesOf l rest) further are, refl)
+    (tokens, rest, subst (λ (z : Item Pattern). AreItemTokens z tokens) here item, subst (λ (l : List (Item Pattern)). AreLinesOf l rest) further are, refl)
 
-pub item_at : (list : List Item) (i : ℕ) (x : Item) (lines : List (List Token)) → i < length list → x ≡ get_or list i x → AreLinesOf (drop i list) lines
+pub item_at : (list : List (Item Pattern)) (i : ℕ) (x : Item Pattern) (lines : List (List Token)) → i < length list → x ≡ get_or list i x → AreLinesOf (drop i list) lines
     → (tokens : List Token) × (rest : List (List Token)) × AreItemTokens x tokens × AreLinesOf (drop (i + 1) list) rest × (lines ≡ tokens ∷ rest)
 item_at list i x lines h q are = first_item (drop i list) x (drop (i + 1) list) lines (from_place list i x h q) are
 
 -- no item more
-pub no_item : (list : List Item) (i : ℕ) (lines : List (List Token)) → length list ≤ i → AreLinesOf (drop i list) lines → lines ≡ []
+pub no_item : (list : List (Item Pattern)) (i : ℕ) (lines : List (List Token)) → length list ≤ i → AreLinesOf (drop i list) lines → lines ≡ []
 no_item list i lines h are = at (drop i list) lines (none_from list i h) are where
-  at : (l : List Item) (lines : List (List Token)) → l ≡ [] → AreLinesOf l lines → lines ≡ []
+  at : (l : List (Item Pattern)) (lines : List (List Token)) → l ≡ [] → AreLinesOf l lines → lines ≡ []
   at l lines q AreLinesOf.nothing = refl
   at l lines q (AreLinesOf.next item are) = cc

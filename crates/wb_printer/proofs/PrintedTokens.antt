@@ -8,7 +8,7 @@ use Rattle.wb_tokens.specs.declared.token.Layout.TheVariants.{WithComments}
 use Rattle.wb_tokens.specs.declared.token.Token.{Token}
 use Rattle.wb_tokens.specs.declared.token.Token.TheVariants as t
 use Rattle.wb_tokens.specs.NextToken.{IsTokenAt}
-use Rattle.wb_tokens.specs.Placed.{IsNextIn}
+use Rattle.wb_tokens.specs.NextToken.{IsNextIn}
 use Rattle.wb_tokens.specs.Spelling.{IsToken, escaped_byte, hex_value, IsStringPart, IsStringBody, IsString}
 use Rattle.wb_base.specs.Identifiers.{IsIdentifier, IsReserved}
 use Rattle.wb_tokens.proofs.CallerLemmas.{printed_integer, printed_string}

@@ -13,47 +13,13 @@ use Rattle.wb_expressions.specs.Expression.{Int, Text, Truth, Label, Read, Lexem
 use Rattle.wb_printer.specs.Output.{Output, put, after}
 use Rattle.wb_printer.proofs.OutputLemmas.{after_both}
 use Rattle.wb_printer.specs.ExpressionTokens.{expression_tokens, arguments_tokens, further_tokens}
-use Rattle.wb_printer.specs.Walk.{HasNode, Stands, AllStand, Comes, Continues, left_tokens, separator, IsVisiting}
+use Rattle.wb_expressions.specs.Places.{HasNode, Stands, AllStand}
+use Rattle.wb_expressions.proofs.NodeLemmas.{IsOfNode, of_node}
+use Rattle.wb_printer.specs.Walk.{Comes, Continues, left_tokens, separator, IsVisiting}
 use Rattle.wb_printer.specs.declared.expressions.Waiting.{Waiting}
 use Rattle.wb_printer.specs.declared.expressions.Waiting.TheVariants.{Whole, Then, Else}
 
 module _ (nodes : List Node) where
-  -- an expression by the node of its whole
-  abbrev pub IsOfNode : Node → Expression → Type 0
-  IsOfNode (n.Int z) e = e ≡ Int z
-  IsOfNode (n.Text x) e = e ≡ Text x
-  IsOfNode (n.Bool b) e = e ≡ Truth b
-  IsOfNode (n.Label l) e = e ≡ Label l
-  IsOfNode (n.Read l a) e = e ≡ Read l a
-  IsOfNode (n.Lexeme l) e = e ≡ Lexeme l
-  IsOfNode (n.Top a) e = e ≡ Top a
-  IsOfNode (n.Forward a) e = e ≡ Forward a
-  IsOfNode (n.Build name places) e = (es : Expressions) × AllStand nodes places es × (e ≡ Build name es)
-  IsOfNode (n.Call name places) e = (es : Expressions) × AllStand nodes places es × (e ≡ Call name es)
-  IsOfNode (n.If c h f) e =
-      (x : Expression) × (y : Expression) × (z : Expression) × Stands nodes c x × Stands nodes h y × Stands nodes f z × (e ≡ If x y z)
-
-  -- one node stands at a place
-  one_node : (at : ℕ) (a b : Node) → HasNode nodes at a → HasNode nodes at b → a ≡ b
-  one_node at a b h k = sym (h.is a) ∙ k.is a
-
-  -- the node of the whole says what the expression is
-  pub of_node : (at : ℕ) (e : Expression) (node : Node) → Stands nodes at e → HasNode nodes at node → IsOfNode node e
-  of_node at e node (Stands.int {z = z} h) k = subst (λ (m : Node). IsOfNode m e) (one_node at (n.Int z) node h k) refl
-  of_node at e node (Stands.text {s = z} h) k = subst (λ (m : Node). IsOfNode m e) (one_node at (n.Text z) node h k) refl
-  of_node at e node (Stands.truth {b = z} h) k = subst (λ (m : Node). IsOfNode m e) (one_node at (n.Bool z) node h k) refl
-  of_node at e node (Stands.label {l = z} h) k = subst (λ (m : Node). IsOfNode m e) (one_node at (n.Label z) node h k) refl
-  of_node at e node (Stands.read {l = z} {a = a} h) k = subst (λ (m : Node). IsOfNode m e) (one_node at (n.Read z a) node h k) refl
-  of_node at e node (Stands.lexeme {l = z} h) k = subst (λ (m : Node). IsOfNode m e) (one_node at (n.Lexeme z) node h k) refl
-  of_node at e node (Stands.top {a = z} h) k = subst (λ (m : Node). IsOfNode m e) (one_node at (n.Top z) node h k) refl
-  of_node at e node (Stands.forward {a = z} h) k = subst (λ (m : Node). IsOfNode m e) (one_node at (n.Forward z) node h k) refl
-  of_node at e node (Stands.build {name = name} {places = places} {es = es} h all) k =
-      subst (λ (m : Node). IsOfNode m e) (one_node at (n.Build name places) node h k) (es, all, refl)
-  of_node at e node (Stands.call {name = name} {places = places} {es = es} h all) k =
-      subst (λ (m : Node). IsOfNode m e) (one_node at (n.Call name places) node h k) (es, all, refl)
-  of_node at e node (Stands.if_then {c = c} {h = g} {f = f} {condition = x} {holds = y} {fails = z} h i j l) k =
-      subst (λ (m : Node). IsOfNode m e) (one_node at (n.If c g f) node h k) (x, y, z, i, j, l, refl)
-
   -- what is to come first has come
   pub removed : (x : Waiting) (stack : List Waiting) (one other : Output) (front : List Token) (visited : ℕ)
       → ((a : List Token) (c : ℕ) → Comes nodes x a c → (a ≡ front) × (c ≡ visited)) → other ≡ after one front
@@ -115,8 +81,8 @@ module _ (nodes : List Node) where
 
   -- the whole at a place
   whole_of : (at : ℕ) (node : Node) (a : List Token) (c : ℕ) → HasNode nodes at node → Comes nodes (Whole at) a c
-      → (e : Expression) × IsOfNode node e × (a ≡ expression_tokens e) × (c ≡ size e)
-  whole_of at node a c k h = (h.0, of_node at h.0 node h.1 k, h.2, h.3)
+      → (e : Expression) × IsOfNode nodes node e × (a ≡ expression_tokens e) × (c ≡ size e)
+  whole_of at node a c k h = (h.0, of_node nodes at h.0 node h.1 k, h.2, h.3)
 
   -- a production's name and the opening parenthesis have come, and the children are to come
   pub build_begun : (at : ℕ) (name : List ℕ) (places : List ℕ) (w : Waiting) (stack : List Waiting) (one other : Output)
@@ -251,11 +217,11 @@ module _ (nodes : List Node) where
       (λ a c k. (expression_tokens k.0, size k.0, (k.0, k.1, refl, refl), k.2, omega (arith, k.3))) puts
 
   -- a leaf by its node
-  pub leaf_of : (at : ℕ) (stack : List Waiting) (one other : Output) (node : Node) (e : Expression) → ((f : Expression) → IsOfNode node f → f ≡ e) → size e ≡ 1
+  pub leaf_of : (at : ℕ) (stack : List Waiting) (one other : Output) (node : Node) (e : Expression) → ((f : Expression) → IsOfNode nodes node f → f ≡ e) → size e ≡ 1
       → other ≡ after one (expression_tokens e) → (here : Node) → here ≡ node → HasNode nodes at here → Continues nodes one (Whole at ∷ stack) other stack 1
   leaf_of at stack one other node e only small puts here is h =
       let k : HasNode nodes at node = subst (λ (m : Node). HasNode nodes at m) is h in
-      leaf at stack one other e (λ f s. only f (of_node at f node s k)) small puts
+      leaf at stack one other e (λ f s. only f (of_node nodes at f node s k)) small puts
 
   -- the same with a stack that is equal
   pub moved_stack : (a b b' : List Waiting) (one other : Output) (k : ℕ) → b' ≡ b → Continues nodes one a other b k → Continues nodes one a other b' k
@@ -328,10 +294,6 @@ module _ (nodes : List Node) where
       let i = f h.0 h.1 h.2 in
       let j = g i.0 i.1 i.2 in
       ap (after four) (sym j.2.0) ∙ (j.4 ∙ (i.4 ∙ h.4))
-
--- a node that was read
-pub has_node : (nodes : List Node) (at : ℕ) (node : Node) → at < length nodes → node ≡ get_or nodes at node → HasNode nodes at node
-has_node nodes at node h q = record { within = h; is = λ default. get_or_default nodes at default node h ∙ sym q }
 
 -- the first of some numbers and the others
 pub split_first : (l : List ℕ) → 0 < length l → l ≡ get_or l 0 0 ∷ take (length l - 1) (drop 1 l)

@@ -1,15 +1,25 @@
 -- The tokens of items.
-use Rattle.std.specs.Prelude.{◌≡◌, ℕ, Bool, true, false, List, [], ◌∷◌, ◌++◌}
+use Rattle.std.specs.Prelude.{◌≡◌, ℕ, List, [], ◌∷◌, ◌++◌}
 use Rattle.wb_tokens.specs.declared.token.Token.{Token}
 use Rattle.wb_tokens.specs.declared.token.Token.TheVariants as t
 use Rattle.wb_tokens.specs.declared.word.Word.{Word}
 use Rattle.wb_tokens.specs.declared.word.Word.TheVariants as w
 use Rattle.wb_tokens.specs.declared.punctuation.Punctuation.TheVariants as p
-use Rattle.wb_syntax.specs.declared.expression.Equation.{Equation}
-use Rattle.wb_syntax.specs.declared.item.NamedKind.{NamedKind}
-use Rattle.wb_syntax.specs.declared.item.Production.{Production}
+use Rattle.wb_syntax.specs.declared.header.Header.{Header}
+use Rattle.wb_syntax.specs.declared.header.Header.TheVariants as h
 use Rattle.wb_syntax.specs.declared.item.Item.{Item}
-use Rattle.wb_syntax.specs.declared.item.Item.TheVariants as i
+use Rattle.wb_syntax.specs.declared.item.ItemForm.{ItemForm}
+use Rattle.wb_syntax.specs.declared.item.ItemForm.TheVariants as f
+use Rattle.wb_syntax.specs.declared.item.PlainForm.{PlainForm}
+use Rattle.wb_syntax.specs.declared.item.PlainForm.TheVariants as i
+use Rattle.wb_syntax.specs.declared.pattern.Pattern.{Pattern}
+use Rattle.wb_syntax.specs.declared.pattern.Role.{Role}
+use Rattle.wb_syntax.specs.declared.pattern.Role.TheVariants as r
+use Rattle.wb_syntax.specs.declared.production.NamedKind.{NamedKind}
+use Rattle.wb_syntax.specs.declared.production.Production.{Production}
+use Rattle.wb_syntax.specs.declared.production.ProductionRole.{ProductionRole}
+use Rattle.wb_syntax.specs.declared.production.ProductionRole.TheVariants as k
+use Rattle.wb_syntax.specs.Equations.{equations_of}
 use Rattle.wb_printer.specs.PartTokens.{AreEquationTokens, block_tokens, children_tokens, kind_token, needs_tokens, optional_needs_tokens}
 
 -- a production, whose equations have these tokens
@@ -33,54 +43,50 @@ pair_tokens word name second_word second = t.Word word ∷ t.Name name ∷ named
 abbrev pub attribute_tokens : Word → List ℕ → NamedKind → List Token
 attribute_tokens word name kind = t.Word word ∷ t.Name name ∷ t.Punctuation p.Colon ∷ kind_token kind ∷ t.Punctuation p.Semicolon ∷ []
 
--- an item about terminals, layout, markers and nonterminals alone; nothing of another
-abbrev pub symbol_tokens : Item → List Token
-symbol_tokens (i.Terminal offset name pattern) = pattern_tokens w.Terminal name pattern.bytes
-symbol_tokens (i.Ignore offset name pattern) = pattern_tokens w.Ignore name pattern.bytes
-symbol_tokens (i.Marking offset name pattern) = pattern_tokens w.Marking name pattern.bytes
-symbol_tokens (i.Prefer offset first second) = pair_tokens w.Prefer first w.Over second
-symbol_tokens (i.Nonterminal offset name) = named w.Nonterminal name
-symbol_tokens (i.Start offset name) = named w.Start name
-symbol_tokens (i.Extensible offset name) = named w.Extensible name
-symbol_tokens item = []
+-- the word of a role
+abbrev pub role_word : Role → Word
+role_word r.Terminal = w.Terminal
+role_word r.Ignore = w.Ignore
+role_word r.Marking = w.Marking
 
--- an item without equations; nothing of another
-abbrev pub plain_tokens : Item → List Token
-plain_tokens (i.Synthesized offset name kind) = attribute_tokens w.Syn name kind
-plain_tokens (i.Inherited offset name kind) = attribute_tokens w.Inh name kind
-plain_tokens (i.Occurs offset attribute nonterminal needs) =
+-- the word of a production's role
+abbrev pub production_word : ProductionRole → Word
+production_word k.Concrete = w.Concrete
+production_word k.Abstract = w.Abstract
+
+-- an item of names alone
+abbrev pub plain_tokens : PlainForm → List Token
+plain_tokens (i.Prefer first second) = pair_tokens w.Prefer first w.Over second
+plain_tokens (i.Nonterminal name) = named w.Nonterminal name
+plain_tokens (i.Start name) = named w.Start name
+plain_tokens (i.Extensible name) = named w.Extensible name
+plain_tokens (i.Synthesized name kind) = attribute_tokens w.Syn name kind
+plain_tokens (i.Inherited name kind) = attribute_tokens w.Inh name kind
+plain_tokens (i.Occurs attribute nonterminal needs) =
     t.Word w.Occurs ∷ t.Name attribute ∷ t.Word w.On ∷ t.Name nonterminal ∷ (optional_needs_tokens needs ++ t.Punctuation p.Semicolon ∷ [])
-plain_tokens (i.ForwardOn offset nonterminal needs) =
+plain_tokens (i.ForwardOn nonterminal needs) =
     t.Word w.Forward ∷ t.Word w.On ∷ t.Name nonterminal ∷ (needs_tokens needs ++ t.Punctuation p.Semicolon ∷ [])
-plain_tokens item = symbol_tokens item
 
--- an item, whose equations have these tokens
-abbrev pub item_tokens : Item → List Token → List Token
-item_tokens (i.Concrete offset production) equations = t.Word w.Concrete ∷ production_tokens production equations
-item_tokens (i.Abstract offset production) equations = t.Word w.Abstract ∷ production_tokens production equations
-item_tokens (i.Aspect offset name list) equations = t.Word w.Aspect ∷ t.Name name ∷ block_tokens equations
-item_tokens item equations = plain_tokens item
-
--- the equations of an item
-abbrev pub equations_of : Item → List Equation
-equations_of (i.Concrete offset production) = production.equations
-equations_of (i.Abstract offset production) = production.equations
-equations_of (i.Aspect offset name list) = list
-equations_of item = []
+-- an item of this form, whose equations have these tokens
+abbrev pub form_tokens : ItemForm Pattern → List Token → List Token
+form_tokens (f.Lexical role name pattern) equations = pattern_tokens (role_word role) name pattern.bytes
+form_tokens (f.Plain plain) equations = plain_tokens plain
+form_tokens (f.Production role production) equations = t.Word (production_word role) ∷ production_tokens production equations
+form_tokens (f.Aspect name list) equations = t.Word w.Aspect ∷ t.Name name ∷ block_tokens equations
 
 -- the tokens are the item
-pub record AreItemTokens (item : Item) (tokens : List Token) : Type 0 where
+pub record AreItemTokens (item : Item Pattern) (tokens : List Token) : Type 0 where
   pub inner : List Token
-  pub equations : AreEquationTokens (equations_of item) inner
-  pub whole : tokens ≡ item_tokens item inner
+  pub equations : AreEquationTokens (equations_of item.form) inner
+  pub whole : tokens ≡ form_tokens item.form inner
 
 -- each line has the tokens of its item
-pub data AreLinesOf : List Item → List (List Token) → Type 0 where
+pub data AreLinesOf : List (Item Pattern) → List (List Token) → Type 0 where
   nothing : AreLinesOf [] []
-  next : {item : Item} {rest : List Item} {tokens : List Token} {lines : List (List Token)} → AreItemTokens item tokens → AreLinesOf rest lines
+  next : {item : Item Pattern} {rest : List (Item Pattern)} {tokens : List Token} {lines : List (List Token)} → AreItemTokens item tokens → AreLinesOf rest lines
       → AreLinesOf (item ∷ rest) (tokens ∷ lines)
 
--- the tokens of the header
-abbrev pub header_tokens : Bool → List ℕ → List ℕ → List Token
-header_tokens true name for_host = named w.Host name
-header_tokens false name for_host = pair_tokens w.Extension name w.For for_host
+-- the tokens of the header, where the specification has this name
+abbrev pub header_tokens : List ℕ → Header → List Token
+header_tokens name h.Host = named w.Host name
+header_tokens name (h.Extension host) = pair_tokens w.Extension name w.For host

@@ -7,9 +7,9 @@ use Rattle.wb_tokens.specs.declared.punctuation.Punctuation.TheVariants as p
 use Rattle.wb_syntax.specs.declared.expression.Equation.{Equation}
 use Rattle.wb_syntax.specs.declared.expression.Target.{Target}
 use Rattle.wb_syntax.specs.declared.expression.Target.TheVariants as g
-use Rattle.wb_syntax.specs.declared.item.NamedKind.{NamedKind}
-use Rattle.wb_syntax.specs.declared.item.NamedKind.TheVariants as k
-use Rattle.wb_syntax.specs.declared.item.Child.{Child}
+use Rattle.wb_syntax.specs.declared.production.NamedKind.{NamedKind}
+use Rattle.wb_syntax.specs.declared.production.NamedKind.TheVariants as k
+use Rattle.wb_syntax.specs.declared.production.Child.{Child}
 use Rattle.wb_syntax.specs.Expression.{Expression}
 use Rattle.wb_expressions.specs.Expression.{nodes_of}
 use Rattle.wb_printer.specs.ExpressionTokens.{expression_tokens}

@@ -8,38 +8,11 @@ use Rattle.wb_syntax.specs.Expression.{Node}
 use Rattle.wb_expressions.specs.declared.node.Node.TheVariants as n
 use Rattle.wb_syntax.specs.Expression.{Expression, Expressions}
 use Rattle.wb_expressions.specs.Expression.{Int, Text, Truth, Label, Read, Lexeme, Top, Forward, Build, Call, If, none, more, size, size_of_all}
+use Rattle.wb_expressions.specs.Places.{HasNode, Stands, AllStand}
 use Rattle.wb_printer.specs.ExpressionTokens.{expression_tokens, arguments_tokens, further_tokens}
 use Rattle.wb_printer.specs.declared.expressions.Waiting.{Waiting}
 use Rattle.wb_printer.specs.declared.expressions.Waiting.TheVariants.{Whole, Arguments, Then, Else}
 use Rattle.wb_printer.specs.Output.{Output, after}
-
--- the node stands at this place
-pub record HasNode (nodes : List Node) (at : ℕ) (node : Node) : Type 0 where
-  pub within : at < length nodes
-  pub is : (default : Node) → slice_index_or nodes at default ≡ node
-
-mutual
-  -- the expression stands in the nodes, and its whole at this place
-  pub data Stands (nodes : List Node) : ℕ → Expression → Type 0 where
-    int : {at : ℕ} {z : ℤ} → HasNode nodes at (n.Int z) → Stands nodes at (Int z)
-    text : {at : ℕ} {s : List ℕ} → HasNode nodes at (n.Text s) → Stands nodes at (Text s)
-    truth : {at : ℕ} {b : Bool} → HasNode nodes at (n.Bool b) → Stands nodes at (Truth b)
-    label : {at : ℕ} {l : List ℕ} → HasNode nodes at (n.Label l) → Stands nodes at (Label l)
-    read : {at : ℕ} {l a : List ℕ} → HasNode nodes at (n.Read l a) → Stands nodes at (Read l a)
-    lexeme : {at : ℕ} {l : List ℕ} → HasNode nodes at (n.Lexeme l) → Stands nodes at (Lexeme l)
-    top : {at : ℕ} {a : List ℕ} → HasNode nodes at (n.Top a) → Stands nodes at (Top a)
-    forward : {at : ℕ} {a : List ℕ} → HasNode nodes at (n.Forward a) → Stands nodes at (Forward a)
-    build : {at : ℕ} {name : List ℕ} {places : List ℕ} {es : Expressions} → HasNode nodes at (n.Build name places) → AllStand nodes places es
-        → Stands nodes at (Build name es)
-    call : {at : ℕ} {name : List ℕ} {places : List ℕ} {es : Expressions} → HasNode nodes at (n.Call name places) → AllStand nodes places es
-        → Stands nodes at (Call name es)
-    if_then : {at c h f : ℕ} {condition holds fails : Expression} → HasNode nodes at (n.If c h f) → Stands nodes c condition → Stands nodes h holds
-        → Stands nodes f fails → Stands nodes at (If condition holds fails)
-
-  -- the expressions stand in the nodes, and their wholes at these places
-  pub data AllStand (nodes : List Node) : List ℕ → Expressions → Type 0 where
-    nothing : AllStand nodes [] none
-    next : {at : ℕ} {places : List ℕ} {e : Expression} {es : Expressions} → Stands nodes at e → AllStand nodes places es → AllStand nodes (at ∷ places) (more e es)
 
 -- what stands before an argument: nothing before the first one
 abbrev pub separator : Bool → List Token

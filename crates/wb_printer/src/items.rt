@@ -6,14 +6,16 @@ ghost use Rattle.wb_tokens.specs.declared.token.Token.TheVariants as t;
 ghost use Rattle.wb_tokens.specs.declared.punctuation.Punctuation.TheVariants as p;
 ghost use Rattle.wb_tokens.specs.declared.word.Word.TheVariants as w;
 ghost use Rattle.wb_printer.specs.Output.{after};
-ghost use Rattle.wb_printer.specs.ItemTokens.{named, pair_tokens, pattern_tokens, attribute_tokens, symbol_tokens, plain_tokens, production_tokens, AreItemTokens};
+ghost use Rattle.wb_printer.specs.ItemTokens.{named, pair_tokens, pattern_tokens, attribute_tokens, role_word, production_word, plain_tokens, production_tokens, AreItemTokens};
 ghost use Rattle.wb_printer.specs.PartTokens.{needs_tokens, optional_needs_tokens, block_tokens, AreEquationTokens};
 
 use crate::line::Line;
 use crate::parts::{write_block, write_children, write_kind, write_needs};
 use std::alloc::{AllocError, Global};
 use wb_base::{Bytes, Sequence};
-use wb_syntax::{Equation, Item, NamedKind, Production};
+use wb_syntax::{
+    Equation, Item, ItemForm, NamedKind, Pattern, PlainForm, Production, ProductionRole, Role,
+};
 use wb_tokens::{Punctuation, Word};
 
 /// Writes a word, a name and the end of an item.
@@ -142,24 +144,12 @@ fn write_aspect(
     write_block(alloc, line, equations)
 }
 
-// Writes an item about terminals, layout, markers and nonterminals alone, and nothing of another.
-fn write_symbols(line: &mut Line, item: &Item) -> Result<(), AllocError>
-    ensures { OnOk result (line.new ≡ after line.old (symbol_tokens item.now)) }
+// Writes an item of names alone.
+fn write_plain(line: &mut Line, form: &PlainForm) -> Result<(), AllocError>
+    ensures { OnOk result (line.new ≡ after line.old (plain_tokens form.now)) }
 {
-    match item {
-        Item::Terminal { name, pattern, .. } => {
-            let bytes = pattern.bytes.as_slice();
-            write_pattern(line, Word::Terminal, name.as_slice(), bytes)
-        }
-        Item::Ignore { name, pattern, .. } => {
-            let bytes = pattern.bytes.as_slice();
-            write_pattern(line, Word::Ignore, name.as_slice(), bytes)
-        }
-        Item::Marking { name, pattern, .. } => {
-            let bytes = pattern.bytes.as_slice();
-            write_pattern(line, Word::Marking, name.as_slice(), bytes)
-        }
-        Item::Prefer { first, second, .. } => {
+    match form {
+        PlainForm::Prefer { first, second } => {
             write_pair(
                 line,
                 Word::Prefer,
@@ -168,56 +158,71 @@ fn write_symbols(line: &mut Line, item: &Item) -> Result<(), AllocError>
                 second.as_slice(),
             )
         }
-        Item::Nonterminal { name, .. } => write_named(line, Word::Nonterminal, name.as_slice()),
-        Item::Start { name, .. } => write_named(line, Word::Start, name.as_slice()),
-        Item::Extensible { name, .. } => write_named(line, Word::Extensible, name.as_slice()),
-        _ => Ok(()),
-    }
-}
-
-// Writes an item without equations, and nothing of another.
-fn write_plain(line: &mut Line, item: &Item) -> Result<(), AllocError>
-    ensures { OnOk result (line.new ≡ after line.old (plain_tokens item.now)) }
-{
-    match item {
-        Item::Synthesized { name, kind, .. } => {
+        PlainForm::Nonterminal(name) => write_named(line, Word::Nonterminal, name.as_slice()),
+        PlainForm::Start(name) => write_named(line, Word::Start, name.as_slice()),
+        PlainForm::Extensible(name) => write_named(line, Word::Extensible, name.as_slice()),
+        PlainForm::Synthesized { name, kind } => {
             write_attribute(line, Word::Syn, name.as_slice(), kind)
         }
-        Item::Inherited { name, kind, .. } => {
+        PlainForm::Inherited { name, kind } => {
             write_attribute(line, Word::Inh, name.as_slice(), kind)
         }
-        Item::Occurs {
+        PlainForm::Occurs {
             attribute,
             nonterminal,
             needs,
-            ..
         } => write_occurrence(line, attribute.as_slice(), nonterminal.as_slice(), needs),
-        Item::ForwardOn {
-            nonterminal,
-            needs,
-            ..
-        } => write_forward_on(line, nonterminal.as_slice(), needs.as_slice()),
-        _ => write_symbols(line, item),
+        PlainForm::ForwardOn { nonterminal, needs } => {
+            write_forward_on(line, nonterminal.as_slice(), needs.as_slice())
+        }
+    }
+}
+
+// The word of a role.
+fn role_word(role: Role) -> Word
+    ensures { result ≡ role_word role }
+{
+    match role {
+        Role::Terminal => Word::Terminal,
+        Role::Ignore => Word::Ignore,
+        Role::Marking => Word::Marking,
+    }
+}
+
+// The word of a production's role.
+fn production_word(role: ProductionRole) -> Word
+    ensures { result ≡ production_word role }
+{
+    match role {
+        ProductionRole::Concrete => Word::Concrete,
+        ProductionRole::Abstract => Word::Abstract,
     }
 }
 
 /// Writes an item.
-pub(crate) fn write_item(alloc: Global, line: &mut Line, item: &Item) -> Result<(), AllocError>
+pub(crate) fn write_item(
+    alloc: Global,
+    line: &mut Line,
+    item: &Item<Pattern>,
+) -> Result<(), AllocError>
     requires { (tokens : List Token) × AreItemTokens item.now tokens }
     ensures { OnOk result ((tokens : List Token) → AreItemTokens item.now tokens → line.new ≡ after line.old tokens) }
 {
-    match item {
-        Item::Concrete { production, .. } => {
-            write_production(alloc, line, Word::Concrete, production)
-        }
-        Item::Abstract { production, .. } => {
-            write_production(alloc, line, Word::Abstract, production)
-        }
-        Item::Aspect {
+    match &item.form {
+        ItemForm::Lexical {
+            role,
             name,
-            equations,
-            ..
-        } => write_aspect(alloc, line, name.as_slice(), equations.as_slice()),
-        _ => write_plain(line, item),
+            pattern,
+        } => {
+            let bytes = pattern.bytes.as_slice();
+            write_pattern(line, role_word(*role), name.as_slice(), bytes)
+        }
+        ItemForm::Plain(form) => write_plain(line, form),
+        ItemForm::Production { role, production } => {
+            write_production(alloc, line, production_word(*role), production)
+        }
+        ItemForm::Aspect { name, equations } => {
+            write_aspect(alloc, line, name.as_slice(), equations.as_slice())
+        }
     }
 }

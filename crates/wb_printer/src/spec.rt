@@ -2,7 +2,7 @@
 
 ghost use Rattle.std.specs.Prelude.{◌≡◌, List, OnOk, IfOk};
 ghost use Rattle.wb_tokens.specs.declared.token.Token.{Token};
-ghost use Rattle.wb_syntax.specs.SpecText.{SpecState};
+ghost use Rattle.wb_syntax.specs.SpecText.{SpecView};
 ghost use Rattle.wb_syntax.specs.Offsets.{AreSameButPlaces, ReadsBack};
 ghost use Rattle.wb_syntax.specs.Canonical.{IsCanonical};
 ghost use Rattle.wb_printer.specs.Output.{after, after_lines};
@@ -11,28 +11,23 @@ ghost use Rattle.wb_printer.specs.ItemTokens.{header_tokens, AreLinesOf};
 use crate::items::{write_item, write_named, write_pair};
 use crate::line::Line;
 use std::alloc::{AllocError, Global};
-use wb_syntax::{Item, Spec};
+use wb_syntax::{Header, Item, Pattern, Spec};
 use wb_tokens::{Punctuation, Word};
 
 // Writes the header.
-fn write_header(line: &mut Line, spec: &Spec) -> Result<(), AllocError>
-    ensures { OnOk result (line.new ≡ after line.old (header_tokens spec.now.host spec.now.name spec.now.for_host)) }
+fn write_header(line: &mut Line, name: &[u8], header: &Header) -> Result<(), AllocError>
+    ensures { OnOk result (line.new ≡ after line.old (header_tokens name.now header.now)) }
 {
-    if spec.is_host() {
-        write_named(line, Word::Host, spec.name())
-    } else {
-        write_pair(
-            line,
-            Word::Extension,
-            spec.name(),
-            Word::For,
-            spec.for_host(),
-        )
+    match header {
+        Header::Host => write_named(line, Word::Host, name),
+        Header::Extension { host } => {
+            write_pair(line, Word::Extension, name, Word::For, host.as_slice())
+        }
     }
 }
 
 // Writes items, each on a line of its own.
-fn write_items(alloc: Global, line: &mut Line, items: &[Item]) -> Result<(), AllocError>
+fn write_items(alloc: Global, line: &mut Line, items: &[Item<Pattern>]) -> Result<(), AllocError>
     requires { (lines : List (List Token)) × AreLinesOf items.now lines }
     ensures { OnOk result ((lines : List (List Token)) → AreLinesOf items.now lines → line.new ≡ after_lines line.old lines) }
 {
@@ -46,21 +41,20 @@ fn write_items(alloc: Global, line: &mut Line, items: &[Item]) -> Result<(), All
 /// The canonical text of a specification. The only error is want of memory.
 ///
 /// The text reads back as the same specification but for places, where it isn't too long for a file, and is the canonical text of
-/// each such specification. An absent
-/// `needs` stays absent, and a regular expression keeps its bytes. No clause bounds the work: it is linear in the text, and nothing
-/// recurses.
+/// each such specification. An absent `needs` stays absent, and a regular expression keeps its bytes. No clause bounds the work: it is
+/// linear in the text, and nothing recurses.
 pub fn print_spec(alloc: Global, spec: &Spec) -> Result<Vec<u8>, AllocError>
     ensures canonical { IfOk result (λ text. IsCanonical spec.now text.items) }
     ensures reads { IfOk result (λ text. ReadsBack spec.now text.items) }
     ensures again { IfOk result (λ text.
-        (other : SpecState) → AreSameButPlaces other spec.now → IsCanonical other text.items) }
+        (other : SpecView) → AreSameButPlaces other spec.now → IsCanonical other text.items) }
 {
     let mut line = Line::new(Vec::new(alloc));
     line.word(Word::Format)?;
-    line.int(1)?;
+    line.int(i64::from(spec.format()))?;
     line.mark(Punctuation::Semicolon)?;
     line.end()?;
-    write_header(&mut line, spec)?;
+    write_header(&mut line, spec.name(), spec.header())?;
     line.end()?;
     write_items(alloc, &mut line, spec.items())?;
     Ok(line.into_text())

@@ -50,7 +50,7 @@ spec_whole : (xs : List Lexeme) (written : WrittenSpec) → IsSpecification xs w
 spec_whole xs written (item.whole {v = v} {items = items} h i j k r q g) = items_whole v items q
 
 -- a form that is read has the equations and the names of the one that is written
-read_equations : (written : ItemForm WrittenPattern) (form : ItemForm Pattern) → IsReadForm written form → equations_of form ≡ equations_of written
+pub read_equations : (written : ItemForm WrittenPattern) (form : ItemForm Pattern) → IsReadForm written form → equations_of form ≡ equations_of written
 read_equations (f.Lexical role name pattern) form e = ap equations_of e.2
 read_equations (f.Plain plain) form e = ap equations_of e
 read_equations (f.Production role production) form e = ap equations_of e

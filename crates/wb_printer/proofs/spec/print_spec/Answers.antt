@@ -2,6 +2,7 @@ use Rattle.std.proofs.Common.{◌≡◌, ◌∙◌, [], List, ℕ, true, pos, ap
 use Rattle.wb_tokens.specs.declared.token.Token.TheVariants as t
 use Rattle.wb_tokens.specs.declared.punctuation.Punctuation.TheVariants as p
 use Rattle.wb_syntax.specs.declared.item.Item.{Item}
+use Rattle.wb_syntax.specs.declared.pattern.Pattern.{Pattern}
 use Rattle.wb_syntax.specs.Canonical.{IsCanonical}
 use Rattle.wb_printer.specs.Output.{Output, put, after, ended}
 use Rattle.wb_printer.specs.ItemTokens.{AreLinesOf}
@@ -13,15 +14,15 @@ use Rattle.wb_printer.proofs.spec.print_spec.Goals as goal
 pub write_items-requires : goal.write_items-requires
 write_items-requires c =
     let h = text_lines c.args.spec.now c.items.ensures.text in
-    (h.lines, subst (λ (l : List Item). AreLinesOf l h.lines) (sym c.items.ensures.items) h.are)
+    (h.lines, subst (λ (l : List (Item Pattern)). AreLinesOf l h.lines) (sym c.items.ensures.items) h.are)
 
 pub returns : goal.returns
 returns c =
     let h = text_lines c.args.spec.now c.items.ensures.text in
-    let are : AreLinesOf c.items.result.now h.lines = subst (λ (l : List Item). AreLinesOf l h.lines) (sym c.items.ensures.items) h.are in
+    let are : AreLinesOf c.items.result.now h.lines = subst (λ (l : List (Item Pattern)). AreLinesOf l h.lines) (sym c.items.ensures.items) h.are in
     let begun : c.new-line.result ≡ record { text = []; closely = true } = c.new-line.ensures ∙ ap (λ (l : List ℕ). record { text = l; closely = true }) c.new.ensures.items in
-    let first : c.mark.new.self ≡ after c.new-line.result format_tokens
-    = c.in_ok-mark.ensures ∙ ap (λ (o : Output). put o (t.Punctuation p.Semicolon)) (c.in_ok-int.ensures ∙ ap (λ (o : Output). put o (t.Int (pos 1))) c.in_ok-word.ensures) in
+    let first : c.mark.new.self ≡ after c.new-line.result (format_tokens c.args.spec.now.format)
+    = c.in_ok-mark.ensures ∙ ap (λ (o : Output). put o (t.Punctuation p.Semicolon)) (c.in_ok-int.ensures ∙ ap (λ (o : Output). put o (t.Int (pos c.args.spec.now.format))) c.in_ok-word.ensures) in
     let is : IsCanonical c.args.spec.now c.into_text.result.items
     = subst (λ (l : List ℕ). IsCanonical c.args.spec.now l) (sym c.into_text.ensures)
     (canonical_text c.args.spec.now c.items.ensures.text c.new-line.result c.end.new.self c.end-2.new.self c.write_items.new.line h.lines refl begun
