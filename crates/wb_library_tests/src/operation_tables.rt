@@ -2,11 +2,9 @@
 //!
 //! Three tables: the standard one, one whose `and` is `or`, and one of two operations of their own.
 
-ghost use Rattle.std.specs.Prelude.{◌+ℤ◌, ◌==◌, if◌then◌else◌, length, pos};
-ghost use Rattle.std.specs.Ordering.{int_eq};
-ghost use Rattle.wb_operations.specs.Given.{fails, FitKinds, IsGiven, plains_of};
-ghost use Rattle.wb_operations.specs.Rows.{inside, number_of};
-ghost use Rattle.wb_operations.specs.Takes.{one_text, two_bools, two_ints, two_texts, of_ints, of_text};
+ghost use Rattle.wb_library_tests.specs.Odd.{odd, odd_sum};
+ghost use Rattle.wb_operations.specs.Given.{FitKinds, IsGiven, plains_of};
+ghost use Rattle.wb_operations.specs.Takes.{one_text, two_bools, two_ints, two_texts};
 ghost use Rattle.wb_operations.specs.Standard.{standard};
 
 use std::alloc::{AllocError, Global};
@@ -76,31 +74,17 @@ fn a_table_answers_its_own_meaning(rt: HostRuntime) -> Result<(), Fail> {
     Ok(())
 }
 
-// `add` gives fault 9 where the second is 4, and else as the standard one; `to_int` is the standard one.
+// The first operation adds, with fault 9 where the second number is 4, and the second reads a number: they differ by their number.
 struct Odd;
 
 impl Meaning for Odd {
-    ghost use Rattle.std.specs.Prelude.{◌+ℤ◌, ◌==◌, if◌then◌else◌, length, pos};
-    ghost use Rattle.std.specs.Ordering.{int_eq};
-    ghost use Rattle.wb_operations.specs.Given.{fails};
-    ghost use Rattle.wb_operations.specs.Takes.{of_ints, of_text};
-    ghost use Rattle.wb_operations.specs.Rows.{inside, number_of};
+    ghost use Rattle.wb_library_tests.specs.Odd.{odd};
 
-    ghost meaning = { λ number arguments. if length arguments == 1 then of_text number_of arguments else of_ints (λ x y. if int_eq y (pos 4) then fails 9 else inside (x +ℤ y)) arguments };
-}
-
-fn odd_add(arguments: &[Value]) -> Result<Value, OperationRefusal>
-    requires { FitKinds two_ints arguments.now }
-    ensures { IsGiven (if length (plains_of arguments.now) == 1 then of_text number_of (plains_of arguments.now) else of_ints (λ x y. if int_eq y (pos 4) then fails 9 else inside (x +ℤ y)) (plains_of arguments.now)) result }
-{
-    match arguments {
-        [Value::Int(x), Value::Int(y)] => odd_sum(*x, *y),
-        _ => unreachable!(),
-    }
+    ghost meaning = { odd };
 }
 
 fn odd_sum(x: i64, y: i64) -> Result<Value, OperationRefusal>
-    ensures { IsGiven (if int_eq y (pos 4) then fails 9 else inside (x +ℤ y)) result }
+    ensures { IsGiven (odd_sum x y) result }
 {
     if y == 4 {
         Err(OperationRefusal::Fault(9))
@@ -112,23 +96,42 @@ fn odd_sum(x: i64, y: i64) -> Result<Value, OperationRefusal>
     }
 }
 
+fn odd_add(arguments: &[Value]) -> Result<Value, OperationRefusal>
+    requires { FitKinds two_ints arguments.now }
+    ensures { IsGiven (odd 0 (plains_of arguments.now)) result }
+{
+    match arguments {
+        [Value::Int(x), Value::Int(y)] => odd_sum(*x, *y),
+        _ => unreachable!(),
+    }
+}
+
 #[tactic(auto, unfolding(wb_operations::specs::Standard::standard_at, wb_operations::specs::Standard::standard_operations))]
 fn odd_to_int(arguments: &[Value]) -> Result<Value, OperationRefusal>
     requires { FitKinds one_text arguments.now }
-    ensures { IsGiven (if length (plains_of arguments.now) == 1 then of_text number_of (plains_of arguments.now) else of_ints (λ x y. if int_eq y (pos 4) then fails 9 else inside (x +ℤ y)) (plains_of arguments.now)) result }
+    ensures { IsGiven (odd 1 (plains_of arguments.now)) result }
 {
-    match arguments {
-        [Value::Text(_)] => standard_to_int(arguments),
-        _ => unreachable!(),
-    }
+    standard_to_int(arguments)
 }
 
 // Whether the first operation fails where it is odd, and the second reads a number.
 fn is_odd(alloc: Global) -> Result<bool, AllocError> {
     let mut table: OperationTable<Odd> = OperationTable::new(alloc);
-    let sum = Box::new(alloc, odd_add)?;
+    let sum = Box::new(
+        alloc,
+        |arguments: &[Value]|
+            requires { FitKinds two_ints arguments.now }
+            ensures { IsGiven (odd 0 (plains_of arguments.now)) result }
+        { odd_add(arguments) },
+    )?;
     table.add(b"add", &[Kind::Int, Kind::Int], Kind::Int, sum)?;
-    let read = Box::new(alloc, odd_to_int)?;
+    let read = Box::new(
+        alloc,
+        |arguments: &[Value]|
+            requires { FitKinds one_text arguments.now }
+            ensures { IsGiven (odd 1 (plains_of arguments.now)) result }
+        { odd_to_int(arguments) },
+    )?;
     table.add(b"to_int", &[Kind::Text], Kind::Int, read)?;
     let fault = table.call(0, &[Value::Int(3), Value::Int(4)]);
     let faults = matches!(fault, Err(OperationRefusal::Fault(9)));
@@ -138,7 +141,7 @@ fn is_odd(alloc: Global) -> Result<bool, AllocError> {
 }
 
 #[test]
-fn the_second_operation_is_called(rt: HostRuntime) -> Result<(), Fail> {
+fn operations_go_by_their_number(rt: HostRuntime) -> Result<(), Fail> {
     assert!(rt; is_odd(rt.alloc())?);
     Ok(())
 }

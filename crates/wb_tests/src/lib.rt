@@ -14,4 +14,6 @@ mod show;
 #[cfg(test)]
 mod specifications;
 #[cfg(test)]
+mod terms;
+#[cfg(test)]
 mod value;

@@ -1,0 +1,2 @@
+-- a meaning whose operations differ by their number
+pub mod Odd
