@@ -24,7 +24,7 @@ use Rattle.wb_small_reader.specs.HostParts.{host_of, empty as no_host}
 use Rattle.wb_small_reader.specs.TermParts.{term_of, empty as no_term}
 use Rattle.wb_small_reader.specs.SmallHostGrammar.{host_grammar}
 use Rattle.wb_small_reader.specs.SmallTermGrammar.{term_grammar}
-use Rattle.wb_tokens.specs.Placed.{IsNextIn}
+use Rattle.wb_tokens.specs.NextToken.{IsNextIn}
 use Rattle.wb_tokens.proofs.PlacedLaws.{one_next}
 use Rattle.wb_small_reader.specs.SmallHostText.{SpellsHost, IsSmallHostText}
 use Rattle.wb_small_reader.specs.SmallTermText.{SpellsTerm, IsSmallTermText}

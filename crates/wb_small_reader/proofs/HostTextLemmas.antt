@@ -5,7 +5,7 @@ use Rattle.wb_predictive.specs.declared.reading.Outcome.TheVariants.{Whole, Stop
 use Rattle.wb_predictive.specs.Reading.{IsReading, IsOutcome}
 use Rattle.wb_tokens.specs.declared.token.Layout.TheVariants.{WithComments}
 use Rattle.wb_small.specs.declared.named.NamedHost.{NamedHost}
-use Rattle.wb_tokens.specs.Placed.{IsNextIn}
+use Rattle.wb_tokens.specs.NextToken.{IsNextIn}
 use Rattle.wb_small_reader.specs.HostParts.{empty, host_of}
 use Rattle.wb_small_reader.specs.SmallHostGrammar.{host_grammar}
 use Rattle.wb_small_reader.specs.SmallHostText.{SpellsHost}

@@ -5,7 +5,7 @@ use Rattle.wb_predictive.specs.declared.reading.Outcome.TheVariants.{Whole, Stop
 use Rattle.wb_predictive.specs.Reading.{IsReading, IsOutcome}
 use Rattle.wb_tokens.specs.declared.token.Layout.TheVariants.{Plain}
 use Rattle.wb_small.specs.declared.term.NamedTerm.{NamedTerm}
-use Rattle.wb_tokens.specs.Placed.{IsNextIn}
+use Rattle.wb_tokens.specs.NextToken.{IsNextIn}
 use Rattle.wb_small_reader.specs.TermParts.{empty, term_of}
 use Rattle.wb_small_reader.specs.SmallTermGrammar.{term_grammar}
 use Rattle.wb_small_reader.specs.SmallTermText.{SpellsTerm}

@@ -5,7 +5,7 @@ use Rattle.wb_tokens.specs.declared.token.Layout.TheVariants.{WithComments}
 use Rattle.wb_small.specs.declared.named.NamedHost.{NamedHost}
 use Rattle.wb_small.specs.declared.numbered.SmallSpec.{SmallSpec}
 use Rattle.wb_small.specs.SmallHost.{IsSmallHost}
-use Rattle.wb_tokens.specs.Placed.{IsNextIn}
+use Rattle.wb_tokens.specs.NextToken.{IsNextIn}
 use Rattle.wb_small_reader.specs.HostParts.{empty, host_of}
 use Rattle.wb_small_reader.specs.SmallHostGrammar.{host_grammar}
 use Rattle.wb_small_reader.specs.declared.host_builder.HostBuilder.{HostBuilder}

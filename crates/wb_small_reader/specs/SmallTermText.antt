@@ -6,7 +6,7 @@ use Rattle.wb_small.specs.declared.numbered.SmallSpec.{SmallSpec}
 use Rattle.wb_small.specs.declared.term.NamedTerm.{NamedTerm}
 use Rattle.wb_small.specs.declared.term.SmallTerm.{SmallTerm}
 use Rattle.wb_small.specs.SmallTerm.{IsSmallTermOf}
-use Rattle.wb_tokens.specs.Placed.{IsNextIn}
+use Rattle.wb_tokens.specs.NextToken.{IsNextIn}
 use Rattle.wb_small_reader.specs.TermParts.{empty, term_of}
 use Rattle.wb_small_reader.specs.SmallTermGrammar.{term_grammar}
 use Rattle.wb_small_reader.specs.declared.term_builder.TermBuilder.{TermBuilder}

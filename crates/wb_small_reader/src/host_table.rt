@@ -6,7 +6,7 @@ ghost use Rattle.wb_small_reader.specs.contracts.host_rules.Kind.{the_type};
 ghost use Rattle.wb_small_reader.specs.HostEntries.{host_entries};
 ghost use Rattle.wb_small_reader.specs.HostKinds.{name_kind, integer_kind, word_kind, mark_kind};
 ghost use Rattle.wb_small_reader.specs.SmallHostGrammar.{host_grammar};
-ghost use Rattle.wb_tokens.specs.Placed.{IsNextIn};
+ghost use Rattle.wb_tokens.specs.NextToken.{IsNextIn};
 ghost use Rattle.wb_tokens.proofs.PlacedLaws.{one_next, advances};
 ghost use Rattle.wb_small_reader.specs.HostLaws.{host_sampled, host_decided, host_ends};
 
@@ -17,7 +17,7 @@ use crate::host_rules::{
 };
 use std::alloc::{AllocError, Global};
 use wb_predictive::{Next, Rule, Table};
-use wb_tokens::{Layout, Punctuation, Token, Word, next_in};
+use wb_tokens::{Layout, Punctuation, Token, Word, next_token};
 
 // The kind of a name.
 fn name_kind(name: &[u8]) -> Kind
@@ -149,7 +149,7 @@ impl Table for HostTable {
     }
 
     fn next(&self, alloc: Global, text: &[u8], from: usize) -> Result<Next<Token>, AllocError> {
-        next_in(alloc, text, from, Layout::WithComments)
+        next_token(alloc, text, from, Layout::WithComments)
     }
 
     fn shift(

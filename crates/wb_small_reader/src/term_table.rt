@@ -5,7 +5,7 @@ ghost use denote.Enum.Bare.{same_true, true_same};
 ghost use Rattle.wb_small_reader.specs.contracts.term_rules.Kind.{the_type};
 ghost use Rattle.wb_small_reader.specs.SmallTermGrammar.{mark_kind, term_grammar};
 ghost use Rattle.wb_small_reader.specs.TermEntries.{term_entries};
-ghost use Rattle.wb_tokens.specs.Placed.{IsNextIn};
+ghost use Rattle.wb_tokens.specs.NextToken.{IsNextIn};
 ghost use Rattle.wb_tokens.proofs.PlacedLaws.{one_next, advances};
 ghost use Rattle.wb_small_reader.specs.TermLaws.{term_sampled, term_decided, term_ends};
 
@@ -14,7 +14,7 @@ use crate::term_rules::{ARGUMENT, ARGUMENTS, Action, HEAD, Kind, MORE, OWNER, Pa
 use std::alloc::{AllocError, Global};
 use wb_predictive::{Next, Rule, Table};
 use wb_small::SmallValue;
-use wb_tokens::{Layout, Punctuation, Token, next_in};
+use wb_tokens::{Layout, Punctuation, Token, next_token};
 
 // The kind of a punctuation mark.
 fn mark_kind(mark: Punctuation) -> Kind
@@ -98,7 +98,7 @@ impl Table for TermTable {
     }
 
     fn next(&self, alloc: Global, text: &[u8], from: usize) -> Result<Next<Token>, AllocError> {
-        next_in(alloc, text, from, Layout::Plain)
+        next_token(alloc, text, from, Layout::Plain)
     }
 
     fn shift(

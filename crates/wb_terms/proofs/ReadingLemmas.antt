@@ -13,7 +13,7 @@ use Rattle.wb_predictive.proofs.CallerLemmas.{one_text_value, one_outcome}
 use Rattle.wb_tokens.specs.declared.token.Layout.TheVariants.{Plain}
 use Rattle.wb_tokens.specs.declared.token.Token.{Token}
 use Rattle.wb_terms.specs.declared.event.Event.{Event}
-use Rattle.wb_tokens.specs.Placed.{IsNextIn}
+use Rattle.wb_tokens.specs.NextToken.{IsNextIn}
 use Rattle.wb_tokens.proofs.PlacedLaws.{one_next}
 use Rattle.wb_terms.specs.Term.{Term}
 use Rattle.wb_terms.specs.TermGrammar.{Tokens, IsTerm}

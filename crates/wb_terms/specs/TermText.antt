@@ -5,7 +5,7 @@ use Rattle.wb_predictive.specs.declared.table.Next.TheVariants.{Found, End, NoTo
 use Rattle.wb_predictive.specs.Reading.{Spells, place_of}
 use Rattle.wb_tokens.specs.declared.token.Layout.TheVariants.{Plain}
 use Rattle.wb_tokens.specs.declared.token.Token.{Token}
-use Rattle.wb_tokens.specs.Placed.{IsNextIn}
+use Rattle.wb_tokens.specs.NextToken.{IsNextIn}
 use Rattle.wb_terms.specs.Term.{Term}
 use Rattle.wb_terms.specs.TermGrammar.{Tokens, IsTerm}
 

@@ -8,7 +8,7 @@ ghost use Rattle.wb_terms.specs.contracts.rules.Kind.{the_type};
 ghost use Rattle.wb_terms.specs.Inner.Events.{shift_word};
 ghost use Rattle.wb_terms.specs.Inner.TermTable.{mark_kind, word_kind, term_grammar};
 ghost use Rattle.wb_terms.specs.Inner.TermEntries.{term_entries};
-ghost use Rattle.wb_tokens.specs.Placed.{IsNextIn};
+ghost use Rattle.wb_tokens.specs.NextToken.{IsNextIn};
 ghost use Rattle.wb_tokens.proofs.PlacedLaws.{one_next, advances};
 ghost use Rattle.wb_terms.specs.Inner.TermLaws.{term_sampled, term_decided, term_ends};
 
@@ -17,7 +17,7 @@ use crate::events::Events;
 use crate::rules::{ARGUMENT, ARGUMENTS, Action, Kind, MORE, OWNER, Part, TERM};
 use std::alloc::{AllocError, Global};
 use wb_predictive::{Next, Rule, Table};
-use wb_tokens::{Layout, Punctuation, Token, Word, next_in};
+use wb_tokens::{Layout, Punctuation, Token, Word, next_token};
 
 // The kind of a punctuation mark.
 fn mark_kind(mark: Punctuation) -> Kind
@@ -122,7 +122,7 @@ impl Table for TermTable {
     }
 
     fn next(&self, alloc: Global, text: &[u8], from: usize) -> Result<Next<Token>, AllocError> {
-        next_in(alloc, text, from, Layout::Plain)
+        next_token(alloc, text, from, Layout::Plain)
     }
 
     fn shift(
