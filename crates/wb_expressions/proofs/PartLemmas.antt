@@ -59,8 +59,8 @@ module _ {L A P O : Type 0} where
         let j = size_some h in
         let k = size_some f in
         let parts = All-cons below (at + size c - 1) ((at + size c + size h - 1) ∷ (at + size c + size h + size f - 1) ∷ []) (omega (arith, i))
-            (All-cons below (at + size c + size h - 1) ((at + size c + size h + size f - 1) ∷ []) (omega (arith, j))
-            (All-cons below (at + size c + size h + size f - 1) [] (omega (arith, k)) (All-nil below))) in
+        (All-cons below (at + size c + size h - 1) ((at + size c + size h + size f - 1) ∷ []) (omega (arith, j))
+        (All-cons below (at + size c + size h + size f - 1) [] (omega (arith, k)) (All-nil below))) in
         let lx = nodes_len at c in
         let ly = nodes_len (at + size c) h in
         let lz = nodes_len (at + size c + size h) f in

@@ -12,6 +12,8 @@ mod graph;
 #[cfg(test)]
 mod lexical;
 #[cfg(test)]
+mod lists;
+#[cfg(test)]
 mod operation_tables;
 #[cfg(test)]
 mod operations;

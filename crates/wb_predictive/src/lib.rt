@@ -14,8 +14,6 @@ pub mod nested;
 mod reading;
 mod symbol;
 mod table;
-#[cfg(test)]
-mod tests;
 
 pub use reading::{Outcome, read_all};
 pub use symbol::{Rule, Symbol};

@@ -10,7 +10,5 @@ mod items;
 mod line;
 mod parts;
 mod spec;
-#[cfg(test)]
-mod tests;
 
 pub use spec::print_spec;

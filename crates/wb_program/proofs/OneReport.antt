@@ -13,7 +13,7 @@ use Rattle.wb_eval.proofs.Uniqueness.{one_answer_at}
 use Rattle.wb_program.specs.Files.{FileIs, KnownFile, IsTooLongOr}
 use Rattle.wb_program.specs.Language.{IsHost, IsNoHost, IsTerm, IsNoTerm}
 use Rattle.wb_program.specs.Lines.{usage_line, refused_line, unknown_line, fault_line, value_line, spec_refused_line}
-use Rattle.wb_syntax.specs.SpecText.{SpecState}
+use Rattle.wb_syntax.specs.SpecText.{SpecView}
 use Rattle.wb_syntax.specs.Canonical.{IsCanonical}
 use Rattle.wb_reader.specs.Refusals.{HasCause, IsAcceptedText}
 use Rattle.wb_reader.specs.Patterns.{IsNoMemory}
@@ -189,7 +189,7 @@ module _ (files : Files) (file : List ℕ) (s t : Status) (bytes others : List �
   one_show : ShowReport (Some files) s bytes file → ShowReport (Some files) t others file → (s ≡ t) × (bytes ≡ others)
   one_show (inl a) (inl b) =
       let same : a.1.spec ≡ b.1.spec = on_file (files file) (λ c. IsAcceptedText c a.1.spec) (λ c. IsAcceptedText c b.1.spec) (a.1.spec ≡ b.1.spec) (λ c p q. one_text c a.1.spec b.1.spec p.1 q.1) a.1.read b.1.read in
-      (a.0 ∙ sym b.0, one_canonical b.1.spec bytes others (subst (λ (x : SpecState). IsCanonical x bytes) same a.1.text) b.1.text)
+      (a.0 ∙ sym b.0, one_canonical b.1.spec bytes others (subst (λ (x : SpecView). IsCanonical x bytes) same a.1.text) b.1.text)
   one_show (inl a) (inr b) = absurd (b.1.told_of (on_file (files file) (λ c. IsAcceptedText c a.1.spec) (λ c. HasCause c b.1.refusal) (IsNoMemory b.1.refusal) (λ c p q. none_refused c a.1.spec b.1.refusal p q) a.1.read b.1.cause))
   one_show (inr a) (inl b) = absurd (a.1.told_of (on_file (files file) (λ c. IsAcceptedText c b.1.spec) (λ c. HasCause c a.1.refusal) (IsNoMemory a.1.refusal) (λ c p q. none_refused c b.1.spec a.1.refusal p q) b.1.read a.1.cause))
   one_show (inr a) (inr b) =

@@ -1,7 +1,7 @@
 -- What `show SPEC` reports.
 use Rattle.std.specs.Prelude.{◌≡◌, ◌⊎◌, ℕ, Option, List}
 use Rattle.wb_world.specs.Shelf.{Files}
-use Rattle.wb_syntax.specs.SpecText.{SpecState}
+use Rattle.wb_syntax.specs.SpecText.{SpecView}
 use Rattle.wb_syntax.specs.Canonical.{IsCanonical}
 use Rattle.wb_reader.specs.Refusals.{HasCause, IsAcceptedText}
 use Rattle.wb_reader.specs.Patterns.{IsNoMemory}
@@ -13,7 +13,7 @@ use Rattle.wb_program.specs.declared.status.Status.TheVariants.{Done, SpecRefuse
 
 -- the file is a specification that is taken, and the bytes are its canonical text
 pub record Shows (told : Option Files) (file bytes : List ℕ) : Type 0 where
-  pub spec : SpecState
+  pub spec : SpecView
   pub read : KnownFile told file (λ contents. IsAcceptedText contents spec)
   pub text : IsCanonical spec bytes
 

@@ -1,6 +1,6 @@
 -- What `show` reports of what was read of a file.
 use Rattle.std.specs.Prelude.{◌≡◌, ◌⊎◌, ℕ, List}
-use Rattle.wb_syntax.specs.SpecText.{SpecState}
+use Rattle.wb_syntax.specs.SpecText.{SpecView}
 use Rattle.wb_syntax.specs.Canonical.{IsCanonical}
 use Rattle.wb_reader.specs.Refusals.{HasCause, IsAcceptedText}
 use Rattle.wb_reader.specs.Patterns.{IsNoMemory}
@@ -14,7 +14,7 @@ use Rattle.wb_program.specs.declared.status.Status.TheVariants.{Done, SpecRefuse
 
 -- the contents are a specification, and the bytes are its canonical text
 pub record ShowsText (contents bytes : List ℕ) : Type 0 where
-  pub spec : SpecState
+  pub spec : SpecView
   pub read : IsAcceptedText contents spec
   pub text : IsCanonical spec bytes
 

@@ -12,10 +12,25 @@ on_top (x ∷ rest) otherwise made = made x rest
 -- no parts
 abbrev pub empty : SpecBuilder
 empty = record {
-  names = []; places = []; integers = []; texts = []; patterns = [];
-  kinds = []; lists = []; needs = []; children = []; targets = []; nodes = [];
-  roots = []; arguments = []; equations = []; productions = [];
-  format = 0; name = []; header = h.Host; items = [];
+  names = [];
+  places = [];
+  integers = [];
+  texts = [];
+  patterns = [];
+  kinds = [];
+  lists = [];
+  needs = [];
+  children = [];
+  targets = [];
+  nodes = [];
+  roots = [];
+  arguments = [];
+  equations = [];
+  productions = [];
+  format = 0;
+  name = [];
+  header = h.Host;
+  items = [];
 }
 
 -- a name was read at this place

@@ -70,10 +70,10 @@ spec_entries Part.Items = record {
 }
 spec_entries Part.Item = record {
   kinds =
-    (kind.Word w.Terminal ∷ []) ∷ (kind.Word w.Ignore ∷ []) ∷ (kind.Word w.Marking ∷ []) ∷ (kind.Word w.Prefer ∷ [])
-    ∷ (kind.Word w.Nonterminal ∷ []) ∷ (kind.Word w.Start ∷ []) ∷ (kind.Word w.Extensible ∷ []) ∷ (kind.Word w.Syn ∷ [])
-    ∷ (kind.Word w.Inh ∷ []) ∷ (kind.Word w.Occurs ∷ []) ∷ (kind.Word w.Forward ∷ []) ∷ (kind.Word w.Concrete ∷ [])
-    ∷ (kind.Word w.Abstract ∷ []) ∷ (kind.Word w.Aspect ∷ []) ∷ [];
+      (kind.Word w.Terminal ∷ []) ∷ (kind.Word w.Ignore ∷ []) ∷ (kind.Word w.Marking ∷ []) ∷ (kind.Word w.Prefer ∷ [])
+      ∷ (kind.Word w.Nonterminal ∷ []) ∷ (kind.Word w.Start ∷ []) ∷ (kind.Word w.Extensible ∷ []) ∷ (kind.Word w.Syn ∷ [])
+      ∷ (kind.Word w.Inh ∷ []) ∷ (kind.Word w.Occurs ∷ []) ∷ (kind.Word w.Forward ∷ []) ∷ (kind.Word w.Concrete ∷ [])
+      ∷ (kind.Word w.Abstract ∷ []) ∷ (kind.Word w.Aspect ∷ []) ∷ [];
   nullable = false;
   first = item_first;
   follow = after_item;
@@ -154,8 +154,8 @@ spec_entries Part.Equations = record {
 }
 spec_entries Part.Equation = record {
   kinds =
-    (kind.Word w.Top ∷ []) ∷ (kind.Name ∷ []) ∷ (kind.Word w.Forward ∷ []) ∷ (kind.Word w.Local ∷ []) ∷ (kind.Word w.Forwards ∷ [])
-    ∷ [];
+      (kind.Word w.Top ∷ []) ∷ (kind.Name ∷ []) ∷ (kind.Word w.Forward ∷ []) ∷ (kind.Word w.Local ∷ []) ∷ (kind.Word w.Forwards ∷ [])
+      ∷ [];
   nullable = false;
   first = equation_first;
   follow = after_equation;
@@ -172,8 +172,8 @@ spec_entries Part.Value = record {
 }
 spec_entries Part.Expression = record {
   kinds =
-    (kind.One ∷ kind.Number ∷ []) ∷ (kind.String ∷ []) ∷ (kind.Word w.True ∷ []) ∷ (kind.Word w.False ∷ []) ∷ (kind.Name ∷ [])
-    ∷ (kind.Word w.Top ∷ []) ∷ (kind.Word w.Forward ∷ []) ∷ (kind.Mark p.At ∷ []) ∷ (kind.Word w.If ∷ []) ∷ [];
+      (kind.One ∷ kind.Number ∷ []) ∷ (kind.String ∷ []) ∷ (kind.Word w.True ∷ []) ∷ (kind.Word w.False ∷ []) ∷ (kind.Name ∷ [])
+      ∷ (kind.Word w.Top ∷ []) ∷ (kind.Word w.Forward ∷ []) ∷ (kind.Mark p.At ∷ []) ∷ (kind.Word w.If ∷ []) ∷ [];
   nullable = false;
   first = expression_first;
   follow = after_expression;

@@ -10,7 +10,9 @@ ghost use Rattle.wb_reader.specs.BuildItems.{format_of, with_begin, with_host, w
 use crate::builder::SpecBuilder;
 use std::alloc::{AllocError, Global};
 use wb_lists::List;
-use wb_syntax::{Header, Item, ItemForm, PlainForm, Production, ProductionRole, Role, WrittenPattern};
+use wb_syntax::{
+    Header, Item, ItemForm, PlainForm, Production, ProductionRole, Role, WrittenPattern,
+};
 
 // The format of this number.
 fn format_of(value: i64) -> u32

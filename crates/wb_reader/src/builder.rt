@@ -6,7 +6,9 @@ ghost use Rattle.wb_reader.specs.Builder.{empty, written_of, with_name, with_pla
 use std::alloc::{AllocError, Global};
 use wb_base::{Bytes, Sequence};
 use wb_lists::{List, Stack};
-use wb_syntax::{Child, Equation, Header, Item, NamedKind, Node, Production, Target, WrittenPattern, WrittenSpec};
+use wb_syntax::{
+    Child, Equation, Header, Item, NamedKind, Node, Production, Target, WrittenPattern, WrittenSpec,
+};
 
 /// A name, with the place of its first byte.
 #[derive(Drop)]

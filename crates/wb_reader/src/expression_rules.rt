@@ -104,7 +104,10 @@ pub static TAIL: [SpecRule; 3] = [
     },
     Rule {
         kinds: &[TokenKind::Mark(Punctuation::Dot)],
-        right: &[Token(TokenKind::Mark(Punctuation::Dot)), Nonterminal(Part::Read)],
+        right: &[
+            Token(TokenKind::Mark(Punctuation::Dot)),
+            Nonterminal(Part::Read),
+        ],
     },
     Rule {
         kinds: &[TokenKind::Mark(Punctuation::OpenParenthesis)],

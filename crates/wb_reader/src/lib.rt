@@ -16,8 +16,6 @@ mod patterns;
 mod refusal;
 mod spec;
 mod table;
-#[cfg(test)]
-mod tests;
 mod written;
 
 pub use laws::one_answer_law;

@@ -21,19 +21,31 @@ use wb_tokens::{Punctuation, TokenKind, Word};
 pub static KIND: [SpecRule; 4] = [
     Rule {
         kinds: &[TokenKind::Word(Word::Int)],
-        right: &[Token(TokenKind::Word(Word::Int)), Act(Action::Part(PartAction::IntKind))],
+        right: &[
+            Token(TokenKind::Word(Word::Int)),
+            Act(Action::Part(PartAction::IntKind)),
+        ],
     },
     Rule {
         kinds: &[TokenKind::Word(Word::Bool)],
-        right: &[Token(TokenKind::Word(Word::Bool)), Act(Action::Part(PartAction::BoolKind))],
+        right: &[
+            Token(TokenKind::Word(Word::Bool)),
+            Act(Action::Part(PartAction::BoolKind)),
+        ],
     },
     Rule {
         kinds: &[TokenKind::Word(Word::Text)],
-        right: &[Token(TokenKind::Word(Word::Text)), Act(Action::Part(PartAction::TextKind))],
+        right: &[
+            Token(TokenKind::Word(Word::Text)),
+            Act(Action::Part(PartAction::TextKind)),
+        ],
     },
     Rule {
         kinds: &[TokenKind::Name],
-        right: &[Token(TokenKind::Name), Act(Action::Part(PartAction::NameKind))],
+        right: &[
+            Token(TokenKind::Name),
+            Act(Action::Part(PartAction::NameKind)),
+        ],
     },
 ];
 

@@ -12,7 +12,10 @@ use wb_regex::{RegexRefusal, read_regex};
 use wb_syntax::{Item, ItemForm, Pattern, WrittenPattern};
 
 // The form with its regular expression read. The refusals are `BadRegex`, `MatchesEmpty` and want of memory.
-fn read_form(alloc: Global, form: ItemForm<WrittenPattern>) -> Result<ItemForm<Pattern>, SpecRefusal>
+fn read_form(
+    alloc: Global,
+    form: ItemForm<WrittenPattern>,
+) -> Result<ItemForm<Pattern>, SpecRefusal>
     requires placed { IsPlacedForm form }
     ensures ok { IfOk result (λ read. IsReadForm form read) }
     ensures refused { IfErr result (OnForm form) }
@@ -53,7 +56,10 @@ fn read_item(alloc: Global, item: Item<WrittenPattern>) -> Result<Item<Pattern>,
 }
 
 /// The items with their regular expressions read, or the refusal of the first that isn't taken.
-pub fn read_items(alloc: Global, items: Vec<Item<WrittenPattern>>) -> Result<Vec<Item<Pattern>>, SpecRefusal>
+pub fn read_items(
+    alloc: Global,
+    items: Vec<Item<WrittenPattern>>,
+) -> Result<Vec<Item<Pattern>>, SpecRefusal>
     requires placed { All IsPlaced items.items }
     ensures ok { IfOk result (λ read. AllZip IsReadAs items.items read.items) }
     ensures refused { IfErr result (OnItems items.items) }

@@ -25,9 +25,7 @@ impl Clone for Header {
     fn clone(&self) -> Result<Header, AllocError> {
         match self {
             Header::Host => Ok(Header::Host),
-            Header::Extension { host } => Ok(Header::Extension {
-                host: host.copy()?,
-            }),
+            Header::Extension { host } => Ok(Header::Extension { host: host.copy()? }),
         }
     }
 }

@@ -2,18 +2,26 @@
 #![tactic(auto)]
 
 #[cfg(test)]
-mod copies;
-#[cfg(test)]
 mod grammars;
 #[cfg(test)]
 mod kernels;
 #[cfg(test)]
+mod predictive;
+#[cfg(test)]
 mod prefixes;
+#[cfg(test)]
+mod printer;
+#[cfg(test)]
+mod reader;
 #[cfg(test)]
 mod show;
 #[cfg(test)]
 mod specifications;
 #[cfg(test)]
+mod syntax;
+#[cfg(test)]
 mod terms;
+#[cfg(test)]
+mod tokens;
 #[cfg(test)]
 mod value;

@@ -85,7 +85,7 @@ next_only layout text from (n.Found x) (n.Found y) h k =
     let same = token_only text x.token y.token x.at x.end y.end h.stands (subst (λ p. IsTokenAt text y.token p y.end) (sym places) k.stands) in
     let tokens = same.0 in let ends = same.1 in
     ap n.Found (ap (λ t. record { token = t; at = x.at; end = x.end }) tokens
-        ∙ (ap (λ p. record { token = y.token; at = p; end = x.end }) places ∙ ap (λ e. record { token = y.token; at = y.at; end = e }) ends))
+    ∙ (ap (λ p. record { token = y.token; at = p; end = x.end }) places ∙ ap (λ e. record { token = y.token; at = y.at; end = e }) ends))
 next_only layout text from (n.Found x) (n.End at') h k =
     let places = skips_only h.skipped k.skipped in absurd (omega (arith, places, k.last, h.stands.ordered, h.stands.within))
 next_only layout text from (n.Found x) (n.NoToken at') h k =

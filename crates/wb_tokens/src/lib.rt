@@ -13,15 +13,13 @@ mod punctuation;
 mod regex;
 mod skipping;
 mod string;
-#[cfg(test)]
-mod tests;
 mod token;
 mod token_class;
 mod word;
 
+pub use kind::TokenKind;
 pub use next::next_token;
 pub use print::{print_int, print_text};
 pub use punctuation::Punctuation;
-pub use kind::TokenKind;
 pub use token::{Layout, Token};
 pub use word::Word;

@@ -6,13 +6,13 @@ ghost use Rattle.wb_tokens.specs.NextToken.{IsNextIn, GoesForward};
 ghost use Rattle.wb_predictive.specs.declared.table.Next.{Next};
 ghost use Rattle.wb_tokens.specs.declared.token.Token.{Token};
 
-use crate::token_class::{TokenClass, first_class};
 use crate::integer::integer;
 use crate::name::name;
 use crate::punctuation::longest_mark;
 use crate::regex::regex;
 use crate::skipping::skip_layout;
 use crate::string::string;
+use crate::token_class::{TokenClass, first_class};
 use crate::{Layout, Token};
 use std::alloc::{AllocError, Global};
 use wb_predictive::{Next, Placed};

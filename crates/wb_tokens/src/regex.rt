@@ -5,8 +5,8 @@ ghost use Rattle.wb_tokens.specs.Longest.{first_class, FindsLongest};
 ghost use Rattle.wb_tokens.specs.Parts.{regex_part, regex_escape, FindsRegex};
 
 use crate::Token;
-use crate::token_class::TokenClass;
 use crate::skipping::has_byte;
+use crate::token_class::TokenClass;
 use std::alloc::{AllocError, Global};
 use wb_base::Bytes;
 

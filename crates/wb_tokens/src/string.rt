@@ -6,8 +6,8 @@ ghost use Rattle.wb_tokens.specs.Parts.{string_part, escape_at, hexadecimal_at, 
 ghost use Rattle.wb_tokens.specs.Spelling.{is_plain, escaped_byte, hex_value};
 
 use crate::Token;
-use crate::token_class::TokenClass;
 use crate::skipping::has_byte;
+use crate::token_class::TokenClass;
 use std::alloc::{AllocError, Global};
 use wb_base::Bytes;
 

@@ -1,7 +1,11 @@
-use crate::nested::Event::{Began, Finished};
-use crate::nested::{Event, Events, Nested};
-use crate::{Outcome, read_all};
+//! Does a table read whole texts, and stop at the first thing that can't follow?
+//!
+//! By the table of nested lists, which has a token, a list and an action of each sort.
+
 use std::test::Fail;
+use wb_predictive::nested::Event::{Began, Finished};
+use wb_predictive::nested::{Event, Events, Nested};
+use wb_predictive::{Outcome, read_all};
 
 #[test]
 fn a_whole_text_has_what_it_meets(rt: HostRuntime) -> Result<(), Fail> {
@@ -30,7 +34,7 @@ fn a_whole_text_has_what_it_meets(rt: HostRuntime) -> Result<(), Fail> {
 fn other_texts_stop_at_what_cannot_follow(rt: HostRuntime) -> Result<(), Fail> {
     let cases = [
         ("", 0), // the end comes too early
-        ("( 1 ", 4), // too early as well: the length, behind the space
+        ("( 1 ", 4), // too early as well: the length, after the space
         ("7", 0), // a token that begins no text
         ("(1))", 3), // one too many
         ("() ()", 3),

@@ -1,17 +1,22 @@
-//! Copies of specifications.
+//! Is a copy of a specification printed as the specification is?
 
 use crate::specifications::MINI;
 use std::alloc::Global;
 use std::test::Fail;
 use wb_printer::print_spec;
 use wb_reader::{SpecRefusal, read_spec};
+use wb_syntax::Spec;
+
+// Whether two specifications have one canonical text.
+fn are_printed_alike(alloc: Global, one: &Spec, other: &Spec) -> Result<bool, SpecRefusal> {
+    let printed = print_spec(alloc, one)?;
+    Ok(printed.as_slice() == print_spec(alloc, other)?.as_slice())
+}
 
 // Whether the specification of a text and its copy have one canonical text.
 fn is_copied(alloc: Global, text: &str) -> Result<bool, SpecRefusal> {
     let spec = read_spec(alloc, text.as_bytes())?;
-    let printed = print_spec(alloc, &spec)?;
-    let copied = print_spec(alloc, &spec.copy()?)?;
-    Ok(printed.as_slice() == copied.as_slice())
+    are_printed_alike(alloc, &spec, &spec.copy()?)
 }
 
 #[test]

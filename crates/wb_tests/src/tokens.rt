@@ -1,7 +1,12 @@
-use crate::{Layout, Next, Token, next_token, print_int, print_text};
+//! Are texts cut into the longest tokens, and is nothing else a token?
+//!
+//! Expected values follow from the rules of tokens, not from a run.
+
 use itoa::Buffer;
 use std::alloc::{AllocError, Global};
 use std::test::Fail;
+use wb_predictive::Next;
+use wb_tokens::{Layout, Token, next_token, print_int, print_text};
 
 // Appends a token as it is spelled, a reserved word between `<` and `>`.
 fn append_token(out: &mut Vec<u8>, token: &Token) -> Result<(), AllocError> {
@@ -30,17 +35,17 @@ fn append_place(out: &mut Vec<u8>, sign: &[u8], at: usize) -> Result<(), AllocEr
     out.extend_from_slice(buffer.format(at).as_bytes())
 }
 
-// Each token with its place behind `@`, and in the end `$` with the length, or `!` with the place where no token begins.
-fn tokens(alloc: Global, text: &[u8], layout: Layout) -> Result<Vec<u8>, AllocError> {
+// Each token with its place after `@`, and in the end `$` with the length, or `!` with the place where no token begins.
+fn shown(alloc: Global, text: &[u8], layout: Layout) -> Result<Vec<u8>, AllocError> {
     let mut out = Vec::new(alloc);
     let mut from = 0;
     'read: for _ in 0..=text.len() {
         match next_token(alloc, text, from, layout)? {
-            Next::Token { token, at, behind } => {
-                append_token(&mut out, &token)?;
-                append_place(&mut out, b"@", at)?;
+            Next::Found(found) => {
+                append_token(&mut out, &found.token)?;
+                append_place(&mut out, b"@", found.at)?;
                 out.extend_from_slice(b" ")?;
-                from = behind;
+                from = found.end;
             }
             Next::End { at } => {
                 append_place(&mut out, b"$", at)?;
@@ -61,8 +66,8 @@ fn first_wrong(
     cases: &[(&str, &str)],
     layout: Layout,
 ) -> Result<Option<usize>, AllocError> {
-    for (place, (text, shown)) in cases.iter().enumerate() {
-        if tokens(alloc, text.as_bytes(), layout)?.as_slice() != shown.as_bytes() {
+    for (place, (text, tokens)) in cases.iter().enumerate() {
+        if shown(alloc, text.as_bytes(), layout)?.as_slice() != tokens.as_bytes() {
             return Ok(Some(place));
         }
     }
@@ -201,7 +206,9 @@ fn reserved_words_are_no_names(rt: HostRuntime) -> Result<(), Fail> {
         <needs>@138 <nonterminal>@144 <occurs>@156 <on>@163 <over>@166 <prefer>@171 \
         <start>@178 <syn>@184 <terminal>@188 <text>@197 <then>@202 <to>@207 <top>@210 \
         <true>@214 $218";
-    let read = tokens(rt.alloc(), text.as_bytes(), Layout::Plain)?;
-    assert!(rt; read.as_slice() == shown.as_bytes());
+    assert_eq!(rt;
+        first_wrong(rt.alloc(), &[(text, shown)], Layout::Plain)?,
+        None
+    );
     Ok(())
 }

@@ -1,7 +1,11 @@
-use crate::{SpecRefusal, read_spec};
+//! Does each text have its outcome as a specification, and the parts of one their places?
+//!
+//! Expected values follow from the grammar and the order of refusals, not from a run.
+
 use std::alloc::{AllocError, Global};
 use std::test::Fail;
-use wb_syntax::{Item, Node};
+use wb_reader::{SpecRefusal, read_spec};
+use wb_syntax::{Header, Item, ItemForm, Node, Pattern, ProductionRole, Spec};
 
 // What becomes of a text: the number of its items, or the code of its refusal with its place, or with 0 where it has none.
 fn outcome(alloc: Global, text: &[u8]) -> Result<(&'static str, usize), AllocError> {
@@ -84,7 +88,7 @@ fn a_pattern_or_an_item_has_its_outcome(rt: HostRuntime) -> Result<(), Fail> {
     Ok(())
 }
 
-// Whether the node of the equation below stands at its place.
+// Whether the node of the equation below is at its place.
 fn is_right(place: usize, node: &Node) -> bool {
     match node {
         Node::Label(_) => place == 0,
@@ -111,34 +115,41 @@ fn is_right(place: usize, node: &Node) -> bool {
 }
 
 // Whether an item is the production below.
-fn is_production(item: &Item) -> bool {
-    let Item::Abstract { offset, production } = item else {
+fn is_production(item: &Item<Pattern>) -> bool {
+    let ItemForm::Production { role, production } = &item.form else {
         return false;
     };
-    let mut right = *offset == 29 && production.children.len() == 2;
+    let mut right = item.offset == 29 && *role == ProductionRole::Abstract;
+    right = right && production.children.len() == 2 && production.equations.len() == 1;
     for equation in production.equations.as_slice() {
         right = right && equation.offset == 66 && equation.nodes.len() == 6;
         for (place, node) in equation.nodes.as_slice().iter().enumerate() {
             right = right && is_right(place, node);
         }
     }
-    right && production.equations.len() == 1
+    right
+}
+
+// Whether a specification is the extension below.
+fn is_extension(spec: &Spec) -> bool {
+    let Header::Extension { host } = spec.header() else {
+        return false;
+    };
+    let mut right = spec.format() == 1 && spec.name() == b"e".as_slice();
+    right = right && host.as_slice() == b"h".as_slice() && spec.items().len() == 1;
+    for item in spec.items() {
+        right = right && is_production(item);
+    }
+    right
 }
 
 #[test]
 fn a_specification_has_its_parts_in_order(rt: HostRuntime) -> Result<(), Fail> {
     let text =
         b"format 1; extension e for h; abstract p : N ::= a : int b : M {\n  b.i = if a then f(b.s, \"x\") else @g(); }";
-    match read_spec(rt.alloc(), text) {
-        Ok(spec) => {
-            assert!(rt; spec.format() == 1 && !spec.is_host());
-            assert!(rt; spec.name() == b"e".as_slice() && spec.for_host() == b"h".as_slice());
-            assert_eq!(rt; spec.items().len(), 1);
-            for item in spec.items() {
-                assert!(rt; is_production(item));
-            }
-        }
-        Err(_) => assert!(rt; false, "it is a specification"),
-    }
+    let Ok(spec) = read_spec(rt.alloc(), text) else {
+        return Err(Fail::from("it is a specification"));
+    };
+    assert!(rt; is_extension(&spec));
     Ok(())
 }

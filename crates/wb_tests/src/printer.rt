@@ -1,0 +1,53 @@
+//! Is a canonical text cut into lines, with one space or none between two tokens?
+//!
+//! Expected values follow from the rule of canonical texts, not from a run.
+
+use std::alloc::Global;
+use std::test::Fail;
+use wb_printer::print_spec;
+use wb_reader::{SpecRefusal, read_spec};
+
+const TEXTS: [(&str, &str); 4] = [
+    (
+        "format 01;host h;aspect p{top.a=@add(-05 ,\"a\\\"b\\n\");}terminal N/[0-9]+/;",
+        "format 1;\nhost h;\naspect p { top.a = @add(-5, \"a\\\"b\\n\"); }\nterminal N /[0-9]+/;\n",
+    ),
+    (
+        "format 1; extension more for calc; occurs x on N needs{}; forward on N needs{a,b}; occurs y on N;",
+        "format 1;\nextension more for calc;\noccurs x on N needs { };\nforward on N needs { a, b };\noccurs y on N;\n",
+    ),
+    (
+        "format 1; host h; abstract p:N::=n:int x:E{} concrete q:N::={x.i=if a then f() else b.lexeme;}",
+        "format 1;\nhost h;\nabstract p : N ::= n : int x : E { }\nconcrete q : N ::= { x.i = if a then f() else b.lexeme; }\n",
+    ),
+    (
+        "format 1; host h; prefer A over B; ignore S / /; marking M /m/; inh i : bool; start N; extensible N; nonterminal N;",
+        "format 1;\nhost h;\nprefer A over B;\nignore S / /;\nmarking M /m/;\ninh i : bool;\nstart N;\nextensible N;\nnonterminal N;\n",
+    ),
+];
+
+// Whether the second text is the canonical one of the first.
+fn is_canonical(alloc: Global, text: &str, canonical: &str) -> Result<bool, SpecRefusal> {
+    let spec = read_spec(alloc, text.as_bytes())?;
+    let printed = print_spec(alloc, &spec)?;
+    Ok(printed.as_slice() == canonical.as_bytes())
+}
+
+// The place of the first text that isn't printed so.
+fn first_wrong(alloc: Global, texts: &[(&str, &str)]) -> Result<Option<usize>, SpecRefusal> {
+    for (place, (text, canonical)) in texts.iter().enumerate() {
+        if !is_canonical(alloc, text, canonical)? {
+            return Ok(Some(place));
+        }
+    }
+    Ok(None)
+}
+
+#[test]
+fn a_canonical_text_has_lines_and_spaces(rt: HostRuntime) -> Result<(), Fail> {
+    let Ok(wrong) = first_wrong(rt.alloc(), &TEXTS) else {
+        return Err(Fail::from("the texts are specifications"));
+    };
+    assert_eq!(rt; wrong, None);
+    Ok(())
+}
