@@ -4,10 +4,10 @@ use Rattle.std.specs.Prelude.{slice_get, Contains, ◌↔◌}
 use Rattle.std.proofs.lemmas.Bool.{cases_lt, cases_eq}
 use Rattle.std.proofs.lemmas.List.{get_or_append_left, get_or_push, get_or_past}
 use Rattle.std.proofs.lemmas.Option.{same_Some}
-use Rattle.wb_automata.specs.Nodes.{row}
+use Rattle.wb_automata.specs.Rows.{row}
 use Rattle.wb_automata.specs.Order.{AreRising}
-use Rattle.wb_automata.specs.Machines.{Ahead}
-use Rattle.wb_automata.specs.Accepted.{AreAccepted}
+use Rattle.wb_automata.specs.Inner.Transitions.{Ahead}
+use Rattle.wb_automata.specs.Inner.Accepted.{AreAccepted}
 
 pub rising_none : AreRising []
 rising_none i j lt below = absurd (omega arith)

@@ -5,9 +5,9 @@ use Rattle.std.proofs.lemmas.List.{get_or_append_left, get_or_push, get_or-repli
 use Rattle.std.proofs.lemmas.Option.{same_Some}
 use Rattle.std.proofs.lemmas.Bool.{cases_lt}
 use Rattle.wb_regex.specs.declared.node.RegexNode.{RegexNode}
-use Rattle.wb_automata.specs.Machines.{node_holds}
+use Rattle.wb_automata.specs.Inner.Transitions.{node_holds}
 use Rattle.wb_automata.specs.Order.{AreRising}
-use Rattle.wb_automata.specs.Classes.{AreClasses, IsClassOf, ClassPass}
+use Rattle.wb_automata.specs.Inner.Classes.{AreClasses, IsClassOf, ClassPass}
 
 -- before the first node all bytes are in one class
 pub classes_begin : (nodes : List RegexNode) (classes firsts : List ℕ) → classes ≡ replicate 256 0 → firsts ≡ 0 ∷ [] → AreClasses nodes classes firsts 0

@@ -16,8 +16,8 @@ use Rattle.std.proofs.lemmas.Slice.Eq.{slice_eq-Decides}
 use Rattle.wb_base.specs.Different.{Differ}
 use Rattle.wb_automata.specs.declared.tables.Tables.{Tables}
 use Rattle.wb_automata.specs.Order.{AreRising}
-use Rattle.wb_automata.specs.Machines.{IsPlaceList}
-use Rattle.wb_automata.specs.Found.{Found, AreFound}
+use Rattle.wb_automata.specs.Inner.Transitions.{IsPlaceList}
+use Rattle.wb_automata.specs.Inner.Found.{Found, AreFound}
 
 -- all rising lists of numbers below m
 abbrev lists_below : ℕ → List (List ℕ)

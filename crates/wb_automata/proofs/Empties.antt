@@ -1,6 +1,6 @@
 -- Which expressions match the empty text.
 use Rattle.std.proofs.Common.{◌≡◌, ℕ, Bool, true, false, ◌&&◌, ◌||◌, List, [], ◌∷◌, ◌++◌, refl, sym, ◌∙◌, ◌⊎◌, inl, inr}
-use Rattle.wb_automata.specs.Linear.{Linear, Leaf, Sequence, Choice, Star, Plus, Maybe, Matches, one, seq, left, right, none, more, once, absent, present, empty_of}
+use Rattle.wb_automata.specs.Inner.PositionTrees.{PositionTree, Leaf, Sequence, Choice, Star, Plus, Maybe, Matches, one, seq, left, right, none, more, once, absent, present, nullable_of}
 
 pub nil_left : (u v : List ℕ) → u ++ v ≡ [] → u ≡ []
 nil_left [] v e = refl
@@ -35,21 +35,21 @@ some_true true b p = inl refl
 some_true false b p = inr p
 
 module _ {holds : ℕ → ℕ → Bool} where
-  pub matches_empty : {t : Linear} {x : List ℕ} → Matches holds t x → x ≡ [] → empty_of t ≡ true
+  pub matches_empty : {t : PositionTree} {x : List ℕ} → Matches holds t x → x ≡ [] → nullable_of t ≡ true
   matches_empty (one h e) f = cc
-  matches_empty (seq {r} {s} {x} {y} m n e) f = both_true (empty_of r) (empty_of s) (matches_empty m (nil_left x y (sym e ∙ f))) (matches_empty n (nil_right x y (sym e ∙ f)))
-  matches_empty (left {r} {s} m) f = one_true (empty_of r) (empty_of s) (matches_empty m f)
-  matches_empty (right {r} {s} m) f = other_true (empty_of r) (empty_of s) (matches_empty m f)
+  matches_empty (seq {r} {s} {x} {y} m n e) f = both_true (nullable_of r) (nullable_of s) (matches_empty m (nil_left x y (sym e ∙ f))) (matches_empty n (nil_right x y (sym e ∙ f)))
+  matches_empty (left {r} {s} m) f = one_true (nullable_of r) (nullable_of s) (matches_empty m f)
+  matches_empty (right {r} {s} m) f = other_true (nullable_of r) (nullable_of s) (matches_empty m f)
   matches_empty (none e) f = refl
   matches_empty (more m n e) f = refl
   matches_empty (once {x = x} {y = y} m n e) f = matches_empty m (nil_left x y (sym e ∙ f))
   matches_empty (absent e) f = refl
   matches_empty (present m) f = refl
 
-  pub empty_matches : (t : Linear) → empty_of t ≡ true → Matches holds t []
+  pub empty_matches : (t : PositionTree) → nullable_of t ≡ true → Matches holds t []
   empty_matches (Leaf b) e = cc
-  empty_matches (Sequence r s) e = seq (empty_matches r (first_true (empty_of r) (empty_of s) e)) (empty_matches s (second_true (empty_of r) (empty_of s) e)) refl
-  empty_matches (Choice r s) e = elim (some_true (empty_of r) (empty_of s) e) [ inl f ↦ left (empty_matches r f) | inr f ↦ right (empty_matches s f) ]
+  empty_matches (Sequence r s) e = seq (empty_matches r (first_true (nullable_of r) (nullable_of s) e)) (empty_matches s (second_true (nullable_of r) (nullable_of s) e)) refl
+  empty_matches (Choice r s) e = elim (some_true (nullable_of r) (nullable_of s) e) [ inl f ↦ left (empty_matches r f) | inr f ↦ right (empty_matches s f) ]
   empty_matches (Star r) e = none refl
   empty_matches (Plus r) e = once (empty_matches r e) (none refl) refl
   empty_matches (Maybe r) e = absent refl

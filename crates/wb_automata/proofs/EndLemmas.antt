@@ -11,8 +11,9 @@ use Rattle.wb_automata.specs.declared.ends.Side.{Side}
 use Rattle.wb_automata.specs.declared.ends.Side.TheVariants.{First, Last}
 use Rattle.wb_automata.specs.declared.ends.Parts.{Parts}
 use Rattle.wb_automata.specs.declared.ends.Parts.TheVariants.{Leaf, One, Two}
-use Rattle.wb_automata.specs.Nodes.{row, flag, first_at, last_at, AreEmpties, AreFirsts, AreLasts, AreParts, PartsBelow}
-use Rattle.wb_automata.specs.Ends.{sequence_parts, parts_of, leaves_at, rows_from, rows_of, todo, weight, AreBefore, IsOpened}
+use Rattle.wb_automata.specs.Rows.{row}
+use Rattle.wb_automata.specs.Inner.Nodes.{flag, first_at, last_at, AreNullable, AreFirsts, AreLasts, AreParts, PartsBelow}
+use Rattle.wb_automata.specs.Inner.Ends.{sequence_parts, parts_of, leaves_at, rows_from, rows_of, todo, weight, AreBefore, IsOpened}
 use Rattle.wb_automata.proofs.NodeLemmas.{first_step, last_step}
 use Rattle.wb_automata.proofs.PlaceLemmas.{slice_get_more, slice_get_last}
 
@@ -38,7 +39,7 @@ last_parts es rows place (n.Plus i) = refl
 last_parts es rows place (n.Maybe i) = refl
 
 -- all rows are those of the nodes
-firsts_from : (es : List Bool) (all : List RegexNode) (m : ℕ) → AreEmpties all es m → length all ≤ m → (done nodes : List RegexNode) (rows : List (List ℕ)) → all ≡ done ++ nodes → AreFirsts all rows (length done) → AreFirsts all (rows_from es First rows nodes) (length all)
+firsts_from : (es : List Bool) (all : List RegexNode) (m : ℕ) → AreNullable all es m → length all ≤ m → (done nodes : List RegexNode) (rows : List (List ℕ)) → all ≡ done ++ nodes → AreFirsts all rows (length done) → AreFirsts all (rows_from es First rows nodes) (length all)
 firsts_from es all m em le done [] rows e h = subst (AreFirsts all rows) (ap length (sym (append-nil done)) ∙ sym (ap length e)) h
 firsts_from es all m em le done (node ∷ nodes) rows e h =
     let here : slice_get all (length done) ≡ Some node = ap (λ z. slice_get z (length done)) e ∙ at_seam done node nodes in
@@ -52,7 +53,7 @@ firsts_from es all m em le done (node ∷ nodes) rows e h =
     at_seam [] node nodes = refl
     at_seam (x ∷ done) node nodes = at_seam done node nodes
 
-lasts_from : (es : List Bool) (all : List RegexNode) (m : ℕ) → AreEmpties all es m → length all ≤ m → (done nodes : List RegexNode) (rows : List (List ℕ)) → all ≡ done ++ nodes → AreLasts all rows (length done) → AreLasts all (rows_from es Last rows nodes) (length all)
+lasts_from : (es : List Bool) (all : List RegexNode) (m : ℕ) → AreNullable all es m → length all ≤ m → (done nodes : List RegexNode) (rows : List (List ℕ)) → all ≡ done ++ nodes → AreLasts all rows (length done) → AreLasts all (rows_from es Last rows nodes) (length all)
 lasts_from es all m em le done [] rows e h = subst (AreLasts all rows) (ap length (sym (append-nil done)) ∙ sym (ap length e)) h
 lasts_from es all m em le done (node ∷ nodes) rows e h =
     let here : slice_get all (length done) ≡ Some node = ap (λ z. slice_get z (length done)) e ∙ at_seam done node nodes in
@@ -66,11 +67,11 @@ lasts_from es all m em le done (node ∷ nodes) rows e h =
     at_seam [] node nodes = refl
     at_seam (x ∷ done) node nodes = at_seam done node nodes
 
-pub rows_are_firsts : (es : List Bool) (nodes : List RegexNode) → AreEmpties nodes es (length nodes) → AreFirsts nodes (rows_of es First nodes) (length nodes)
+pub rows_are_firsts : (es : List Bool) (nodes : List RegexNode) → AreNullable nodes es (length nodes) → AreFirsts nodes (rows_of es First nodes) (length nodes)
 unfolding rows_of
 rows_are_firsts es nodes em = firsts_from es nodes (length nodes) em (omega arith) [] nodes [] refl (record { len = refl; each = λ s j t lt. absurd (omega arith) })
 
-pub rows_are_lasts : (es : List Bool) (nodes : List RegexNode) → AreEmpties nodes es (length nodes) → AreLasts nodes (rows_of es Last nodes) (length nodes)
+pub rows_are_lasts : (es : List Bool) (nodes : List RegexNode) → AreNullable nodes es (length nodes) → AreLasts nodes (rows_of es Last nodes) (length nodes)
 unfolding rows_of
 rows_are_lasts es nodes em = lasts_from es nodes (length nodes) em (omega arith) [] nodes [] refl (record { len = refl; each = λ s j t lt. absurd (omega arith) })
 

@@ -10,10 +10,10 @@ use Rattle.wb_regex.specs.Matches as w
 use Rattle.wb_regex.specs.Filled as f
 use Rattle.wb_regex.specs.declared.node.RegexNode.{RegexNode}
 use Rattle.wb_regex.specs.declared.node.RegexNode.TheVariants as n
-use Rattle.wb_automata.specs.Linear.{Linear, Matches, one, seq, left, right, none, more, once, absent, present}
-use Rattle.wb_automata.specs.Erasing.{Erases, leaf, sequence, choice, star, plus, maybe}
-use Rattle.wb_automata.specs.Machines.{has_byte, node_holds, holds_of}
-use Rattle.wb_automata.specs.Sets.{Filled}
+use Rattle.wb_automata.specs.Inner.PositionTrees.{PositionTree, Matches, one, seq, left, right, none, more, once, absent, present}
+use Rattle.wb_automata.specs.Inner.Projection.{IsProjection, leaf, sequence, choice, star, plus, maybe}
+use Rattle.wb_automata.specs.Inner.Transitions.{has_byte, node_holds, holds_of}
+use Rattle.wb_automata.specs.Inner.PositionSets.{Filled}
 use Rattle.wb_automata.proofs.Empties.{both_true, first_true, second_true}
 
 -- a set holds a byte where its bits say so
@@ -29,7 +29,7 @@ leaf_holds : (nodes : List RegexNode) (p : ℕ) (words : List ℕ) (b : ℕ) →
 leaf_holds nodes p words b at = ap (λ z. node_holds z b) (get_or_from_slice_get nodes p (n.Set words) (n.Set []) at)
 
 module _ (nodes : List RegexNode) where
-  pub erased : {l : Linear} {t : Tree} {x : List ℕ} → Erases nodes l t → Matches (holds_of nodes) l x → w.Matches t x
+  pub erased : {l : PositionTree} {t : Tree} {x : List ℕ} → IsProjection nodes l t → Matches (holds_of nodes) l x → w.Matches t x
   erased (leaf {p = p} {words = words} at) (one {b = b} h e) = w.byte (has_byte_holds words b (sym (leaf_holds nodes p words b at) ∙ h)) e
   erased (sequence a b) (seq m k e) = w.both (erased a m) (erased b k) e
   erased (choice a b) (left m) = w.left (erased a m)
@@ -40,7 +40,7 @@ module _ (nodes : List RegexNode) where
   erased (maybe a) (absent e) = w.absent e
   erased (maybe a) (present m) = w.present (erased a m)
 
-  pub placed : {l : Linear} {t : Tree} {x : List ℕ} → Erases nodes l t → w.Matches t x → Matches (holds_of nodes) l x
+  pub placed : {l : PositionTree} {t : Tree} {x : List ℕ} → IsProjection nodes l t → w.Matches t x → Matches (holds_of nodes) l x
   placed (leaf {p = p} {words = words} at) (w.byte {b = b} h e) = one (leaf_holds nodes p words b at ∙ holds_has_byte words b h) e
   placed (sequence a b) (w.both m k e) = seq (placed a m) (placed b k) e
   placed (choice a b) (w.left m) = left (placed a m)
@@ -51,7 +51,7 @@ module _ (nodes : List RegexNode) where
   placed (maybe a) (w.absent e) = absent e
   placed (maybe a) (w.present m) = present (placed a m)
 
-  pub placed_filled : {l : Linear} {t : Tree} → Erases nodes l t → f.Filled t → Filled (holds_of nodes) l
+  pub placed_filled : {l : PositionTree} {t : Tree} → IsProjection nodes l t → f.Filled t → Filled (holds_of nodes) l
   placed_filled (leaf {p = p} {words = words} at) (b, h) = (b, leaf_holds nodes p words b at ∙ holds_has_byte words b h)
   placed_filled (sequence a b) (x, y) = (placed_filled a x, placed_filled b y)
   placed_filled (choice a b) (x, y) = (placed_filled a x, placed_filled b y)

@@ -3,12 +3,12 @@ use Rattle.std.proofs.Common.{◌≡◌, ℕ, zero, suc, ◌+◌, ◌≤◌, ◌
 use Rattle.std.specs.Prelude.{slice_get, ◌↔◌}
 use Rattle.std.proofs.lemmas.Bool.{cases_lt}
 use Rattle.std.proofs.lemmas.Option.{slice_get-get_or}
-use Rattle.wb_automata.specs.Linear.{Linear, Leaf}
-use Rattle.wb_automata.specs.Positions.{Follow}
+use Rattle.wb_automata.specs.Inner.PositionTrees.{PositionTree, Leaf}
+use Rattle.wb_automata.specs.Inner.Positions.{Follow}
 use Rattle.wb_regex.specs.declared.node.RegexNode.{RegexNode}
-use Rattle.wb_automata.specs.Nodes.{AreFirsts, AreLasts}
-use Rattle.wb_automata.specs.Follows.{LinkIn}
-use Rattle.wb_automata.specs.Running.{IsForest}
+use Rattle.wb_automata.specs.Inner.Nodes.{AreFirsts, AreLasts}
+use Rattle.wb_automata.specs.Inner.Follows.{LinkIn}
+use Rattle.wb_automata.specs.Inner.Forests.{IsForest}
 use Rattle.wb_automata.proofs.NodeLemmas.{link_follow, follow_link, within}
 
 pub record Located (bound : ℕ → ℕ) (m j : ℕ) : Type 0 where
@@ -24,13 +24,13 @@ locate bound (suc m) j z lt = elim (cases_lt j (bound m)) [
   | inr past ↦ record { number = m; lt = omega arith; least = past; below = subst (λ k. j < bound k) (sym (add-one m)) lt }
 ]
 
-pub record FollowIn (trees : List Linear) (p q : ℕ) : Type 0 where
+pub record FollowIn (trees : List PositionTree) (p q : ℕ) : Type 0 where
   pub number : ℕ
-  pub tree : Linear
+  pub tree : PositionTree
   pub at : slice_get trees number ≡ Some tree
   pub follow : Follow tree p q
 
-pub links_exact : (nodes : List RegexNode) (trees : List Linear) (bound : ℕ → ℕ) (first last : List (List ℕ)) (p q : ℕ) → IsForest nodes trees bound → bound 0 ≡ 0 → bound (length trees) ≡ length nodes → AreFirsts nodes first (length nodes) → AreLasts nodes last (length nodes) → LinkIn nodes first last 0 (length nodes) p q ↔ FollowIn trees p q
+pub links_exact : (nodes : List RegexNode) (trees : List PositionTree) (bound : ℕ → ℕ) (first last : List (List ℕ)) (p q : ℕ) → IsForest nodes trees bound → bound 0 ≡ 0 → bound (length trees) ≡ length nodes → AreFirsts nodes first (length nodes) → AreLasts nodes last (length nodes) → LinkIn nodes first last 0 (length nodes) p q ↔ FollowIn trees p q
 links_exact nodes trees bound first last p q forest z whole hf hl = (
   λ l.
       let lt = l.below in

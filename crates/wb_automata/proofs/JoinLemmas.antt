@@ -9,10 +9,10 @@ use Rattle.wb_regex.specs.Tree.{Tree}
 use Rattle.wb_regex.specs.Covers as w
 use Rattle.wb_regex.specs.declared.node.RegexNode.{RegexNode}
 use Rattle.wb_regex.specs.declared.node.RegexNode.TheVariants as n
-use Rattle.wb_automata.specs.Linear.{Linear, Leaf, Sequence, Choice, Star, Plus, Maybe}
-use Rattle.wb_automata.specs.Erasing.{Erases, leaf, sequence, choice, star, plus, maybe}
-use Rattle.wb_automata.specs.Nodes as c
-use Rattle.wb_automata.specs.Joined.{raised, size_of, bound_of, AreJoined, AreAdded}
+use Rattle.wb_automata.specs.Inner.PositionTrees.{PositionTree, Leaf, Sequence, Choice, Star, Plus, Maybe}
+use Rattle.wb_automata.specs.Inner.Projection.{IsProjection, leaf, sequence, choice, star, plus, maybe}
+use Rattle.wb_automata.specs.Inner.Nodes as c
+use Rattle.wb_automata.specs.Inner.Concatenated.{raised, size_of, bound_of, AreConcatenated, AreAdded}
 use Rattle.wb_regex.specs.Filled.{Filled}
 use Rattle.wb_regex.specs.Matches.{Matches}
 use Rattle.wb_automata.proofs.NodeLemmas.{parts_more}
@@ -20,37 +20,37 @@ use Rattle.wb_automata.proofs.PlaceLemmas.{slice_get_more}
 
 -- an expression with places at its leaves, of which the nodes are, and the tree is
 pub record IsPlaced (nodes : List RegexNode) (s e : ℕ) (tree : Tree) : Type 0 where
-  pub linear : Linear
+  pub linear : PositionTree
   pub covers : c.Covers nodes s e linear
-  pub erases : Erases nodes linear tree
+  pub projects : IsProjection nodes linear tree
 
 -- nodes within others, where they are raised, are those of an expression there
 pub place_all : (source nodes : List RegexNode) (m : ℕ) → ((k : ℕ) (node : RegexNode) → slice_get source k ≡ Some node → slice_get nodes (m + k) ≡ Some (raised m node)) → {s e : ℕ} {tree : Tree} → w.Covers source s e tree → (a b : ℕ) → a ≡ m + s → b ≡ m + e → IsPlaced nodes a b tree
 place_all source nodes m embeds (w.set {s = s} words at e) a b p q =
     let here : slice_get nodes a ≡ Some (n.Set words) = subst (λ z. slice_get nodes z ≡ Some (n.Set words)) (sym p) (embeds s (n.Set words) at) in
-    record { linear = Leaf a; covers = c.one words here (omega arith); erases = leaf here }
+    record { linear = Leaf a; covers = c.one words here (omega arith); projects = leaf here }
 place_all source nodes m embeds (w.sequence {s = s} i j x y at e) a b p q =
     let u = place_all source nodes m embeds x a (m + i + 1) p (omega arith) in
     let v = place_all source nodes m embeds y (m + i + 1) (m + j + 1) (omega arith) (omega arith) in
     let here = subst (λ z. slice_get nodes z ≡ Some (n.Sequence (m + i) (m + j))) (let g : m + (j + 1) ≡ m + j + 1 = omega arith in g) (embeds (j + 1) (n.Sequence i j) at) in
-    record { linear = Sequence u.linear v.linear; covers = c.seq (m + i) (m + j) u.covers v.covers here (omega arith); erases = sequence u.erases v.erases }
+    record { linear = Sequence u.linear v.linear; covers = c.seq (m + i) (m + j) u.covers v.covers here (omega arith); projects = sequence u.projects v.projects }
 place_all source nodes m embeds (w.choice {s = s} i j x y at e) a b p q =
     let u = place_all source nodes m embeds x a (m + i + 1) p (omega arith) in
     let v = place_all source nodes m embeds y (m + i + 1) (m + j + 1) (omega arith) (omega arith) in
     let here = subst (λ z. slice_get nodes z ≡ Some (n.Choice (m + i) (m + j))) (let g : m + (j + 1) ≡ m + j + 1 = omega arith in g) (embeds (j + 1) (n.Choice i j) at) in
-    record { linear = Choice u.linear v.linear; covers = c.choice (m + i) (m + j) u.covers v.covers here (omega arith); erases = choice u.erases v.erases }
+    record { linear = Choice u.linear v.linear; covers = c.choice (m + i) (m + j) u.covers v.covers here (omega arith); projects = choice u.projects v.projects }
 place_all source nodes m embeds (w.star {s = s} i x at e) a b p q =
     let u = place_all source nodes m embeds x a (m + i + 1) p (omega arith) in
     let here = subst (λ z. slice_get nodes z ≡ Some (n.Star (m + i))) (let g : m + (i + 1) ≡ m + i + 1 = omega arith in g) (embeds (i + 1) (n.Star i) at) in
-    record { linear = Star u.linear; covers = c.star (m + i) u.covers here (omega arith); erases = star u.erases }
+    record { linear = Star u.linear; covers = c.star (m + i) u.covers here (omega arith); projects = star u.projects }
 place_all source nodes m embeds (w.plus {s = s} i x at e) a b p q =
     let u = place_all source nodes m embeds x a (m + i + 1) p (omega arith) in
     let here = subst (λ z. slice_get nodes z ≡ Some (n.Plus (m + i))) (let g : m + (i + 1) ≡ m + i + 1 = omega arith in g) (embeds (i + 1) (n.Plus i) at) in
-    record { linear = Plus u.linear; covers = c.plus (m + i) u.covers here (omega arith); erases = plus u.erases }
+    record { linear = Plus u.linear; covers = c.plus (m + i) u.covers here (omega arith); projects = plus u.projects }
 place_all source nodes m embeds (w.maybe {s = s} i x at e) a b p q =
     let u = place_all source nodes m embeds x a (m + i + 1) p (omega arith) in
     let here = subst (λ z. slice_get nodes z ≡ Some (n.Maybe (m + i))) (let g : m + (i + 1) ≡ m + i + 1 = omega arith in g) (embeds (i + 1) (n.Maybe i) at) in
-    record { linear = Maybe u.linear; covers = c.maybe (m + i) u.covers here (omega arith); erases = maybe u.erases }
+    record { linear = Maybe u.linear; covers = c.maybe (m + i) u.covers here (omega arith); projects = maybe u.projects }
 
 -- a tree has as many nodes as its size says
 pub covers_size : {nodes : List RegexNode} {s e : ℕ} {tree : Tree} → w.Covers nodes s e tree → e ≡ s + size_of tree
@@ -128,7 +128,7 @@ slice_get_behind [] ys k = ap (slice_get ys) (let e : 0 + k ≡ k = omega arith 
 slice_get_behind (x ∷ xs) ys k = ap (slice_get (x ∷ (xs ++ ys))) (let e : length (x ∷ xs) + k ≡ suc (length xs + k) = omega arith in e) ∙ slice_get_behind xs ys k
 
 -- the nodes of one tree more
-pub join_step : (trees : List Tree) (old new : List RegexNode) (roots : List ℕ) (i root : ℕ) (tree : Tree) → slice_get trees i ≡ Some tree → AreJoined trees old roots i → AreAdded old new tree root → AreJoined trees new (roots ++ root ∷ []) (i + 1)
+pub join_step : (trees : List Tree) (old new : List RegexNode) (roots : List ℕ) (i root : ℕ) (tree : Tree) → slice_get trees i ≡ Some tree → AreConcatenated trees old roots i → AreAdded old new tree root → AreConcatenated trees new (roots ++ root ∷ []) (i + 1)
 join_step trees old new roots i root tree at h a = record {
   len = omega (arith, h.len, a.last, next, long, covers_size a.covers);
   roots_len = omega (arith, h.roots_len, length-append roots (root ∷ []));
@@ -162,7 +162,7 @@ join_step trees old new roots i root tree at h a = record {
     long : length new ≡ length old + length a.source
     long = ap length a.joins ∙ length-append old (map (raised (length old)) a.source) ∙ ap (λ z. length old + z) (length-map a.source (raised (length old)))
 
-pub join_begin : (trees : List Tree) → AreJoined trees [] [] 0
+pub join_begin : (trees : List Tree) → AreConcatenated trees [] [] 0
 join_begin trees = record { len = sym (bound_first trees); roots_len = refl; parts = λ k t lt. absurd (omega arith); roots_at = λ k lt. absurd (omega arith) }
   where
     bound_first : (ts : List Tree) → bound_of ts 0 ≡ 0
@@ -174,7 +174,7 @@ pub bound_sum : (trees : List Tree) → bound_of trees (length trees) ≡ sum_by
 bound_sum [] = refl
 bound_sum (t ∷ ts) = ap (λ z. size_of t + z) (bound_sum ts) ∙ sym (sum_by-cons size_of t ts)
 
--- nodes put behind others one by one
+-- nodes put after others one by one
 pub raised_more : (old : List RegexNode) (more : List RegexNode) (i : ℕ) (node d : RegexNode) (f : RegexNode → RegexNode) → i < length more → node ≡ get_or more i d → (old ++ map f (take i more)) ++ f node ∷ [] ≡ old ++ map f (take (i + 1) more)
 raised_more old more i node d f lt e = rw (take_more more i d lt, map-append f (take i more) (get_or more i d ∷ []), e) (append_assoc old (map f (take i more)) (f (get_or more i d) ∷ []))
 

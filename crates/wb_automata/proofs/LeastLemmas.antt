@@ -9,7 +9,8 @@ use Rattle.wb_regex.specs.Matches as w
 use Rattle.wb_termset.specs.Sets.{IsMember}
 use Rattle.wb_automata.specs.Order.{IsBefore, IsAtMost}
 use Rattle.wb_automata.specs.Automata.{AutomatonView, Path, IsEarlier, IsConsidered, IsMatch, MatchesIn, GoesOn, LeadsTo, IsOrdered}
-use Rattle.wb_automata.specs.Overlaps.{HasAll, IsLeastMatch, IsLeastShared, IsLeastState, AreApartBelow}
+use Rattle.wb_automata.specs.Inner.SharedStates.{HasAll, IsLeastState, AreApartBelow}
+use Rattle.wb_automata.specs.Overlaps.{IsLeastMatch, IsLeastShared}
 use Rattle.wb_automata.proofs.OrderLemmas.{IsLatest, latest_next}
 use Rattle.wb_automata.proofs.WalkLemmas.{alike_same}
 

@@ -5,15 +5,16 @@ use Rattle.std.proofs.lemmas.List.{get_or_append_left, get_or_push, take_more, t
 use Rattle.std.proofs.lemmas.List.Elements.{Contains-append_cases, Contains-append_left, Contains-append_right, Contains-push, Contains-push_cases}
 use Rattle.std.proofs.lemmas.Bool.{cases_eq, cases_lt}
 use Rattle.std.proofs.lemmas.Option.{same_Some}
-use Rattle.wb_automata.specs.Linear.{Linear, Leaf, Sequence, Choice, Star, Plus, Maybe, empty_of}
+use Rattle.wb_automata.specs.Inner.PositionTrees.{PositionTree, Leaf, Sequence, Choice, Star, Plus, Maybe, nullable_of}
 use Rattle.wb_automata.proofs.Ranges.{more_room}
-use Rattle.wb_automata.specs.Positions.{Spans, First, Last, Follow}
+use Rattle.wb_automata.specs.Inner.Positions.{Spans, First, Last, Follow}
 use Rattle.wb_regex.specs.declared.node.RegexNode.{RegexNode}
 use Rattle.wb_regex.specs.declared.node.RegexNode.TheVariants as n
-use Rattle.wb_automata.specs.Nodes.{Covers, one, seq, choice, star, plus, maybe, row, empty_at, first_at, last_at, firsts, lasts, AreEmpties, AreFirsts, AreLasts, PartsBelow}
-use Rattle.wb_automata.specs.Follows.{LinkAt, LinkIn, AreFollows}
+use Rattle.wb_automata.specs.Inner.Nodes.{Covers, one, seq, choice, star, plus, maybe, nullable_at, first_at, last_at, firsts, lasts, AreNullable, AreFirsts, AreLasts, PartsBelow}
+use Rattle.wb_automata.specs.Rows.{row}
+use Rattle.wb_automata.specs.Inner.Follows.{LinkAt, LinkIn, AreFollows}
 
-pub covers_lt : {nodes : List RegexNode} {s e : ℕ} {t : Linear} → Covers nodes s e t → s < e
+pub covers_lt : {nodes : List RegexNode} {s e : ℕ} {t : PositionTree} → Covers nodes s e t → s < e
 covers_lt (one words is f) = omega arith
 covers_lt (seq i j c d is f) = omega (arith, covers_lt c, covers_lt d)
 covers_lt (choice i j c d is f) = omega (arith, covers_lt c, covers_lt d)
@@ -22,7 +23,7 @@ covers_lt (plus i c is f) = omega (arith, covers_lt c)
 covers_lt (maybe i c is f) = omega (arith, covers_lt c)
 
 -- nodes in post-order have their leaves in the range of their places
-pub covers_spans : {nodes : List RegexNode} {s e : ℕ} {t : Linear} → Covers nodes s e t → Spans t s e
+pub covers_spans : {nodes : List RegexNode} {s e : ℕ} {t : PositionTree} → Covers nodes s e t → Spans t s e
 covers_spans (one words is f) = (omega arith, omega arith)
 covers_spans (seq {s = s} {e = e} {t = t} i j c d is f) = (i + 1, covers_spans c, more_room t (i + 1) (j + 1) e (covers_spans d) (omega arith))
 covers_spans (choice {s = s} {e = e} {t = t} i j c d is f) = (i + 1, covers_spans c, more_room t (i + 1) (j + 1) e (covers_spans d) (omega arith))
@@ -33,30 +34,30 @@ covers_spans (maybe {s = s} {e = e} {r = r} i c is f) = more_room r s (i + 1) e 
 same_node : (nodes : List RegexNode) (i j : ℕ) (a b : RegexNode) → slice_get nodes i ≡ Some a → slice_get nodes j ≡ Some b → i ≡ j → a ≡ b
 same_node nodes i j a b e f g = same_Some a b (sym e ∙ ap (slice_get nodes) g ∙ f)
 
-empty_node : {nodes : List RegexNode} {s e : ℕ} {t : Linear} (es : List Bool) (i : ℕ) (node : RegexNode) → Covers nodes s e t → e ≡ i + 1 → slice_get nodes i ≡ Some node → AreEmpties nodes es i → empty_at es node ≡ empty_of t
-empty_node {nodes} es k node (one {s = s} words is f) g at h = ap (empty_at es) (same_node nodes k s node (n.Set words) at is (omega arith))
+empty_node : {nodes : List RegexNode} {s e : ℕ} {t : PositionTree} (es : List Bool) (i : ℕ) (node : RegexNode) → Covers nodes s e t → e ≡ i + 1 → slice_get nodes i ≡ Some node → AreNullable nodes es i → nullable_at es node ≡ nullable_of t
+empty_node {nodes} es k node (one {s = s} words is f) g at h = ap (nullable_at es) (same_node nodes k s node (n.Set words) at is (omega arith))
 empty_node {nodes} es k node (seq {s = s} {r = r} {t = t} i j c d is f) g at h =
     let p = h.each s i r (omega (arith, covers_lt d)) c in
     let q = h.each (i + 1) j t (omega arith) d in
-    ap (empty_at es) (same_node nodes k (j + 1) node (n.Sequence i j) at is (omega arith)) ∙ (rw (p, q) refl)
+    ap (nullable_at es) (same_node nodes k (j + 1) node (n.Sequence i j) at is (omega arith)) ∙ (rw (p, q) refl)
 empty_node {nodes} es k node (choice {s = s} {r = r} {t = t} i j c d is f) g at h =
     let p = h.each s i r (omega (arith, covers_lt d)) c in
     let q = h.each (i + 1) j t (omega arith) d in
-    ap (empty_at es) (same_node nodes k (j + 1) node (n.Choice i j) at is (omega arith)) ∙ (rw (p, q) refl)
-empty_node {nodes} es k node (star i c is f) g at h = ap (empty_at es) (same_node nodes k (i + 1) node (n.Star i) at is (omega arith))
-empty_node {nodes} es k node (plus {s = s} {r = r} i c is f) g at h = ap (empty_at es) (same_node nodes k (i + 1) node (n.Plus i) at is (omega arith)) ∙ h.each s i r (omega arith) c
-empty_node {nodes} es k node (maybe i c is f) g at h = ap (empty_at es) (same_node nodes k (i + 1) node (n.Maybe i) at is (omega arith))
+    ap (nullable_at es) (same_node nodes k (j + 1) node (n.Choice i j) at is (omega arith)) ∙ (rw (p, q) refl)
+empty_node {nodes} es k node (star i c is f) g at h = ap (nullable_at es) (same_node nodes k (i + 1) node (n.Star i) at is (omega arith))
+empty_node {nodes} es k node (plus {s = s} {r = r} i c is f) g at h = ap (nullable_at es) (same_node nodes k (i + 1) node (n.Plus i) at is (omega arith)) ∙ h.each s i r (omega arith) c
+empty_node {nodes} es k node (maybe i c is f) g at h = ap (nullable_at es) (same_node nodes k (i + 1) node (n.Maybe i) at is (omega arith))
 
-pub empty_step : (nodes : List RegexNode) (es : List Bool) (i : ℕ) (node : RegexNode) → AreEmpties nodes es i → slice_get nodes i ≡ Some node → AreEmpties nodes (es ++ empty_at es node ∷ []) (i + 1)
+pub empty_step : (nodes : List RegexNode) (es : List Bool) (i : ℕ) (node : RegexNode) → AreNullable nodes es i → slice_get nodes i ≡ Some node → AreNullable nodes (es ++ nullable_at es node ∷ []) (i + 1)
 empty_step nodes es i node h at = record {
-  len = length-append es (empty_at es node ∷ []) ∙ ap (λ k. k + 1) h.len;
+  len = length-append es (nullable_at es node ∷ []) ∙ ap (λ k. k + 1) h.len;
   each = λ s j t lt c. elim (cases_lt j i) [
-    | inl old ↦ get_or_append_left es (empty_at es node ∷ []) false j (omega (arith, h.len)) ∙ h.each s j t old c
-    | inr past ↦ get_or_push es (empty_at es node) false j (omega (arith, h.len)) ∙ empty_node es i node c (omega arith) at h
+    | inl old ↦ get_or_append_left es (nullable_at es node ∷ []) false j (omega (arith, h.len)) ∙ h.each s j t old c
+    | inr past ↦ get_or_push es (nullable_at es node) false j (omega (arith, h.len)) ∙ empty_node es i node c (omega arith) at h
   ];
 }
 
-first_node : {nodes : List RegexNode} {s e : ℕ} {t : Linear} (es : List Bool) (m : ℕ) (rows : List (List ℕ)) (i : ℕ) (node : RegexNode) → AreEmpties nodes es m → i ≤ m → Covers nodes s e t → e ≡ i + 1 → slice_get nodes i ≡ Some node → AreFirsts nodes rows i → first_at es rows i node ≡ firsts t
+first_node : {nodes : List RegexNode} {s e : ℕ} {t : PositionTree} (es : List Bool) (m : ℕ) (rows : List (List ℕ)) (i : ℕ) (node : RegexNode) → AreNullable nodes es m → i ≤ m → Covers nodes s e t → e ≡ i + 1 → slice_get nodes i ≡ Some node → AreFirsts nodes rows i → first_at es rows i node ≡ firsts t
 first_node {nodes} es m rows k node em le (one {s = s} words is f) g at h = ap (first_at es rows k) (same_node nodes k s node (n.Set words) at is (omega arith)) ∙ ap (λ p. p ∷ []) (let x : k ≡ s = omega arith in x)
 first_node {nodes} es m rows k node em le (seq {s = s} {r = r} {t = t} i j c d is f) g at h =
     let p = h.each s i r (omega (arith, covers_lt d)) c in
@@ -71,7 +72,7 @@ first_node {nodes} es m rows k node em le (star {s = s} {r = r} i c is f) g at h
 first_node {nodes} es m rows k node em le (plus {s = s} {r = r} i c is f) g at h = ap (first_at es rows k) (same_node nodes k (i + 1) node (n.Plus i) at is (omega arith)) ∙ h.each s i r (omega arith) c
 first_node {nodes} es m rows k node em le (maybe {s = s} {r = r} i c is f) g at h = ap (first_at es rows k) (same_node nodes k (i + 1) node (n.Maybe i) at is (omega arith)) ∙ h.each s i r (omega arith) c
 
-pub first_step : (nodes : List RegexNode) (es : List Bool) (m : ℕ) (rows : List (List ℕ)) (i : ℕ) (node : RegexNode) → AreEmpties nodes es m → i ≤ m → AreFirsts nodes rows i → slice_get nodes i ≡ Some node → AreFirsts nodes (rows ++ first_at es rows i node ∷ []) (i + 1)
+pub first_step : (nodes : List RegexNode) (es : List Bool) (m : ℕ) (rows : List (List ℕ)) (i : ℕ) (node : RegexNode) → AreNullable nodes es m → i ≤ m → AreFirsts nodes rows i → slice_get nodes i ≡ Some node → AreFirsts nodes (rows ++ first_at es rows i node ∷ []) (i + 1)
 first_step nodes es m rows i node em le h at = record {
   len = length-append rows (first_at es rows i node ∷ []) ∙ ap (λ k. k + 1) h.len;
   each = λ s j t lt c. elim (cases_lt j i) [
@@ -80,7 +81,7 @@ first_step nodes es m rows i node em le h at = record {
   ];
 }
 
-last_node : {nodes : List RegexNode} {s e : ℕ} {t : Linear} (es : List Bool) (m : ℕ) (rows : List (List ℕ)) (i : ℕ) (node : RegexNode) → AreEmpties nodes es m → i ≤ m → Covers nodes s e t → e ≡ i + 1 → slice_get nodes i ≡ Some node → AreLasts nodes rows i → last_at es rows i node ≡ lasts t
+last_node : {nodes : List RegexNode} {s e : ℕ} {t : PositionTree} (es : List Bool) (m : ℕ) (rows : List (List ℕ)) (i : ℕ) (node : RegexNode) → AreNullable nodes es m → i ≤ m → Covers nodes s e t → e ≡ i + 1 → slice_get nodes i ≡ Some node → AreLasts nodes rows i → last_at es rows i node ≡ lasts t
 last_node {nodes} es m rows k node em le (one {s = s} words is f) g at h = ap (last_at es rows k) (same_node nodes k s node (n.Set words) at is (omega arith)) ∙ ap (λ p. p ∷ []) (let x : k ≡ s = omega arith in x)
 last_node {nodes} es m rows k node em le (seq {s = s} {r = r} {t = t} i j c d is f) g at h =
     let p = h.each s i r (omega (arith, covers_lt d)) c in
@@ -95,7 +96,7 @@ last_node {nodes} es m rows k node em le (star {s = s} {r = r} i c is f) g at h 
 last_node {nodes} es m rows k node em le (plus {s = s} {r = r} i c is f) g at h = ap (last_at es rows k) (same_node nodes k (i + 1) node (n.Plus i) at is (omega arith)) ∙ h.each s i r (omega arith) c
 last_node {nodes} es m rows k node em le (maybe {s = s} {r = r} i c is f) g at h = ap (last_at es rows k) (same_node nodes k (i + 1) node (n.Maybe i) at is (omega arith)) ∙ h.each s i r (omega arith) c
 
-pub last_step : (nodes : List RegexNode) (es : List Bool) (m : ℕ) (rows : List (List ℕ)) (i : ℕ) (node : RegexNode) → AreEmpties nodes es m → i ≤ m → AreLasts nodes rows i → slice_get nodes i ≡ Some node → AreLasts nodes (rows ++ last_at es rows i node ∷ []) (i + 1)
+pub last_step : (nodes : List RegexNode) (es : List Bool) (m : ℕ) (rows : List (List ℕ)) (i : ℕ) (node : RegexNode) → AreNullable nodes es m → i ≤ m → AreLasts nodes rows i → slice_get nodes i ≡ Some node → AreLasts nodes (rows ++ last_at es rows i node ∷ []) (i + 1)
 last_step nodes es m rows i node em le h at = record {
   len = length-append rows (last_at es rows i node ∷ []) ∙ ap (λ k. k + 1) h.len;
   each = λ s j t lt c. elim (cases_lt j i) [
@@ -108,9 +109,9 @@ last_step nodes es m rows i node em le h at = record {
 pub Contains-one : (p q : ℕ) → Contains (p ∷ []) q ↔ (q ≡ p)
 Contains-one p q = (λ h. elim (Contains-push_cases [] p q h) [ inl bad ↦ (let (k, lt, is) = bad in absurd (omega arith)) | inr same ↦ sym same ], λ e. subst (λ z. Contains (p ∷ []) z) (sym e) (Contains-push [] p))
 
-pub firsts_is : (t : Linear) (p : ℕ) → Contains (firsts t) p ↔ First t p
+pub firsts_is : (t : PositionTree) (p : ℕ) → Contains (firsts t) p ↔ First t p
 firsts_is (Leaf q) p = Contains-one q p
-firsts_is (Sequence r s) p = firsts_seq (empty_of r) (firsts r) (firsts s) (firsts_is r p) (firsts_is s p)
+firsts_is (Sequence r s) p = firsts_seq (nullable_of r) (firsts r) (firsts s) (firsts_is r p) (firsts_is s p)
   where
     firsts_seq : {A B : Type 0} (b : Bool) (xs ys : List ℕ) → Contains xs p ↔ A → Contains ys p ↔ B → Contains (cond b (xs ++ ys) xs) p ↔ (A ⊎ ((b ≡ true) × B))
     firsts_seq true xs ys f g = (λ h. elim (Contains-append_cases xs ys p h) [ inl a ↦ inl (f.0 a) | inr b ↦ inr (refl, g.0 b) ], λ h. elim h [ inl a ↦ Contains-append_left xs ys p (f.1 a) | inr (e, b) ↦ Contains-append_right xs ys p (g.1 b) ])
@@ -120,9 +121,9 @@ firsts_is (Star r) p = firsts_is r p
 firsts_is (Plus r) p = firsts_is r p
 firsts_is (Maybe r) p = firsts_is r p
 
-pub lasts_is : (t : Linear) (p : ℕ) → Contains (lasts t) p ↔ Last t p
+pub lasts_is : (t : PositionTree) (p : ℕ) → Contains (lasts t) p ↔ Last t p
 lasts_is (Leaf q) p = Contains-one q p
-lasts_is (Sequence r s) p = lasts_seq (empty_of s) (lasts s) (lasts r) (lasts_is s p) (lasts_is r p)
+lasts_is (Sequence r s) p = lasts_seq (nullable_of s) (lasts s) (lasts r) (lasts_is s p) (lasts_is r p)
   where
     lasts_seq : {A B : Type 0} (b : Bool) (xs ys : List ℕ) → Contains xs p ↔ A → Contains ys p ↔ B → Contains (cond b (xs ++ ys) xs) p ↔ (A ⊎ ((b ≡ true) × B))
     lasts_seq true xs ys f g = (λ h. elim (Contains-append_cases xs ys p h) [ inl a ↦ inl (f.0 a) | inr b ↦ inr (refl, g.0 b) ], λ h. elim h [ inl a ↦ Contains-append_left xs ys p (f.1 a) | inr (e, b) ↦ Contains-append_right xs ys p (g.1 b) ])
@@ -215,7 +216,7 @@ parts_more (n.Plus a) i m le h = omega arith
 parts_more (n.Maybe a) i m le h = omega arith
 
 -- what the nodes of a tree link
-pub follow_link : {nodes : List RegexNode} {s e : ℕ} {t : Linear} (first last : List (List ℕ)) (m p q : ℕ) → AreFirsts nodes first m → AreLasts nodes last m → e ≤ m → Covers nodes s e t → Follow t p q → LinkIn nodes first last s e p q
+pub follow_link : {nodes : List RegexNode} {s e : ℕ} {t : PositionTree} (first last : List (List ℕ)) (m p q : ℕ) → AreFirsts nodes first m → AreLasts nodes last m → e ≤ m → Covers nodes s e t → Follow t p q → LinkIn nodes first last s e p q
 follow_link first last m p q hf hl le (one words is f) g = elim g [ ]
 follow_link first last m p q hf hl le (seq {s = s} {r = r} {t = t} i j c d is f) (inl (inl g)) = let l = follow_link first last m p q hf hl (omega (arith, covers_lt d)) c g in let lt = l.below in let le' = covers_lt d in record { place = l.place; node = l.node; least = l.least; below = omega arith; at = l.at; link = l.link }
 follow_link first last m p q hf hl le (seq {s = s} {r = r} {t = t} i j c d is f) (inl (inr g)) = let l = follow_link first last m p q hf hl (omega arith) d g in let lt = l.below in let le' = covers_lt c in let ge = l.least in record { place = l.place; node = l.node; least = omega arith; below = omega arith; at = l.at; link = l.link }
@@ -250,7 +251,7 @@ link_top nodes first last s e p q k top l at f = elim (cases_lt l.place k) [
 pub within : (nodes : List RegexNode) (first last : List (List ℕ)) (s e a b p q : ℕ) (l : LinkIn nodes first last s e p q) → a ≤ l.place → l.place < b → LinkIn nodes first last a b p q
 within nodes first last s e a b p q l x y = record { place = l.place; node = l.node; least = x; below = y; at = l.at; link = l.link }
 
-pub link_follow : {nodes : List RegexNode} {s e : ℕ} {t : Linear} (first last : List (List ℕ)) (m p q : ℕ) → AreFirsts nodes first m → AreLasts nodes last m → e ≤ m → Covers nodes s e t → LinkIn nodes first last s e p q → Follow t p q
+pub link_follow : {nodes : List RegexNode} {s e : ℕ} {t : PositionTree} (first last : List (List ℕ)) (m p q : ℕ) → AreFirsts nodes first m → AreLasts nodes last m → e ≤ m → Covers nodes s e t → LinkIn nodes first last s e p q → Follow t p q
 link_follow {nodes} first last m p q hf hl le (one {s = s} {e = e} words is f) l = elim (link_top nodes first last s e p q s (n.Set words) l is f) [ inl less ↦ (let ge = l.least in absurd (omega arith)) | inr bad ↦ absurd bad ]
 link_follow {nodes} first last m p q hf hl le (seq {s = s} {e = e} {r = r} {t = t} i j c d is f) l =
     let lt = covers_lt c in let lt' = covers_lt d in
@@ -296,5 +297,5 @@ link_follow {nodes} first last m p q hf hl le (maybe {s = s} {e = e} {r = r} i c
     ]
 
 -- the table of the nodes of one expression, which are those from 0 on, is Follow
-pub follows_exact : {nodes : List RegexNode} {t : Linear} (first last follow : List (List ℕ)) (m e p q : ℕ) → AreFirsts nodes first e → AreLasts nodes last e → AreFollows nodes first last follow m e → Covers nodes 0 e t → Contains (row follow p) q ↔ Follow t p q
+pub follows_exact : {nodes : List RegexNode} {t : PositionTree} (first last follow : List (List ℕ)) (m e p q : ℕ) → AreFirsts nodes first e → AreLasts nodes last e → AreFollows nodes first last follow m e → Covers nodes 0 e t → Contains (row follow p) q ↔ Follow t p q
 follows_exact first last follow m e p q hf hl h c = (λ has. link_follow first last e p q hf hl (omega arith) c ((h.each p q).0 has), λ g. (h.each p q).1 (follow_link first last e p q hf hl (omega arith) c g))

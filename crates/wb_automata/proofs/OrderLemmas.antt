@@ -1,9 +1,9 @@
--- The order of texts is transitive, and texts keep their order when bytes are put behind them.
+-- The order of texts is transitive, and texts keep their order when bytes are put after them.
 use Rattle.std.proofs.Common.{ℕ, ◌≡◌, ◌⊎◌, ◌≤◌, ◌<◌, List, [], ◌∷◌, ◌++◌, refl, sym, ◌∙◌, ap, subst, arith, inl, inr, length-append}
 use Rattle.std.proofs.lemmas.Bool.{cases_eq}
 use Rattle.wb_automata.specs.Order.{IsLessByBytes, IsBefore, IsAtMost}
 use Rattle.wb_automata.specs.Automata.{Path, IsEarlier}
-use Rattle.wb_automata.specs.Found.{on}
+use Rattle.wb_automata.specs.Inner.Found.{on}
 
 less_more : (u v : List ℕ) (a b : ℕ) → IsLessByBytes u v → IsLessByBytes (u ++ a ∷ []) (v ++ b ∷ [])
 less_more [] v a b h = elim h [ ]
@@ -24,12 +24,12 @@ less_next (x ∷ u) (y ∷ v) (z ∷ w) (inl p) (inr (e, q)) = inl (omega arith)
 less_next (x ∷ u) (y ∷ v) (z ∷ w) (inr (e, p)) (inl q) = inl (omega arith)
 less_next (x ∷ u) (y ∷ v) (z ∷ w) (inr (e, p)) (inr (f, q)) = inr (e ∙ f, less_next u v w p q)
 
--- texts that are in order keep it, whatever byte is put behind each
+-- texts that are in order keep it, whatever byte is put after each
 pub before_more : (u v : List ℕ) (a b : ℕ) → IsBefore u v → IsBefore (u ++ a ∷ []) (v ++ b ∷ [])
 before_more u v a b (inl lt) = inl (omega (arith, length-append u (a ∷ []), length-append v (b ∷ [])))
 before_more u v a b (inr (e, h)) = inr (omega (arith, length-append u (a ∷ []), length-append v (b ∷ [])), less_more u v a b h)
 
--- one text with two bytes behind it
+-- one text with two bytes after it
 pub before_last : (u : List ℕ) (a b : ℕ) → a < b → IsBefore (u ++ a ∷ []) (u ++ b ∷ [])
 before_last u a b lt = inr (omega (arith, length-append u (a ∷ []), length-append u (b ∷ [])), less_last u a b lt)
 

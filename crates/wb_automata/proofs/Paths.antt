@@ -1,7 +1,7 @@
 -- The position automaton reads exactly the texts that match.
 use Rattle.std.proofs.Common.{◌≡◌, ℕ, Bool, true, List, [], ◌∷◌, ◌++◌, refl, sym, ◌∙◌, ap, subst, ◌⊎◌, inl, inr}
-use Rattle.wb_automata.specs.Linear.{Linear, Leaf, Sequence, Choice, Star, Plus, Maybe, Matches, one, seq, left, right, none, more, once, absent, present}
-use Rattle.wb_automata.specs.Positions.{Spans, First, Last, Follow, After, Joined}
+use Rattle.wb_automata.specs.Inner.PositionTrees.{PositionTree, Leaf, Sequence, Choice, Star, Plus, Maybe, Matches, one, seq, left, right, none, more, once, absent, present}
+use Rattle.wb_automata.specs.Inner.Positions.{Spans, First, Last, Follow, After, Joined}
 use Rattle.wb_automata.proofs.Empties.{matches_empty, empty_matches, nil_left, nil_right}
 use Rattle.wb_automata.proofs.Ranges.{first_within, follow_within, after_within, apart}
 
@@ -16,21 +16,21 @@ cut [] v b w e = inl (refl, e)
 cut (c ∷ u) v b w e = inr (record { short = u; is = cc; joins = cc })
 
 -- the expression can begin with b, and w completes it
-pub record Begun (holds : ℕ → ℕ → Bool) (t : Linear) (b : ℕ) (w : List ℕ) : Type 0 where
+pub record Begun (holds : ℕ → ℕ → Bool) (t : PositionTree) (b : ℕ) (w : List ℕ) : Type 0 where
   pub at : ℕ
   pub first : First t at
   pub byte : holds at b ≡ true
   pub after : After holds t at w
 
--- behind the leaf p it can go on with b, and w completes it
-pub record Gone (holds : ℕ → ℕ → Bool) (t : Linear) (p b : ℕ) (w : List ℕ) : Type 0 where
+-- after the leaf p it can go on with b, and w completes it
+pub record Gone (holds : ℕ → ℕ → Bool) (t : PositionTree) (p b : ℕ) (w : List ℕ) : Type 0 where
   pub at : ℕ
   pub follow : Follow t p at
   pub byte : holds at b ≡ true
   pub after : After holds t at w
 
 module _ (holds : ℕ → ℕ → Bool) where
-  pub begun : {t : Linear} {x : List ℕ} (b : ℕ) (w : List ℕ) → Matches holds t x → x ≡ b ∷ w → Begun holds t b w
+  pub begun : {t : PositionTree} {x : List ℕ} (b : ℕ) (w : List ℕ) → Matches holds t x → x ≡ b ∷ w → Begun holds t b w
   begun b w (one {p} {b = c} h e) f = record { at = p; first = refl; byte = subst (λ d. holds p d ≡ true) (let g : c ≡ b = cc in g) h; after = (refl, (let g : w ≡ [] = cc in g)) }
   begun b w (seq {r} {s} {x} {y} m n e) f = elim (cut x y b w (sym e ∙ f)) [
     | inl (u, v) ↦ let d = begun b w n v in record { at = d.at; first = inr (matches_empty m u, d.first); byte = d.byte; after = inr d.after }
@@ -51,7 +51,7 @@ module _ (holds : ℕ → ℕ → Bool) where
   begun b w (present m) f = let d = begun b w m f in record { at = d.at; first = d.first; byte = d.byte; after = d.after }
 
   -- and back
-  pub begins : (t : Linear) (a c b p : ℕ) (w : List ℕ) → Spans t a c → First t p → holds p b ≡ true → After holds t p w → Matches holds t (b ∷ w)
+  pub begins : (t : PositionTree) (a c b p : ℕ) (w : List ℕ) → Spans t a c → First t p → holds p b ≡ true → After holds t p w → Matches holds t (b ∷ w)
   begins (Leaf q) a c b p w h e byte (f, g) = one {b = b} (subst (λ o. holds o b ≡ true) e byte) (ap (λ z. b ∷ z) g)
   begins (Sequence r s) a c b p w (m, x, y) (inl f) byte (inl j) = seq (begins r a m b p j.front x f byte j.before) j.behind (ap (λ z. b ∷ z) j.joins)
   begins (Sequence r s) a c b p w (m, x, y) (inl f) byte (inr g) = absurd (apart a m c p (first_within r a m p x f) (after_within holds s m c p w y g))
@@ -66,7 +66,7 @@ module _ (holds : ℕ → ℕ → Bool) where
   begins (Maybe r) a c b p w h f byte g = present (begins r a c b p w h f byte g)
 
   -- the end
-  pub last_after : (t : Linear) (p : ℕ) → Last t p → After holds t p []
+  pub last_after : (t : PositionTree) (p : ℕ) → Last t p → After holds t p []
   last_after (Leaf q) p e = (e, refl)
   last_after (Sequence r s) p (inl f) = inr (last_after s p f)
   last_after (Sequence r s) p (inr (e, f)) = inl (record { front = []; rest = []; before = last_after r p f; behind = empty_matches s e; joins = refl })
@@ -76,7 +76,7 @@ module _ (holds : ℕ → ℕ → Bool) where
   last_after (Plus r) p f = record { front = []; rest = []; before = last_after r p f; behind = none refl; joins = refl }
   last_after (Maybe r) p f = last_after r p f
 
-  pub after_last : (t : Linear) (p : ℕ) (w : List ℕ) → After holds t p w → w ≡ [] → Last t p
+  pub after_last : (t : PositionTree) (p : ℕ) (w : List ℕ) → After holds t p w → w ≡ [] → Last t p
   after_last (Leaf q) p w (e, f) g = e
   after_last (Sequence r s) p w (inl j) g = inr (matches_empty j.behind (nil_right j.front j.rest (sym j.joins ∙ g)), after_last r p j.front j.before (nil_left j.front j.rest (sym j.joins ∙ g)))
   after_last (Sequence r s) p w (inr f) g = inl (after_last s p w f g)
@@ -87,13 +87,13 @@ module _ (holds : ℕ → ℕ → Bool) where
   after_last (Maybe r) p w f g = after_last r p w f g
 
   -- a step
-  around : (r : Linear) (p b : ℕ) (x w : List ℕ) → Joined (After holds r p) (Matches holds (Star r)) x → x ≡ b ∷ w → ((y v : List ℕ) → After holds r p y → y ≡ b ∷ v → Gone holds r p b v) → Gone holds (Star r) p b w
+  around : (r : PositionTree) (p b : ℕ) (x w : List ℕ) → Joined (After holds r p) (Matches holds (Star r)) x → x ≡ b ∷ w → ((y v : List ℕ) → After holds r p y → y ≡ b ∷ v → Gone holds r p b v) → Gone holds (Star r) p b w
   around r p b x w j e goes_r = elim (cut j.front j.rest b w (sym j.joins ∙ e)) [
     | inl (u, v) ↦ let d = begun b w j.behind v in record { at = d.at; follow = inr (after_last r p j.front j.before u, d.first); byte = d.byte; after = d.after }
     | inr c ↦ let d = goes_r j.front c.short j.before c.is in record { at = d.at; follow = inl d.follow; byte = d.byte; after = record { front = c.short; rest = j.rest; before = d.after; behind = j.behind; joins = c.joins } }
   ]
 
-  pub goes : (t : Linear) (p b : ℕ) (x w : List ℕ) → After holds t p x → x ≡ b ∷ w → Gone holds t p b w
+  pub goes : (t : PositionTree) (p b : ℕ) (x w : List ℕ) → After holds t p x → x ≡ b ∷ w → Gone holds t p b w
   goes (Leaf q) p b x w (e, f) g = cc
   goes (Sequence r s) p b x w (inl j) g = elim (cut j.front j.rest b w (sym j.joins ∙ g)) [
     | inl (u, v) ↦ let d = begun b w j.behind v in record { at = d.at; follow = inr (after_last r p j.front j.before u, d.first); byte = d.byte; after = inr d.after }
@@ -107,7 +107,7 @@ module _ (holds : ℕ → ℕ → Bool) where
   goes (Maybe r) p b x w f g = let d = goes r p b x w f g in record { at = d.at; follow = d.follow; byte = d.byte; after = d.after }
 
   -- and back
-  pub comes : (t : Linear) (a c p q b : ℕ) (w : List ℕ) → Spans t a c → Follow t p q → holds q b ≡ true → After holds t q w → After holds t p (b ∷ w)
+  pub comes : (t : PositionTree) (a c p q b : ℕ) (w : List ℕ) → Spans t a c → Follow t p q → holds q b ≡ true → After holds t q w → After holds t p (b ∷ w)
   comes (Leaf o) a c p q b w h f byte g = elim f [ ]
   comes (Sequence r s) a c p q b w (m, x, y) (inl (inl f)) byte (inl j) = inl (record { front = b ∷ j.front; rest = j.rest; before = comes r a m p q b j.front x f byte j.before; behind = j.behind; joins = ap (λ z. b ∷ z) j.joins })
   comes (Sequence r s) a c p q b w (m, x, y) (inl (inl f)) byte (inr g) = let (u, v) = follow_within r a m p q x f in absurd (apart a m c q v (after_within holds s m c q w y g))

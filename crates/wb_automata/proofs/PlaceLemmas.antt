@@ -4,23 +4,24 @@ use Rattle.std.specs.Prelude.{slice_get, ◌↔◌, Contains, All}
 use Rattle.std.proofs.lemmas.List.Elements.{Contains-get_or}
 use Rattle.std.proofs.lemmas.Option.{slice_get-get_or, slice_get_within, same_Some}
 use Rattle.std.proofs.lemmas.Bool.{cases_lt}
-use Rattle.wb_automata.specs.declared.origin.Origin.{Origin}
+use Rattle.wb_automata.specs.declared.predecessor.Predecessor.{Predecessor}
 use Rattle.wb_automata.specs.declared.tables.Tables.{Tables}
 use Rattle.wb_automata.specs.Automata.{Path, IsEarlier}
-use Rattle.wb_automata.specs.Nodes.{row}
-use Rattle.wb_automata.specs.Machines.{Reads, IsPlaceList}
-use Rattle.wb_automata.specs.Found.{Found, on, path_by, grown, paths_of, pushed, IsPlaced, AllBefore, IsSetStart, IsChild, AreFound, Extends}
+use Rattle.wb_automata.specs.Rows.{row}
+use Rattle.wb_automata.specs.Inner.Transitions.{Reads, IsPlaceList}
+use Rattle.wb_automata.specs.Inner.Found.{Found, on, pushed, IsPlaced, AllBefore, IsSetStart, IsChild, AreFound, Extends}
+use Rattle.wb_automata.specs.Paths.{path_by, grown, paths_of}
 use Rattle.wb_automata.proofs.OrderLemmas.{IsLatest}
 
 pub all_from : (P : ℕ → Type 0) (xs : List ℕ) → ((x : ℕ) → Contains xs x → P x) → All P xs
 all_from P xs f k d lt = f (get_or xs k d) (Contains-get_or xs k d lt)
 
-pub grown_more : (paths : List Path) (os : List Origin) (o : Origin) → grown paths (os ++ o ∷ []) ≡ grown paths os ++ path_by (grown paths os) o ∷ []
+pub grown_more : (paths : List Path) (os : List Predecessor) (o : Predecessor) → grown paths (os ++ o ∷ []) ≡ grown paths os ++ path_by (grown paths os) o ∷ []
 grown_more paths [] o = refl
 grown_more paths (p ∷ os) o = grown_more (paths ++ path_by paths p ∷ []) os o
 
--- the paths after one more origin
-pub paths_more : (os : List Origin) (o : Origin) → paths_of (os ++ o ∷ []) ≡ paths_of os ++ path_by (paths_of os) o ∷ []
+-- the paths after one more predecessor
+pub paths_more : (os : List Predecessor) (o : Predecessor) → paths_of (os ++ o ∷ []) ≡ paths_of os ++ path_by (paths_of os) o ∷ []
 unfolding paths_of
 paths_more os o = grown_more [] os o
 

@@ -7,15 +7,16 @@ use Rattle.std.proofs.lemmas.List.Elements.{All-nil}
 use Rattle.std.proofs.lemmas.Option.{slice_get-get_or, slice_get_within, same_Some}
 use Rattle.wb_regex.specs.Tree.{Tree, Set}
 use Rattle.wb_regex.specs.declared.node.RegexNode.{RegexNode}
-use Rattle.wb_automata.specs.Linear.{Linear, Leaf, Matches}
-use Rattle.wb_automata.specs.Erasing.{Erases}
-use Rattle.wb_automata.specs.Nodes.{Covers, AreParts, AreLasts, row}
-use Rattle.wb_automata.specs.Follows.{AreBelow}
-use Rattle.wb_automata.specs.Joined.{size_of, bound_of, IsPart, AreJoined}
-use Rattle.wb_automata.specs.Machines.{holds_of}
-use Rattle.wb_automata.specs.Running.{IsFollow, IsEnds}
-use Rattle.wb_automata.specs.Sets.{Filled}
-use Rattle.wb_automata.specs.Tables.{HasPlaces, IsPlanted}
+use Rattle.wb_automata.specs.Inner.PositionTrees.{PositionTree, Leaf, Matches}
+use Rattle.wb_automata.specs.Inner.Projection.{IsProjection}
+use Rattle.wb_automata.specs.Inner.Nodes.{Covers, AreParts, AreLasts}
+use Rattle.wb_automata.specs.Rows.{row}
+use Rattle.wb_automata.specs.Inner.Follows.{AreBelow}
+use Rattle.wb_automata.specs.Inner.Concatenated.{size_of, bound_of, IsPart, AreConcatenated}
+use Rattle.wb_automata.specs.Inner.Transitions.{holds_of}
+use Rattle.wb_automata.specs.Inner.Forests.{IsFollow, IsEnds}
+use Rattle.wb_automata.specs.Inner.PositionSets.{Filled}
+use Rattle.wb_automata.specs.Inner.Tables.{HasPlaces, AreTreesAt}
 use Rattle.wb_automata.proofs.ErasingLemmas.{placed_filled, erased}
 use Rattle.wb_automata.proofs.Forests.{locate}
 use Rattle.wb_automata.proofs.JoinLemmas.{place_all, bound_rises, bound_all, covers_size}
@@ -25,12 +26,12 @@ use Rattle.wb_automata.proofs.Ranges.{first_within, follow_within}
 use Rattle.wb_automata.proofs.Subs.{Sub, sub_cover, parts_before, last_below}
 
 -- an expression with places at its leaves for a tree
-pub record Place (nodes : List RegexNode) (linears : List Linear) (a b k : ℕ) (tree : Tree) : Type 0 where
+pub record Place (nodes : List RegexNode) (linears : List PositionTree) (a b k : ℕ) (tree : Tree) : Type 0 where
   pub has : HasPlaces nodes linears k tree
   pub covers : Covers nodes a b has.linear
 
 pub record Places (nodes : List RegexNode) (m : ℕ) (trees : List Tree) : Type 0 where
-  pub linears : List Linear
+  pub linears : List PositionTree
   pub len : length linears ≡ length trees
   pub each : (k : ℕ) (tree : Tree) → slice_get trees k ≡ Some tree → Place nodes linears (m + bound_of trees k) (m + bound_of trees (suc k)) k tree
 
@@ -38,22 +39,22 @@ bound_first : (ts : List Tree) → bound_of ts 0 ≡ 0
 bound_first [] = refl
 bound_first (t ∷ ts) = refl
 
--- the places of the first tree, and those of the others behind them
-place_first : (nodes : List RegexNode) (m n : ℕ) (t : Tree) (ts : List Tree) (linear : Linear) (linears : List Linear) → Covers nodes m (m + n) linear → Erases nodes linear t → Filled (holds_of nodes) linear → ¬ Matches (holds_of nodes) linear [] → n ≡ size_of t → Place nodes (linear ∷ linears) (m + bound_of (t ∷ ts) 0) (m + bound_of (t ∷ ts) (suc zero)) 0 t
-place_first nodes m n t ts linear linears covers erases filled some long = record {
-  has = record { linear = linear; at = refl; erases = erases; filled = filled; not_empty = some };
+-- the places of the first tree, and those of the others after them
+place_first : (nodes : List RegexNode) (m n : ℕ) (t : Tree) (ts : List Tree) (linear : PositionTree) (linears : List PositionTree) → Covers nodes m (m + n) linear → IsProjection nodes linear t → Filled (holds_of nodes) linear → ¬ Matches (holds_of nodes) linear [] → n ≡ size_of t → Place nodes (linear ∷ linears) (m + bound_of (t ∷ ts) 0) (m + bound_of (t ∷ ts) (suc zero)) 0 t
+place_first nodes m n t ts linear linears covers projects filled some long = record {
+  has = record { linear = linear; at = refl; projects = projects; filled = filled; not_empty = some };
   covers = subst (λ z. Covers nodes z (m + bound_of (t ∷ ts) (suc zero)) linear) (let e : m ≡ m + 0 = omega arith in e) (subst (λ z. Covers nodes m z linear) (let e : m + n ≡ m + (size_of t + bound_of ts 0) = omega (arith, bound_first ts) in e) covers);
 }
 
-place_next : (nodes : List RegexNode) (m : ℕ) (t : Tree) (ts : List Tree) (linear : Linear) (linears : List Linear) (k : ℕ) (tree : Tree) → Place nodes linears (m + size_of t + bound_of ts k) (m + size_of t + bound_of ts (suc k)) k tree → Place nodes (linear ∷ linears) (m + bound_of (t ∷ ts) (suc k)) (m + bound_of (t ∷ ts) (suc (suc k))) (suc k) tree
+place_next : (nodes : List RegexNode) (m : ℕ) (t : Tree) (ts : List Tree) (linear : PositionTree) (linears : List PositionTree) (k : ℕ) (tree : Tree) → Place nodes linears (m + size_of t + bound_of ts k) (m + size_of t + bound_of ts (suc k)) k tree → Place nodes (linear ∷ linears) (m + bound_of (t ∷ ts) (suc k)) (m + bound_of (t ∷ ts) (suc (suc k))) (suc k) tree
 place_next nodes m t ts linear linears k tree p = record {
-  has = record { linear = p.has.linear; at = p.has.at; erases = p.has.erases; filled = p.has.filled; not_empty = p.has.not_empty };
+  has = record { linear = p.has.linear; at = p.has.at; projects = p.has.projects; filled = p.has.filled; not_empty = p.has.not_empty };
   covers = subst (λ z. Covers nodes z (m + (size_of t + bound_of ts (suc k))) p.has.linear) (let e : m + size_of t + bound_of ts k ≡ m + (size_of t + bound_of ts k) = omega arith in e) (subst (λ z. Covers nodes (m + size_of t + bound_of ts k) z p.has.linear) (let e : m + size_of t + bound_of ts (suc k) ≡ m + (size_of t + bound_of ts (suc k)) = omega arith in e) p.covers);
 }
 
-place_cases : (nodes : List RegexNode) (m n : ℕ) (t : Tree) (ts : List Tree) (linear : Linear) (linears : List Linear) → Covers nodes m (m + n) linear → Erases nodes linear t → Filled (holds_of nodes) linear → ¬ Matches (holds_of nodes) linear [] → n ≡ size_of t → ((k : ℕ) (tree : Tree) → slice_get ts k ≡ Some tree → Place nodes linears (m + size_of t + bound_of ts k) (m + size_of t + bound_of ts (suc k)) k tree) → (k : ℕ) (tree : Tree) → slice_get (t ∷ ts) k ≡ Some tree → Place nodes (linear ∷ linears) (m + bound_of (t ∷ ts) k) (m + bound_of (t ∷ ts) (suc k)) k tree
-place_cases nodes m n t ts linear linears covers erases filled some long rest zero tree at = subst (λ z. Place nodes (linear ∷ linears) (m + bound_of (t ∷ ts) 0) (m + bound_of (t ∷ ts) (suc zero)) 0 z) (same_Some t tree at) (place_first nodes m n t ts linear linears covers erases filled some long)
-place_cases nodes m n t ts linear linears covers erases filled some long rest (suc k) tree at = place_next nodes m t ts linear linears k tree (rest k tree at)
+place_cases : (nodes : List RegexNode) (m n : ℕ) (t : Tree) (ts : List Tree) (linear : PositionTree) (linears : List PositionTree) → Covers nodes m (m + n) linear → IsProjection nodes linear t → Filled (holds_of nodes) linear → ¬ Matches (holds_of nodes) linear [] → n ≡ size_of t → ((k : ℕ) (tree : Tree) → slice_get ts k ≡ Some tree → Place nodes linears (m + size_of t + bound_of ts k) (m + size_of t + bound_of ts (suc k)) k tree) → (k : ℕ) (tree : Tree) → slice_get (t ∷ ts) k ≡ Some tree → Place nodes (linear ∷ linears) (m + bound_of (t ∷ ts) k) (m + bound_of (t ∷ ts) (suc k)) k tree
+place_cases nodes m n t ts linear linears covers projects filled some long rest zero tree at = subst (λ z. Place nodes (linear ∷ linears) (m + bound_of (t ∷ ts) 0) (m + bound_of (t ∷ ts) (suc zero)) 0 z) (same_Some t tree at) (place_first nodes m n t ts linear linears covers projects filled some long)
+place_cases nodes m n t ts linear linears covers projects filled some long rest (suc k) tree at = place_next nodes m t ts linear linears k tree (rest k tree at)
 
 places_of : (nodes : List RegexNode) (m : ℕ) (trees : List Tree) → ((k : ℕ) (t : Tree) → slice_get trees k ≡ Some t → IsPart nodes (m + bound_of trees k) t) → Places nodes m trees
 places_of nodes m [] parts = record { linears = []; len = refl; each = λ k tree at. cc }
@@ -65,11 +66,11 @@ places_of nodes m (t ∷ ts) parts =
     record {
       linears = p.linear ∷ rest.linears;
       len = omega (arith, rest.len);
-      each = place_cases nodes m (length head.source) t ts p.linear rest.linears p.covers p.erases (placed_filled nodes p.erases head.filled) (λ m. head.not_empty (erased nodes p.erases m)) long rest.each;
+      each = place_cases nodes m (length head.source) t ts p.linear rest.linears p.covers p.projects (placed_filled nodes p.projects head.filled) (λ m. head.not_empty (erased nodes p.projects m)) long rest.each;
     }
 
 -- joined nodes are those of expressions with places
-pub planted : (trees : List Tree) (nodes : List RegexNode) (roots : List ℕ) → AreJoined trees nodes roots (length trees) → IsPlanted trees nodes roots
+pub planted : (trees : List Tree) (nodes : List RegexNode) (roots : List ℕ) → AreConcatenated trees nodes roots (length trees) → AreTreesAt trees nodes roots
 planted trees nodes roots h =
     let p = places_of nodes 0 trees (λ k t at. subst (λ z. IsPart nodes z t) (let e : bound_of trees k ≡ 0 + bound_of trees k = omega arith in e) (h.parts k t (slice_get_within trees k t at) at)) in
     record {
@@ -85,7 +86,7 @@ planted trees nodes roots h =
       places = λ k tree at. (p.each k tree at).has;
     }
   where
-    covers_at : (p : Places nodes 0 trees) (k : ℕ) (l : Linear) → slice_get p.linears k ≡ Some l → Covers nodes (bound_of trees k) (bound_of trees (k + 1)) l
+    covers_at : (p : Places nodes 0 trees) (k : ℕ) (l : PositionTree) → slice_get p.linears k ≡ Some l → Covers nodes (bound_of trees k) (bound_of trees (k + 1)) l
     covers_at p k l at =
         let lt : k < length trees = omega (arith, p.len, slice_get_within p.linears k l at) in
         let tree : Tree = get_or trees k (Set []) in
@@ -95,7 +96,7 @@ planted trees nodes roots h =
         (subst (λ z. Covers nodes z (bound_of trees (k + 1)) q.has.linear) (let e : 0 + bound_of trees k ≡ bound_of trees k = omega arith in e)
         (subst (λ z. Covers nodes (0 + bound_of trees k) z q.has.linear) (let e : 0 + bound_of trees (suc k) ≡ bound_of trees (k + 1) = ap (λ z. 0 + bound_of trees z) (sym (add-one k)) ∙ (let f : 0 + bound_of trees (k + 1) ≡ bound_of trees (k + 1) = omega arith in f) in e) q.covers))
 
-module _ (trees : List Tree) (nodes : List RegexNode) (roots : List ℕ) (h : IsPlanted trees nodes roots) where
+module _ (trees : List Tree) (nodes : List RegexNode) (roots : List ℕ) (h : AreTreesAt trees nodes roots) where
   -- each node is the root of an expression
   pub planted_sub : (j : ℕ) → j < length nodes → Sub nodes j
   planted_sub j lt =

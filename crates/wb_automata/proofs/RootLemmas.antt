@@ -2,19 +2,19 @@
 use Rattle.std.proofs.Common.{◌≡◌, ℕ, ◌+◌, List, [], ◌∷◌, refl, sym, ◌∙◌, ap, subst, arith, ◌⊎◌, inl, inr, length, get_or}
 use Rattle.std.specs.Prelude.{◌↔◌, Contains}
 use Rattle.std.proofs.lemmas.Bool.{cases_lt}
-use Rattle.wb_automata.specs.Nodes.{row}
-use Rattle.wb_automata.specs.Roots.{BeginAt, EndAt}
+use Rattle.wb_automata.specs.Rows.{row}
+use Rattle.wb_automata.specs.Inner.Roots.{StartAt, EndAt}
 use Rattle.wb_automata.proofs.NodeLemmas.{Contains-one}
 
-pub record BeginPass (old follow first : List (List ℕ)) (roots : List ℕ) (m i : ℕ) : Type 0 where
+pub record StartsPass (old follow first : List (List ℕ)) (roots : List ℕ) (m i : ℕ) : Type 0 where
   pub len : length follow ≡ length old
-  pub exact : (p q : ℕ) → Contains (row follow p) q ↔ (Contains (row old p) q ⊎ BeginAt first roots m i p q)
+  pub exact : (p q : ℕ) → Contains (row follow p) q ↔ (Contains (row old p) q ⊎ StartAt first roots m i p q)
 
-pub begins_start : (old first : List (List ℕ)) (roots : List ℕ) (m : ℕ) → BeginPass old old first roots m 0
-begins_start old first roots m = record { len = refl; exact = λ p q. (λ h. inl h, λ h. elim h [ inl a ↦ a | inr b ↦ (let lt = b.below in absurd (omega arith)) ]) }
+pub link_starts_begin : (old first : List (List ℕ)) (roots : List ℕ) (m : ℕ) → StartsPass old old first roots m 0
+link_starts_begin old first roots m = record { len = refl; exact = λ p q. (λ h. inl h, λ h. elim h [ inl a ↦ a | inr b ↦ (let lt = b.below in absurd (omega arith)) ]) }
 
-pub begins_step : (old follow new first : List (List ℕ)) (roots xs ys : List ℕ) (m i : ℕ) → BeginPass old follow first roots m i → xs ≡ (m + i) ∷ [] → ys ≡ row first (get_or roots i 0) → length new ≡ length follow → ((p q : ℕ) → Contains (row new p) q ↔ (Contains (row follow p) q ⊎ (Contains xs p × Contains ys q))) → BeginPass old new first roots m (i + 1)
-begins_step old follow new first roots xs ys m i h e f len exact = record {
+pub link_starts_step : (old follow new first : List (List ℕ)) (roots xs ys : List ℕ) (m i : ℕ) → StartsPass old follow first roots m i → xs ≡ (m + i) ∷ [] → ys ≡ row first (get_or roots i 0) → length new ≡ length follow → ((p q : ℕ) → Contains (row new p) q ↔ (Contains (row follow p) q ⊎ (Contains xs p × Contains ys q))) → StartsPass old new first roots m (i + 1)
+link_starts_step old follow new first roots xs ys m i h e f len exact = record {
   len = len ∙ h.len;
   exact = λ p q. (
     λ has. elim ((exact p q).0 has) [

@@ -3,14 +3,14 @@ use Rattle.std.proofs.Common.{◌≡◌, ℕ, ◌+◌, ◌≤◌, Bool, true, Li
 use Rattle.std.specs.Prelude.{slice_get, ◌↔◌, Contains}
 use Rattle.std.proofs.lemmas.Bool.{cases_eq, cases_lt}
 use Rattle.std.proofs.lemmas.Option.{same_Some, slice_get_within}
-use Rattle.wb_automata.specs.Linear.{Linear, Leaf, Sequence, Choice, Star, Plus, Maybe, Matches, one, seq, left, none, once, absent}
-use Rattle.wb_automata.specs.Positions.{First, Follow, After}
-use Rattle.wb_automata.specs.Sets.{Ranges, Filled, Rest, IsNext, IsStartOf, Stands, Ends}
+use Rattle.wb_automata.specs.Inner.PositionTrees.{PositionTree, Leaf, Sequence, Choice, Star, Plus, Maybe, Matches, one, seq, left, none, once, absent}
+use Rattle.wb_automata.specs.Inner.Positions.{First, Follow, After}
+use Rattle.wb_automata.specs.Inner.PositionSets.{Ranges, Filled, Rest, IsNext, IsStartOf, Stands, Ends}
 use Rattle.wb_automata.proofs.Ranges.{Within, first_within, follow_within, after_within}
 use Rattle.wb_automata.proofs.Paths.{begun, begins, goes, comes, last_after, after_last}
 
 -- a leaf has one expression
-same_number : (trees : List Linear) (bound : ℕ → ℕ) (k l p : ℕ) → Ranges trees bound → Within (bound k) (bound (k + 1)) p → Within (bound l) (bound (l + 1)) p → k ≡ l
+same_number : (trees : List PositionTree) (bound : ℕ → ℕ) (k l p : ℕ) → Ranges trees bound → Within (bound k) (bound (k + 1)) p → Within (bound l) (bound (l + 1)) p → k ≡ l
 same_number trees bound k l p h u v =
     elim (cases_eq k l) [
       | inl same ↦ same
@@ -20,11 +20,11 @@ same_number trees bound k l p h u v =
       ]
     ]
 
-same_tree : (trees : List Linear) (bound : ℕ → ℕ) (k l p : ℕ) (s t : Linear) → Ranges trees bound → slice_get trees k ≡ Some s → slice_get trees l ≡ Some t → Within (bound k) (bound (k + 1)) p → Within (bound l) (bound (l + 1)) p → s ≡ t
+same_tree : (trees : List PositionTree) (bound : ℕ → ℕ) (k l p : ℕ) (s t : PositionTree) → Ranges trees bound → slice_get trees k ≡ Some s → slice_get trees l ≡ Some t → Within (bound k) (bound (k + 1)) p → Within (bound l) (bound (l + 1)) p → s ≡ t
 same_tree trees bound k l p s t h e f u v = same_Some s t (sym e ∙ ap (slice_get trees) (same_number trees bound k l p h u v) ∙ f)
 
-module _ (holds : ℕ → ℕ → Bool) (trees : List Linear) (bound : ℕ → ℕ) (n : ℕ) (considered : ℕ → Type 0) (h : Ranges trees bound) (outside : (k b : ℕ) → holds (n + k) b ≡ true → ⊥) where
-  forth : (set next : List ℕ) (b k : ℕ) (t : Linear) (w : List ℕ) → IsNext holds trees n set b next → slice_get trees k ≡ Some t → Rest holds n next k t w → Rest holds n set k t (b ∷ w)
+module _ (holds : ℕ → ℕ → Bool) (trees : List PositionTree) (bound : ℕ → ℕ) (n : ℕ) (considered : ℕ → Type 0) (h : Ranges trees bound) (outside : (k b : ℕ) → holds (n + k) b ≡ true → ⊥) where
+  forth : (set next : List ℕ) (b k : ℕ) (t : PositionTree) (w : List ℕ) → IsNext holds trees n set b next → slice_get trees k ≡ Some t → Rest holds n next k t w → Rest holds n set k t (b ∷ w)
   forth set next b k t w is at r =
       let target = (is r.leaf).0 r.has in
       let l = target.links in
@@ -50,7 +50,7 @@ module _ (holds : ℕ → ℕ → Bool) (trees : List Linear) (bound : ℕ → �
         ];
       }
 
-  back : (set next : List ℕ) (b k : ℕ) (t : Linear) (w : List ℕ) → IsNext holds trees n set b next → slice_get trees k ≡ Some t → Rest holds n set k t (b ∷ w) → Rest holds n next k t w
+  back : (set next : List ℕ) (b k : ℕ) (t : PositionTree) (w : List ℕ) → IsNext holds trees n set b next → slice_get trees k ≡ Some t → Rest holds n set k t (b ∷ w) → Rest holds n next k t w
   back set next b k t w is at r = elim r.is [
     | inl after ↦
         let d = goes holds t r.leaf b (b ∷ w) w after refl in
@@ -61,7 +61,7 @@ module _ (holds : ℕ → ℕ → Bool) (trees : List Linear) (bound : ℕ → �
   ]
 
   -- the starts of the considered expressions
-  pub stands_first : (set : List ℕ) → ((p : ℕ) → Contains set p ↔ IsStartOf n (length trees) considered p) → ((k : ℕ) (t : Linear) → slice_get trees k ≡ Some t → bound (k + 1) ≤ n) → Stands holds trees n considered set []
+  pub stands_first : (set : List ℕ) → ((p : ℕ) → Contains set p ↔ IsStartOf n (length trees) considered p) → ((k : ℕ) (t : PositionTree) → slice_get trees k ≡ Some t → bound (k + 1) ≤ n) → Stands holds trees n considered set []
   stands_first set is below k t at w = (
     λ r.
         let s = (is r.leaf).0 r.has in
@@ -81,18 +81,18 @@ module _ (holds : ℕ → ℕ → Bool) (trees : List Linear) (bound : ℕ → �
   )
 
   -- it accepts exactly the considered expressions that match, of which none matches the empty text
-  pub accepts : (set : List ℕ) (x : List ℕ) → Stands holds trees n considered set x → (k : ℕ) (t : Linear) → slice_get trees k ≡ Some t → (Matches holds t [] → ⊥) → Ends set t ↔ (considered k × Matches holds t x)
+  pub accepts : (set : List ℕ) (x : List ℕ) → Stands holds trees n considered set x → (k : ℕ) (t : PositionTree) → slice_get trees k ≡ Some t → (Matches holds t [] → ⊥) → Ends set t ↔ (considered k × Matches holds t x)
   accepts set x stands k t at some = (
     λ e. let (c, m) = (stands k t at []).0 (record { leaf = e.leaf; has = e.has; is = inl (last_after holds t e.leaf e.is) }) in (c, subst (Matches holds t) (append-nil x) m),
     λ (c, m). let r = (stands k t at []).1 (c, subst (Matches holds t) (sym (append-nil x)) m) in record { leaf = r.leaf; has = r.has; is = elim r.is [ inl after ↦ after_last holds t r.leaf [] after refl | inr (same, m') ↦ absurd (some m') ] },
   )
 
 -- every other set can go on
-pub record SomeText (holds : ℕ → ℕ → Bool) (t : Linear) : Type 0 where
+pub record SomeText (holds : ℕ → ℕ → Bool) (t : PositionTree) : Type 0 where
   pub text : List ℕ
   pub matches : Matches holds t text
 
-pub some_text : (holds : ℕ → ℕ → Bool) (t : Linear) → Filled holds t → SomeText holds t
+pub some_text : (holds : ℕ → ℕ → Bool) (t : PositionTree) → Filled holds t → SomeText holds t
 some_text holds (Leaf p) (b, h) = record { text = b ∷ []; matches = one {b = b} h refl }
 some_text holds (Sequence r s) (f, g) = let u = some_text holds r f in let v = some_text holds s g in record { text = u.text ++ v.text; matches = seq u.matches v.matches refl }
 some_text holds (Choice r s) (f, g) = let u = some_text holds r f in record { text = u.text; matches = left u.matches }
@@ -100,20 +100,20 @@ some_text holds (Star r) f = record { text = []; matches = none refl }
 some_text holds (Plus r) f = let u = some_text holds r f in record { text = u.text ++ []; matches = once u.matches (none refl) refl }
 some_text holds (Maybe r) f = record { text = []; matches = absent refl }
 
-pub record Completed (holds : ℕ → ℕ → Bool) (t : Linear) (p : ℕ) : Type 0 where
+pub record Completed (holds : ℕ → ℕ → Bool) (t : PositionTree) (p : ℕ) : Type 0 where
   pub text : List ℕ
   pub after : After holds t p text
 
-around_text : (holds : ℕ → ℕ → Bool) (r : Linear) (p : ℕ) → Completed holds r p → Completed holds (Star r) p
+around_text : (holds : ℕ → ℕ → Bool) (r : PositionTree) (p : ℕ) → Completed holds r p → Completed holds (Star r) p
 around_text holds r p c = record { text = c.text ++ []; after = record { front = c.text; rest = []; before = c.after; behind = none refl; joins = refl } }
 
-seq_left : (holds : ℕ → ℕ → Bool) (r s : Linear) (p : ℕ) → SomeText holds s → Completed holds r p → Completed holds (Sequence r s) p
+seq_left : (holds : ℕ → ℕ → Bool) (r s : PositionTree) (p : ℕ) → SomeText holds s → Completed holds r p → Completed holds (Sequence r s) p
 seq_left holds r s p m c = record { text = c.text ++ m.text; after = inl (record { front = c.text; rest = m.text; before = c.after; behind = m.matches; joins = refl }) }
 
-seq_right : (holds : ℕ → ℕ → Bool) (r s : Linear) (p : ℕ) → Completed holds s p → Completed holds (Sequence r s) p
+seq_right : (holds : ℕ → ℕ → Bool) (r s : PositionTree) (p : ℕ) → Completed holds s p → Completed holds (Sequence r s) p
 seq_right holds r s p c = record { text = c.text; after = inr c.after }
 
-pub first_goes : (holds : ℕ → ℕ → Bool) (t : Linear) (p : ℕ) → Filled holds t → First t p → Completed holds t p
+pub first_goes : (holds : ℕ → ℕ → Bool) (t : PositionTree) (p : ℕ) → Filled holds t → First t p → Completed holds t p
 first_goes holds (Leaf q) p f e = record { text = []; after = (e, refl) }
 first_goes holds (Sequence r s) p (f, g) (inl i) = seq_left holds r s p (some_text holds s g) (first_goes holds r p f i)
 first_goes holds (Sequence r s) p (f, g) (inr (e, i)) = seq_right holds r s p (first_goes holds s p g i)
@@ -123,7 +123,7 @@ first_goes holds (Star r) p f i = around_text holds r p (first_goes holds r p f 
 first_goes holds (Plus r) p f i = let c = around_text holds r p (first_goes holds r p f i) in record { text = c.text; after = c.after }
 first_goes holds (Maybe r) p f i = let c = first_goes holds r p f i in record { text = c.text; after = c.after }
 
-pub follow_goes : (holds : ℕ → ℕ → Bool) (t : Linear) (p q : ℕ) → Filled holds t → Follow t p q → Completed holds t q
+pub follow_goes : (holds : ℕ → ℕ → Bool) (t : PositionTree) (p q : ℕ) → Filled holds t → Follow t p q → Completed holds t q
 follow_goes holds (Leaf o) p q f e = elim e [ ]
 follow_goes holds (Sequence r s) p q (f, g) (inl (inl i)) = seq_left holds r s q (some_text holds s g) (follow_goes holds r p q f i)
 follow_goes holds (Sequence r s) p q (f, g) (inl (inr i)) = seq_right holds r s q (follow_goes holds s p q g i)
@@ -137,14 +137,14 @@ follow_goes holds (Plus r) p q f (inr (l, i)) = let c = around_text holds r q (f
 follow_goes holds (Maybe r) p q f i = let c = follow_goes holds r p q f i in record { text = c.text; after = c.after }
 
 -- an expression that is left by some text
-pub record Alive (holds : ℕ → ℕ → Bool) (trees : List Linear) (n : ℕ) (set : List ℕ) : Type 0 where
+pub record Alive (holds : ℕ → ℕ → Bool) (trees : List PositionTree) (n : ℕ) (set : List ℕ) : Type 0 where
   pub number : ℕ
-  pub tree : Linear
+  pub tree : PositionTree
   pub at : slice_get trees number ≡ Some tree
   pub text : List ℕ
   pub rest : Rest holds n set number tree text
 
-pub alive : (holds : ℕ → ℕ → Bool) (trees : List Linear) (n : ℕ) (set next : List ℕ) (b q : ℕ) → ((k : ℕ) (t : Linear) → slice_get trees k ≡ Some t → Filled holds t) → IsNext holds trees n set b next → Contains next q → Alive holds trees n next
+pub alive : (holds : ℕ → ℕ → Bool) (trees : List PositionTree) (n : ℕ) (set next : List ℕ) (b q : ℕ) → ((k : ℕ) (t : PositionTree) → slice_get trees k ≡ Some t → Filled holds t) → IsNext holds trees n set b next → Contains next q → Alive holds trees n next
 alive holds trees n set next b q filled is has =
     let target = (is q).0 has in
     let l = target.links in

@@ -6,11 +6,11 @@ use Rattle.std.proofs.lemmas.List.{get_or_append_left, get_or_push, get_or_past,
 use Rattle.std.proofs.lemmas.List.Elements.{Contains-append_left, Contains-push, Contains-push_cases, All-contains}
 use Rattle.std.proofs.lemmas.Option.{same_Some}
 use Rattle.wb_termset.specs.Sets.{IsMember}
-use Rattle.wb_automata.specs.Nodes.{row}
+use Rattle.wb_automata.specs.Rows.{row}
 use Rattle.wb_automata.specs.Order.{AreRising}
-use Rattle.wb_automata.specs.Machines.{IsPlaceList}
-use Rattle.wb_automata.specs.Sets.{IsStartOf}
-use Rattle.wb_automata.specs.Tables.{IsStartsOf, AreStarts}
+use Rattle.wb_automata.specs.Inner.Transitions.{IsPlaceList}
+use Rattle.wb_automata.specs.Inner.PositionSets.{IsStartOf}
+use Rattle.wb_automata.specs.Inner.Tables.{IsStartsOf, AreStarts}
 use Rattle.wb_automata.proofs.PlaceLemmas.{all_from}
 use Rattle.wb_automata.proofs.AcceptedLemmas.{rising_none}
 

@@ -8,11 +8,11 @@ use Rattle.std.proofs.lemmas.Option.{slice_get-get_or, slice_get_within, same_So
 use Rattle.std.proofs.lemmas.Bool.{cases_lt}
 use Rattle.wb_automata.specs.declared.tables.Tables.{Tables}
 use Rattle.wb_automata.specs.Automata.{Path, IsEarlier}
-use Rattle.wb_automata.specs.Nodes.{row}
-use Rattle.wb_automata.specs.Machines.{IsTable, IsPlaceList, Ahead, Reads}
+use Rattle.wb_automata.specs.Rows.{row}
+use Rattle.wb_automata.specs.Inner.Transitions.{IsTable, IsPlaceList, Ahead, Reads}
 use Rattle.wb_automata.specs.Order.{AreRising}
-use Rattle.wb_automata.specs.Found.{Found, on, pushed, IsPlaced, IsMoved, AllBefore, IsChild, AreFound, Extends}
-use Rattle.wb_automata.specs.Exploring.{IsMove, AreMoves, IsReady, SetsBelow, RowPass, RowsPass, RowsFrom, StartsAt, AreExplored}
+use Rattle.wb_automata.specs.Inner.Found.{Found, on, pushed, IsPlaced, IsMoved, AllBefore, IsChild, AreFound, Extends}
+use Rattle.wb_automata.specs.Inner.Exploring.{IsMove, AreMoves, IsReady, SetsBelow, RowPass, RowsPass, RowsFrom, StartsAt, AreExplored}
 use Rattle.wb_automata.proofs.OrderLemmas.{IsLatest, earlier_more, earlier_last, earlier_next}
 use Rattle.wb_automata.proofs.PlaceLemmas.{all_from, extends_same, extends_more, place_extends, place_found, place_target, place_before, slice_get_last, slice_get_cases, slice_get_more, NewState}
 

@@ -3,20 +3,21 @@ use Rattle.std.proofs.Common.{◌≡◌, ℕ, ◌+◌, ◌≤◌, ◌<◌, List,
 use Rattle.std.specs.Prelude.{slice_get, Contains, All}
 use Rattle.std.proofs.lemmas.Bool.{cases_lt}
 use Rattle.std.proofs.lemmas.Option.{same_Some}
-use Rattle.wb_automata.specs.Linear.{Linear, Leaf, Sequence, Choice, Star, Plus, Maybe}
+use Rattle.wb_automata.specs.Inner.PositionTrees.{PositionTree, Leaf, Sequence, Choice, Star, Plus, Maybe}
 use Rattle.wb_regex.specs.declared.node.RegexNode.{RegexNode}
 use Rattle.wb_regex.specs.declared.node.RegexNode.TheVariants as n
-use Rattle.wb_automata.specs.Nodes.{Covers, one, seq, choice, star, plus, maybe, PartsBelow, AreLasts, row, lasts}
+use Rattle.wb_automata.specs.Inner.Nodes.{Covers, one, seq, choice, star, plus, maybe, PartsBelow, AreLasts, lasts}
+use Rattle.wb_automata.specs.Rows.{row}
 use Rattle.wb_automata.proofs.NodeLemmas.{covers_lt, covers_spans, lasts_is}
 use Rattle.wb_automata.proofs.Ranges.{last_within}
 use Rattle.wb_automata.proofs.PlaceLemmas.{all_from}
 
 pub record Sub (nodes : List RegexNode) (j : ℕ) : Type 0 where
   pub start : ℕ
-  pub tree : Linear
+  pub tree : PositionTree
   pub covers : Covers nodes start (j + 1) tree
 
-pub sub_cover : {nodes : List RegexNode} {s e : ℕ} {t : Linear} (j : ℕ) → Covers nodes s e t → s ≤ j → j < e → Sub nodes j
+pub sub_cover : {nodes : List RegexNode} {s e : ℕ} {t : PositionTree} (j : ℕ) → Covers nodes s e t → s ≤ j → j < e → Sub nodes j
 sub_cover {nodes} j (one {s = s} words is f) ge lt = record { start = s; tree = Leaf s; covers = one words is (omega arith) }
 sub_cover j (seq {s = s} {r = r} {t = t} i k c d is f) ge lt = elim (cases_lt j (i + 1)) [
   | inl early ↦ sub_cover j c ge early
@@ -34,7 +35,7 @@ at_place : (nodes : List RegexNode) (i j : ℕ) (a b : RegexNode) → slice_get 
 at_place nodes i j a b e f g = same_Some b a (sym f ∙ ap (slice_get nodes) (sym g) ∙ e)
 
 -- so its parts stand before it
-pub parts_before : {nodes : List RegexNode} {s e : ℕ} {t : Linear} (j : ℕ) (node : RegexNode) → Covers nodes s e t → e ≡ j + 1 → slice_get nodes j ≡ Some node → PartsBelow j node
+pub parts_before : {nodes : List RegexNode} {s e : ℕ} {t : PositionTree} (j : ℕ) (node : RegexNode) → Covers nodes s e t → e ≡ j + 1 → slice_get nodes j ≡ Some node → PartsBelow j node
 parts_before {nodes} j node (one {s = s} words is f) g at = subst (PartsBelow j) (at_place nodes j s node (n.Set words) at is (omega arith)) tt
 parts_before {nodes} j node (seq i k c d is f) g at = let lt = covers_lt d in subst (PartsBelow j) (at_place nodes j (k + 1) node (n.Sequence i k) at is (omega arith)) (omega arith, omega arith)
 parts_before {nodes} j node (choice i k c d is f) g at = let lt = covers_lt d in subst (PartsBelow j) (at_place nodes j (k + 1) node (n.Choice i k) at is (omega arith)) (omega arith, omega arith)

@@ -7,21 +7,21 @@ use Rattle.std.proofs.lemmas.Option.{slice_get_within}
 use Rattle.wb_regex.specs.Tree.{Tree}
 use Rattle.wb_regex.specs.declared.node.RegexNode.{RegexNode}
 use Rattle.wb_automata.specs.declared.tables.Tables.{Tables}
-use Rattle.wb_automata.specs.Joined.{AreJoined, bound_of}
-use Rattle.wb_automata.specs.Nodes.{row}
-use Rattle.wb_automata.specs.Follows.{LinkIn}
-use Rattle.wb_automata.specs.Machines.{IsPlaceList}
-use Rattle.wb_automata.specs.Roots.{BeginAt, EndAt}
-use Rattle.wb_automata.specs.Running.{IsFollow, IsEnds}
-use Rattle.wb_automata.specs.Tables.{IsPlanted, AreTables, AreStarts, AreLinks}
+use Rattle.wb_automata.specs.Inner.Concatenated.{AreConcatenated, bound_of}
+use Rattle.wb_automata.specs.Rows.{row}
+use Rattle.wb_automata.specs.Inner.Follows.{LinkIn}
+use Rattle.wb_automata.specs.Inner.Transitions.{IsPlaceList}
+use Rattle.wb_automata.specs.Inner.Roots.{StartAt, EndAt}
+use Rattle.wb_automata.specs.Inner.Forests.{IsFollow, IsEnds}
+use Rattle.wb_automata.specs.Inner.Tables.{AreTreesAt, AreTables, AreStarts, AreLinks}
 use Rattle.wb_automata.specs.Automata.{size_of}
 use Rattle.wb_automata.proofs.JoinLemmas.{bound_sum}
 use Rattle.wb_automata.proofs.PlantLemmas.{planted, planted_follow, planted_ends}
 use Rattle.wb_automata.proofs.Wholes.{follow_whole, ends_whole}
 
-pub tables_whole : (trees : List Tree) (sets : List (List Bool)) (roots : List ℕ) (t : Tables) → AreJoined trees t.nodes.items roots (length trees) → AreLinks t.nodes.items roots t.follow t.ends → AreStarts (length t.nodes.items) (length trees) sets t.starts (length sets) → AreTables trees sets t
+pub tables_whole : (trees : List Tree) (sets : List (List Bool)) (roots : List ℕ) (t : Tables) → AreConcatenated trees t.nodes.items roots (length trees) → AreLinks t.nodes.items roots t.follow t.ends → AreStarts (length t.nodes.items) (length trees) sets t.starts (length sets) → AreTables trees sets t
 tables_whole trees sets roots t joined m starts =
-    let h : IsPlanted trees t.nodes.items roots = planted trees t.nodes.items roots joined in
+    let h : AreTreesAt trees t.nodes.items roots = planted trees t.nodes.items roots joined in
     let f : IsFollow t.nodes.items h.linears t.follow = follow_whole t.nodes.items h.linears (bound_of trees) roots h.forest h.are_roots m.first m.last t.follow m.firsts m.lasts m.follow_exact in
     let e : IsEnds h.linears t.ends = ends_whole t.nodes.items h.linears (bound_of trees) roots h.forest h.are_roots m.last t.ends m.lasts m.ends_exact in
     let follow_len : length t.follow ≡ length t.nodes.items + length trees = m.follow_len ∙ ap (λ z. length t.nodes.items + z) joined.roots_len in

@@ -9,15 +9,15 @@ use Rattle.wb_regex.specs.Tree.{Tree}
 use Rattle.wb_regex.specs.declared.node.RegexNode.{RegexNode}
 use Rattle.wb_regex.specs.declared.node.RegexNode.TheVariants as n
 use Rattle.wb_automata.specs.declared.tables.Tables.{Tables}
-use Rattle.wb_automata.specs.Nodes.{row}
-use Rattle.wb_automata.specs.Machines.{holds_of, node_holds}
+use Rattle.wb_automata.specs.Rows.{row}
+use Rattle.wb_automata.specs.Inner.Transitions.{holds_of, node_holds}
 use Rattle.wb_automata.specs.Order.{AreRising}
-use Rattle.wb_automata.specs.Found.{Found, on}
-use Rattle.wb_automata.specs.Exploring.{IsMove, AreExplored, StartsAt}
-use Rattle.wb_automata.specs.Classes.{AreClasses}
-use Rattle.wb_automata.specs.Accepted.{AreAccepted}
+use Rattle.wb_automata.specs.Inner.Found.{Found, on}
+use Rattle.wb_automata.specs.Inner.Exploring.{IsMove, AreExplored, StartsAt}
+use Rattle.wb_automata.specs.Inner.Classes.{AreClasses}
+use Rattle.wb_automata.specs.Inner.Accepted.{AreAccepted}
 use Rattle.wb_automata.specs.Automata.{AutomatonView, Path, IsMatch, MatchesIn, GoesOn, AreAlike, LeadsTo, IsFound, IsEarlier, most_states}
-use Rattle.wb_automata.specs.Tables.{AreTables}
+use Rattle.wb_automata.specs.Inner.Tables.{AreTables}
 use Rattle.wb_automata.specs.Kept.{IsStepOf, IsAutomaton}
 use Rattle.wb_automata.proofs.ErasingLemmas.{byte_within}
 use Rattle.wb_automata.proofs.TableLemmas.{nodes_many}

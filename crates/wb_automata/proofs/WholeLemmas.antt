@@ -10,22 +10,22 @@ use Rattle.wb_regex.specs.Tree.{Tree, Set}
 use Rattle.wb_regex.specs.declared.node.RegexNode.{RegexNode}
 use Rattle.wb_regex.specs.declared.node.RegexNode.TheVariants as n
 use Rattle.wb_automata.specs.declared.tables.Tables.{Tables}
-use Rattle.wb_automata.specs.Linear.{Linear, Matches}
-use Rattle.wb_automata.specs.Nodes.{row}
-use Rattle.wb_automata.specs.Machines.{Ahead, Reads, holds_of, node_holds}
-use Rattle.wb_automata.specs.Sets.{Stands, Ranges, IsNext, IsStartOf, Filled}
-use Rattle.wb_automata.specs.Running.{IsForest}
-use Rattle.wb_automata.specs.Found.{Found, AreFound, IsSetStart, IsChild, on}
-use Rattle.wb_automata.specs.Exploring.{IsMove}
+use Rattle.wb_automata.specs.Inner.PositionTrees.{PositionTree, Matches}
+use Rattle.wb_automata.specs.Rows.{row}
+use Rattle.wb_automata.specs.Inner.Transitions.{Ahead, Reads, holds_of, node_holds}
+use Rattle.wb_automata.specs.Inner.PositionSets.{Stands, Ranges, IsNext, IsStartOf, Filled}
+use Rattle.wb_automata.specs.Inner.Forests.{IsForest}
+use Rattle.wb_automata.specs.Inner.Found.{Found, AreFound, IsSetStart, IsChild, on}
+use Rattle.wb_automata.specs.Inner.Exploring.{IsMove}
 use Rattle.wb_automata.specs.Automata.{AutomatonView, Path, IsConsidered, IsMatch, MatchesIn, GoesOn, AreAlike}
-use Rattle.wb_automata.specs.Tables.{AreTables}
-use Rattle.wb_automata.specs.Joined.{bound_of}
+use Rattle.wb_automata.specs.Inner.Tables.{AreTables}
+use Rattle.wb_automata.specs.Inner.Concatenated.{bound_of}
 use Rattle.wb_automata.specs.Kept.{IsStepOf}
 use Rattle.wb_automata.proofs.ErasingLemmas.{erased, placed}
 use Rattle.wb_automata.proofs.NodeLemmas.{covers_spans}
 use Rattle.wb_automata.proofs.StandsLemmas.{stands_first, stands_next, accepts, alive, some_text}
 
-forest_ranges : (nodes : List RegexNode) (trees : List Linear) (bound : ℕ → ℕ) → IsForest nodes trees bound → Ranges trees bound
+forest_ranges : (nodes : List RegexNode) (trees : List PositionTree) (bound : ℕ → ℕ) → IsForest nodes trees bound → Ranges trees bound
 forest_ranges nodes trees bound h = record { spans = λ k t at. covers_spans (h.covers k t at); rises = h.rises }
 
 pub blank : (b : ℕ) → node_holds (n.Set []) b ≡ false
@@ -84,22 +84,22 @@ module _ (trees : List Tree) (sets : List (List Bool)) (t : Tables) (h : AreTabl
   represents found f j places path at at_path = represents_below found f (suc j) j places path (omega arith) at at_path
 
   -- a terminal of the expressions with places
-  tree_at : (k : ℕ) (l : Linear) → slice_get h.planted.linears k ≡ Some l → slice_get trees k ≡ Some (get_or trees k (Set []))
+  tree_at : (k : ℕ) (l : PositionTree) → slice_get h.planted.linears k ≡ Some l → slice_get trees k ≡ Some (get_or trees k (Set []))
   tree_at k l at = slice_get-get_or trees k (Set []) (omega (arith, h.planted.len, slice_get_within h.planted.linears k l at))
 
-  back_match : (k : ℕ) (l : Linear) (x : List ℕ) → slice_get h.planted.linears k ≡ Some l → Matches (holds_of t.nodes.items) l x → IsMatch trees k x
+  back_match : (k : ℕ) (l : PositionTree) (x : List ℕ) → slice_get h.planted.linears k ≡ Some l → Matches (holds_of t.nodes.items) l x → IsMatch trees k x
   back_match k l x at m =
       let p = h.planted.places k (get_or trees k (Set [])) (tree_at k l at) in
-      record { tree = get_or trees k (Set []); at = tree_at k l at; matches = erased t.nodes.items p.erases (subst (λ z. Matches (holds_of t.nodes.items) z x) (same_Some l p.linear (sym at ∙ p.at)) m) }
+      record { tree = get_or trees k (Set []); at = tree_at k l at; matches = erased t.nodes.items p.projects (subst (λ z. Matches (holds_of t.nodes.items) z x) (same_Some l p.linear (sym at ∙ p.at)) m) }
 
-  filled_all : (k : ℕ) (l : Linear) → slice_get h.planted.linears k ≡ Some l → Filled (holds_of t.nodes.items) l
+  filled_all : (k : ℕ) (l : PositionTree) → slice_get h.planted.linears k ≡ Some l → Filled (holds_of t.nodes.items) l
   filled_all k l at =
       let p = h.planted.places k (get_or trees k (Set [])) (tree_at k l at) in
       subst (Filled (holds_of t.nodes.items)) (same_Some p.linear l (sym p.at ∙ at)) p.filled
 
   -- no terminal matches the empty text, and some text matches each
   pub not_empty : (k : ℕ) → ¬ IsMatch trees k []
-  not_empty k m = let p = h.planted.places k m.tree m.at in p.not_empty (placed t.nodes.items p.erases m.matches)
+  not_empty k m = let p = h.planted.places k m.tree m.at in p.not_empty (placed t.nodes.items p.projects m.matches)
 
   pub filled : (k : ℕ) → k < length trees → (text : List ℕ) × IsMatch trees k text
   filled k lt =
@@ -112,8 +112,8 @@ module _ (trees : List Tree) (sets : List (List Bool)) (t : Tables) (h : AreTabl
   move_match : (found : Found) (places : List ℕ) (x y : Path) (rest : List ℕ) (k : ℕ) → Represents places x → Represents places y → MatchesIn (record { terminals = trees; sets = sets; paths = found.paths }) x.set k (x.text ++ rest) → MatchesIn (record { terminals = trees; sets = sets; paths = found.paths }) y.set k (y.text ++ rest)
   move_match found places x y rest k p q m =
       let at = h.planted.places k m.is.tree m.is.at in
-      let (c, r) = (q k at.linear at.at rest).0 ((p k at.linear at.at rest).1 (m.considered, placed t.nodes.items at.erases m.is.matches)) in
-      record { considered = c; is = record { tree = m.is.tree; at = m.is.at; matches = erased t.nodes.items at.erases r } }
+      let (c, r) = (q k at.linear at.at rest).0 ((p k at.linear at.at rest).1 (m.considered, placed t.nodes.items at.projects m.is.matches)) in
+      record { considered = c; is = record { tree = m.is.tree; at = m.is.at; matches = erased t.nodes.items at.projects r } }
 
   pub alike : (found : Found) (places : List ℕ) (x y : Path) → Represents places x → Represents places y → AreAlike (record { terminals = trees; sets = sets; paths = found.paths }) x y
   alike found places x y p q k rest = (λ m. move_match found places x y rest k p q m, λ m. move_match found places y x rest k q p m)
@@ -123,7 +123,7 @@ module _ (trees : List Tree) (sets : List (List Bool)) (t : Tables) (h : AreTabl
   stops found places path b stands none g =
       let next : Represents [] (on path b) = step_represents places [] path b stands (λ q. (λ (k, bad, _). absurd (omega arith), λ r. absurd (none q r))) in
       let at = h.planted.places g.terminal g.is.is.tree g.is.is.at in
-      let r = (next g.terminal at.linear at.at g.rest).1 (g.is.considered, placed t.nodes.items at.erases g.is.is.matches) in
+      let r = (next g.terminal at.linear at.at g.rest).1 (g.is.considered, placed t.nodes.items at.projects g.is.is.matches) in
       let (k, bad, _) = r.has in omega arith
 
   -- where some leaf reads it, some match goes on
@@ -143,11 +143,11 @@ module _ (trees : List Tree) (sets : List (List Bool)) (t : Tables) (h : AreTabl
         record { considered = c; is = back_match k e.tree path.text e.at m },
     λ m.
         let at = h.planted.places k m.is.tree m.is.at in
-        let e = (accepts (holds_of t.nodes.items) h.planted.linears (bound_of trees) (length t.nodes.items) (IsConsidered sets path.set) here (outside t.nodes.items) places path.text stands k at.linear at.at at.not_empty).1 (m.considered, placed t.nodes.items at.erases m.is.matches) in
+        let e = (accepts (holds_of t.nodes.items) h.planted.linears (bound_of trees) (length t.nodes.items) (IsConsidered sets path.set) here (outside t.nodes.items) places path.text stands k at.linear at.at at.not_empty).1 (m.considered, placed t.nodes.items at.projects m.is.matches) in
         record { from = e.leaf; has = e.has; follows = (h.is_ends e.leaf k).1 (record { tree = at.linear; at = at.at; ends = e.is }) },
   )
     where
-      none_of : (k : ℕ) (l : Linear) → slice_get h.planted.linears k ≡ Some l → ¬ Matches (holds_of t.nodes.items) l []
+      none_of : (k : ℕ) (l : PositionTree) → slice_get h.planted.linears k ≡ Some l → ¬ Matches (holds_of t.nodes.items) l []
       none_of k l at m = not_empty k (back_match k l [] at m)
 
   -- a move of the table is a step

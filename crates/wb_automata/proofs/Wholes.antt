@@ -2,26 +2,27 @@
 use Rattle.std.proofs.Common.{◌≡◌, ℕ, ◌+◌, ◌<◌, Bool, List, sym, ◌∙◌, subst, arith, ◌⊎◌, inl, inr, Some, length, get_or}
 use Rattle.std.specs.Prelude.{slice_get, ◌↔◌, Contains}
 use Rattle.std.proofs.lemmas.Option.{slice_get-get_or, slice_get_within}
-use Rattle.wb_automata.specs.Linear.{Linear, Leaf}
+use Rattle.wb_automata.specs.Inner.PositionTrees.{PositionTree, Leaf}
 use Rattle.wb_regex.specs.declared.node.RegexNode.{RegexNode}
-use Rattle.wb_automata.specs.Nodes.{AreFirsts, AreLasts, Covers, row, firsts, lasts}
-use Rattle.wb_automata.specs.Follows.{LinkIn}
-use Rattle.wb_automata.specs.Roots.{BeginAt, EndAt}
-use Rattle.wb_automata.specs.Running.{IsForest, IsFollow, IsEnds, AreRoots}
+use Rattle.wb_automata.specs.Inner.Nodes.{AreFirsts, AreLasts, Covers, firsts, lasts}
+use Rattle.wb_automata.specs.Rows.{row}
+use Rattle.wb_automata.specs.Inner.Follows.{LinkIn}
+use Rattle.wb_automata.specs.Inner.Roots.{StartAt, EndAt}
+use Rattle.wb_automata.specs.Inner.Forests.{IsForest, IsFollow, IsEnds, AreRoots}
 use Rattle.wb_automata.proofs.NodeLemmas.{firsts_is, lasts_is}
 use Rattle.wb_automata.proofs.Forests.{links_exact}
 
-module _ (nodes : List RegexNode) (trees : List Linear) (bound : ℕ → ℕ) (roots : List ℕ) (forest : IsForest nodes trees bound) (h : AreRoots nodes trees bound roots) where
-  covered : (k : ℕ) (t : Linear) → slice_get trees k ≡ Some t → Covers nodes (bound k) (get_or roots k 0 + 1) t
+module _ (nodes : List RegexNode) (trees : List PositionTree) (bound : ℕ → ℕ) (roots : List ℕ) (forest : IsForest nodes trees bound) (h : AreRoots nodes trees bound roots) where
+  covered : (k : ℕ) (t : PositionTree) → slice_get trees k ≡ Some t → Covers nodes (bound k) (get_or roots k 0 + 1) t
   covered k t at = subst (λ e. Covers nodes (bound k) e t) (h.each k (omega (arith, h.len, slice_get_within trees k t at))) (forest.covers k t at)
 
-  root_below : (k : ℕ) (t : Linear) → slice_get trees k ≡ Some t → get_or roots k 0 < length nodes
+  root_below : (k : ℕ) (t : PositionTree) → slice_get trees k ≡ Some t → get_or roots k 0 < length nodes
   root_below k t at = omega (arith, h.each k (omega (arith, h.len, slice_get_within trees k t at)), forest.all (k + 1))
 
   tree_at : (k : ℕ) → k < length roots → slice_get trees k ≡ Some (get_or trees k (Leaf 0))
   tree_at k lt = slice_get-get_or trees k (Leaf 0) (omega (arith, h.len))
 
-  pub follow_whole : (first last follow : List (List ℕ)) → AreFirsts nodes first (length nodes) → AreLasts nodes last (length nodes) → ((p q : ℕ) → Contains (row follow p) q ↔ (LinkIn nodes first last 0 (length nodes) p q ⊎ BeginAt first roots (length nodes) (length roots) p q)) → IsFollow nodes trees follow
+  pub follow_whole : (first last follow : List (List ℕ)) → AreFirsts nodes first (length nodes) → AreLasts nodes last (length nodes) → ((p q : ℕ) → Contains (row follow p) q ↔ (LinkIn nodes first last 0 (length nodes) p q ⊎ StartAt first roots (length nodes) (length roots) p q)) → IsFollow nodes trees follow
   follow_whole first last follow hf hl exact p q = (
     λ has. elim ((exact p q).0 has) [
       | inl l ↦ let f = (links_exact nodes trees bound first last p q forest h.begin h.whole hf hl).0 l in record { number = f.number; tree = f.tree; at = f.at; link = inl f.follow }

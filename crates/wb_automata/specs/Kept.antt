@@ -1,7 +1,7 @@
 -- What an automaton keeps: a start for each set, a table of moves by classes of bytes, and a list of terminals for each state.
 use Rattle.std.specs.Prelude.{◌≡◌, ◌+◌, ◌*◌, ◌^◌, ◌<◌, ◌≤◌, ◌↔◌, ◌⊎◌, ℕ, Option, Some, None, List, [], ◌∷◌, ◌++◌, Contains, length, slice_get, slice_index, slice_index_or}
 use Rattle.wb_regex.specs.Tree.{Tree}
-use Rattle.wb_automata.specs.Nodes.{row}
+use Rattle.wb_automata.specs.Rows.{row}
 use Rattle.wb_automata.specs.Order.{AreRising}
 use Rattle.wb_automata.specs.Automata.{AutomatonView, Path, MatchesIn, GoesOn, AreAlike, IsOrdered, IsMatch, LeadsTo, most_states}
 

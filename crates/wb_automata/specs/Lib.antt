@@ -1,22 +1,16 @@
-pub mod Accepted
+-- what the states of an automaton say of the texts that lead to them
 pub mod Automata
-pub mod Classes
-pub mod Ends
-pub mod Erasing
-pub mod Exploring
-pub mod Follows
-pub mod Found
-pub mod Joined
-pub mod Kept
-pub mod Linear
-pub mod MachineCode
-pub mod Machines
-pub mod Moves
-pub mod Nodes
+-- the order of texts, and lists that rise
 pub mod Order
+-- the least texts that two expressions share and that one matches
 pub mod Overlaps
-pub mod Positions
-pub mod Roots
-pub mod Running
-pub mod Sets
-pub mod Tables
+-- what an automaton keeps
+pub mod Kept
+-- codes of moves
+pub mod Moves
+-- paths of states, by where each was found from
+pub mod Paths
+-- lists of lists
+pub mod Rows
+-- what only proofs need
+pub mod Inner

@@ -1,12 +1,12 @@
 //! The terminals that states accept.
 
 ghost use Rattle.std.specs.Prelude.{◌≡◌, ◌<◌, ℕ, Some, All, IfOk, List, length, slice_get};
-ghost use Rattle.wb_automata.specs.Follows.{AreBelow};
-ghost use Rattle.wb_automata.specs.Accepted.{AreAccepted};
+ghost use Rattle.wb_automata.specs.Inner.Follows.{AreBelow};
+ghost use Rattle.wb_automata.specs.Inner.Accepted.{AreAccepted};
 
-use crate::machine::gathered;
 use crate::rows::Rows;
 use crate::states::States;
+use crate::transition::successors;
 use std::alloc::{AllocError, Global};
 
 /// The terminals with which some leaf of each state may end.
@@ -22,7 +22,7 @@ pub(crate) fn accepted_of(
 {
     let mut accepted = Rows::new(alloc);
     for i in 0..states.len() {
-        let terminals = gathered(alloc, count, ends, states.at(i))?;
+        let terminals = successors(alloc, count, ends, states.at(i))?;
         accepted.push(terminals)?;
     }
     Ok(accepted)

@@ -8,7 +8,7 @@ use crate::accepted::accepted_of;
 use crate::classes::classes_of;
 use crate::explore::explore;
 use crate::moves::state_from;
-use crate::origin::Origin;
+use crate::predecessor::Predecessor;
 use crate::rows::Rows;
 use crate::tables::tables_of;
 use crate::text::text_at;
@@ -33,24 +33,24 @@ pub struct Automaton {
     width: usize,
     moves: Vec<u32>,
     accepted: Rows,
-    origins: Vec<Origin>,
+    predecessors: Vec<Predecessor>,
 }
 
 impl Model for Automaton {
     ghost use Rattle.std.specs.Prelude.{map};
     ghost use Rattle.wb_automata.specs.Automata.{AutomatonView};
     ghost use Rattle.wb_automata.specs.Moves.{move_at};
-    ghost use Rattle.wb_automata.specs.Found.{paths_of};
+    ghost use Rattle.wb_automata.specs.Paths.{paths_of};
     ghost use Rattle.wb_automata.specs.Kept.{IsAutomaton};
-    ghost use Rattle.wb_automata.specs.MachineCode.{coded_automaton};
+    ghost use Rattle.wb_automata.specs.Inner.ViewCode.{coded_automaton};
 
     ghost Value = { AutomatonView };
 
     ghost coded = { coded_automaton };
 
-    ghost view = { λ a. record { terminals = a.terminals.items; sets = a.sets.items; paths = paths_of a.origins.items } };
+    ghost view = { λ a. record { terminals = a.terminals.items; sets = a.sets.items; paths = paths_of a.predecessors.items } };
 
-    ghost invariant = { λ a. IsAutomaton (record { terminals = a.terminals.items; sets = a.sets.items; paths = paths_of a.origins.items }) a.starts.items a.classes.items a.width (map move_at a.moves.items) a.accepted };
+    ghost invariant = { λ a. IsAutomaton (record { terminals = a.terminals.items; sets = a.sets.items; paths = paths_of a.predecessors.items }) a.starts.items a.classes.items a.width (map move_at a.moves.items) a.accepted };
 }
 
 impl Automaton {
@@ -80,7 +80,7 @@ impl Automaton {
             width: classes.firsts.len(),
             moves: explored.moves.into_codes(),
             accepted,
-            origins: explored.states.into_origins(),
+            predecessors: explored.states.into_origins(),
         })
     }
 
@@ -106,7 +106,7 @@ impl Automaton {
         ensures few { result ≤ most_states self.now.terminals }
         ensures ordered { IsOrdered self.now }
     {
-        self.origins.len()
+        self.predecessors.len()
     }
 
     /// The state of the empty text, at the start of a set. Takes no memory.
@@ -150,7 +150,7 @@ impl Automaton {
         requires { state < length self.now.paths }
         ensures { (path : Path) → slice_get self.now.paths state ≡ Some path → result ≡ path.set }
     {
-        self.origins[state].set
+        self.predecessors[state].set
     }
 
     /// The text by which the state was found. The only error is want of memory.
@@ -158,7 +158,7 @@ impl Automaton {
         requires { state < length self.now.paths }
         ensures { IfOk result (λ text. (path : Path) → slice_get self.now.paths state ≡ Some path → text ≡ path.text) }
     {
-        text_at(alloc, &self.origins, state)
+        text_at(alloc, &self.predecessors, state)
     }
 }
 

@@ -1,10 +1,10 @@
 //! Bytes in classes: an automaton goes the same way by each byte of a class, so its table has a column for each class.
 
 ghost use Rattle.std.specs.Prelude.{◌≡◌, ◌+◌, ◌*◌, ◌<◌, ◌≤◌, ℕ, [], IfOk, IsTrue, length, replicate, slice_index};
-ghost use Rattle.wb_automata.specs.Classes.{AreClasses, ClassPass, IsClassOf};
-ghost use Rattle.wb_automata.specs.Machines.{node_holds};
+ghost use Rattle.wb_automata.specs.Inner.Classes.{AreClasses, ClassPass, IsClassOf};
+ghost use Rattle.wb_automata.specs.Inner.Transitions.{node_holds};
 
-use crate::machine::holds;
+use crate::transition::holds;
 use std::alloc::{AllocError, Global};
 use wb_base::push;
 use wb_regex::RegexNode;

@@ -3,8 +3,9 @@
 //! They are found where they are asked for: lists that are kept for each node take quadratic memory in a long choice.
 
 ghost use Rattle.std.specs.Prelude.{◌≡◌, ◌<◌, ◌≤◌, ◌++◌, ◌∷◌, [], IfOk, length};
-ghost use Rattle.wb_automata.specs.Nodes.{row, AreParts, PartsBelow};
-ghost use Rattle.wb_automata.specs.Ends.{parts_of, sequence_parts, rows_of, IsOpened};
+ghost use Rattle.wb_automata.specs.Rows.{row};
+ghost use Rattle.wb_automata.specs.Inner.Nodes.{AreParts, PartsBelow};
+ghost use Rattle.wb_automata.specs.Inner.Ends.{parts_of, sequence_parts, rows_of, IsOpened};
 
 use crate::rows::Leaves;
 use std::alloc::{AllocError, Global};

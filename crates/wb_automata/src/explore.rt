@@ -3,14 +3,14 @@
 //! The states of one set after the other are found breadth first, so that their order is that of their first paths.
 
 ghost use Rattle.std.specs.Prelude.{◌≡◌, ◌+◌, ◌^◌, ◌<◌, ◌≤◌, IfOk, [], length};
-ghost use Rattle.wb_automata.specs.Found.{IsPlaced};
-ghost use Rattle.wb_automata.specs.Machines.{IsTable};
-ghost use Rattle.wb_automata.specs.Nodes.{row};
+ghost use Rattle.wb_automata.specs.Inner.Found.{IsPlaced};
+ghost use Rattle.wb_automata.specs.Inner.Transitions.{IsTable};
+ghost use Rattle.wb_automata.specs.Rows.{row};
 ghost use Rattle.wb_automata.specs.Order.{AreRising};
-ghost use Rattle.wb_automata.specs.Exploring.{RowsPass, RowsFrom, AreExplored};
+ghost use Rattle.wb_automata.specs.Inner.Exploring.{RowsPass, RowsFrom, AreExplored};
 
 use crate::moves::Moves;
-use crate::origin::Origin;
+use crate::predecessor::Predecessor;
 use crate::states::States;
 use crate::tables::Tables;
 use std::alloc::{AllocError, Global};
@@ -74,12 +74,12 @@ fn start_of(tables: &Tables, set: usize, states: &mut States) -> Result<usize, A
     requires set { set < length tables.now.starts }
     ensures { IfOk result (λ state. IsPlaced states.old (row tables.now.starts set) (record { set = set; text = [] }) states.new state) }
 {
-    let origin = Origin {
+    let predecessor = Predecessor {
         set,
         from: states.len(),
         byte: 0,
     };
-    states.place_of(tables.starts.row(set), origin)
+    states.place_of(tables.starts.row(set), predecessor)
 }
 
 /// The states from number `from` on and those that they lead to.
@@ -124,12 +124,12 @@ fn row_of(
     let leaves = ahead.as_slice();
     let set = states.set_of(i);
     for byte in bytes {
-        let origin = Origin {
+        let predecessor = Predecessor {
             set,
             from: i,
             byte: *byte,
         };
-        let next = states.move_by(tables.nodes.as_slice(), leaves, origin)?;
+        let next = states.move_by(tables.nodes.as_slice(), leaves, predecessor)?;
         moves.push(next)?;
     }
     Ok(())

@@ -4,7 +4,8 @@
 
 ghost use Rattle.std.specs.Prelude.{◌≡◌, ◌<◌, ◌∷◌, ℕ, [], false, List, IfOk, IfSome, IsNone, IsTrue, length};
 ghost use Rattle.wb_automata.specs.Automata.{LeadsTo, MatchesIn};
-ghost use Rattle.wb_automata.specs.Overlaps.{HasAll, IsLeastMatch, IsOverlap, IsLeastState};
+ghost use Rattle.wb_automata.specs.Inner.SharedStates.{HasAll, IsLeastState};
+ghost use Rattle.wb_automata.specs.Overlaps.{IsLeastMatch, IsOverlap};
 
 use crate::automaton::Automaton;
 use crate::shared::Overlap;

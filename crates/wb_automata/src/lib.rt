@@ -7,20 +7,20 @@
 mod accepted;
 mod automaton;
 mod classes;
+mod concatenated;
 mod ends;
 mod explore;
-mod joined;
 mod least;
-mod machine;
 mod moves;
-mod origin;
 mod positions;
+mod predecessor;
 mod rows;
 mod shared;
 mod states;
 mod tables;
 mod terminals;
 mod text;
+mod transition;
 
 pub use automaton::Automaton;
 pub use least::{least_text, overlap};

@@ -1,9 +1,10 @@
 //! Which leaves may come after which in a match?
 
 ghost use Rattle.std.specs.Prelude.{◌≡◌, ℕ, ◌<◌, ◌≤◌, ◌++◌, ◌∷◌, [], List, length, IfOk, All, Contains, ◌↔◌, ◌⊎◌};
-ghost use Rattle.wb_automata.specs.Nodes.{AreParts, PartsBelow, empty_at, AreEmpties, row};
-ghost use Rattle.wb_automata.specs.Ends.{rows_of};
-ghost use Rattle.wb_automata.specs.Follows.{AreBelow, LinkAt, AreFollows};
+ghost use Rattle.wb_automata.specs.Inner.Nodes.{AreParts, PartsBelow, nullable_at, AreNullable};
+ghost use Rattle.wb_automata.specs.Rows.{row};
+ghost use Rattle.wb_automata.specs.Inner.Ends.{rows_of};
+ghost use Rattle.wb_automata.specs.Inner.Follows.{AreBelow, LinkAt, AreFollows};
 
 use crate::ends::{Side, ends_of};
 use crate::rows::Rows;
@@ -11,21 +12,21 @@ use std::alloc::{AllocError, Global};
 use wb_regex::RegexNode;
 
 /// Whether each node matches the empty text.
-pub(crate) fn empties(alloc: Global, nodes: &[RegexNode]) -> Result<Vec<bool>, AllocError>
+pub(crate) fn nullable(alloc: Global, nodes: &[RegexNode]) -> Result<Vec<bool>, AllocError>
     requires parts { AreParts nodes.now }
-    ensures { IfOk result (λ all. AreEmpties nodes.now all.items (length nodes.now)) }
+    ensures { IfOk result (λ all. AreNullable nodes.now all.items (length nodes.now)) }
 {
     let mut all = Vec::new(alloc);
     for node in nodes {
-        let empty = empty_at(*node, &all);
+        let empty = nullable_at(*node, &all);
         all.push(empty)?;
     }
     Ok(all)
 }
 
-fn empty_at(node: RegexNode, before: &[bool]) -> bool
+fn nullable_at(node: RegexNode, before: &[bool]) -> bool
     requires parts { PartsBelow (length before.now) node }
-    ensures { result ≡ empty_at before.now node }
+    ensures { result ≡ nullable_at before.now node }
 {
     match node {
         RegexNode::Set(_) => false,

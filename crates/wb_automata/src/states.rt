@@ -3,13 +3,14 @@
 ghost use Rattle.std.specs.Prelude.{◌≡◌, ◌<◌, ◌↔◌, [], ℕ, Contains, IfOk, Some, List, length, slice_get};
 ghost use Rattle.wb_base.specs.Different.{Differ};
 ghost use Rattle.wb_automata.specs.Automata.{Path};
-ghost use Rattle.wb_automata.specs.Found.{IsPlaced, IsMoved, path_by, paths_of};
-ghost use Rattle.wb_automata.specs.Machines.{Ahead, IsPlaceList, IsTable};
+ghost use Rattle.wb_automata.specs.Inner.Found.{IsPlaced, IsMoved};
+ghost use Rattle.wb_automata.specs.Paths.{path_by, paths_of};
+ghost use Rattle.wb_automata.specs.Inner.Transitions.{Ahead, IsPlaceList, IsTable};
 
-use crate::machine::{gathered, reading};
-use crate::origin::Origin;
+use crate::predecessor::Predecessor;
 use crate::rows::Leaves;
 use crate::tables::Tables;
+use crate::transition::{reading, successors};
 use indexmap::IndexSet;
 use std::alloc::{AllocError, Global};
 use std::marker::Model;
@@ -21,17 +22,18 @@ use wb_regex::RegexNode;
 pub(crate) struct States {
     alloc: Global,
     sets: IndexSet<Vec<usize>>,
-    origins: Vec<Origin>,
+    predecessors: Vec<Predecessor>,
 }
 
 impl Model for States {
     ghost use Rattle.std.specs.Prelude.{map};
     ghost use Rattle.wb_base.specs.Different.{Differ};
-    ghost use Rattle.wb_automata.specs.Found.{Found, paths_of};
+    ghost use Rattle.wb_automata.specs.Inner.Found.{Found};
+    ghost use Rattle.wb_automata.specs.Paths.{paths_of};
 
     ghost Value = { Found };
 
-    ghost view = { λ s. record { sets = map (λ set. set.items) s.sets.keys; paths = paths_of s.origins.items } };
+    ghost view = { λ s. record { sets = map (λ set. set.items) s.sets.keys; paths = paths_of s.predecessors.items } };
 
     ghost invariant = { λ s. Differ (map (λ set. set.items) s.sets.keys) };
 }
@@ -44,7 +46,7 @@ impl States {
         States {
             alloc,
             sets: IndexSet::new(alloc),
-            origins: Vec::new(alloc),
+            predecessors: Vec::new(alloc),
         }
     }
 
@@ -64,15 +66,19 @@ impl States {
     }
 
     /// The number of a state, which is added if it is new.
-    pub(crate) fn place_of(&mut self, places: &[usize], origin: Origin) -> Result<usize, AllocError>
-        ensures { IfOk result (λ i. IsPlaced self.old places.now (path_by self.old.paths origin) self.new i) }
+    pub(crate) fn place_of(
+        &mut self,
+        places: &[usize],
+        predecessor: Predecessor,
+    ) -> Result<usize, AllocError>
+        ensures { IfOk result (λ i. IsPlaced self.old places.now (path_by self.old.paths predecessor) self.new i) }
     {
         if let Some(state) = self.sets.get_index_of(places) {
             return Ok(state);
         }
         let state = self.sets.len();
         let set = Vec::from_slice(self.alloc, places)?;
-        push(&mut self.origins, origin)?;
+        push(&mut self.predecessors, predecessor)?;
         self.sets.insert_full(set)?;
         Ok(state)
     }
@@ -85,24 +91,24 @@ impl States {
         ensures exact { IfOk result (λ all. (set : List ℕ) → slice_get self.now.sets i ≡ Some set → (q : ℕ) → Contains all q ↔ Ahead tables.now.follow set q) }
         ensures places { IfOk result (IsPlaceList (length tables.now.nodes.items)) }
     {
-        gathered(self.alloc, tables.nodes.len(), &tables.follow, self.at(i))
+        successors(self.alloc, tables.nodes.len(), &tables.follow, self.at(i))
     }
 
-    /// Where the byte of the origin leads, with the leaves that may come next.
+    /// Where the byte of the predecessor leads, with the leaves that may come next.
     pub(crate) fn move_by(
         &mut self,
         nodes: &[RegexNode],
         ahead: &[usize],
-        origin: Origin,
+        predecessor: Predecessor,
     ) -> Result<Option<usize>, AllocError>
         requires { IsPlaceList (length nodes.now) ahead.now }
-        ensures { IfOk result (λ o. IsMoved nodes.now ahead.now (path_by self.old.paths origin) origin.byte self.old self.new o) }
+        ensures { IfOk result (λ o. IsMoved nodes.now ahead.now (path_by self.old.paths predecessor) predecessor.byte self.old self.new o) }
     {
-        let next = reading(self.alloc, nodes, ahead, origin.byte)?;
+        let next = reading(self.alloc, nodes, ahead, predecessor.byte)?;
         if next.is_empty() {
             return Ok(None);
         }
-        let state = self.place_of(next.as_slice(), origin)?;
+        let state = self.place_of(next.as_slice(), predecessor)?;
         Ok(Some(state))
     }
 
@@ -111,13 +117,13 @@ impl States {
         requires { i < length self.now.paths }
         ensures { (path : Path) → slice_get self.now.paths i ≡ Some path → result ≡ path.set }
     {
-        self.origins[i].set
+        self.predecessors[i].set
     }
 
     /// Where each state was found from.
-    pub(crate) fn into_origins(self) -> Vec<Origin>
+    pub(crate) fn into_origins(self) -> Vec<Predecessor>
         ensures { paths_of result.items ≡ self.paths }
     {
-        self.origins
+        self.predecessors
     }
 }

@@ -1,15 +1,16 @@
 //! The tables of several expressions: Glushkov's position automaton, in which the leaf that was read last is the state.
 
 ghost use Rattle.std.specs.Prelude.{◌≡◌, ◌+◌, ◌<◌, ◌↔◌, ◌⊎◌, ℕ, List, [], All, Contains, IfOk, length, replicate};
-ghost use Rattle.wb_automata.specs.Nodes.{row, AreParts, AreLasts};
-ghost use Rattle.wb_automata.specs.Ends.{rows_of};
-ghost use Rattle.wb_automata.specs.Follows.{AreBelow, LinkIn};
-ghost use Rattle.wb_automata.specs.Roots.{BeginAt, EndAt};
-ghost use Rattle.wb_automata.specs.Tables.{AreTables, AreLinks};
+ghost use Rattle.wb_automata.specs.Rows.{row};
+ghost use Rattle.wb_automata.specs.Inner.Nodes.{AreParts, AreLasts};
+ghost use Rattle.wb_automata.specs.Inner.Ends.{rows_of};
+ghost use Rattle.wb_automata.specs.Inner.Follows.{AreBelow, LinkIn};
+ghost use Rattle.wb_automata.specs.Inner.Roots.{StartAt, EndAt};
+ghost use Rattle.wb_automata.specs.Inner.Tables.{AreTables, AreLinks};
 
+use crate::concatenated::concatenate;
 use crate::ends::Side;
-use crate::joined::join;
-use crate::positions::{add_follows, empties};
+use crate::positions::{add_follows, nullable};
 use crate::rows::{Leaves, Rows};
 use crate::terminals::{begins, ends, starts_of};
 use std::alloc::{AllocError, Global};
@@ -33,7 +34,7 @@ pub(crate) fn tables_of(
 ) -> Result<Tables, AllocError>
     ensures { IfOk result (λ t. AreTables terminals.now sets.now t) }
 {
-    let all = join(alloc, terminals)?;
+    let all = concatenate(alloc, terminals)?;
     let starts = starts_of(alloc, all.nodes.len(), terminals.len(), sets)?;
     let links = links_of(alloc, all.nodes.as_slice(), all.roots.as_slice())?;
     Ok(Tables {
@@ -57,7 +58,7 @@ fn links_of(alloc: Global, nodes: &[RegexNode], roots: &[usize]) -> Result<Links
     requires below { (last : List (List ℕ)) → AreLasts nodes.now last (length nodes.now) → AreBelow (length nodes.now) last }
     ensures { IfOk result (λ links. AreLinks nodes.now roots.now links.follow links.ends) }
 {
-    let empty = empties(alloc, nodes)?;
+    let empty = nullable(alloc, nodes)?;
     let flags = empty.as_slice();
     let follow = follows(alloc, nodes, roots, flags)?;
     let ends = ends_table(alloc, nodes, roots, flags)?;
@@ -76,7 +77,7 @@ fn follows(
     requires below { AreBelow (length nodes.now) (rows_of empty.now Side.Last nodes.now) }
     requires roots { All (λ r. r < length nodes.now) roots.now }
     ensures len { IfOk result (λ f. length f ≡ length nodes.now + length roots.now) }
-    ensures exact { IfOk result (λ f. (p q : ℕ) → Contains (row f p) q ↔ (LinkIn nodes.now (rows_of empty.now Side.First nodes.now) (rows_of empty.now Side.Last nodes.now) 0 (length nodes.now) p q ⊎ BeginAt (rows_of empty.now Side.First nodes.now) roots.now (length nodes.now) (length roots.now) p q)) }
+    ensures exact { IfOk result (λ f. (p q : ℕ) → Contains (row f p) q ↔ (LinkIn nodes.now (rows_of empty.now Side.First nodes.now) (rows_of empty.now Side.Last nodes.now) 0 (length nodes.now) p q ⊎ StartAt (rows_of empty.now Side.First nodes.now) roots.now (length nodes.now) (length roots.now) p q)) }
 {
     let mut follow = blank(alloc, nodes, roots)?;
     add_follows(alloc, nodes, empty, &mut follow)?;

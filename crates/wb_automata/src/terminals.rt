@@ -2,12 +2,13 @@
 
 ghost use Rattle.std.specs.Prelude.{◌≡◌, ℕ, ◌<◌, ◌≤◌, ◌+◌, ◌^◌, ◌⊎◌, ◌↔◌, length, IfOk, IsTrue, All, Contains};
 ghost use Rattle.wb_termset.specs.Sets.{IsMember};
-ghost use Rattle.wb_automata.specs.Nodes.{row, AreParts};
-ghost use Rattle.wb_automata.specs.Ends.{rows_of};
-ghost use Rattle.wb_automata.specs.Follows.{AreBelow};
-ghost use Rattle.wb_automata.specs.Machines.{IsPlaceList};
-ghost use Rattle.wb_automata.specs.Roots.{BeginAt, EndAt};
-ghost use Rattle.wb_automata.specs.Tables.{AreStarts, IsStartsOf};
+ghost use Rattle.wb_automata.specs.Rows.{row};
+ghost use Rattle.wb_automata.specs.Inner.Nodes.{AreParts};
+ghost use Rattle.wb_automata.specs.Inner.Ends.{rows_of};
+ghost use Rattle.wb_automata.specs.Inner.Follows.{AreBelow};
+ghost use Rattle.wb_automata.specs.Inner.Transitions.{IsPlaceList};
+ghost use Rattle.wb_automata.specs.Inner.Roots.{StartAt, EndAt};
+ghost use Rattle.wb_automata.specs.Inner.Tables.{AreStarts, IsStartsOf};
 
 use crate::ends::{Side, ends_of};
 use crate::positions::link;
@@ -29,7 +30,7 @@ pub(crate) fn begins(
     requires roots { All (λ r. r < length nodes.now) roots.now }
     requires starts { length roots.now ≤ length follow.old }
     ensures len { length follow.new ≡ length follow.old }
-    ensures exact { IfOk result (λ _. (n : ℕ) → n + length roots.now ≡ length follow.old → (p q : ℕ) → Contains (row follow.new p) q ↔ (Contains (row follow.old p) q ⊎ BeginAt (rows_of empty.now Side.First nodes.now) roots.now n (length roots.now) p q)) }
+    ensures exact { IfOk result (λ _. (n : ℕ) → n + length roots.now ≡ length follow.old → (p q : ℕ) → Contains (row follow.new p) q ↔ (Contains (row follow.old p) q ⊎ StartAt (rows_of empty.now Side.First nodes.now) roots.now n (length roots.now) p q)) }
 {
     let n = follow.len() - roots.len();
     for (k, root) in roots.iter().enumerate() {

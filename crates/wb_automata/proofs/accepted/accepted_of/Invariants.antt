@@ -1,4 +1,4 @@
-use Rattle.wb_automata.specs.Accepted.{AreAccepted}
+use Rattle.wb_automata.specs.Inner.Accepted.{AreAccepted}
 use Rattle.wb_automata.proofs.accepted.accepted_of.Given as goal
 
 abbrev pub invariant-loop-i : goal.invariant-loop-i

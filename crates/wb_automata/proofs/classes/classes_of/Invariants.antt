@@ -1,4 +1,4 @@
-use Rattle.wb_automata.specs.Classes.{AreClasses}
+use Rattle.wb_automata.specs.Inner.Classes.{AreClasses}
 use Rattle.wb_automata.proofs.classes.classes_of.Given as goal
 
 abbrev pub invariant-loop-node : goal.invariant-loop-node

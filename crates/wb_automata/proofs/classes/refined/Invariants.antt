@@ -1,4 +1,4 @@
-use Rattle.wb_automata.specs.Classes.{ClassPass}
+use Rattle.wb_automata.specs.Inner.Classes.{ClassPass}
 use Rattle.wb_automata.proofs.classes.refined.Given as goal
 
 abbrev pub invariant-loop-b : goal.invariant-loop-b

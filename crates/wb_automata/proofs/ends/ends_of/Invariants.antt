@@ -1,5 +1,5 @@
 use Rattle.std.proofs.Common.{length}
-use Rattle.wb_automata.specs.Ends.{rows_of, weight}
+use Rattle.wb_automata.specs.Inner.Ends.{rows_of, weight}
 use Rattle.wb_automata.proofs.EndLemmas.{IsWalked}
 use Rattle.wb_automata.proofs.ends.ends_of.Given as goal
 

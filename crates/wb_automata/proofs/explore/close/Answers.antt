@@ -1,5 +1,5 @@
 use Rattle.std.proofs.Common.{◌≡◌, ◌+◌, arith, length, subst}
-use Rattle.wb_automata.specs.Exploring.{RowsFrom}
+use Rattle.wb_automata.specs.Inner.Exploring.{RowsFrom}
 use Rattle.wb_automata.proofs.StateLemmas.{rows_same, rows_more}
 use Rattle.wb_automata.proofs.CountLemmas.{few_found}
 use Rattle.wb_automata.proofs.explore.close.Goals as goal

@@ -1,5 +1,5 @@
 use Rattle.std.proofs.Common.{◌-◌, ◌^◌, ◌+◌, length}
-use Rattle.wb_automata.specs.Exploring.{RowsFrom}
+use Rattle.wb_automata.specs.Inner.Exploring.{RowsFrom}
 use Rattle.wb_automata.proofs.explore.close.Given as goal
 
 abbrev pub invariant-states : goal.invariant-states

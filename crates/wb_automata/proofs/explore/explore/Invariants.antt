@@ -1,4 +1,4 @@
-use Rattle.wb_automata.specs.Exploring.{AreExplored}
+use Rattle.wb_automata.specs.Inner.Exploring.{AreExplored}
 use Rattle.wb_automata.proofs.explore.explore.Given as goal
 
 abbrev pub invariant-loop-set : goal.invariant-loop-set

@@ -1,5 +1,5 @@
 use Rattle.std.proofs.Common.{sym, subst}
-use Rattle.wb_automata.specs.Exploring.{RowsPass}
+use Rattle.wb_automata.specs.Inner.Exploring.{RowsPass}
 use Rattle.wb_automata.proofs.StateLemmas.{start_rows, explored_more}
 use Rattle.wb_automata.proofs.explore.explore_set.Goals as goal
 

@@ -1,8 +1,9 @@
 use Rattle.std.proofs.Common.{◌≡◌, ◌∙◌, [], ◌∷◌, ◌++◌, ◌+◌, sym, subst, ap, arith, ℕ, length, get_or, Some}
 use Rattle.std.specs.Prelude.{slice_get}
 use Rattle.wb_automata.specs.Automata.{Path}
-use Rattle.wb_automata.specs.Found.{on, path_on}
-use Rattle.wb_automata.specs.Exploring.{RowPass}
+use Rattle.wb_automata.specs.Inner.Found.{on}
+use Rattle.wb_automata.specs.Paths.{path_on}
+use Rattle.wb_automata.specs.Inner.Exploring.{RowPass}
 use Rattle.wb_automata.proofs.StateLemmas.{row_begin, row_step, row_end}
 use Rattle.wb_automata.proofs.explore.row_of.Goals as goal
 

@@ -1,5 +1,5 @@
 use Rattle.std.proofs.Common.{◌+◌}
-use Rattle.wb_automata.specs.Exploring.{RowPass}
+use Rattle.wb_automata.specs.Inner.Exploring.{RowPass}
 use Rattle.wb_automata.proofs.explore.row_of.Given as goal
 
 abbrev pub invariant-loop-byte : goal.invariant-loop-byte

@@ -1,4 +1,4 @@
-use Rattle.wb_automata.specs.Overlaps.{AreApartBelow}
+use Rattle.wb_automata.specs.Inner.SharedStates.{AreApartBelow}
 use Rattle.wb_automata.proofs.least.first_shared.Given as goal
 
 abbrev pub invariant-loop-state : goal.invariant-loop-state

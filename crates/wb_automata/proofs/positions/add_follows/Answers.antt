@@ -2,7 +2,7 @@ use Rattle.std.proofs.Common.{arith, length, get_or, []}
 use Rattle.std.proofs.lemmas.Option.{slice_get-get_or}
 use Rattle.wb_regex.specs.declared.node.RegexNode.TheVariants as n
 use Rattle.wb_automata.specs.declared.ends.Side.TheVariants.{First, Last}
-use Rattle.wb_automata.specs.Ends.{rows_of}
+use Rattle.wb_automata.specs.Inner.Ends.{rows_of}
 use Rattle.wb_automata.proofs.NodeLemmas.{follows_begin, follows_step, parts_more}
 use Rattle.wb_automata.proofs.positions.add_follows.Goals as goal
 

@@ -1,7 +1,7 @@
 use Rattle.std.proofs.Common.{length}
 use Rattle.wb_automata.specs.declared.ends.Side.TheVariants.{First, Last}
-use Rattle.wb_automata.specs.Ends.{rows_of}
-use Rattle.wb_automata.specs.Follows.{AreFollows}
+use Rattle.wb_automata.specs.Inner.Ends.{rows_of}
+use Rattle.wb_automata.specs.Inner.Follows.{AreFollows}
 use Rattle.wb_automata.proofs.positions.add_follows.Given as goal
 
 abbrev pub invariant-loop-node : goal.invariant-loop-node

@@ -1,8 +1,8 @@
 use Rattle.std.proofs.Common.{◌≡◌, ◌∙◌, subst, sym, length}
 use Rattle.std.specs.Prelude.{All}
 use Rattle.wb_automata.specs.declared.ends.Side.TheVariants.{First, Last}
-use Rattle.wb_automata.specs.Ends.{rows_of}
-use Rattle.wb_automata.specs.Nodes.{row}
+use Rattle.wb_automata.specs.Inner.Ends.{rows_of}
+use Rattle.wb_automata.specs.Rows.{row}
 use Rattle.wb_automata.proofs.positions.link_parts.Goals as goal
 
 pub link-requires : goal.link-requires

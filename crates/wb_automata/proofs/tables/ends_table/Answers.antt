@@ -1,8 +1,8 @@
 use Rattle.std.proofs.Common.{◌+◌, length}
 use Rattle.wb_automata.proofs.PlantLemmas.{from_blank}
 use Rattle.wb_automata.specs.declared.ends.Side.TheVariants.{Last}
-use Rattle.wb_automata.specs.Ends.{rows_of}
-use Rattle.wb_automata.specs.Roots.{EndAt}
+use Rattle.wb_automata.specs.Inner.Ends.{rows_of}
+use Rattle.wb_automata.specs.Inner.Roots.{EndAt}
 use Rattle.wb_automata.proofs.tables.ends_table.Goals as goal
 
 pub returns-clause-exact : goal.returns-clause-exact

@@ -1,9 +1,9 @@
 use Rattle.std.proofs.Common.{◌≡◌, ◌∙◌, length, arith, ℕ, subst, ◌⊎◌}
 use Rattle.std.specs.Prelude.{Contains, ◌↔◌}
-use Rattle.wb_automata.specs.Nodes.{row}
-use Rattle.wb_automata.specs.Roots.{EndAt}
+use Rattle.wb_automata.specs.Rows.{row}
+use Rattle.wb_automata.specs.Inner.Roots.{EndAt}
 use Rattle.wb_automata.specs.declared.ends.Side.TheVariants.{Last}
-use Rattle.wb_automata.specs.Ends.{rows_of}
+use Rattle.wb_automata.specs.Inner.Ends.{rows_of}
 use Rattle.wb_automata.proofs.RootLemmas.{ends_step}
 use Rattle.wb_automata.proofs.terminals.ends.Goals as goal
 

@@ -1,5 +1,5 @@
 use Rattle.wb_automata.specs.declared.ends.Side.TheVariants.{Last}
-use Rattle.wb_automata.specs.Ends.{rows_of}
+use Rattle.wb_automata.specs.Inner.Ends.{rows_of}
 use Rattle.wb_automata.proofs.RootLemmas.{EndPass}
 use Rattle.wb_automata.proofs.terminals.ends.Given as goal
 

@@ -1,4 +1,4 @@
-use Rattle.wb_automata.specs.Tables.{AreStarts}
+use Rattle.wb_automata.specs.Inner.Tables.{AreStarts}
 use Rattle.wb_automata.proofs.terminals.starts_of.Given as goal
 
 abbrev pub invariant-loop-set : goal.invariant-loop-set

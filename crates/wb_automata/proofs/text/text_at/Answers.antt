@@ -2,20 +2,20 @@ use Rattle.std.proofs.Common.{◌≡◌, ◌∙◌, ◌++◌, sym, ap, arith, ge
 use Rattle.std.specs.Prelude.{slice_get}
 use Rattle.std.proofs.lemmas.Result.{IfOk-weaker}
 use Rattle.wb_automata.specs.Automata.{Path}
-use Rattle.wb_automata.specs.Found.{paths_of}
+use Rattle.wb_automata.specs.Paths.{paths_of}
 use Rattle.std.proofs.lemmas.Option.{slice_get-get_or}
 use Rattle.wb_automata.proofs.TextLemmas.{back_begin, text_back, text_none, paths_len}
 use Rattle.wb_automata.proofs.text.text_at.Goals as goal
 
 pub back-init : goal.back-init
-back-init c = rw (c.new-bytes.ensures.items) (back_begin c.args.origins.now c.args.state c.requires)
+back-init c = rw (c.new-bytes.ensures.items) (back_begin c.args.predecessors.now c.args.state c.requires)
 
 pub back-preserved : goal.back-preserved
-back-preserved c = text_back c.args.origins.now c.args.state c.back.at c.back.bytes.items c.push.new.list.items _ (slice_get-get_or c.args.origins.now c.back.at _ c.back.invariant.0) c.back-test.true c.in_ok-push.ensures.ok c.back.invariant
+back-preserved c = text_back c.args.predecessors.now c.args.state c.back.at c.back.bytes.items c.push.new.list.items _ (slice_get-get_or c.args.predecessors.now c.back.at _ c.back.invariant.0) c.back-test.true c.in_ok-push.ensures.ok c.back.invariant
 
 pub returns : goal.returns
 returns c =
-    let os = c.args.origins.now in
+    let os = c.args.predecessors.now in
     let o = get_or os c.back.at (record { set = 0; from = 0; byte = 0 }) in
     let whole : (path : Path) → slice_get (paths_of os) c.args.state ≡ Some path → c.deref.result.now ≡ path.text = λ path is.
     let v : Path = get_or (paths_of os) c.back.at path in

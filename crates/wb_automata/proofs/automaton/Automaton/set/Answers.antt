@@ -5,14 +5,14 @@ use Rattle.wb_automata.specs.Automata.{AutomatonView}
 use Rattle.wb_automata.proofs.TextLemmas.{paths_len, set_at}
 use Rattle.wb_automata.proofs.automaton.Automaton.set.Goals as goal
 
-index-requires' : (c : goal.After-index) → c.args.state < length c.self.inside.origins.items
-index-requires' c = omega (arith, c.requires, ap (λ (v : AutomatonView). length v.paths) c.self.view_is, paths_len c.self.inside.origins.items)
+index-requires' : (c : goal.After-index) → c.args.state < length c.self.inside.predecessors.items
+index-requires' c = omega (arith, c.requires, ap (λ (v : AutomatonView). length v.paths) c.self.view_is, paths_len c.self.inside.predecessors.items)
 
 pub index-requires : goal.index-requires
-index-requires c = omega (arith, c.requires, ap (λ (v : AutomatonView). length v.paths) c.self.view_is, paths_len c.self.inside.origins.items)
+index-requires c = omega (arith, c.requires, ap (λ (v : AutomatonView). length v.paths) c.self.view_is, paths_len c.self.inside.predecessors.items)
 
 pub returns : goal.returns
 returns c path at =
-    let os = c.self.inside.origins.items in
+    let os = c.self.inside.predecessors.items in
     let e : get_or os c.args.state c.index.result.now ≡ c.index.result.now = sym c.index.ensures in
     set_at os c.args.state c.index.result.now (slice_get-get_or os c.args.state c.index.result.now (index-requires' c) ∙ ap Some e) path (subst (λ (v : AutomatonView). slice_get v.paths c.args.state ≡ Some path) (sym c.self.view_is) at)
