@@ -4,8 +4,8 @@ use Rattle.std.specs.Prelude.{slice_get}
 use Rattle.wb_regex.specs.Tree.{Tree, Set, Sequence, Choice}
 use Rattle.wb_regex.specs.Matches.{HoldsByte}
 use Rattle.wb_regex.specs.Covers.{Covers, set, sequence, choice, star, plus, maybe}
-use Rattle.wb_regex.specs.Building.{Grows, AreFilled, Builds, ShowsPart, IsMark}
-use Rattle.wb_regex.specs.Machine.{joined}
+use Rattle.wb_regex.specs.Inner.Building.{Grows, AreFilled, Builds, ShowsPart, IsMark}
+use Rattle.wb_regex.specs.Inner.ReaderSteps.{joined}
 use Rattle.wb_regex.specs.declared.node.RegexNode.{RegexNode}
 use Rattle.wb_regex.specs.declared.node.RegexNode.TheVariants as n
 use Rattle.wb_regex.proofs.CoversLemmas.{covers_grows, grows_push, pushed_at}

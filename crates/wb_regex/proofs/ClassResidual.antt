@@ -6,13 +6,13 @@ use Rattle.wb_regex.specs.Tree.{Tree, Set}
 use Rattle.wb_regex.specs.Matches.{HoldsByte}
 use Rattle.wb_regex.specs.Sets.{Ranges, in_class}
 use Rattle.wb_regex.specs.Grammar.{Sign, Written, Never, one_of, First, Members, IsMember, single, range, BeginsWithCaret, Reads, first, another, close, never}
-use Rattle.wb_regex.specs.ClassMachine.{words_of, are_zero, Spot, Begin, Negated, Tail, Bound, Behind, Turn, Stay, Leave, one_step, closing, begin_step, behind_step, tail_step, bound_step, class_step}
+use Rattle.wb_regex.specs.Inner.ClassSteps.{words_of, are_zero, ClassState, Begin, Negated, Tail, Bound, Behind, ClassMove, Stay, Leave, one_step, closing, begin_step, behind_step, tail_step, bound_step, class_step}
 use Rattle.wb_regex.specs.declared.symbol.Symbol.{Symbol}
 use Rattle.wb_regex.specs.declared.symbol.Symbol.TheVariants.{CloseClass, Dash, Caret, Byte}
 use Rattle.wb_regex.proofs.SetLemmas.{is_set_of, words_are, zero_holds_none, nonzero_holds}
 
 -- the signs may follow the place up to the end of the class, which is then this tree
-pub data RestOf : Spot → List Sign → Tree → Type 0 where
+pub data RestOf : ClassState → List Sign → Tree → Type 0 where
   at_caret : {v w : List Sign} {t : Tree} → Reads (First true) v t → w ≡ Written Caret ∷ v → RestOf Begin w t
   at_first : {w : List Sign} {t : Tree} → Reads (First false) w t → ¬ BeginsWithCaret w → RestOf Begin w t
   at_negated : {w : List Sign} {t : Tree} → Reads (First true) w t → RestOf Negated w t
@@ -21,13 +21,13 @@ pub data RestOf : Spot → List Sign → Tree → Type 0 where
   at_bound : {v w : List Sign} {n : Bool} {rs : Ranges} {a b : ℕ} {y : Symbol} {t : Tree} → one_of y ≡ Some b → a ≤ b → Reads (Members n ((a, b) ∷ rs)) v t → w ≡ Written y ∷ v → RestOf (Bound n rs a) w t
   at_behind : {w : List Sign} {n : Bool} {rs : Ranges} {t : Tree} → Reads (Members n rs) w t → RestOf (Behind n rs) w t
 
-abbrev pub RestTurn : Turn → List Sign → Tree → Type 0
+abbrev pub RestTurn : ClassMove → List Sign → Tree → Type 0
 RestTurn (Stay k) w t = RestOf k w t
 RestTurn (Leave words) w t = (w ≡ []) × (t ≡ Set words)
 
 -- the turn at a symbol, and what may follow it
-abbrev pub Turns : Option Turn → List Sign → Tree → Type 0
-Turns o w t = (r : Turn) × (o ≡ Some r) × RestTurn r w t
+abbrev pub Turns : Option ClassMove → List Sign → Tree → Type 0
+Turns o w t = (r : ClassMove) × (o ≡ Some r) × RestTurn r w t
 
 -- a symbol that may begin a member stands at the front of a list
 pub record MemberGoes (n : Bool) (rs : Ranges) (x : Symbol) (w : List Sign) (t : Tree) : Type 0 where
@@ -91,7 +91,7 @@ begin_goes x w (at_first r no_caret) =
     let g = first_goes x w r refl in
     (Stay (Tail false [] g.byte), begin_one x g.byte (λ e. no_caret (w, ap (λ z. Written z ∷ w) e)) g.is, g.rest)
 
--- a symbol behind a byte that may begin a range
+-- a symbol after a byte that may begin a range
 tail_other : (n : Bool) (rs : Ranges) (a : ℕ) (x : Symbol) (w : List Sign) (t : Tree) → Turns (behind_step n ((a, a) ∷ rs) x) w t → Turns (tail_step n rs a x) w t
 tail_other n rs a Dash w t h = let e = h.1 in cc
 tail_other n rs a x w t h = h
@@ -120,7 +120,7 @@ behind_goes : {n : Bool} {rs : Ranges} {t : Tree} (x : Symbol) (w : List Sign) �
 behind_goes x w (at_behind r) = members_goes x w r refl
 
 -- a symbol that may follow makes a turn
-pub class_goes : (k : Spot) (x : Symbol) (w : List Sign) (t : Tree) → RestOf k (Written x ∷ w) t → Turns (class_step k x) w t
+pub class_goes : (k : ClassState) (x : Symbol) (w : List Sign) (t : Tree) → RestOf k (Written x ∷ w) t → Turns (class_step k x) w t
 class_goes Begin x w t h = begin_goes x w h
 class_goes Negated x w t h = negated_goes x w h
 class_goes (Tail n rs a) x w t h = tail_goes x w h
@@ -149,11 +149,11 @@ another_comes : (n : Bool) (rs : Ranges) (w : List Sign) (t : Tree) → MemberCo
 another_comes n rs w t m = another m.is m.reads m.joins
 
 -- a symbol that leads to a turn, as the byte of a member
-one_comes : (n : Bool) (rs : Ranges) (x : Symbol) (o : Option ℕ) (w : List Sign) (t : Tree) (r : Turn) → one_of x ≡ o → one_step n rs o ≡ Some r → RestTurn r w t → MemberComes n rs (Written x ∷ w) t
+one_comes : (n : Bool) (rs : Ranges) (x : Symbol) (o : Option ℕ) (w : List Sign) (t : Tree) (r : ClassMove) → one_of x ≡ o → one_step n rs o ≡ Some r → RestTurn r w t → MemberComes n rs (Written x ∷ w) t
 one_comes n rs x None w t r h e k = cc
 one_comes n rs x (Some a) w t r h e k = let e' : Stay (Tail n rs a) ≡ r = cc in member_comes x w h (subst (λ z. RestTurn z w t) (sym e') k)
 
-close_comes : (n : Bool) (rs : Ranges) (w : List Sign) (t : Tree) (r : Turn) (b : Bool) → are_zero (words_of (in_class n rs)) ≡ b → cond b None (Some (Leave (words_of (in_class n rs)))) ≡ Some r → RestTurn r w t → Reads (Members n rs) (Written CloseClass ∷ w) t
+close_comes : (n : Bool) (rs : Ranges) (w : List Sign) (t : Tree) (r : ClassMove) (b : Bool) → are_zero (words_of (in_class n rs)) ≡ b → cond b None (Some (Leave (words_of (in_class n rs)))) ≡ Some r → RestTurn r w t → Reads (Members n rs) (Written CloseClass ∷ w) t
 close_comes n rs w t r true z e k = cc
 close_comes n rs w t r false z e k =
     let e' : Leave (words_of (in_class n rs)) ≡ r = cc in
@@ -162,25 +162,25 @@ close_comes n rs w t r false z e k =
     let has = nonzero_holds (words_of (in_class n rs)) set.small z in
     close has.1 set k'.1 (ap (λ a. Written CloseClass ∷ a) k'.0)
 
-behind_comes : (n : Bool) (rs : Ranges) (x : Symbol) (w : List Sign) (t : Tree) (r : Turn) → behind_step n rs x ≡ Some r → RestTurn r w t → Reads (Members n rs) (Written x ∷ w) t
+behind_comes : (n : Bool) (rs : Ranges) (x : Symbol) (w : List Sign) (t : Tree) (r : ClassMove) → behind_step n rs x ≡ Some r → RestTurn r w t → Reads (Members n rs) (Written x ∷ w) t
 behind_comes n rs CloseClass w t r e k = close_comes n rs w t r (are_zero (words_of (in_class n rs))) refl e k
 behind_comes n rs x w t r e k = another_comes n rs (Written x ∷ w) t (one_comes n rs x (one_of x) w t r refl e k)
 
-begin_comes : (x : Symbol) (w : List Sign) (t : Tree) (r : Turn) → begin_step x ≡ Some r → RestTurn r w t → RestOf Begin (Written x ∷ w) t
+begin_comes : (x : Symbol) (w : List Sign) (t : Tree) (r : ClassMove) → begin_step x ≡ Some r → RestTurn r w t → RestOf Begin (Written x ∷ w) t
 begin_comes Caret w t r e k = let e' : Stay Negated ≡ r = cc in go (subst (λ z. RestTurn z w t) (sym e') k)
   where
     go : RestOf Negated w t → RestOf Begin (Written Caret ∷ w) t
     go (at_negated h) = at_caret h refl
 begin_comes x w t r e k = at_first (first_comes false (Written x ∷ w) t (one_comes false [] x (one_of x) w t r refl e k)) (λ h. let g = h.1 in cc)
 
-tail_comes : (n : Bool) (rs : Ranges) (a : ℕ) (x : Symbol) (w : List Sign) (t : Tree) (r : Turn) → tail_step n rs a x ≡ Some r → RestTurn r w t → RestOf (Tail n rs a) (Written x ∷ w) t
+tail_comes : (n : Bool) (rs : Ranges) (a : ℕ) (x : Symbol) (w : List Sign) (t : Tree) (r : ClassMove) → tail_step n rs a x ≡ Some r → RestTurn r w t → RestOf (Tail n rs a) (Written x ∷ w) t
 tail_comes n rs a Dash w t r e k = let e' : Stay (Bound n rs a) ≡ r = cc in go (subst (λ z. RestTurn z w t) (sym e') k)
   where
     go : RestOf (Bound n rs a) w t → RestOf (Tail n rs a) (Written Dash ∷ w) t
     go (at_bound h l m f) = at_dash h l m (ap (λ z. Written Dash ∷ z) f)
 tail_comes n rs a x w t r e k = at_member (behind_comes n ((a, a) ∷ rs) x w t r e k)
 
-bound_comes : (n : Bool) (rs : Ranges) (a : ℕ) (x : Symbol) (o : Option ℕ) (w : List Sign) (t : Tree) (r : Turn) → one_of x ≡ o → bound_step n rs a o ≡ Some r → RestTurn r w t → RestOf (Bound n rs a) (Written x ∷ w) t
+bound_comes : (n : Bool) (rs : Ranges) (a : ℕ) (x : Symbol) (o : Option ℕ) (w : List Sign) (t : Tree) (r : ClassMove) → one_of x ≡ o → bound_step n rs a o ≡ Some r → RestTurn r w t → RestOf (Bound n rs a) (Written x ∷ w) t
 bound_comes n rs a x None w t r h e k = cc
 bound_comes n rs a x (Some b) w t r h e k = go (nat_le a b) refl e
   where
@@ -191,7 +191,7 @@ bound_comes n rs a x (Some b) w t r h e k = go (nat_le a b) refl e
     go true f g = let e' : Stay (Behind n ((a, b) ∷ rs)) ≡ r = cc in back (subst (λ z. RestTurn z w t) (sym e') k) (leb-true a b f)
     go false f g = cc
 
-pub class_comes : (k : Spot) (x : Symbol) (w : List Sign) (t : Tree) (r : Turn) → class_step k x ≡ Some r → RestTurn r w t → RestOf k (Written x ∷ w) t
+pub class_comes : (k : ClassState) (x : Symbol) (w : List Sign) (t : Tree) (r : ClassMove) → class_step k x ≡ Some r → RestTurn r w t → RestOf k (Written x ∷ w) t
 class_comes Begin x w t r e h = begin_comes x w t r e h
 class_comes Negated x w t r e h = at_negated (first_comes true (Written x ∷ w) t (one_comes true [] x (one_of x) w t r refl e h))
 class_comes (Tail n rs a) x w t r e h = tail_comes n rs a x w t r e h
@@ -205,7 +205,7 @@ members_never n rs = never (is_set_of (in_class n rs)) refl refl
 first_never : (n : Bool) → Reads (First n) (Written (Byte 97) ∷ Never ∷ []) (Set (words_of (in_class n ((97, 97) ∷ []))))
 first_never n = first (single {x = Byte 97} refl refl refl) (members_never n ((97, 97) ∷ [])) refl
 
-pub class_viable : (k : Spot) → (w : List Sign) × (t : Tree) × RestOf k w t
+pub class_viable : (k : ClassState) → (w : List Sign) × (t : Tree) × RestOf k w t
 class_viable Begin = (Written (Byte 97) ∷ Never ∷ [], Set (words_of (in_class false ((97, 97) ∷ []))), at_first (first_never false) (λ h. let e = h.1 in cc))
 class_viable Negated = (Written (Byte 97) ∷ Never ∷ [], Set (words_of (in_class true ((97, 97) ∷ []))), at_negated (first_never true))
 class_viable (Tail n rs a) = (Never ∷ [], Set (words_of (in_class n ((a, a) ∷ rs))), at_member (members_never n ((a, a) ∷ rs)))
@@ -225,7 +225,7 @@ members_some (never set e j) f = let j' = sym f ∙ j in cc
 first_some : {n : Bool} {u : List Sign} {t : Tree} → Reads (First n) u t → u ≡ [] → ⊥
 first_some (first m r e) f = member_some _ m (sym f ∙ e)
 
-pub class_ends : {k : Spot} {w : List Sign} {t : Tree} → RestOf k w t → w ≡ [] → ⊥
+pub class_ends : {k : ClassState} {w : List Sign} {t : Tree} → RestOf k w t → w ≡ [] → ⊥
 class_ends (at_caret r e) f = let g = sym f ∙ e in cc
 class_ends (at_first r c) f = first_some r f
 class_ends (at_negated r) f = first_some r f

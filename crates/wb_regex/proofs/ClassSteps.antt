@@ -4,10 +4,10 @@ use Rattle.std.specs.Prelude.{nat_le}
 use Rattle.wb_regex.specs.Matches.{HoldsByte}
 use Rattle.wb_regex.specs.Sets.{IsSetOf, Ranges, in_ranges, in_class}
 use Rattle.wb_regex.specs.Grammar.{one_of}
-use Rattle.wb_regex.specs.ClassMachine.{words_of, are_zero, Behind, Turn, Stay, Leave, one_step, closing, begin_step, behind_step, tail_step, bound_step}
-use Rattle.wb_regex.specs.ClassReader.{ShowsMembers, ShowsTurn}
+use Rattle.wb_regex.specs.Inner.ClassSteps.{words_of, are_zero, Behind, ClassMove, Stay, Leave, one_step, closing, begin_step, behind_step, tail_step, bound_step}
+use Rattle.wb_regex.specs.Inner.ClassReader.{ShowsMembers, ShowsMove}
 use Rattle.wb_regex.specs.declared.class.Members.{Members}
-use Rattle.wb_regex.specs.declared.class.Went.{Went}
+use Rattle.wb_regex.specs.declared.class.ClassStep.{ClassStep}
 use Rattle.wb_regex.specs.declared.symbol.Symbol.{Symbol}
 use Rattle.wb_regex.specs.declared.symbol.Symbol.TheVariants.{CloseClass, Dash, Caret}
 use Rattle.wb_regex.proofs.SetLemmas.{words_are, is_set_of, nonzero_holds}
@@ -51,8 +51,8 @@ tail_other n rs a Dash ne = absurd (ne refl)
 tail_other n rs a x ne = refl
 
 -- a turn by another name
-pub same_turn : (went : Went) (o p : Option Turn) → p ≡ o → ShowsTurn went o → ShowsTurn went p
-same_turn went o p e h = subst (ShowsTurn went) (sym e) h
+pub same_turn : (after_piece : ClassStep) (o p : Option ClassMove) → p ≡ o → ShowsMove after_piece o → ShowsMove after_piece p
+same_turn after_piece o p e h = subst (ShowsMove after_piece) (sym e) h
 
 -- a bound
 pub bound_less : (n : Bool) (rs : Ranges) (a b : ℕ) (o : Option ℕ) → o ≡ Some b → b < a → bound_step n rs a o ≡ None

@@ -5,7 +5,7 @@ use Rattle.std.proofs.lemmas.Option.{get_or_from_slice_get, slice_get_within}
 use Rattle.wb_regex.specs.Tree.{Tree, Sequence, Choice, Star, Plus, Maybe}
 use Rattle.wb_regex.specs.Filled.{Filled}
 use Rattle.wb_regex.specs.Covers.{Covers, set, sequence, choice, star, plus, maybe}
-use Rattle.wb_regex.specs.Building.{Grows, AreFilled}
+use Rattle.wb_regex.specs.Inner.Building.{Grows, AreFilled}
 use Rattle.wb_regex.specs.Whole.{node_tree, tree_at, tree_of}
 use Rattle.wb_regex.specs.declared.node.RegexNode.{RegexNode}
 use Rattle.wb_regex.specs.declared.node.RegexNode.TheVariants as n

@@ -29,7 +29,7 @@ no_symbols : {back : List Symbol} {y : List ℕ} → IsText back y → y ≡ [] 
 no_symbols (none e) z = refl
 no_symbols (next {u = u} {v = v} i h e) z = absurd (start_some u v (symbol_some i) (sym z ∙ e))
 
--- the same bytes behind different symbols
+-- the same bytes after different symbols
 same_first : {s z : Symbol} {u v : List ℕ} (x r q : List ℕ) → IsSymbol s u → IsSymbol z v → x ≡ u ++ r → x ≡ v ++ q → (s ≡ z) × (r ≡ q)
 same_first {s} {z} x r q i j e f =
     let h = sym (only x r i e) ∙ only x q j f in
@@ -68,7 +68,7 @@ front_starts : (front back : List Symbol) (rest : List Sign) (t : Tree) → Read
 front_starts front back rest t r =
     record { rest = map Written back ++ rest; tree = t; reads = subst (λ w. Reads Regex w t) (ap (λ w. w ++ rest) (written_append front back) ∙ append_assoc (map Written front) (map Written back) rest) r }
 
--- no symbols go on behind a first fault
+-- no symbols go on after a first fault
 nothing_follows : (x : List ℕ) (o : ℕ) (f : IsFirstFault x o) {back : List Symbol} (b c : List ℕ) (rest : List Sign) (t : Tree) → IsText back b → drop o x ≡ b ++ c → Reads Regex (map Written (f.front ++ back) ++ rest) t → back ≡ []
 nothing_follows x o f b c rest t (none e) j r = refl
 nothing_follows x o f b c rest t (next {s} {ss} {u = u} {v = v} i h e) j r =

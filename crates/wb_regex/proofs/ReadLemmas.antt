@@ -7,12 +7,12 @@ use Rattle.wb_regex.specs.Tree.{Tree}
 use Rattle.wb_regex.specs.Matches.{Matches}
 use Rattle.wb_regex.specs.Covers.{Covers}
 use Rattle.wb_regex.specs.Whole.{tree_of, IsWhole}
-use Rattle.wb_regex.specs.Machine.{State, Before, no_level, step, ended}
+use Rattle.wb_regex.specs.Inner.ReaderSteps.{State, Before, no_level, step, ended}
 use Rattle.wb_regex.specs.Text.{IsSymbol, IsText, none, next, IsFirstFault, IsRegexText}
-use Rattle.wb_regex.specs.Scan.{symbol_at}
-use Rattle.wb_regex.specs.Building.{AreFilled}
-use Rattle.wb_regex.specs.Empties.{empty_of}
-use Rattle.wb_regex.specs.Reader.{Keeps, Took, Finishes, IsRead}
+use Rattle.wb_regex.specs.Inner.Scan.{symbol_at}
+use Rattle.wb_regex.specs.Inner.Building.{AreFilled}
+use Rattle.wb_regex.specs.Inner.Nullable.{nullable_of}
+use Rattle.wb_regex.specs.Inner.Reader.{Keeps, Shifted, Finishes, IsRead}
 use Rattle.wb_regex.specs.Answer.{IsEmptyRegex, HasCause, IsAnswer}
 use Rattle.wb_regex.specs.declared.node.RegexNode.{RegexNode}
 use Rattle.wb_regex.specs.declared.symbol.Symbol.{Symbol}
@@ -34,9 +34,9 @@ pub begun_read : (x : List ℕ) (r : Reader) → Keeps r (Before no_level []) �
 begun_read x r k = record { front = []; spelled = []; state = Before no_level []; text = none refl; joins = refl; ran = refl; keeps = k }
 
 -- one more symbol was read
-pub more_read : (x rest after : List ℕ) (r q : Reader) (s : Symbol) (took : Bool) → took ≡ true → symbol_at rest ≡ Some (s, after) → (h : IsRead x rest r) → ((m : State) → Keeps r m → Took took (step m s) q) → IsRead x after q
-more_read x rest after r q s took e f h g =
-    let n = subst (λ b. Took b (step h.state s) q) e (g h.state h.keeps) in
+pub more_read : (x rest after : List ℕ) (r q : Reader) (s : Symbol) (shifted : Bool) → shifted ≡ true → symbol_at rest ≡ Some (s, after) → (h : IsRead x rest r) → ((m : State) → Keeps r m → Shifted shifted (step m s) q) → IsRead x after q
+more_read x rest after r q s shifted e f h g =
+    let n = subst (λ b. Shifted b (step h.state s) q) e (g h.state h.keeps) in
     let u = found rest after s f in
     record { front = h.front ++ s ∷ []; spelled = h.spelled ++ u.0; state = n.0; text = text_push s u.0 h.text u.1; joins = h.joins ∙ ap (λ a. h.spelled ++ a) u.2 ∙ sym (append_assoc h.spelled u.0 after); ran = run_push h.front s (Before no_level []) h.state n.0 h.ran n.1; keeps = n.2 }
 
@@ -57,9 +57,9 @@ fault x rest r offset e h f g =
     }
 
 -- the symbol at the rest, which the reader didn't take
-pub stopped : (x rest after : List ℕ) (r q : Reader) (s : Symbol) (took : Bool) → took ≡ false → symbol_at rest ≡ Some (s, after) → (h : IsRead x rest r) → ((m : State) → Keeps r m → Took took (step m s) q) → (z : Symbol) (v : List ℕ) → symbol_at rest ≡ Some (z, v) → step h.state z ≡ None
-stopped x rest after r q s took e f h g z v i =
-    let n = subst (λ b. Took b (step h.state s) q) e (g h.state h.keeps) in
+pub stopped : (x rest after : List ℕ) (r q : Reader) (s : Symbol) (shifted : Bool) → shifted ≡ false → symbol_at rest ≡ Some (s, after) → (h : IsRead x rest r) → ((m : State) → Keeps r m → Shifted shifted (step m s) q) → (z : Symbol) (v : List ℕ) → symbol_at rest ≡ Some (z, v) → step h.state z ≡ None
+stopped x rest after r q s shifted e f h g z v i =
+    let n = subst (λ b. Shifted b (step h.state s) q) e (g h.state h.keeps) in
     let p : ◌≡◌ {A = Symbol × List ℕ} (s, after) (z, v) = let j = sym f ∙ i in cc in
     ap (step h.state) (ap (λ (a : Symbol × List ℕ). a.0) (sym p)) ∙ n
 
@@ -93,19 +93,19 @@ is_done x r q done e h f =
 pub moved_done : (x : List ℕ) (old new : List RegexNode) → new ≡ old → IsDone x old → IsDone x new
 moved_done x old new e h = subst (IsDone x) (sym e) h
 
-pub moved_answer : (old new : List RegexNode) (empty : Bool) → old ≡ new → ((u : Tree) → Covers old 0 (length old) u → empty ≡ empty_of u) → (u : Tree) → Covers new 0 (length new) u → empty ≡ empty_of u
-moved_answer old new empty e f = subst (λ ns. (u : Tree) → Covers ns 0 (length ns) u → empty ≡ empty_of u) e f
+pub moved_answer : (old new : List RegexNode) (empty : Bool) → old ≡ new → ((u : Tree) → Covers old 0 (length old) u → empty ≡ nullable_of u) → (u : Tree) → Covers new 0 (length new) u → empty ≡ nullable_of u
+moved_answer old new empty e f = subst (λ ns. (u : Tree) → Covers ns 0 (length ns) u → empty ≡ nullable_of u) e f
 
 -- an expression that matches the empty text
-pub done_empty : (x : List ℕ) (nodes : List RegexNode) (empty : Bool) (h : IsDone x nodes) → empty ≡ empty_of h.tree → empty ≡ true → IsEmptyRegex x
+pub done_empty : (x : List ℕ) (nodes : List RegexNode) (empty : Bool) (h : IsDone x nodes) → empty ≡ nullable_of h.tree → empty ≡ true → IsEmptyRegex x
 done_empty x nodes empty h e f = record { tree = h.tree; reads = h.text; empty = empty_matches h.tree (sym e ∙ f) }
 
 -- and one that doesn't
-pub done_whole : (x : List ℕ) (nodes : List RegexNode) (empty : Bool) (h : IsDone x nodes) → empty ≡ empty_of h.tree → empty ≡ false → IsWhole nodes
+pub done_whole : (x : List ℕ) (nodes : List RegexNode) (empty : Bool) (h : IsDone x nodes) → empty ≡ nullable_of h.tree → empty ≡ false → IsWhole nodes
 done_whole x nodes empty h e f =
     let t : tree_of nodes ≡ h.tree = covers_whole nodes h.tree h.covers in
     let c : Covers nodes 0 (length nodes) (tree_of nodes) = subst (Covers nodes 0 (length nodes)) (sym t) h.covers in
-    record { covers = c; filled = covers_filled h.filled c; some = λ m. let g = sym f ∙ e ∙ sym (ap empty_of t) ∙ matches_empty m refl in cc }
+    record { covers = c; filled = covers_filled h.filled c; some = λ m. let g = sym f ∙ e ∙ sym (ap nullable_of t) ∙ matches_empty m refl in cc }
 
 pub done_text : (x : List ℕ) (nodes : List RegexNode) → IsDone x nodes → IsRegexText x (tree_of nodes)
 done_text x nodes h = subst (IsRegexText x) (sym (covers_whole nodes h.tree h.covers)) h.text

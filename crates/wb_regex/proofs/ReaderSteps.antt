@@ -5,21 +5,21 @@ use Rattle.std.proofs.lemmas.List.{reverse-append, reverse-reverse}
 use Rattle.wb_regex.specs.Tree.{Tree, Set}
 use Rattle.wb_regex.specs.Matches.{HoldsByte}
 use Rattle.wb_regex.specs.Covers.{Covers}
-use Rattle.wb_regex.specs.ClassMachine.{Spot}
-use Rattle.wb_regex.specs.ClassReader.{ShowsClass}
-use Rattle.wb_regex.specs.Machine.{Level, State, Before, After, Within, branch_of, regex_of, no_level, with_piece, with_branch, literal_state, begun, closed, went, ended}
+use Rattle.wb_regex.specs.Inner.ClassSteps.{ClassState}
+use Rattle.wb_regex.specs.Inner.ClassReader.{ShowsClass}
+use Rattle.wb_regex.specs.Inner.ReaderSteps.{Level, State, Before, After, Within, branch_of, regex_of, no_level, with_piece, with_branch, literal_state, begin_atom, closed, after_piece, ended}
 use Rattle.wb_regex.specs.Grammar.{literal_of}
-use Rattle.wb_regex.specs.Building.{Grows, AreFilled, Builds, ShowsPart, IsMark}
-use Rattle.wb_regex.specs.Reader.{ShowsLevel, ShowsLevels, Stands, HasPiece, KeepsAt, Keeps, Took, EndsAt, Finishes}
+use Rattle.wb_regex.specs.Inner.Building.{Grows, AreFilled, Builds, ShowsPart, IsMark}
+use Rattle.wb_regex.specs.Inner.Reader.{ShowsLevel, ShowsLevels, Stands, HasPiece, KeepsAt, Keeps, Shifted, EndsAt, Finishes}
 use Rattle.wb_regex.specs.declared.node.RegexNode.{RegexNode}
 use Rattle.wb_regex.specs.declared.node.RegexNode.TheVariants as n
 use Rattle.wb_regex.specs.declared.class.Class.{Class}
-use Rattle.wb_regex.specs.declared.reader.Depth.{Depth}
+use Rattle.wb_regex.specs.declared.reader.Group.{Group}
 use Rattle.wb_regex.specs.declared.reader.Place.{Place}
 use Rattle.wb_regex.specs.declared.reader.Place.TheVariants as p
 use Rattle.wb_regex.specs.declared.reader.Reader.{Reader}
 use Rattle.wb_regex.specs.declared.symbol.Symbol.{Symbol}
-use Rattle.wb_regex.specs.declared.symbol.Symbol.TheVariants.{Bar, Asterisk, Cross, Question, Open, Close, OpenClass, Dot}
+use Rattle.wb_regex.specs.declared.symbol.Symbol.TheVariants.{Bar, Asterisk, PlusSign, Question, OpenParenthesis, CloseParenthesis, OpenClass, Dot}
 use Rattle.wb_regex.proofs.CoversLemmas.{covers_grows}
 use Rattle.wb_regex.proofs.BuildLemmas.{set_pushed, mark_pushed}
 
@@ -31,10 +31,10 @@ module _ (old new : List RegexNode) (w : Grows old new) where
   part_grows s e (Some i) None h = h
   part_grows s e (Some i) (Some t) h = (h.0, covers_grows new w h.1)
 
-  level_grows : (s e : ℕ) (d : Depth) (l : Level) → ShowsLevel old s e d l → ShowsLevel new s e d l
+  level_grows : (s e : ℕ) (d : Group) (l : Level) → ShowsLevel old s e d l → ShowsLevel new s e d l
   level_grows s e d l h = record { middle = h.middle; alternatives = part_grows s h.middle d.alternatives l.alternatives h.alternatives; branch = part_grows h.middle e d.branch l.branch h.branch }
 
-  levels_grows : (e : ℕ) (ds : List Depth) (ls : List Level) → ShowsLevels old e ds ls → ShowsLevels new e ds ls
+  levels_grows : (e : ℕ) (ds : List Group) (ls : List Level) → ShowsLevels old e ds ls → ShowsLevels new e ds ls
   levels_grows e [] [] h = h
   levels_grows e [] (l ∷ ls) h = h
   levels_grows e (d ∷ ds) [] h = h
@@ -94,7 +94,7 @@ open_keeps r q l ls e f g k h =
     )
 
 -- a class goes on
-pub within_keeps : (r q : Reader) (class : Class) (k : Spot) (l : Level) (ls : List Level) → q.nodes.items ≡ r.nodes.items → q.outer.items ≡ r.outer.items → q.level ≡ r.level → q.place ≡ p.Within class → ShowsClass class k → Stands r (length r.nodes.items) l ls → Keeps q (Within k l ls)
+pub within_keeps : (r q : Reader) (class : Class) (k : ClassState) (l : Level) (ls : List Level) → q.nodes.items ≡ r.nodes.items → q.outer.items ≡ r.outer.items → q.level ≡ r.level → q.place ≡ p.Within class → ShowsClass class k → Stands r (length r.nodes.items) l ls → Keeps q (Within k l ls)
 within_keeps r q class k l ls e f g i s h =
     let h' = stands_grows r q (length r.nodes.items) l ls (λ j x a. subst (λ ns. slice_get ns j ≡ Some x) (sym e) a) (subst AreFilled (sym e) h.filled) g f h in
     subst (λ a. KeepsAt a q (Within k l ls)) (sym i) (k, l, ls, refl, s, subst (λ a. Stands q a l ls) (ap length (sym e)) h')
@@ -144,10 +144,10 @@ branch_begins r m q t l ls place h e f g k =
     )
 
 -- a group is closed
-pub group_closes : (r m q : Reader) (d : Depth) (t : Tree) (ls : List Level) (place : ℕ) → EndsAt r m t ls place → q.nodes.items ≡ m.nodes.items → r.outer.items ≡ q.outer.items ++ d ∷ [] → q.level ≡ d → q.place ≡ p.After place → Took true (closed t ls) q
+pub group_closes : (r m q : Reader) (d : Group) (t : Tree) (ls : List Level) (place : ℕ) → EndsAt r m t ls place → q.nodes.items ≡ m.nodes.items → r.outer.items ≡ q.outer.items ++ d ∷ [] → q.level ≡ d → q.place ≡ p.After place → Shifted true (closed t ls) q
 group_closes r m q d t ls place h e f g k = go ls (subst (λ ds. ShowsLevels m.nodes.items h.start ds ls) (ap reverse f ∙ reverse-append q.outer.items (d ∷ [])) h.outer)
   where
-    go : (ls : List Level) → ShowsLevels m.nodes.items h.start (d ∷ reverse q.outer.items) ls → Took true (closed t ls) q
+    go : (ls : List Level) → ShowsLevels m.nodes.items h.start (d ∷ reverse q.outer.items) ls → Shifted true (closed t ls) q
     go [] s = absurd s
     go (l ∷ ls) s = (
       After t l ls,
@@ -171,32 +171,32 @@ group_closes r m q d t ls place h e f g k = go ls (subst (λ ds. ShowsLevels m.n
       ),
     )
 
--- a symbol that is no mark, bar or closing bracket is read behind a piece as one that begins an atom
-pub other_went : (x : Symbol) (t : Tree) (l : Level) (ls : List Level) → (x ≡ Bar → ⊥) → (x ≡ Asterisk → ⊥) → (x ≡ Cross → ⊥) → (x ≡ Question → ⊥) → (x ≡ Close → ⊥) → went x t l ls ≡ begun x (with_piece l t) ls
+-- a symbol that is no mark, bar or closing bracket is read after a piece as one that begins an atom
+pub other_went : (x : Symbol) (t : Tree) (l : Level) (ls : List Level) → (x ≡ Bar → ⊥) → (x ≡ Asterisk → ⊥) → (x ≡ PlusSign → ⊥) → (x ≡ Question → ⊥) → (x ≡ CloseParenthesis → ⊥) → after_piece x t l ls ≡ begin_atom x (with_piece l t) ls
 other_went Bar t l ls a b c d e = absurd (a refl)
 other_went Asterisk t l ls a b c d e = absurd (b refl)
-other_went Cross t l ls a b c d e = absurd (c refl)
+other_went PlusSign t l ls a b c d e = absurd (c refl)
 other_went Question t l ls a b c d e = absurd (d refl)
-other_went Close t l ls a b c d e = absurd (e refl)
+other_went CloseParenthesis t l ls a b c d e = absurd (e refl)
 other_went _ t l ls a b c d e = refl
 
 -- a symbol that opens nothing and is no dot is read as a literal
-pub other_begun : (x : Symbol) (l : Level) (ls : List Level) → (x ≡ Open → ⊥) → (x ≡ OpenClass → ⊥) → (x ≡ Dot → ⊥) → begun x l ls ≡ literal_state (literal_of x) l ls
-other_begun Open l ls a b c = absurd (a refl)
+pub other_begun : (x : Symbol) (l : Level) (ls : List Level) → (x ≡ OpenParenthesis → ⊥) → (x ≡ OpenClass → ⊥) → (x ≡ Dot → ⊥) → begin_atom x l ls ≡ literal_state (literal_of x) l ls
+other_begun OpenParenthesis l ls a b c = absurd (a refl)
 other_begun OpenClass l ls a b c = absurd (b refl)
 other_begun Dot l ls a b c = absurd (c refl)
 other_begun _ l ls a b c = refl
 
 -- the same for a symbol by another step
-pub took_by : (took : Bool) (o u : Option State) (q : Reader) → u ≡ o → Took took o q → Took took u q
-took_by took o u q e h = subst (λ a. Took took a q) (sym e) h
+pub took_by : (shifted : Bool) (o u : Option State) (q : Reader) → u ≡ o → Shifted shifted o q → Shifted shifted u q
+took_by shifted o u q e h = subst (λ a. Shifted shifted a q) (sym e) h
 
 -- a place that is known
 pub at_place : (r : Reader) (s : State) (k : Place) → r.place ≡ k → Keeps r s → KeepsAt k r s
 at_place r s k e h = subst (λ a. KeepsAt a r s) e h
 
 -- the end, in open groups and outside them
-levels_nil : (ns : List RegexNode) (e : ℕ) (ds : List Depth) → ShowsLevels ns e ds [] → ds ≡ []
+levels_nil : (ns : List RegexNode) (e : ℕ) (ds : List Group) → ShowsLevels ns e ds [] → ds ≡ []
 levels_nil ns e [] h = refl
 levels_nil ns e (d ∷ ds) h = absurd h
 
@@ -222,6 +222,6 @@ is_ended r q i place s e f ends h = let g = at_place r s (p.After i) e h in subs
         (regex_of l t, refl, subst (λ a. Covers q.nodes.items a (length q.nodes.items) (regex_of l t)) z h.builds.covers, h.filled)
     go t l (m ∷ ms) g = absurd (subst (λ ds. ShowsLevels r.nodes.items g.stands.start (reverse ds) (m ∷ ms)) f g.stands.outer)
 
-pub nil_by_length : (ds : List Depth) (n : ℕ) → n ≡ length ds → n ≡ 0 → ds ≡ []
+pub nil_by_length : (ds : List Group) (n : ℕ) → n ≡ length ds → n ≡ 0 → ds ≡ []
 nil_by_length [] n e f = refl
 nil_by_length (d ∷ ds) n e f = let h : suc (length ds) ≡ 0 = sym e ∙ f in absurd (omega arith)

@@ -3,7 +3,7 @@ use Rattle.std.proofs.Common.{◌≡◌, List, [], ◌∷◌, ◌++◌, Option, 
 use Rattle.std.proofs.lemmas.List.{append-nil}
 use Rattle.wb_regex.specs.Tree.{Tree}
 use Rattle.wb_regex.specs.Grammar.{Sign, Written, Reads, Regex}
-use Rattle.wb_regex.specs.Machine.{State, step, ended, run, and_then}
+use Rattle.wb_regex.specs.Inner.ReaderSteps.{State, step, ended, run, and_then}
 use Rattle.wb_regex.specs.Text.{CanStart}
 use Rattle.wb_regex.specs.declared.symbol.Symbol.{Symbol}
 use Rattle.wb_regex.proofs.Residual.{Outside, Continues, goes, regex_begins}

@@ -2,10 +2,10 @@
 use Rattle.std.proofs.Common.{◌≡◌, ℕ, List, [], ◌∷◌, ◌++◌, Option, Some, ◌⊎◌, inl, inr, ⊎_elim, refl, sym, ap, ◌∙◌, subst, append_assoc}
 use Rattle.wb_regex.specs.Tree.{Tree, Set, Sequence, Choice, Star, Plus, Maybe}
 use Rattle.wb_regex.specs.Grammar.{Sign, Written, Never, literal_of, Part, Regex, Alternatives, Branch, Pieces, Piece, Marks, Atom, Reads, regex, last, or, branch, whole, then, piece, bare, star, plus, maybe, literal, any, group, negated, plain, first, another, close, never}
-use Rattle.wb_regex.specs.ClassMachine.{Spot, Begin, Turn, Stay, Leave, class_step}
-use Rattle.wb_regex.specs.Machine.{Level, State, Before, After, Within, joined, branch_of, regex_of, no_level, with_piece, with_branch, literal_words, dot_words, literal_state, begun, went, turned, step}
+use Rattle.wb_regex.specs.Inner.ClassSteps.{ClassState, Begin, ClassMove, Stay, Leave, class_step}
+use Rattle.wb_regex.specs.Inner.ReaderSteps.{Level, State, Before, After, Within, joined, branch_of, regex_of, no_level, with_piece, with_branch, literal_words, dot_words, literal_state, begin_atom, after_piece, after_class, step}
 use Rattle.wb_regex.specs.declared.symbol.Symbol.{Symbol}
-use Rattle.wb_regex.specs.declared.symbol.Symbol.TheVariants.{Bar, Asterisk, Cross, Question, Open, Close, OpenClass, Dot, Caret}
+use Rattle.wb_regex.specs.declared.symbol.Symbol.TheVariants.{Bar, Asterisk, PlusSign, Question, OpenParenthesis, CloseParenthesis, OpenClass, Dot, Caret}
 use Rattle.wb_regex.proofs.SetLemmas.{words_are}
 use Rattle.wb_regex.proofs.ClassResidual.{RestOf, Turns, at_caret, at_first, class_goes, class_ends}
 
@@ -31,7 +31,7 @@ Behind K l p = Through (Reads (Marks p)) (BehindPiece K l)
 -- what may follow a whole expression in open groups
 abbrev pub Outside : List Level → Tree → List Sign → Tree → Type 0
 Outside [] r w t = (w ≡ []) × (r ≡ t)
-Outside (l ∷ ls) r w t = (v : List Sign) × (w ≡ Written Close ∷ v) × Behind (Outside ls) l r v t
+Outside (l ∷ ls) r w t = (v : List Sign) × (w ≡ Written CloseParenthesis ∷ v) × Behind (Outside ls) l r v t
 
 -- what may follow a state, and the tree of the whole
 abbrev pub Continues : State → List Sign → Tree → Type 0
@@ -43,9 +43,9 @@ Continues (Within k l ls) w t = Through (RestOf k) (Behind (Outside ls) l) w t
 abbrev pub IsOther : Symbol → Type 0
 IsOther Bar = ⊥
 IsOther Asterisk = ⊥
-IsOther Cross = ⊥
+IsOther PlusSign = ⊥
 IsOther Question = ⊥
-IsOther Close = ⊥
+IsOther CloseParenthesis = ⊥
 IsOther _ = Unit {0}
 
 -- an atom can begin so
@@ -62,9 +62,9 @@ can_begin_append (Never ∷ u) v h = absurd h
 literal_begins : (x : Symbol) (b : ℕ) → literal_of x ≡ Some b → IsOther x
 literal_begins Bar c h = cc
 literal_begins Asterisk c h = cc
-literal_begins Cross c h = cc
+literal_begins PlusSign c h = cc
 literal_begins Question c h = cc
-literal_begins Close c h = cc
+literal_begins CloseParenthesis c h = cc
 literal_begins _ c h = tt
 
 abbrev Begins : Part → List Sign → Type 0
@@ -100,7 +100,7 @@ begins (never s f e) = tt
 pub cut : (x y : Symbol) (w v rest u : List Sign) → Written x ∷ w ≡ u ++ rest → u ≡ Written y ∷ v → (x ≡ y) × (w ≡ v ++ rest)
 cut x y w v rest u e f = let g : (Written y ∷ v) ++ rest ≡ Written y ∷ (v ++ rest) = refl in let h = e ∙ ap (λ a. a ++ rest) f ∙ g in (cc, cc)
 
--- two parts, one behind the other
+-- two parts, one after the other
 module _ (K : Tree → List Sign → Tree → Type 0) where
   pub both : {n : Part} {m : Tree → Part} {u v w rest all : List Sign} {x y t : Tree} → Reads n u x → Reads (m x) v y → w ≡ u ++ v → all ≡ w ++ rest → K y rest t → Through (Reads n) (λ z. Through (Reads (m z)) K) all t
   both {u = u} {v = v} {rest = rest} r s e f k =
@@ -123,14 +123,14 @@ module _ (K : Tree → List Sign → Tree → Type 0) where
   -- what a mark leads to
   abbrev Marked : Tree → Symbol → List Sign → Tree → Type 0
   Marked p Asterisk w t = Through (Reads (Marks (Star p))) K w t
-  Marked p Cross w t = Through (Reads (Marks (Plus p))) K w t
+  Marked p PlusSign w t = Through (Reads (Marks (Plus p))) K w t
   Marked p Question w t = Through (Reads (Marks (Maybe p))) K w t
   Marked p _ w t = ⊥
 
   marks_go : {u rest w : List Sign} {x : Symbol} {p q t : Tree} → Reads (Marks p) u q → Written x ∷ w ≡ u ++ rest → K q rest t → K p (Written x ∷ w) t ⊎ Marked p x w t
   marks_go (bare e f) j k = inl (passes e f j k)
   marks_go {u} {rest} {w} {x} {p} {t = t} (star {v} r e) j k = let c = cut x Asterisk w v rest u j e in inr (subst (λ y. Marked p y w t) (sym c.0) (record { front = v; rest = rest; tree = _; reads = r; joins = c.1; goes = k }))
-  marks_go {u} {rest} {w} {x} {p} {t = t} (plus {v} r e) j k = let c = cut x Cross w v rest u j e in inr (subst (λ y. Marked p y w t) (sym c.0) (record { front = v; rest = rest; tree = _; reads = r; joins = c.1; goes = k }))
+  marks_go {u} {rest} {w} {x} {p} {t = t} (plus {v} r e) j k = let c = cut x PlusSign w v rest u j e in inr (subst (λ y. Marked p y w t) (sym c.0) (record { front = v; rest = rest; tree = _; reads = r; joins = c.1; goes = k }))
   marks_go {u} {rest} {w} {x} {p} {t = t} (maybe {v} r e) j k = let c = cut x Question w v rest u j e in inr (subst (λ y. Marked p y w t) (sym c.0) (record { front = v; rest = rest; tree = _; reads = r; joins = c.1; goes = k }))
 
   pieces_go : {u rest w : List Sign} {p q t : Tree} → Reads (Pieces p) u q → w ≡ u ++ rest → K q rest t → K p w t ⊎ Through (Reads Piece) (λ z. Through (Reads (Pieces (Sequence p z))) K) w t
@@ -148,34 +148,34 @@ Begun K l w t = Through (Reads Atom) (Behind K l) w t
 piece_begins : (K : Tree → List Sign → Tree → Type 0) (l : Level) {w : List Sign} {t : Tree} → Through (Reads Piece) (BehindPiece K l) w t → Begun K l w t
 piece_begins K l h = piece_opens (BehindPiece K l) h.reads h.joins h.goes
 
--- an expression is begun
+-- an expression is begin_atom
 pub regex_begins : (K : Tree → List Sign → Tree → Type 0) {u rest all : List Sign} {x t : Tree} → Reads Regex u x → all ≡ u ++ rest → K x rest t → Begun K no_level all t
 regex_begins K r e k =
     let h = regex_opens K r e k in
     let g = branch_opens (λ b. Through (Reads (Alternatives b)) K) h.reads h.joins h.goes in
     piece_begins K no_level g
 
--- the state behind a symbol, and what may follow it
+-- the state after a symbol, and what may follow it
 abbrev pub Goes : Option State → List Sign → Tree → Type 0
 Goes o w t = (s : State) × (o ≡ Some s) × Continues s w t
 
-literal_begun : (y : Symbol) (b : ℕ) (l : Level) (ls : List Level) → literal_of y ≡ Some b → begun y l ls ≡ Some (After (Set (literal_words b)) l ls)
-literal_begun Open b l ls h = cc
+literal_begun : (y : Symbol) (b : ℕ) (l : Level) (ls : List Level) → literal_of y ≡ Some b → begin_atom y l ls ≡ Some (After (Set (literal_words b)) l ls)
+literal_begun OpenParenthesis b l ls h = cc
 literal_begun OpenClass b l ls h = cc
 literal_begun Dot b l ls h = cc
 literal_begun y b l ls h = ap (λ o. literal_state o l ls) h
 
 -- an atom of one symbol is this set
-set_goes : {u rest w : List Sign} {x : Symbol} {a t : Tree} (l : Level) (ls : List Level) (y : Symbol) (words : List ℕ) → begun y l ls ≡ Some (After (Set words) l ls) → u ≡ Written y ∷ [] → a ≡ Set words → Written x ∷ w ≡ u ++ rest → Behind (Outside ls) l a rest t → Goes (begun x l ls) w t
+set_goes : {u rest w : List Sign} {x : Symbol} {a t : Tree} (l : Level) (ls : List Level) (y : Symbol) (words : List ℕ) → begin_atom y l ls ≡ Some (After (Set words) l ls) → u ≡ Written y ∷ [] → a ≡ Set words → Written x ∷ w ≡ u ++ rest → Behind (Outside ls) l a rest t → Goes (begin_atom x l ls) w t
 set_goes {u} {rest} {w} {x} {a} {t} l ls y words g e f j k =
     let c = cut x y w [] rest u j e in
-    (After (Set words) l ls, ap (λ z. begun z l ls) c.0 ∙ g, subst (λ r. Behind (Outside ls) l (Set words) r t) (sym c.1) (subst (λ z. Behind (Outside ls) l z rest t) f k))
+    (After (Set words) l ls, ap (λ z. begin_atom z l ls) c.0 ∙ g, subst (λ r. Behind (Outside ls) l (Set words) r t) (sym c.1) (subst (λ z. Behind (Outside ls) l z rest t) f k))
 
 -- an atom that is a class
 class_begins : {rest w : List Sign} {a t : Tree} (l : Level) (ls : List Level) (v : List Sign) → RestOf Begin v a → w ≡ v ++ rest → Behind (Outside ls) l a rest t → Continues (Within Begin l ls) w t
 class_begins {rest} {a = a} l ls v r e k = record { front = v; rest = rest; tree = a; reads = r; joins = e; goes = k }
 
-atom_goes : {u rest w : List Sign} {x : Symbol} {a t : Tree} (l : Level) (ls : List Level) → Reads Atom u a → Written x ∷ w ≡ u ++ rest → Behind (Outside ls) l a rest t → Goes (begun x l ls) w t
+atom_goes : {u rest w : List Sign} {x : Symbol} {a t : Tree} (l : Level) (ls : List Level) → Reads Atom u a → Written x ∷ w ≡ u ++ rest → Behind (Outside ls) l a rest t → Goes (begin_atom x l ls) w t
 atom_goes l ls (literal {x = y} {b = b} {words} h s f e) j k =
     let i = words_are words _ s in
     set_goes l ls y (literal_words b) (literal_begun y b l ls h) e (f ∙ ap Set i) j k
@@ -183,72 +183,72 @@ atom_goes l ls (any {words = words} s f e) j k =
     let i = words_are words _ s in
     set_goes l ls Dot dot_words refl e (f ∙ ap Set i) j k
 atom_goes {u} {rest} {w} {x} {t = t} l ls (group {u = v} r e) j k =
-    let c = cut x Open w (v ++ Written Close ∷ []) rest u j e in
-    let cont : Outside (l ∷ ls) _ (Written Close ∷ rest) t = (rest, refl, k) in
-    (Before no_level (l ∷ ls), ap (λ z. begun z l ls) c.0, regex_begins (Outside (l ∷ ls)) r (c.1 ∙ append_assoc v (Written Close ∷ []) rest) cont)
+    let c = cut x OpenParenthesis w (v ++ Written CloseParenthesis ∷ []) rest u j e in
+    let cont : Outside (l ∷ ls) _ (Written CloseParenthesis ∷ rest) t = (rest, refl, k) in
+    (Before no_level (l ∷ ls), ap (λ z. begin_atom z l ls) c.0, regex_begins (Outside (l ∷ ls)) r (c.1 ∙ append_assoc v (Written CloseParenthesis ∷ []) rest) cont)
 atom_goes {u} {rest} {w} {x} l ls (negated {v} r e) j k =
     let c = cut x OpenClass w (Written Caret ∷ v) rest u j e in
-    (Within Begin l ls, ap (λ z. begun z l ls) c.0, class_begins l ls (Written Caret ∷ v) (at_caret r refl) c.1 k)
+    (Within Begin l ls, ap (λ z. begin_atom z l ls) c.0, class_begins l ls (Written Caret ∷ v) (at_caret r refl) c.1 k)
 atom_goes {u} {rest} {w} {x} l ls (plain {v} r n e) j k =
     let c = cut x OpenClass w v rest u j e in
-    (Within Begin l ls, ap (λ z. begun z l ls) c.0, class_begins l ls v (at_first r n) c.1 k)
+    (Within Begin l ls, ap (λ z. begin_atom z l ls) c.0, class_begins l ls v (at_first r n) c.1 k)
 
-before_goes : (x : Symbol) (w : List Sign) (t : Tree) (l : Level) (ls : List Level) → Continues (Before l ls) (Written x ∷ w) t → Goes (begun x l ls) w t
+before_goes : (x : Symbol) (w : List Sign) (t : Tree) (l : Level) (ls : List Level) → Continues (Before l ls) (Written x ∷ w) t → Goes (begin_atom x l ls) w t
 before_goes x w t l ls h = atom_goes l ls h.reads h.joins h.goes
 
--- a symbol that begins an atom goes on behind a piece as it does in its place
-began_went : (x : Symbol) (p : Tree) (l : Level) (ls : List Level) → IsOther x → went x p l ls ≡ begun x (with_piece l p) ls
+-- a symbol that begins an atom goes on after a piece as it does in its place
+began_went : (x : Symbol) (p : Tree) (l : Level) (ls : List Level) → IsOther x → after_piece x p l ls ≡ begin_atom x (with_piece l p) ls
 began_went Bar p l ls h = absurd h
 began_went Asterisk p l ls h = absurd h
-began_went Cross p l ls h = absurd h
+began_went PlusSign p l ls h = absurd h
 began_went Question p l ls h = absurd h
-began_went Close p l ls h = absurd h
+began_went CloseParenthesis p l ls h = absurd h
 began_went _ p l ls h = refl
 
-marked_goes : (x : Symbol) (w : List Sign) (t p : Tree) (l : Level) (ls : List Level) → Marked (BehindPiece (Outside ls) l) p x w t → Goes (went x p l ls) w t
+marked_goes : (x : Symbol) (w : List Sign) (t p : Tree) (l : Level) (ls : List Level) → Marked (BehindPiece (Outside ls) l) p x w t → Goes (after_piece x p l ls) w t
 marked_goes Asterisk w t p l ls h = (After (Star p) l ls, refl, h)
-marked_goes Cross w t p l ls h = (After (Plus p) l ls, refl, h)
+marked_goes PlusSign w t p l ls h = (After (Plus p) l ls, refl, h)
 marked_goes Question w t p l ls h = (After (Maybe p) l ls, refl, h)
 marked_goes _ w t p l ls h = absurd h
 
-outside_goes : (x : Symbol) (w : List Sign) (t p : Tree) (l : Level) (ls : List Level) → Outside ls (regex_of l p) (Written x ∷ w) t → Goes (went x p l ls) w t
+outside_goes : (x : Symbol) (w : List Sign) (t p : Tree) (l : Level) (ls : List Level) → Outside ls (regex_of l p) (Written x ∷ w) t → Goes (after_piece x p l ls) w t
 outside_goes x w t p l [] h = let h' = h.0 in absurd (cc)
 outside_goes x w t p l (m ∷ ls) h =
-    let e : x ≡ Close = let h' = h.1 in cc in
+    let e : x ≡ CloseParenthesis = let h' = h.1 in cc in
     let f : w ≡ h.0 = let h' = h.1 in cc in
-    (After (regex_of l p) m ls, ap (λ z. went z p l (m ∷ ls)) e, subst (λ r. Behind (Outside ls) m (regex_of l p) r t) (sym f) h.2)
+    (After (regex_of l p) m ls, ap (λ z. after_piece z p l (m ∷ ls)) e, subst (λ r. Behind (Outside ls) m (regex_of l p) r t) (sym f) h.2)
 
-after_goes : (x : Symbol) (w : List Sign) (t p : Tree) (l : Level) (ls : List Level) → Continues (After p l ls) (Written x ∷ w) t → Goes (went x p l ls) w t
+after_goes : (x : Symbol) (w : List Sign) (t p : Tree) (l : Level) (ls : List Level) → Continues (After p l ls) (Written x ∷ w) t → Goes (after_piece x p l ls) w t
 after_goes x w t p l ls h = ⊎_elim on_piece (marked_goes x w t p l ls) (marks_go (BehindPiece (Outside ls) l) h.reads h.joins h.goes)
   where
-    on_next : Through (Reads Piece) (λ z. Through (Reads (Pieces (Sequence (branch_of l p) z))) (BehindBranch (Outside ls) l)) (Written x ∷ w) t → Goes (went x p l ls) w t
+    on_next : Through (Reads Piece) (λ z. Through (Reads (Pieces (Sequence (branch_of l p) z))) (BehindBranch (Outside ls) l)) (Written x ∷ w) t → Goes (after_piece x p l ls) w t
     on_next g =
         let b = subst CanBegin (sym g.joins) (can_begin_append g.front g.rest (begins g.reads)) in
         let k = before_goes x w t (with_piece l p) ls (piece_begins (Outside ls) (with_piece l p) g) in
         (k.0, began_went x p l ls b ∙ k.1, k.2)
 
-    on_bar : (x ≡ Bar) × Through (Reads Branch) (λ z. Through (Reads (Alternatives (Choice (regex_of l p) z))) (Outside ls)) w t → Goes (went x p l ls) w t
-    on_bar (e, g) = (Before (with_branch l p) ls, ap (λ z. went z p l ls) e, piece_begins (Outside ls) (with_branch l p) (branch_opens (BehindBranch (Outside ls) (with_branch l p)) g.reads g.joins g.goes))
+    on_bar : (x ≡ Bar) × Through (Reads Branch) (λ z. Through (Reads (Alternatives (Choice (regex_of l p) z))) (Outside ls)) w t → Goes (after_piece x p l ls) w t
+    on_bar (e, g) = (Before (with_branch l p) ls, ap (λ z. after_piece z p l ls) e, piece_begins (Outside ls) (with_branch l p) (branch_opens (BehindBranch (Outside ls) (with_branch l p)) g.reads g.joins g.goes))
 
-    on_branch : BehindBranch (Outside ls) l (branch_of l p) (Written x ∷ w) t → Goes (went x p l ls) w t
+    on_branch : BehindBranch (Outside ls) l (branch_of l p) (Written x ∷ w) t → Goes (after_piece x p l ls) w t
     on_branch g = ⊎_elim (outside_goes x w t p l ls) on_bar (alternatives_go (Outside ls) g.reads g.joins g.goes)
 
-    on_piece : BehindPiece (Outside ls) l p (Written x ∷ w) t → Goes (went x p l ls) w t
+    on_piece : BehindPiece (Outside ls) l p (Written x ∷ w) t → Goes (after_piece x p l ls) w t
     on_piece g = ⊎_elim on_branch on_next (pieces_go (BehindBranch (Outside ls) l) g.reads g.joins g.goes)
 
--- a turn in a class, with what is behind the class
-turn_goes : {rest : List Sign} {a t : Tree} (l : Level) (ls : List Level) (o : Option Turn) (w v : List Sign) → Turns o v a → w ≡ v ++ rest → Behind (Outside ls) l a rest t → Goes (turned o l ls) w t
+-- a turn in a class, with what is after the class
+turn_goes : {rest : List Sign} {a t : Tree} (l : Level) (ls : List Level) (o : Option ClassMove) (w v : List Sign) → Turns o v a → w ≡ v ++ rest → Behind (Outside ls) l a rest t → Goes (after_class o l ls) w t
 turn_goes {rest} {a} {t} l ls o w v (Stay k, e, h) j g =
-    (Within k l ls, ap (λ z. turned z l ls) e, record { front = v; rest = rest; tree = a; reads = h; joins = j; goes = g })
+    (Within k l ls, ap (λ z. after_class z l ls) e, record { front = v; rest = rest; tree = a; reads = h; joins = j; goes = g })
 turn_goes {rest} {a} {t} l ls o w v (Leave words, e, h) j g =
     let i : w ≡ rest = j ∙ ap (λ z. z ++ rest) h.0 in
-    (After (Set words) l ls, ap (λ z. turned z l ls) e, subst (λ z. Behind (Outside ls) l (Set words) z t) (sym i) (subst (λ z. Behind (Outside ls) l z rest t) h.1 g))
+    (After (Set words) l ls, ap (λ z. after_class z l ls) e, subst (λ z. Behind (Outside ls) l (Set words) z t) (sym i) (subst (λ z. Behind (Outside ls) l z rest t) h.1 g))
 
-within_cut : (k : Spot) (x : Symbol) (w front rest : List Sign) (a : Tree) → RestOf k front a → Written x ∷ w ≡ front ++ rest → (v : List Sign) × (front ≡ Written x ∷ v) × (w ≡ v ++ rest)
+within_cut : (k : ClassState) (x : Symbol) (w front rest : List Sign) (a : Tree) → RestOf k front a → Written x ∷ w ≡ front ++ rest → (v : List Sign) × (front ≡ Written x ∷ v) × (w ≡ v ++ rest)
 within_cut k x w [] rest a h e = absurd (class_ends h refl)
 within_cut k x w (y ∷ v) rest a h e = (v, cc, cc)
 
-within_goes : (x : Symbol) (w : List Sign) (t : Tree) (k : Spot) (l : Level) (ls : List Level) → Continues (Within k l ls) (Written x ∷ w) t → Goes (turned (class_step k x) l ls) w t
+within_goes : (x : Symbol) (w : List Sign) (t : Tree) (k : ClassState) (l : Level) (ls : List Level) → Continues (Within k l ls) (Written x ∷ w) t → Goes (after_class (class_step k x) l ls) w t
 within_goes x w t k l ls h =
     let c = within_cut k x w h.front h.rest h.tree h.reads h.joins in
     turn_goes l ls (class_step k x) w c.0 (class_goes k x c.0 h.tree (subst (λ z. RestOf k z h.tree) c.1 h.reads)) c.2 h.goes

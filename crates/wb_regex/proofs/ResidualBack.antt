@@ -3,10 +3,10 @@ use Rattle.std.proofs.Common.{◌≡◌, ℕ, List, [], ◌∷◌, ◌++◌, Opt
 use Rattle.std.proofs.lemmas.List.{append-nil}
 use Rattle.wb_regex.specs.Tree.{Tree, Set, Star, Plus, Maybe}
 use Rattle.wb_regex.specs.Grammar.{Sign, Written, literal_of, Regex, Alternatives, Branch, Pieces, Piece, Marks, Atom, Reads, regex, last, or, branch, whole, then, piece, bare, star, plus, maybe, literal, any, group, negated, plain}
-use Rattle.wb_regex.specs.ClassMachine.{Spot, Begin, Turn, Stay, Leave, class_step}
-use Rattle.wb_regex.specs.Machine.{Level, State, Before, After, Within, branch_of, regex_of, no_level, with_piece, with_branch, literal_words, dot_words, literal_state, begun, closed, went, turned, step, ended}
+use Rattle.wb_regex.specs.Inner.ClassSteps.{ClassState, Begin, ClassMove, Stay, Leave, class_step}
+use Rattle.wb_regex.specs.Inner.ReaderSteps.{Level, State, Before, After, Within, branch_of, regex_of, no_level, with_piece, with_branch, literal_words, dot_words, literal_state, begin_atom, closed, after_piece, after_class, step, ended}
 use Rattle.wb_regex.specs.declared.symbol.Symbol.{Symbol}
-use Rattle.wb_regex.specs.declared.symbol.Symbol.TheVariants.{Bar, Asterisk, Cross, Question, Open, Close, OpenClass, Dot, Byte}
+use Rattle.wb_regex.specs.declared.symbol.Symbol.TheVariants.{Bar, Asterisk, PlusSign, Question, OpenParenthesis, CloseParenthesis, OpenClass, Dot, Byte}
 use Rattle.wb_regex.proofs.SetLemmas.{is_set_of}
 use Rattle.wb_regex.proofs.ClassResidual.{RestOf, at_caret, at_first, class_comes, class_viable, class_ends}
 use Rattle.wb_regex.proofs.Residual.{Through, BehindBranch, BehindPiece, Behind, Outside, Continues, CanBegin, begins, passes, Begun}
@@ -26,11 +26,11 @@ module _ (K : Tree → List Sign → Tree → Type 0) where
   nothing : {R : List Sign → Tree → Type 0} {p t : Tree} {w : List Sign} → R [] p → K p w t → Through R K w t
   nothing r k = record { front = []; rest = _; tree = _; reads = r; joins = refl; goes = k }
 
--- a piece in its place, where one was begun
+-- a piece in its place, where one was begin_atom
 closes_piece : (K : Tree → List Sign → Tree → Type 0) (l : Level) {w : List Sign} {t : Tree} → Begun K l w t → Through (Reads Piece) (BehindPiece K l) w t
 closes_piece K l h = piece_closes (BehindPiece K l) h
 
--- a whole expression, where one was begun
+-- a whole expression, where one was begin_atom
 closes_regex : (K : Tree → List Sign → Tree → Type 0) {w : List Sign} {t : Tree} → Begun K no_level w t → Through (Reads Regex) K w t
 closes_regex K h = regex_closes K (branch_closes (λ b. Through (Reads (Alternatives b)) K) (closes_piece K no_level h))
 
@@ -47,12 +47,12 @@ class_atom : {v : List Sign} {a : Tree} → RestOf Begin v a → Reads Atom (Wri
 class_atom (at_caret r e) = negated r (ap (λ z. Written OpenClass ∷ z) e)
 class_atom (at_first r n) = plain r n refl
 
-begun_comes : (x : Symbol) (w : List Sign) (t : Tree) (l : Level) (ls : List Level) (s : State) → begun x l ls ≡ Some s → Continues s w t → Begun (Outside ls) l (Written x ∷ w) t
-begun_comes Open w t l ls s e k =
+begun_comes : (x : Symbol) (w : List Sign) (t : Tree) (l : Level) (ls : List Level) (s : State) → begin_atom x l ls ≡ Some s → Continues s w t → Begun (Outside ls) l (Written x ∷ w) t
+begun_comes OpenParenthesis w t l ls s e k =
     let e' : Before no_level (l ∷ ls) ≡ s = cc in
     let h = closes_regex (Outside (l ∷ ls)) (subst (λ a. Continues a w t) (sym e') k) in
     let g = h.goes in
-    record { front = Written Open ∷ (h.front ++ Written Close ∷ []); rest = g.0; tree = h.tree; reads = group h.reads refl; joins = ap (λ a. Written Open ∷ a) (h.joins ∙ ap (λ a. h.front ++ a) g.1 ∙ sym (append_assoc h.front (Written Close ∷ []) g.0)); goes = g.2 }
+    record { front = Written OpenParenthesis ∷ (h.front ++ Written CloseParenthesis ∷ []); rest = g.0; tree = h.tree; reads = group h.reads refl; joins = ap (λ a. Written OpenParenthesis ∷ a) (h.joins ∙ ap (λ a. h.front ++ a) g.1 ∙ sym (append_assoc h.front (Written CloseParenthesis ∷ []) g.0)); goes = g.2 }
 begun_comes OpenClass w t l ls s e k =
     let e' : Within Begin l ls ≡ s = cc in
     let h = subst (λ a. Continues a w t) (sym e') k in
@@ -60,7 +60,7 @@ begun_comes OpenClass w t l ls s e k =
 begun_comes Dot w t l ls s e k = let e' : After (Set dot_words) l ls ≡ s = cc in set_comes Dot dot_words w t l ls s (any (is_set_of _) refl refl) e' k
 begun_comes x w t l ls s e k = literal_comes x (literal_of x) w t l ls s refl e k
 
--- behind a piece that gets no further mark
+-- after a piece that gets no further mark
 module _ (p : Tree) (l : Level) (ls : List Level) (w : List Sign) (t : Tree) where
   past_marks : BehindPiece (Outside ls) l p w t → Behind (Outside ls) l p w t
   past_marks k = nothing (BehindPiece (Outside ls) l) {R = Reads (Marks p)} {p = p} (bare refl refl) k
@@ -84,22 +84,22 @@ next_branch w t p l ls k =
     let h = branch_closes (BehindBranch (Outside ls) (with_branch l p)) (closes_piece (Outside ls) (with_branch l p) k) in
     past_pieces p l ls (Written Bar ∷ w) t (record { front = Written Bar ∷ (h.front ++ h.goes.front); rest = h.goes.rest; tree = h.goes.tree; reads = or h.reads h.goes.reads refl; joins = ap (λ a. Written Bar ∷ a) (h.joins ∙ ap (λ a. h.front ++ a) h.goes.joins ∙ sym (append_assoc h.front h.goes.front h.goes.rest)); goes = h.goes.goes })
 
-closed_comes : (w : List Sign) (t p : Tree) (l : Level) (ls : List Level) (s : State) → closed (regex_of l p) ls ≡ Some s → Continues s w t → Behind (Outside ls) l p (Written Close ∷ w) t
+closed_comes : (w : List Sign) (t p : Tree) (l : Level) (ls : List Level) (s : State) → closed (regex_of l p) ls ≡ Some s → Continues s w t → Behind (Outside ls) l p (Written CloseParenthesis ∷ w) t
 closed_comes w t p l [] s e k = cc
 closed_comes w t p l (m ∷ ls) s e k =
     let e' : After (regex_of l p) m ls ≡ s = cc in
-    past_branch p l (m ∷ ls) (Written Close ∷ w) t (w, refl, subst (λ a. Continues a w t) (sym e') k)
+    past_branch p l (m ∷ ls) (Written CloseParenthesis ∷ w) t (w, refl, subst (λ a. Continues a w t) (sym e') k)
 
-went_comes : (x : Symbol) (w : List Sign) (t p : Tree) (l : Level) (ls : List Level) (s : State) → went x p l ls ≡ Some s → Continues s w t → Behind (Outside ls) l p (Written x ∷ w) t
+went_comes : (x : Symbol) (w : List Sign) (t p : Tree) (l : Level) (ls : List Level) (s : State) → after_piece x p l ls ≡ Some s → Continues s w t → Behind (Outside ls) l p (Written x ∷ w) t
 went_comes Asterisk w t p l ls s e k = let e' : After (Star p) l ls ≡ s = cc in mark_comes Star Asterisk w t p l ls (λ v q r. star r refl) (subst (λ a. Continues a w t) (sym e') k)
-went_comes Cross w t p l ls s e k = let e' : After (Plus p) l ls ≡ s = cc in mark_comes Plus Cross w t p l ls (λ v q r. plus r refl) (subst (λ a. Continues a w t) (sym e') k)
+went_comes PlusSign w t p l ls s e k = let e' : After (Plus p) l ls ≡ s = cc in mark_comes Plus PlusSign w t p l ls (λ v q r. plus r refl) (subst (λ a. Continues a w t) (sym e') k)
 went_comes Question w t p l ls s e k = let e' : After (Maybe p) l ls ≡ s = cc in mark_comes Maybe Question w t p l ls (λ v q r. maybe r refl) (subst (λ a. Continues a w t) (sym e') k)
 went_comes Bar w t p l ls s e k = let e' : Before (with_branch l p) ls ≡ s = cc in next_branch w t p l ls (subst (λ a. Continues a w t) (sym e') k)
-went_comes Close w t p l ls s e k = closed_comes w t p l ls s e k
+went_comes CloseParenthesis w t p l ls s e k = closed_comes w t p l ls s e k
 went_comes x w t p l ls s e k = next_piece p l ls (Written x ∷ w) t (begun_comes x w t (with_piece l p) ls s e k)
 
 -- a turn in a class
-turned_comes : (k : Spot) (x : Symbol) (w : List Sign) (t : Tree) (l : Level) (ls : List Level) (s : State) (o : Option Turn) → class_step k x ≡ o → turned o l ls ≡ Some s → Continues s w t → Continues (Within k l ls) (Written x ∷ w) t
+turned_comes : (k : ClassState) (x : Symbol) (w : List Sign) (t : Tree) (l : Level) (ls : List Level) (s : State) (o : Option ClassMove) → class_step k x ≡ o → after_class o l ls ≡ Some s → Continues s w t → Continues (Within k l ls) (Written x ∷ w) t
 turned_comes k x w t l ls s None h e c = cc
 turned_comes k x w t l ls s (Some (Stay j)) h e c =
     let e' : Within j l ls ≡ s = cc in
@@ -117,7 +117,7 @@ comes (Within k l ls) x w t s e c = turned_comes k x w t l ls s (class_step k x)
 -- every state can go on to an end
 outside_viable : (ls : List Level) (r : Tree) → (w : List Sign) × (t : Tree) × Outside ls r w t
 outside_viable [] r = ([], r, (refl, refl))
-outside_viable (l ∷ ls) r = let h = outside_viable ls (regex_of l r) in (Written Close ∷ h.0, h.1, (h.0, refl, past_branch r l ls h.0 h.1 h.2))
+outside_viable (l ∷ ls) r = let h = outside_viable ls (regex_of l r) in (Written CloseParenthesis ∷ h.0, h.1, (h.0, refl, past_branch r l ls h.0 h.1 h.2))
 
 pub viable : (s : State) → (w : List Sign) × (t : Tree) × Continues s w t
 viable (Before l ls) =

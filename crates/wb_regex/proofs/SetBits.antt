@@ -7,7 +7,7 @@ use Rattle.std.proofs.lemmas.Nat.{pow_pos, or_lt}
 use Rattle.std.proofs.lemmas.Nat.Bits.{bit_at-zero, bit_at-lt, bit_at_not, bit_at_set_same, bit_at_set_other}
 use Rattle.wb_regex.specs.Matches.{HoldsByte}
 use Rattle.wb_regex.specs.Sets.{IsSetOf}
-use Rattle.wb_regex.specs.ClassMachine.{words_of}
+use Rattle.wb_regex.specs.Inner.ClassSteps.{words_of}
 use Rattle.wb_regex.proofs.SetLemmas.{words_are}
 
 -- the same bytes by another test
@@ -101,10 +101,10 @@ pub literal_holds : (words : List ℕ) (b : ℕ) → b < 256 → IsSetOf words (
 literal_holds words b l h = (h.each b).1 (l, ap (λ z. z || false) (eq-eqb b b refl))
 
 -- the other bytes
-abbrev turned : List ℕ → List ℕ
-turned words = bit_not w64 (get_or words 0 0) ∷ bit_not w64 (get_or words 1 0) ∷ bit_not w64 (get_or words 2 0) ∷ bit_not w64 (get_or words 3 0) ∷ []
+abbrev after_class : List ℕ → List ℕ
+after_class words = bit_not w64 (get_or words 0 0) ∷ bit_not w64 (get_or words 1 0) ∷ bit_not w64 (get_or words 2 0) ∷ bit_not w64 (get_or words 3 0) ∷ []
 
-turned_at : (words : List ℕ) (k : ℕ) → k < 4 → get_or (turned words) k 0 ≡ bit_not w64 (get_or words k 0)
+turned_at : (words : List ℕ) (k : ℕ) → k < 4 → get_or (after_class words) k 0 ≡ bit_not w64 (get_or words k 0)
 turned_at words zero h = refl
 turned_at words (suc zero) h = refl
 turned_at words (suc (suc zero)) h = refl
@@ -122,14 +122,14 @@ true_not false h = refl
 not_small : (x : ℕ) → bit_not w64 x < 2 ^ 64
 not_small x = let e : bit_not w64 x ≡ 18446744073709551615 - x = refl in omega arith
 
-turned_small : (words : List ℕ) (k : ℕ) → get_or (turned words) k 0 < 2 ^ 64
+turned_small : (words : List ℕ) (k : ℕ) → get_or (after_class words) k 0 < 2 ^ 64
 turned_small words zero = not_small (get_or words 0 0)
 turned_small words (suc zero) = not_small (get_or words 1 0)
 turned_small words (suc (suc zero)) = not_small (get_or words 2 0)
 turned_small words (suc (suc (suc zero))) = not_small (get_or words 3 0)
 turned_small words (suc (suc (suc (suc k)))) = pow_pos 64
 
-pub others_are : (words made : List ℕ) (test : ℕ → Bool) → made ≡ turned words → IsSetOf words test → IsSetOf made (λ c. not (test c))
+pub others_are : (words made : List ℕ) (test : ℕ → Bool) → made ≡ after_class words → IsSetOf words test → IsSetOf made (λ c. not (test c))
 others_are words made test e h = record {
   four = ap length e;
   small = λ k. rw e (turned_small words k);

@@ -10,7 +10,7 @@ use Rattle.std.proofs.lemmas.Grind.{same_number_lists}
 use Rattle.std.proofs.lemmas.Nat.Bits.{bit_at-zero, bit_at-lt, bit_at_cat_low, bit_at_cat_high, same_from_bits_below, bit_at-trailing_zeros}
 use Rattle.wb_regex.specs.Matches.{HoldsByte}
 use Rattle.wb_regex.specs.Sets.{IsSetOf}
-use Rattle.wb_regex.specs.ClassMachine.{bits_below, word_of, words_of, are_zero}
+use Rattle.wb_regex.specs.Inner.ClassSteps.{bits_below, word_of, words_of, are_zero}
 
 -- a bit in front of smaller ones
 front_small : (b : Bool) (m r : ℕ) → r < 2 ^ m → cond b 1 0 * 2 ^ m + r < 2 ^ suc m

@@ -2,7 +2,7 @@
 use Rattle.std.proofs.Common.{◌≡◌, ℕ, ◌+◌, ◌*◌, List, [], ◌∷◌, ◌++◌, Option, Some, None, true, false, cond, eqb, refl, sym, ap, ◌∙◌, subst, ⊎_elim, arith}
 use Rattle.std.proofs.lemmas.Bool.{cases_Bool}
 use Rattle.wb_regex.specs.Text.{byte_symbol, escape_byte, hex_digit, IsSymbol, alone, escaped, hexadecimal}
-use Rattle.wb_regex.specs.Scan.{with_rest, escape_of, hex_pair, hex_at, escape_at, symbol_at}
+use Rattle.wb_regex.specs.Inner.Scan.{with_rest, escape_of, hex_pair, hex_at, escape_at, symbol_at}
 use Rattle.wb_regex.specs.declared.symbol.Symbol.{Symbol}
 use Rattle.wb_regex.specs.declared.symbol.Symbol.TheVariants.{Escape}
 

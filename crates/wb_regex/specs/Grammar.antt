@@ -4,7 +4,7 @@ use Rattle.wb_regex.specs.Tree.{Tree, Set, Sequence, Choice, Star, Plus, Maybe}
 use Rattle.wb_regex.specs.Matches.{HoldsByte}
 use Rattle.wb_regex.specs.Sets.{IsSetOf, Ranges, in_class}
 use Rattle.wb_regex.specs.declared.symbol.Symbol.{Symbol}
-use Rattle.wb_regex.specs.declared.symbol.Symbol.TheVariants.{Bar, Asterisk, Cross, Question, Open, Close, OpenClass, CloseClass, Dot, Dash, Caret, Byte, Escape}
+use Rattle.wb_regex.specs.declared.symbol.Symbol.TheVariants.{Bar, Asterisk, PlusSign, Question, OpenParenthesis, CloseParenthesis, OpenClass, CloseClass, Dot, Dash, Caret, Byte, Escape}
 
 -- A symbol that is written, or a sign that stands in no text and closes any class. Where it's asked how symbols may go on, it may
 -- be used, so that a class that holds no byte is refused at its bracket and at no symbol before.
@@ -26,17 +26,17 @@ one_of (Byte b) = Some b
 one_of (Escape b) = Some b
 one_of Bar = Some 124
 one_of Asterisk = Some 42
-one_of Cross = Some 43
+one_of PlusSign = Some 43
 one_of Question = Some 63
-one_of Open = Some 40
-one_of Close = Some 41
+one_of OpenParenthesis = Some 40
+one_of CloseParenthesis = Some 41
 one_of OpenClass = Some 91
 one_of Dot = Some 46
 one_of Caret = Some 94
 one_of _ = None
 
--- A part of an expression. Some go on behind what was read: the alternatives behind a branch, the pieces behind a piece, the marks
--- behind an atom, and the members of a class, negated or not, behind the ranges of others.
+-- A part of an expression. Some go on after what was read: the alternatives after a branch, the pieces after a piece, the marks
+-- after an atom, and the members of a class, negated or not, after the ranges of others.
 pub data Part : Type 0 where
   Regex : Part
   Alternatives : Tree → Part
@@ -71,12 +71,12 @@ pub data Reads : Part → List Sign → Tree → Type 0 where
   piece : {u v w : List Sign} {a t : Tree} → Reads Atom u a → Reads (Marks a) v t → w ≡ u ++ v → Reads Piece w t
   bare : {w : List Sign} {s t : Tree} → w ≡ [] → s ≡ t → Reads (Marks s) w t
   star : {v w : List Sign} {s t : Tree} → Reads (Marks (Star s)) v t → w ≡ Written Asterisk ∷ v → Reads (Marks s) w t
-  plus : {v w : List Sign} {s t : Tree} → Reads (Marks (Plus s)) v t → w ≡ Written Cross ∷ v → Reads (Marks s) w t
+  plus : {v w : List Sign} {s t : Tree} → Reads (Marks (Plus s)) v t → w ≡ Written PlusSign ∷ v → Reads (Marks s) w t
   maybe : {v w : List Sign} {s t : Tree} → Reads (Marks (Maybe s)) v t → w ≡ Written Question ∷ v → Reads (Marks s) w t
-  -- atom = literal | '.' | '(' regex ')' | '[' ['^'] member member* ']', where a '^' directly behind the '[' always negates
+  -- atom = literal | '.' | '(' regex ')' | '[' ['^'] member member* ']', where a '^' directly after the '[' always negates
   literal : {w : List Sign} {x : Symbol} {b : ℕ} {words : List ℕ} {t : Tree} → literal_of x ≡ Some b → IsSetOf words (λ c. c == b) → t ≡ Set words → w ≡ Written x ∷ [] → Reads Atom w t
   any : {w : List Sign} {words : List ℕ} {t : Tree} → IsSetOf words (λ c. not (c == 10)) → t ≡ Set words → w ≡ Written Dot ∷ [] → Reads Atom w t
-  group : {u w : List Sign} {t : Tree} → Reads Regex u t → w ≡ Written Open ∷ (u ++ Written Close ∷ []) → Reads Atom w t
+  group : {u w : List Sign} {t : Tree} → Reads Regex u t → w ≡ Written OpenParenthesis ∷ (u ++ Written CloseParenthesis ∷ []) → Reads Atom w t
   negated : {v w : List Sign} {t : Tree} → Reads (First true) v t → w ≡ Written OpenClass ∷ Written Caret ∷ v → Reads Atom w t
   plain : {v w : List Sign} {t : Tree} → Reads (First false) v t → ¬ BeginsWithCaret v → w ≡ Written OpenClass ∷ v → Reads Atom w t
   first : {u v w : List Sign} {n : Bool} {a b : ℕ} {t : Tree} → IsMember u a b → Reads (Members n ((a, b) ∷ [])) v t → w ≡ u ++ v → Reads (First n) w t

@@ -3,13 +3,13 @@ use Rattle.std.specs.Prelude.{◌≡◌, ◌≤◌, ◌+◌, ◌-◌, ◌*◌, �
 use Rattle.wb_regex.specs.Tree.{Tree}
 use Rattle.wb_regex.specs.Grammar.{Sign, Written, Reads, Regex}
 use Rattle.wb_regex.specs.declared.symbol.Symbol.{Symbol}
-use Rattle.wb_regex.specs.declared.symbol.Symbol.TheVariants.{Bar, Asterisk, Cross, Question, Open, Close, OpenClass, CloseClass, Dot, Dash, Caret, Slash, Byte, Escape}
+use Rattle.wb_regex.specs.declared.symbol.Symbol.TheVariants.{Bar, Asterisk, PlusSign, Question, OpenParenthesis, CloseParenthesis, OpenClass, CloseClass, Dot, Dash, Caret, Slash, Byte, Escape}
 
 -- the symbol that a byte is by itself: each but the backslash is one
 abbrev pub byte_symbol : ℕ → Option Symbol
 byte_symbol b =
-    if b == 92 then None else if b == 124 then Some Bar else if b == 42 then Some Asterisk else if b == 43 then Some Cross
-    else if b == 63 then Some Question else if b == 40 then Some Open else if b == 41 then Some Close
+    if b == 92 then None else if b == 124 then Some Bar else if b == 42 then Some Asterisk else if b == 43 then Some PlusSign
+    else if b == 63 then Some Question else if b == 40 then Some OpenParenthesis else if b == 41 then Some CloseParenthesis
     else if b == 91 then Some OpenClass else if b == 93 then Some CloseClass else if b == 46 then Some Dot
     else if b == 45 then Some Dash else if b == 94 then Some Caret else if b == 47 then Some Slash else Some (Byte b)
 
@@ -17,7 +17,7 @@ byte_symbol b =
 abbrev pub is_in : ℕ → ℕ → ℕ → Bool
 is_in low high b = nat_le low b && nat_le b high
 
--- the byte that a byte behind a backslash stands for: \n, \r and \t, and any that is no letter and no digit
+-- the byte that a byte after a backslash stands for: \n, \r and \t, and any that is no letter and no digit
 abbrev pub escape_byte : ℕ → Option ℕ
 escape_byte c =
     if c == 110 then Some 10 else if c == 114 then Some 13 else if c == 116 then Some 9

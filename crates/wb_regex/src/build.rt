@@ -3,8 +3,8 @@
 ghost use Rattle.std.specs.Prelude.{◌≡◌, ◌+◌, ◌++◌, ◌∷◌, [], ℕ, length, IfOk, OnOk, Option};
 ghost use Rattle.wb_regex.specs.Tree.{Tree, Sequence, Choice};
 ghost use Rattle.wb_regex.specs.Covers.{Covers};
-ghost use Rattle.wb_regex.specs.Machine.{joined};
-ghost use Rattle.wb_regex.specs.Building.{Builds, ShowsPart};
+ghost use Rattle.wb_regex.specs.Inner.ReaderSteps.{joined};
+ghost use Rattle.wb_regex.specs.Inner.Building.{Builds, ShowsPart};
 
 use crate::RegexNode;
 use std::alloc::AllocError;

@@ -3,8 +3,8 @@
 ghost use Rattle.std.specs.Prelude.{◌≡◌, ◌≤◌, [], ◌∷◌, ℕ, Bool};
 ghost use Rattle.wb_regex.specs.Sets.{Ranges, in_class};
 ghost use Rattle.wb_regex.specs.Grammar.{one_of};
-ghost use Rattle.wb_regex.specs.ClassMachine.{Spot, words_of, one_step, closing, begin_step, behind_step, tail_step, bound_step, class_step};
-ghost use Rattle.wb_regex.specs.ClassReader.{ShowsMembers, ShowsClass, ShowsTurn};
+ghost use Rattle.wb_regex.specs.Inner.ClassSteps.{ClassState, words_of, one_step, closing, begin_step, behind_step, tail_step, bound_step, class_step};
+ghost use Rattle.wb_regex.specs.Inner.ClassReader.{ShowsMembers, ShowsClass, ShowsMove};
 
 use crate::sets::{NOTHING, add_range, is_nothing, others};
 use crate::symbol::Symbol;
@@ -33,7 +33,7 @@ pub enum Class {
 
 /// What a symbol makes of a class.
 #[derive(Clone, Copy)]
-pub enum Went {
+pub enum ClassStep {
     /// It can't follow.
     Stop,
     Stay(Class),
@@ -50,10 +50,10 @@ fn byte_of(symbol: Symbol) -> Option<u8>
         Symbol::Escape(byte) => Some(byte),
         Symbol::Bar => Some(b'|'),
         Symbol::Asterisk => Some(b'*'),
-        Symbol::Cross => Some(b'+'),
+        Symbol::PlusSign => Some(b'+'),
         Symbol::Question => Some(b'?'),
-        Symbol::Open => Some(b'('),
-        Symbol::Close => Some(b')'),
+        Symbol::OpenParenthesis => Some(b'('),
+        Symbol::CloseParenthesis => Some(b')'),
         Symbol::OpenClass => Some(b'['),
         Symbol::Dot => Some(b'.'),
         Symbol::Caret => Some(b'^'),
@@ -97,30 +97,30 @@ impl Members {
     }
 
     // A member begins.
-    fn one(self, symbol: Symbol) -> Went
-        ensures { (n : Bool) (rs : Ranges) → ShowsMembers self n rs → ShowsTurn result (one_step n rs (one_of symbol)) }
+    fn one(self, symbol: Symbol) -> ClassStep
+        ensures { (n : Bool) (rs : Ranges) → ShowsMembers self n rs → ShowsMove result (one_step n rs (one_of symbol)) }
     {
         match byte_of(symbol) {
-            None => Went::Stop,
-            Some(byte) => Went::Stay(Class::Tail(self, byte)),
+            None => ClassStep::Stop,
+            Some(byte) => ClassStep::Stay(Class::Tail(self, byte)),
         }
     }
 
     // The class is closed.
-    fn close(self) -> Went
-        ensures { (n : Bool) (rs : Ranges) → ShowsMembers self n rs → ShowsTurn result (closing (words_of (in_class n rs))) }
+    fn close(self) -> ClassStep
+        ensures { (n : Bool) (rs : Ranges) → ShowsMembers self n rs → ShowsMove result (closing (words_of (in_class n rs))) }
     {
         let words = self.whole();
         if is_nothing(&words) {
-            Went::Stop
+            ClassStep::Stop
         } else {
-            Went::Leave(words)
+            ClassStep::Leave(words)
         }
     }
 
-    // A symbol stands behind members.
-    fn behind(self, symbol: Symbol) -> Went
-        ensures { (n : Bool) (rs : Ranges) → ShowsMembers self n rs → ShowsTurn result (behind_step n rs symbol) }
+    // A symbol stands after members.
+    fn behind(self, symbol: Symbol) -> ClassStep
+        ensures { (n : Bool) (rs : Ranges) → ShowsMembers self n rs → ShowsMove result (behind_step n rs symbol) }
     {
         match symbol {
             Symbol::CloseClass => self.close(),
@@ -128,47 +128,47 @@ impl Members {
         }
     }
 
-    // A symbol stands behind a byte that may begin a range.
-    fn tail(self, low: u8, symbol: Symbol) -> Went
-        ensures { (n : Bool) (rs : Ranges) → ShowsMembers self n rs → ShowsTurn result (tail_step n rs low symbol) }
+    // A symbol stands after a byte that may begin a range.
+    fn tail(self, low: u8, symbol: Symbol) -> ClassStep
+        ensures { (n : Bool) (rs : Ranges) → ShowsMembers self n rs → ShowsMove result (tail_step n rs low symbol) }
     {
         match symbol {
-            Symbol::Dash => Went::Stay(Class::Bound(self, low)),
+            Symbol::Dash => ClassStep::Stay(Class::Bound(self, low)),
             _ => self.with(low, low).behind(symbol),
         }
     }
 
-    // A symbol stands behind the dash of a range.
-    fn bound(self, low: u8, symbol: Symbol) -> Went
-        ensures { (n : Bool) (rs : Ranges) → ShowsMembers self n rs → ShowsTurn result (bound_step n rs low (one_of symbol)) }
+    // A symbol stands after the dash of a range.
+    fn bound(self, low: u8, symbol: Symbol) -> ClassStep
+        ensures { (n : Bool) (rs : Ranges) → ShowsMembers self n rs → ShowsMove result (bound_step n rs low (one_of symbol)) }
     {
         match byte_of(symbol) {
-            None => Went::Stop,
+            None => ClassStep::Stop,
             Some(high) => {
                 if low <= high {
-                    Went::Stay(Class::Behind(self.with(low, high)))
+                    ClassStep::Stay(Class::Behind(self.with(low, high)))
                 } else {
-                    Went::Stop
+                    ClassStep::Stop
                 }
             }
         }
     }
 }
 
-// A symbol stands behind the bracket.
-fn begin(symbol: Symbol) -> Went
-    ensures { ShowsTurn result (begin_step symbol) }
+// A symbol stands after the bracket.
+fn begin(symbol: Symbol) -> ClassStep
+    ensures { ShowsMove result (begin_step symbol) }
 {
     match symbol {
-        Symbol::Caret => Went::Stay(Class::Negated),
+        Symbol::Caret => ClassStep::Stay(Class::Negated),
         _ => Members::none(false).one(symbol),
     }
 }
 
 impl Class {
     /// What a symbol makes of the class.
-    pub fn step(self, symbol: Symbol) -> Went
-        ensures { (k : Spot) → ShowsClass self k → ShowsTurn result (class_step k symbol) }
+    pub fn step(self, symbol: Symbol) -> ClassStep
+        ensures { (k : ClassState) → ShowsClass self k → ShowsMove result (class_step k symbol) }
     {
         match self {
             Class::Begin => begin(symbol),

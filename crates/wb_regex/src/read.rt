@@ -5,8 +5,8 @@ ghost use Rattle.wb_regex.specs.Tree.{Tree};
 ghost use Rattle.wb_regex.specs.Matches.{Matches};
 ghost use Rattle.wb_regex.specs.Covers.{Covers};
 ghost use Rattle.wb_regex.specs.Text.{IsRegexText, IsFirstFault};
-ghost use Rattle.wb_regex.specs.Empties.{empty_of, empty_at, flag};
-ghost use Rattle.wb_regex.specs.Reader.{IsRead};
+ghost use Rattle.wb_regex.specs.Inner.Nullable.{nullable_of, nullable_at, flag};
+ghost use Rattle.wb_regex.specs.Inner.Reader.{IsRead};
 ghost use Rattle.wb_regex.specs.Answer.{HasCause, IsAnswer};
 ghost use Rattle.wb_regex.specs.declared.refusal.RegexRefusal.TheVariants.{Bad, MatchesEmpty};
 
@@ -27,8 +27,8 @@ fn read_symbols(alloc: Global, bytes: &[u8]) -> Result<Reader, RegexRefusal>
         match first_symbol(rest) {
             None => return Err(RegexRefusal::Bad(bytes.len() - rest.len())),
             Some((symbol, behind)) => {
-                let took = reader.step(symbol)?;
-                if !took {
+                let shifted = reader.step(symbol)?;
+                if !shifted {
                     return Err(RegexRefusal::Bad(bytes.len() - rest.len()));
                 }
                 rest = behind;
@@ -47,7 +47,7 @@ fn known(empties: &[bool], place: usize) -> bool
 
 // Whether a node matches the empty text, where the answers for its parts are known.
 fn node_empty(empties: &[bool], node: RegexNode) -> bool
-    ensures { result ≡ empty_at empties.now node }
+    ensures { result ≡ nullable_at empties.now node }
 {
     match node {
         RegexNode::Set(_) => false,
@@ -61,7 +61,7 @@ fn node_empty(empties: &[bool], node: RegexNode) -> bool
 
 // Whether an expression matches the empty text.
 fn is_empty(alloc: Global, nodes: &[RegexNode]) -> Result<bool, AllocError>
-    ensures { IfOk result (λ empty. (t : Tree) → Covers nodes.now 0 (length nodes.now) t → empty ≡ empty_of t) }
+    ensures { IfOk result (λ empty. (t : Tree) → Covers nodes.now 0 (length nodes.now) t → empty ≡ nullable_of t) }
 {
     let mut empties = Vec::new(alloc);
     for node in nodes {

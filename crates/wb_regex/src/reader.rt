@@ -3,13 +3,13 @@
 ghost use Rattle.std.specs.Prelude.{◌≡◌, [], ℕ, length, List, Option, IfOk, OnOk};
 ghost use Rattle.wb_regex.specs.Tree.{Tree, Set};
 ghost use Rattle.wb_regex.specs.Matches.{HoldsByte};
-ghost use Rattle.wb_regex.specs.Building.{IsMark};
-ghost use Rattle.wb_regex.specs.ClassMachine.{Turn};
-ghost use Rattle.wb_regex.specs.Machine.{State, Before, After, no_level, Level, literal_state, step, ended, begun, closed, turned, went, with_piece, with_branch, regex_of};
-ghost use Rattle.wb_regex.specs.ClassReader.{ShowsTurn};
-ghost use Rattle.wb_regex.specs.Reader.{Stands, HasPiece, Keeps, Took, Finishes, EndsAt};
+ghost use Rattle.wb_regex.specs.Inner.Building.{IsMark};
+ghost use Rattle.wb_regex.specs.Inner.ClassSteps.{ClassMove};
+ghost use Rattle.wb_regex.specs.Inner.ReaderSteps.{State, Before, After, no_level, Level, literal_state, step, ended, begin_atom, closed, after_class, after_piece, with_piece, with_branch, regex_of};
+ghost use Rattle.wb_regex.specs.Inner.ClassReader.{ShowsMove};
+ghost use Rattle.wb_regex.specs.Inner.Reader.{Stands, HasPiece, Keeps, Shifted, Finishes, EndsAt};
 
-use crate::class::{Class, Went};
+use crate::class::{Class, ClassStep};
 use crate::sets::{dot_set, literal_set};
 use crate::symbol::Symbol;
 use crate::{RegexNode, build};
@@ -19,7 +19,7 @@ use wb_base::push;
 /// What was read at one depth of groups: the choice of the branches that are over, and the sequence of the pieces of the branch
 /// that isn't, as places of nodes.
 #[derive(Clone, Copy, Drop)]
-pub struct Depth {
+pub struct Group {
     pub alternatives: Option<usize>,
     pub branch: Option<usize>,
 }
@@ -39,12 +39,12 @@ pub enum Place {
 #[derive(Drop)]
 pub struct Reader {
     pub nodes: Vec<RegexNode>,
-    pub outer: Vec<Depth>,
-    pub level: Depth,
+    pub outer: Vec<Group>,
+    pub level: Group,
     pub place: Place,
 }
 
-const NOTHING: Depth = Depth {
+const NOTHING: Group = Group {
     alternatives: None,
     branch: None,
 };
@@ -87,8 +87,8 @@ impl Reader {
 
     // A literal is read, if there is one.
     fn literal(&mut self, byte: Option<u8>) -> Result<bool, AllocError>
-        ensures { IfOk result (λ took. (l : Level) (ls : List Level) → Stands self.old (length self.old.nodes.items) l ls
-            → Took took (literal_state byte l ls) self.new) }
+        ensures { IfOk result (λ shifted. (l : Level) (ls : List Level) → Stands self.old (length self.old.nodes.items) l ls
+            → Shifted shifted (literal_state byte l ls) self.new) }
     {
         match byte {
             None => Ok(false),
@@ -99,13 +99,13 @@ impl Reader {
         }
     }
 
-    // An atom is begun.
+    // An atom is begin_atom.
     fn begin(&mut self, symbol: Symbol) -> Result<bool, AllocError>
-        ensures { IfOk result (λ took. (l : Level) (ls : List Level) → Stands self.old (length self.old.nodes.items) l ls
-            → Took took (begun symbol l ls) self.new) }
+        ensures { IfOk result (λ shifted. (l : Level) (ls : List Level) → Stands self.old (length self.old.nodes.items) l ls
+            → Shifted shifted (begin_atom symbol l ls) self.new) }
     {
         match symbol {
-            Symbol::Open => {
+            Symbol::OpenParenthesis => {
                 push(&mut self.outer, self.level)?;
                 self.level = NOTHING;
                 self.place = Place::Before;
@@ -120,8 +120,8 @@ impl Reader {
                 Ok(true)
             }
             _ => {
-                let took = self.literal(symbol.literal())?;
-                Ok(took)
+                let shifted = self.literal(symbol.literal())?;
+                Ok(shifted)
             }
         }
     }
@@ -162,7 +162,7 @@ impl Reader {
         ensures { OnOk result ((t : Tree) (l : Level) (ls : List Level) → HasPiece self.old piece t l ls → Keeps self.new (Before (with_branch l t) ls)) }
     {
         let place = self.end_branch(piece)?;
-        self.level = Depth {
+        self.level = Group {
             alternatives: Some(place),
             branch: None,
         };
@@ -172,8 +172,8 @@ impl Reader {
 
     // A group is closed, if one is open.
     fn close(&mut self, piece: usize) -> Result<bool, AllocError>
-        ensures { IfOk result (λ took. (t : Tree) (l : Level) (ls : List Level) → HasPiece self.old piece t l ls
-            → Took took (closed (regex_of l t) ls) self.new) }
+        ensures { IfOk result (λ shifted. (t : Tree) (l : Level) (ls : List Level) → HasPiece self.old piece t l ls
+            → Shifted shifted (closed (regex_of l t) ls) self.new) }
     {
         let place = self.end_branch(piece)?;
         match self.outer.pop() {
@@ -186,17 +186,17 @@ impl Reader {
         }
     }
 
-    // A symbol is read behind a piece.
-    fn go_on(&mut self, piece: usize, symbol: Symbol) -> Result<bool, AllocError>
-        ensures { IfOk result (λ took. (t : Tree) (l : Level) (ls : List Level) → HasPiece self.old piece t l ls
-            → Took took (went symbol t l ls) self.new) }
+    // A symbol is read after a piece.
+    fn read_after_piece(&mut self, piece: usize, symbol: Symbol) -> Result<bool, AllocError>
+        ensures { IfOk result (λ shifted. (t : Tree) (l : Level) (ls : List Level) → HasPiece self.old piece t l ls
+            → Shifted shifted (after_piece symbol t l ls) self.new) }
     {
         match symbol {
             Symbol::Asterisk => {
                 self.mark(RegexNode::Star(piece))?;
                 Ok(true)
             }
-            Symbol::Cross => {
+            Symbol::PlusSign => {
                 self.mark(RegexNode::Plus(piece))?;
                 Ok(true)
             }
@@ -208,30 +208,30 @@ impl Reader {
                 self.alternative(piece)?;
                 Ok(true)
             }
-            Symbol::Close => {
-                let took = self.close(piece)?;
-                Ok(took)
+            Symbol::CloseParenthesis => {
+                let shifted = self.close(piece)?;
+                Ok(shifted)
             }
             _ => {
                 self.end_piece(piece)?;
-                let took = self.begin(symbol)?;
-                Ok(took)
+                let shifted = self.begin(symbol)?;
+                Ok(shifted)
             }
         }
     }
 
     // A turn is made in a class.
-    fn turn(&mut self, went: Went) -> Result<bool, AllocError>
-        ensures { IfOk result (λ took. (o : Option Turn) (l : Level) (ls : List Level) → ShowsTurn went o → Stands self.old (length self.old.nodes.items) l ls
-            → Took took (turned o l ls) self.new) }
+    fn turn(&mut self, after_piece: ClassStep) -> Result<bool, AllocError>
+        ensures { IfOk result (λ shifted. (o : Option ClassMove) (l : Level) (ls : List Level) → ShowsMove after_piece o → Stands self.old (length self.old.nodes.items) l ls
+            → Shifted shifted (after_class o l ls) self.new) }
     {
-        match went {
-            Went::Stop => Ok(false),
-            Went::Stay(class) => {
+        match after_piece {
+            ClassStep::Stop => Ok(false),
+            ClassStep::Stay(class) => {
                 self.place = Place::Within(class);
                 Ok(true)
             }
-            Went::Leave(words) => {
+            ClassStep::Leave(words) => {
                 self.set(words)?;
                 Ok(true)
             }
@@ -240,20 +240,20 @@ impl Reader {
 
     /// Reads a symbol, if it can follow. Answers whether it can.
     pub fn step(&mut self, symbol: Symbol) -> Result<bool, AllocError>
-        ensures { IfOk result (λ took. (s : State) → Keeps self.old s → Took took (step s symbol) self.new) }
+        ensures { IfOk result (λ shifted. (s : State) → Keeps self.old s → Shifted shifted (step s symbol) self.new) }
     {
         match self.place {
             Place::Before => {
-                let took = self.begin(symbol)?;
-                Ok(took)
+                let shifted = self.begin(symbol)?;
+                Ok(shifted)
             }
             Place::After(piece) => {
-                let took = self.go_on(piece, symbol)?;
-                Ok(took)
+                let shifted = self.read_after_piece(piece, symbol)?;
+                Ok(shifted)
             }
             Place::Within(class) => {
-                let took = self.turn(class.step(symbol))?;
-                Ok(took)
+                let shifted = self.turn(class.step(symbol))?;
+                Ok(shifted)
             }
         }
     }

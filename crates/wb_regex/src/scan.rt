@@ -2,7 +2,7 @@
 
 ghost use Rattle.std.specs.Prelude.{◌≡◌, MatchOption, Some, None};
 ghost use Rattle.wb_regex.specs.Text.{byte_symbol, escape_byte, hex_digit};
-ghost use Rattle.wb_regex.specs.Scan.{symbol_at, escape_at, hex_at};
+ghost use Rattle.wb_regex.specs.Inner.Scan.{symbol_at, escape_at, hex_at};
 
 use crate::symbol::Symbol;
 
@@ -14,10 +14,10 @@ fn byte_alone(byte: u8) -> Option<Symbol>
         b'\\' => None,
         b'|' => Some(Symbol::Bar),
         b'*' => Some(Symbol::Asterisk),
-        b'+' => Some(Symbol::Cross),
+        b'+' => Some(Symbol::PlusSign),
         b'?' => Some(Symbol::Question),
-        b'(' => Some(Symbol::Open),
-        b')' => Some(Symbol::Close),
+        b'(' => Some(Symbol::OpenParenthesis),
+        b')' => Some(Symbol::CloseParenthesis),
         b'[' => Some(Symbol::OpenClass),
         b']' => Some(Symbol::CloseClass),
         b'.' => Some(Symbol::Dot),
@@ -28,7 +28,7 @@ fn byte_alone(byte: u8) -> Option<Symbol>
     }
 }
 
-// The byte that a byte behind a backslash stands for.
+// The byte that a byte after a backslash stands for.
 fn byte_escaped(byte: u8) -> Option<u8>
     ensures { result ≡ escape_byte byte }
 {
@@ -53,7 +53,7 @@ fn digit(byte: u8) -> Option<u8>
     }
 }
 
-// The symbol that two hexadecimal digits make, and the bytes behind them.
+// The symbol that two hexadecimal digits make, and the bytes after them.
 fn hexadecimal(bytes: &[u8]) -> Option<(Symbol, &[u8])>
     ensures { MatchOption result (hex_at bytes.now ≡ None) (λ found. hex_at bytes.now ≡ Some (found.0, found.1.now)) }
 {
@@ -71,7 +71,7 @@ fn hexadecimal(bytes: &[u8]) -> Option<(Symbol, &[u8])>
     }
 }
 
-// The symbol of an escape behind its backslash, and the bytes behind it.
+// The symbol of an escape after its backslash, and the bytes after it.
 fn escape(bytes: &[u8]) -> Option<(Symbol, &[u8])>
     ensures { MatchOption result (escape_at bytes.now ≡ None) (λ found. escape_at bytes.now ≡ Some (found.0, found.1.now)) }
 {
@@ -85,7 +85,7 @@ fn escape(bytes: &[u8]) -> Option<(Symbol, &[u8])>
     }
 }
 
-/// The first symbol, and the bytes behind it. None where no symbol begins so.
+/// The first symbol, and the bytes after it. None where no symbol begins so.
 pub fn first_symbol(bytes: &[u8]) -> Option<(Symbol, &[u8])>
     ensures { MatchOption result (symbol_at bytes.now ≡ None) (λ found. symbol_at bytes.now ≡ Some (found.0, found.1.now)) }
 {

@@ -3,8 +3,8 @@
 ghost use Rattle.std.specs.Prelude.{◌≡◌, ◌≤◌, ◌<◌, ◌==◌, ◌||◌, ◌&&◌, ℕ, Bool, not, nat_le};
 ghost use Rattle.wb_regex.specs.Matches.{HoldsByte};
 ghost use Rattle.wb_regex.specs.Sets.{IsSetOf};
-ghost use Rattle.wb_regex.specs.ClassMachine.{are_zero};
-ghost use Rattle.wb_regex.specs.Machine.{literal_words, dot_words};
+ghost use Rattle.wb_regex.specs.Inner.ClassSteps.{are_zero};
+ghost use Rattle.wb_regex.specs.Inner.ReaderSteps.{literal_words, dot_words};
 
 /// The set of no byte.
 pub const NOTHING: [u64; 4] = [0, 0, 0, 0];

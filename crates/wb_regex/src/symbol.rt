@@ -8,10 +8,10 @@ ghost use Rattle.wb_regex.specs.Grammar.{literal_of};
 pub enum Symbol {
     Bar,
     Asterisk,
-    Cross,
+    PlusSign,
     Question,
-    Open,
-    Close,
+    OpenParenthesis,
+    CloseParenthesis,
     OpenClass,
     CloseClass,
     Dot,

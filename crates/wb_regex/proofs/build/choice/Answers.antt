@@ -1,5 +1,5 @@
 use Rattle.std.proofs.Common.{subst}
-use Rattle.wb_regex.specs.Building.{ShowsPart}
+use Rattle.wb_regex.specs.Inner.Building.{ShowsPart}
 use Rattle.wb_regex.proofs.BuildLemmas.{choice_pushed}
 use Rattle.wb_regex.proofs.build.choice.Goals as goal
 

@@ -1,5 +1,5 @@
 use Rattle.std.proofs.Common.{refl, sym, ◌∙◌, ◌∷◌}
-use Rattle.wb_regex.specs.ClassMachine.{Behind}
+use Rattle.wb_regex.specs.Inner.ClassSteps.{Behind}
 use Rattle.wb_regex.proofs.ClassSteps.{bound_less, bound_more}
 use Rattle.wb_regex.proofs.class.Members.bound.Goals as goal
 

@@ -1,5 +1,5 @@
 use Rattle.std.proofs.Common.{ap, refl, ◌∷◌}
-use Rattle.wb_regex.specs.ClassMachine.{Bound, tail_step}
+use Rattle.wb_regex.specs.Inner.ClassSteps.{Bound, tail_step}
 use Rattle.wb_regex.proofs.ClassSteps.{tail_other, same_turn}
 use Rattle.wb_regex.proofs.class.Members.tail.Goals as goal
 

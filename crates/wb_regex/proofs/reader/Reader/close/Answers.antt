@@ -1,6 +1,6 @@
 use Rattle.std.proofs.Common.{refl, ap, sym, ◌∙◌}
 use Rattle.wb_regex.specs.declared.reader.Reader.{Reader}
-use Rattle.wb_regex.specs.Machine.{regex_of}
+use Rattle.wb_regex.specs.Inner.ReaderSteps.{regex_of}
 use Rattle.wb_regex.proofs.ReaderSteps.{group_closes}
 use Rattle.wb_regex.proofs.reader.Reader.close.Goals as goal
 

@@ -1,4 +1,4 @@
-use Rattle.wb_regex.specs.Machine.{branch_of}
+use Rattle.wb_regex.specs.Inner.ReaderSteps.{branch_of}
 use Rattle.wb_regex.proofs.ReaderSteps.{branch_ends, alternatives_grow}
 use Rattle.wb_regex.proofs.reader.Reader.end_branch.Goals as goal
 

@@ -1,7 +1,7 @@
 use Rattle.std.proofs.Common.{ap, subst}
 use Rattle.wb_regex.specs.Tree.{Set}
-use Rattle.wb_regex.specs.Machine.{After, literal_words, literal_state}
-use Rattle.wb_regex.specs.Reader.{Keeps}
+use Rattle.wb_regex.specs.Inner.ReaderSteps.{After, literal_words, literal_state}
+use Rattle.wb_regex.specs.Inner.Reader.{Keeps}
 use Rattle.wb_regex.proofs.reader.Reader.literal.Goals as goal
 
 pub returns-in_ok-set-in-Some : goal.returns-in_ok-set-in-Some

@@ -1,27 +1,27 @@
--- How the reader keeps its state: the open parts are the nodes, one behind the other.
+-- How the reader keeps its state: the open parts are the nodes, one after the other.
 use Rattle.std.specs.Prelude.{◌≡◌, ◌+◌, ℕ, Bool, List, [], ◌∷◌, ◌++◌, length, reverse, Option, Some, None, MatchBool}
 use Rattle.wb_regex.specs.Tree.{Tree}
 use Rattle.wb_regex.specs.Covers.{Covers}
-use Rattle.wb_regex.specs.Building.{AreFilled, Builds, ShowsPart}
+use Rattle.wb_regex.specs.Inner.Building.{AreFilled, Builds, ShowsPart}
 use Rattle.wb_regex.specs.Text.{IsText}
-use Rattle.wb_regex.specs.ClassMachine.{Spot}
-use Rattle.wb_regex.specs.ClassReader.{ShowsClass}
-use Rattle.wb_regex.specs.Machine.{Level, State, Before, After, Within, no_level, run}
+use Rattle.wb_regex.specs.Inner.ClassSteps.{ClassState}
+use Rattle.wb_regex.specs.Inner.ClassReader.{ShowsClass}
+use Rattle.wb_regex.specs.Inner.ReaderSteps.{Level, State, Before, After, Within, no_level, run}
 use Rattle.wb_regex.specs.declared.symbol.Symbol.{Symbol}
 use Rattle.wb_regex.specs.declared.node.RegexNode.{RegexNode}
-use Rattle.wb_regex.specs.declared.reader.Depth.{Depth}
+use Rattle.wb_regex.specs.declared.reader.Group.{Group}
 use Rattle.wb_regex.specs.declared.reader.Place.{Place}
 use Rattle.wb_regex.specs.declared.reader.Place.TheVariants as p
 use Rattle.wb_regex.specs.declared.reader.Reader.{Reader}
 
 -- the nodes from s on and below e are what was read at one depth
-pub record ShowsLevel (nodes : List RegexNode) (s e : ℕ) (d : Depth) (l : Level) : Type 0 where
+pub record ShowsLevel (nodes : List RegexNode) (s e : ℕ) (d : Group) (l : Level) : Type 0 where
   pub middle : ℕ
   pub alternatives : ShowsPart nodes s middle d.alternatives l.alternatives
   pub branch : ShowsPart nodes middle e d.branch l.branch
 
 -- the nodes below e are what was read at the depths outside, the innermost last
-abbrev pub ShowsLevels : List RegexNode → ℕ → List Depth → List Level → Type 0
+abbrev pub ShowsLevels : List RegexNode → ℕ → List Group → List Level → Type 0
 ShowsLevels nodes e [] [] = e ≡ 0
 ShowsLevels nodes e (d ∷ ds) (l ∷ ls) = (s : ℕ) × ShowsLevel nodes s e d l × ShowsLevels nodes s ds ls
 ShowsLevels nodes e [] (l ∷ ls) = ⊥
@@ -34,7 +34,7 @@ pub record Stands (r : Reader) (e : ℕ) (l : Level) (ls : List Level) : Type 0 
   pub outer : ShowsLevels r.nodes.items start (reverse r.outer.items) ls
   pub filled : AreFilled r.nodes.items
 
--- the last piece is the nodes behind
+-- the last piece is the nodes after
 pub record HasPiece (r : Reader) (i : ℕ) (t : Tree) (l : Level) (ls : List Level) : Type 0 where
   pub from : ℕ
   pub last : i + 1 ≡ length r.nodes.items
@@ -45,14 +45,14 @@ pub record HasPiece (r : Reader) (i : ℕ) (t : Tree) (l : Level) (ls : List Lev
 abbrev pub KeepsAt : Place → Reader → State → Type 0
 KeepsAt p.Before r s = (l : Level) × (ls : List Level) × (s ≡ Before l ls) × Stands r (length r.nodes.items) l ls
 KeepsAt (p.After i) r s = (t : Tree) × (l : Level) × (ls : List Level) × (s ≡ After t l ls) × HasPiece r i t l ls
-KeepsAt (p.Within class) r s = (k : Spot) × (l : Level) × (ls : List Level) × (s ≡ Within k l ls) × ShowsClass class k × Stands r (length r.nodes.items) l ls
+KeepsAt (p.Within class) r s = (k : ClassState) × (l : Level) × (ls : List Level) × (s ≡ Within k l ls) × ShowsClass class k × Stands r (length r.nodes.items) l ls
 
 abbrev pub Keeps : Reader → State → Type 0
 Keeps r s = KeepsAt r.place r s
 
--- a symbol was taken, and the reader keeps the state behind it; or it wasn't, and there is none
-abbrev pub Took : Bool → Option State → Reader → Type 0
-Took took o r = MatchBool took ((s : State) × (o ≡ Some s) × Keeps r s) (o ≡ None)
+-- a symbol was taken, and the reader keeps the state after it; or it wasn't, and there is none
+abbrev pub Shifted : Bool → Option State → Reader → Type 0
+Shifted shifted o r = MatchBool shifted ((s : State) × (o ≡ Some s) × Keeps r s) (o ≡ None)
 
 -- a branch is over: the nodes from the start on are the expression at this depth, where it ends
 pub record EndsAt (old new : Reader) (t : Tree) (ls : List Level) (place : ℕ) : Type 0 where

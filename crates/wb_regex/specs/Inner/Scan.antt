@@ -1,4 +1,4 @@
--- The first symbol of some bytes, and the bytes behind it.
+-- The first symbol of some bytes, and the bytes after it.
 use Rattle.std.specs.Prelude.{◌+◌, ◌*◌, ◌==◌, ℕ, List, [], ◌∷◌, Option, Some, None, if◌then◌else◌}
 use Rattle.wb_regex.specs.Text.{byte_symbol, escape_byte, hex_digit}
 use Rattle.wb_regex.specs.declared.symbol.Symbol.{Symbol}
