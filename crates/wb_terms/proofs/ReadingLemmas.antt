@@ -1,8 +1,8 @@
 -- A reading by the table is one by the grammar of terms.
 use Rattle.std.proofs.Common.{◌≡◌, ℕ, List, [], ◌++◌, refl}
-use denote.Enum.Bare.{sameb, same_true, true_same}
-use Rattle.wb_terms.specs.contracts.rules.Kind.{the_type}
-use Rattle.wb_terms.specs.declared.rules.Kind.TheVariants as Kind
+use Rattle.wb_tokens.specs.SameKind.{same_kind}
+use Rattle.wb_tokens.specs.declared.kind.TokenKind.TheVariants.{End}
+use Rattle.wb_tokens.proofs.KindLaws.{kinds_same}
 use Rattle.wb_predictive.specs.declared.table.Next.{Next}
 use Rattle.wb_predictive.specs.declared.table.Next.TheVariants.{Found, End, NoToken}
 use Rattle.wb_predictive.specs.declared.reading.Outcome.{Outcome}
@@ -34,7 +34,7 @@ text_of_term tokens term is = complete_term [] [] (term_onto term []) is (done r
 term_of_text : (tokens : Tokens) (events : List Event) → IsText term_grammar [] tokens events → (term : Term) × IsTerm term tokens [] × (term_onto term [] ≡ events)
 term_of_text tokens events d =
     let t = sound_term tokens [] events d in
-    (t.0, t.1, one_text_value (sameb the_type) (λ a b. (same_true the_type tt a b, true_same the_type a b)) Kind.End term_entries term_grammar term_decided term_ends [] tokens (term_onto t.0 []) events (text_of_term tokens t.0 t.1) d)
+    (t.0, t.1, one_text_value same_kind kinds_same End term_entries term_grammar term_decided term_ends [] tokens (term_onto t.0 []) events (text_of_term tokens t.0 t.1) d)
 
 -- what can begin a term can start a text, and the other way round
 can_start : (front : Tokens) → CanBegin front → CanStart term_grammar [] front
@@ -88,7 +88,7 @@ stopped_outcome bytes at f = record {
 }
 
 one : (bytes : List ℕ) (o p : Outcome (List Event)) → R.IsOutcome term_grammar (IsNextIn Plain bytes) [] o → R.IsOutcome term_grammar (IsNextIn Plain bytes) [] p → o ≡ p
-one bytes o p r s = one_outcome (sameb the_type) (λ a b. (same_true the_type tt a b, true_same the_type a b)) Kind.End term_entries term_grammar term_decided term_ends (IsNextIn Plain bytes) (one_next Plain bytes) [] o r p s
+one bytes o p r s = one_outcome same_kind kinds_same End term_entries term_grammar term_decided term_ends (IsNextIn Plain bytes) (one_next Plain bytes) [] o r p s
 
 -- what is met in two terms of one text is the same
 pub one_onto : (bytes : List ℕ) (s t : Term) → IsTermText bytes s → IsTermText bytes t → term_onto s [] ≡ term_onto t []

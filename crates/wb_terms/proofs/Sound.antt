@@ -11,13 +11,16 @@ use Rattle.wb_tokens.specs.declared.word.Word.TheVariants as words
 use Rattle.wb_tokens.specs.declared.punctuation.Punctuation.{Punctuation}
 use Rattle.wb_tokens.specs.declared.punctuation.Punctuation.TheVariants as p
 use Rattle.wb_terms.specs.declared.event.Event.{Event}
-use Rattle.wb_terms.specs.declared.rules.Kind.{Kind}
+use Rattle.wb_tokens.specs.declared.kind.TokenKind.{TokenKind}
+use Rattle.wb_tokens.specs.declared.kind.TokenKind.TheVariants as k
+use Rattle.wb_tokens.specs.Kinds.{kind_of}
+use Rattle.wb_tokens.proofs.KindLaws.{name_by_kind, mark_by_kind, word_by_kind, string_by_kind, number_by_kind, one_by_kind}
 use Rattle.wb_terms.specs.declared.rules.Part.{Part}
 use Rattle.wb_terms.specs.declared.rules.Action.{Action}
 use Rattle.wb_terms.specs.Term.{Term, Argument, Arguments}
 use Rattle.wb_terms.specs.TermGrammar.{Tokens, Is, IsHead, IsTerm, AreArguments, AreMore, IsArgument, simple, owned, whole, nothing, some, ended, next, number, string, truth, untruth, below}
 use Rattle.wb_terms.specs.Inner.Events.{qualified_name}
-use Rattle.wb_terms.specs.Inner.TermTable.{kind_of, mark_kind, word_kind, term_rights}
+use Rattle.wb_terms.specs.Inner.TermTable.{term_rights}
 use Rattle.wb_terms.proofs.Complete.{Row, Gives}
 
 -- what a part of the grammar is: the first of the tokens are one, and these are left
@@ -31,85 +34,34 @@ IsPart Part.Argument w rest = (a : Argument) × IsArgument a w rest
 -- what a row is
 abbrev Means : Row → Tokens → Type 0
 Means [] w = w ≡ []
-Means (Token k ∷ f) w = (x : Placed Lexeme) × (v : Tokens) × (kind_of x.token ≡ k) × (w ≡ x ∷ v) × Means f v
+Means (Token kind ∷ f) w = (x : Placed Lexeme) × (v : Tokens) × (kind_of x.token ≡ kind) × (w ≡ x ∷ v) × Means f v
 Means (Nonterminal n ∷ f) w = (rest : Tokens) × IsPart n w rest × Means f rest
 Means (Act c ∷ f) w = Means f w
-
--- what a token of a kind is
-abbrev IsOf : Kind → Lexeme → Type 0
-IsOf Kind.Name x = (name : List ℕ) × (x ≡ t.Name name)
-IsOf Kind.Int x = (z : ℤ) × (x ≡ t.Int z)
-IsOf Kind.Text x = (s : List ℕ) × (x ≡ t.Text s)
-IsOf Kind.Truth x = (x ≡ t.Word words.True) ⊎ (x ≡ t.Word words.False)
-IsOf Kind.OpenParenthesis x = x ≡ t.Punctuation p.OpenParenthesis
-IsOf Kind.CloseParenthesis x = x ≡ t.Punctuation p.CloseParenthesis
-IsOf Kind.Comma x = x ≡ t.Punctuation p.Comma
-IsOf Kind.Colon x = x ≡ t.Punctuation p.Colon
-IsOf Kind.Other x = Unit {0}
-IsOf Kind.End x = Unit {0}
-
-mark_is : (mark : Punctuation) → IsOf (mark_kind mark) (t.Punctuation mark)
-mark_is p.Semicolon = tt
-mark_is p.Colon = refl
-mark_is p.Becomes = tt
-mark_is p.OpenBrace = tt
-mark_is p.CloseBrace = tt
-mark_is p.Equals = tt
-mark_is p.Dot = tt
-mark_is p.Comma = refl
-mark_is p.OpenParenthesis = refl
-mark_is p.CloseParenthesis = refl
-mark_is p.At = tt
-
-word_is : (word : Word) → IsOf (word_kind word) (t.Word word)
-word_is words.True = inl refl
-word_is words.False = inr refl
-word_is word = tt
-
-is_of : (x : Lexeme) → IsOf (kind_of x) x
-is_of (t.Name name) = (name, refl)
-is_of (t.Word word) = word_is word
-is_of (t.Int z) = (z, refl)
-is_of (t.Text s) = (s, refl)
-is_of (t.Regex body) = tt
-is_of (t.Punctuation mark) = mark_is mark
-
--- so it is
-of_kind : (k : Kind) (x : Lexeme) → kind_of x ≡ k → IsOf k x
-of_kind k x e = subst (λ k. IsOf k x) e (is_of x)
 
 -- a term's head is a name with an owner's name or without
 head_of : (x : Placed Lexeme) (name : List ℕ) (w v rest : Tokens) → Is (t.Name name) x → w ≡ x ∷ v → IsPart Part.Owner v rest → (whole : List ℕ) × IsHead whole x.at w rest
 head_of x name w v rest is e (inl same) = (name, simple is refl (e ∙ ap (λ u. x ∷ u) same))
 head_of x name w v rest is e (inr o) = (qualified_name name o.0, owned is o.3 o.4 refl refl (e ∙ ap (λ u. x ∷ u) o.5))
 
--- an argument that is a token, and is not
-argument_of : (k : Kind) (x : Placed Lexeme) (w v : Tokens) → w ≡ x ∷ v → IsOf k x.token → (k ≡ Kind.Int) ⊎ ((k ≡ Kind.Text) ⊎ (k ≡ Kind.Truth)) → (a : Argument) × IsArgument a w v
-argument_of k x w v e is (inl same) = let i = subst (λ k. IsOf k x.token) same is in (_, number i.1 refl e)
-argument_of k x w v e is (inr (inl same)) = let i = subst (λ k. IsOf k x.token) same is in (_, string i.1 refl e)
-argument_of k x w v e is (inr (inr same)) = truth_of (subst (λ k. IsOf k x.token) same is) where
-  truth_of : (x.token ≡ t.Word words.True) ⊎ (x.token ≡ t.Word words.False) → (a : Argument) × IsArgument a w v
-  truth_of (inl i) = (_, truth i refl e)
-  truth_of (inr i) = (_, untruth i refl e)
-
 -- a right side of a rule
 the_right : (f : Row) (w : Tokens) (a b : Row) → Some a ≡ Some b → Means (b ++ f) w → Means (a ++ f) w
 the_right f w a b e m = let same : b ≡ a = cc in subst (λ (r : Row). Means (r ++ f) w) same m
 
 -- a term by its rule
-term_by : (f : Row) (w : Tokens) → Means ((Token Kind.Name ∷ Nonterminal Part.Owner ∷ Token Kind.OpenParenthesis ∷ Nonterminal Part.Arguments ∷ Token Kind.CloseParenthesis ∷ Act Action.Close ∷ []) ++ f) w → Means (Nonterminal Part.Term ∷ f) w
+term_by : (f : Row) (w : Tokens) → Means ((Token k.Name ∷ Nonterminal Part.Owner ∷ Token (k.Mark p.OpenParenthesis) ∷ Nonterminal Part.Arguments ∷ Token (k.Mark p.CloseParenthesis) ∷ Act Action.Close ∷ []) ++ f) w → Means (Nonterminal Part.Term ∷ f) w
 term_by f w m =
-    let name = of_kind Kind.Name m.0.token m.2 in
+    let name = name_by_kind m.0.token m.2 in
     let rest = m.4 in
     let head = head_of m.0 name.0 w m.1 rest.0 name.1 m.3 rest.1 in
     let opening = rest.2 in
     let inside = opening.4 in
     let closing = inside.2 in
-    (closing.1, (_, whole (subst (λ v. IsHead head.0 m.0.at w v) opening.3 head.1) (of_kind Kind.OpenParenthesis opening.0.token opening.2) (subst (λ v. AreArguments inside.1.0 opening.1 v) closing.3 inside.1.1) (of_kind Kind.CloseParenthesis closing.0.token closing.2)), closing.4)
+    (closing.1, (_, whole (subst (λ v. IsHead head.0 m.0.at w v) opening.3 head.1) (mark_by_kind opening.0.token p.OpenParenthesis opening.2) (subst (λ v. AreArguments inside.1.0 opening.1 v) closing.3 inside.1.1) (mark_by_kind closing.0.token p.CloseParenthesis closing.2)), closing.4)
 
--- a part of the kind of token at its beginning
-token_by : (k : Kind) (f : Row) (w : Tokens) → (k ≡ Kind.Int) ⊎ ((k ≡ Kind.Text) ⊎ (k ≡ Kind.Truth)) → Means (Token k ∷ f) w → Means (Nonterminal Part.Argument ∷ f) w
-token_by k f w which m = (m.1, argument_of k m.0 w m.1 m.3 (of_kind k m.0.token m.2) which, m.4)
+-- an argument that is a token of this kind
+token_by : (kind : TokenKind) (f : Row) (w : Tokens) → ((x : Placed Lexeme) (v : Tokens) → kind_of x.token ≡ kind → w ≡ x ∷ v → (a : Argument) × IsArgument a w v)
+    → Means (Token kind ∷ f) w → Means (Nonterminal Part.Argument ∷ f) w
+token_by kind f w gives m = (m.1, gives m.0 m.1 m.2 m.3, m.4)
 
 -- by each of the rules
 expanded : (n : Part) (p : ℕ) (right f : Row) (w : Tokens) → slice_get (term_rights n) p ≡ Some right → Means (right ++ f) w → Means (Nonterminal n ∷ f) w
@@ -118,10 +70,10 @@ expanded Part.Term zero right f w e m = term_by f w (the_right f w _ right e m)
 expanded Part.Term (suc p) right f w e m = absurd (cc)
 expanded Part.Owner zero right f w e m = (w, inl refl, the_right f w _ right e m)
 expanded Part.Owner (suc zero) right f w e m =
-    let m' : Means (Token Kind.Colon ∷ Token Kind.Name ∷ Act Action.Qualify ∷ f) w = the_right f w _ right e m in
+    let m' : Means (Token (k.Mark p.Colon) ∷ Token k.Name ∷ Act Action.Qualify ∷ f) w = the_right f w _ right e m in
     let n' = m'.4 in
-    let name = of_kind Kind.Name n'.0.token n'.2 in
-    (n'.1, inr (name.0, m'.0, n'.0, of_kind Kind.Colon m'.0.token m'.2, name.1, m'.3 ∙ ap (λ u. m'.0 ∷ u) n'.3), n'.4)
+    let name = name_by_kind n'.0.token n'.2 in
+    (n'.1, inr (name.0, m'.0, n'.0, mark_by_kind m'.0.token p.Colon m'.2, name.1, m'.3 ∙ ap (λ u. m'.0 ∷ u) n'.3), n'.4)
 expanded Part.Owner (suc (suc p)) right f w e m = absurd (cc)
 expanded Part.Arguments zero right f w e m = (w, (_, nothing refl), the_right f w _ right e m)
 expanded Part.Arguments (suc zero) right f w e m =
@@ -131,23 +83,29 @@ expanded Part.Arguments (suc zero) right f w e m =
 expanded Part.Arguments (suc (suc p)) right f w e m = absurd (cc)
 expanded Part.More zero right f w e m = (w, (_, ended refl), the_right f w _ right e m)
 expanded Part.More (suc zero) right f w e m =
-    let m' : Means (Token Kind.Comma ∷ Nonterminal Part.Argument ∷ Nonterminal Part.More ∷ f) w = the_right f w _ right e m in
+    let m' : Means (Token (k.Mark p.Comma) ∷ Nonterminal Part.Argument ∷ Nonterminal Part.More ∷ f) w = the_right f w _ right e m in
     let a' = m'.4 in
     let n' = a'.2 in
-    (n'.0, (_, next (of_kind Kind.Comma m'.0.token m'.2) m'.3 a'.1.1 n'.1.1), n'.2)
+    (n'.0, (_, next (mark_by_kind m'.0.token p.Comma m'.2) m'.3 a'.1.1 n'.1.1), n'.2)
 expanded Part.More (suc (suc p)) right f w e m = absurd (cc)
-expanded Part.Argument zero right f w e m = token_by Kind.Int f w (inl refl) (the_right f w _ right e m)
-expanded Part.Argument (suc zero) right f w e m = token_by Kind.Text f w (inr (inl refl)) (the_right f w _ right e m)
-expanded Part.Argument (suc (suc zero)) right f w e m = token_by Kind.Truth f w (inr (inr refl)) (the_right f w _ right e m)
+expanded Part.Argument zero right f w e m = token_by k.One f w (λ x v is whole. (_, number (one_by_kind x.token is) refl whole)) (the_right f w _ right e m)
+expanded Part.Argument (suc zero) right f w e m =
+    token_by k.Number f w (λ x v is whole. let i = number_by_kind x.token is in (_, number i.1 refl whole)) (the_right f w _ right e m)
+expanded Part.Argument (suc (suc zero)) right f w e m =
+    token_by k.String f w (λ x v is whole. let i = string_by_kind x.token is in (_, string i.1 refl whole)) (the_right f w _ right e m)
 expanded Part.Argument (suc (suc (suc zero))) right f w e m =
+    token_by (k.Word words.True) f w (λ x v is whole. (_, truth (word_by_kind x.token words.True is) refl whole)) (the_right f w _ right e m)
+expanded Part.Argument (suc (suc (suc (suc zero)))) right f w e m =
+    token_by (k.Word words.False) f w (λ x v is whole. (_, untruth (word_by_kind x.token words.False is) refl whole)) (the_right f w _ right e m)
+expanded Part.Argument (suc (suc (suc (suc (suc zero))))) right f w e m =
     let m' : Means (Nonterminal Part.Term ∷ f) w = the_right f w _ right e m in
     (m'.0, (_, below m'.1.1), m'.2)
-expanded Part.Argument (suc (suc (suc (suc p)))) right f w e m = absurd (cc)
+expanded Part.Argument (suc (suc (suc (suc (suc (suc p)))))) right f w e m = absurd (cc)
 
 -- what a row derives it means
 means : {row : Row} {w : Tokens} {a b : List Event} → Gives row w a b → Means row w
 means (done e i) = e
-means (token {x = x} {v = v} k d e) = (x, v, k, e, means d)
+means (token {x = x} {v = v} kind d e) = (x, v, kind, e, means d)
 means (expand {n = n} {f = f} {right = right} {w = w} p e d) = expanded n p right f w e (means d)
 means (act d) = means d
 

@@ -7,21 +7,7 @@
 
 use wb_predictive::Rule;
 use wb_predictive::Symbol::{Act, Nonterminal, Token};
-
-/// The kinds of tokens, and the end of the text. `Truth` is both truth values, and `Other` every token that no term has.
-#[derive(Clone, Copy, Debug, PartialEq, Eq)]
-pub enum Kind {
-    Name,
-    Int,
-    Text,
-    Truth,
-    OpenParenthesis,
-    CloseParenthesis,
-    Comma,
-    Colon,
-    Other,
-    End,
-}
+use wb_tokens::{Punctuation, TokenKind, Word};
 
 /// The parts of a text, the grammar's nonterminals.
 #[derive(Clone, Copy, Debug, PartialEq, Eq)]
@@ -41,72 +27,91 @@ pub enum Action {
 }
 
 /// A rule of the table.
-pub type TermRule = Rule<'static, Kind, Part, Action>;
+pub type TermRule = Rule<'static, TokenKind, Part, Action>;
 
 pub static TERM: [TermRule; 1] = [Rule {
-    kinds: &[Kind::Name],
+    kinds: &[TokenKind::Name],
     right: &[
-        Token(Kind::Name),
+        Token(TokenKind::Name),
         Nonterminal(Part::Owner),
-        Token(Kind::OpenParenthesis),
+        Token(TokenKind::Mark(Punctuation::OpenParenthesis)),
         Nonterminal(Part::Arguments),
-        Token(Kind::CloseParenthesis),
+        Token(TokenKind::Mark(Punctuation::CloseParenthesis)),
         Act(Action::Close),
     ],
 }];
 
 pub static OWNER: [TermRule; 2] = [
     Rule {
-        kinds: &[Kind::OpenParenthesis],
+        kinds: &[TokenKind::Mark(Punctuation::OpenParenthesis)],
         right: &[],
     },
     Rule {
-        kinds: &[Kind::Colon],
-        right: &[Token(Kind::Colon), Token(Kind::Name), Act(Action::Qualify)],
+        kinds: &[TokenKind::Mark(Punctuation::Colon)],
+        right: &[
+            Token(TokenKind::Mark(Punctuation::Colon)),
+            Token(TokenKind::Name),
+            Act(Action::Qualify),
+        ],
     },
 ];
 
 pub static ARGUMENTS: [TermRule; 2] = [
     Rule {
-        kinds: &[Kind::CloseParenthesis],
+        kinds: &[TokenKind::Mark(Punctuation::CloseParenthesis)],
         right: &[],
     },
     Rule {
-        kinds: &[Kind::Name, Kind::Int, Kind::Text, Kind::Truth],
+        kinds: &[
+            TokenKind::Name,
+            TokenKind::One,
+            TokenKind::Number,
+            TokenKind::String,
+            TokenKind::Word(Word::True),
+            TokenKind::Word(Word::False),
+        ],
         right: &[Nonterminal(Part::Argument), Nonterminal(Part::More)],
     },
 ];
 
 pub static MORE: [TermRule; 2] = [
     Rule {
-        kinds: &[Kind::CloseParenthesis],
+        kinds: &[TokenKind::Mark(Punctuation::CloseParenthesis)],
         right: &[],
     },
     Rule {
-        kinds: &[Kind::Comma],
+        kinds: &[TokenKind::Mark(Punctuation::Comma)],
         right: &[
-            Token(Kind::Comma),
+            Token(TokenKind::Mark(Punctuation::Comma)),
             Nonterminal(Part::Argument),
             Nonterminal(Part::More),
         ],
     },
 ];
 
-pub static ARGUMENT: [TermRule; 4] = [
+pub static ARGUMENT: [TermRule; 6] = [
     Rule {
-        kinds: &[Kind::Int],
-        right: &[Token(Kind::Int)],
+        kinds: &[TokenKind::One],
+        right: &[Token(TokenKind::One)],
     },
     Rule {
-        kinds: &[Kind::Text],
-        right: &[Token(Kind::Text)],
+        kinds: &[TokenKind::Number],
+        right: &[Token(TokenKind::Number)],
     },
     Rule {
-        kinds: &[Kind::Truth],
-        right: &[Token(Kind::Truth)],
+        kinds: &[TokenKind::String],
+        right: &[Token(TokenKind::String)],
     },
     Rule {
-        kinds: &[Kind::Name],
+        kinds: &[TokenKind::Word(Word::True)],
+        right: &[Token(TokenKind::Word(Word::True))],
+    },
+    Rule {
+        kinds: &[TokenKind::Word(Word::False)],
+        right: &[Token(TokenKind::Word(Word::False))],
+    },
+    Rule {
+        kinds: &[TokenKind::Name],
         right: &[Nonterminal(Part::Term)],
     },
 ];

@@ -3,45 +3,20 @@
 //! The rules are in `rules`, and what is made of them in `events`.
 
 ghost use Rattle.std.specs.Prelude.{◌≡◌, OnOk};
-ghost use denote.Enum.Bare.{same_true, true_same};
-ghost use Rattle.wb_terms.specs.contracts.rules.Kind.{the_type};
 ghost use Rattle.wb_terms.specs.Inner.Events.{shift_word};
-ghost use Rattle.wb_terms.specs.Inner.TermTable.{mark_kind, word_kind, term_grammar};
+ghost use Rattle.wb_terms.specs.Inner.TermTable.{term_grammar};
 ghost use Rattle.wb_terms.specs.Inner.TermEntries.{term_entries};
 ghost use Rattle.wb_tokens.specs.NextToken.{IsNextIn};
 ghost use Rattle.wb_tokens.proofs.PlacedLaws.{one_next, advances};
-ghost use Rattle.wb_terms.specs.Inner.TermLaws.{term_sampled, term_decided, term_ends};
+ghost use Rattle.wb_terms.specs.Inner.TermLaws.{term_decided, term_ends};
+ghost use Rattle.wb_tokens.proofs.KindLaws.{kinds_same, kinds_sampled};
 
 use crate::event::Event;
 use crate::events::Events;
-use crate::rules::{ARGUMENT, ARGUMENTS, Action, Kind, MORE, OWNER, Part, TERM};
+use crate::rules::{ARGUMENT, ARGUMENTS, Action, MORE, OWNER, Part, TERM};
 use std::alloc::{AllocError, Global};
 use wb_predictive::{Next, Rule, Table};
-use wb_tokens::{Layout, Punctuation, Token, Word, next_token};
-
-// The kind of a punctuation mark.
-fn mark_kind(mark: Punctuation) -> Kind
-    ensures { result ≡ mark_kind mark }
-{
-    match mark {
-        Punctuation::OpenParenthesis => Kind::OpenParenthesis,
-        Punctuation::CloseParenthesis => Kind::CloseParenthesis,
-        Punctuation::Comma => Kind::Comma,
-        Punctuation::Colon => Kind::Colon,
-        _ => Kind::Other,
-    }
-}
-
-// The kind of a reserved word.
-fn word_kind(word: Word) -> Kind
-    ensures { result ≡ word_kind word }
-{
-    match word {
-        Word::True => Kind::Truth,
-        Word::False => Kind::Truth,
-        _ => Kind::Other,
-    }
-}
+use wb_tokens::{Layout, Token, TokenKind, Word, next_token};
 
 // What a reserved word makes of what was met.
 fn shift_word(word: Word, at: usize, values: &mut Events) -> Result<(), AllocError>
@@ -58,7 +33,7 @@ fn shift_word(word: Word, at: usize, values: &mut Events) -> Result<(), AllocErr
 pub(crate) struct TermTable;
 
 impl Table for TermTable {
-    type Kind = Kind;
+    type Kind = TokenKind;
 
     type Nonterminal = Part;
 
@@ -68,7 +43,7 @@ impl Table for TermTable {
 
     type Values = Events;
 
-    ghost use Rattle.wb_terms.specs.declared.rules.Kind.TheVariants.{End};
+    ghost use Rattle.wb_tokens.specs.declared.kind.TokenKind.TheVariants.{End};
     ghost use Rattle.wb_tokens.specs.declared.token.Layout.TheVariants.{Plain};
 
     ghost grammar = { term_grammar };
@@ -79,9 +54,9 @@ impl Table for TermTable {
 
     ghost IsNext = { IsNextIn Plain };
 
-    ghost same = { λ a b. (same_true the_type tt a b, true_same the_type a b) };
+    ghost same = { kinds_same };
 
-    ghost sampled = { term_sampled };
+    ghost sampled = { kinds_sampled };
 
     ghost one_next = { one_next Plain };
 
@@ -95,23 +70,16 @@ impl Table for TermTable {
         Part::Term
     }
 
-    fn end(&self) -> Kind {
-        Kind::End
+    fn end(&self) -> TokenKind {
+        TokenKind::End
     }
 
-    fn kind(&self, token: &Token) -> Kind {
-        match token {
-            Token::Name(_) => Kind::Name,
-            Token::Word(word) => word_kind(*word),
-            Token::Int(_) => Kind::Int,
-            Token::Text(_) => Kind::Text,
-            Token::Regex(_) => Kind::Other,
-            Token::Punctuation(mark) => mark_kind(*mark),
-        }
+    fn kind(&self, token: &Token) -> TokenKind {
+        token.kind()
     }
 
     #[tactic(auto, unfolding(crate::specs::Inner::TermTable::term_rights, crate::specs::Inner::TermEntries::term_entries))]
-    fn rules(&self, part: Part) -> &[Rule<'_, Kind, Part, Action>] {
+    fn rules(&self, part: Part) -> &[Rule<'_, TokenKind, Part, Action>] {
         match part {
             Part::Term => &TERM,
             Part::Owner => &OWNER,
