@@ -23,7 +23,8 @@ use Rattle.wb_terms.proofs.ReadingLemmas.{one_onto, term_or_fault, one_first_fau
 use Rattle.wb_terms.proofs.TreeLemmas.{each_some, each_both, built_numbered, one_tree, known_fits, fits_no_wrong, known_not_unknown}
 
 -- of the nodes that were ended the least is the least of the term
-least_of_term : (P : ℕ → List ℕ → ℕ → List Argument → Type 0) (t : Term) (place : ℕ) → IsLeast (λ at. SomeEnded (P at) (term_onto t [])) place → IsLeast (λ at. SomeNode (P at) t) place
+least_of_term : (P : ℕ → List ℕ → ℕ → List Argument → Type 0) (t : Term) (place : ℕ)
+    → IsLeast (λ at. SomeEnded (P at) (term_onto t [])) place → IsLeast (λ at. SomeNode (P at) t) place
 least_of_term P t place l = record {
   here = either (λ s. s) absurd (some_in (P place) t [] l.here);
   least = λ at s. l.least at (some_out (P at) t [] (inl s));
@@ -72,7 +73,8 @@ module _ (ss : List Signature) (ts : List Tree) (t : Term) (b : Builder) (h : Ho
   root = root_of b.values.items refl (subst (λ z. AllZip (IsStored ss ts) (all_met z) b.values.items) (term_met t []) h.values)
 
 -- the value that is popped is the one that was held
-pub root_popped : (items : List Value) (n : ℕ) (id : TreeId) (r : Option Value) → n ≡ length items → items ≡ Stored id ∷ [] → ((d : Value) → 0 < n → r ≡ Some (get_or items (n - 1) d)) → r ≡ Some (Stored id)
+pub root_popped : (items : List Value) (n : ℕ) (id : TreeId) (r : Option Value) → n ≡ length items → items ≡ Stored id ∷ []
+    → ((d : Value) → 0 < n → r ≡ Some (get_or items (n - 1) d)) → r ≡ Some (Stored id)
 root_popped items n id r long is popped =
     let one : n ≡ 1 = long ∙ ap length is in
     let first : n - 1 ≡ 0 = omega (arith, one) in

@@ -14,7 +14,8 @@ use Rattle.wb_terms.specs.Inner.Built.{IsNumberOf, IsStored, FindsUnknown, Finds
 use Rattle.wb_terms.specs.Inner.Holding.{AreFrames, Holds}
 use Rattle.wb_terms.proofs.HoldLemmas.{shape_of, shape_begun}
 
-pub begun : {X E : Type 0} (ss : List Signature) (name : List ℕ) (at production start : ℕ) (b c : Builder) (r : Result X E) → c.values ≡ b.values → c.places ≡ b.places → c.faults ≡ b.faults → IsNumberOf ss name production → start ≡ length b.values.items
+pub begun : {X E : Type 0} (ss : List Signature) (name : List ℕ) (at production start : ℕ) (b c : Builder) (r : Result X E)
+    → c.values ≡ b.values → c.places ≡ b.places → c.faults ≡ b.faults → IsNumberOf ss name production → start ≡ length b.values.items
     → OnOk r (c.frames.items ≡ b.frames.items ++ record { production = production; at = at; start = start } ∷ [])
     → OnOk r ((ts : List Tree) (events : List Event) → Holds ss ts events b → Holds ss ts (Begin name at ∷ events) c)
 begun ss name at production start b c (Err e) values places faults number from pushed = tt

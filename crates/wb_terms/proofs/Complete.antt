@@ -30,7 +30,8 @@ abbrev pub Gives : Row → Tokens → List Event → List Event → Type 0
 Gives row tokens a b = Derives term_grammar row tokens a b
 
 -- a token is taken
-take_token : (kind : TokenKind) (f : Row) (x : Placed Lexeme) (l : Lexeme) (v w : Tokens) (a b : List Event) → Is l x → kind_of l ≡ kind → w ≡ x ∷ v → Gives f v (shift l x.at x.end a) b → Gives (Token kind ∷ f) w a b
+take_token : (kind : TokenKind) (f : Row) (x : Placed Lexeme) (l : Lexeme) (v w : Tokens) (a b : List Event) → Is l x → kind_of l ≡ kind
+    → w ≡ x ∷ v → Gives f v (shift l x.at x.end a) b → Gives (Token kind ∷ f) w a b
 take_token kind f x l v w a b is of e d = token (subst (λ l. kind_of l ≡ kind) (sym is) of) (subst (λ l. Gives f v (shift l x.at x.end a) b) (sym is) d) e
 
 -- a part without symbols
@@ -38,7 +39,8 @@ same_rest : (f : Row) (w rest : Tokens) (a b : List Event) → w ≡ rest → Gi
 same_rest f w rest a b e d = subst (λ w. Gives f w a b) (sym e) d
 
 -- a name with its place
-complete_head : (name : List ℕ) (place : ℕ) (w rest : Tokens) (f : Row) (a b : List Event) → IsHead name place w rest → Gives f rest (Begin name place ∷ a) b → Gives (Token k.Name ∷ Nonterminal Part.Owner ∷ f) w a b
+complete_head : (name : List ℕ) (place : ℕ) (w rest : Tokens) (f : Row) (a b : List Event) → IsHead name place w rest
+    → Gives f rest (Begin name place ∷ a) b → Gives (Token k.Name ∷ Nonterminal Part.Owner ∷ f) w a b
 unfolding term_rights
 complete_head name place w rest f a b (simple {x = x} is at e) d =
     take_token k.Name _ x (t.Name name) rest w a b is refl e (expand 0 refl (subst (λ q. Gives f rest (Begin name q ∷ a) b) at d))
@@ -59,7 +61,8 @@ integer_kinds (pos n) = by_test (n == 1)
 integer_kinds (negsuc n) = inr refl
 
 -- an argument that is a number
-complete_number : (z : ℤ) (f : Row) (x : Placed Lexeme) (rest w : Tokens) (a b : List Event) → Is (t.Int z) x → w ≡ x ∷ rest → Gives f rest (Int z x.at ∷ a) b
+complete_number : (z : ℤ) (f : Row) (x : Placed Lexeme) (rest w : Tokens) (a b : List Event) → Is (t.Int z) x → w ≡ x ∷ rest
+    → Gives f rest (Int z x.at ∷ a) b
     → Gives (Nonterminal Part.Argument ∷ f) w a b
 unfolding term_rights
 complete_number z f x rest w a b is e d = by_kind (integer_kinds z)
@@ -72,7 +75,8 @@ mutual
   unfolding term_rights
 
   -- a term
-  pub complete_term : {t : Term} {w rest : Tokens} (f : Row) (a b : List Event) → IsTerm t w rest → Gives f rest (term_onto t a) b → Gives (Nonterminal Part.Term ∷ f) w a b
+  pub complete_term : {t : Term} {w rest : Tokens} (f : Row) (a b : List Event) → IsTerm t w rest → Gives f rest (term_onto t a) b
+      → Gives (Nonterminal Part.Term ∷ f) w a b
   complete_term {w = w} f a b (whole {name = name} {place = place} {arguments = arguments} {inner = inner} {rest = rest} {opening = opening} {closing = closing} head opens inside closes) d =
       expand 0 refl (complete_head name place w (opening ∷ inner) _ a b head
       (take_token (k.Mark p.OpenParenthesis) _ opening _ inner _ _ b opens refl refl
@@ -80,19 +84,22 @@ mutual
       (take_token (k.Mark p.CloseParenthesis) _ closing _ rest _ _ b closes refl refl (act d)))))
 
   -- arguments
-  complete_arguments : {as' : Arguments} {w rest : Tokens} (f : Row) (a b : List Event) → AreArguments as' w rest → Gives f rest (arguments_onto as' a) b → Gives (Nonterminal Part.Arguments ∷ f) w a b
+  complete_arguments : {as' : Arguments} {w rest : Tokens} (f : Row) (a b : List Event) → AreArguments as' w rest
+      → Gives f rest (arguments_onto as' a) b → Gives (Nonterminal Part.Arguments ∷ f) w a b
   complete_arguments {w = w} {rest = rest} f a b (nothing e) d = expand 0 refl (same_rest f w rest a b e d)
   complete_arguments f a b (some {a = c} first others) d = expand 1 refl (complete_argument _ a b first (complete_more f (argument_onto c a) b others d))
 
   -- more arguments
-  complete_more : {as' : Arguments} {w rest : Tokens} (f : Row) (a b : List Event) → AreMore as' w rest → Gives f rest (arguments_onto as' a) b → Gives (Nonterminal Part.More ∷ f) w a b
+  complete_more : {as' : Arguments} {w rest : Tokens} (f : Row) (a b : List Event) → AreMore as' w rest
+      → Gives f rest (arguments_onto as' a) b → Gives (Nonterminal Part.More ∷ f) w a b
   complete_more {w = w} {rest = rest} f a b (ended e) d = expand 0 refl (same_rest f w rest a b e d)
   complete_more {w = w} f a b (next {a = c} {first = first} {comma = comma} mark e one others) d =
       expand 1 refl (take_token (k.Mark p.Comma) _ comma _ first w a b mark refl e
       (complete_argument _ a b one (complete_more f (argument_onto c a) b others d)))
 
   -- an argument
-  complete_argument : {c : Argument} {w rest : Tokens} (f : Row) (a b : List Event) → IsArgument c w rest → Gives f rest (argument_onto c a) b → Gives (Nonterminal Part.Argument ∷ f) w a b
+  complete_argument : {c : Argument} {w rest : Tokens} (f : Row) (a b : List Event) → IsArgument c w rest
+      → Gives f rest (argument_onto c a) b → Gives (Nonterminal Part.Argument ∷ f) w a b
   complete_argument {w = w} {rest = rest} f a b (number {z = z} {x = x} is at e) d =
       complete_number z f x rest w a b is e (subst (λ q. Gives f rest (Int z q ∷ a) b) at d)
   complete_argument {w = w} {rest = rest} f a b (string {s = s} {x = x} is at e) d =

@@ -29,17 +29,21 @@ pub record Popped (ss : List Signature) (ts : List Tree) (events : List Event) (
   pub is : zipper events ≡ inside name place met outer
   pub shape : Shape ss ts (inside name place met outer) values places (f ∷ reverse fs)
 
-popped_at : (ss : List Signature) (ts : List Tree) (events : List Event) (values : List Value) (places : List ℕ) (f : Frame) (fs : List Frame) (z : Zipper) → zipper events ≡ z → Shape ss ts z values places (f ∷ reverse fs) → Popped ss ts events values places f fs
+popped_at : (ss : List Signature) (ts : List Tree) (events : List Event) (values : List Value) (places : List ℕ) (f : Frame)
+    (fs : List Frame) (z : Zipper)
+    → zipper events ≡ z → Shape ss ts z values places (f ∷ reverse fs) → Popped ss ts events values places f fs
 popped_at ss ts events values places f fs (outside met) is s = absurd s.framed
 popped_at ss ts events values places f fs (inside name place met outer) is s = record { name = name; place = place; met = met; outer = outer; is = is; shape = s }
 
-pub popped : (ss : List Signature) (ts : List Tree) (events : List Event) (b : Builder) (f : Frame) (fs : List Frame) → b.frames.items ≡ fs ++ f ∷ [] → Holds ss ts events b → Popped ss ts events b.values.items b.places.items f fs
+pub popped : (ss : List Signature) (ts : List Tree) (events : List Event) (b : Builder) (f : Frame) (fs : List Frame)
+    → b.frames.items ≡ fs ++ f ∷ [] → Holds ss ts events b → Popped ss ts events b.values.items b.places.items f fs
 popped ss ts events b f fs e h =
     let stack : reverse b.frames.items ≡ f ∷ reverse fs = ap reverse e ∙ reverse-append fs (f ∷ []) in
     popped_at ss ts events b.values.items b.places.items f fs (zipper events) refl (subst (λ l. Shape ss ts (zipper events) b.values.items b.places.items l) stack (shape_of ss ts events b h))
 
 -- no frame, so nothing was begun
-pub none_begun : (ss : List Signature) (ts : List Tree) (events : List Event) (b c : Builder) → b.frames.items ≡ [] → c.frames.items ≡ [] → c.values ≡ b.values → c.places ≡ b.places → c.faults ≡ b.faults → Holds ss ts events b → Holds ss ts (End ∷ events) c
+pub none_begun : (ss : List Signature) (ts : List Tree) (events : List Event) (b c : Builder) → b.frames.items ≡ [] → c.frames.items ≡ []
+    → c.values ≡ b.values → c.places ≡ b.places → c.faults ≡ b.faults → Holds ss ts events b → Holds ss ts (End ∷ events) c
 none_begun ss ts events b c none still values places faults h = at (zipper events) refl (subst (λ l. AreFrames ss (zipper events) (reverse l)) none h.frames) where
   at : (z : Zipper) → zipper events ≡ z → AreFrames ss (zipper events) [] → Holds ss ts (End ∷ events) c
   at (inside name place met outer) is framed = absurd (subst (λ z. AreFrames ss z []) is framed)
@@ -54,11 +58,14 @@ none_begun ss ts events b c none still values places faults h = at (zipper event
       }
 
 -- the values are trees of the store
-pub all_within : (ss : List Signature) (ts : List Tree) (events : List Event) (b : Builder) → Holds ss ts events b → All (IsIn (length ts)) b.values.items
+pub all_within : (ss : List Signature) (ts : List Tree) (events : List Event) (b : Builder) → Holds ss ts events b
+    → All (IsIn (length ts)) b.values.items
 all_within ss ts events b h = zip_all (IsStored ss ts) (IsIn (length ts)) (λ a x s. s.within) (all_met (zipper events)) b.values.items h.values
 
 -- the sizes
-pub sizes : (ss : List Signature) (ts : List Tree) (events : List Event) (values : List Value) (places : List ℕ) (f : Frame) (fs : List Frame) (p : Popped ss ts events values places f fs) → (f.start + length p.met ≡ length values) × (length places ≡ length values)
+pub sizes : (ss : List Signature) (ts : List Tree) (events : List Event) (values : List Value) (places : List ℕ) (f : Frame)
+    (fs : List Frame) (p : Popped ss ts events values places f fs)
+    → (f.start + length p.met ≡ length values) × (length places ≡ length values)
 sizes ss ts events values places f fs p = (start_within ss ts p.name p.place p.met p.outer values places f (reverse fs) p.shape, places_long ss ts p.name p.place p.met p.outer values places f (reverse fs) p.shape)
 
 -- of all values the last so many
@@ -66,7 +73,8 @@ pub last_from : (n count : ℕ) (xs : List Value) → n ≤ length xs → count 
 last_from n count xs le e = omega (arith, le, e)
 
 -- the node is built
-pub ended : (ss : List Signature) (ts more : List Tree) (events : List Event) (b c d : Builder) (f : Frame) (fs : List Frame) (id : TreeId) (count : ℕ) (p : Popped ss ts events b.values.items b.places.items f fs)
+pub ended : (ss : List Signature) (ts more : List Tree) (events : List Event) (b c d : Builder) (f : Frame) (fs : List Frame) (id : TreeId)
+    (count : ℕ) (p : Popped ss ts events b.values.items b.places.items f fs)
     → count ≡ length b.values.items - f.start → id.0 ≡ length ts → more ≡ ts ++ node f.production (values_in ts (drop (length b.values.items - count) b.values.items)) ∷ []
     → c.values.items ≡ take (length b.values.items - count) b.values.items → c.places.items ≡ take f.start b.places.items → c.frames.items ≡ fs → AddsValue (Stored id) f.at c d
     → FindsUnknown ss (End ∷ events) c.faults.unknown → FindsWrong ss (End ∷ events) c.faults.wrong → Holds ss more (End ∷ events) d
@@ -88,14 +96,19 @@ ended ss ts more events b c d f fs id count p counted number grown values places
     }
 
 -- the children are trees of the store
-pub children_within : (ss : List Signature) (ts : List Tree) (events : List Event) (values : List Value) (places : List ℕ) (f : Frame) (fs : List Frame) (count : ℕ) → Popped ss ts events values places f fs → count ≡ length values - f.start → All (IsIn (length ts)) (drop (length values - count) values)
+pub children_within : (ss : List Signature) (ts : List Tree) (events : List Event) (values : List Value) (places : List ℕ) (f : Frame)
+    (fs : List Frame) (count : ℕ)
+    → Popped ss ts events values places f fs → count ≡ length values - f.start
+    → All (IsIn (length ts)) (drop (length values - count) values)
 children_within ss ts events values places f fs count p counted =
     let z : length values - count ≡ f.start = last_from f.start count values (omega (arith, (sizes ss ts events values places f fs p).0)) counted in
     let i = innermost_shape ss ts p.name p.place p.met p.outer values places f (reverse fs) p.shape in
     subst (λ n. All (IsIn (length ts)) (drop n values)) (sym z) (zip_all (IsStored ss ts) (IsIn (length ts)) (λ a x s. s.within) p.met (drop f.start values) i.valued)
 
 -- the node is built, where there was memory
-pub ended_ok : {X E : Type 0} (ss : List Signature) (ts more : List Tree) (b c d : Builder) (f : Frame) (fs : List Frame) (id : TreeId) (count : ℕ) (r : Result X E) → b.frames.items ≡ fs ++ f ∷ []
+pub ended_ok : {X E : Type 0} (ss : List Signature) (ts more : List Tree) (b c d : Builder) (f : Frame) (fs : List Frame) (id : TreeId)
+    (count : ℕ) (r : Result X E)
+    → b.frames.items ≡ fs ++ f ∷ []
     → count ≡ length b.values.items - f.start → id.0 ≡ length ts → more ≡ ts ++ node f.production (values_in ts (drop (length b.values.items - count) b.values.items)) ∷ []
     → c.values.items ≡ take (length b.values.items - count) b.values.items → c.places.items ≡ take f.start b.places.items → c.frames.items ≡ fs → OnOk r (AddsValue (Stored id) f.at c d)
     → ((events : List Event) (name : List ℕ) (arguments : List Argument) (outer : Zipper) → zipper events ≡ inside name f.at arguments outer → IsNumberOf ss name f.production

@@ -36,7 +36,8 @@ name_in (named name place arguments) = name
 module _ (ss : List Signature) where
   mutual
     -- the tree of a term that fits is a tree of the nonterminal of its production
-    pub term_fits : (t : Term) (u : Tree) → IsNumbered ss t u → EachNode (FitsNode ss) t → (f : HasFirst ss (name_in t)) → FitsTree ss u f.signature.left
+    pub term_fits : (t : Term) (u : Tree) → IsNumbered ss t u → EachNode (FitsNode ss) t → (f : HasFirst ss (name_in t))
+        → FitsTree ss u f.signature.left
     term_fits (named name place arguments) (v.node p xs) n e f =
         let same = one_first ss name f.production p f.first n.0 in
         let its = ap (slice_get ss) (sym same) ∙ f.its in
@@ -45,7 +46,8 @@ module _ (ss : List Signature) where
         (f.signature, its, refl, all_fit arguments xs f.signature.children n.1 e.1 zipped)
 
     -- a value that an argument stands for is of its kind
-    one_fits : (a : Argument) (x : Value) (kind : Kind) → IsNumberedValue ss a x → EachInArgument (FitsNode ss) a → IsOfKind ss a kind → FitsValue ss x kind
+    one_fits : (a : Argument) (x : Value) (kind : Kind) → IsNumberedValue ss a x → EachInArgument (FitsNode ss) a → IsOfKind ss a kind
+        → FitsValue ss x kind
     one_fits (plain c place) (v.plain d) kind n e o = plain_fits ss c place kind o ∙ ap kind_of n
     one_fits (plain c place) (v.tree u) kind n e o = absurd n
     one_fits (term t) (v.plain d) kind n e o = absurd n
@@ -56,7 +58,8 @@ module _ (ss : List Signature) where
         (m, refl, subst (λ (l : ℕ). FitsTree ss u l) o.left (term_fits (named name place arguments) u n e o.found))
 
     -- and so is each of several
-    all_fit : (arguments : Arguments) (xs : Values) (kinds : List Kind) → AreNumbered ss arguments xs → EachInArguments (FitsNode ss) arguments → AllZip (IsOfKind ss) (list_of arguments) kinds → FitAll ss xs kinds
+    all_fit : (arguments : Arguments) (xs : Values) (kinds : List Kind) → AreNumbered ss arguments xs
+        → EachInArguments (FitsNode ss) arguments → AllZip (IsOfKind ss) (list_of arguments) kinds → FitAll ss xs kinds
     all_fit empty v.empty [] n e z = refl
     all_fit empty v.empty (kind ∷ kinds) n e z = absurd z
     all_fit empty (v.more x xs) kinds n e z = absurd n

@@ -48,7 +48,8 @@ stored_stable ss ts r a x s = record {
 }
 
 -- values of arguments are built
-are_built : (ss : List Signature) (ts : List Tree) (arguments : List Argument) (xs : List Value) → AllZip (IsStored ss ts) arguments xs → AreBuilt ss (arguments_of arguments) (values_in ts xs)
+are_built : (ss : List Signature) (ts : List Tree) (arguments : List Argument) (xs : List Value) → AllZip (IsStored ss ts) arguments xs
+    → AreBuilt ss (arguments_of arguments) (values_in ts xs)
 are_built ss ts [] [] all = tt
 are_built ss ts [] (x ∷ xs) all = absurd all
 are_built ss ts (a ∷ arguments) [] all = absurd all
@@ -73,7 +74,9 @@ met_with a (outside met) = refl
 met_with a (inside name place met outer) = sym (append_assoc (all_met outer) met (a ∷ []))
 
 -- an argument more
-pub shape_with : (ss : List Signature) (ts : List Tree) (z : Zipper) (values : List Value) (places : List ℕ) (frames : List Frame) (a : Argument) (x : Value) (at : ℕ) → Shape ss ts z values places frames → IsStored ss ts a x → place_of a ≡ at
+pub shape_with : (ss : List Signature) (ts : List Tree) (z : Zipper) (values : List Value) (places : List ℕ) (frames : List Frame)
+    (a : Argument) (x : Value) (at : ℕ)
+    → Shape ss ts z values places frames → IsStored ss ts a x → place_of a ≡ at
     → Shape ss ts (with_argument a z) (values ++ x ∷ []) (places ++ at ∷ []) frames
 shape_with ss ts z values places frames a x at s stored here = record {
   framed = frames_with ss a z frames s.framed;
@@ -82,7 +85,9 @@ shape_with ss ts z values places frames a x at s stored here = record {
 }
 
 -- a node is begun
-pub shape_begun : (ss : List Signature) (ts : List Tree) (z : Zipper) (values : List Value) (places : List ℕ) (frames : List Frame) (name : List ℕ) (f : Frame) → Shape ss ts z values places frames → IsNumberOf ss name f.production → f.start ≡ length values
+pub shape_begun : (ss : List Signature) (ts : List Tree) (z : Zipper) (values : List Value) (places : List ℕ) (frames : List Frame)
+    (name : List ℕ) (f : Frame)
+    → Shape ss ts z values places frames → IsNumberOf ss name f.production → f.start ≡ length values
     → Shape ss ts (inside name f.at [] z) values places (f ∷ frames)
 shape_begun ss ts z values places frames name f s number start = record {
   framed = (number, refl, start ∙ AllZip-long (IsStored ss ts) (all_met z) values s.valued, s.framed);
@@ -132,7 +137,8 @@ module _ (ss : List Signature) (ts : List Tree) (name : List ℕ) (place : ℕ) 
   places_long = sym (ap length s.placed) ∙ (length-map (all_met outer ++ met) place_of ∙ sym (AllZip-long (IsStored ss ts) (all_met outer ++ met) values s.valued))
 
   -- the node is built over its values, and is one value more of the outer node
-  pub shape_closed : (id : TreeId) → id.0 ≡ length ts → Shape ss (ts ++ node f.production (values_in ts (drop f.start values)) ∷ []) (with_argument (term (named name place (arguments_of met))) outer)
+  pub shape_closed : (id : TreeId) → id.0 ≡ length ts
+      → Shape ss (ts ++ node f.production (values_in ts (drop f.start values)) ∷ []) (with_argument (term (named name place (arguments_of met))) outer)
       (take f.start values ++ Stored id ∷ []) (take f.start places ++ f.at ∷ []) frames
   shape_closed id is =
       let tree = node f.production (values_in ts (drop f.start values)) in
@@ -152,35 +158,43 @@ module _ (ss : List Signature) (ts : List Tree) (name : List ℕ) (place : ℕ) 
       shape_with ss ts' outer (take f.start values) (take f.start places) frames (term (named name place (arguments_of met))) (Stored id) f.at kept stored (sym i.here)
 
 -- the faults once a node is ended
-pub unknown_ended : (ss : List Signature) (events : List Event) (name : List ℕ) (place : ℕ) (met : List Argument) (outer : Zipper) (found o : Option ℕ) → zipper events ≡ inside name place met outer
+pub unknown_ended : (ss : List Signature) (events : List Event) (name : List ℕ) (place : ℕ) (met : List Argument) (outer : Zipper)
+    (found o : Option ℕ)
+    → zipper events ≡ inside name place met outer
     → FindsLeast (λ at. IsUnknown ss at name place met) (IsKnown ss name place met) found → FindsUnknown ss events o → FindsUnknown ss (e.End ∷ events) (smaller_of found o)
 unknown_ended ss events name place met outer found o is here before =
     subst (λ z. FindsLeast (λ at. OfInnermost (IsUnknown ss at) z ⊥ ⊎ SomeEnded (IsUnknown ss at) events) (OfInnermost (IsKnown ss) z (Unit {0}) × EachEnded (IsKnown ss) events) (smaller_of found o)) (sym is)
     (lesser_least (λ at. SomeEnded (IsUnknown ss at) events) (λ at. IsUnknown ss at name place met) (EachEnded (IsKnown ss) events) (IsKnown ss name place met) found o here before)
 
-pub wrong_ended : (ss : List Signature) (events : List Event) (name : List ℕ) (place : ℕ) (met : List Argument) (outer : Zipper) (found o : Option ℕ) → zipper events ≡ inside name place met outer
+pub wrong_ended : (ss : List Signature) (events : List Event) (name : List ℕ) (place : ℕ) (met : List Argument) (outer : Zipper)
+    (found o : Option ℕ)
+    → zipper events ≡ inside name place met outer
     → FindsLeast (λ at. IsWrong ss at name place met) (FitsIfKnown ss name place met) found → FindsWrong ss events o → FindsWrong ss (e.End ∷ events) (smaller_of found o)
 wrong_ended ss events name place met outer found o is here before =
     subst (λ z. FindsLeast (λ at. OfInnermost (IsWrong ss at) z ⊥ ⊎ SomeEnded (IsWrong ss at) events) (OfInnermost (FitsIfKnown ss) z (Unit {0}) × EachEnded (FitsIfKnown ss) events) (smaller_of found o)) (sym is)
     (lesser_least (λ at. SomeEnded (IsWrong ss at) events) (λ at. IsWrong ss at name place met) (EachEnded (FitsIfKnown ss) events) (FitsIfKnown ss name place met) found o here before)
 
 -- nothing was begun, so nothing ends
-pub unknown_outside : (ss : List Signature) (events : List Event) (met : List Argument) (o : Option ℕ) → zipper events ≡ outside met → FindsUnknown ss events o → FindsUnknown ss (e.End ∷ events) o
+pub unknown_outside : (ss : List Signature) (events : List Event) (met : List Argument) (o : Option ℕ) → zipper events ≡ outside met
+    → FindsUnknown ss events o → FindsUnknown ss (e.End ∷ events) o
 unknown_outside ss events met o is before =
     subst (λ z. FindsLeast (λ at. OfInnermost (IsUnknown ss at) z ⊥ ⊎ SomeEnded (IsUnknown ss at) events) (OfInnermost (IsKnown ss) z (Unit {0}) × EachEnded (IsKnown ss) events) o) (sym is)
     (same_least (λ at. SomeEnded (IsUnknown ss at) events) (λ at. ⊥ ⊎ SomeEnded (IsUnknown ss at) events) (EachEnded (IsKnown ss) events) (Unit {0} × EachEnded (IsKnown ss) events) o (λ at s. inr s) (λ at s. either absurd (λ x. x) s) (λ x. (tt, x)) before)
 
-pub wrong_outside : (ss : List Signature) (events : List Event) (met : List Argument) (o : Option ℕ) → zipper events ≡ outside met → FindsWrong ss events o → FindsWrong ss (e.End ∷ events) o
+pub wrong_outside : (ss : List Signature) (events : List Event) (met : List Argument) (o : Option ℕ) → zipper events ≡ outside met
+    → FindsWrong ss events o → FindsWrong ss (e.End ∷ events) o
 wrong_outside ss events met o is before =
     subst (λ z. FindsLeast (λ at. OfInnermost (IsWrong ss at) z ⊥ ⊎ SomeEnded (IsWrong ss at) events) (OfInnermost (FitsIfKnown ss) z (Unit {0}) × EachEnded (FitsIfKnown ss) events) o) (sym is)
     (same_least (λ at. SomeEnded (IsWrong ss at) events) (λ at. ⊥ ⊎ SomeEnded (IsWrong ss at) events) (EachEnded (FitsIfKnown ss) events) (Unit {0} × EachEnded (FitsIfKnown ss) events) o (λ at s. inr s) (λ at s. either absurd (λ x. x) s) (λ x. (tt, x)) before)
 
 -- the shape of what a builder holds
-pub shape_of : (ss : List Signature) (ts : List Tree) (events : List Event) (b : Builder) → Holds ss ts events b → Shape ss ts (zipper events) b.values.items b.places.items (reverse b.frames.items)
+pub shape_of : (ss : List Signature) (ts : List Tree) (events : List Event) (b : Builder) → Holds ss ts events b
+    → Shape ss ts (zipper events) b.values.items b.places.items (reverse b.frames.items)
 shape_of ss ts events b h = record { framed = h.frames; valued = h.values; placed = h.places }
 
 -- a value more is held
-pub holds_with : (ss : List Signature) (ts : List Tree) (events then : List Event) (a : Argument) (x : Value) (at : ℕ) (b c : Builder) → Holds ss ts events b → zipper then ≡ with_argument a (zipper events) → IsStored ss ts a x → place_of a ≡ at → AddsValue x at b c
+pub holds_with : (ss : List Signature) (ts : List Tree) (events then : List Event) (a : Argument) (x : Value) (at : ℕ) (b c : Builder)
+    → Holds ss ts events b → zipper then ≡ with_argument a (zipper events) → IsStored ss ts a x → place_of a ≡ at → AddsValue x at b c
     → FindsUnknown ss then b.faults.unknown → FindsWrong ss then b.faults.wrong → Holds ss ts then c
 holds_with ss ts events then a x at b c h is stored here adds unknown wrong =
     let s = shape_with ss ts (zipper events) b.values.items b.places.items (reverse b.frames.items) a x at (shape_of ss ts events b h) stored here in

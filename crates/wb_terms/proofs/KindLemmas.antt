@@ -71,22 +71,27 @@ module _ (signatures : List Signature) where
   number_first name n (inr none) f = absurd (first_or_none name f none.0)
 
   -- a number below the count of signatures is that of a first production
-  number_there : (name : List ℕ) (n : ℕ) (s : Signature) → IsNumberOf signatures name n → slice_get signatures n ≡ Some s → HasFirst signatures name
+  number_there : (name : List ℕ) (n : ℕ) (s : Signature) → IsNumberOf signatures name n → slice_get signatures n ≡ Some s
+      → HasFirst signatures name
   number_there name n s (inl first) there = record { production = n; signature = s; first = first; its = there }
   number_there name n s (inr none) there = absurd (past_end signatures n s none.1 there)
 
   -- a term is of the nonterminal where its number is
-  of_left : (name : List ℕ) (n nonterminal : ℕ) → IsNumberOf signatures name n → IsOfLeft signatures n nonterminal → IsOfNonterminal signatures name nonterminal
+  of_left : (name : List ℕ) (n nonterminal : ℕ) → IsNumberOf signatures name n → IsOfLeft signatures n nonterminal
+      → IsOfNonterminal signatures name nonterminal
   of_left name n nonterminal number o = left number where
     left : IsNumberOf signatures name n → IsOfNonterminal signatures name nonterminal
     left (inl first) = record { found = record { production = n; signature = o.signature; first = first; its = o.its }; left = o.left }
     left (inr none) = absurd (past_end signatures n o.signature none.1 o.its)
 
-  left_of : (name : List ℕ) (n nonterminal : ℕ) → IsNumberOf signatures name n → IsOfNonterminal signatures name nonterminal → IsOfLeft signatures n nonterminal
+  left_of : (name : List ℕ) (n nonterminal : ℕ) → IsNumberOf signatures name n → IsOfNonterminal signatures name nonterminal
+      → IsOfLeft signatures n nonterminal
   left_of name n nonterminal number o = record { signature = o.found.signature; its = ap (slice_get signatures) (number_first name n number o.found) ∙ o.found.its; left = o.left }
 
   -- a tree is of the kind where its production is of the nonterminal
-  pub tree_kind : (tree : Tree) (n nonterminal : ℕ) (r : Bool) (argument : Argument) → n ≡ production_of tree → (IsTrue r ↔ IsOfLeft signatures n nonterminal) → IsBuiltValue signatures argument (v.tree tree) → (IsTrue r ↔ IsOfKind signatures argument (k.Tree nonterminal))
+  pub tree_kind : (tree : Tree) (n nonterminal : ℕ) (r : Bool) (argument : Argument) → n ≡ production_of tree
+      → (IsTrue r ↔ IsOfLeft signatures n nonterminal) → IsBuiltValue signatures argument (v.tree tree)
+      → (IsTrue r ↔ IsOfKind signatures argument (k.Tree nonterminal))
   tree_kind tree n nonterminal r (plain c place) e both built = absurd built
   tree_kind (node q vs) n nonterminal r (term (named name place arguments)) e both built =
       let number : IsNumberOf signatures name n = subst (IsNumberOf signatures name) (sym e) built.0 in
@@ -97,7 +102,9 @@ module _ (signatures : List Signature) where
   early_or j i lt = grind arith
 
   -- one child more is tested
-  pub kind_step : (arguments : List Argument) (kinds : List Kind) (i : ℕ) (a : Argument) (kind : Kind) (fits : Bool) (place : ℕ) (o : Option ℕ) → slice_get arguments i ≡ Some a → slice_get kinds i ≡ Some kind → (IsTrue fits ↔ IsOfKind signatures a kind) → place ≡ place_of a
+  pub kind_step : (arguments : List Argument) (kinds : List Kind) (i : ℕ) (a : Argument) (kind : Kind) (fits : Bool) (place : ℕ)
+      (o : Option ℕ)
+      → slice_get arguments i ≡ Some a → slice_get kinds i ≡ Some kind → (IsTrue fits ↔ IsOfKind signatures a kind) → place ≡ place_of a
       → FindsLeast (IsWrongAmong signatures i arguments kinds) (FirstFit signatures i arguments kinds) o → FindsLeast (IsWrongAmong signatures (i + 1) arguments kinds) (FirstFit signatures (i + 1) arguments kinds) (smallest_with (not fits) place o)
   kind_step arguments kinds i a kind fits place o there asked both at finds =
       noted_least (IsWrongAmong signatures i arguments kinds) (IsWrongAmong signatures (i + 1) arguments kinds) (FirstFit signatures i arguments kinds) (FirstFit signatures (i + 1) arguments kinds) (not fits) place o finds
@@ -117,7 +124,8 @@ module _ (signatures : List Signature) where
       unfit true h e = absurd (cc)
       unfit false h e = absurd (cc)
 
-      fact : FirstFit signatures i arguments kinds → fits ≡ true → (j : ℕ) (b : Argument) (l : Kind) → (j < i) ⊎ (j ≡ i) → slice_get arguments j ≡ Some b → slice_get kinds j ≡ Some l → IsOfKind signatures b l
+      fact : FirstFit signatures i arguments kinds → fits ≡ true → (j : ℕ) (b : Argument) (l : Kind) → (j < i) ⊎ (j ≡ i)
+          → slice_get arguments j ≡ Some b → slice_get kinds j ≡ Some l → IsOfKind signatures b l
       fact fit is j b l (inl lt) here want = fit j b l lt here want
       fact fit is j b l (inr e) here want =
           let sa : a ≡ b = some_same a b (sym there ∙ (ap (slice_get arguments) (sym e) ∙ here)) in
@@ -128,7 +136,8 @@ module _ (signatures : List Signature) where
       refused true e p le wrong = absurd (wrong (both.0 (sym e)))
       refused false e p le wrong = (refl, le)
 
-      only : (p : ℕ) (w : IsWrongAmong signatures (i + 1) arguments kinds p) → (w.child.index < i) ⊎ (w.child.index ≡ i) → IsWrongAmong signatures i arguments kinds p ⊎ ((not fits ≡ true) × (place ≤ p))
+      only : (p : ℕ) (w : IsWrongAmong signatures (i + 1) arguments kinds p) → (w.child.index < i) ⊎ (w.child.index ≡ i)
+          → IsWrongAmong signatures i arguments kinds p ⊎ ((not fits ≡ true) × (place ≤ p))
       only p w (inl lt) = inl (record { child = w.child; early = lt })
       only p w (inr e) =
           let sa : a ≡ w.child.argument = some_same a w.child.argument (sym there ∙ (ap (slice_get arguments) (sym e) ∙ w.child.there)) in
@@ -137,7 +146,9 @@ module _ (signatures : List Signature) where
           inr (refused fits refl p (omega (arith, le)) (λ is. w.child.wrong (subst (λ c. IsOfKind signatures c w.child.kind) sa (subst (λ m. IsOfKind signatures a m) sk is))))
 
   -- all children are tested
-  pub kinds_tested : (arguments : List Argument) (kinds : List Kind) (count n : ℕ) (o : Option ℕ) → length arguments ≡ count → n ≡ min count (length kinds) → FindsLeast (IsWrongAmong signatures n arguments kinds) (FirstFit signatures n arguments kinds) o → FindsLeast (IsWrongChild signatures arguments kinds) (KindsFit signatures arguments kinds) o
+  pub kinds_tested : (arguments : List Argument) (kinds : List Kind) (count n : ℕ) (o : Option ℕ) → length arguments ≡ count
+      → n ≡ min count (length kinds) → FindsLeast (IsWrongAmong signatures n arguments kinds) (FirstFit signatures n arguments kinds) o
+      → FindsLeast (IsWrongChild signatures arguments kinds) (KindsFit signatures arguments kinds) o
   kinds_tested arguments kinds count n o long all finds =
       same_least (IsWrongAmong signatures n arguments kinds) (IsWrongChild signatures arguments kinds) (FirstFit signatures n arguments kinds) (KindsFit signatures arguments kinds) o
       (λ at w. w.child) (λ at w. record { child = w; early = early w.index (slice_get_within arguments w.index w.argument w.there) (slice_get_within kinds w.index w.kind w.asked) })
@@ -147,18 +158,21 @@ module _ (signatures : List Signature) where
       early j a b = omega (arith, a, b, long, all)
 
   -- none was tested
-  pub kinds_untested : (arguments : List Argument) (kinds : List Kind) → FindsLeast (IsWrongAmong signatures 0 arguments kinds) (FirstFit signatures 0 arguments kinds) None
+  pub kinds_untested : (arguments : List Argument) (kinds : List Kind)
+      → FindsLeast (IsWrongAmong signatures 0 arguments kinds) (FirstFit signatures 0 arguments kinds) None
   kinds_untested arguments kinds = ((λ j a l lt here want. absurd (omega (arith, lt))), (λ at w. absurd (omega (arith, w.early))))
 
   -- as many as are asked for, and each of its kind
-  fit_zip : (arguments : List Argument) (kinds : List Kind) → length arguments ≡ length kinds → KindsFit signatures arguments kinds → AllZip (IsOfKind signatures) arguments kinds
+  fit_zip : (arguments : List Argument) (kinds : List Kind) → length arguments ≡ length kinds → KindsFit signatures arguments kinds
+      → AllZip (IsOfKind signatures) arguments kinds
   fit_zip [] [] e fit = tt
   fit_zip [] (l ∷ kinds) e fit = absurd (omega (arith, e))
   fit_zip (a ∷ arguments) [] e fit = absurd (omega (arith, e))
   fit_zip (a ∷ arguments) (l ∷ kinds) e fit = (fit 0 a l refl refl, fit_zip arguments kinds (omega (arith, e)) (λ j b m here want. fit (suc j) b m here want))
 
   -- a node whose production isn't there
-  pub absent_node : (name : List ℕ) (n at : ℕ) (arguments : List Argument) → length signatures ≤ n → IsNumberOf signatures name n → FindsLeast (λ place. IsWrong signatures place name at arguments) (FitsIfKnown signatures name at arguments) None
+  pub absent_node : (name : List ℕ) (n at : ℕ) (arguments : List Argument) → length signatures ≤ n → IsNumberOf signatures name n
+      → FindsLeast (λ place. IsWrong signatures place name at arguments) (FitsIfKnown signatures name at arguments) None
   absent_node name n at arguments le number = ((λ f. absurd (away f)), (λ place w. away w.found)) where
     away : HasFirst signatures name → ⊥
     away f =
@@ -167,7 +181,9 @@ module _ (signatures : List Signature) where
         omega (arith, le, e, lt)
 
   -- a node, by the test of its children and of their number
-  pub node_tested : (name : List ℕ) (n at : ℕ) (arguments : List Argument) (kinds : List Kind) (differ : Bool) (s : Signature) (o : Option ℕ) → IsNumberOf signatures name n → slice_get signatures n ≡ Some s → kinds ≡ s.children
+  pub node_tested : (name : List ℕ) (n at : ℕ) (arguments : List Argument) (kinds : List Kind) (differ : Bool) (s : Signature)
+      (o : Option ℕ)
+      → IsNumberOf signatures name n → slice_get signatures n ≡ Some s → kinds ≡ s.children
       → (differ ≡ false → length arguments ≡ length kinds) → (differ ≡ true → length arguments ≢ length kinds) → FindsLeast (IsWrongChild signatures arguments kinds) (KindsFit signatures arguments kinds) o
       → FindsLeast (λ place. IsWrong signatures place name at arguments) (FitsIfKnown signatures name at arguments) (smallest_with differ at o)
   node_tested name n at arguments kinds differ s o number there same equal unequal finds =
@@ -190,12 +206,15 @@ module _ (signatures : List Signature) where
       counted true e h = refl
       counted false e h = absurd (h (equal (sym e)))
 
-      only : (place : ℕ) (f : HasFirst signatures name) → ((length arguments ≢ length f.signature.children) × (place ≡ at)) ⊎ IsWrongChild signatures arguments f.signature.children place → IsWrongChild signatures arguments kinds place ⊎ ((differ ≡ true) × (at ≤ place))
+      only : (place : ℕ) (f : HasFirst signatures name)
+          → ((length arguments ≢ length f.signature.children) × (place ≡ at)) ⊎ IsWrongChild signatures arguments f.signature.children place
+          → IsWrongChild signatures arguments kinds place ⊎ ((differ ≡ true) × (at ≤ place))
       only place f (inl h) = inr (counted differ refl (λ e. h.0 (e ∙ ap length (kinds_of f))), omega (arith, h.1))
       only place f (inr w) = inl (subst (λ ks. IsWrongChild signatures arguments ks place) (sym (kinds_of f)) w)
 
 -- one child more is tested, by what is read at its place
-pub child_tested : (signatures : List Signature) (trees : List Tree) (arguments : List Argument) (values : List Stored) (places : List ℕ) (kinds : List Kind) (i : ℕ) (x : Stored) (d : Kind) (place : ℕ) (fits : Bool) (o r : Option ℕ)
+pub child_tested : (signatures : List Signature) (trees : List Tree) (arguments : List Argument) (values : List Stored) (places : List ℕ)
+    (kinds : List Kind) (i : ℕ) (x : Stored) (d : Kind) (place : ℕ) (fits : Bool) (o r : Option ℕ)
     → AllZip (IsStored signatures trees) arguments values → map place_of arguments ≡ places → i < length values → i < length kinds → x ≡ get_or values i x → place ≡ get_or places i 0
     → ((a : Argument) → IsStored signatures trees a x → (IsTrue fits ↔ IsOfKind signatures a (get_or kinds i d))) → r ≡ smallest_with (not fits) place o
     → FindsLeast (IsWrongAmong signatures i arguments kinds) (FirstFit signatures i arguments kinds) o → FindsLeast (IsWrongAmong signatures (i + 1) arguments kinds) (FirstFit signatures (i + 1) arguments kinds) r
@@ -207,7 +226,9 @@ child_tested signatures trees arguments values places kinds i x d place fits o r
     (kind_step signatures arguments kinds i a.other (get_or kinds i d) fits place o a.at (slice_get-get_or kinds i d asked) (both a.other a.related) here finds)
 
 -- what is known of a signature that is there
-pub signature_at : (signatures : List Signature) (n : ℕ) (kinds : List Kind) → n < length signatures → IfSome (slice_get signatures n) (λ (s : Signature). kinds ≡ s.children) → (s : Signature) × (slice_get signatures n ≡ Some s) × (kinds ≡ s.children)
+pub signature_at : (signatures : List Signature) (n : ℕ) (kinds : List Kind) → n < length signatures
+    → IfSome (slice_get signatures n) (λ (s : Signature). kinds ≡ s.children)
+    → (s : Signature) × (slice_get signatures n ≡ Some s) × (kinds ≡ s.children)
 signature_at [] n kinds lt h = absurd (omega (arith, lt))
 signature_at (s ∷ signatures) zero kinds lt h = (s, refl, h)
 signature_at (s ∷ signatures) (suc n) kinds lt h = signature_at signatures n kinds (omega (arith, lt)) h

@@ -17,7 +17,8 @@ of_min : (Q : ℕ → Type 0) (m n : ℕ) → Q m → Q n → Q (min m n)
 of_min Q m n a b = either (λ (e : min m n ≡ m). rw e a) (λ (e : min m n ≡ n). rw e b) (min_is m n)
 
 -- one place more, where it counts
-pub noted_least : (P Q : ℕ → Type 0) (F G : Type 0) (counts : Bool) (place : ℕ) (o : Option ℕ) → FindsLeast P F o → (F → counts ≡ false → G) → ((at : ℕ) → P at → Q at) → (counts ≡ true → Q place)
+pub noted_least : (P Q : ℕ → Type 0) (F G : Type 0) (counts : Bool) (place : ℕ) (o : Option ℕ) → FindsLeast P F o → (F → counts ≡ false → G)
+    → ((at : ℕ) → P at → Q at) → (counts ≡ true → Q place)
     → ((at : ℕ) → Q at → P at ⊎ ((counts ≡ true) × (place ≤ at))) → FindsLeast Q G (smallest_with counts place o)
 noted_least P Q F G false place None finds fact keeps new only = (fact finds.0 refl, λ at q. either (finds.1 at) (λ b. let wrong : false ≡ true = b.0 in absurd (cc)) (only at q))
 noted_least P Q F G false place (Some m) finds fact keeps new only = record {
@@ -34,14 +35,16 @@ noted_least P Q F G true place (Some m) finds fact keeps new only = record {
 }
 
 -- two properties together
-pub lesser_least : (P Q : ℕ → Type 0) (F G : Type 0) (other o : Option ℕ) → FindsLeast Q G other → FindsLeast P F o → FindsLeast (λ at. Q at ⊎ P at) (G × F) (smaller_of other o)
+pub lesser_least : (P Q : ℕ → Type 0) (F G : Type 0) (other o : Option ℕ) → FindsLeast Q G other → FindsLeast P F o
+    → FindsLeast (λ at. Q at ⊎ P at) (G × F) (smaller_of other o)
 lesser_least P Q F G None None g f = ((g.0, f.0), λ at s. either (g.1 at) (f.1 at) s)
 lesser_least P Q F G None (Some m) g f = record { here = inr f.here; least = λ at s. either (λ q. absurd (g.1 at q)) (f.least at) s }
 lesser_least P Q F G (Some place) o g f =
     noted_least P (λ at. Q at ⊎ P at) F (G × F) true place o f (λ a e. absurd (cc)) (λ at p. inr p) (λ e. inl g.here) (λ at s. either (λ q. inr (refl, g.least at q)) (λ p. inl p) s)
 
 -- the same property, otherwise put
-pub same_least : (P Q : ℕ → Type 0) (F G : Type 0) (o : Option ℕ) → ((at : ℕ) → P at → Q at) → ((at : ℕ) → Q at → P at) → (F → G) → FindsLeast P F o → FindsLeast Q G o
+pub same_least : (P Q : ℕ → Type 0) (F G : Type 0) (o : Option ℕ) → ((at : ℕ) → P at → Q at) → ((at : ℕ) → Q at → P at) → (F → G)
+    → FindsLeast P F o → FindsLeast Q G o
 same_least P Q F G None to from fact finds = (fact finds.0, λ at q. finds.1 at (from at q))
 same_least P Q F G (Some m) to from fact finds = record { here = to m finds.here; least = λ at q. finds.least at (from at q) }
 

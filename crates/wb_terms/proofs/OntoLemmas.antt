@@ -15,7 +15,8 @@ with_all [] z = z
 with_all (a ∷ others) z = with_all others (with_argument a z)
 
 -- they are those of the innermost node
-with_all_inside : (others met : List Argument) (name : List ℕ) (place : ℕ) (outer : Zipper) → with_all others (inside name place met outer) ≡ inside name place (met ++ others) outer
+with_all_inside : (others met : List Argument) (name : List ℕ) (place : ℕ) (outer : Zipper)
+    → with_all others (inside name place met outer) ≡ inside name place (met ++ others) outer
 with_all_inside [] met name place outer = ap (λ m. inside name place m outer) (sym (append-nil met))
 with_all_inside (a ∷ others) met name place outer = with_all_inside others (met ++ a ∷ []) name place outer ∙ ap (λ m. inside name place m outer) (append_assoc met (a ∷ []) others)
 
@@ -41,7 +42,8 @@ mutual
   arguments_met (more a others) v = arguments_met others (argument_onto a v) ∙ ap (with_all (list_of others)) (argument_met a v)
 
 -- the node that was begun has these arguments
-pub innermost : (name : List ℕ) (place : ℕ) (arguments : Arguments) (v : List Event) → zipper (arguments_onto arguments (Begin name place ∷ v)) ≡ inside name place (list_of arguments) (zipper v)
+pub innermost : (name : List ℕ) (place : ℕ) (arguments : Arguments) (v : List Event)
+    → zipper (arguments_onto arguments (Begin name place ∷ v)) ≡ inside name place (list_of arguments) (zipper v)
 innermost name place arguments v = arguments_met arguments (Begin name place ∷ v) ∙ with_all_inside (list_of arguments) [] name place (zipper v)
 
 module _ (Holds : List ℕ → ℕ → List Argument → Type 0) where
@@ -57,7 +59,8 @@ module _ (Holds : List ℕ → ℕ → List Argument → Type 0) where
     some_in_argument (plain (text s) place) v h = inr h
     some_in_argument (term t) v h = some_in t v h
 
-    some_in_arguments : (arguments : Arguments) (v : List Event) → SomeEnded Holds (arguments_onto arguments v) → SomeInArguments Holds arguments ⊎ SomeEnded Holds v
+    some_in_arguments : (arguments : Arguments) (v : List Event) → SomeEnded Holds (arguments_onto arguments v)
+        → SomeInArguments Holds arguments ⊎ SomeEnded Holds v
     some_in_arguments empty v h = inr h
     some_in_arguments (more a others) v h = either (λ s. inl (inr s)) (λ e. either (λ s. inl (inl s)) (λ f. inr f) (some_in_argument a v e)) (some_in_arguments others (argument_onto a v) h)
 
@@ -74,7 +77,8 @@ module _ (Holds : List ℕ → ℕ → List Argument → Type 0) where
     some_out_argument (plain (text s) place) v h = either absurd (λ e. e) h
     some_out_argument (term t) v h = some_out t v h
 
-    some_out_arguments : (arguments : Arguments) (v : List Event) → SomeInArguments Holds arguments ⊎ SomeEnded Holds v → SomeEnded Holds (arguments_onto arguments v)
+    some_out_arguments : (arguments : Arguments) (v : List Event) → SomeInArguments Holds arguments ⊎ SomeEnded Holds v
+        → SomeEnded Holds (arguments_onto arguments v)
     some_out_arguments empty v h = either absurd (λ e. e) h
     some_out_arguments (more a others) v (inl (inl h)) = some_out_arguments others (argument_onto a v) (inr (some_out_argument a v (inl h)))
     some_out_arguments (more a others) v (inl (inr h)) = some_out_arguments others (argument_onto a v) (inl h)
@@ -93,7 +97,8 @@ module _ (Holds : List ℕ → ℕ → List Argument → Type 0) where
     each_in_argument (plain (text s) place) v h = (tt, h)
     each_in_argument (term t) v h = each_in t v h
 
-    each_in_arguments : (arguments : Arguments) (v : List Event) → EachEnded Holds (arguments_onto arguments v) → EachInArguments Holds arguments × EachEnded Holds v
+    each_in_arguments : (arguments : Arguments) (v : List Event) → EachEnded Holds (arguments_onto arguments v)
+        → EachInArguments Holds arguments × EachEnded Holds v
     each_in_arguments empty v h = (tt, h)
     each_in_arguments (more a others) v h =
         let rest = each_in_arguments others (argument_onto a v) h in

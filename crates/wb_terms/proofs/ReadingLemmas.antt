@@ -31,7 +31,8 @@ pub text_of_term : (tokens : Tokens) (term : Term) → IsTerm term tokens [] →
 text_of_term tokens term is = complete_term [] [] (term_onto term []) is (done refl refl)
 
 -- what a text makes is what is met in its term
-term_of_text : (tokens : Tokens) (events : List Event) → IsText term_grammar [] tokens events → (term : Term) × IsTerm term tokens [] × (term_onto term [] ≡ events)
+term_of_text : (tokens : Tokens) (events : List Event) → IsText term_grammar [] tokens events
+    → (term : Term) × IsTerm term tokens [] × (term_onto term [] ≡ events)
 term_of_text tokens events d =
     let t = sound_term tokens [] events d in
     (t.0, t.1, one_text_value same_kind kinds_same End term_entries term_grammar term_decided term_ends [] tokens (term_onto t.0 []) events (text_of_term tokens t.0 t.1) d)
@@ -55,7 +56,8 @@ cant_follow front (End at) never = λ last d. let t = term_of_text front last d 
 cant_follow front (NoToken at) never = tt
 
 -- the outcome of the table is what a reading finds
-pub term_reading : (bytes : List ℕ) (o : Outcome (List Event)) → R.IsOutcome term_grammar (IsNextIn Plain bytes) [] o → IsTermReading bytes o
+pub term_reading : (bytes : List ℕ) (o : Outcome (List Event)) → R.IsOutcome term_grammar (IsNextIn Plain bytes) [] o
+    → IsTermReading bytes o
 term_reading bytes (Whole events) r =
     let t = term_of_text r.tokens events r.text in
     (t.0, record { tokens = r.tokens; to = r.to; at = r.at; spelled = r.spelled; ended = r.ended; whole = t.1 }, t.2)
@@ -71,7 +73,8 @@ term_reading bytes (Stopped at) f = record {
 }
 
 -- a term text is an outcome of the table
-whole_outcome : (bytes : List ℕ) (term : Term) → IsTermText bytes term → R.IsOutcome term_grammar (IsNextIn Plain bytes) [] (Whole (term_onto term []))
+whole_outcome : (bytes : List ℕ) (term : Term) → IsTermText bytes term
+    → R.IsOutcome term_grammar (IsNextIn Plain bytes) [] (Whole (term_onto term []))
 whole_outcome bytes term t = record { tokens = t.tokens; to = t.to; at = t.at; spelled = t.spelled; ended = t.ended; text = text_of_term t.tokens term t.whole }
 
 -- and so is a first fault
@@ -87,7 +90,8 @@ stopped_outcome bytes at f = record {
   place = f.here;
 }
 
-one : (bytes : List ℕ) (o p : Outcome (List Event)) → R.IsOutcome term_grammar (IsNextIn Plain bytes) [] o → R.IsOutcome term_grammar (IsNextIn Plain bytes) [] p → o ≡ p
+one : (bytes : List ℕ) (o p : Outcome (List Event)) → R.IsOutcome term_grammar (IsNextIn Plain bytes) [] o
+    → R.IsOutcome term_grammar (IsNextIn Plain bytes) [] p → o ≡ p
 one bytes o p r s = one_outcome same_kind kinds_same End term_entries term_grammar term_decided term_ends (IsNextIn Plain bytes) (one_next Plain bytes) [] o r p s
 
 -- what is met in two terms of one text is the same

@@ -39,7 +39,8 @@ Means (Nonterminal n ∷ f) w = (rest : Tokens) × IsPart n w rest × Means f re
 Means (Act c ∷ f) w = Means f w
 
 -- a term's head is a name with an owner's name or without
-head_of : (x : Placed Lexeme) (name : List ℕ) (w v rest : Tokens) → Is (t.Name name) x → w ≡ x ∷ v → IsPart Part.Owner v rest → (whole : List ℕ) × IsHead whole x.at w rest
+head_of : (x : Placed Lexeme) (name : List ℕ) (w v rest : Tokens) → Is (t.Name name) x → w ≡ x ∷ v → IsPart Part.Owner v rest
+    → (whole : List ℕ) × IsHead whole x.at w rest
 head_of x name w v rest is e (inl same) = (name, simple is refl (e ∙ ap (λ u. x ∷ u) same))
 head_of x name w v rest is e (inr o) = (qualified_name name o.0, owned is o.3 o.4 refl refl (e ∙ ap (λ u. x ∷ u) o.5))
 
@@ -48,7 +49,9 @@ the_right : (f : Row) (w : Tokens) (a b : Row) → Some a ≡ Some b → Means (
 the_right f w a b e m = let same : b ≡ a = cc in subst (λ (r : Row). Means (r ++ f) w) same m
 
 -- a term by its rule
-term_by : (f : Row) (w : Tokens) → Means ((Token k.Name ∷ Nonterminal Part.Owner ∷ Token (k.Mark p.OpenParenthesis) ∷ Nonterminal Part.Arguments ∷ Token (k.Mark p.CloseParenthesis) ∷ Act Action.Close ∷ []) ++ f) w → Means (Nonterminal Part.Term ∷ f) w
+term_by : (f : Row) (w : Tokens)
+    → Means ((Token k.Name ∷ Nonterminal Part.Owner ∷ Token (k.Mark p.OpenParenthesis) ∷ Nonterminal Part.Arguments ∷ Token (k.Mark p.CloseParenthesis) ∷ Act Action.Close ∷ []) ++ f) w
+    → Means (Nonterminal Part.Term ∷ f) w
 term_by f w m =
     let name = name_by_kind m.0.token m.2 in
     let rest = m.4 in
@@ -59,12 +62,14 @@ term_by f w m =
     (closing.1, (_, whole (subst (λ v. IsHead head.0 m.0.at w v) opening.3 head.1) (mark_by_kind opening.0.token p.OpenParenthesis opening.2) (subst (λ v. AreArguments inside.1.0 opening.1 v) closing.3 inside.1.1) (mark_by_kind closing.0.token p.CloseParenthesis closing.2)), closing.4)
 
 -- an argument that is a token of this kind
-token_by : (kind : TokenKind) (f : Row) (w : Tokens) → ((x : Placed Lexeme) (v : Tokens) → kind_of x.token ≡ kind → w ≡ x ∷ v → (a : Argument) × IsArgument a w v)
+token_by : (kind : TokenKind) (f : Row) (w : Tokens)
+    → ((x : Placed Lexeme) (v : Tokens) → kind_of x.token ≡ kind → w ≡ x ∷ v → (a : Argument) × IsArgument a w v)
     → Means (Token kind ∷ f) w → Means (Nonterminal Part.Argument ∷ f) w
 token_by kind f w gives m = (m.1, gives m.0 m.1 m.2 m.3, m.4)
 
 -- by each of the rules
-expanded : (n : Part) (p : ℕ) (right f : Row) (w : Tokens) → slice_get (term_rights n) p ≡ Some right → Means (right ++ f) w → Means (Nonterminal n ∷ f) w
+expanded : (n : Part) (p : ℕ) (right f : Row) (w : Tokens) → slice_get (term_rights n) p ≡ Some right → Means (right ++ f) w
+    → Means (Nonterminal n ∷ f) w
 unfolding term_rights
 expanded Part.Term zero right f w e m = term_by f w (the_right f w _ right e m)
 expanded Part.Term (suc p) right f w e m = absurd (cc)

@@ -59,7 +59,8 @@ module _ (ss : List Signature) where
     built_argument (term t) (v.plain d) b known = absurd b
     built_argument (term t) (v.tree u) b known = built_numbered t u b known
 
-    built_arguments : (arguments : Arguments) (xs : Values) → AreBuilt ss arguments xs → EachInArguments (IsKnown ss) arguments → AreNumbered ss arguments xs
+    built_arguments : (arguments : Arguments) (xs : Values) → AreBuilt ss arguments xs → EachInArguments (IsKnown ss) arguments
+        → AreNumbered ss arguments xs
     built_arguments empty v.empty b known = tt
     built_arguments empty (v.more x xs) b known = absurd b
     built_arguments (more a others) v.empty b known = absurd b
@@ -93,19 +94,24 @@ module _ (ss : List Signature) where
         cc
 
   -- a known node that fits where it is known fits
-  pub known_fits : (name : List ℕ) (place : ℕ) (arguments : List Argument) → IsKnown ss name place arguments → FitsIfKnown ss name place arguments → FitsNode ss name place arguments
+  pub known_fits : (name : List ℕ) (place : ℕ) (arguments : List Argument) → IsKnown ss name place arguments
+      → FitsIfKnown ss name place arguments → FitsNode ss name place arguments
   known_fits name place arguments known fits = record { found = known; fit = fits known }
 
   -- a node that fits has no fault
-  pub fits_no_wrong : (at : ℕ) (name : List ℕ) (place : ℕ) (arguments : List Argument) → FitsNode ss name place arguments → IsWrong ss at name place arguments → ⊥
+  pub fits_no_wrong : (at : ℕ) (name : List ℕ) (place : ℕ) (arguments : List Argument) → FitsNode ss name place arguments
+      → IsWrong ss at name place arguments → ⊥
   fits_no_wrong at name place arguments f w = fault w.fault where
     zipped : AllZip (IsOfKind ss) arguments w.found.signature.children
     zipped = subst (λ (s : Signature). AllZip (IsOfKind ss) arguments s.children) (one_signature ss name f.found w.found) f.fit
 
-    fault : ((length arguments ≢ length w.found.signature.children) × (at ≡ place)) ⊎ IsWrongChild ss arguments w.found.signature.children at → ⊥
+    fault : ((length arguments ≢ length w.found.signature.children) × (at ≡ place))
+        ⊎ IsWrongChild ss arguments w.found.signature.children at
+        → ⊥
     fault (inl h) = h.0 (sym (AllZip-long (IsOfKind ss) arguments w.found.signature.children zipped))
     fault (inr c) = c.wrong (zip_both_at (IsOfKind ss) arguments w.found.signature.children c.index c.argument c.kind zipped c.there c.asked)
 
   -- a known name isn't unknown
-  pub known_not_unknown : (at : ℕ) (name : List ℕ) (place : ℕ) (arguments : List Argument) → HasFirst ss name → IsUnknown ss at name place arguments → ⊥
+  pub known_not_unknown : (at : ℕ) (name : List ℕ) (place : ℕ) (arguments : List Argument) → HasFirst ss name
+      → IsUnknown ss at name place arguments → ⊥
   known_not_unknown at name place arguments known u = first_or_none ss name known u.0

@@ -20,7 +20,8 @@ Is token x = x.token ≡ token
 pub data IsHead : List ℕ → ℕ → Tokens → Tokens → Type 0 where
   simple : {name : List ℕ} {place : ℕ} {tokens rest : Tokens} {x : Placed Token} → Is (t.Name name) x → place ≡ x.at → tokens ≡ x ∷ rest
       → IsHead name place tokens rest
-  owned : {owner second name : List ℕ} {place : ℕ} {tokens rest : Tokens} {x colon y : Placed Token} → Is (t.Name owner) x → Is (t.Punctuation p.Colon) colon
+  owned : {owner second name : List ℕ} {place : ℕ} {tokens rest : Tokens} {x colon y : Placed Token} → Is (t.Name owner) x
+      → Is (t.Punctuation p.Colon) colon
       → Is (t.Name second) y → name ≡ owner ++ 58 ∷ second → place ≡ x.at → tokens ≡ x ∷ colon ∷ y ∷ rest → IsHead name place tokens rest
 
 mutual

@@ -73,4 +73,5 @@ pub record IsWrongChild (signatures : List Signature) (arguments : List Argument
 -- the node of this place has a wrong number of children, or the child of this place is of a wrong kind
 pub record IsWrong (signatures : List Signature) (at : ℕ) (name : List ℕ) (place : ℕ) (arguments : List Argument) : Type 0 where
   pub found : HasFirst signatures name
-  pub fault : ((length arguments ≢ length found.signature.children) × (at ≡ place)) ⊎ IsWrongChild signatures arguments found.signature.children at
+  pub fault : ((length arguments ≢ length found.signature.children) × (at ≡ place))
+      ⊎ IsWrongChild signatures arguments found.signature.children at
