@@ -66,7 +66,8 @@ module _ (ss : List Signature) (ts : List Tree) (t : Term) (b : Builder) (h : Ho
     id = id;
     is = is;
     within = zipped.0.within;
-    tree = λ known fits. record { numbered = built_numbered ss t (tree_in ts id.0) zipped.0.built (all_known known); fit = all_fit known fits };
+    tree =
+        λ known fits. record { numbered = built_numbered ss t (tree_in ts id.0) zipped.0.built (all_known known); fit = all_fit known fits };
   }
 
   pub root : Root
@@ -103,7 +104,8 @@ module _ (ss : List Signature) (bytes : List ℕ) where
 
   -- there is one answer
   pub one_answer : (a b : Answer) → IsAnswer ss bytes a → IsAnswer ss bytes b → a ≡ b
-  one_answer (stands u) (stands w) a b = ap stands (one_tree ss a.term u w a.its.numbered (subst (λ t. IsTreeOf ss t w) (same_text b.term a.term b.text a.text) b.its).numbered)
+  one_answer (stands u) (stands w) a b =
+      ap stands (one_tree ss a.term u w a.its.numbered (subst (λ t. IsTreeOf ss t w) (same_text b.term a.term b.text a.text) b.its).numbered)
   one_answer (stands u) (bad j) a b = absurd (term_or_fault bytes a.term j a.text b)
   one_answer (stands u) (unknown j) a b = absurd (tree_or_unknown u j a b)
   one_answer (stands u) (wrong j) a b = absurd (tree_or_wrong u j a b)
@@ -113,12 +115,14 @@ module _ (ss : List Signature) (bytes : List ℕ) where
   one_answer (bad i) (wrong j) a b = absurd (term_or_fault bytes b.term i b.text a)
   one_answer (unknown i) (stands w) a b = absurd (tree_or_unknown w i b a)
   one_answer (unknown i) (bad j) a b = absurd (term_or_fault bytes a.term j a.text b)
-  one_answer (unknown i) (unknown j) a b = ap unknown (one_least (λ at. SomeNode (IsUnknown ss at) b.term) i j (subst (λ t. IsLeast (λ at. SomeNode (IsUnknown ss at) t) i) (same_text a.term b.term a.text b.text) a.least) b.least)
+  one_answer (unknown i) (unknown j) a b =
+      ap unknown (one_least (λ at. SomeNode (IsUnknown ss at) b.term) i j (subst (λ t. IsLeast (λ at. SomeNode (IsUnknown ss at) t) i) (same_text a.term b.term a.text b.text) a.least) b.least)
   one_answer (unknown i) (wrong j) a b = absurd (unknown_or_wrong i j a b)
   one_answer (wrong i) (stands w) a b = absurd (tree_or_wrong w i b a)
   one_answer (wrong i) (bad j) a b = absurd (term_or_fault bytes a.term j a.text b)
   one_answer (wrong i) (unknown j) a b = absurd (unknown_or_wrong j i b a)
-  one_answer (wrong i) (wrong j) a b = ap wrong (one_least (λ at. SomeNode (IsWrong ss at) b.term) i j (subst (λ t. IsLeast (λ at. SomeNode (IsWrong ss at) t) i) (same_text a.term b.term a.text b.text) a.least) b.least)
+  one_answer (wrong i) (wrong j) a b =
+      ap wrong (one_least (λ at. SomeNode (IsWrong ss at) b.term) i j (subst (λ t. IsLeast (λ at. SomeNode (IsWrong ss at) t) i) (same_text a.term b.term a.text b.text) a.least) b.least)
 
 -- and so is its tree
 pub root_id : (r : Option Value) (x : Value) (id other : TreeId) → r ≡ Some (Stored id) → r ≡ Some x → x ≡ Stored other → id ≡ other

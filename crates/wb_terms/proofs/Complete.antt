@@ -32,7 +32,8 @@ Gives row tokens a b = Derives term_grammar row tokens a b
 -- a token is taken
 take_token : (kind : TokenKind) (f : Row) (x : Placed Lexeme) (l : Lexeme) (v w : Tokens) (a b : List Event) → Is l x → kind_of l ≡ kind
     → w ≡ x ∷ v → Gives f v (shift l x.at x.end a) b → Gives (Token kind ∷ f) w a b
-take_token kind f x l v w a b is of e d = token (subst (λ l. kind_of l ≡ kind) (sym is) of) (subst (λ l. Gives f v (shift l x.at x.end a) b) (sym is) d) e
+take_token kind f x l v w a b is of e d =
+    token (subst (λ l. kind_of l ≡ kind) (sym is) of) (subst (λ l. Gives f v (shift l x.at x.end a) b) (sym is) d) e
 
 -- a part without symbols
 same_rest : (f : Row) (w rest : Tokens) (a b : List Event) → w ≡ rest → Gives f rest a b → Gives f w a b
@@ -45,7 +46,8 @@ unfolding term_rights
 complete_head name place w rest f a b (simple {x = x} is at e) d =
     take_token k.Name _ x (t.Name name) rest w a b is refl e (expand 0 refl (subst (λ q. Gives f rest (Begin name q ∷ a) b) at d))
 complete_head name place w rest f a b (owned {owner = owner} {second = second} {x = x} {colon = colon} {y = y} is mark its joined at e) d =
-    let d' : Gives f rest (Begin (qualified_name owner second) x.at ∷ a) b = subst (λ q. Gives f rest (Begin (qualified_name owner second) q ∷ a) b) at (subst (λ n. Gives f rest (Begin n place ∷ a) b) joined d) in
+    let d' : Gives f rest (Begin (qualified_name owner second) x.at ∷ a) b =
+    subst (λ q. Gives f rest (Begin (qualified_name owner second) q ∷ a) b) at (subst (λ n. Gives f rest (Begin n place ∷ a) b) joined d) in
     take_token k.Name _ x (t.Name owner) (colon ∷ y ∷ rest) w a b is refl e
     (expand 1 refl
     (take_token (k.Mark p.Colon) _ colon _ (y ∷ rest) _ _ b mark refl refl
@@ -87,7 +89,8 @@ mutual
   complete_arguments : {as' : Arguments} {w rest : Tokens} (f : Row) (a b : List Event) → AreArguments as' w rest
       → Gives f rest (arguments_onto as' a) b → Gives (Nonterminal Part.Arguments ∷ f) w a b
   complete_arguments {w = w} {rest = rest} f a b (nothing e) d = expand 0 refl (same_rest f w rest a b e d)
-  complete_arguments f a b (some {a = c} first others) d = expand 1 refl (complete_argument _ a b first (complete_more f (argument_onto c a) b others d))
+  complete_arguments f a b (some {a = c} first others) d =
+      expand 1 refl (complete_argument _ a b first (complete_more f (argument_onto c a) b others d))
 
   -- more arguments
   complete_more : {as' : Arguments} {w rest : Tokens} (f : Row) (a b : List Event) → AreMore as' w rest

@@ -33,7 +33,8 @@ popped_at : (ss : List Signature) (ts : List Tree) (events : List Event) (values
     (fs : List Frame) (z : Zipper)
     → zipper events ≡ z → Shape ss ts z values places (f ∷ reverse fs) → Popped ss ts events values places f fs
 popped_at ss ts events values places f fs (outside met) is s = absurd s.framed
-popped_at ss ts events values places f fs (inside name place met outer) is s = record { name = name; place = place; met = met; outer = outer; is = is; shape = s }
+popped_at ss ts events values places f fs (inside name place met outer) is s =
+    record { name = name; place = place; met = met; outer = outer; is = is; shape = s }
 
 pub popped : (ss : List Signature) (ts : List Tree) (events : List Event) (b : Builder) (f : Frame) (fs : List Frame)
     → b.frames.items ≡ fs ++ f ∷ [] → Holds ss ts events b → Popped ss ts events b.values.items b.places.items f fs
@@ -44,29 +45,35 @@ popped ss ts events b f fs e h =
 -- no frame, so nothing was begun
 pub none_begun : (ss : List Signature) (ts : List Tree) (events : List Event) (b c : Builder) → b.frames.items ≡ [] → c.frames.items ≡ []
     → c.values ≡ b.values → c.places ≡ b.places → c.faults ≡ b.faults → Holds ss ts events b → Holds ss ts (End ∷ events) c
-none_begun ss ts events b c none still values places faults h = at (zipper events) refl (subst (λ l. AreFrames ss (zipper events) (reverse l)) none h.frames) where
-  at : (z : Zipper) → zipper events ≡ z → AreFrames ss (zipper events) [] → Holds ss ts (End ∷ events) c
-  at (inside name place met outer) is framed = absurd (subst (λ z. AreFrames ss z []) is framed)
-  at (outside met) is framed =
-      let same : zipper (End ∷ events) ≡ zipper events = ap closed is ∙ sym is in
-      record {
-        frames = subst (λ l. AreFrames ss (zipper (End ∷ events)) (reverse l)) (sym still) (subst (λ z. AreFrames ss z []) (sym same) framed);
-        values = subst (λ v. AllZip (IsStored ss ts) (all_met (zipper (End ∷ events))) v.items) (sym values) (subst (λ z. AllZip (IsStored ss ts) (all_met z) b.values.items) (sym same) h.values);
-        places = ap (λ z. map place_of (all_met z)) same ∙ (h.places ∙ ap (λ v. v.items) (sym places));
-        unknown = subst (λ f. FindsUnknown ss (End ∷ events) f.unknown) (sym faults) (unknown_outside ss events met b.faults.unknown is h.unknown);
-        wrong = subst (λ f. FindsWrong ss (End ∷ events) f.wrong) (sym faults) (wrong_outside ss events met b.faults.wrong is h.wrong);
-      }
+none_begun ss ts events b c none still values places faults h =
+    at (zipper events) refl (subst (λ l. AreFrames ss (zipper events) (reverse l)) none h.frames) where
+      at : (z : Zipper) → zipper events ≡ z → AreFrames ss (zipper events) [] → Holds ss ts (End ∷ events) c
+      at (inside name place met outer) is framed = absurd (subst (λ z. AreFrames ss z []) is framed)
+      at (outside met) is framed =
+          let same : zipper (End ∷ events) ≡ zipper events = ap closed is ∙ sym is in
+          record {
+            frames =
+                subst (λ l. AreFrames ss (zipper (End ∷ events)) (reverse l)) (sym still) (subst (λ z. AreFrames ss z []) (sym same) framed);
+            values =
+                subst (λ v. AllZip (IsStored ss ts) (all_met (zipper (End ∷ events))) v.items) (sym values) (subst (λ z. AllZip (IsStored ss ts) (all_met z) b.values.items) (sym same) h.values);
+            places = ap (λ z. map place_of (all_met z)) same ∙ (h.places ∙ ap (λ v. v.items) (sym places));
+            unknown =
+                subst (λ f. FindsUnknown ss (End ∷ events) f.unknown) (sym faults) (unknown_outside ss events met b.faults.unknown is h.unknown);
+            wrong = subst (λ f. FindsWrong ss (End ∷ events) f.wrong) (sym faults) (wrong_outside ss events met b.faults.wrong is h.wrong);
+          }
 
 -- the values are trees of the store
 pub all_within : (ss : List Signature) (ts : List Tree) (events : List Event) (b : Builder) → Holds ss ts events b
     → All (IsIn (length ts)) b.values.items
-all_within ss ts events b h = zip_all (IsStored ss ts) (IsIn (length ts)) (λ a x s. s.within) (all_met (zipper events)) b.values.items h.values
+all_within ss ts events b h =
+    zip_all (IsStored ss ts) (IsIn (length ts)) (λ a x s. s.within) (all_met (zipper events)) b.values.items h.values
 
 -- the sizes
 pub sizes : (ss : List Signature) (ts : List Tree) (events : List Event) (values : List Value) (places : List ℕ) (f : Frame)
     (fs : List Frame) (p : Popped ss ts events values places f fs)
     → (f.start + length p.met ≡ length values) × (length places ≡ length values)
-sizes ss ts events values places f fs p = (start_within ss ts p.name p.place p.met p.outer values places f (reverse fs) p.shape, places_long ss ts p.name p.place p.met p.outer values places f (reverse fs) p.shape)
+sizes ss ts events values places f fs p =
+    (start_within ss ts p.name p.place p.met p.outer values places f (reverse fs) p.shape, places_long ss ts p.name p.place p.met p.outer values places f (reverse fs) p.shape)
 
 -- of all values the last so many
 pub last_from : (n count : ℕ) (xs : List Value) → n ≤ length xs → count ≡ length xs - n → (length xs - count) ≡ n
@@ -80,16 +87,21 @@ pub ended : (ss : List Signature) (ts more : List Tree) (events : List Event) (b
     → FindsUnknown ss (End ∷ events) c.faults.unknown → FindsWrong ss (End ∷ events) c.faults.wrong → Holds ss more (End ∷ events) d
 ended ss ts more events b c d f fs id count p counted number grown values places frames adds unknown wrong =
     let xs = b.values.items in
-    let z : length xs - count ≡ f.start = last_from f.start count xs (omega (arith, (sizes ss ts events xs b.places.items f fs p).0)) counted in
+    let z : length xs - count ≡ f.start =
+    last_from f.start count xs (omega (arith, (sizes ss ts events xs b.places.items f fs p).0)) counted in
     let values' : c.values.items ≡ take f.start xs = values ∙ ap (λ n. take n xs) z in
-    let grown' : more ≡ ts ++ node f.production (values_in ts (drop f.start xs)) ∷ [] = grown ∙ ap (λ n. ts ++ node f.production (values_in ts (drop n xs)) ∷ []) z in
+    let grown' : more ≡ ts ++ node f.production (values_in ts (drop f.start xs)) ∷ [] =
+    grown ∙ ap (λ n. ts ++ node f.production (values_in ts (drop n xs)) ∷ []) z in
     let s = shape_closed ss ts p.name p.place p.met p.outer xs b.places.items f (reverse fs) p.shape id number in
     let whole = with_argument (term (named p.name p.place (arguments_of p.met))) p.outer in
-    let t : Shape ss more whole (take f.start xs ++ Stored id ∷ []) (take f.start b.places.items ++ f.at ∷ []) (reverse fs) = subst (λ m. Shape ss m whole (take f.start xs ++ Stored id ∷ []) (take f.start b.places.items ++ f.at ∷ []) (reverse fs)) (sym grown') s in
+    let t : Shape ss more whole (take f.start xs ++ Stored id ∷ []) (take f.start b.places.items ++ f.at ∷ []) (reverse fs) =
+    subst (λ m. Shape ss m whole (take f.start xs ++ Stored id ∷ []) (take f.start b.places.items ++ f.at ∷ []) (reverse fs)) (sym grown') s in
     let is : zipper (End ∷ events) ≡ whole = ap closed p.is in
     record {
-      frames = subst (λ l. AreFrames ss (zipper (End ∷ events)) (reverse l)) (sym frames ∙ ap (λ v. v.items) (sym adds.frames)) (subst (λ w. AreFrames ss w (reverse fs)) (sym is) t.framed);
-      values = subst (λ l. AllZip (IsStored ss more) (all_met (zipper (End ∷ events))) l) (sym (adds.values ∙ ap (λ l. l ++ Stored id ∷ []) values')) (subst (λ w. AllZip (IsStored ss more) (all_met w) (take f.start xs ++ Stored id ∷ [])) (sym is) t.valued);
+      frames =
+          subst (λ l. AreFrames ss (zipper (End ∷ events)) (reverse l)) (sym frames ∙ ap (λ v. v.items) (sym adds.frames)) (subst (λ w. AreFrames ss w (reverse fs)) (sym is) t.framed);
+      values =
+          subst (λ l. AllZip (IsStored ss more) (all_met (zipper (End ∷ events))) l) (sym (adds.values ∙ ap (λ l. l ++ Stored id ∷ []) values')) (subst (λ w. AllZip (IsStored ss more) (all_met w) (take f.start xs ++ Stored id ∷ [])) (sym is) t.valued);
       places = ap (λ w. map place_of (all_met w)) is ∙ (t.placed ∙ sym (adds.places ∙ ap (λ l. l ++ f.at ∷ []) places));
       unknown = subst (λ g. FindsUnknown ss (End ∷ events) g.unknown) (sym adds.faults) unknown;
       wrong = subst (λ g. FindsWrong ss (End ∷ events) g.wrong) (sym adds.faults) wrong;
@@ -101,7 +113,8 @@ pub children_within : (ss : List Signature) (ts : List Tree) (events : List Even
     → Popped ss ts events values places f fs → count ≡ length values - f.start
     → All (IsIn (length ts)) (drop (length values - count) values)
 children_within ss ts events values places f fs count p counted =
-    let z : length values - count ≡ f.start = last_from f.start count values (omega (arith, (sizes ss ts events values places f fs p).0)) counted in
+    let z : length values - count ≡ f.start =
+    last_from f.start count values (omega (arith, (sizes ss ts events values places f fs p).0)) counted in
     let i = innermost_shape ss ts p.name p.place p.met p.outer values places f (reverse fs) p.shape in
     subst (λ n. All (IsIn (length ts)) (drop n values)) (sym z) (zip_all (IsStored ss ts) (IsIn (length ts)) (λ a x s. s.within) p.met (drop f.start values) i.valued)
 
@@ -119,5 +132,6 @@ ended_ok ss ts more b c d f fs id count (Err x) frame counted number grown value
 ended_ok ss ts more b c d f fs id count (Ok x) frame counted number grown values places frames adds faults = λ events h.
     let p = popped ss ts events b f fs frame h in
     let i = innermost_shape ss ts p.name p.place p.met p.outer b.values.items b.places.items f (reverse fs) p.shape in
-    let both = faults events p.name p.met p.outer (p.is ∙ ap (λ n. inside p.name n p.met p.outer) (sym i.here)) i.number i.valued i.placed h.unknown h.wrong in
+    let both =
+    faults events p.name p.met p.outer (p.is ∙ ap (λ n. inside p.name n p.met p.outer) (sym i.here)) i.number i.valued i.placed h.unknown h.wrong in
     ended ss ts more events b c d f fs id count p counted number grown values places frames adds both.0 both.1

@@ -65,8 +65,10 @@ module _ (ss : List Signature) where
     all_fit empty (v.more x xs) kinds n e z = absurd n
     all_fit (more a others) v.empty kinds n e z = absurd n
     all_fit (more a others) (v.more x xs) [] n e z = absurd z
-    all_fit (more a others) (v.more x xs) (kind ∷ kinds) n e z = (kind, kinds, refl, one_fits a x kind n.0 e.0 z.0, all_fit others xs kinds n.1 e.1 z.1)
+    all_fit (more a others) (v.more x xs) (kind ∷ kinds) n e z =
+        (kind, kinds, refl, one_fits a x kind n.0 e.0 z.0, all_fit others xs kinds n.1 e.1 z.1)
 
 -- the tree that a term stands for is a tree of its production's nonterminal, and fits the signatures
 pub tree_fits : (ss : List Signature) (t : Term) (u : Tree) → IsTreeOf ss t u → (n : ℕ) × FitsTree ss u n
-tree_fits ss (named name place arguments) u h = (h.fit.0.found.signature.left, term_fits ss (named name place arguments) u h.numbered h.fit h.fit.0.found)
+tree_fits ss (named name place arguments) u h =
+    (h.fit.0.found.signature.left, term_fits ss (named name place arguments) u h.numbered h.fit h.fit.0.found)

@@ -80,8 +80,11 @@ pub shape_with : (ss : List Signature) (ts : List Tree) (z : Zipper) (values : L
     → Shape ss ts (with_argument a z) (values ++ x ∷ []) (places ++ at ∷ []) frames
 shape_with ss ts z values places frames a x at s stored here = record {
   framed = frames_with ss a z frames s.framed;
-  valued = subst (λ met. AllZip (IsStored ss ts) met (values ++ x ∷ [])) (sym (met_with a z)) (all_zipped_more (IsStored ss ts) (all_met z) values a x s.valued stored);
-  placed = ap (map place_of) (met_with a z) ∙ (map-append place_of (all_met z) (a ∷ []) ∙ (ap (λ l. l ++ place_of a ∷ []) s.placed ∙ ap (λ n. places ++ n ∷ []) here));
+  valued =
+      subst (λ met. AllZip (IsStored ss ts) met (values ++ x ∷ [])) (sym (met_with a z)) (all_zipped_more (IsStored ss ts) (all_met z) values a x s.valued stored);
+  placed =
+      ap (map place_of) (met_with a z)
+      ∙ (map-append place_of (all_met z) (a ∷ []) ∙ (ap (λ l. l ++ place_of a ∷ []) s.placed ∙ ap (λ n. places ++ n ∷ []) here));
 }
 
 -- a node is begun
@@ -117,24 +120,31 @@ module _ (ss : List Signature) (ts : List Tree) (name : List ℕ) (place : ℕ) 
   innermost_shape = record {
     number = s.framed.0;
     here = s.framed.1;
-    valued = subst (λ n. AllZip (IsStored ss ts) met (drop n values)) (sym start) (zip_back (IsStored ss ts) (all_met outer) met values s.valued);
-    placed = subst (λ n. map place_of met ≡ drop n places) (sym long) (subst (λ l. map place_of met ≡ drop (length (map place_of (all_met outer))) l) apart (sym (drop-append_seam (map place_of (all_met outer)) (map place_of met))));
+    valued =
+        subst (λ n. AllZip (IsStored ss ts) met (drop n values)) (sym start) (zip_back (IsStored ss ts) (all_met outer) met values s.valued);
+    placed =
+        subst (λ n. map place_of met ≡ drop n places) (sym long) (subst (λ l. map place_of met ≡ drop (length (map place_of (all_met outer))) l) apart (sym (drop-append_seam (map place_of (all_met outer)) (map place_of met))));
   }
 
   -- what is outside of it
   pub outer_shape : Shape ss ts outer (take f.start values) (take f.start places) frames
   outer_shape = record {
     framed = s.framed.3;
-    valued = subst (λ n. AllZip (IsStored ss ts) (all_met outer) (take n values)) (sym start) (zip_front (IsStored ss ts) (all_met outer) met values s.valued);
-    placed = subst (λ n. map place_of (all_met outer) ≡ take n places) (sym long) (subst (λ l. map place_of (all_met outer) ≡ take (length (map place_of (all_met outer))) l) apart (sym (take-append_seam (map place_of (all_met outer)) (map place_of met))));
+    valued =
+        subst (λ n. AllZip (IsStored ss ts) (all_met outer) (take n values)) (sym start) (zip_front (IsStored ss ts) (all_met outer) met values s.valued);
+    placed =
+        subst (λ n. map place_of (all_met outer) ≡ take n places) (sym long) (subst (λ l. map place_of (all_met outer) ≡ take (length (map place_of (all_met outer))) l) apart (sym (take-append_seam (map place_of (all_met outer)) (map place_of met))));
   }
 
   -- the sizes
   pub start_within : f.start + length met ≡ length values
-  start_within = omega (arith, start, AllZip-long (IsStored ss ts) (all_met outer ++ met) values s.valued, length-append (all_met outer) met)
+  start_within =
+      omega (arith, start, AllZip-long (IsStored ss ts) (all_met outer ++ met) values s.valued, length-append (all_met outer) met)
 
   pub places_long : length places ≡ length values
-  places_long = sym (ap length s.placed) ∙ (length-map (all_met outer ++ met) place_of ∙ sym (AllZip-long (IsStored ss ts) (all_met outer ++ met) values s.valued))
+  places_long =
+      sym (ap length s.placed)
+      ∙ (length-map (all_met outer ++ met) place_of ∙ sym (AllZip-long (IsStored ss ts) (all_met outer ++ met) values s.valued))
 
   -- the node is built over its values, and is one value more of the outer node
   pub shape_closed : (id : TreeId) → id.0 ≡ length ts
@@ -147,13 +157,15 @@ module _ (ss : List Signature) (ts : List Tree) (name : List ℕ) (place : ℕ) 
       let i = innermost_shape in
       let kept : Shape ss ts' outer (take f.start values) (take f.start places) frames = record {
         framed = o.framed;
-        valued = zip_weaker (IsStored ss ts) (IsStored ss ts') (λ a x st. stored_stable ss ts (tree ∷ []) a x st) (all_met outer) (take f.start values) o.valued;
+        valued =
+            zip_weaker (IsStored ss ts) (IsStored ss ts') (λ a x st. stored_stable ss ts (tree ∷ []) a x st) (all_met outer) (take f.start values) o.valued;
         placed = o.placed;
       } in
       let at : tree_in ts' id.0 ≡ tree = ap (tree_in ts') is ∙ get_or-append_seam ts tree [] (node 0 empty) in
       let stored : IsStored ss ts' (term (named name place (arguments_of met))) (Stored id) = record {
         within = omega (arith, is, length-append ts (tree ∷ []));
-        built = subst (λ t. IsBuiltValue ss (term (named name place (arguments_of met))) (v.tree t)) (sym at) (i.number, are_built ss ts met (drop f.start values) i.valued);
+        built =
+            subst (λ t. IsBuiltValue ss (term (named name place (arguments_of met))) (v.tree t)) (sym at) (i.number, are_built ss ts met (drop f.start values) i.valued);
       } in
       shape_with ss ts' outer (take f.start values) (take f.start places) frames (term (named name place (arguments_of met))) (Stored id) f.at kept stored (sym i.here)
 
@@ -197,10 +209,13 @@ pub holds_with : (ss : List Signature) (ts : List Tree) (events then : List Even
     → Holds ss ts events b → zipper then ≡ with_argument a (zipper events) → IsStored ss ts a x → place_of a ≡ at → AddsValue x at b c
     → FindsUnknown ss then b.faults.unknown → FindsWrong ss then b.faults.wrong → Holds ss ts then c
 holds_with ss ts events then a x at b c h is stored here adds unknown wrong =
-    let s = shape_with ss ts (zipper events) b.values.items b.places.items (reverse b.frames.items) a x at (shape_of ss ts events b h) stored here in
+    let s =
+    shape_with ss ts (zipper events) b.values.items b.places.items (reverse b.frames.items) a x at (shape_of ss ts events b h) stored here in
     record {
-      frames = subst (λ fs. AreFrames ss (zipper then) (reverse fs.items)) (sym adds.frames) (subst (λ z. AreFrames ss z (reverse b.frames.items)) (sym is) s.framed);
-      values = subst (λ xs. AllZip (IsStored ss ts) (all_met (zipper then)) xs) (sym adds.values) (subst (λ z. AllZip (IsStored ss ts) (all_met z) (b.values.items ++ x ∷ [])) (sym is) s.valued);
+      frames =
+          subst (λ fs. AreFrames ss (zipper then) (reverse fs.items)) (sym adds.frames) (subst (λ z. AreFrames ss z (reverse b.frames.items)) (sym is) s.framed);
+      values =
+          subst (λ xs. AllZip (IsStored ss ts) (all_met (zipper then)) xs) (sym adds.values) (subst (λ z. AllZip (IsStored ss ts) (all_met z) (b.values.items ++ x ∷ [])) (sym is) s.valued);
       places = subst (λ z. map place_of (all_met z) ≡ c.places.items) (sym is) (s.placed ∙ sym adds.places);
       unknown = subst (λ fs. FindsUnknown ss then fs.unknown) (sym adds.faults) unknown;
       wrong = subst (λ fs. FindsWrong ss then fs.wrong) (sym adds.faults) wrong;

@@ -86,7 +86,8 @@ module _ (signatures : List Signature) where
 
   left_of : (name : List ℕ) (n nonterminal : ℕ) → IsNumberOf signatures name n → IsOfNonterminal signatures name nonterminal
       → IsOfLeft signatures n nonterminal
-  left_of name n nonterminal number o = record { signature = o.found.signature; its = ap (slice_get signatures) (number_first name n number o.found) ∙ o.found.its; left = o.left }
+  left_of name n nonterminal number o =
+      record { signature = o.found.signature; its = ap (slice_get signatures) (number_first name n number o.found) ∙ o.found.its; left = o.left }
 
   -- a tree is of the kind where its production is of the nonterminal
   pub tree_kind : (tree : Tree) (n nonterminal : ℕ) (r : Bool) (argument : Argument) → n ≡ production_of tree
@@ -168,7 +169,8 @@ module _ (signatures : List Signature) where
   fit_zip [] [] e fit = tt
   fit_zip [] (l ∷ kinds) e fit = absurd (omega (arith, e))
   fit_zip (a ∷ arguments) [] e fit = absurd (omega (arith, e))
-  fit_zip (a ∷ arguments) (l ∷ kinds) e fit = (fit 0 a l refl refl, fit_zip arguments kinds (omega (arith, e)) (λ j b m here want. fit (suc j) b m here want))
+  fit_zip (a ∷ arguments) (l ∷ kinds) e fit =
+      (fit 0 a l refl refl, fit_zip arguments kinds (omega (arith, e)) (λ j b m here want. fit (suc j) b m here want))
 
   -- a node whose production isn't there
   pub absent_node : (name : List ℕ) (n at : ℕ) (arguments : List Argument) → length signatures ≤ n → IsNumberOf signatures name n
@@ -200,7 +202,9 @@ module _ (signatures : List Signature) where
       some_same x y e = cc
 
       kinds_of : (f : HasFirst signatures name) → kinds ≡ f.signature.children
-      kinds_of f = same ∙ ap (λ (x : Signature). x.children) (some_same s f.signature (sym there ∙ (ap (slice_get signatures) (number_first name n number f) ∙ f.its)))
+      kinds_of f =
+          same
+          ∙ ap (λ (x : Signature). x.children) (some_same s f.signature (sym there ∙ (ap (slice_get signatures) (number_first name n number f) ∙ f.its)))
 
       counted : (b : Bool) → b ≡ differ → length arguments ≢ length kinds → b ≡ true
       counted true e h = refl
@@ -220,7 +224,9 @@ pub child_tested : (signatures : List Signature) (trees : List Tree) (arguments 
     → FindsLeast (IsWrongAmong signatures i arguments kinds) (FirstFit signatures i arguments kinds) o → FindsLeast (IsWrongAmong signatures (i + 1) arguments kinds) (FirstFit signatures (i + 1) arguments kinds) r
 child_tested signatures trees arguments values places kinds i x d place fits o r zipped placed within asked is at both e finds =
     let a = beside (IsStored signatures trees) arguments values i x zipped (slice_get_read values (length values) i x refl within is) in
-    let there : get_or (map place_of arguments) i 0 ≡ place_of a.other = get_or-map place_of arguments i a.other 0 (slice_get_within arguments i a.other a.at) ∙ ap place_of (get_or_from_slice_get arguments i a.other a.other a.at) in
+    let there : get_or (map place_of arguments) i 0 ≡ place_of a.other =
+    get_or-map place_of arguments i a.other 0 (slice_get_within arguments i a.other a.at)
+    ∙ ap place_of (get_or_from_slice_get arguments i a.other a.other a.at) in
     let here : place ≡ place_of a.other = at ∙ (ap (λ l. get_or l i 0) (sym placed) ∙ there) in
     subst (λ r. FindsLeast (IsWrongAmong signatures (i + 1) arguments kinds) (FirstFit signatures (i + 1) arguments kinds) r) (sym e)
     (kind_step signatures arguments kinds i a.other (get_or kinds i d) fits place o a.at (slice_get-get_or kinds i d asked) (both a.other a.related) here finds)

@@ -20,7 +20,8 @@ of_min Q m n a b = either (λ (e : min m n ≡ m). rw e a) (λ (e : min m n ≡ 
 pub noted_least : (P Q : ℕ → Type 0) (F G : Type 0) (counts : Bool) (place : ℕ) (o : Option ℕ) → FindsLeast P F o → (F → counts ≡ false → G)
     → ((at : ℕ) → P at → Q at) → (counts ≡ true → Q place)
     → ((at : ℕ) → Q at → P at ⊎ ((counts ≡ true) × (place ≤ at))) → FindsLeast Q G (smallest_with counts place o)
-noted_least P Q F G false place None finds fact keeps new only = (fact finds.0 refl, λ at q. either (finds.1 at) (λ b. let wrong : false ≡ true = b.0 in absurd (cc)) (only at q))
+noted_least P Q F G false place None finds fact keeps new only =
+    (fact finds.0 refl, λ at q. either (finds.1 at) (λ b. let wrong : false ≡ true = b.0 in absurd (cc)) (only at q))
 noted_least P Q F G false place (Some m) finds fact keeps new only = record {
   here = keeps m finds.here;
   least = λ at q. either (finds.least at) (λ b. let wrong : false ≡ true = b.0 in absurd (cc)) (only at q);
@@ -31,7 +32,8 @@ noted_least P Q F G true place None finds fact keeps new only = record {
 }
 noted_least P Q F G true place (Some m) finds fact keeps new only = record {
   here = of_min Q m place (keeps m finds.here) (new refl);
-  least = λ at q. either (λ p. let le = finds.least at p in omega (arith, le, min-le_left m place)) (λ b. omega (arith, b.1, min-le_right m place)) (only at q);
+  least =
+      λ at q. either (λ p. let le = finds.least at p in omega (arith, le, min-le_left m place)) (λ b. omega (arith, b.1, min-le_right m place)) (only at q);
 }
 
 -- two properties together

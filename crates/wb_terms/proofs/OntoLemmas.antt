@@ -18,7 +18,8 @@ with_all (a ∷ others) z = with_all others (with_argument a z)
 with_all_inside : (others met : List Argument) (name : List ℕ) (place : ℕ) (outer : Zipper)
     → with_all others (inside name place met outer) ≡ inside name place (met ++ others) outer
 with_all_inside [] met name place outer = ap (λ m. inside name place m outer) (sym (append-nil met))
-with_all_inside (a ∷ others) met name place outer = with_all_inside others (met ++ a ∷ []) name place outer ∙ ap (λ m. inside name place m outer) (append_assoc met (a ∷ []) others)
+with_all_inside (a ∷ others) met name place outer =
+    with_all_inside others (met ++ a ∷ []) name place outer ∙ ap (λ m. inside name place m outer) (append_assoc met (a ∷ []) others)
 
 -- arguments as a list and back
 arguments_back : (arguments : Arguments) → arguments_of (list_of arguments) ≡ arguments
@@ -44,14 +45,16 @@ mutual
 -- the node that was begun has these arguments
 pub innermost : (name : List ℕ) (place : ℕ) (arguments : Arguments) (v : List Event)
     → zipper (arguments_onto arguments (Begin name place ∷ v)) ≡ inside name place (list_of arguments) (zipper v)
-innermost name place arguments v = arguments_met arguments (Begin name place ∷ v) ∙ with_all_inside (list_of arguments) [] name place (zipper v)
+innermost name place arguments v =
+    arguments_met arguments (Begin name place ∷ v) ∙ with_all_inside (list_of arguments) [] name place (zipper v)
 
 module _ (Holds : List ℕ → ℕ → List Argument → Type 0) where
   mutual
     -- a node that was ended is one of the term, or was ended before
     pub some_in : (t : Term) (v : List Event) → SomeEnded Holds (term_onto t v) → SomeNode Holds t ⊎ SomeEnded Holds v
     some_in (named name place arguments) v (inl h) = inl (inl (subst (λ z. OfInnermost Holds z ⊥) (innermost name place arguments v) h))
-    some_in (named name place arguments) v (inr h) = either (λ s. inl (inr s)) (λ e. inr e) (some_in_arguments arguments (Begin name place ∷ v) h)
+    some_in (named name place arguments) v (inr h) =
+        either (λ s. inl (inr s)) (λ e. inr e) (some_in_arguments arguments (Begin name place ∷ v) h)
 
     some_in_argument : (a : Argument) (v : List Event) → SomeEnded Holds (argument_onto a v) → SomeInArgument Holds a ⊎ SomeEnded Holds v
     some_in_argument (plain (int z) place) v h = inr h
@@ -62,12 +65,14 @@ module _ (Holds : List ℕ → ℕ → List Argument → Type 0) where
     some_in_arguments : (arguments : Arguments) (v : List Event) → SomeEnded Holds (arguments_onto arguments v)
         → SomeInArguments Holds arguments ⊎ SomeEnded Holds v
     some_in_arguments empty v h = inr h
-    some_in_arguments (more a others) v h = either (λ s. inl (inr s)) (λ e. either (λ s. inl (inl s)) (λ f. inr f) (some_in_argument a v e)) (some_in_arguments others (argument_onto a v) h)
+    some_in_arguments (more a others) v h =
+        either (λ s. inl (inr s)) (λ e. either (λ s. inl (inl s)) (λ f. inr f) (some_in_argument a v e)) (some_in_arguments others (argument_onto a v) h)
 
   mutual
     -- and the other way round
     pub some_out : (t : Term) (v : List Event) → SomeNode Holds t ⊎ SomeEnded Holds v → SomeEnded Holds (term_onto t v)
-    some_out (named name place arguments) v (inl (inl h)) = inl (subst (λ z. OfInnermost Holds z ⊥) (sym (innermost name place arguments v)) h)
+    some_out (named name place arguments) v (inl (inl h)) =
+        inl (subst (λ z. OfInnermost Holds z ⊥) (sym (innermost name place arguments v)) h)
     some_out (named name place arguments) v (inl (inr h)) = inr (some_out_arguments arguments (Begin name place ∷ v) (inl h))
     some_out (named name place arguments) v (inr h) = inr (some_out_arguments arguments (Begin name place ∷ v) (inr h))
 

@@ -29,7 +29,9 @@ pub tree_begun : {X E : Type 0} (ss : List Signature) (ts : List Tree) (t : Tree
     → new ≡ (old ++ name_of ss n) ++ 40 ∷ [] → OnOk r (qs ≡ ps ++ values ∷ []) → OnOk r (new ++ pending_text ss ts (reverse qs) ≡ old ++ (printed_tree ss t ++ pending_text ss ts (reverse ps)))
 tree_begun ss ts t n values old new ps qs (Err x) first e f g h = tt
 tree_begun ss ts t n values old new ps qs (Ok x) first e f g h =
-    let a : new ++ pending_text ss ts (reverse qs) ≡ ((old ++ name_of ss n) ++ 40 ∷ []) ++ pending_text ss ts (values ∷ reverse ps) = ap (λ l. l ++ pending_text ss ts (reverse qs)) g ∙ ap (λ l. ((old ++ name_of ss n) ++ 40 ∷ []) ++ pending_text ss ts l) (pushed ps qs values h) in
+    let a : new ++ pending_text ss ts (reverse qs) ≡ ((old ++ name_of ss n) ++ 40 ∷ []) ++ pending_text ss ts (values ∷ reverse ps) =
+    ap (λ l. l ++ pending_text ss ts (reverse qs)) g
+    ∙ ap (λ l. ((old ++ name_of ss n) ++ 40 ∷ []) ++ pending_text ss ts l) (pushed ps qs values h) in
     let b : pending_text ss ts (values ∷ reverse ps) ≡ printed_children ss (values_in ts values.values.now) ++ 41 ∷ pending_text ss ts (reverse ps) = ap (λ c. children_text c ss (values_in ts values.values.now) ++ 41 ∷ pending_text ss ts (reverse ps)) first in
     a ∙ (ap (λ l. ((old ++ name_of ss n) ++ 40 ∷ []) ++ l) b ∙ begun_text ss t n (values_in ts values.values.now) old (pending_text ss ts (reverse ps)) e f)
 

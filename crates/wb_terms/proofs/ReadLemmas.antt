@@ -20,7 +20,8 @@ use Rattle.wb_terms.proofs.AnswerLemmas.{one_answer}
 -- one event more
 pub met_more : (events : List Event) (i : ℕ) (e : Event) → i < length events → e ≡ get_or events i e
     → reverse (take (i + 1) events) ≡ e ∷ reverse (take i events)
-met_more events i e lt is = ap reverse (take_more events i e lt ∙ ap (λ x. take i events ++ x ∷ []) (sym is)) ∙ reverse-append (take i events) (e ∷ [])
+met_more events i e lt is =
+    ap reverse (take_more events i e lt ∙ ap (λ x. take i events ++ x ∷ []) (sym is)) ∙ reverse-append (take i events) (e ∷ [])
 
 -- trees more
 pub trees_more : (old middle new : List Tree) → (more : List Tree) × (middle ≡ old ++ more) → (more : List Tree) × (new ≡ middle ++ more)

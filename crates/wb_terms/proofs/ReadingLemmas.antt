@@ -75,7 +75,8 @@ term_reading bytes (Stopped at) f = record {
 -- a term text is an outcome of the table
 whole_outcome : (bytes : List ℕ) (term : Term) → IsTermText bytes term
     → R.IsOutcome term_grammar (IsNextIn Plain bytes) [] (Whole (term_onto term []))
-whole_outcome bytes term t = record { tokens = t.tokens; to = t.to; at = t.at; spelled = t.spelled; ended = t.ended; text = text_of_term t.tokens term t.whole }
+whole_outcome bytes term t =
+    record { tokens = t.tokens; to = t.to; at = t.at; spelled = t.spelled; ended = t.ended; text = text_of_term t.tokens term t.whole }
 
 -- and so is a first fault
 stopped_outcome : (bytes : List ℕ) (at : ℕ) → IsFirstFault bytes at → R.IsOutcome term_grammar (IsNextIn Plain bytes) [] (Stopped at)
@@ -92,15 +93,18 @@ stopped_outcome bytes at f = record {
 
 one : (bytes : List ℕ) (o p : Outcome (List Event)) → R.IsOutcome term_grammar (IsNextIn Plain bytes) [] o
     → R.IsOutcome term_grammar (IsNextIn Plain bytes) [] p → o ≡ p
-one bytes o p r s = one_outcome same_kind kinds_same End term_entries term_grammar term_decided term_ends (IsNextIn Plain bytes) (one_next Plain bytes) [] o r p s
+one bytes o p r s =
+    one_outcome same_kind kinds_same End term_entries term_grammar term_decided term_ends (IsNextIn Plain bytes) (one_next Plain bytes) [] o r p s
 
 -- what is met in two terms of one text is the same
 pub one_onto : (bytes : List ℕ) (s t : Term) → IsTermText bytes s → IsTermText bytes t → term_onto s [] ≡ term_onto t []
-one_onto bytes s t a b = let e = one bytes (Whole (term_onto s [])) (Whole (term_onto t [])) (whole_outcome bytes s a) (whole_outcome bytes t b) in cc
+one_onto bytes s t a b =
+    let e = one bytes (Whole (term_onto s [])) (Whole (term_onto t [])) (whole_outcome bytes s a) (whole_outcome bytes t b) in cc
 
 -- a term has no first fault
 pub term_or_fault : (bytes : List ℕ) (s : Term) (at : ℕ) → IsTermText bytes s → IsFirstFault bytes at → ⊥
-term_or_fault bytes s at a f = let e = one bytes (Whole (term_onto s [])) (Stopped at) (whole_outcome bytes s a) (stopped_outcome bytes at f) in cc
+term_or_fault bytes s at a f =
+    let e = one bytes (Whole (term_onto s [])) (Stopped at) (whole_outcome bytes s a) (stopped_outcome bytes at f) in cc
 
 -- and there is one first fault
 pub one_first_fault : (bytes : List ℕ) (i j : ℕ) → IsFirstFault bytes i → IsFirstFault bytes j → i ≡ j

@@ -26,7 +26,8 @@ use Rattle.wb_terms.proofs.Complete.{Row, Gives}
 -- what a part of the grammar is: the first of the tokens are one, and these are left
 abbrev IsPart : Part → Tokens → Tokens → Type 0
 IsPart Part.Term w rest = (t : Term) × IsTerm t w rest
-IsPart Part.Owner w rest = (w ≡ rest) ⊎ ((second : List ℕ) × (colon : Placed Lexeme) × (y : Placed Lexeme) × Is (t.Punctuation p.Colon) colon × Is (t.Name second) y × (w ≡ colon ∷ y ∷ rest))
+IsPart Part.Owner w rest =
+    (w ≡ rest) ⊎ ((second : List ℕ) × (colon : Placed Lexeme) × (y : Placed Lexeme) × Is (t.Punctuation p.Colon) colon × Is (t.Name second) y × (w ≡ colon ∷ y ∷ rest))
 IsPart Part.Arguments w rest = (arguments : Arguments) × AreArguments arguments w rest
 IsPart Part.More w rest = (arguments : Arguments) × AreMore arguments w rest
 IsPart Part.Argument w rest = (a : Argument) × IsArgument a w rest
@@ -93,7 +94,8 @@ expanded Part.More (suc zero) right f w e m =
     let n' = a'.2 in
     (n'.0, (_, next (mark_by_kind m'.0.token p.Comma m'.2) m'.3 a'.1.1 n'.1.1), n'.2)
 expanded Part.More (suc (suc p)) right f w e m = absurd (cc)
-expanded Part.Argument zero right f w e m = token_by k.One f w (λ x v is whole. (_, number (one_by_kind x.token is) refl whole)) (the_right f w _ right e m)
+expanded Part.Argument zero right f w e m =
+    token_by k.One f w (λ x v is whole. (_, number (one_by_kind x.token is) refl whole)) (the_right f w _ right e m)
 expanded Part.Argument (suc zero) right f w e m =
     token_by k.Number f w (λ x v is whole. let i = number_by_kind x.token is in (_, number i.1 refl whole)) (the_right f w _ right e m)
 expanded Part.Argument (suc (suc zero)) right f w e m =

@@ -51,7 +51,8 @@ module _ (ss : List Signature) where
   mutual
     -- where all names are known, what was built is the term by numbers
     pub built_numbered : (t : Term) (u : Tree) → IsBuilt ss t u → EachNode (IsKnown ss) t → IsNumbered ss t u
-    built_numbered (named name place arguments) (v.node production values) b known = (first_of name production b.0 known.0, built_arguments arguments values b.1 known.1)
+    built_numbered (named name place arguments) (v.node production values) b known =
+        (first_of name production b.0 known.0, built_arguments arguments values b.1 known.1)
 
     built_argument : (a : Argument) (x : Value) → IsBuiltValue ss a x → EachInArgument (IsKnown ss) a → IsNumberedValue ss a x
     built_argument (plain c place) (v.plain d) b known = b
@@ -109,7 +110,8 @@ module _ (ss : List Signature) where
         ⊎ IsWrongChild ss arguments w.found.signature.children at
         → ⊥
     fault (inl h) = h.0 (sym (AllZip-long (IsOfKind ss) arguments w.found.signature.children zipped))
-    fault (inr c) = c.wrong (zip_both_at (IsOfKind ss) arguments w.found.signature.children c.index c.argument c.kind zipped c.there c.asked)
+    fault (inr c) =
+        c.wrong (zip_both_at (IsOfKind ss) arguments w.found.signature.children c.index c.argument c.kind zipped c.there c.asked)
 
   -- a known name isn't unknown
   pub known_not_unknown : (at : ℕ) (name : List ℕ) (place : ℕ) (arguments : List Argument) → HasFirst ss name

@@ -37,7 +37,8 @@ pub record FitsNode (signatures : List Signature) (name : List ℕ) (place : ℕ
 -- the tree is the term with each name replaced by the number of the first production of the name
 abbrev mutual
   pub IsNumbered : List Signature → Term → Tree → Type 0
-  IsNumbered signatures (named name place arguments) (v.node production values) = IsFirst signatures name production × AreNumbered signatures arguments values
+  IsNumbered signatures (named name place arguments) (v.node production values) =
+      IsFirst signatures name production × AreNumbered signatures arguments values
 
   pub IsNumberedValue : List Signature → Argument → Value → Type 0
   IsNumberedValue signatures (plain c place) (v.plain d) = c ≡ d

@@ -19,7 +19,8 @@ IsNumberOf signatures name number = IsFirst signatures name number ⊎ (HasNone 
 -- the tree is the term with each name replaced by a number that stands for it
 abbrev mutual
   pub IsBuilt : List Signature → Term → Tree → Type 0
-  IsBuilt signatures (named name place arguments) (v.node production values) = IsNumberOf signatures name production × AreBuilt signatures arguments values
+  IsBuilt signatures (named name place arguments) (v.node production values) =
+      IsNumberOf signatures name production × AreBuilt signatures arguments values
 
   pub IsBuiltValue : List Signature → Argument → v.Value → Type 0
   IsBuiltValue signatures (plain c place) (v.plain d) = c ≡ d
@@ -40,7 +41,8 @@ pub record IsStored (signatures : List Signature) (trees : List Tree) (argument 
 
 -- where the name has a first production, each argument that has a kind there is of that kind, and there are as many
 abbrev pub FitsIfKnown : List Signature → List ℕ → ℕ → List Argument → Type 0
-FitsIfKnown signatures name place arguments = (found : HasFirst signatures name) → AllZip (IsOfKind signatures) arguments found.signature.children
+FitsIfKnown signatures name place arguments =
+    (found : HasFirst signatures name) → AllZip (IsOfKind signatures) arguments found.signature.children
 
 -- the name has a first production
 abbrev pub IsKnown : List Signature → List ℕ → ℕ → List Argument → Type 0
@@ -48,8 +50,10 @@ IsKnown signatures name place arguments = HasFirst signatures name
 
 -- the least place of an unknown name among the nodes that were ended
 abbrev pub FindsUnknown : List Signature → List Event → Option ℕ → Type 0
-FindsUnknown signatures events found = FindsLeast (λ at. SomeEnded (IsUnknown signatures at) events) (EachEnded (IsKnown signatures) events) found
+FindsUnknown signatures events found =
+    FindsLeast (λ at. SomeEnded (IsUnknown signatures at) events) (EachEnded (IsKnown signatures) events) found
 
 -- the least place of a fault of number or kind among them
 abbrev pub FindsWrong : List Signature → List Event → Option ℕ → Type 0
-FindsWrong signatures events found = FindsLeast (λ at. SomeEnded (IsWrong signatures at) events) (EachEnded (FitsIfKnown signatures) events) found
+FindsWrong signatures events found =
+    FindsLeast (λ at. SomeEnded (IsWrong signatures at) events) (EachEnded (FitsIfKnown signatures) events) found

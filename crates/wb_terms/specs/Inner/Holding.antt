@@ -21,7 +21,8 @@ abbrev pub AreFrames : List Signature → Zipper → List Frame → Type 0
 AreFrames signatures (outside met) [] = Unit {0}
 AreFrames signatures (outside met) (f ∷ fs) = ⊥
 AreFrames signatures (inside name place met outer) [] = ⊥
-AreFrames signatures (inside name place met outer) (f ∷ fs) = IsNumberOf signatures name f.production × (f.at ≡ place) × (f.start ≡ length (all_met outer)) × AreFrames signatures outer fs
+AreFrames signatures (inside name place met outer) (f ∷ fs) =
+    IsNumberOf signatures name f.production × (f.at ≡ place) × (f.start ≡ length (all_met outer)) × AreFrames signatures outer fs
 
 -- the builder holds what was met
 pub record Holds (signatures : List Signature) (trees : List Tree) (events : List Event) (b : Builder) : Type 0 where
@@ -52,5 +53,6 @@ pub record AddsValue (value : Value) (at : ℕ) (b c : Builder) : Type 0 where
 abbrev pub IsFaultOf : List Signature → Term → TermRefusal → Type 0
 IsFaultOf signatures term (Bad place) = ⊥
 IsFaultOf signatures term (Unknown place) = IsLeast (λ at. SomeNode (IsUnknown signatures at) term) place
-IsFaultOf signatures term (WrongChild place) = EachNode (λ name at arguments. HasFirst signatures name) term × IsLeast (λ at. SomeNode (IsWrong signatures at) term) place
+IsFaultOf signatures term (WrongChild place) =
+    EachNode (λ name at arguments. HasFirst signatures name) term × IsLeast (λ at. SomeNode (IsWrong signatures at) term) place
 IsFaultOf signatures term (NoMemory e) = Unit {0}

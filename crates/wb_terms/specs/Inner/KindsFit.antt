@@ -13,11 +13,15 @@ pub record IsOfLeft (signatures : List Signature) (production nonterminal : ℕ)
 
 -- each of the first arguments, so many of them, is of the kind at its place, where one is asked for
 abbrev pub FirstFit : List Signature → ℕ → List Argument → List Kind → Type 0
-FirstFit signatures count arguments kinds = (index : ℕ) (argument : Argument) (kind : Kind) → index < count → slice_get arguments index ≡ Some argument → slice_get kinds index ≡ Some kind → IsOfKind signatures argument kind
+FirstFit signatures count arguments kinds =
+    (index : ℕ) (argument : Argument) (kind : Kind) → index < count → slice_get arguments index ≡ Some argument
+    → slice_get kinds index ≡ Some kind → IsOfKind signatures argument kind
 
 -- each argument is
 abbrev pub KindsFit : List Signature → List Argument → List Kind → Type 0
-KindsFit signatures arguments kinds = (index : ℕ) (argument : Argument) (kind : Kind) → slice_get arguments index ≡ Some argument → slice_get kinds index ≡ Some kind → IsOfKind signatures argument kind
+KindsFit signatures arguments kinds =
+    (index : ℕ) (argument : Argument) (kind : Kind) → slice_get arguments index ≡ Some argument → slice_get kinds index ≡ Some kind
+    → IsOfKind signatures argument kind
 
 -- a child of a wrong kind among the first, so many of them
 pub record IsWrongAmong (signatures : List Signature) (count : ℕ) (arguments : List Argument) (kinds : List Kind) (at : ℕ) : Type 0 where

@@ -19,7 +19,8 @@ children_text false signatures children = printed_others signatures children
 -- the text of what is to be printed, the first first: of each node the children that are left, and its end
 abbrev pub pending_text : List Signature → List Tree → List Pending → List ℕ
 pending_text signatures trees [] = []
-pending_text signatures trees (p ∷ ps) = children_text p.first signatures (values_in trees p.values.now) ++ 41 ∷ pending_text signatures trees ps
+pending_text signatures trees (p ∷ ps) =
+    children_text p.first signatures (values_in trees p.values.now) ++ 41 ∷ pending_text signatures trees ps
 
 -- how many steps it takes
 abbrev mutual

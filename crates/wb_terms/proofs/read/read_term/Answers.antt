@@ -6,10 +6,12 @@ use Rattle.wb_terms.proofs.ReadLemmas.{refusal_only}
 use Rattle.wb_terms.proofs.read.read_term.Goals as goal
 
 pub returns-in-Ok-clause-only : goal.returns-in-Ok-clause-only
-returns-in-Ok-clause-only c = λ answer is. one_answer c.args.signatures.now c.args.bytes.now answer (stands (tree_in c.add_term.new.store c.in-Ok.tree.0)) is c.in-Ok.ensures.ok
+returns-in-Ok-clause-only c =
+    λ answer is. one_answer c.args.signatures.now c.args.bytes.now answer (stands (tree_in c.add_term.new.store c.in-Ok.tree.0)) is c.in-Ok.ensures.ok
 
 pub returns-in-Err-clause-only : goal.returns-in-Err-clause-only
-returns-in-Err-clause-only c = λ answer is. refusal_only c.args.signatures.now c.args.bytes.now (answer_of c.in-Err.refusal) answer c.in-Err.ensures.refused is
+returns-in-Err-clause-only c =
+    λ answer is. refusal_only c.args.signatures.now c.args.bytes.now (answer_of c.in-Err.refusal) answer c.in-Err.ensures.refused is
 
 pub returns-in-Ok-clause-fits : goal.returns-in-Ok-clause-fits
 returns-in-Ok-clause-fits c =

@@ -4,7 +4,8 @@ use Rattle.wb_terms.proofs.EndLemmas.{popped, all_within, sizes, children_within
 use Rattle.wb_terms.proofs.builder.Builder.end.Goals as goal
 
 pub faults_with-self-requires-clause-within : goal.faults_with-self-requires-clause-within
-faults_with-self-requires-clause-within c = all_within c.args.signatures.now c.args.store.now c.requires.events c.args.self.now c.requires.holds
+faults_with-self-requires-clause-within c =
+    all_within c.args.signatures.now c.args.store.now c.requires.events c.args.self.now c.requires.holds
 
 pub faults_with-self-requires-clause-places : goal.faults_with-self-requires-clause-places
 faults_with-self-requires-clause-places c =

@@ -5,7 +5,8 @@ use Rattle.wb_terms.proofs.AnswerLemmas.{unknown_least, wrong_least, all_known, 
 use Rattle.wb_terms.proofs.builder.Builder.into_tree.Goals as goal
 
 pub returns-in-Some-clause-refused : goal.returns-in-Some-clause-refused
-returns-in-Some-clause-refused c = λ term h. unknown_least c.args.signatures.now c.args.store.now term c.args.self h c.in-Some.at c.in-Some.is
+returns-in-Some-clause-refused c =
+    λ term h. unknown_least c.args.signatures.now c.args.store.now term c.args.self h c.in-Some.at c.in-Some.is
 
 pub returns-in-Some-wrong-clause-refused : goal.returns-in-Some-wrong-clause-refused
 returns-in-Some-wrong-clause-refused c = λ term h. (
