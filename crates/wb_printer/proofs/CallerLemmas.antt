@@ -14,10 +14,10 @@ use Rattle.wb_syntax.specs.SpecText.{SpecView}
 use Rattle.wb_syntax.specs.Offsets.{unplaced, unplaced_form, unplaced_equation}
 use Rattle.wb_syntax.specs.Canonical as canonical
 use Rattle.wb_syntax.specs.Canonical.{line_of, format_line, IsItemLine, AreItemLines, IsCanonical}
-use Rattle.wb_printer.specs.ExpressionTokens.{expression_tokens}
-use Rattle.wb_printer.specs.PartTokens as tokens_of
-use Rattle.wb_printer.specs.ItemTokens.{form_tokens, AreItemTokens}
-use Rattle.wb_printer.specs.PartTokens.{AreEquationTokens, target_tokens}
+use Rattle.wb_printer.specs.Inner.ExpressionTokens.{expression_tokens}
+use Rattle.wb_printer.specs.Inner.PartTokens as tokens_of
+use Rattle.wb_printer.specs.Inner.ItemTokens.{form_tokens, AreItemTokens}
+use Rattle.wb_printer.specs.Inner.PartTokens.{AreEquationTokens, target_tokens}
 use Rattle.wb_printer.proofs.GrammarTokens.{tokens, of_item, of_header}
 
 -- equations that are the same but for places have the same tokens

@@ -14,9 +14,9 @@ use Rattle.wb_syntax.specs.ItemGrammar.{AreItems, IsSpecification}
 use Rattle.wb_syntax.specs.SpecText.{SpecView, IsReadAs, HasText}
 use Rattle.wb_syntax.specs.Canonical as canonical
 use Rattle.wb_syntax.specs.Canonical.{printed, follows_closely, leads_closely, line_of, AreItemLines}
-use Rattle.wb_printer.specs.Output.{Output, put, after, ended, after_lines}
-use Rattle.wb_printer.specs.ItemTokens as tokens_of
-use Rattle.wb_printer.specs.ItemTokens.{AreLinesOf}
+use Rattle.wb_printer.specs.Inner.Output.{Output, put, after, ended, after_lines}
+use Rattle.wb_printer.specs.Inner.ItemTokens as tokens_of
+use Rattle.wb_printer.specs.Inner.ItemTokens.{AreLinesOf}
 use Rattle.wb_printer.proofs.GrammarTokens.{tokens, of_item}
 
 -- the text behind a token on its line

@@ -31,10 +31,10 @@ use Rattle.wb_syntax.specs.ItemGrammar.{IsProduction, IsProductionRole, IsPlain,
 use Rattle.wb_syntax.specs.Equations.{equations_of}
 use Rattle.wb_syntax.proofs.CallerLemmas.{read_equations}
 use Rattle.wb_syntax.specs.SpecText.{IsReadForm, IsReadAs}
-use Rattle.wb_printer.specs.ExpressionTokens.{expression_tokens, arguments_tokens, further_tokens}
-use Rattle.wb_printer.specs.PartTokens as tokens_of
-use Rattle.wb_printer.specs.ItemTokens.{role_word, production_word, plain_tokens, production_tokens, form_tokens, AreItemTokens, header_tokens}
-use Rattle.wb_printer.specs.PartTokens.{kind_token, further_names, names_tokens, needs_tokens, optional_needs_tokens, children_tokens, target_tokens, AreEquationTokens, block_tokens}
+use Rattle.wb_printer.specs.Inner.ExpressionTokens.{expression_tokens, arguments_tokens, further_tokens}
+use Rattle.wb_printer.specs.Inner.PartTokens as tokens_of
+use Rattle.wb_printer.specs.Inner.ItemTokens.{role_word, production_word, plain_tokens, production_tokens, form_tokens, AreItemTokens, header_tokens}
+use Rattle.wb_printer.specs.Inner.PartTokens.{kind_token, further_names, names_tokens, needs_tokens, optional_needs_tokens, children_tokens, target_tokens, AreEquationTokens, block_tokens}
 
 -- the tokens of lexemes
 abbrev pub tokens : List Lexeme → List Token

@@ -10,10 +10,10 @@ use Rattle.wb_syntax.specs.declared.item.Item.{Item}
 use Rattle.wb_syntax.specs.declared.pattern.Pattern.{Pattern}
 use Rattle.wb_syntax.specs.Expression.{Expression}
 use Rattle.wb_expressions.specs.Expression.{nodes_of}
-use Rattle.wb_printer.specs.Output.{Output, put, after}
-use Rattle.wb_printer.specs.ExpressionTokens.{expression_tokens}
-use Rattle.wb_printer.specs.ItemTokens.{AreLinesOf, AreItemTokens}
-use Rattle.wb_printer.specs.PartTokens.{AreEquationTokens, target_tokens}
+use Rattle.wb_printer.specs.Inner.Output.{Output, put, after}
+use Rattle.wb_printer.specs.Inner.ExpressionTokens.{expression_tokens}
+use Rattle.wb_printer.specs.Inner.ItemTokens.{AreLinesOf, AreItemTokens}
+use Rattle.wb_printer.specs.Inner.PartTokens.{AreEquationTokens, target_tokens}
 use Rattle.wb_printer.proofs.OutputLemmas.{after_both}
 
 -- three parts

@@ -1,7 +1,7 @@
 -- Tokens added one behind the other.
 use Rattle.std.proofs.Common.{◌≡◌, ◌++◌, ◌∷◌, [], List, refl}
 use Rattle.wb_tokens.specs.declared.token.Token.{Token}
-use Rattle.wb_printer.specs.Output.{Output, put, after}
+use Rattle.wb_printer.specs.Inner.Output.{Output, put, after}
 
 -- some tokens and then others
 pub after_both : (output : Output) (a b : List Token) → after output (a ++ b) ≡ after (after output a) b

@@ -14,8 +14,8 @@ use Rattle.wb_syntax.specs.ItemGrammar as item
 use Rattle.wb_syntax.specs.ItemGrammar.{IsHeader, IsSpecification}
 use Rattle.wb_syntax.specs.SpecText.{SpecView, HasText}
 use Rattle.wb_syntax.specs.Canonical.{line_of, format_line, IsCanonical}
-use Rattle.wb_printer.specs.Output.{Output, after, ended, after_lines}
-use Rattle.wb_printer.specs.ItemTokens.{header_tokens}
+use Rattle.wb_printer.specs.Inner.Output.{Output, after, ended, after_lines}
+use Rattle.wb_printer.specs.Inner.ItemTokens.{header_tokens}
 use Rattle.wb_printer.proofs.GrammarTokens.{tokens, of_header}
 use Rattle.wb_printer.proofs.CanonicalLemmas.{text_lines, text_of, ended_line, ended_closely, after_all}
 

@@ -10,12 +10,12 @@ use Rattle.wb_syntax.specs.Expression.{Node}
 use Rattle.wb_expressions.specs.declared.node.Node.TheVariants as n
 use Rattle.wb_syntax.specs.Expression.{Expression, Expressions}
 use Rattle.wb_expressions.specs.Expression.{Int, Text, Truth, Label, Read, Lexeme, Top, Forward, Build, Call, If, none, more, size, size_of_all}
-use Rattle.wb_printer.specs.Output.{Output, put, after}
+use Rattle.wb_printer.specs.Inner.Output.{Output, put, after}
 use Rattle.wb_printer.proofs.OutputLemmas.{after_both}
-use Rattle.wb_printer.specs.ExpressionTokens.{expression_tokens, arguments_tokens, further_tokens}
+use Rattle.wb_printer.specs.Inner.ExpressionTokens.{expression_tokens, arguments_tokens, further_tokens}
 use Rattle.wb_expressions.specs.Places.{HasNode, Stands, AllStand}
 use Rattle.wb_expressions.proofs.NodeLemmas.{IsOfNode, of_node}
-use Rattle.wb_printer.specs.Walk.{Comes, Continues, left_tokens, separator, IsVisiting}
+use Rattle.wb_printer.specs.Inner.Walk.{Comes, Continues, left_tokens, separator, IsVisiting}
 use Rattle.wb_printer.specs.declared.expressions.Waiting.{Waiting}
 use Rattle.wb_printer.specs.declared.expressions.Waiting.TheVariants.{Whole, Then, Else}
 

@@ -1,5 +1,2 @@
-pub mod ExpressionTokens
-pub mod ItemTokens
-pub mod Output
-pub mod PartTokens
-pub mod Walk
+-- how a canonical text is put together
+pub mod Inner

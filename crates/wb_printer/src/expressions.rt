@@ -4,10 +4,10 @@ ghost use Rattle.std.specs.Prelude.{◌≡◌, [], ◌∷◌, List, ℕ, IfOk, O
 ghost use Rattle.wb_syntax.specs.Expression.{Node};
 ghost use Rattle.wb_syntax.specs.Expression.{Expression};
 ghost use Rattle.wb_expressions.specs.Expression.{nodes_of};
-ghost use Rattle.wb_printer.specs.Output.{put, after};
-ghost use Rattle.wb_printer.specs.ExpressionTokens.{truth_token, dotted, expression_tokens};
+ghost use Rattle.wb_printer.specs.Inner.Output.{put, after};
+ghost use Rattle.wb_printer.specs.Inner.ExpressionTokens.{truth_token, dotted, expression_tokens};
 ghost use Rattle.wb_expressions.specs.Places.{HasNode};
-ghost use Rattle.wb_printer.specs.Walk.{separator, Continues};
+ghost use Rattle.wb_printer.specs.Inner.Walk.{separator, Continues};
 ghost use Rattle.wb_printer.specs.declared.expressions.Waiting.TheVariants.{Whole, Arguments, Then};
 ghost use Rattle.wb_tokens.specs.declared.token.Token.TheVariants as t;
 ghost use Rattle.wb_tokens.specs.declared.word.Word.TheVariants as w;

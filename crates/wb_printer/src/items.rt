@@ -5,9 +5,9 @@ ghost use Rattle.wb_tokens.specs.declared.token.Token.{Token};
 ghost use Rattle.wb_tokens.specs.declared.token.Token.TheVariants as t;
 ghost use Rattle.wb_tokens.specs.declared.punctuation.Punctuation.TheVariants as p;
 ghost use Rattle.wb_tokens.specs.declared.word.Word.TheVariants as w;
-ghost use Rattle.wb_printer.specs.Output.{after};
-ghost use Rattle.wb_printer.specs.ItemTokens.{named, pair_tokens, pattern_tokens, attribute_tokens, role_word, production_word, plain_tokens, production_tokens, AreItemTokens};
-ghost use Rattle.wb_printer.specs.PartTokens.{needs_tokens, optional_needs_tokens, block_tokens, AreEquationTokens};
+ghost use Rattle.wb_printer.specs.Inner.Output.{after};
+ghost use Rattle.wb_printer.specs.Inner.ItemTokens.{named, pair_tokens, pattern_tokens, attribute_tokens, role_word, production_word, plain_tokens, production_tokens, AreItemTokens};
+ghost use Rattle.wb_printer.specs.Inner.PartTokens.{needs_tokens, optional_needs_tokens, block_tokens, AreEquationTokens};
 
 use crate::line::Line;
 use crate::parts::{write_block, write_children, write_kind, write_needs};

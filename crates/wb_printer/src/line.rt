@@ -4,7 +4,7 @@ ghost use Rattle.std.specs.Prelude.{◌≡◌, ◌||◌, [], ◌∷◌, ◌++◌
 ghost use Rattle.wb_tokens.specs.declared.token.Token.TheVariants as t;
 ghost use Rattle.wb_tokens.specs.declared.punctuation.Punctuation.{Punctuation};
 ghost use Rattle.wb_syntax.specs.Canonical.{follows_closely, leads_closely};
-ghost use Rattle.wb_printer.specs.Output.{Output, put, ended};
+ghost use Rattle.wb_printer.specs.Inner.Output.{Output, put, ended};
 
 use std::alloc::{AllocError, Global};
 use std::marker::Model;
@@ -19,7 +19,7 @@ pub(crate) struct Line {
 }
 
 impl Model for Line {
-    ghost use Rattle.wb_printer.specs.Output.{Output};
+    ghost use Rattle.wb_printer.specs.Inner.Output.{Output};
 
     ghost Value = { Output };
 
@@ -50,7 +50,7 @@ fn is_close_behind(mark: Punctuation) -> bool
     )
 }
 
-#[tactic(auto, unfolding(crate::specs::Output::put, crate::specs::Output::ended))]
+#[tactic(auto, unfolding(crate::specs::Inner::Output::put, crate::specs::Inner::Output::ended))]
 impl Line {
     /// The first line of a text of these bytes, with nothing on it. Takes no memory.
     pub fn new(text: Vec<u8>) -> Line

@@ -6,9 +6,9 @@ ghost use Rattle.wb_expressions.specs.Expression.{nodes_of};
 ghost use Rattle.wb_tokens.specs.declared.token.Token.{Token};
 ghost use Rattle.wb_tokens.specs.declared.token.Token.TheVariants as t;
 ghost use Rattle.wb_tokens.specs.declared.punctuation.Punctuation.TheVariants as p;
-ghost use Rattle.wb_printer.specs.Output.{put, after};
-ghost use Rattle.wb_printer.specs.ExpressionTokens.{expression_tokens};
-ghost use Rattle.wb_printer.specs.PartTokens.{kind_token, further_names, names_tokens, needs_tokens, children_tokens, target_tokens, AreEquationTokens, block_tokens};
+ghost use Rattle.wb_printer.specs.Inner.Output.{put, after};
+ghost use Rattle.wb_printer.specs.Inner.ExpressionTokens.{expression_tokens};
+ghost use Rattle.wb_printer.specs.Inner.PartTokens.{kind_token, further_names, names_tokens, needs_tokens, children_tokens, target_tokens, AreEquationTokens, block_tokens};
 
 use crate::expressions::write_expression;
 use crate::line::Line;

@@ -5,8 +5,8 @@ ghost use Rattle.wb_tokens.specs.declared.token.Token.{Token};
 ghost use Rattle.wb_syntax.specs.SpecText.{SpecView};
 ghost use Rattle.wb_syntax.specs.Offsets.{AreSameButPlaces, ReadsBack};
 ghost use Rattle.wb_syntax.specs.Canonical.{IsCanonical};
-ghost use Rattle.wb_printer.specs.Output.{after, after_lines};
-ghost use Rattle.wb_printer.specs.ItemTokens.{header_tokens, AreLinesOf};
+ghost use Rattle.wb_printer.specs.Inner.Output.{after, after_lines};
+ghost use Rattle.wb_printer.specs.Inner.ItemTokens.{header_tokens, AreLinesOf};
 
 use crate::items::{write_item, write_named, write_pair};
 use crate::line::Line;

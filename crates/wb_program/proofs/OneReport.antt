@@ -16,7 +16,7 @@ use Rattle.wb_program.specs.Lines.{usage_line, refused_line, unknown_line, fault
 use Rattle.wb_syntax.specs.SpecText.{SpecView}
 use Rattle.wb_syntax.specs.Canonical.{IsCanonical}
 use Rattle.wb_reader.specs.Refusals.{HasCause, IsAcceptedText}
-use Rattle.wb_reader.specs.Patterns.{IsNoMemory}
+use Rattle.wb_reader.specs.OneAnswer.{IsNoMemory}
 use Rattle.wb_reader.proofs.Excluding.{none_refused, one_refusal as one_refusal_of}
 use Rattle.wb_reader.proofs.OneText.{one_text}
 use Rattle.wb_printer.proofs.CallerLemmas.{one_canonical}

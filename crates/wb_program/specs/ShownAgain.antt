@@ -6,7 +6,7 @@ use Rattle.wb_syntax.specs.Canonical.{IsCanonical}
 use Rattle.wb_reader.specs.declared.refusal.SpecRefusal.{SpecRefusal}
 use Rattle.wb_reader.specs.declared.refusal.SpecRefusal.TheVariants.{TooLong}
 use Rattle.wb_reader.specs.Refusals.{HasCause, IsAcceptedText, IsShort}
-use Rattle.wb_reader.specs.Patterns.{IsNoMemory}
+use Rattle.wb_reader.specs.OneAnswer.{IsNoMemory}
 
 -- where it isn't too long, the text is taken as the same specification but for places, and is the one canonical text of that; else it is refused for its length alone
 pub record IsTakenAgain (spec : SpecView) (text : List ℕ) : Type 0 where

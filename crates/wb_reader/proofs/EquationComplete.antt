@@ -18,8 +18,8 @@ use Rattle.wb_syntax.specs.PartGrammar.{IsTarget, AreEquations, IsBlock}
 use Rattle.wb_syntax.specs.ItemGrammar.{IsProduction, whole}
 use Rattle.wb_reader.specs.declared.part.Part.{Part}
 use Rattle.wb_reader.specs.declared.builder.SpecBuilder.{SpecBuilder}
-use Rattle.wb_reader.specs.Rights.{spec_rights}
-use Rattle.wb_reader.specs.Builder.{with_name}
+use Rattle.wb_reader.specs.Inner.Rights.{spec_rights}
+use Rattle.wb_reader.specs.Inner.Builder.{with_name}
 use Rattle.wb_reader.proofs.Taking.{Row, Makes}
 use Rattle.wb_reader.proofs.Giving.{word_given, mark_given, name_given}
 use Rattle.wb_reader.proofs.PartComplete.{children_given}

@@ -21,7 +21,7 @@ use Rattle.wb_reader.specs.declared.part.Action.{Action}
 use Rattle.wb_reader.specs.declared.part.ItemAction.{ItemAction}
 use Rattle.wb_reader.specs.declared.part.PartAction.{PartAction}
 use Rattle.wb_reader.specs.declared.builder.SpecBuilder.{SpecBuilder}
-use Rattle.wb_reader.specs.Rights.{spec_rights}
+use Rattle.wb_reader.specs.Inner.Rights.{spec_rights}
 use Rattle.wb_reader.proofs.Taking.{Row, Makes, Split, OneOf, chosen, acted, word_taken, mark_taken, name_taken}
 use Rattle.wb_reader.proofs.Many.{Element, many}
 use Rattle.wb_reader.proofs.Joins.{joined_one, joined}

@@ -16,7 +16,8 @@ use Rattle.wb_syntax.specs.SpecText.{SpecView, IsWrittenText, IsSpecText, IsRead
 use Rattle.wb_reader.specs.declared.refusal.SpecRefusal.{SpecRefusal}
 use Rattle.wb_reader.specs.declared.refusal.SpecRefusal.TheVariants.{TooLong, WrongFormat, Syntax, BadRegex, MatchesEmpty, NoMemory}
 use Rattle.wb_reader.specs.Refusals.{IsShort, IsOtherFormat, IsSyntaxFault, IsTaken, lexical_item, HasPattern, IsBadRegex, IsEmptyPattern, HasCause, IsAcceptedText}
-use Rattle.wb_reader.specs.Patterns.{IsNoMemory, OnForm, OnItems}
+use Rattle.wb_reader.specs.Inner.Patterns.{OnForm, OnItems}
+use Rattle.wb_reader.specs.OneAnswer.{IsNoMemory}
 use Rattle.wb_reader.specs.OneAnswer.{HasOneAnswer}
 use Rattle.wb_reader.proofs.FormatLemmas.{not_written}
 use Rattle.wb_reader.proofs.PatternLemmas.{all_taken}

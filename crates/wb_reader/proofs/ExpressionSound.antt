@@ -16,8 +16,8 @@ use Rattle.wb_reader.specs.declared.part.Part.{Part}
 use Rattle.wb_reader.specs.declared.part.Action.{Action}
 use Rattle.wb_reader.specs.declared.part.ExpressionAction.{ExpressionAction}
 use Rattle.wb_reader.specs.declared.builder.SpecBuilder.{SpecBuilder}
-use Rattle.wb_reader.specs.Rights.{spec_rights}
-use Rattle.wb_reader.specs.Builder.{with_name}
+use Rattle.wb_reader.specs.Inner.Rights.{spec_rights}
+use Rattle.wb_reader.specs.Inner.Builder.{with_name}
 use Rattle.wb_reader.proofs.Taking.{Row, Makes, Split, OneOf, chosen, acted, word_taken, mark_taken, name_taken, string_taken}
 use Rattle.wb_reader.proofs.Joins.{joined_one, joined}
 use Rattle.wb_expressions.proofs.AppendLemmas.{behind_len, all_behind_len, more_nodes, more_places, if_nodes, if_root}

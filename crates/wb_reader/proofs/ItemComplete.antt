@@ -22,7 +22,7 @@ use Rattle.wb_syntax.specs.ItemGrammar as grammar
 use Rattle.wb_syntax.specs.ItemGrammar.{IsPlain, IsItem, AreItems, IsHeader, IsSpecification, IsRole, IsProduction, IsProductionRole}
 use Rattle.wb_reader.specs.declared.part.Part.{Part}
 use Rattle.wb_reader.specs.declared.builder.SpecBuilder.{SpecBuilder}
-use Rattle.wb_reader.specs.Rights.{spec_rights}
+use Rattle.wb_reader.specs.Inner.Rights.{spec_rights}
 use Rattle.wb_reader.proofs.Taking.{Row, Makes}
 use Rattle.wb_reader.proofs.Giving.{word_given, mark_given, name_given, regex_given, integer_given}
 use Rattle.wb_reader.proofs.PartComplete.{kind_given, needs_given, optional_given}

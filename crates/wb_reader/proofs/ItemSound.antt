@@ -24,8 +24,8 @@ use Rattle.wb_reader.specs.declared.part.Part.{Part}
 use Rattle.wb_reader.specs.declared.part.Action.{Action}
 use Rattle.wb_reader.specs.declared.part.ItemAction.{ItemAction}
 use Rattle.wb_reader.specs.declared.builder.SpecBuilder.{SpecBuilder}
-use Rattle.wb_reader.specs.Rights.{spec_rights}
-use Rattle.wb_reader.specs.Builder.{with_name, with_place}
+use Rattle.wb_reader.specs.Inner.Rights.{spec_rights}
+use Rattle.wb_reader.specs.Inner.Builder.{with_name, with_place}
 use Rattle.wb_reader.proofs.Taking.{Row, Makes, Split, OneOf, chosen, acted, word_taken, mark_taken, name_taken, regex_taken, one_taken}
 use Rattle.wb_reader.proofs.Many.{Element, many}
 use Rattle.wb_reader.proofs.Joins.{joined_one, joined}

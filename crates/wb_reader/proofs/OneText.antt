@@ -13,10 +13,10 @@ use Rattle.wb_tokens.specs.declared.kind.TokenKind.TheVariants.{End}
 use Rattle.wb_tokens.specs.SameKind.{same_kind}
 use Rattle.wb_tokens.proofs.KindLaws.{kinds_same}
 use Rattle.wb_reader.specs.declared.builder.SpecBuilder.{SpecBuilder}
-use Rattle.wb_reader.specs.Entries.{spec_entries}
-use Rattle.wb_reader.specs.Laws.{spec_decided, spec_ends}
-use Rattle.wb_reader.specs.Builder.{empty, written_of}
-use Rattle.wb_reader.specs.Table.{spec_grammar}
+use Rattle.wb_reader.specs.Inner.Entries.{spec_entries}
+use Rattle.wb_reader.specs.Inner.Laws.{spec_decided, spec_ends}
+use Rattle.wb_reader.specs.Inner.Builder.{empty, written_of}
+use Rattle.wb_reader.specs.Inner.Table.{spec_grammar}
 use Rattle.wb_reader.specs.Refusals.{IsSyntaxFault}
 use Rattle.wb_reader.proofs.ItemSound.{finished}
 use Rattle.wb_reader.proofs.TextLemmas.{whole_written, table_fault, written_finished_of}

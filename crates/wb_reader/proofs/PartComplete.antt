@@ -12,8 +12,8 @@ use Rattle.wb_syntax.specs.PartGrammar as grammar
 use Rattle.wb_syntax.specs.PartGrammar.{IsKind, AreFurtherNames, AreNames, AreNeeds, AreOptionalNeeds, AreChildren}
 use Rattle.wb_reader.specs.declared.part.Part.{Part}
 use Rattle.wb_reader.specs.declared.builder.SpecBuilder.{SpecBuilder}
-use Rattle.wb_reader.specs.Rights.{spec_rights}
-use Rattle.wb_reader.specs.BuildParts.{with_kind}
+use Rattle.wb_reader.specs.Inner.Rights.{spec_rights}
+use Rattle.wb_reader.specs.Inner.BuildParts.{with_kind}
 use Rattle.wb_reader.proofs.Taking.{Row, Makes}
 use Rattle.wb_reader.proofs.Giving.{word_given, mark_given, name_given}
 

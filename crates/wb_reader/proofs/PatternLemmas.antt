@@ -30,7 +30,7 @@ use Rattle.wb_syntax.specs.SpecText.{SpecView, IsWrittenText, IsReadAs, IsReadFo
 use Rattle.wb_reader.specs.declared.refusal.SpecRefusal.{SpecRefusal}
 use Rattle.wb_reader.specs.declared.refusal.SpecRefusal.TheVariants.{TooLong, WrongFormat, Syntax, BadRegex, MatchesEmpty, NoMemory}
 use Rattle.wb_reader.specs.Refusals.{IsShort, IsTaken, IsTakenForm}
-use Rattle.wb_reader.specs.Patterns.{IsPlaced, IsPlacedForm, OnForm, OnItem, OnItems}
+use Rattle.wb_reader.specs.Inner.Patterns.{IsPlaced, IsPlacedForm, OnForm, OnItem, OnItems}
 
 -- items that are read are taken
 form_taken : (form : ItemForm WrittenPattern) (read : ItemForm Pattern) → IsReadForm form read → IsTakenForm form

@@ -13,9 +13,9 @@ use Rattle.wb_reader.specs.declared.part.Action.{Action}
 use Rattle.wb_reader.specs.declared.builder.SpecBuilder.{SpecBuilder}
 use Rattle.wb_tokens.specs.Kinds.{kind_of}
 use Rattle.wb_tokens.proofs.KindLaws.{word_by_kind, mark_by_kind, name_by_kind, number_by_kind, one_by_kind, string_by_kind, regex_by_kind}
-use Rattle.wb_reader.specs.Rights.{spec_rights}
-use Rattle.wb_reader.specs.Builder.{with_name, with_integer, with_text, with_pattern}
-use Rattle.wb_reader.specs.Table.{spec_grammar, shift, word_shift, act}
+use Rattle.wb_reader.specs.Inner.Rights.{spec_rights}
+use Rattle.wb_reader.specs.Inner.Builder.{with_name, with_integer, with_text, with_pattern}
+use Rattle.wb_reader.specs.Inner.Table.{spec_grammar, shift, word_shift, act}
 
 -- a row of symbols
 abbrev pub Row : Type 0

@@ -1,11 +1,6 @@
-pub mod BuildExpressions
-pub mod BuildItems
-pub mod BuildParts
-pub mod Builder
-pub mod Entries
-pub mod Laws
-pub mod OneAnswer
-pub mod Patterns
+-- why bytes are no specification that is taken, and which are
 pub mod Refusals
-pub mod Rights
-pub mod Table
+-- that bytes have at most one answer
+pub mod OneAnswer
+-- the table, what it builds, and why items aren't taken
+pub mod Inner

@@ -1,9 +1,18 @@
--- That bytes have one answer as a specification.
+-- That bytes have at most one answer as a specification.
 use Rattle.std.specs.Prelude.{◌≡◌, ℕ, List}
 use Rattle.wb_syntax.specs.SpecText.{SpecView}
 use Rattle.wb_reader.specs.declared.refusal.SpecRefusal.{SpecRefusal}
 use Rattle.wb_reader.specs.Refusals.{HasCause, IsAcceptedText}
-use Rattle.wb_reader.specs.Patterns.{IsNoMemory}
+use Rattle.wb_reader.specs.declared.refusal.SpecRefusal.TheVariants.{TooLong, WrongFormat, Syntax, BadRegex, MatchesEmpty, NoMemory}
+
+-- the refusal is want of memory
+abbrev pub IsNoMemory : SpecRefusal → Type 0
+IsNoMemory TooLong = ⊥
+IsNoMemory WrongFormat = ⊥
+IsNoMemory (Syntax place) = ⊥
+IsNoMemory (BadRegex place) = ⊥
+IsNoMemory (MatchesEmpty name) = ⊥
+IsNoMemory (NoMemory error) = Unit {0}
 
 -- want of memory aside, no refusal has a cause where the bytes are taken, and two that have one are the same
 abbrev pub HasOneAnswer : Type 0

@@ -121,12 +121,3 @@ HasCause bytes (NoMemory error) = Unit {0}
 -- the bytes are a specification that is taken
 abbrev pub IsAcceptedText : List ℕ → SpecView → Type 0
 IsAcceptedText bytes spec = IsShort bytes × IsSpecText bytes spec
-
--- of the refusals only that of what can't follow, and want of memory
-abbrev pub OnSyntax : List ℕ → SpecRefusal → Type 0
-OnSyntax bytes TooLong = ⊥
-OnSyntax bytes WrongFormat = ⊥
-OnSyntax bytes (Syntax at) = IsSyntaxFault bytes at
-OnSyntax bytes (BadRegex at) = ⊥
-OnSyntax bytes (MatchesEmpty name) = ⊥
-OnSyntax bytes (NoMemory error) = Unit {0}

@@ -1,10 +1,10 @@
 //! What tokens and actions do to the parts of a specification.
 
 ghost use Rattle.std.specs.Prelude.{◌≡◌, OnOk};
-ghost use Rattle.wb_reader.specs.BuildItems.{item_act};
-ghost use Rattle.wb_reader.specs.BuildParts.{part_act};
-ghost use Rattle.wb_reader.specs.BuildExpressions.{expression_act};
-ghost use Rattle.wb_reader.specs.Table.{word_shift, act};
+ghost use Rattle.wb_reader.specs.Inner.BuildItems.{item_act};
+ghost use Rattle.wb_reader.specs.Inner.BuildParts.{part_act};
+ghost use Rattle.wb_reader.specs.Inner.BuildExpressions.{expression_act};
+ghost use Rattle.wb_reader.specs.Inner.Table.{word_shift, act};
 
 use crate::builder::SpecBuilder;
 use crate::part::{Action, ExpressionAction, ItemAction, PartAction};

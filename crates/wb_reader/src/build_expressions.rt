@@ -2,7 +2,7 @@
 
 ghost use Rattle.std.specs.Prelude.{◌≡◌, OnOk};
 ghost use Rattle.wb_expressions.specs.declared.node.Node.TheVariants as n;
-ghost use Rattle.wb_reader.specs.BuildExpressions.{with_node, with_number, with_string, with_label, with_read, with_placed_read, with_arguments, with_argument, with_call, with_if};
+ghost use Rattle.wb_reader.specs.Inner.BuildExpressions.{with_node, with_number, with_string, with_label, with_read, with_placed_read, with_arguments, with_argument, with_call, with_if};
 
 use crate::builder::SpecBuilder;
 use std::alloc::{AllocError, Global};

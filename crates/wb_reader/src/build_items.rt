@@ -5,7 +5,7 @@
 ghost use Rattle.std.specs.Prelude.{◌≡◌, OnOk};
 ghost use Rattle.wb_syntax.specs.declared.item.ItemForm.TheVariants as f;
 ghost use Rattle.wb_syntax.specs.declared.item.PlainForm.TheVariants as i;
-ghost use Rattle.wb_reader.specs.BuildItems.{format_of, with_begin, with_host, with_extension, with_item, with_named, with_pair, with_role, with_attribute, with_occurs, with_forward_on, with_children, with_production, with_production_item, with_aspect};
+ghost use Rattle.wb_reader.specs.Inner.BuildItems.{format_of, with_begin, with_host, with_extension, with_item, with_named, with_pair, with_role, with_attribute, with_occurs, with_forward_on, with_children, with_production, with_production_item, with_aspect};
 
 use crate::builder::SpecBuilder;
 use std::alloc::{AllocError, Global};

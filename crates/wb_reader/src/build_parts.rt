@@ -3,7 +3,7 @@
 
 ghost use Rattle.std.specs.Prelude.{◌≡◌, OnOk};
 ghost use Rattle.wb_syntax.specs.declared.expression.Target.TheVariants as g;
-ghost use Rattle.wb_reader.specs.BuildParts.{with_kind, with_named_kind, with_no_needs, with_needs, with_names, with_listed, with_child, with_equations, with_target, with_label_target, with_local_target, with_forwards_to, with_nodes, with_equation};
+ghost use Rattle.wb_reader.specs.Inner.BuildParts.{with_kind, with_named_kind, with_no_needs, with_needs, with_names, with_listed, with_child, with_equations, with_target, with_label_target, with_local_target, with_forwards_to, with_nodes, with_equation};
 
 use crate::builder::{PlacedTarget, SpecBuilder};
 use std::alloc::{AllocError, Global};

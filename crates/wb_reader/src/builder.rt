@@ -1,7 +1,7 @@
 //! What is read of a specification so far: whole items, and on stacks what an action will put together.
 
 ghost use Rattle.std.specs.Prelude.{◌≡◌, OnOk};
-ghost use Rattle.wb_reader.specs.Builder.{empty, written_of, with_name, with_place, with_integer, with_text, with_pattern};
+ghost use Rattle.wb_reader.specs.Inner.Builder.{empty, written_of, with_name, with_place, with_integer, with_text, with_pattern};
 
 use std::alloc::{AllocError, Global};
 use wb_base::{Bytes, Sequence};

@@ -3,7 +3,7 @@
 ghost use Rattle.std.specs.Prelude.{All, IfOk, IfErr};
 ghost use Rattle.std.specs.List.{AllZip};
 ghost use Rattle.wb_syntax.specs.SpecText.{IsReadForm, IsReadAs};
-ghost use Rattle.wb_reader.specs.Patterns.{IsPlacedForm, IsPlaced, OnForm, OnItem, OnItems};
+ghost use Rattle.wb_reader.specs.Inner.Patterns.{IsPlacedForm, IsPlaced, OnForm, OnItem, OnItems};
 
 use crate::refusal::SpecRefusal;
 use std::alloc::Global;

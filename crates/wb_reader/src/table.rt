@@ -1,9 +1,9 @@
 //! How a specification is read: its tokens, its rules, and what each makes of its parts.
 
 ghost use Rattle.std.specs.Prelude.{◌≡◌, OnOk};
-ghost use Rattle.wb_reader.specs.Entries.{spec_entries};
-ghost use Rattle.wb_reader.specs.Table.{spec_grammar, word_shift, act};
-ghost use Rattle.wb_reader.specs.Laws.{spec_decided, spec_ends};
+ghost use Rattle.wb_reader.specs.Inner.Entries.{spec_entries};
+ghost use Rattle.wb_reader.specs.Inner.Table.{spec_grammar, word_shift, act};
+ghost use Rattle.wb_reader.specs.Inner.Laws.{spec_decided, spec_ends};
 ghost use Rattle.wb_tokens.proofs.KindLaws.{kinds_same, kinds_sampled};
 ghost use Rattle.wb_tokens.specs.NextToken.{IsNextIn};
 ghost use Rattle.wb_tokens.proofs.PlacedLaws.{one_next, advances};
@@ -69,7 +69,7 @@ impl Table for SpecTable {
         token.kind()
     }
 
-    #[tactic(auto, unfolding(crate::specs::Rights::spec_rights, crate::specs::Entries::spec_entries))]
+    #[tactic(auto, unfolding(crate::specs::Inner::Rights::spec_rights, crate::specs::Inner::Entries::spec_entries))]
     fn rules(&self, part: Part) -> &[Rule<'_, TokenKind, Part, Action>] {
         match part {
             Part::File => &FILE,

@@ -2,7 +2,7 @@
 
 ghost use Rattle.std.specs.Prelude.{◌≡◌, IfOk, IfErr};
 ghost use Rattle.wb_syntax.specs.SpecText.{IsWrittenText};
-ghost use Rattle.wb_reader.specs.Refusals.{OnSyntax};
+ghost use Rattle.wb_reader.specs.Inner.Patterns.{OnSyntax};
 
 use crate::builder::SpecBuilder;
 use crate::refusal::SpecRefusal;

@@ -1,5 +1,5 @@
 use Rattle.std.proofs.Common.{◌∷◌, List, [], length, sym, subst, ap, arith}
-use Rattle.wb_printer.specs.Walk.{Continues}
+use Rattle.wb_printer.specs.Inner.Walk.{Continues}
 use Rattle.wb_printer.specs.declared.expressions.Waiting.{Waiting}
 use Rattle.wb_printer.specs.declared.expressions.Waiting.TheVariants.{Whole}
 use Rattle.wb_printer.proofs.WalkLemmas.{continued}

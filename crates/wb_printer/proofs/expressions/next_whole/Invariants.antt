@@ -1,6 +1,6 @@
 use Rattle.std.proofs.Common.{List, length}
 use Rattle.wb_syntax.specs.Expression.{Node}
-use Rattle.wb_printer.specs.Walk.{Continues}
+use Rattle.wb_printer.specs.Inner.Walk.{Continues}
 use Rattle.wb_printer.proofs.expressions.next_whole.Given as goal
 
 abbrev pub invariant-waiting : goal.invariant-waiting

@@ -1,7 +1,7 @@
 use Rattle.std.proofs.Common.{◌≡◌, ◌∷◌, List, sym, subst}
 use Rattle.std.specs.Prelude.{IfOk, MatchOption}
 use Rattle.wb_syntax.specs.Expression.{Node}
-use Rattle.wb_printer.specs.Walk.{Continues}
+use Rattle.wb_printer.specs.Inner.Walk.{Continues}
 use Rattle.wb_printer.specs.declared.expressions.Waiting.{Waiting}
 use Rattle.wb_printer.specs.declared.expressions.Waiting.TheVariants.{Whole, Then}
 use Rattle.wb_printer.proofs.WalkLemmas.{same, then_begun, else_begun}

@@ -7,8 +7,8 @@ use Rattle.wb_tokens.specs.declared.punctuation.Punctuation.TheVariants as p
 use Rattle.wb_expressions.specs.declared.node.Node.TheVariants as n
 use Rattle.wb_expressions.specs.Expression.{Int, Text, Truth, Label, Read, Lexeme, Top, Forward}
 use Rattle.wb_tokens.specs.declared.word.Word.TheVariants as w
-use Rattle.wb_printer.specs.ExpressionTokens.{dotted}
-use Rattle.wb_printer.specs.Output.{Output, put, after}
+use Rattle.wb_printer.specs.Inner.ExpressionTokens.{dotted}
+use Rattle.wb_printer.specs.Inner.Output.{Output, put, after}
 use Rattle.wb_expressions.specs.Places.{AllStand}
 use Rattle.wb_printer.proofs.WalkLemmas.{leaf_of, build_put, call_put, if_put}
 use Rattle.wb_printer.proofs.expressions.visit.Goals as goal

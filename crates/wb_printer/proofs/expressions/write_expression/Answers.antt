@@ -1,6 +1,6 @@
 use Rattle.wb_expressions.proofs.NodeLemmas.{has_node}
 use Rattle.std.proofs.Common.{◌-◌, List, length, sym, subst, arith}
-use Rattle.wb_printer.specs.Walk.{IsVisiting}
+use Rattle.wb_printer.specs.Inner.Walk.{IsVisiting}
 use Rattle.wb_printer.specs.declared.expressions.Waiting.{Waiting}
 use Rattle.wb_expressions.proofs.PlaceLemmas.{whole_stands, size_some}
 use Rattle.wb_printer.proofs.WalkLemmas.{visit_first, visit_within, visit_next, visit_last}

@@ -3,8 +3,8 @@ use Rattle.std.proofs.lemmas.Result.{on_ok_weaker}
 use Rattle.wb_tokens.specs.declared.token.Token.TheVariants as t
 use Rattle.wb_tokens.specs.declared.word.Word.TheVariants as w
 use Rattle.wb_tokens.specs.declared.punctuation.Punctuation.TheVariants as p
-use Rattle.wb_printer.specs.Output.{Output, put}
-use Rattle.wb_printer.specs.PartTokens.{needs_tokens}
+use Rattle.wb_printer.specs.Inner.Output.{Output, put}
+use Rattle.wb_printer.specs.Inner.PartTokens.{needs_tokens}
 use Rattle.wb_printer.proofs.ItemLemmas.{in_turn}
 use Rattle.wb_printer.proofs.items.write_forward_on.Goals as goal
 

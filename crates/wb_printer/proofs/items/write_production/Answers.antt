@@ -2,9 +2,9 @@ use Rattle.std.proofs.Common.{◌≡◌, ◌∷◌, [], List, sym, subst, rules}
 use Rattle.std.proofs.lemmas.Result.{on_ok_weaker}
 use Rattle.wb_tokens.specs.declared.token.Token.TheVariants as t
 use Rattle.wb_tokens.specs.declared.punctuation.Punctuation.TheVariants as p
-use Rattle.wb_printer.specs.Output.{after}
+use Rattle.wb_printer.specs.Inner.Output.{after}
 use Rattle.wb_syntax.specs.declared.expression.Equation.{Equation}
-use Rattle.wb_printer.specs.PartTokens.{children_tokens, block_tokens, AreEquationTokens}
+use Rattle.wb_printer.specs.Inner.PartTokens.{children_tokens, block_tokens, AreEquationTokens}
 use Rattle.wb_printer.proofs.ItemLemmas.{in_turn}
 use Rattle.wb_printer.proofs.items.write_production.Goals as goal
 

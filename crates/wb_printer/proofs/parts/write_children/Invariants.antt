@@ -1,6 +1,6 @@
 use Rattle.std.proofs.Common.{◌≡◌, drop}
-use Rattle.wb_printer.specs.Output.{after}
-use Rattle.wb_printer.specs.PartTokens.{children_tokens}
+use Rattle.wb_printer.specs.Inner.Output.{after}
+use Rattle.wb_printer.specs.Inner.PartTokens.{children_tokens}
 use Rattle.wb_printer.proofs.parts.write_children.Given as goal
 
 abbrev pub invariant-children : goal.invariant-children

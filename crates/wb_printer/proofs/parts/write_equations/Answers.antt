@@ -1,7 +1,7 @@
 use Rattle.std.proofs.Common.{◌∙◌, ap, sym}
-use Rattle.wb_printer.specs.Output.{after}
-use Rattle.wb_printer.specs.PartTokens.{target_tokens}
-use Rattle.wb_printer.specs.ExpressionTokens.{expression_tokens}
+use Rattle.wb_printer.specs.Inner.Output.{after}
+use Rattle.wb_printer.specs.Inner.PartTokens.{target_tokens}
+use Rattle.wb_printer.specs.Inner.ExpressionTokens.{expression_tokens}
 use Rattle.wb_printer.proofs.ItemLemmas.{equation_at, equation_after, no_equation}
 use Rattle.wb_printer.proofs.parts.write_equations.Goals as goal
 

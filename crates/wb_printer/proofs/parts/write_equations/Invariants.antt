@@ -1,7 +1,7 @@
 use Rattle.std.proofs.Common.{◌≡◌, List, drop}
 use Rattle.wb_tokens.specs.declared.token.Token.{Token}
-use Rattle.wb_printer.specs.Output.{after}
-use Rattle.wb_printer.specs.PartTokens.{AreEquationTokens}
+use Rattle.wb_printer.specs.Inner.Output.{after}
+use Rattle.wb_printer.specs.Inner.PartTokens.{AreEquationTokens}
 use Rattle.wb_printer.proofs.parts.write_equations.Given as goal
 
 abbrev pub invariant-equations : goal.invariant-equations

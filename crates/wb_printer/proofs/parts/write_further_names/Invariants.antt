@@ -1,6 +1,6 @@
 use Rattle.std.proofs.Common.{◌≡◌, drop}
-use Rattle.wb_printer.specs.Output.{after}
-use Rattle.wb_printer.specs.PartTokens.{further_names}
+use Rattle.wb_printer.specs.Inner.Output.{after}
+use Rattle.wb_printer.specs.Inner.PartTokens.{further_names}
 use Rattle.wb_printer.proofs.parts.write_further_names.Given as goal
 
 abbrev pub invariant-names : goal.invariant-names

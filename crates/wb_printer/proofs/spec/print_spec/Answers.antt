@@ -5,8 +5,8 @@ use Rattle.wb_tokens.specs.declared.punctuation.Punctuation.TheVariants as p
 use Rattle.wb_syntax.specs.declared.item.Item.{Item}
 use Rattle.wb_syntax.specs.declared.pattern.Pattern.{Pattern}
 use Rattle.wb_syntax.specs.Canonical.{IsCanonical}
-use Rattle.wb_printer.specs.Output.{Output, put, after, ended}
-use Rattle.wb_printer.specs.ItemTokens.{AreLinesOf, header_tokens}
+use Rattle.wb_printer.specs.Inner.Output.{Output, put, after, ended}
+use Rattle.wb_printer.specs.Inner.ItemTokens.{AreLinesOf, header_tokens}
 use Rattle.wb_printer.proofs.CanonicalLemmas.{text_lines}
 use Rattle.wb_printer.proofs.ReadsLemmas.{reads_back, canonical_again}
 use Rattle.wb_printer.proofs.SpecLemmas.{canonical_text, format_tokens}

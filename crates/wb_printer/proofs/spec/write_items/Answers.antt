@@ -1,5 +1,5 @@
 use Rattle.std.proofs.Common.{◌∙◌, ap, sym}
-use Rattle.wb_printer.specs.Output.{Output, after_lines, ended}
+use Rattle.wb_printer.specs.Inner.Output.{Output, after_lines, ended}
 use Rattle.wb_printer.proofs.ItemLemmas.{item_at, no_item}
 use Rattle.wb_printer.proofs.spec.write_items.Goals as goal
 

@@ -1,7 +1,7 @@
 use Rattle.std.proofs.Common.{◌≡◌, List, drop}
 use Rattle.wb_tokens.specs.declared.token.Token.{Token}
-use Rattle.wb_printer.specs.Output.{after_lines}
-use Rattle.wb_printer.specs.ItemTokens.{AreLinesOf}
+use Rattle.wb_printer.specs.Inner.Output.{after_lines}
+use Rattle.wb_printer.specs.Inner.ItemTokens.{AreLinesOf}
 use Rattle.wb_printer.proofs.spec.write_items.Given as goal
 
 abbrev pub invariant-items : goal.invariant-items

@@ -5,7 +5,7 @@ use Rattle.wb_syntax.specs.SpecText.{IsReadAs, SpecView}
 use Rattle.wb_syntax.specs.declared.item.Item.{Item}
 use Rattle.wb_lemmas.proofs.Refusals.{handed_on}
 use Rattle.wb_reader.specs.Refusals.{IsShort, HasCause}
-use Rattle.wb_reader.specs.Patterns.{IsPlaced, OnItems}
+use Rattle.wb_reader.specs.Inner.Patterns.{IsPlaced, OnItems}
 use Rattle.wb_reader.proofs.PatternLemmas.{text_placed, read_text}
 use Rattle.wb_reader.proofs.Excluding.{items_caused}
 use Rattle.wb_reader.proofs.OneText.{one_text}

@@ -9,10 +9,10 @@ use Rattle.wb_expressions.specs.declared.node.Node.TheVariants as n
 use Rattle.wb_syntax.specs.Expression.{Expression, Expressions}
 use Rattle.wb_expressions.specs.Expression.{Int, Text, Truth, Label, Read, Lexeme, Top, Forward, Build, Call, If, none, more, size, size_of_all}
 use Rattle.wb_expressions.specs.Places.{HasNode, Stands, AllStand}
-use Rattle.wb_printer.specs.ExpressionTokens.{expression_tokens, arguments_tokens, further_tokens}
+use Rattle.wb_printer.specs.Inner.ExpressionTokens.{expression_tokens, arguments_tokens, further_tokens}
 use Rattle.wb_printer.specs.declared.expressions.Waiting.{Waiting}
 use Rattle.wb_printer.specs.declared.expressions.Waiting.TheVariants.{Whole, Arguments, Then, Else}
-use Rattle.wb_printer.specs.Output.{Output, after}
+use Rattle.wb_printer.specs.Inner.Output.{Output, after}
 
 -- what stands before an argument: nothing before the first one
 abbrev pub separator : Bool → List Token

@@ -11,7 +11,7 @@ use Rattle.wb_syntax.specs.declared.production.NamedKind.{NamedKind}
 use Rattle.wb_syntax.specs.declared.production.ProductionRole.{ProductionRole}
 use Rattle.wb_reader.specs.declared.part.ItemAction.{ItemAction}
 use Rattle.wb_reader.specs.declared.builder.SpecBuilder.{SpecBuilder}
-use Rattle.wb_reader.specs.Builder.{on_top}
+use Rattle.wb_reader.specs.Inner.Builder.{on_top}
 
 -- the format of which this is the number, or 0 where it is of none that is known
 abbrev pub format_of : ℤ → ℕ

@@ -8,7 +8,8 @@ use Rattle.wb_syntax.specs.declared.item.ItemForm.TheVariants as f
 use Rattle.wb_syntax.specs.declared.pattern.WrittenPattern.{WrittenPattern}
 use Rattle.wb_reader.specs.declared.refusal.SpecRefusal.{SpecRefusal}
 use Rattle.wb_reader.specs.declared.refusal.SpecRefusal.TheVariants.{TooLong, WrongFormat, Syntax, BadRegex, MatchesEmpty, NoMemory}
-use Rattle.wb_reader.specs.Refusals.{IsTaken}
+use Rattle.wb_reader.specs.OneAnswer.{IsNoMemory}
+use Rattle.wb_reader.specs.Refusals.{IsTaken, IsSyntaxFault}
 
 -- the regular expression of the form, where it has one, is with its slashes within the bytes that a file may have
 abbrev pub IsPlacedForm : ItemForm WrittenPattern → Type 0
@@ -29,15 +30,6 @@ OnPattern name bytes at (Syntax place) = ⊥
 OnPattern name bytes at (BadRegex place) = (offset : ℕ) × IsFirstFault bytes offset × (place ≡ at + 1 + offset)
 OnPattern name bytes at (MatchesEmpty other) = IsEmptyRegex bytes × (other ≡ name)
 OnPattern name bytes at (NoMemory error) = Unit {0}
-
--- the refusal is want of memory
-abbrev pub IsNoMemory : SpecRefusal → Type 0
-IsNoMemory TooLong = ⊥
-IsNoMemory WrongFormat = ⊥
-IsNoMemory (Syntax place) = ⊥
-IsNoMemory (BadRegex place) = ⊥
-IsNoMemory (MatchesEmpty name) = ⊥
-IsNoMemory (NoMemory error) = Unit {0}
 
 -- why a form isn't taken
 abbrev pub OnForm : ItemForm WrittenPattern → SpecRefusal → Type 0
@@ -67,3 +59,12 @@ OnItems items (Syntax place) = ⊥
 OnItems items (BadRegex place) = IsFirstOn items (BadRegex place)
 OnItems items (MatchesEmpty name) = IsFirstOn items (MatchesEmpty name)
 OnItems items (NoMemory error) = Unit {0}
+
+-- of the refusals only that of what can't follow, and want of memory
+abbrev pub OnSyntax : List ℕ → SpecRefusal → Type 0
+OnSyntax bytes TooLong = ⊥
+OnSyntax bytes WrongFormat = ⊥
+OnSyntax bytes (Syntax at) = IsSyntaxFault bytes at
+OnSyntax bytes (BadRegex at) = ⊥
+OnSyntax bytes (MatchesEmpty name) = ⊥
+OnSyntax bytes (NoMemory error) = Unit {0}

@@ -5,8 +5,8 @@ use Rattle.wb_predictive.specs.Kinds.{is_member}
 use Rattle.wb_tokens.specs.declared.kind.TokenKind.TheVariants.{End}
 use Rattle.wb_tokens.specs.SameKind.{same_kind}
 use Rattle.wb_reader.specs.declared.part.Part.{Part}
-use Rattle.wb_reader.specs.Entries.{spec_entries}
-use Rattle.wb_reader.specs.Rights.{spec_rights}
+use Rattle.wb_reader.specs.Inner.Entries.{spec_entries}
+use Rattle.wb_reader.specs.Inner.Rights.{spec_rights}
 
 -- one token of lookahead decides
 pub spec_decided : (n : Part) → is_decided same_kind End spec_entries spec_rights n ≡ true

@@ -6,7 +6,7 @@ use Rattle.wb_syntax.specs.declared.expression.Target.{Target}
 use Rattle.wb_syntax.specs.declared.expression.Target.TheVariants as g
 use Rattle.wb_reader.specs.declared.part.PartAction.{PartAction}
 use Rattle.wb_reader.specs.declared.builder.SpecBuilder.{SpecBuilder}
-use Rattle.wb_reader.specs.Builder.{on_top}
+use Rattle.wb_reader.specs.Inner.Builder.{on_top}
 
 -- a kind without a name
 abbrev pub with_kind : NamedKind → SpecBuilder → SpecBuilder

@@ -20,7 +20,7 @@ use Rattle.wb_syntax.specs.declared.production.Production.{Production}
 use Rattle.wb_syntax.specs.declared.production.ProductionRole.{ProductionRole}
 use Rattle.wb_syntax.specs.declared.production.ProductionRole.TheVariants as k
 use Rattle.wb_syntax.specs.Equations.{equations_of}
-use Rattle.wb_printer.specs.PartTokens.{AreEquationTokens, block_tokens, children_tokens, kind_token, needs_tokens, optional_needs_tokens}
+use Rattle.wb_printer.specs.Inner.PartTokens.{AreEquationTokens, block_tokens, children_tokens, kind_token, needs_tokens, optional_needs_tokens}
 
 -- a production, whose equations have these tokens
 abbrev pub production_tokens : Production → List Token → List Token

@@ -12,7 +12,7 @@ use Rattle.wb_syntax.specs.declared.production.NamedKind.TheVariants as k
 use Rattle.wb_syntax.specs.declared.production.Child.{Child}
 use Rattle.wb_syntax.specs.Expression.{Expression}
 use Rattle.wb_expressions.specs.Expression.{nodes_of}
-use Rattle.wb_printer.specs.ExpressionTokens.{expression_tokens}
+use Rattle.wb_printer.specs.Inner.ExpressionTokens.{expression_tokens}
 
 -- a kind
 abbrev pub kind_token : NamedKind → Token

@@ -10,11 +10,11 @@ use Rattle.wb_reader.specs.declared.part.Action.{Action}
 use Rattle.wb_reader.specs.declared.builder.SpecBuilder.{SpecBuilder}
 use Rattle.wb_tokens.specs.declared.kind.TokenKind.{TokenKind}
 use Rattle.wb_tokens.specs.Kinds.{kind_of}
-use Rattle.wb_reader.specs.Rights.{spec_rights}
-use Rattle.wb_reader.specs.Builder.{with_name, with_place, with_integer, with_text, with_pattern}
-use Rattle.wb_reader.specs.BuildItems.{item_act}
-use Rattle.wb_reader.specs.BuildParts.{part_act}
-use Rattle.wb_reader.specs.BuildExpressions.{expression_act}
+use Rattle.wb_reader.specs.Inner.Rights.{spec_rights}
+use Rattle.wb_reader.specs.Inner.Builder.{with_name, with_place, with_integer, with_text, with_pattern}
+use Rattle.wb_reader.specs.Inner.BuildItems.{item_act}
+use Rattle.wb_reader.specs.Inner.BuildParts.{part_act}
+use Rattle.wb_reader.specs.Inner.BuildExpressions.{expression_act}
 
 -- the place of a word is kept where it may begin an item, an equation or a read
 abbrev pub word_shift : Word → ℕ → SpecBuilder → SpecBuilder
