@@ -4,7 +4,7 @@ use Rattle.wb_world.specs.Shelf.{Files}
 use Rattle.wb_syntax.specs.SpecText.{SpecView}
 use Rattle.wb_syntax.specs.Canonical.{IsCanonical}
 use Rattle.wb_reader.specs.Refusals.{HasCause, IsAcceptedText}
-use Rattle.wb_reader.specs.Patterns.{IsNoMemory}
+use Rattle.wb_reader.specs.OneAnswer.{IsNoMemory}
 use Rattle.wb_reader.specs.declared.refusal.SpecRefusal.{SpecRefusal}
 use Rattle.wb_program.specs.Files.{KnownFile}
 use Rattle.wb_program.specs.Lines.{spec_refused_line}
