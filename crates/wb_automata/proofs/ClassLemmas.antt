@@ -1,5 +1,5 @@
 -- Classes of bytes are told apart node by node.
-use Rattle.std.proofs.Common.{◌≡◌, ℕ, ◌+◌, ◌≤◌, ◌<◌, List, [], ◌∷◌, ◌++◌, refl, sym, ◌∙◌, ap, subst, arith, ◌⊎◌, inl, inr, Some, length, get_or, length-append, replicate}
+use Rattle.std.proofs.Common.{◌≡◌, ℕ, zero, suc, ◌+◌, ◌≤◌, ◌<◌, List, [], ◌∷◌, ◌++◌, refl, sym, ◌∙◌, ap, subst, arith, ◌⊎◌, inl, inr, Some, length, get_or, length-append, replicate}
 use Rattle.std.specs.Prelude.{slice_get}
 use Rattle.std.proofs.lemmas.List.{get_or_append_left, get_or_push, get_or-replicate, length-replicate}
 use Rattle.std.proofs.lemmas.Option.{same_Some}
@@ -102,3 +102,14 @@ classes_step nodes node old firsts new news i at h p = record {
       ];
   rising = p.rising;
 }
+
+-- a number of a rising list isn't less than its place
+rising_place : (xs : List ℕ) (k : ℕ) → AreRising xs → k < length xs → k ≤ get_or xs k 0
+rising_place xs zero rise lt = omega arith
+rising_place xs (suc k) rise lt = (let h = rising_place xs k rise (omega arith) in let less : get_or xs k 0 < get_or xs (suc k) 0 = rise k (suc k) (omega arith) lt in omega arith)
+
+-- so classes fit a byte
+pub class_fits : (node : RegexNode) (old new firsts later : List ℕ) (b class : ℕ) → b < 256 → ClassPass node old new firsts b → IsClassOf node old firsts later b class → class < 256
+class_fits node old new firsts later b class lt h is =
+    let p = class_step node old new firsts later b class h is in
+    (let le = rising_place later class p.rising is.within in let small = p.small class is.within in omega arith)

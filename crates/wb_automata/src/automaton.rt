@@ -29,7 +29,7 @@ pub struct Automaton {
     terminals: Vec<Regex>,
     sets: Vec<TermSet>,
     starts: Vec<usize>,
-    classes: Vec<usize>,
+    classes: Vec<u8>,
     width: usize,
     moves: Vec<u32>,
     accepted: Rows,
@@ -125,7 +125,8 @@ impl Automaton {
         ensures leads { IfSome result (λ next. (set : ℕ) (text : List ℕ) → LeadsTo self.now set text state → LeadsTo self.now set (text ++ byte ∷ []) next) }
         ensures none { (set : ℕ) (text : List ℕ) → LeadsTo self.now set text state → IsNone result ↔ (¬ GoesOn self.now set (text ++ byte ∷ [])) }
     {
-        state_from(self.moves[state * self.width + self.classes[usize::from(byte)]])
+        let class = usize::from(self.classes[usize::from(byte)]);
+        state_from(self.moves[state * self.width + class])
     }
 
     /// Whether the terminal is in the sets and matches the texts that lead to the state. Takes no memory.

@@ -12,7 +12,7 @@ use wb_regex::RegexNode;
 /// The number of the class of each byte, and the first byte of each class. Classes are numbered by their first bytes.
 #[derive(Drop)]
 pub(crate) struct Classes {
-    pub(crate) of: Vec<usize>,
+    pub(crate) of: Vec<u8>,
     pub(crate) firsts: Vec<u8>,
 }
 
@@ -31,14 +31,14 @@ pub(crate) fn classes_of(alloc: Global, nodes: &[RegexNode]) -> Result<Classes, 
 fn one_class(alloc: Global) -> Result<Classes, AllocError>
     ensures { IfOk result (λ c. AreClasses [] c.of.items c.firsts.items 0) }
 {
-    let of = blank(alloc, 256)?;
+    let of = no_bytes(alloc, 256)?;
     let mut firsts = Vec::new(alloc);
     push(&mut firsts, 0)?;
     Ok(Classes { of, firsts })
 }
 
 /// The classes with those bytes told apart of which the node holds one and not the other.
-fn refined(alloc: Global, classes: &[usize], node: RegexNode) -> Result<Classes, AllocError>
+fn refined(alloc: Global, classes: &[u8], node: RegexNode) -> Result<Classes, AllocError>
     requires { length classes.now ≡ 256 }
     ensures { IfOk result (λ c. ClassPass node classes.now c.of.items c.firsts.items 256) }
 {
@@ -47,7 +47,8 @@ fn refined(alloc: Global, classes: &[usize], node: RegexNode) -> Result<Classes,
     let mut firsts = Vec::new(alloc);
     for b in 0..256usize {
         let class = class_of(&mut firsts, &mut hints, classes, node, b as u8)?;
-        push(&mut of, class)?;
+        let number = class as u8;
+        push(&mut of, number)?;
     }
     Ok(Classes { of, firsts })
 }
@@ -58,7 +59,7 @@ fn refined(alloc: Global, classes: &[usize], node: RegexNode) -> Result<Classes,
 fn class_of(
     firsts: &mut Vec<u8>,
     hints: &mut [usize],
-    classes: &[usize],
+    classes: &[u8],
     node: RegexNode,
     byte: u8,
 ) -> Result<usize, AllocError>
@@ -66,12 +67,8 @@ fn class_of(
     ensures hints { length hints.new ≡ length hints.old }
     ensures class { IfOk result (λ class. IsClassOf node classes.now firsts.old.items firsts.new.items byte class) }
 {
-    let old = classes[usize::from(byte)];
-    let place = if holds(node, byte) && old < 256 {
-        old + 256
-    } else {
-        old
-    };
+    let old = usize::from(classes[usize::from(byte)]);
+    let place = if holds(node, byte) { old + 256 } else { old };
     let hint = if place < hints.len() { hints[place] } else { 0 };
     if hint < firsts.len() && is_alike(classes, node, firsts[hint], byte) {
         return Ok(hint);
@@ -85,7 +82,7 @@ fn class_of(
 }
 
 /// Whether two bytes are of one class and the node holds both or neither.
-fn is_alike(classes: &[usize], node: RegexNode, first: u8, byte: u8) -> bool
+fn is_alike(classes: &[u8], node: RegexNode, first: u8, byte: u8) -> bool
     requires { length classes.now ≡ 256 }
     ensures { IsTrue result → (slice_index classes.now first ≡ slice_index classes.now byte) × (node_holds node first ≡ node_holds node byte) }
 {
@@ -94,6 +91,12 @@ fn is_alike(classes: &[usize], node: RegexNode, first: u8, byte: u8) -> bool
 }
 
 fn blank(alloc: Global, count: usize) -> Result<Vec<usize>, AllocError>
+    ensures { IfOk result (λ v. v.items ≡ replicate count 0) }
+{
+    vec![in alloc; 0; count]
+}
+
+fn no_bytes(alloc: Global, count: usize) -> Result<Vec<u8>, AllocError>
     ensures { IfOk result (λ v. v.items ≡ replicate count 0) }
 {
     vec![in alloc; 0; count]
