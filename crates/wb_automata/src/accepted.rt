@@ -1,4 +1,4 @@
-//! The terminals that states accept.
+//! Which terminals does each state accept?
 
 ghost use Rattle.std.specs.Prelude.{◌≡◌, ◌<◌, ℕ, Some, All, IfOk, List, length, slice_get};
 ghost use Rattle.wb_automata.specs.Inner.Follows.{AreBelow};
@@ -9,7 +9,7 @@ use crate::states::States;
 use crate::transition::successors;
 use std::alloc::{AllocError, Global};
 
-/// The terminals with which some leaf of each state may end.
+// The terminals with which some leaf of each state may end.
 pub(crate) fn accepted_of(
     alloc: Global,
     count: usize,

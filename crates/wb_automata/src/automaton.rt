@@ -1,4 +1,6 @@
-//! The automaton of several regular expressions, by which a scanner reads.
+//! Which terminals of a set match a text, and can a match go on?
+//!
+//! A scanner asks it at each byte, so steps take no memory. How states are found is in `explore`.
 
 ghost use Rattle.std.specs.Prelude.{◌≡◌, ◌<◌, ◌≤◌, ◌↔◌, ◌++◌, ◌∷◌, ℕ, [], Contains, IfOk, IfSome, IsNone, IsTrue, List, Some, length, slice_get};
 ghost use Rattle.wb_automata.specs.Automata.{IsMatch, MatchesIn, GoesOn, LeadsTo, IsOrdered, Path, most_states};

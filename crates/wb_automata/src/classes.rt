@@ -1,4 +1,6 @@
-//! Bytes in classes: an automaton goes the same way by each byte of a class, so its table has a column for each class.
+//! Which bytes does no expression tell apart?
+//!
+//! An automaton goes the same way by each byte of a class, so its table has a column for each class.
 
 ghost use Rattle.std.specs.Prelude.{◌≡◌, ◌+◌, ◌*◌, ◌<◌, ◌≤◌, ℕ, [], IfOk, IsTrue, length, replicate, slice_index};
 ghost use Rattle.wb_automata.specs.Inner.Classes.{AreClasses, ClassPass, IsClassOf};
@@ -9,14 +11,14 @@ use std::alloc::{AllocError, Global};
 use wb_base::push;
 use wb_regex::RegexNode;
 
-/// The number of the class of each byte, and the first byte of each class. Classes are numbered by their first bytes.
+// The number of the class of each byte, and the first byte of each class. Classes are numbered by their first bytes.
 #[derive(Drop)]
 pub(crate) struct Classes {
     pub(crate) of: Vec<u8>,
     pub(crate) firsts: Vec<u8>,
 }
 
-/// The classes of bytes that are in the same sets of these nodes.
+// The classes of bytes that are in the same sets of these nodes.
 pub(crate) fn classes_of(alloc: Global, nodes: &[RegexNode]) -> Result<Classes, AllocError>
     ensures { IfOk result (λ c. AreClasses nodes.now c.of.items c.firsts.items (length nodes.now)) }
 {
@@ -27,7 +29,7 @@ pub(crate) fn classes_of(alloc: Global, nodes: &[RegexNode]) -> Result<Classes, 
     Ok(classes)
 }
 
-/// All bytes in one class.
+// All bytes in one class.
 fn one_class(alloc: Global) -> Result<Classes, AllocError>
     ensures { IfOk result (λ c. AreClasses [] c.of.items c.firsts.items 0) }
 {
@@ -37,7 +39,7 @@ fn one_class(alloc: Global) -> Result<Classes, AllocError>
     Ok(Classes { of, firsts })
 }
 
-/// The classes with those bytes told apart of which the node holds one and not the other.
+// The classes with those bytes told apart of which the node holds one and not the other.
 fn refined(alloc: Global, classes: &[u8], node: RegexNode) -> Result<Classes, AllocError>
     requires { length classes.now ≡ 256 }
     ensures { IfOk result (λ c. ClassPass node classes.now c.of.items c.firsts.items 256) }
@@ -53,9 +55,9 @@ fn refined(alloc: Global, classes: &[u8], node: RegexNode) -> Result<Classes, Al
     Ok(Classes { of, firsts })
 }
 
-/// The class of a byte, which begins a new one where no byte before it is as it is.
-///
-/// The hints, by old class and by whether the node holds the byte, make it fast and prove nothing.
+// The class of a byte, which begins a new one where no byte before it is as it is.
+//
+// The hints, by old class and by whether the node holds the byte, make it fast and prove nothing.
 fn class_of(
     firsts: &mut Vec<u8>,
     hints: &mut [usize],
@@ -81,7 +83,7 @@ fn class_of(
     Ok(class)
 }
 
-/// Whether two bytes are of one class and the node holds both or neither.
+// Whether two bytes are of one class and the node holds both or neither.
 fn is_alike(classes: &[u8], node: RegexNode, first: u8, byte: u8) -> bool
     requires { length classes.now ≡ 256 }
     ensures { IsTrue result → (slice_index classes.now first ≡ slice_index classes.now byte) × (node_holds node first ≡ node_holds node byte) }

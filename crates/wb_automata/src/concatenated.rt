@@ -1,4 +1,4 @@
-//! The nodes of several expressions, one after the other in one list.
+//! The nodes of several expressions, one after the other in one list: so a position belongs to one expression.
 
 ghost use Rattle.std.specs.Prelude.{◌≡◌, ◌^◌, ◌<◌, ◌++◌, IfOk, length, map};
 ghost use Rattle.wb_automata.specs.Inner.Nodes.{AreParts, PartsBelow};
@@ -8,7 +8,7 @@ use std::alloc::{AllocError, Global};
 use wb_base::push;
 use wb_regex::{Regex, RegexNode};
 
-/// All nodes, and the place of the last node of each expression.
+// All nodes, and the place of the last node of each expression.
 #[derive(Drop)]
 pub(crate) struct Concatenated {
     pub(crate) nodes: Vec<RegexNode>,
@@ -27,7 +27,7 @@ pub(crate) fn concatenate(alloc: Global, terminals: &[Regex]) -> Result<Concaten
     Ok(Concatenated { nodes, roots })
 }
 
-/// Puts the nodes of an expression after the others, and answers the place of its last node.
+// Puts the nodes of an expression after the others, and answers the place of its last node.
 fn add_nodes(nodes: &mut Vec<RegexNode>, regex: &Regex) -> Result<usize, AllocError>
     ensures { IfOk result (λ root. AreAdded nodes.old.items nodes.new.items regex.now root) }
 {

@@ -1,6 +1,6 @@
-//! The subset construction: all states that texts lead to from the starts of sets.
+//! Which states do texts lead to from the starts of sets? The subset construction.
 //!
-//! The states of one set after the other are found breadth first, so that their order is that of their first paths.
+//! The states of one set after the other are found breadth first, so that their order is that of their paths.
 
 ghost use Rattle.std.specs.Prelude.{◌≡◌, ◌+◌, ◌^◌, ◌<◌, ◌≤◌, IfOk, [], length};
 ghost use Rattle.wb_automata.specs.Inner.Found.{IsPlaced};
@@ -16,7 +16,7 @@ use crate::tables::Tables;
 use std::alloc::{AllocError, Global};
 use wb_base::push;
 
-/// The states, where the bytes lead from each, and the state at the start of each set.
+// The states, where the bytes lead from each, and the state at the start of each set.
 #[derive(Drop)]
 pub(crate) struct Explored {
     pub(crate) states: States,
@@ -24,7 +24,7 @@ pub(crate) struct Explored {
     pub(crate) starts: Vec<usize>,
 }
 
-/// All states that texts lead to by these bytes.
+// All states that texts lead to by these bytes.
 pub(crate) fn explore(alloc: Global, tables: &Tables, bytes: &[u8]) -> Result<Explored, AllocError>
     requires table { IsTable tables.now }
     requires rising { AreRising bytes.now }
@@ -41,7 +41,7 @@ pub(crate) fn explore(alloc: Global, tables: &Tables, bytes: &[u8]) -> Result<Ex
     Ok(explored)
 }
 
-/// The states of one set more.
+// The states of one set more.
 fn explore_set(
     tables: &Tables,
     bytes: &[u8],
@@ -68,7 +68,7 @@ fn explore_set(
     Ok(())
 }
 
-/// The state at the start of a set.
+// The state at the start of a set.
 fn start_of(tables: &Tables, set: usize, states: &mut States) -> Result<usize, AllocError>
     requires count { length states.old.paths ≡ length states.old.sets }
     requires set { set < length tables.now.starts }
@@ -82,7 +82,7 @@ fn start_of(tables: &Tables, set: usize, states: &mut States) -> Result<usize, A
     states.place_of(tables.starts.row(set), predecessor)
 }
 
-/// The states from number `from` on and those that they lead to.
+// The states from number `from` on and those that they lead to.
 fn close(
     tables: &Tables,
     bytes: &[u8],
@@ -105,7 +105,7 @@ fn close(
     Ok(())
 }
 
-/// Where the bytes lead from one state more.
+// Where the bytes lead from one state more.
 fn row_of(
     tables: &Tables,
     bytes: &[u8],

@@ -1,4 +1,4 @@
-//! The least text that two expressions share, and the least that one matches.
+//! What is the least text that two expressions share, and the least that one matches?
 //!
 //! States are numbered by their paths, so the first state that accepts has the least text.
 
@@ -39,7 +39,7 @@ pub fn least_text(alloc: Global, regex: &Regex) -> Result<Bytes, AllocError>
     }
 }
 
-/// The automaton of both, in one set.
+// The automaton of both, in one set.
 fn automaton_of(alloc: Global, left: &Regex, right: &Regex) -> Result<Automaton, AllocError>
     ensures terminals { IfOk result (λ automaton. automaton.terminals ≡ left.now ∷ right.now ∷ []) }
     ensures sets { IfOk result (λ automaton. HasAll 2 automaton.sets) }
@@ -48,7 +48,7 @@ fn automaton_of(alloc: Global, left: &Regex, right: &Regex) -> Result<Automaton,
     build_of(alloc, &both)
 }
 
-/// The automaton of these expressions, in one set.
+// The automaton of these expressions, in one set.
 fn build_of(alloc: Global, terminals: &[Regex]) -> Result<Automaton, AllocError>
     ensures terminals { IfOk result (λ automaton. automaton.terminals ≡ terminals.now) }
     ensures sets { IfOk result (λ automaton. HasAll (length terminals.now) automaton.sets) }
@@ -57,7 +57,7 @@ fn build_of(alloc: Global, terminals: &[Regex]) -> Result<Automaton, AllocError>
     Automaton::build(alloc, terminals, &sets)
 }
 
-/// One set of all numbers below the count.
+// One set of all numbers below the count.
 fn all_of(alloc: Global, count: usize) -> Result<Vec<TermSet>, AllocError>
     ensures { IfOk result (λ sets. HasAll count sets.items) }
 {
@@ -79,7 +79,7 @@ fn pair(alloc: Global, left: &Regex, right: &Regex) -> Result<Vec<Regex>, AllocE
     Ok(both)
 }
 
-/// The first state that accepts both terminals.
+// The first state that accepts both terminals.
 fn first_shared(automaton: &Automaton, one: usize, other: usize) -> Option<usize>
     ensures below { IfSome result (λ state. state < length automaton.now.paths) }
     ensures some { IfSome result (IsLeastState automaton.now one other) }

@@ -1,7 +1,8 @@
-//! The automaton of several regular expressions, the least text that two of them share, and the least text of one.
+//! The automaton of several regular expressions with a start for each set of them, the least text that two of them share, and
+//! the least text of one.
 //!
-//! An automaton keeps the sets of positions of its expressions that some text leads to (the position automaton, made
-//! deterministic), and a table of moves with a column for each class of bytes that no expression tells apart.
+//! It is Glushkov's position automaton, made deterministic by the subset construction from the start of each set, with a table
+//! of moves that has a column for each class of bytes that no expression tells apart.
 #![tactic(auto)]
 
 mod accepted;

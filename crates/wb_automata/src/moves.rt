@@ -9,7 +9,7 @@ use std::marker::Model;
 // States from this one on have no code.
 const LIMIT: usize = 4294967295;
 
-/// A list of moves: each leads to a state or nowhere. Numbers that don't fit are want of memory.
+// A list of moves: each leads to a state or nowhere. Numbers that don't fit are want of memory.
 #[derive(Drop)]
 pub(crate) struct Moves {
     codes: Vec<u32>,
@@ -33,7 +33,7 @@ impl Moves {
         }
     }
 
-    /// Puts a move after the others.
+    // Puts a move after the others.
     pub(crate) fn push(&mut self, to: Option<usize>) -> Result<(), AllocError>
         ensures { IfOk result (λ _. self.new ≡ self.old ++ to ∷ []) }
     {
@@ -42,7 +42,7 @@ impl Moves {
         Ok(())
     }
 
-    /// The codes of the moves.
+    // The codes of the moves.
     pub(crate) fn into_codes(self) -> Vec<u32>
         ensures { map move_at result.items ≡ self }
     {

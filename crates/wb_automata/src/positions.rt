@@ -11,7 +11,7 @@ use crate::rows::Rows;
 use std::alloc::{AllocError, Global};
 use wb_regex::RegexNode;
 
-/// Whether each node matches the empty text.
+// Whether each node matches the empty text.
 pub(crate) fn nullable(alloc: Global, nodes: &[RegexNode]) -> Result<Vec<bool>, AllocError>
     requires parts { AreParts nodes.now }
     ensures { IfOk result (λ all. AreNullable nodes.now all.items (length nodes.now)) }
@@ -38,7 +38,7 @@ fn nullable_at(node: RegexNode, before: &[bool]) -> bool
     }
 }
 
-/// After each leaf of the one list, each leaf of the other.
+// After each leaf of the one list, each leaf of the other.
 pub(crate) fn link(follow: &mut Rows, last: &[usize], first: &[usize]) -> Result<(), AllocError>
     requires below { All (λ p. p < length follow.old) last.now }
     ensures len { length follow.new ≡ length follow.old }
@@ -75,7 +75,7 @@ fn link_at(
     Ok(())
 }
 
-/// After each last leaf of the one node, each first leaf of the other.
+// After each last leaf of the one node, each first leaf of the other.
 fn link_parts(
     alloc: Global,
     nodes: &[RegexNode],
@@ -96,7 +96,7 @@ fn link_parts(
     link(follow, last.as_slice(), first.as_slice())
 }
 
-/// Which leaves may come after which, over all the nodes.
+// Which leaves may come after which, over all the nodes.
 pub(crate) fn add_follows(
     alloc: Global,
     nodes: &[RegexNode],

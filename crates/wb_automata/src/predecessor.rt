@@ -1,6 +1,6 @@
-//! From where a state was found.
+//! From where was a state found?
 
-/// The set from whose start a state was found, and the state and the byte that lead there: at the start no lesser state.
+// The set from whose start a state was found, and the state and the byte that lead there: at the start no lesser state.
 #[derive(Clone, Copy)]
 pub(crate) struct Predecessor {
     pub(crate) set: usize,

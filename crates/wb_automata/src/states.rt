@@ -1,4 +1,6 @@
-//! States as sets of places: each set once, with where it was found from.
+//! States as sets of positions, each set once, and from where each was found.
+//!
+//! A map from sets to numbers makes it fast. Where bytes lead is in `transition`.
 
 ghost use Rattle.std.specs.Prelude.{◌≡◌, ◌<◌, ◌↔◌, [], ℕ, Contains, IfOk, Some, List, length, slice_get};
 ghost use Rattle.wb_base.specs.Different.{Differ};
@@ -17,7 +19,7 @@ use std::marker::Model;
 use wb_base::push;
 use wb_regex::RegexNode;
 
-/// The states that were found, and from where.
+// The states that were found, and from where.
 #[derive(Drop)]
 pub(crate) struct States {
     alloc: Global,
@@ -57,7 +59,7 @@ impl States {
         self.sets.len()
     }
 
-    /// The places of a state.
+    // The places of a state.
     pub(crate) fn at(&self, i: usize) -> &[usize]
         requires { i < length self.now.sets }
         ensures { slice_get self.now.sets i ≡ Some result.now }
@@ -65,7 +67,7 @@ impl States {
         self.sets.get_index(i).unwrap()
     }
 
-    /// The number of a state, which is added if it is new.
+    // The number of a state, which is added if it is new.
     pub(crate) fn place_of(
         &mut self,
         places: &[usize],
@@ -83,7 +85,7 @@ impl States {
         Ok(state)
     }
 
-    /// What may come after the places of a state.
+    // What may come after the places of a state.
     pub(crate) fn ahead(&self, tables: &Tables, i: usize) -> Result<Leaves, AllocError>
         requires table { IsTable tables.now }
         requires state { i < length self.now.sets }
@@ -94,7 +96,7 @@ impl States {
         successors(self.alloc, tables.nodes.len(), &tables.follow, self.at(i))
     }
 
-    /// Where the byte of the predecessor leads, with the leaves that may come next.
+    // Where the byte of the predecessor leads, with the leaves that may come next.
     pub(crate) fn move_by(
         &mut self,
         nodes: &[RegexNode],
@@ -112,7 +114,7 @@ impl States {
         Ok(Some(state))
     }
 
-    /// The set from whose start the state was found.
+    // The set from whose start the state was found.
     pub(crate) fn set_of(&self, i: usize) -> usize
         requires { i < length self.now.paths }
         ensures { (path : Path) → slice_get self.now.paths i ≡ Some path → result ≡ path.set }
@@ -120,7 +122,7 @@ impl States {
         self.predecessors[i].set
     }
 
-    /// Where each state was found from.
+    // Where each state was found from.
     pub(crate) fn into_origins(self) -> Vec<Predecessor>
         ensures { paths_of result.items ≡ self.paths }
     {

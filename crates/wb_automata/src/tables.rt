@@ -17,8 +17,8 @@ use std::alloc::{AllocError, Global};
 use wb_regex::{Regex, RegexNode};
 use wb_termset::TermSet;
 
-/// The nodes of all expressions. With n nodes, the start of expression k is the place n + k: there is a row for each
-/// place, with what may come after it and with the expressions that may end with it; and for each set its starts.
+// The nodes of all expressions. With n nodes, the start of expression k is the place n + k: there is a row for each
+// place, with what may come after it and with the expressions that may end with it; and for each set its starts.
 #[derive(Drop)]
 pub(crate) struct Tables {
     pub(crate) nodes: Vec<RegexNode>,
@@ -45,7 +45,7 @@ pub(crate) fn tables_of(
     })
 }
 
-/// What may come after each place, and which expressions may end with it.
+// What may come after each place, and which expressions may end with it.
 #[derive(Drop)]
 struct Links {
     follow: Rows,
@@ -65,7 +65,7 @@ fn links_of(alloc: Global, nodes: &[RegexNode], roots: &[usize]) -> Result<Links
     Ok(Links { follow, ends })
 }
 
-/// Which leaves may come after each place.
+// Which leaves may come after each place.
 fn follows(
     alloc: Global,
     nodes: &[RegexNode],
@@ -85,7 +85,7 @@ fn follows(
     Ok(follow)
 }
 
-/// Which expressions may end with each leaf.
+// Which expressions may end with each leaf.
 fn ends_table(
     alloc: Global,
     nodes: &[RegexNode],
@@ -104,7 +104,7 @@ fn ends_table(
     Ok(table)
 }
 
-/// An empty row for each node and for each root.
+// An empty row for each node and for each root.
 fn blank(alloc: Global, nodes: &[RegexNode], roots: &[usize]) -> Result<Rows, AllocError>
     ensures { IfOk result (λ rows. rows ≡ replicate (length nodes.now + length roots.now) []) }
 {

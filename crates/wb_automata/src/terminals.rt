@@ -1,4 +1,4 @@
-//! Where expressions begin and end, and with which starts each set begins.
+//! Where do expressions begin and end, and with which starts does each set begin?
 
 ghost use Rattle.std.specs.Prelude.{◌≡◌, ℕ, ◌<◌, ◌≤◌, ◌+◌, ◌^◌, ◌⊎◌, ◌↔◌, length, IfOk, IsTrue, All, Contains};
 ghost use Rattle.wb_termset.specs.Sets.{IsMember};
@@ -17,7 +17,7 @@ use std::alloc::{AllocError, Global};
 use wb_regex::RegexNode;
 use wb_termset::TermSet;
 
-/// After the start of each root, its first leaves. The starts have the last rows.
+// After the start of each root, its first leaves. The starts have the last rows.
 pub(crate) fn begins(
     alloc: Global,
     nodes: &[RegexNode],
@@ -40,7 +40,7 @@ pub(crate) fn begins(
     Ok(())
 }
 
-/// Which roots may end with each leaf.
+// Which roots may end with each leaf.
 pub(crate) fn ends(
     alloc: Global,
     nodes: &[RegexNode],
@@ -62,7 +62,7 @@ pub(crate) fn ends(
     Ok(())
 }
 
-/// The starts of the roots that are in each set, in order. There are this many roots.
+// The starts of the roots that are in each set, in order. There are this many roots.
 pub(crate) fn starts_of(
     alloc: Global,
     n: usize,
@@ -80,7 +80,7 @@ pub(crate) fn starts_of(
     Ok(starts)
 }
 
-/// The starts of the roots in one set.
+// The starts of the roots in one set.
 fn set_starts(alloc: Global, n: usize, count: usize, set: &TermSet) -> Result<Leaves, AllocError>
     requires { n + count < 2 ^ 64 }
     ensures exact { IfOk result (λ starts. IsStartsOf n count set.now starts) }

@@ -1,4 +1,4 @@
-//! The text of a state, read back along the states that it was found from.
+//! By which text was a state found? It is read back along its predecessors.
 
 ghost use Rattle.std.specs.Prelude.{◌≡◌, ◌<◌, IfOk, Some, length, slice_get};
 ghost use Rattle.wb_automata.specs.Automata.{Path};
@@ -8,7 +8,7 @@ use crate::predecessor::Predecessor;
 use std::alloc::{AllocError, Global};
 use wb_base::{Bytes, push};
 
-/// The text of a state's path.
+// The text of a state's path.
 pub(crate) fn text_at(
     alloc: Global,
     predecessors: &[Predecessor],

@@ -1,4 +1,4 @@
-//! Cycles among preferences, by which no terminal would win.
+//! Do preferences form a cycle, by which no terminal would win?
 
 ghost use Rattle.std.specs.Prelude.{◌↔◌, ℕ, All, IfOk, IfSome, IsNone, List};
 ghost use Rattle.wb_graph.specs.Graphs.{IsEdgeBelow};

@@ -1,4 +1,6 @@
-//! Classes, a symbol at a time.
+//! What does a symbol make of a class?
+//!
+//! A class is over at its bracket, and only where it holds a byte. Sets of bytes are in `sets`.
 
 ghost use Rattle.std.specs.Prelude.{◌≡◌, ◌≤◌, [], ◌∷◌, ℕ, Bool};
 ghost use Rattle.wb_regex.specs.Sets.{Ranges, in_class};
@@ -9,35 +11,35 @@ ghost use Rattle.wb_regex.specs.Inner.ClassReader.{ShowsMembers, ShowsClass, Sho
 use crate::sets::{NOTHING, add_range, is_nothing, others};
 use crate::symbol::Symbol;
 
-/// Whether a class is negated, and the bytes of its members so far.
+// Whether a class is negated, and the bytes of its members so far.
 #[derive(Clone, Copy)]
-pub struct Members {
+pub(crate) struct Members {
     pub negated: bool,
     pub bytes: [u64; 4],
 }
 
-/// Where in a class the reader is.
+// Where in a class the reader is.
 #[derive(Clone, Copy)]
-pub enum Class {
-    /// Behind its bracket.
+pub(crate) enum Class {
+    // Behind its bracket.
     Begin,
-    /// Behind a caret there.
+    // Behind a caret there.
     Negated,
-    /// Behind a byte that may begin a range; it isn't among the members yet.
+    // Behind a byte that may begin a range; it isn't among the members yet.
     Tail(Members, u8),
-    /// Behind the dash of a range that begins with the byte.
+    // Behind the dash of a range that begins with the byte.
     Bound(Members, u8),
-    /// Behind members.
+    // Behind members.
     Behind(Members),
 }
 
-/// What a symbol makes of a class.
+// What a symbol makes of a class.
 #[derive(Clone, Copy)]
-pub enum ClassStep {
-    /// It can't follow.
+pub(crate) enum ClassStep {
+    // It can't follow.
     Stop,
     Stay(Class),
-    /// The class is over, and holds these bytes.
+    // The class is over, and holds these bytes.
     Leave([u64; 4]),
 }
 
@@ -166,8 +168,8 @@ fn begin(symbol: Symbol) -> ClassStep
 }
 
 impl Class {
-    /// What a symbol makes of the class.
-    pub fn step(self, symbol: Symbol) -> ClassStep
+    // What a symbol makes of the class.
+    pub(crate) fn step(self, symbol: Symbol) -> ClassStep
         ensures { (k : ClassState) → ShowsClass self k → ShowsMove result (class_step k symbol) }
     {
         match self {

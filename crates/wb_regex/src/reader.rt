@@ -1,4 +1,6 @@
-//! The reader of regular expressions, which goes over the symbols with a stack of open groups.
+//! What does a symbol make of an expression?
+//!
+//! Groups that are open are kept on a stack, so that nothing recurses. Classes are in `class`, nodes in `build`.
 
 ghost use Rattle.std.specs.Prelude.{◌≡◌, [], ℕ, length, List, Option, IfOk, OnOk};
 ghost use Rattle.wb_regex.specs.Tree.{Tree, Set};
@@ -16,28 +18,28 @@ use crate::{RegexNode, build};
 use std::alloc::{AllocError, Global};
 use wb_base::push;
 
-/// What was read at one depth of groups: the choice of the branches that are over, and the sequence of the pieces of the branch
-/// that isn't, as places of nodes.
+// What was read at one depth of groups: the choice of the branches that are over, and the sequence of the pieces of the branch
+// that isn't, as places of nodes.
 #[derive(Clone, Copy, Drop)]
-pub struct Group {
+pub(crate) struct Group {
     pub alternatives: Option<usize>,
     pub branch: Option<usize>,
 }
 
-/// Where in an expression the reader is.
+// Where in an expression the reader is.
 #[derive(Clone, Copy)]
-pub enum Place {
-    /// An atom has to come.
+pub(crate) enum Place {
+    // An atom has to come.
     Before,
-    /// Behind an atom, with its marks so far: the place of its node.
+    // Behind an atom, with its marks so far: the place of its node.
     After(usize),
-    /// In a class.
+    // In a class.
     Within(Class),
 }
 
-/// The nodes so far, and where in the expression the reader is.
+// The nodes so far, and where in the expression the reader is.
 #[derive(Drop)]
-pub struct Reader {
+pub(crate) struct Reader {
     pub nodes: Vec<RegexNode>,
     pub outer: Vec<Group>,
     pub level: Group,
@@ -50,8 +52,8 @@ const NOTHING: Group = Group {
 };
 
 impl Reader {
-    /// Before the first symbol.
-    pub fn new(alloc: Global) -> Reader
+    // Before the first symbol.
+    pub(crate) fn new(alloc: Global) -> Reader
         ensures { Keeps result (Before no_level []) }
     {
         Reader {
@@ -62,8 +64,8 @@ impl Reader {
         }
     }
 
-    /// The nodes.
-    pub fn into_nodes(self) -> Vec<RegexNode>
+    // The nodes.
+    pub(crate) fn into_nodes(self) -> Vec<RegexNode>
         ensures { result ≡ self.nodes }
     {
         let Reader {
@@ -238,8 +240,8 @@ impl Reader {
         }
     }
 
-    /// Reads a symbol, if it can follow. Answers whether it can.
-    pub fn step(&mut self, symbol: Symbol) -> Result<bool, AllocError>
+    // Reads a symbol, if it can follow. Answers whether it can.
+    pub(crate) fn step(&mut self, symbol: Symbol) -> Result<bool, AllocError>
         ensures { IfOk result (λ shifted. (s : State) → Keeps self.old s → Shifted shifted (step s symbol) self.new) }
     {
         match self.place {
@@ -258,8 +260,8 @@ impl Reader {
         }
     }
 
-    /// Ends the expression, if the text may end here. Answers whether it may.
-    pub fn finish(&mut self) -> Result<bool, AllocError>
+    // Ends the expression, if the text may end here. Answers whether it may.
+    pub(crate) fn finish(&mut self) -> Result<bool, AllocError>
         ensures { IfOk result (λ done. (s : State) → Keeps self.old s → Finishes done (ended s) self.new) }
     {
         if !self.outer.is_empty() {

@@ -1,4 +1,4 @@
-//! From bytes to symbols.
+//! With which symbol does a text begin?
 
 ghost use Rattle.std.specs.Prelude.{◌≡◌, MatchOption, Some, None};
 ghost use Rattle.wb_regex.specs.Text.{byte_symbol, escape_byte, hex_digit};
@@ -85,8 +85,8 @@ fn escape(bytes: &[u8]) -> Option<(Symbol, &[u8])>
     }
 }
 
-/// The first symbol, and the bytes after it. None where no symbol begins so.
-pub fn first_symbol(bytes: &[u8]) -> Option<(Symbol, &[u8])>
+// The first symbol, and the bytes after it. None where no symbol begins so.
+pub(crate) fn first_symbol(bytes: &[u8]) -> Option<(Symbol, &[u8])>
     ensures { MatchOption result (symbol_at bytes.now ≡ None) (λ found. symbol_at bytes.now ≡ Some (found.0, found.1.now)) }
 {
     match bytes {
