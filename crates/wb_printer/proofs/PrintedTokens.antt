@@ -9,7 +9,8 @@ use Rattle.wb_tokens.specs.declared.token.Token.{Token}
 use Rattle.wb_tokens.specs.declared.token.Token.TheVariants as t
 use Rattle.wb_tokens.specs.NextToken.{IsTokenAt}
 use Rattle.wb_tokens.specs.NextToken.{IsNextIn}
-use Rattle.wb_tokens.specs.Spelling.{IsToken, escaped_byte, hex_value, IsStringPart, IsStringBody, IsString}
+use Rattle.wb_tokens.specs.Spelling.{IsToken, escaped_byte, IsStringPart, IsStringBody, IsString}
+use Rattle.wb_base.specs.Decimal.{hex_value}
 use Rattle.wb_base.specs.Identifiers.{IsIdentifier, IsReserved}
 use Rattle.wb_tokens.proofs.CallerLemmas.{printed_integer, printed_string}
 use Rattle.wb_syntax.specs.Tokens.{Lexeme}

@@ -10,7 +10,9 @@ use Rattle.std.specs.Char.{is_ascii_digit, digit_value}
 use Rattle.std.specs.List.{list_all}
 use Rattle.std.specs.Str.Parse.{AllDigits, IsNumeral, digits_value}
 use Rattle.wb_tokens.specs.Longest.{first_class, IsLongest}
-use Rattle.wb_tokens.specs.Numbers.{signed, digit_count, number_of, FindsNumber}
+use Rattle.wb_tokens.specs.Numbers.{number_of, FindsNumber}
+use Rattle.wb_lemmas.proofs.Digits.{digits_pass}
+use Rattle.wb_base.specs.Decimal.{signed, digit_count}
 use Rattle.wb_tokens.specs.Spelling.{IsInteger}
 use Rattle.wb_tokens.specs.declared.token_class.TokenClass.TheVariants.{Number}
 use Rattle.wb_tokens.specs.declared.token.Token.{Token}
@@ -18,17 +20,9 @@ use Rattle.wb_tokens.specs.declared.token.Token.TheVariants as t
 use Rattle.wb_tokens.proofs.FirstByteLemmas.{digit_is, number_is}
 use Rattle.wb_tokens.proofs.LongestLemmas.{prefix_some, prefix_kind, all_before, headed}
 
--- that each byte is a digit, as a test
-tests_digits : IsDigitsTest (λ ds. list_all is_ascii_digit ds ≡ true)
-tests_digits = search rules
-
 -- the run of digits at the beginning is all digits
 pub run_digits : (y : List ℕ) → AllDigits 10 (take (digit_count y) y)
-run_digits y = (numerals_by_value (λ ds. list_all is_ascii_digit ds ≡ true) tests_digits).to (take (digit_count y) y) (all_before is_ascii_digit y)
-
--- digits pass the test
-pub digit_run : (y : List ℕ) → AllDigits 10 y → list_all is_ascii_digit y ≡ true
-digit_run y all = (numerals_by_value (λ ds. list_all is_ascii_digit ds ≡ true) tests_digits).from y all
+run_digits y = digits_pass (take (digit_count y) y) (all_before is_ascii_digit y)
 
 -- a run of digits at the beginning is no longer
 digits_within : (n : ℕ) (y : List ℕ) → n ≤ length y → AllDigits 10 (take n y) → n ≤ digit_count y
@@ -154,27 +148,6 @@ pub integer_none : (text : List ℕ) (negative : Bool) (digits : List ℕ) → I
 integer_none text negative digits s begins none token count l =
     let i = number_is token (take count text) l.spelled (sym (prefix_kind text token count l.spelled) ∙ begins) in
     no_token text negative digits s i.0 count (subst (λ k. IsLongest text k count) i.1 l) none
-
--- what a digit is worth
-digit_worth : (c : ℕ) → 48 ≤ c → c ≤ 57 → digit_value c ≡ c - 48
-digit_worth c low high = grind arith
-
--- one more digit
-pub record OneMore (ds : List ℕ) (i value : ℕ) : Type 0 where
-  pub low : 48 ≤ get_or ds i 0
-  pub step : digits_value 10 (take (i + 1) ds) ≡ value * 10 + (get_or ds i 0 - 48)
-  pub below : digits_value 10 (take (i + 1) ds) ≤ digits_value 10 ds
-
--- the value grows by each digit
-pub one_more : (ds : List ℕ) (i value : ℕ) → AllDigits 10 ds → i < length ds → value ≡ digits_value 10 (take i ds) → OneMore ds i value
-one_more ds i value all lt e =
-    let r = digit_at ds i all lt in
-    record {
-      low = r.0;
-      step = ap (digits_value 10) (take_more ds i 0 lt) ∙ digits_value_push 10 (take i ds) (get_or ds i 0)
-          ∙ ap (λ n. n * 10 + digit_value (get_or ds i 0)) (sym e) ∙ ap (λ n. value * 10 + n) (digit_worth (get_or ds i 0) r.0 r.1);
-      below = digits_value-take-le 10 ds (i + 1) (omega arith);
-    }
 
 -- a text with a minus, and one without
 pub signed_text : (text : List ℕ) → 0 < length text → get_or text 0 0 ≡ 45 → IsSigned text true (drop 1 text)

@@ -4,7 +4,8 @@ use Rattle.std.proofs.Common.{◌≡◌, ◌≢◌, ℕ, ◌+◌, ◌*◌, ◌<�
 use Rattle.std.proofs.lemmas.Bool.{cases_Bool, eqb-true}
 use Rattle.std.proofs.Math.Seq.{take-add, take-append_seam}
 use Rattle.std.proofs.lemmas.List.{drop_at, get_or-drop, take-append-drop}
-use Rattle.wb_tokens.specs.Spelling.{is_plain, escaped_byte, hex_value, IsStringPart, IsStringBody, IsRegexPart, IsRegexBody}
+use Rattle.wb_tokens.specs.Spelling.{is_plain, escaped_byte, IsStringPart, IsStringBody, IsRegexPart, IsRegexBody}
+use Rattle.wb_base.specs.Decimal.{hex_value}
 use Rattle.wb_tokens.specs.Skipping.{HasByte}
 use Rattle.wb_tokens.specs.Parts.{byte_of, counted, hexadecimal_at, escape_at, string_part, regex_escape, regex_part}
 

@@ -5,7 +5,8 @@ use Rattle.std.proofs.lemmas.Fmt.{decimal_is_IsNumeral}
 use Rattle.std.specs.Fmt.{signed_decimal, digit_glyph}
 use Rattle.std.specs.List.{flat_map}
 use Rattle.wb_tokens.specs.Printing.{printed_byte, printed_text}
-use Rattle.wb_tokens.specs.Spelling.{is_plain, hex_value, IsInteger, IsStringPart, IsStringBody, IsString}
+use Rattle.wb_tokens.specs.Spelling.{is_plain, IsInteger, IsStringPart, IsStringBody, IsString}
+use Rattle.wb_base.specs.Decimal.{hex_value}
 
 -- a printed integer is the integer
 pub integer_printed : (z : ℤ) → FitsSigned w64 z → IsInteger (signed_decimal z) z

@@ -10,7 +10,8 @@ use Rattle.std.specs.Str.Parse.{IsNumeral, digits_value}
 use Rattle.wb_tokens.specs.Longest.{first_class, IsLongest}
 use Rattle.wb_tokens.specs.Marks.{mark_at}
 use Rattle.wb_tokens.specs.NextToken.{IsTokenAt}
-use Rattle.wb_tokens.specs.Numbers.{digit_count, FindsNumber, signed}
+use Rattle.wb_tokens.specs.Numbers.{FindsNumber}
+use Rattle.wb_base.specs.Decimal.{digit_count, signed}
 use Rattle.wb_tokens.specs.Skipping.{HasByte}
 use Rattle.wb_tokens.specs.Spelling.{IsInteger, IsString, IsStringBody, IsRegexBody, Spells, HasValueInRange, IsToken}
 use Rattle.wb_base.specs.Identifiers.{is_name_byte}
@@ -21,7 +22,8 @@ use Rattle.wb_tokens.specs.declared.punctuation.Punctuation.TheVariants as p
 use Rattle.wb_tokens.specs.declared.token.Token.{Token}
 use Rattle.wb_tokens.specs.declared.token.Token.TheVariants as t
 use Rattle.wb_tokens.proofs.FirstByteLemmas.{class_of, spelled_some, spelled_beginning, name_bytes, begins_letter}
-use Rattle.wb_tokens.proofs.IntegerLemmas.{digit_run, integer_longest}
+use Rattle.wb_lemmas.proofs.Digits.{pass_digits}
+use Rattle.wb_tokens.proofs.IntegerLemmas.{integer_longest}
 use Rattle.wb_tokens.proofs.LongestLemmas.{name_longest}
 use Rattle.wb_tokens.proofs.MarkLemmas.{mark_longest}
 use Rattle.wb_tokens.proofs.OnlyLemmas.{stands_at}
@@ -90,7 +92,7 @@ name_stands token x rest s range kind stops =
 digits_stand : (negative : Bool) (y rest : List ℕ) (z : ℤ) → IsNumeral 10 y → z ≡ signed negative (digits_value 10 y) → FitsSigned w64 z → StopsAt is_ascii_digit rest
     → FindsNumber negative (y ++ rest) (Some (z, length y))
 digits_stand negative y rest z n e fits stops =
-    let run = run_length is_ascii_digit y rest (digit_run y n.1) stops in
+    let run = run_length is_ascii_digit y rest (pass_digits y n.1) stops in
     let here : take (digit_count (y ++ rest)) (y ++ rest) ≡ y = ap (λ k. take k (y ++ rest)) run ∙ take-append_seam y rest in
     (e ∙ ap (λ l. signed negative (digits_value 10 l)) (sym here), sym run, omega (arith, run, n.0), fits)
 

@@ -1,18 +1,8 @@
 -- The number at the beginning of some bytes.
-use Rattle.std.specs.Prelude.{◌≡◌, ℕ, ◌<◌, ◌⊎◌, List, Option, Some, None, Bool, true, false, ℤ, pos, neg_ℤ, take, FitsSigned}
-use Rattle.std.specs.Char.{is_ascii_digit}
+use Rattle.std.specs.Prelude.{◌≡◌, ℕ, ◌<◌, ◌⊎◌, List, Option, Some, None, Bool, ℤ, take, FitsSigned}
 use Rattle.std.specs.Int.{w64}
-use Rattle.std.specs.List.{prefix_len}
 use Rattle.std.specs.Str.Parse.{digits_value}
-
--- the number, or its negative
-abbrev pub signed : Bool → ℕ → ℤ
-signed true n = neg_ℤ (pos n)
-signed false n = pos n
-
--- how many digits the bytes begin with
-abbrev pub digit_count : List ℕ → ℕ
-digit_count text = prefix_len is_ascii_digit text
+use Rattle.wb_base.specs.Decimal.{signed, digit_count}
 
 -- the value of the digits that the bytes begin with
 abbrev pub number_of : Bool → List ℕ → ℤ

@@ -1,6 +1,7 @@
 -- The first part of the body of a string, and of the body of a regular expression.
 use Rattle.std.specs.Prelude.{◌≢◌, ℕ, ◌+◌, ◌*◌, ◌==◌, ◌||◌, List, [], ◌∷◌, ◌++◌, Option, Some, None, if◌then◌else◌, take}
-use Rattle.wb_tokens.specs.Spelling.{is_plain, escaped_byte, hex_value, IsStringBody, IsRegexBody}
+use Rattle.wb_tokens.specs.Spelling.{is_plain, escaped_byte, IsStringBody, IsRegexBody}
+use Rattle.wb_base.specs.Decimal.{hex_value}
 use Rattle.wb_tokens.specs.Skipping.{HasByte}
 
 -- the byte that two hexadecimal digits write

@@ -3,6 +3,7 @@ use Rattle.std.specs.Prelude.{◌≡◌, ℕ, ◌+◌, ◌*◌, ◌-◌, ◌==�
 use Rattle.std.specs.Int.{w64}
 use Rattle.std.specs.Str.Parse.{IsNumeral, digits_value}
 use Rattle.wb_tokens.specs.Words.{word_text, punctuation_text}
+use Rattle.wb_base.specs.Decimal.{hex_value}
 use Rattle.wb_base.specs.Identifiers.{IsIdentifier, IsReserved}
 use Rattle.wb_tokens.specs.declared.token.Token.{Token}
 use Rattle.wb_tokens.specs.declared.token.Token.TheVariants as t
@@ -21,12 +22,6 @@ abbrev pub escaped_byte : ℕ → Option ℕ
 escaped_byte e =
     if e == 34 then Some 34 else if e == 92 then Some 92 else if e == 110 then Some 10 else if e == 116 then Some 9
     else if e == 114 then Some 13 else None
-
--- the value of a hexadecimal digit, of either case
-abbrev pub hex_value : ℕ → Option ℕ
-hex_value d =
-    if nat_le 48 d && nat_le d 57 then Some (d - 48) else if nat_le 97 d && nat_le d 102 then Some (d - 87)
-    else if nat_le 65 d && nat_le d 70 then Some (d - 55) else None
 
 -- the bytes stand for one byte in a string
 pub data IsStringPart : List ℕ → ℕ → Type 0 where

@@ -3,13 +3,15 @@
 ghost use Rattle.std.specs.Prelude.{◌≡◌, ◌≤◌, ◌<◌, true, length, slice_index, IfOk, IfSome, Option, option_map, List, ℕ, Vec};
 ghost use Rattle.wb_tokens.specs.Longest.{first_class, FindsLongest};
 ghost use Rattle.wb_tokens.specs.Parts.{string_part, escape_at, hexadecimal_at, FindsString};
-ghost use Rattle.wb_tokens.specs.Spelling.{is_plain, escaped_byte, hex_value};
+ghost use Rattle.wb_tokens.specs.Spelling.{is_plain, escaped_byte};
+ghost use Rattle.wb_base.specs.Decimal.{hex_value};
 
 use crate::Token;
 use crate::skipping::has_byte;
 use crate::token_class::TokenClass;
 use std::alloc::{AllocError, Global};
 use wb_base::Bytes;
+use wb_base::decimal::hex_value;
 
 // The byte that a byte behind a backslash stands for.
 fn escaped_byte(e: u8) -> Option<u8>
@@ -21,19 +23,6 @@ fn escaped_byte(e: u8) -> Option<u8>
         b'n' => Some(b'\n'),
         b't' => Some(b'\t'),
         b'r' => Some(b'\r'),
-        _ => None,
-    }
-}
-
-// The value of a hexadecimal digit.
-fn hex_value(digit: u8) -> Option<u8>
-    ensures value { result ≡ hex_value digit }
-    ensures small { IfSome result (λ value. value < 16) }
-{
-    match digit {
-        b'0'..=b'9' => Some(digit - b'0'),
-        b'a'..=b'f' => Some(digit - b'a' + 10),
-        b'A'..=b'F' => Some(digit - b'A' + 10),
         _ => None,
     }
 }
