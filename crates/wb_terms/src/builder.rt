@@ -26,27 +26,27 @@ use std::alloc::{AllocError, Global};
 use wb_base::{Bytes, push};
 use wb_values::{Signatures, TreeId, TreeStore, Value};
 
-/// A node that was begun.
+// A node that was begun.
 #[derive(Clone, Copy)]
 pub(crate) struct Frame {
-    /// Its production, or the count of the signatures where its name has none.
+    // Its production, or the count of the signatures where its name has none.
     pub production: usize,
-    /// The place of its name.
+    // The place of its name.
     pub at: usize,
-    /// How many values there were before its children.
+    // How many values there were before its children.
     pub start: usize,
 }
 
-/// The least places of what doesn't fit among the nodes that were ended.
+// The least places of what doesn't fit among the nodes that were ended.
 #[derive(Clone, Copy)]
 pub(crate) struct Faults {
-    /// That of a name that no production has.
+    // That of a name that no production has.
     pub unknown: Option<usize>,
-    /// That of a node with a wrong number of children, or of a child of a wrong kind.
+    // That of a node with a wrong number of children, or of a child of a wrong kind.
     pub wrong: Option<usize>,
 }
 
-/// The nodes that were begun, the innermost last, and the children that were met, each with its place.
+// The nodes that were begun, the innermost last, and the children that were met, each with its place.
 #[derive(Drop)]
 pub(crate) struct Builder {
     pub values: Vec<Value>,
@@ -112,8 +112,8 @@ impl Faults {
 }
 
 impl Builder {
-    /// Nothing was met. Takes no memory.
-    pub fn new(alloc: Global) -> Builder
+    // Nothing was met. Takes no memory.
+    pub(crate) fn new(alloc: Global) -> Builder
         ensures { (signatures : List Signature) (trees : List Tree) → Holds signatures trees [] result }
     {
         Builder {
@@ -194,8 +194,8 @@ impl Builder {
         self.add(Value::Tree(tree), frame.at)
     }
 
-    /// What is met next. The only error is want of memory, and then trees were added at most.
-    pub fn handle(
+    // What is met next. The only error is want of memory, and then trees were added at most.
+    pub(crate) fn handle(
         &mut self,
         signatures: &Signatures,
         store: &mut TreeStore,
@@ -218,8 +218,8 @@ impl Builder {
         }
     }
 
-    /// The tree of the whole term, or the fault of the term that comes first.
-    pub fn into_tree(
+    // The tree of the whole term, or the fault of the term that comes first.
+    pub(crate) fn into_tree(
         mut self,
         signatures: &Signatures,
         store: &TreeStore,

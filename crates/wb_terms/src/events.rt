@@ -38,7 +38,7 @@ fn qualified_name(alloc: Global, owner: &[u8], name: &[u8]) -> Result<Bytes, All
 
 impl Events {
     // Nothing yet. Takes no memory.
-    pub fn new(alloc: Global) -> Events
+    pub(crate) fn new(alloc: Global) -> Events
         ensures { result ≡ [] }
     {
         Events {
@@ -47,7 +47,7 @@ impl Events {
     }
 
     // One event more, which is the last. The only error is want of memory.
-    pub fn push(&mut self, event: Event) -> Result<(), AllocError>
+    pub(crate) fn push(&mut self, event: Event) -> Result<(), AllocError>
         ensures ok { OnOk result (self.new ≡ event ∷ self.old) }
     {
         push(&mut self.items, event)
@@ -82,7 +82,7 @@ impl Events {
     }
 
     // Of the last two names the first is that of an owner, and the two are one name. The only error is want of memory.
-    pub fn qualify(&mut self, alloc: Global) -> Result<(), AllocError>
+    pub(crate) fn qualify(&mut self, alloc: Global) -> Result<(), AllocError>
         ensures ok { OnOk result (self.new ≡ qualified self.old) }
     {
         match self.pop() {
@@ -98,7 +98,7 @@ impl Events {
     }
 
     // The events from the first to the last. Takes no memory.
-    pub fn as_slice(&self) -> &[Event]
+    pub(crate) fn as_slice(&self) -> &[Event]
         ensures { reverse result.now ≡ self.now }
     {
         self.items.as_slice()
