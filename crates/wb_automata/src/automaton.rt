@@ -5,14 +5,19 @@
 ghost use Rattle.std.specs.Prelude.{◌≡◌, ◌<◌, ◌≤◌, ◌↔◌, ◌++◌, ◌∷◌, ℕ, [], Contains, IfOk, IfSome, IsNone, IsTrue, List, Some, length, slice_get};
 ghost use Rattle.wb_automata.specs.Automata.{IsMatch, MatchesIn, GoesOn, LeadsTo, IsOrdered, Path, most_states};
 ghost use Rattle.wb_automata.specs.Order.{AreRising};
+ghost use Rattle.wb_automata.specs.Inner.Accepted.{AreAccepted};
+ghost use Rattle.wb_automata.specs.Inner.Exploring.{AreExplored};
+ghost use Rattle.wb_automata.specs.Inner.Follows.{AreBelow};
+ghost use Rattle.wb_automata.specs.Inner.Tables.{AreTables};
+ghost use Rattle.wb_automata.specs.Inner.Transitions.{IsTable};
 
 use crate::accepted::accepted_of;
 use crate::classes::classes_of;
-use crate::explore::explore;
+use crate::explore::{Explored, explore};
 use crate::moves::state_from;
 use crate::predecessor::Predecessor;
 use crate::rows::Rows;
-use crate::tables::tables_of;
+use crate::tables::{Tables, tables_of};
 use crate::text::text_at;
 use std::alloc::{AllocError, Global};
 use std::marker::Model;
@@ -69,21 +74,7 @@ impl Automaton {
         ensures sets { IfOk result (λ automaton. automaton.sets ≡ sets.now) }
     {
         let tables = tables_of(alloc, terminals, sets)?;
-        let classes = classes_of(alloc, tables.nodes.as_slice())?;
-        let explored = explore(alloc, &tables, classes.firsts.as_slice())?;
-        let accepted = accepted_of(alloc, terminals.len(), &tables.ends, &explored.states)?;
-        let kept = copies(alloc, terminals)?;
-        let kept_sets = set_copies(alloc, sets)?;
-        Ok(Automaton {
-            terminals: kept,
-            sets: kept_sets,
-            starts: explored.starts,
-            classes: classes.of,
-            width: classes.firsts.len(),
-            moves: explored.moves.into_codes(),
-            accepted,
-            predecessors: explored.states.into_origins(),
-        })
+        from_tables(alloc, terminals, sets, &tables)
     }
 
     /// The expressions of the terminals. Takes no memory.
@@ -163,6 +154,74 @@ impl Automaton {
     {
         text_at(alloc, &self.predecessors, state)
     }
+}
+
+// The automaton with these tables.
+fn from_tables(
+    alloc: Global,
+    terminals: &[Regex],
+    sets: &[TermSet],
+    tables: &Tables,
+) -> Result<Automaton, AllocError>
+    requires { AreTables terminals.now sets.now tables.now }
+    ensures terminals { IfOk result (λ automaton. automaton.terminals ≡ terminals.now) }
+    ensures sets { IfOk result (λ automaton. automaton.sets ≡ sets.now) }
+{
+    let classes = classes_of(alloc, tables.nodes.as_slice())?;
+    let found = found_of(alloc, tables, classes.firsts.as_slice(), terminals.len())?;
+    let kept = kept_of(alloc, terminals, sets)?;
+    let FoundStates { explored, accepted } = found;
+    Ok(Automaton {
+        terminals: kept.terminals,
+        sets: kept.sets,
+        starts: explored.starts,
+        classes: classes.of,
+        width: classes.firsts.len(),
+        moves: explored.moves.into_codes(),
+        accepted,
+        predecessors: explored.states.into_predecessors(),
+    })
+}
+
+// The states, and what each accepts.
+#[derive(Drop)]
+struct FoundStates {
+    explored: Explored,
+    accepted: Rows,
+}
+
+fn found_of(
+    alloc: Global,
+    tables: &Tables,
+    bytes: &[u8],
+    count: usize,
+) -> Result<FoundStates, AllocError>
+    requires table { IsTable tables.now }
+    requires rising { AreRising bytes.now }
+    requires ends { AreBelow count tables.now.ends }
+    requires rows { length tables.now.ends ≡ length tables.now.follow }
+    ensures explored { IfOk result (λ f. AreExplored tables.now bytes.now f.explored.states f.explored.moves f.explored.starts.items (length tables.now.starts)) }
+    ensures accepted { IfOk result (λ f. AreAccepted tables.now.ends f.explored.states.sets f.accepted (length f.explored.states.sets)) }
+{
+    let explored = explore(alloc, tables, bytes)?;
+    let accepted = accepted_of(alloc, count, &tables.ends, &explored.states)?;
+    Ok(FoundStates { explored, accepted })
+}
+
+// Copies of terminals and sets.
+#[derive(Drop)]
+struct Kept {
+    terminals: Vec<Regex>,
+    sets: Vec<TermSet>,
+}
+
+fn kept_of(alloc: Global, terminals: &[Regex], sets: &[TermSet]) -> Result<Kept, AllocError>
+    ensures terminals { IfOk result (λ kept. kept.terminals.items ≡ terminals.now) }
+    ensures sets { IfOk result (λ kept. kept.sets.items ≡ sets.now) }
+{
+    let terminals = copies(alloc, terminals)?;
+    let sets = set_copies(alloc, sets)?;
+    Ok(Kept { terminals, sets })
 }
 
 fn copies(alloc: Global, terminals: &[Regex]) -> Result<Vec<Regex>, AllocError>

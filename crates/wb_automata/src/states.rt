@@ -123,7 +123,7 @@ impl States {
     }
 
     // Where each state was found from.
-    pub(crate) fn into_origins(self) -> Vec<Predecessor>
+    pub(crate) fn into_predecessors(self) -> Vec<Predecessor>
         ensures { paths_of result.items ≡ self.paths }
     {
         self.predecessors

@@ -1,0 +1,22 @@
+use Rattle.wb_automata.proofs.WalkLemmas.{whole}
+use Rattle.wb_automata.proofs.automaton.from_tables.Goals as goal
+
+pub found_of-requires-clause-table : goal.found_of-requires-clause-table
+found_of-requires-clause-table c = c.requires.table
+
+pub found_of-requires-clause-ends : goal.found_of-requires-clause-ends
+found_of-requires-clause-ends c = c.requires.ends_below
+
+pub found_of-requires-clause-rows : goal.found_of-requires-clause-rows
+found_of-requires-clause-rows c = c.requires.ends_len
+
+pub invariant_of-result : goal.invariant_of-result
+invariant_of-result c =
+    let t = c.args.tables.now in
+    let e = c.in_ok-found.found.explored in
+    rw (c.into_predecessors.ensures, c.in_ok-kept.ensures.terminals, c.in_ok-kept.ensures.sets, c.len.ensures, c.in_ok-classes.classes.firsts.ok.0, c.into_codes.ensures) (whole c.args.terminals.now c.args.sets.now t c.in_ok-classes.classes.of.items c.in_ok-classes.classes.firsts.items e.states e.moves e.starts.items c.in_ok-found.found.accepted (record {
+      tables = c.requires;
+      are_classes = rw c.as_slice.ensures.value at c.in_ok-classes.ensures;
+      explored = rw c.as_slice-2.ensures.value at c.in_ok-found.ensures.explored;
+      are_accepted = c.in_ok-found.ensures.accepted;
+    }))
