@@ -5,7 +5,7 @@ use Rattle.std.proofs.lemmas.Str.Parse.{digit_from_value}
 use Rattle.std.specs.Char.{is_ascii_digit}
 use Rattle.std.specs.List.{list_all}
 use Rattle.std.specs.Str.Parse.{IsNumeral}
-use Rattle.wb_tokens.specs.Longest.{first_class}
+use Rattle.wb_tokens.specs.Inner.Longest.{first_class}
 use Rattle.wb_tokens.specs.Spelling.{IsInteger, IsString, IsRegexBody, Spells}
 use Rattle.wb_base.specs.Identifiers.{is_letter, is_name_byte}
 use Rattle.wb_tokens.specs.Words.{word_text, punctuation_text}
@@ -16,7 +16,9 @@ use Rattle.wb_tokens.specs.declared.punctuation.Punctuation.TheVariants as p
 use Rattle.wb_tokens.specs.declared.token.Token.{Token}
 use Rattle.wb_tokens.specs.declared.token.Token.TheVariants as t
 use Rattle.wb_tokens.specs.declared.word.Word.{Word}
-use Rattle.wb_tokens.specs.declared.word.Word.TheVariants as w
+use Rattle.wb_tokens.specs.contracts.word.Word as words
+use Rattle.wb_tokens.proofs.Enumerations.{each_value}
+use Rattle.wb_lemmas.proofs.Booleans.{and_left, and_right}
 
 -- the kind of a token
 abbrev pub class_of : Token → TokenClass
@@ -27,49 +29,28 @@ class_of (t.Text text) = Quote
 class_of (t.Regex body) = Slash
 class_of (t.Punctuation mark) = Mark
 
+-- a letter begins names and reserved words
+pub letter_is : (b : ℕ) → is_letter b ≡ true → first_class b ≡ Letter
+letter_is b h = ap (λ t. cond t Letter (cond (is_ascii_digit b || eqb b 45) Number (cond (eqb b 34) Quote (cond (eqb b 47) Slash Mark)))) h
+
 -- what each word is
 record IsWordText (x : List ℕ) : Type 0 where
   some : 0 < length x
   letter : first_class (get_or x 0 0) ≡ Letter
   bytes : list_all is_name_byte x ≡ true
 
--- each reserved word is such a text
+-- a text that begins with a letter has a byte
+some_of : (x : List ℕ) → is_letter (get_or x 0 0) ≡ true → 0 < length x
+some_of [] h = absurd (cc)
+some_of (b ∷ x) h = omega arith
+
+-- each reserved word begins with a letter, and its bytes are letters, digits and `_`
 word_is : (word : Word) → IsWordText (word_text word)
-word_is w.Abstract = record { some = omega arith; letter = refl; bytes = refl }
-word_is w.Aspect = record { some = omega arith; letter = refl; bytes = refl }
-word_is w.Bool = record { some = omega arith; letter = refl; bytes = refl }
-word_is w.Concrete = record { some = omega arith; letter = refl; bytes = refl }
-word_is w.Else = record { some = omega arith; letter = refl; bytes = refl }
-word_is w.End = record { some = omega arith; letter = refl; bytes = refl }
-word_is w.Extensible = record { some = omega arith; letter = refl; bytes = refl }
-word_is w.Extension = record { some = omega arith; letter = refl; bytes = refl }
-word_is w.False = record { some = omega arith; letter = refl; bytes = refl }
-word_is w.For = record { some = omega arith; letter = refl; bytes = refl }
-word_is w.Format = record { some = omega arith; letter = refl; bytes = refl }
-word_is w.Forward = record { some = omega arith; letter = refl; bytes = refl }
-word_is w.Forwards = record { some = omega arith; letter = refl; bytes = refl }
-word_is w.Host = record { some = omega arith; letter = refl; bytes = refl }
-word_is w.If = record { some = omega arith; letter = refl; bytes = refl }
-word_is w.Ignore = record { some = omega arith; letter = refl; bytes = refl }
-word_is w.Inh = record { some = omega arith; letter = refl; bytes = refl }
-word_is w.Int = record { some = omega arith; letter = refl; bytes = refl }
-word_is w.Lexeme = record { some = omega arith; letter = refl; bytes = refl }
-word_is w.Local = record { some = omega arith; letter = refl; bytes = refl }
-word_is w.Marking = record { some = omega arith; letter = refl; bytes = refl }
-word_is w.Needs = record { some = omega arith; letter = refl; bytes = refl }
-word_is w.Nonterminal = record { some = omega arith; letter = refl; bytes = refl }
-word_is w.Occurs = record { some = omega arith; letter = refl; bytes = refl }
-word_is w.On = record { some = omega arith; letter = refl; bytes = refl }
-word_is w.Over = record { some = omega arith; letter = refl; bytes = refl }
-word_is w.Prefer = record { some = omega arith; letter = refl; bytes = refl }
-word_is w.Start = record { some = omega arith; letter = refl; bytes = refl }
-word_is w.Syn = record { some = omega arith; letter = refl; bytes = refl }
-word_is w.Terminal = record { some = omega arith; letter = refl; bytes = refl }
-word_is w.Text = record { some = omega arith; letter = refl; bytes = refl }
-word_is w.Then = record { some = omega arith; letter = refl; bytes = refl }
-word_is w.To = record { some = omega arith; letter = refl; bytes = refl }
-word_is w.Top = record { some = omega arith; letter = refl; bytes = refl }
-word_is w.True = record { some = omega arith; letter = refl; bytes = refl }
+word_is word =
+    let x = word_text word in
+    let h = each_value words.enum (λ y. is_letter (get_or (word_text y) 0 0) && list_all is_name_byte (word_text y)) refl word in
+    let letter = and_left (is_letter (get_or x 0 0)) (list_all is_name_byte x) h in
+    record { some = some_of x letter; letter = letter_is (get_or x 0 0) letter; bytes = and_right (is_letter (get_or x 0 0)) (list_all is_name_byte x) h }
 
 -- what each mark is
 record IsMarkText (x : List ℕ) : Type 0 where
@@ -89,10 +70,6 @@ mark_is p.Comma = record { some = omega arith; mark = refl }
 mark_is p.OpenParenthesis = record { some = omega arith; mark = refl }
 mark_is p.CloseParenthesis = record { some = omega arith; mark = refl }
 mark_is p.At = record { some = omega arith; mark = refl }
-
--- a letter begins names and reserved words
-pub letter_is : (b : ℕ) → is_letter b ≡ true → first_class b ≡ Letter
-letter_is b h = ap (λ t. cond t Letter (cond (is_ascii_digit b || eqb b 45) Number (cond (eqb b 34) Quote (cond (eqb b 47) Slash Mark)))) h
 
 -- a byte from `0` to `9` is a digit
 pub digit_is : (b : ℕ) → 48 ≤ b → b ≤ 57 → is_ascii_digit b ≡ true

@@ -9,8 +9,8 @@ use Rattle.std.proofs.lemmas.Str.Parse.{IsDigitsTest, numerals_by_value, digit_f
 use Rattle.std.specs.Char.{is_ascii_digit, digit_value}
 use Rattle.std.specs.List.{list_all}
 use Rattle.std.specs.Str.Parse.{AllDigits, IsNumeral, digits_value}
-use Rattle.wb_tokens.specs.Longest.{first_class, IsLongest}
-use Rattle.wb_tokens.specs.Numbers.{number_of, FindsNumber}
+use Rattle.wb_tokens.specs.Inner.Longest.{first_class, IsLongest}
+use Rattle.wb_tokens.specs.Inner.Numbers.{number_of, FindsNumber}
 use Rattle.wb_lemmas.proofs.Digits.{digits_pass}
 use Rattle.wb_base.specs.Decimal.{signed, digit_count}
 use Rattle.wb_tokens.specs.Spelling.{IsInteger}
@@ -18,7 +18,8 @@ use Rattle.wb_tokens.specs.declared.token_class.TokenClass.TheVariants.{Number}
 use Rattle.wb_tokens.specs.declared.token.Token.{Token}
 use Rattle.wb_tokens.specs.declared.token.Token.TheVariants as t
 use Rattle.wb_tokens.proofs.FirstByteLemmas.{digit_is, number_is}
-use Rattle.wb_tokens.proofs.LongestLemmas.{prefix_some, prefix_kind, all_before, headed}
+use Rattle.wb_tokens.proofs.LongestLemmas.{prefix_some, prefix_kind}
+use Rattle.wb_lemmas.proofs.Runs.{all_before, headed}
 
 -- the run of digits at the beginning is all digits
 pub run_digits : (y : List ℕ) → AllDigits 10 (take (digit_count y) y)

@@ -1,4 +1,5 @@
 pub mod CallerLemmas
+pub mod Enumerations
 mod FirstByteLemmas
 mod IntegerLemmas
 pub mod KindLaws

@@ -5,7 +5,7 @@ use Rattle.std.proofs.lemmas.List.Folds.{list_all_at}
 use Rattle.std.proofs.lemmas.List.Sums.{prefix_len-le-length, prefix_len_stops, prefix_len_is}
 use Rattle.std.specs.Char.{is_ascii_digit}
 use Rattle.std.specs.List.{list_all, prefix_len}
-use Rattle.wb_tokens.specs.Longest.{first_class, IsLongest}
+use Rattle.wb_tokens.specs.Inner.Longest.{first_class, IsLongest}
 use Rattle.wb_tokens.specs.Spelling.{Spells, HasValueInRange}
 use Rattle.wb_base.specs.Identifiers.{is_letter, is_name_byte, IsIdentifier}
 use Rattle.wb_tokens.specs.declared.token.Token.{Token}
@@ -59,13 +59,3 @@ name_longest text token begins range s = record {
       let none = list_all_at is_name_byte (take more text) n 0 there (ap is_name_byte (get_or-take more text n 0 lt) ∙ stops) in
       cc (all, none);
 }
-
--- how many of the bytes that a test passes are before any other
-pub run_is : (p : ℕ → Bool) (text : List ℕ) (n : ℕ) → n ≤ length text → ((k : ℕ) → k < n → p (get_or text k 0) ≡ true)
-    → (n < length text → p (get_or text n 0) ≡ false) → n ≡ prefix_len p text
-run_is p text n within passes stops = sym (prefix_len_is p text n 0 within passes stops)
-
--- a text begins with its first byte
-pub headed : (text : List ℕ) (b : ℕ) → 0 < length text → get_or text 0 0 ≡ b → text ≡ b ∷ drop 1 text
-headed [] b some h = absurd (omega (arith, some))
-headed (c ∷ x) b some h = ap (λ a. a ∷ x) h

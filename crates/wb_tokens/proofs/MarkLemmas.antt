@@ -3,8 +3,8 @@ use Rattle.std.proofs.Common.{◌≡◌, ℕ, ◌≤◌, List, [], ◌∷◌, �
 use Rattle.std.proofs.Math.Seq.{take-append_seam}
 use Rattle.std.proofs.lemmas.Bool.{cases_Bool, eqb-true}
 use Rattle.std.proofs.lemmas.List.{take-append-drop}
-use Rattle.wb_tokens.specs.Longest.{first_class, IsLongest}
-use Rattle.wb_tokens.specs.Marks.{single_mark, colon_at, mark_at}
+use Rattle.wb_tokens.specs.Inner.Longest.{first_class, IsLongest}
+use Rattle.wb_tokens.specs.Inner.Marks.{single_mark, colon_at, mark_at}
 use Rattle.wb_tokens.specs.Words.{punctuation_text}
 use Rattle.wb_tokens.specs.declared.token_class.TokenClass.TheVariants.{Mark}
 use Rattle.wb_tokens.specs.declared.punctuation.Punctuation.{Punctuation}

@@ -4,7 +4,7 @@ use Rattle.std.proofs.lemmas.Bool.{cases_order}
 use Rattle.std.proofs.lemmas.List.{append_cancel_right}
 use Rattle.std.specs.Prelude.{slice_range}
 use Rattle.std.specs.Str.Parse.{digits_value, IsNumeral}
-use Rattle.wb_tokens.specs.Longest.{IsLongest}
+use Rattle.wb_tokens.specs.Inner.Longest.{IsLongest}
 use Rattle.wb_tokens.specs.NextToken.{IsTokenAt, IsNextIn}
 use Rattle.wb_tokens.specs.Spelling.{IsInteger, IsString, Spells}
 use Rattle.wb_tokens.specs.Words.{word_text}

@@ -7,7 +7,7 @@ use Rattle.std.proofs.lemmas.List.{drop_at, get_or-drop, take-append-drop}
 use Rattle.wb_tokens.specs.Spelling.{is_plain, escaped_byte, IsStringPart, IsStringBody, IsRegexPart, IsRegexBody}
 use Rattle.wb_base.specs.Decimal.{hex_value}
 use Rattle.wb_tokens.specs.Skipping.{HasByte}
-use Rattle.wb_tokens.specs.Parts.{byte_of, counted, hexadecimal_at, escape_at, string_part, regex_escape, regex_part}
+use Rattle.wb_tokens.specs.Inner.Parts.{byte_of, counted, hexadecimal_at, escape_at, string_part, regex_escape, regex_part}
 
 -- a plain byte is no backslash
 not_backslash : (b : ℕ) → is_plain b ≡ true → eqb b 92 ≡ false

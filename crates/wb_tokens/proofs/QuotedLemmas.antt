@@ -1,15 +1,16 @@
 -- What stands between two quotes or slashes is the longest string or regular expression.
 use Rattle.std.proofs.Common.{◌≡◌, ℕ, suc, ◌+◌, ◌<◌, ◌≤◌, List, [], ◌∷◌, ◌++◌, Some, None, length, get_or, take, drop, sym, ap, ◌∙◌, subst, arith, length-take, length-append, append_assoc}
 use Rattle.std.proofs.lemmas.List.{take-append-drop, take_more, drop_more}
-use Rattle.wb_tokens.specs.Longest.{first_class, IsLongest}
-use Rattle.wb_tokens.specs.Parts.{string_part, regex_part, FindsString, FindsRegex}
+use Rattle.wb_tokens.specs.Inner.Longest.{first_class, IsLongest}
+use Rattle.wb_tokens.specs.Inner.Parts.{string_part, regex_part, FindsString, FindsRegex}
 use Rattle.wb_tokens.specs.Skipping.{HasByte}
 use Rattle.wb_tokens.specs.Spelling.{IsStringBody, IsString, IsRegexBody}
 use Rattle.wb_tokens.specs.declared.token_class.TokenClass.TheVariants.{Quote, Slash}
 use Rattle.wb_tokens.specs.declared.token.Token.{Token}
 use Rattle.wb_tokens.specs.declared.token.Token.TheVariants as t
 use Rattle.wb_tokens.proofs.FirstByteLemmas.{string_is, regex_is, begins_quote, begins_slash}
-use Rattle.wb_tokens.proofs.LongestLemmas.{prefix_kind, headed}
+use Rattle.wb_tokens.proofs.LongestLemmas.{prefix_kind}
+use Rattle.wb_lemmas.proofs.Runs.{headed}
 use Rattle.wb_tokens.proofs.PartLemmas.{same_string, same_regex}
 
 -- up to the closing byte, so many bytes stand

@@ -7,10 +7,10 @@ use Rattle.std.specs.Bool.{⊤}
 use Rattle.std.specs.Char.{is_ascii_digit}
 use Rattle.std.specs.List.{list_all, prefix_len}
 use Rattle.std.specs.Str.Parse.{IsNumeral, digits_value}
-use Rattle.wb_tokens.specs.Longest.{first_class, IsLongest}
-use Rattle.wb_tokens.specs.Marks.{mark_at}
+use Rattle.wb_tokens.specs.Inner.Longest.{first_class, IsLongest}
+use Rattle.wb_tokens.specs.Inner.Marks.{mark_at}
 use Rattle.wb_tokens.specs.NextToken.{IsTokenAt}
-use Rattle.wb_tokens.specs.Numbers.{FindsNumber}
+use Rattle.wb_tokens.specs.Inner.Numbers.{FindsNumber}
 use Rattle.wb_base.specs.Decimal.{digit_count, signed}
 use Rattle.wb_tokens.specs.Skipping.{HasByte}
 use Rattle.wb_tokens.specs.Spelling.{IsInteger, IsString, IsStringBody, IsRegexBody, Spells, HasValueInRange, IsToken}

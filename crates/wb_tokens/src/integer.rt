@@ -1,8 +1,10 @@
-//! Integers.
+//! Which integer do bytes begin with, and how long is it?
+//!
+//! What digits write, and whether it is inside 64 bits, is in `wb_base`.
 
 ghost use Rattle.std.specs.Prelude.{◌≡◌, ◌<◌, length, slice_index};
-ghost use Rattle.wb_tokens.specs.Longest.{first_class, FindsLongest};
-ghost use Rattle.wb_tokens.specs.Numbers.{FindsNumber};
+ghost use Rattle.wb_tokens.specs.Inner.Longest.{first_class, FindsLongest};
+ghost use Rattle.wb_tokens.specs.Inner.Numbers.{FindsNumber};
 
 use crate::Token;
 use crate::token_class::TokenClass;

@@ -2,7 +2,7 @@
 
 ghost use Rattle.std.specs.Prelude.{◌≡◌, ◌<◌, true, length, slice_index, IfOk, Some};
 ghost use Rattle.std.specs.List.{prefix_len};
-ghost use Rattle.wb_tokens.specs.Longest.{first_class, FindsLongest};
+ghost use Rattle.wb_tokens.specs.Inner.Longest.{first_class, FindsLongest};
 ghost use Rattle.wb_base.specs.Identifiers.{is_letter, is_name_byte};
 
 use crate::Token;

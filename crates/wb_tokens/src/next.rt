@@ -1,7 +1,7 @@
 //! The reader of one token.
 
 ghost use Rattle.std.specs.Prelude.{◌≡◌, ◌≤◌, ◌<◌, length, IfOk};
-ghost use Rattle.wb_tokens.specs.Longest.{FindsLongest};
+ghost use Rattle.wb_tokens.specs.Inner.Longest.{FindsLongest};
 ghost use Rattle.wb_tokens.specs.NextToken.{IsNextIn, GoesForward};
 ghost use Rattle.wb_predictive.specs.declared.table.Next.{Next};
 ghost use Rattle.wb_tokens.specs.declared.token.Token.{Token};

@@ -1,9 +1,9 @@
 //! The punctuation marks.
 
 ghost use Rattle.std.specs.Prelude.{◌≡◌, ◌<◌, length, slice_index};
-ghost use Rattle.wb_tokens.specs.Longest.{first_class, FindsLongest};
+ghost use Rattle.wb_tokens.specs.Inner.Longest.{first_class, FindsLongest};
 ghost use Rattle.wb_tokens.specs.Words.{punctuation_text};
-ghost use Rattle.wb_tokens.specs.Marks.{mark_at, colon_at, single_mark};
+ghost use Rattle.wb_tokens.specs.Inner.Marks.{mark_at, colon_at, single_mark};
 
 use crate::Token;
 use crate::token_class::TokenClass;

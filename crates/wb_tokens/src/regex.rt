@@ -1,8 +1,8 @@
 //! Regular expressions, as tokens.
 
 ghost use Rattle.std.specs.Prelude.{◌≡◌, ◌≤◌, ◌<◌, true, length, slice_index, IfOk};
-ghost use Rattle.wb_tokens.specs.Longest.{first_class, FindsLongest};
-ghost use Rattle.wb_tokens.specs.Parts.{regex_part, regex_escape, FindsRegex};
+ghost use Rattle.wb_tokens.specs.Inner.Longest.{first_class, FindsLongest};
+ghost use Rattle.wb_tokens.specs.Inner.Parts.{regex_part, regex_escape, FindsRegex};
 
 use crate::Token;
 use crate::skipping::has_byte;

@@ -1,10 +1,9 @@
 //! Strings.
 
 ghost use Rattle.std.specs.Prelude.{◌≡◌, ◌≤◌, ◌<◌, true, length, slice_index, IfOk, IfSome, Option, option_map, List, ℕ, Vec};
-ghost use Rattle.wb_tokens.specs.Longest.{first_class, FindsLongest};
-ghost use Rattle.wb_tokens.specs.Parts.{string_part, escape_at, hexadecimal_at, FindsString};
+ghost use Rattle.wb_tokens.specs.Inner.Longest.{first_class, FindsLongest};
+ghost use Rattle.wb_tokens.specs.Inner.Parts.{string_part, escape_at, hexadecimal_at, FindsString};
 ghost use Rattle.wb_tokens.specs.Spelling.{is_plain, escaped_byte};
-ghost use Rattle.wb_base.specs.Decimal.{hex_value};
 
 use crate::Token;
 use crate::skipping::has_byte;

@@ -1,7 +1,7 @@
 //! What the first byte of a token says of it.
 
 ghost use Rattle.std.specs.Prelude.{◌≡◌};
-ghost use Rattle.wb_tokens.specs.Longest.{first_class};
+ghost use Rattle.wb_tokens.specs.Inner.Longest.{first_class};
 ghost use Rattle.wb_base.specs.Identifiers.{is_letter};
 
 /// What a token that begins with a byte can be.

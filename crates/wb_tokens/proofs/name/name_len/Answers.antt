@@ -1,6 +1,6 @@
 use Rattle.std.proofs.Common.{arith, sym, ◌∙◌}
 use Rattle.wb_base.specs.Identifiers.{is_name_byte}
-use Rattle.wb_tokens.proofs.LongestLemmas.{run_is}
+use Rattle.wb_lemmas.proofs.Runs.{run_is}
 use Rattle.wb_tokens.proofs.name.name_len.Goals as goal
 
 pub returns-then-not-is_name_byte : goal.returns-then-not-is_name_byte

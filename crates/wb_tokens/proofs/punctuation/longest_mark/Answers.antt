@@ -1,5 +1,5 @@
 use Rattle.std.proofs.Common.{length, sym, ◌∙◌, subst}
-use Rattle.wb_tokens.specs.Longest.{IsLongest}
+use Rattle.wb_tokens.specs.Inner.Longest.{IsLongest}
 use Rattle.wb_tokens.specs.declared.token.Token.TheVariants as t
 use Rattle.wb_tokens.proofs.MarkLemmas.{mark_longest, mark_none}
 use Rattle.wb_tokens.proofs.punctuation.longest_mark.Goals as goal
