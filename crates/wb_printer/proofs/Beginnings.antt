@@ -1,13 +1,15 @@
 -- No layout stands where a token stands.
-use Rattle.std.proofs.Common.{◌≡◌, ◌≤◌, ◌<◌, ◌+◌, ℕ, List, [], ◌∷◌, ◌++◌, Bool, true, false, ◌||◌, eqb, length, get_or, refl, sym, ap, ◌∙◌, subst, arith, ℤ, length-append, append_assoc}
+use Rattle.std.proofs.Common.{◌≡◌, ◌≤◌, ◌<◌, ◌+◌, ℕ, List, [], ◌∷◌, ◌++◌, Bool, true, false, ◌||◌, not, eqb, length, get_or, refl, sym, ap, ◌∙◌, subst, arith, ℤ, length-append, append_assoc}
 use Rattle.std.specs.Fmt.{signed_decimal}
 use Rattle.std.specs.Str.Parse.{IsNumeral}
 use Rattle.std.proofs.lemmas.Str.Parse.{digit_from_value}
 use Rattle.std.proofs.lemmas.List.{get_or-append-add}
 use Rattle.wb_tokens.specs.declared.punctuation.Punctuation.{Punctuation}
-use Rattle.wb_tokens.specs.declared.punctuation.Punctuation.TheVariants as p
+use Rattle.wb_tokens.specs.contracts.punctuation.Punctuation as marks
 use Rattle.wb_tokens.specs.declared.word.Word.{Word}
-use Rattle.wb_tokens.specs.declared.word.Word.TheVariants as w
+use Rattle.wb_tokens.specs.contracts.word.Word as words
+use Rattle.wb_tokens.proofs.Enumerations.{each_value}
+use Rattle.wb_lemmas.proofs.Booleans.{not_true}
 use Rattle.wb_tokens.specs.declared.token.Layout.TheVariants.{WithComments}
 use Rattle.wb_tokens.specs.declared.token.Token.{Token}
 use Rattle.wb_tokens.specs.declared.token.Token.TheVariants as t
@@ -46,55 +48,12 @@ integer_clear x (IsInteger.negative n e f) = subst IsClear (sym e) refl
 
 -- no reserved word begins so
 word_clear : (word : Word) → IsClear (word_text word)
-word_clear w.Abstract = refl
-word_clear w.Aspect = refl
-word_clear w.Bool = refl
-word_clear w.Concrete = refl
-word_clear w.Else = refl
-word_clear w.End = refl
-word_clear w.Extensible = refl
-word_clear w.Extension = refl
-word_clear w.False = refl
-word_clear w.For = refl
-word_clear w.Format = refl
-word_clear w.Forward = refl
-word_clear w.Forwards = refl
-word_clear w.Host = refl
-word_clear w.If = refl
-word_clear w.Ignore = refl
-word_clear w.Inh = refl
-word_clear w.Int = refl
-word_clear w.Lexeme = refl
-word_clear w.Local = refl
-word_clear w.Marking = refl
-word_clear w.Needs = refl
-word_clear w.Nonterminal = refl
-word_clear w.Occurs = refl
-word_clear w.On = refl
-word_clear w.Over = refl
-word_clear w.Prefer = refl
-word_clear w.Start = refl
-word_clear w.Syn = refl
-word_clear w.Terminal = refl
-word_clear w.Text = refl
-word_clear w.Then = refl
-word_clear w.To = refl
-word_clear w.Top = refl
-word_clear w.True = refl
+word_clear word = not_true (begins_layout (get_or (word_text word) 0 0)) (each_value words.enum (λ x. not (begins_layout (get_or (word_text x) 0 0))) refl word)
 
 -- no mark begins so
 mark_clear : (mark : Punctuation) → IsClear (punctuation_text mark)
-mark_clear p.Semicolon = refl
-mark_clear p.Colon = refl
-mark_clear p.Becomes = refl
-mark_clear p.OpenBrace = refl
-mark_clear p.CloseBrace = refl
-mark_clear p.Equals = refl
-mark_clear p.Dot = refl
-mark_clear p.Comma = refl
-mark_clear p.OpenParenthesis = refl
-mark_clear p.CloseParenthesis = refl
-mark_clear p.At = refl
+mark_clear mark =
+    not_true (begins_layout (get_or (punctuation_text mark) 0 0)) (each_value marks.enum (λ x. not (begins_layout (get_or (punctuation_text x) 0 0))) refl mark)
 
 -- a slash is not plain
 plain_no_slash : (b : ℕ) → b ≡ 47 → (eqb b 47 || eqb b 92 || eqb b 10) ≡ false → ⊥

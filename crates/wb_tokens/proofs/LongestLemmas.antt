@@ -7,6 +7,7 @@ use Rattle.std.specs.Char.{is_ascii_digit}
 use Rattle.std.specs.List.{list_all, prefix_len}
 use Rattle.wb_tokens.specs.Inner.Longest.{first_class, IsLongest}
 use Rattle.wb_tokens.specs.Spelling.{Spells, HasValueInRange}
+use Rattle.wb_lemmas.proofs.Runs.{all_before}
 use Rattle.wb_base.specs.Identifiers.{is_letter, is_name_byte, IsIdentifier}
 use Rattle.wb_tokens.specs.declared.token.Token.{Token}
 use Rattle.wb_tokens.proofs.FirstByteLemmas.{class_of, spelled_some, spelled_beginning, name_bytes, letter_is}
@@ -20,19 +21,6 @@ pub prefix_kind : (text : List ℕ) (token : Token) (count : ℕ) → Spells tok
 prefix_kind text token count s =
     let some = prefix_some text token count s in
     ap first_class (sym (get_or-take count text 0 0 some)) ∙ spelled_beginning token (take count text) s
-
--- what is before the end of a run passes the test, by one byte more
-before_step : (p : ℕ → Bool) (b : ℕ) (x : List ℕ) (t : Bool) → p b ≡ t → list_all p (take (prefix_len p x) x) ≡ true
-    → list_all p (take (cond t (1 + prefix_len p x) 0) (b ∷ x)) ≡ true
-before_step p b x true h all =
-    let e : 1 + prefix_len p x ≡ suc (prefix_len p x) = omega arith in
-    ap (λ n. list_all p (take n (b ∷ x))) e ∙ ap (λ t. t && list_all p (take (prefix_len p x) x)) h ∙ all
-before_step p b x false h all = refl
-
--- what is before the end of a run passes the test
-pub all_before : (p : ℕ → Bool) (x : List ℕ) → list_all p (take (prefix_len p x) x) ≡ true
-all_before p [] = refl
-all_before p (b ∷ x) = before_step p b x (p b) refl (all_before p x)
 
 -- a letter and the bytes that go on a name are an identifier
 pub identifier : (text : List ℕ) → 0 < length text → is_letter (get_or text 0 0) ≡ true → IsIdentifier (take (prefix_len is_name_byte text) text)
