@@ -158,3 +158,10 @@ path_cycle g s corners hidden list set are_corners are_hidden (above, below, wit
           let b_is : b ≡ below = same_vertex list 0 b below around.1 (path_first path) in
           subst (λ z. IsLeftCorner g z b) (sym a_is) (subst (λ z. IsLeftCorner g above z) (sym b_is) hidden_corner.corner)
     ]
+
+-- hidden corners are corners
+pub hidden_corners : (g : GrammarView) (s : List Bool) (corners hidden : List Edge) → AreEdges Corner g s corners → AreEdges Hidden g s hidden → (a b : ℕ) → Contains hidden (a, b) →
+    Contains corners (a, b)
+hidden_corners g s corners hidden are_corners are_hidden a b h =
+    let e = (are_hidden a b).0 h in
+    (are_corners a b).1 (record { p = e.p; right = e.right; rule = e.rule; placed = record { before = e.placed.before; after = e.placed.after; is = e.placed.is; fits = e.placed.fits.0 } })

@@ -9,6 +9,5 @@ mod PathLemmas
 mod ReachLemmas
 mod ReducedLemmas
 mod RefusalLemmas
-mod RingByLemmas
+mod TogetherLemmas
 mod SweepLemmas
-mod StrictLemmas

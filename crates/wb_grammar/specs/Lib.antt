@@ -5,4 +5,4 @@ pub mod Firsts
 pub mod Order
 pub mod Paths
 pub mod Refusals
-pub mod Strict
+pub mod Together

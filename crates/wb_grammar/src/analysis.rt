@@ -19,8 +19,10 @@ use wb_termset::TermSet;
 
 /// The facts of a grammar, or why it is refused: it isn't reduced, or has a unit cycle, or has hidden left recursion, in this order.
 ///
-/// Nonterminals, terminals and productions have the grammar's numbers. Which of several examples a refusal shows is left open. Each
-/// test takes time linear in the grammar, and the facts take a few passes over its productions; no clause bounds the time.
+/// Nonterminals, terminals and productions have the grammar's numbers. Which of several examples a refusal shows is left open. Unit
+/// cycles and hidden left recursion are found in linear time. Nullable, productive and First are least fixpoints by passes over the
+/// productions from below: a few passes for usual grammars, and at most one for each nonterminal. A refusal may look for its path by
+/// as many passes as the path is long. No clause bounds the time.
 pub fn analyse(alloc: Global, grammar: &Grammar) -> Result<Facts, GrammarRefusal>
     ensures ok { IfOk result (λ facts. AreFacts grammar.now facts) }
     ensures refused { IfErr result (IsTrueRefusal grammar.now) }
@@ -44,6 +46,5 @@ fn nullable_in(alloc: Global, grammar: &Grammar, order: &[usize]) -> Result<Term
     requires { All (λ p. p < length grammar.now.productions) order.now }
     ensures { IfOk result (λ set. IsNullableSet grammar.now set) }
 {
-    let nullable = built(alloc, grammar, false, order)?;
-    Ok(nullable)
+    built(alloc, grammar, false, order)
 }

@@ -16,8 +16,6 @@ mod part;
 mod paths;
 mod reduced;
 mod refusal;
-#[cfg(test)]
-mod tests;
 mod units;
 
 pub use analysis::{analyse, refusals_law};
