@@ -8,11 +8,25 @@ mod automata;
 #[cfg(test)]
 mod base;
 #[cfg(test)]
+mod grammar;
+#[cfg(test)]
 mod graph;
+#[cfg(test)]
+mod items;
+#[cfg(test)]
+mod items_rows;
+#[cfg(test)]
+mod items_sets;
 #[cfg(test)]
 mod lexical;
 #[cfg(test)]
 mod lists;
+#[cfg(test)]
+mod lookahead;
+#[cfg(test)]
+mod lookahead_canonical;
+#[cfg(test)]
+mod lookahead_tables;
 #[cfg(test)]
 mod operation_tables;
 #[cfg(test)]

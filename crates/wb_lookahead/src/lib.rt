@@ -15,13 +15,7 @@ mod parts;
 mod plain;
 mod propagate;
 mod rows;
-#[cfg(test)]
-mod set_tests;
 mod spread;
-#[cfg(test)]
-mod table_tests;
-#[cfg(test)]
-mod tests;
 mod worklist;
 
 pub use action::{Action, TableRefusal};

@@ -154,11 +154,7 @@ fn fill_kernel(
 }
 
 // The same for the items for which the one at a place stands.
-fn fill_from(
-    context: &Context,
-    place: Place,
-    lookaheads: &mut Lookaheads,
-) -> Result<(), AllocError>
+fn fill_from(context: &Context, place: Place, lookaheads: &mut Lookaheads) -> Result<(), AllocError>
     requires context { IsContext context.now.kernels.now context.now.grammar.now context.now.productions.now context.now.rests.now }
     requires place { IsPlace context.now.kernels.now place }
     requires propagated { ArePropagated context.now.kernels.now lookaheads.old }

@@ -2,10 +2,6 @@
 #![tactic(auto)]
 
 #[cfg(test)]
-mod grammars;
-#[cfg(test)]
-mod kernels;
-#[cfg(test)]
 mod predictive;
 #[cfg(test)]
 mod prefixes;

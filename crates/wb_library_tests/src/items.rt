@@ -3,7 +3,7 @@
 ghost use Rattle.std.specs.Prelude.{◌<◌, IfSome};
 ghost use Rattle.wb_items.specs.Kernels.{count_of};
 
-use crate::grammars::{
+use crate::items_rows::{
     LIST, NOT_LIST, NOT_POINTERS, NOT_SUMS, NOT_WORDS, POINTERS, Place, Row, SUMS, SYMBOLS, WORDS,
     list, pointers, sums, words,
 };

@@ -2,13 +2,13 @@
 
 ghost use Rattle.std.specs.Prelude.{◌≡◌, IfOk};
 
-use crate::tests::is_mask;
-use crate::{Action, TableRefusal, Tables, plain_lookaheads, tables};
+use crate::lookahead::is_mask;
 use std::alloc::{AllocError, Global};
 use std::test::Fail;
 use wb_base::{Grammar, Symbol};
 use wb_grammar::analyse;
 use wb_items::Kernels;
+use wb_lookahead::{Action, TableRefusal, Tables, plain_lookaheads, tables};
 
 const A: Symbol = Symbol::Nonterminal(0);
 
@@ -174,5 +174,42 @@ fn are_numbers_right(alloc: Global) -> Result<bool, AllocError> {
 #[test]
 fn a_list_begins_with_the_empty_list(rt: HostRuntime) -> Result<(), Fail> {
     assert!(rt; are_numbers_right(rt.alloc())?);
+    Ok(())
+}
+
+// A -> B t69, B -> t0, .., B -> t69
+fn wide(alloc: Global) -> Result<Grammar, AllocError> {
+    let mut grammar = Grammar::new(alloc, 70, 2, 0);
+    grammar.add(0, &[B, Symbol::Terminal(69)])?;
+    for number in 0..70 {
+        if grammar.nonterminals() > 1 && grammar.terminals() > number {
+            grammar.add(1, &[Symbol::Terminal(number)])?;
+        }
+    }
+    Ok(grammar)
+}
+
+// Whether each terminal is shifted at first, and its production reduced before t69 alone, in sets of more than one word.
+fn is_wide(alloc: Global) -> Result<bool, AllocError> {
+    let grammar = wide(alloc)?;
+    let Ok(made) = tables_of(alloc, &grammar) else {
+        return Ok(false);
+    };
+    for number in 0..70 {
+        let Action::Shift(state) = action(&grammar, &made, 0, number) else {
+            return Ok(false);
+        };
+        let before = action(&grammar, &made, state, 68) == Action::None;
+        let there = action(&grammar, &made, state, 69) == Action::Reduce(number + 1);
+        if !before || !there || action(&grammar, &made, state, 70) != Action::None {
+            return Ok(false);
+        }
+    }
+    Ok(action(&grammar, &made, 0, 70) == Action::None)
+}
+
+#[test]
+fn seventy_terminals_have_their_actions(rt: HostRuntime) -> Result<(), Fail> {
+    assert!(rt; is_wide(rt.alloc())?);
     Ok(())
 }

@@ -2,7 +2,6 @@
 
 ghost use Rattle.wb_items.specs.Lookaheads.{AreLookaheadsOf};
 
-use crate::plain_lookaheads;
 use std::alloc::{AllocError, Global};
 use std::test::Fail;
 use wb_base::{Grammar, Symbol};

@@ -1,0 +1,182 @@
+//! Facts and refusals of small grammars.
+
+ghost use Rattle.std.specs.Prelude.{◌<◌, All, IsTrue};
+ghost use Rattle.wb_base.specs.Grammar.{IsSymbolBelow};
+ghost use Rattle.wb_grammar.specs.Facts.{AreFacts};
+
+use std::alloc::{AllocError, Global};
+use std::test::Fail;
+use wb_base::{Grammar, Symbol};
+use wb_grammar::{Facts, GrammarRefusal, Reason, analyse};
+
+const A: Symbol = Symbol::Nonterminal(0);
+
+const B: Symbol = Symbol::Nonterminal(1);
+
+const C: Symbol = Symbol::Nonterminal(2);
+
+const X: Symbol = Symbol::Terminal(0);
+
+const Y: Symbol = Symbol::Terminal(1);
+
+// What is expected: for each nonterminal whether it derives the empty text, and whether x and y begin what it derives; or what refusal.
+enum Expected {
+    Facts(&'static [(bool, bool, bool)]),
+    UnitCycle(usize),
+    HiddenLeftRecursion(&'static [usize]),
+    Unreachable(usize),
+    Unproductive(usize),
+}
+
+// Productions of nonterminals over x and y, and what is expected of their grammar.
+struct Row {
+    nonterminals: usize,
+    productions: &'static [(usize, &'static [Symbol])],
+    expected: Expected,
+}
+
+static ROWS: [Row; 8] = [
+    // A -> B y, B -> x, B ->
+    Row {
+        nonterminals: 2,
+        productions: &[(0, &[B, Y]), (1, &[X]), (1, &[])],
+        expected: Expected::Facts(&[(false, true, true), (true, true, false)]),
+    },
+    // A -> A x, A -> y
+    Row {
+        nonterminals: 1,
+        productions: &[(0, &[A, X]), (0, &[Y])],
+        expected: Expected::Facts(&[(false, false, true)]),
+    },
+    // A -> A, A -> x
+    Row {
+        nonterminals: 1,
+        productions: &[(0, &[A]), (0, &[X])],
+        expected: Expected::UnitCycle(1),
+    },
+    // A -> C B, B -> A C, B -> x, C ->
+    Row {
+        nonterminals: 3,
+        productions: &[(0, &[C, B]), (1, &[A, C]), (1, &[X]), (2, &[])],
+        expected: Expected::UnitCycle(2),
+    },
+    // A -> B A x, A -> y, B ->
+    Row {
+        nonterminals: 2,
+        productions: &[(0, &[B, A, X]), (0, &[Y]), (1, &[])],
+        expected: Expected::HiddenLeftRecursion(&[0]),
+    },
+    // A -> C B x, B -> A y, B -> y, C ->
+    Row {
+        nonterminals: 3,
+        productions: &[(0, &[C, B, X]), (1, &[A, Y]), (1, &[Y]), (2, &[])],
+        expected: Expected::HiddenLeftRecursion(&[1, 0]),
+    },
+    // A -> x, B -> x
+    Row {
+        nonterminals: 2,
+        productions: &[(0, &[X]), (1, &[X])],
+        expected: Expected::Unreachable(1),
+    },
+    // A -> x, A -> B, B -> x B
+    Row {
+        nonterminals: 2,
+        productions: &[(0, &[X]), (0, &[B]), (1, &[X, B])],
+        expected: Expected::Unproductive(1),
+    },
+];
+
+// Whether the facts are these for each nonterminal.
+fn are_facts(grammar: &Grammar, facts: &Facts, rows: &[(bool, bool, bool)]) -> bool
+    requires { AreFacts grammar.now facts.now }
+{
+    for (nonterminal, row) in rows.iter().enumerate() {
+        if nonterminal >= grammar.nonterminals() || !is_fact(grammar, facts, nonterminal, *row) {
+            return false;
+        }
+    }
+    rows.len() == grammar.nonterminals()
+}
+
+// Whether the facts are these for one nonterminal.
+fn is_fact(grammar: &Grammar, facts: &Facts, nonterminal: usize, row: (bool, bool, bool)) -> bool
+    requires facts { AreFacts grammar.now facts.now }
+    requires nonterminal { nonterminal < grammar.now.nonterminals }
+{
+    let set = facts.first(nonterminal);
+    if set.count() != 3 || set.contains(2) {
+        return false;
+    }
+    (
+        facts.nullable(nonterminal),
+        set.contains(0),
+        set.contains(1),
+    ) == row
+}
+
+// Whether the answer is what is expected.
+fn is_expected(alloc: Global, grammar: &Grammar, expected: &Expected) -> bool {
+    match analyse(alloc, grammar) {
+        Ok(facts) => match expected {
+            Expected::Facts(rows) => are_facts(grammar, &facts, rows),
+            _ => false,
+        },
+        Err(refusal) => is_refused(&refusal, expected),
+    }
+}
+
+// Whether the refusal is what is expected.
+fn is_refused(refusal: &GrammarRefusal, expected: &Expected) -> bool {
+    match refusal {
+        GrammarRefusal::UnitCycle(list) => match expected {
+            Expected::UnitCycle(len) => list.len() == *len,
+            _ => false,
+        },
+        GrammarRefusal::HiddenLeftRecursion(list) => match expected {
+            Expected::HiddenLeftRecursion(members) => list.as_slice() == *members,
+            _ => false,
+        },
+        GrammarRefusal::NotReduced(Reason::Unreachable(nonterminal)) => match expected {
+            Expected::Unreachable(number) => nonterminal == number,
+            _ => false,
+        },
+        GrammarRefusal::NotReduced(Reason::Unproductive(nonterminal)) => match expected {
+            Expected::Unproductive(number) => nonterminal == number,
+            _ => false,
+        },
+        GrammarRefusal::NoMemory(_) => false,
+    }
+}
+
+// Whether the symbols are below these counts.
+fn are_below(symbols: &[Symbol], nonterminals: usize) -> bool
+    ensures { IsTrue result → All (IsSymbolBelow 2 nonterminals) symbols.now }
+{
+    symbols.iter().all(|symbol| match *symbol {
+        Symbol::Terminal(number) => number < 2,
+        Symbol::Nonterminal(number) => number < nonterminals,
+    })
+}
+
+// Whether the grammar of a row gives what is expected.
+fn is_row(alloc: Global, row: &Row) -> Result<bool, AllocError> {
+    if row.nonterminals == 0 {
+        return Ok(false);
+    }
+    let mut grammar = Grammar::new(alloc, 2, row.nonterminals, 0);
+    for (left, right) in row.productions {
+        if *left >= grammar.nonterminals() || !are_below(right, grammar.nonterminals()) {
+            return Ok(false);
+        }
+        grammar.add(*left, right)?;
+    }
+    Ok(is_expected(alloc, &grammar, &row.expected))
+}
+
+#[test]
+fn facts_and_refusals_are_those_of_small_grammars(rt: HostRuntime) -> Result<(), Fail> {
+    for row in &ROWS {
+        assert!(rt; is_row(rt.alloc(), row)?);
+    }
+    Ok(())
+}
