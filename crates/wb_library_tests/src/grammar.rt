@@ -149,13 +149,25 @@ fn is_refused(refusal: &GrammarRefusal, expected: &Expected) -> bool {
 }
 
 // Whether the symbols are below these counts.
-fn are_below(symbols: &[Symbol], nonterminals: usize) -> bool
-    ensures { IsTrue result → All (IsSymbolBelow 2 nonterminals) symbols.now }
+fn are_below(symbols: &[Symbol], terminals: usize, nonterminals: usize) -> bool
+    ensures { IsTrue result → All (IsSymbolBelow terminals nonterminals) symbols.now }
 {
     symbols.iter().all(|symbol| match *symbol {
-        Symbol::Terminal(number) => number < 2,
+        Symbol::Terminal(number) => number < terminals,
         Symbol::Nonterminal(number) => number < nonterminals,
     })
+}
+
+// Adds a production whose numbers are in range, and answers whether they are.
+fn add_checked(grammar: &mut Grammar, left: usize, right: &[Symbol]) -> Result<bool, AllocError> {
+    if left >= grammar.nonterminals() {
+        return Ok(false);
+    }
+    if !are_below(right, grammar.terminals(), grammar.nonterminals()) {
+        return Ok(false);
+    }
+    grammar.add(left, right)?;
+    Ok(true)
 }
 
 // Whether the grammar of a row gives what is expected.
@@ -165,10 +177,9 @@ fn is_row(alloc: Global, row: &Row) -> Result<bool, AllocError> {
     }
     let mut grammar = Grammar::new(alloc, 2, row.nonterminals, 0);
     for (left, right) in row.productions {
-        if *left >= grammar.nonterminals() || !are_below(right, grammar.nonterminals()) {
+        if !add_checked(&mut grammar, *left, right)? {
             return Ok(false);
         }
-        grammar.add(*left, right)?;
     }
     Ok(is_expected(alloc, &grammar, &row.expected))
 }

@@ -7,6 +7,7 @@ use std::test::Fail;
 use wb_base::{Grammar, Symbol};
 use wb_grammar::analyse;
 use wb_items::{ItemLookahead, Kernels, Lookaheads};
+use wb_lookahead::plain_lookaheads;
 use wb_termset::TermSet;
 
 const A: Symbol = Symbol::Nonterminal(0);

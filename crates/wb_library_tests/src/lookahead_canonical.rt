@@ -368,24 +368,35 @@ fn is_canonical(alloc: Global, grammar: &Grammar) -> Result<bool, AllocError> {
     all_agree(alloc, grammar, &kernels, &lookaheads)
 }
 
-// Whether the symbols are below three.
-fn are_below(symbols: &[Symbol]) -> bool
-    ensures { IsTrue result → All (IsSymbolBelow 3 3) symbols.now }
+// Whether the symbols are below these counts.
+fn are_below(symbols: &[Symbol], terminals: usize, nonterminals: usize) -> bool
+    ensures { IsTrue result → All (IsSymbolBelow terminals nonterminals) symbols.now }
 {
     symbols.iter().all(|symbol| match *symbol {
-        Symbol::Terminal(number) => number < 3,
-        Symbol::Nonterminal(number) => number < 3,
+        Symbol::Terminal(number) => number < terminals,
+        Symbol::Nonterminal(number) => number < nonterminals,
     })
+}
+
+// Adds a production whose numbers are in range, and answers whether they are.
+fn add_checked(grammar: &mut Grammar, left: usize, right: &[Symbol]) -> Result<bool, AllocError> {
+    if left >= grammar.nonterminals() {
+        return Ok(false);
+    }
+    if !are_below(right, grammar.terminals(), grammar.nonterminals()) {
+        return Ok(false);
+    }
+    grammar.add(left, right)?;
+    Ok(true)
 }
 
 // The same of these productions.
 fn are_canonical(alloc: Global, productions: &[(usize, &[Symbol])]) -> Result<bool, AllocError> {
     let mut grammar = Grammar::new(alloc, 3, 3, 0);
     for (left, right) in productions {
-        if *left >= 3 || !are_below(right) {
+        if !add_checked(&mut grammar, *left, right)? {
             return Ok(false);
         }
-        grammar.add(*left, right)?;
     }
     is_canonical(alloc, &grammar)
 }
