@@ -11,8 +11,6 @@ mod expression;
 mod host;
 mod rows;
 mod targets;
-#[cfg(test)]
-mod tests;
 
 pub use answer::SmallAnswer;
 pub use asked::attribute_named;

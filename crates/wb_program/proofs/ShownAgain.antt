@@ -1,6 +1,5 @@
 -- What `show` writes is shown again as it is.
-use Rattle.std.proofs.Common.{◌≡◌, ◌≤◌, ◌<◌, ℕ, List, length, arith}
-use Rattle.wb_syntax.specs.SpecText.{SpecView}
+use Rattle.std.proofs.Common.{arith}
 use Rattle.wb_syntax.specs.Canonical.{IsCanonical}
 use Rattle.wb_reader.specs.declared.refusal.SpecRefusal.TheVariants.{TooLong}
 use Rattle.wb_reader.specs.Refusals.{HasCause}

@@ -1,4 +1,4 @@
--- What is said of a file, where files are told. Where they aren't, nothing is said.
+-- What is known of a file by its name. Where a shelf doesn't tell its files, nothing is said.
 use Rattle.std.specs.Prelude.{◌≡◌, ◌<◌, ◌⊎◌, ℕ, Option, Some, None, List, length}
 use Rattle.wb_world.specs.Shelf.{Files}
 
@@ -17,10 +17,6 @@ abbrev pub KnownAbsent : Option Files → List ℕ → Type 0
 KnownAbsent None name = Unit {0}
 KnownAbsent (Some files) name = files name ≡ None
 
--- the contents are longer than the limit of a specification and of a term
-abbrev pub IsTooLong : List ℕ → Type 0
-IsTooLong contents = 1048576 < length contents
-
--- the contents are too long, or meet this
-abbrev pub IsTooLongOr : (List ℕ → Type 0) → List ℕ → Type 0
-IsTooLongOr P contents = IsTooLong contents ⊎ P contents
+-- the contents are longer than a limit, or meet this
+abbrev pub IsTooLongOr : ℕ → (List ℕ → Type 0) → List ℕ → Type 0
+IsTooLongOr limit P contents = (limit < length contents) ⊎ P contents

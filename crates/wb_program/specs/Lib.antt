@@ -1,13 +1,29 @@
-pub mod Causes
-pub mod Commands
-pub mod Contents
-pub mod Files
-pub mod Language
-pub mod Lines
-pub mod Report
-pub mod ShowReport
-pub mod Shown
-pub mod ShownAgain
-pub mod StatusNumber
+-- what a user asks of the program
+pub mod Asked
+-- which words ask what
 pub mod Words
+-- the statuses as numbers
+pub mod StatusNumber
+-- what is known of files
+pub mod Files
+-- how reports are stated: checks in their order
+pub mod Checks
+-- the lines of reports
+pub mod Lines
+-- small hosts and small terms as contents of files
+pub mod HostsAndTerms
+-- the report of `value`
+pub mod ValueReport
+-- the report of `show`
+pub mod ShowReport
+-- the report of words and files
+pub mod Report
+-- which files are read, and the causes of ending at one
+pub mod Reads
+-- what is written
 pub mod Written
+-- words ask one thing, and have one status and one text
+pub mod Laws
+-- a canonical text is shown as it is
+pub mod ShownAgain
+pub mod Inner

@@ -1,41 +1,42 @@
-//! What each command answers: a status with its report, or the reason why a run ends without one.
-ghost use Rattle.std.specs.Prelude.{◌≡◌, IfOk, IsErrOf};
-ghost use Rattle.wb_world.specs.Cause.{Rose};
+//! What `value` and words that are no command answer: a status with its report, or the reason why a run ends without one.
+ghost use Rattle.std.specs.Prelude.{◌≡◌, IfOk, IfErr, [], ◌∷◌};
 ghost use Rattle.wb_small.specs.SmallSpec.{IsSmallSpec};
 ghost use Rattle.wb_small.specs.SmallTerm.{IsSmallTerm};
-ghost use Rattle.wb_program.specs.Files.{KnownAbsent};
+ghost use Rattle.wb_program.specs.Asked.{small_host, small_term};
 ghost use Rattle.wb_program.specs.Lines.{refused_line, usage_line};
-ghost use Rattle.wb_program.specs.Causes.{ValueReads};
-ghost use Rattle.wb_program.specs.Report.{TermReport, ValueReport};
+ghost use Rattle.wb_program.specs.Reads.{StopsAt};
+ghost use Rattle.wb_program.specs.ValueReport.{AnswerReport, ValueReport};
+ghost use Rattle.wb_program.specs.Inner.Stopped.{outside, Stopped, GoesOn};
 
-use crate::language::{read_host, read_term};
+use crate::hosts_and_terms::{read_host, read_term};
 use crate::lines;
-use crate::reading::Stop;
+use crate::reading::ReadFailure;
 use crate::status::Status;
 use std::alloc::{AllocError, Global};
 use wb_eval::{SmallAnswer, attribute_named, evaluate_small};
 use wb_small::{SmallSpec, SmallTerm};
 use wb_world::Shelf;
 
-/// A status with its report.
+// A status with its report.
 #[derive(Drop)]
-pub struct Answer {
+pub(crate) struct Answer {
     pub status: Status,
     pub report: Vec<u8>,
 }
 
-/// The answer to `value HOST TERM ATTR`.
-pub fn answer_value<S: Shelf>(
+// The answer to `value HOST TERM ATTR`.
+pub(crate) fn answer_value<S: Shelf>(
     alloc: Global,
     shelf: &mut S,
     host: &str,
     term: &str,
     attribute: &str,
-) -> Result<Answer, Stop>
-    ensures ok { IfOk result (λ answer. ValueReport (S.files shelf.old) answer.status answer.report.items host.now term.now attribute.now) }
-    ensures absent { IsErrOf result Stop.Absent → ValueReads (S.files shelf.old) (λ name. Rose (S.absences shelf.old name) (S.absences shelf.new name) × KnownAbsent (S.files shelf.old) name) host.now term.now attribute.now }
-    ensures read_fault { IsErrOf result Stop.ReadFault → ValueReads (S.files shelf.old) (λ name. Rose (S.faults shelf.old name) (S.faults shelf.new name)) host.now term.now attribute.now }
-    ensures files { S.files shelf.new ≡ S.files shelf.old }
+) -> Result<Answer, ReadFailure>
+    ensures ok { IfOk result (λ answer. ValueReport (S.files shelf.old) host.now term.now attribute.now answer.status answer.report.items) }
+    ensures stopped { IfErr result (Stopped (outside (S.files shelf.old) (S.absences shelf.old) (S.faults shelf.old))
+        (outside (S.files shelf.new) (S.absences shelf.new) (S.faults shelf.new)) (λ P. StopsAt (S.files shelf.old) P (small_host host.now ∷ small_term term.now ∷ []))) }
+    ensures goes_on { GoesOn (outside (S.files shelf.old) (S.absences shelf.old) (S.faults shelf.old))
+        (outside (S.files shelf.new) (S.absences shelf.new) (S.faults shelf.new)) }
 {
     let Some(spec) = read_host(alloc, shelf, host)? else {
         return Ok(refusal(alloc, host)?);
@@ -43,8 +44,7 @@ pub fn answer_value<S: Shelf>(
     let Some(tree) = read_term(alloc, shelf, term, &spec)? else {
         return Ok(refusal(alloc, term)?);
     };
-    let answer = answer_on(alloc, &spec, &tree, attribute)?;
-    Ok(answer)
+    Ok(answer_on(alloc, &spec, &tree, attribute)?)
 }
 
 // The answer for a host and a term that were read.
@@ -56,7 +56,7 @@ fn answer_on(
 ) -> Result<Answer, AllocError>
     requires host { IsSmallSpec spec.now }
     requires term { IsSmallTerm spec.now term.now }
-    ensures { IfOk result (λ answer. TermReport attribute.now answer.status answer.report.items spec.now term.now) }
+    ensures { IfOk result (λ answer. AnswerReport attribute.now spec.now term.now answer.status answer.report.items) }
 {
     let Some(number) = attribute_named(spec, term, attribute.as_bytes()) else {
         return Ok(Answer {
@@ -87,8 +87,8 @@ fn refusal(alloc: Global, file: &str) -> Result<Answer, AllocError>
     })
 }
 
-/// The answer for words that are no command.
-pub fn usage(alloc: Global) -> Result<Answer, AllocError>
+// The answer for words that are no command.
+pub(crate) fn usage(alloc: Global) -> Result<Answer, AllocError>
     ensures status { IfOk result (λ answer. answer.status ≡ Status.Usage) }
     ensures report { IfOk result (λ answer. answer.report.items ≡ usage_line) }
 {

@@ -1,6 +1,21 @@
-//! A law of what `show` writes.
-
+//! Laws of what words ask for and of what is reported and shown.
+ghost use Rattle.wb_program.specs.Laws.{AskOneThing, HaveOneStatus, HaveOneText};
 ghost use Rattle.wb_program.specs.ShownAgain.{IsStable};
+
+/// Words ask for one thing at most, whatever the order and the spelling of their options.
+pub fn one_asked_law()
+    ensures { AskOneThing }
+{}
+
+/// Words and files have at most one status that is reported.
+pub fn one_status_law()
+    ensures { HaveOneStatus }
+{}
+
+/// Words and files have at most one text with a status, but where a refusal may show any true example.
+pub fn one_text_law()
+    ensures { HaveOneText }
+{}
 
 /// The canonical text of a specification is read as the same one but for places, and is the one canonical text of that, so that
 /// it is shown as it is. Where it is too long, it is refused for that, and for nothing else.

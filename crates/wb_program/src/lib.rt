@@ -6,16 +6,16 @@
 #![tactic(auto)]
 
 mod answer;
-mod language;
+mod hosts_and_terms;
 mod laws;
 mod lines;
+mod program;
 mod reading;
 mod show;
 mod status;
-mod top;
 mod words;
 mod writing;
 
-pub use laws::shown_again_law;
+pub use laws::{one_asked_law, one_status_law, one_text_law, shown_again_law};
+pub use program::workbench;
 pub use status::Status;
-pub use top::workbench;

@@ -1,56 +1,57 @@
-//! A file, read in pieces until its end or one byte past its limit.
-ghost use Rattle.std.specs.Prelude.{◌≡◌, ◌≤◌, ◌<◌, ◌+◌, length, take, vec_len, IfOk, OnOk, IsErrOf};
-ghost use Rattle.wb_world.specs.Cause.{Rose, NeverFalls};
-ghost use Rattle.wb_program.specs.Files.{KnownFile, KnownAbsent};
-ghost use Rattle.wb_program.specs.Contents.{ContentsAre, KnownFront};
+//! A file, read in pieces until its end or one byte past its limit, so that no file is read for ever.
+ghost use Rattle.std.specs.Prelude.{◌≡◌, ◌≤◌, ◌<◌, ◌+◌, length, take, vec_len, IfOk, OnOk, IfErr};
+ghost use Rattle.wb_program.specs.Files.{KnownFile};
+ghost use Rattle.wb_program.specs.Inner.Contents.{ContentsAre, KnownPrefix};
+ghost use Rattle.wb_program.specs.Inner.Stopped.{outside, Stopped, GoesOn};
 
 use std::alloc::{AllocError, Global};
 use wb_world::{Got, Shelf};
 
-/// Why a run ends without a report.
-#[derive(Clone, Copy, Debug, PartialEq, Eq)]
-pub enum Stop {
+// Why a run ends without a report.
+#[derive(Clone, Copy)]
+pub(crate) enum ReadFailure {
     Absent,
     ReadFault,
     NoMemory,
 }
 
-impl From<AllocError> for Stop {
+impl From<AllocError> for ReadFailure {
     ghost use Rattle.std.specs.Prelude.{◌≡◌};
-    ghost use Rattle.wb_program.specs.declared.reading.Stop.TheVariants.{NoMemory};
+    ghost use Rattle.wb_program.specs.declared.reading.ReadFailure.TheVariants.{NoMemory};
 
-    ghost from_gives = { λ _ stop. stop ≡ NoMemory };
+    ghost from_gives = { λ _ failure. failure ≡ NoMemory };
 
     fn from(_: AllocError) -> Self {
-        Stop::NoMemory
+        ReadFailure::NoMemory
     }
 }
-
-// The most bytes that a specification or a term has.
-const LIMIT: usize = 1_048_576;
 
 // The most bytes that are asked for at once.
 const PIECE: usize = 65_536;
 
-/// What is read of a file.
+// What is read of a file.
 #[derive(Drop)]
-pub enum Contents {
+pub(crate) enum Contents {
     Whole(Vec<u8>),
     TooLong,
 }
 
-/// Reads a file, unless it is longer than the limit.
-pub fn read_file<S: Shelf>(alloc: Global, shelf: &mut S, name: &str) -> Result<Contents, Stop>
-    ensures ok { IfOk result (ContentsAre (S.files shelf.old) name.now) }
-    ensures absent { IsErrOf result Stop.Absent → Rose (S.absences shelf.old name.now) (S.absences shelf.new name.now) }
-    ensures not_there { IsErrOf result Stop.Absent → KnownAbsent (S.files shelf.old) name.now }
-    ensures read_fault { IsErrOf result Stop.ReadFault → Rose (S.faults shelf.old name.now) (S.faults shelf.new name.now) }
-    ensures files { S.files shelf.new ≡ S.files shelf.old }
-    ensures faults { NeverFalls (S.faults shelf.old) (S.faults shelf.new) }
-    ensures absences { NeverFalls (S.absences shelf.old) (S.absences shelf.new) }
+// Reads a file, unless it has more bytes than the limit.
+pub(crate) fn read_file<S: Shelf>(
+    alloc: Global,
+    shelf: &mut S,
+    name: &str,
+    limit: usize,
+) -> Result<Contents, ReadFailure>
+    requires { limit ≤ 16777216 }
+    ensures ok { IfOk result (ContentsAre limit (S.files shelf.old) name.now) }
+    ensures stopped { IfErr result (Stopped (outside (S.files shelf.old) (S.absences shelf.old) (S.faults shelf.old))
+        (outside (S.files shelf.new) (S.absences shelf.new) (S.faults shelf.new)) (λ P. P name.now)) }
+    ensures goes_on { GoesOn (outside (S.files shelf.old) (S.absences shelf.old) (S.faults shelf.old))
+        (outside (S.files shelf.new) (S.absences shelf.new) (S.faults shelf.new)) }
 {
-    let bytes = read_front(alloc, shelf, name)?;
-    if bytes.len() <= LIMIT {
+    let bytes = read_prefix(alloc, shelf, name, limit)?;
+    if bytes.len() <= limit {
         Ok(Contents::Whole(bytes))
     } else {
         Ok(Contents::TooLong)
@@ -58,19 +59,23 @@ pub fn read_file<S: Shelf>(alloc: Global, shelf: &mut S, name: &str) -> Result<C
 }
 
 // Reads a file until its end, or one byte past the limit.
-fn read_front<S: Shelf>(alloc: Global, shelf: &mut S, name: &str) -> Result<Vec<u8>, Stop>
-    ensures ok { IfOk result (λ bytes. KnownFile (S.files shelf.old) name.now (λ c. bytes.items ≡ take 1048577 c)) }
-    ensures absent { IsErrOf result Stop.Absent → Rose (S.absences shelf.old name.now) (S.absences shelf.new name.now) }
-    ensures not_there { IsErrOf result Stop.Absent → KnownAbsent (S.files shelf.old) name.now }
-    ensures read_fault { IsErrOf result Stop.ReadFault → Rose (S.faults shelf.old name.now) (S.faults shelf.new name.now) }
-    ensures files { S.files shelf.new ≡ S.files shelf.old }
-    ensures faults { NeverFalls (S.faults shelf.old) (S.faults shelf.new) }
-    ensures absences { NeverFalls (S.absences shelf.old) (S.absences shelf.new) }
+fn read_prefix<S: Shelf>(
+    alloc: Global,
+    shelf: &mut S,
+    name: &str,
+    limit: usize,
+) -> Result<Vec<u8>, ReadFailure>
+    requires { limit ≤ 16777216 }
+    ensures ok { IfOk result (λ bytes. KnownFile (S.files shelf.old) name.now (λ c. bytes.items ≡ take (limit + 1) c)) }
+    ensures stopped { IfErr result (Stopped (outside (S.files shelf.old) (S.absences shelf.old) (S.faults shelf.old))
+        (outside (S.files shelf.new) (S.absences shelf.new) (S.faults shelf.new)) (λ P. P name.now)) }
+    ensures goes_on { GoesOn (outside (S.files shelf.old) (S.absences shelf.old) (S.faults shelf.old))
+        (outside (S.files shelf.new) (S.absences shelf.new) (S.faults shelf.new)) }
 {
     let mut piece = zeros(alloc, PIECE)?;
     let mut bytes = Vec::new(alloc);
-    while bytes.len() <= LIMIT {
-        let want = (LIMIT + 1 - bytes.len()).min(PIECE);
+    while bytes.len() <= limit {
+        let want = (limit + 1 - bytes.len()).min(PIECE);
         if read_piece(shelf, name, &mut piece[..want], &mut bytes)? == 0 {
             return Ok(bytes);
         }
@@ -84,31 +89,30 @@ fn read_piece<S: Shelf>(
     name: &str,
     piece: &mut [u8],
     bytes: &mut Vec<u8>,
-) -> Result<usize, Stop>
+) -> Result<usize, ReadFailure>
     requires room { 0 < length piece.old }
-    requires place { vec_len bytes.old ≤ 1048576 }
+    requires place { vec_len bytes.old ≤ 16777216 }
     ensures within { IfOk result (λ count. count ≤ length piece.old) }
     ensures grows { IfOk result (λ count. vec_len bytes.new ≡ vec_len bytes.old + count) }
-    ensures front { OnOk result (KnownFront (S.files shelf.old) name.now bytes.old.items → KnownFront (S.files shelf.old) name.now bytes.new.items) }
+    ensures part { OnOk result (KnownPrefix (S.files shelf.old) name.now bytes.old.items → KnownPrefix (S.files shelf.old) name.now bytes.new.items) }
     ensures end { IfOk result (λ count. count ≡ 0 → KnownFile (S.files shelf.old) name.now (λ c. length c ≤ vec_len bytes.new)) }
-    ensures absent { IsErrOf result Stop.Absent → Rose (S.absences shelf.old name.now) (S.absences shelf.new name.now) }
-    ensures not_there { IsErrOf result Stop.Absent → KnownAbsent (S.files shelf.old) name.now }
-    ensures read_fault { IsErrOf result Stop.ReadFault → Rose (S.faults shelf.old name.now) (S.faults shelf.new name.now) }
-    ensures files { S.files shelf.new ≡ S.files shelf.old }
-    ensures faults { NeverFalls (S.faults shelf.old) (S.faults shelf.new) }
-    ensures absences { NeverFalls (S.absences shelf.old) (S.absences shelf.new) }
+    ensures stopped { IfErr result (Stopped (outside (S.files shelf.old) (S.absences shelf.old) (S.faults shelf.old))
+        (outside (S.files shelf.new) (S.absences shelf.new) (S.faults shelf.new)) (λ P. P name.now)) }
+    ensures goes_on { GoesOn (outside (S.files shelf.old) (S.absences shelf.old) (S.faults shelf.old))
+        (outside (S.files shelf.new) (S.absences shelf.new) (S.faults shelf.new)) }
 {
     match shelf.read(name, bytes.len() as u64, piece) {
         Got::Got(count) => {
             bytes.extend_from_slice(&piece[..count])?;
             Ok(count)
         }
-        Got::Absent => Err(Stop::Absent),
-        Got::Failed => Err(Stop::ReadFault),
-        Got::NoMemory(_) => Err(Stop::NoMemory),
+        Got::Absent => Err(ReadFailure::Absent),
+        Got::Failed => Err(ReadFailure::ReadFault),
+        Got::NoMemory(_) => Err(ReadFailure::NoMemory),
     }
 }
 
+// A buffer. In a function of its own, so that no proof computes its bytes.
 fn zeros(alloc: Global, count: usize) -> Result<Vec<u8>, AllocError>
     ensures { IfOk result (λ bytes. vec_len bytes ≡ count) }
 {

@@ -1,31 +1,39 @@
 //! What `show SPEC` answers: the canonical text of a specification, or why the file isn't one.
-ghost use Rattle.std.specs.Prelude.{◌≡◌, IfOk, IsErrOf};
-ghost use Rattle.wb_world.specs.Cause.{Rose};
-ghost use Rattle.wb_program.specs.Files.{KnownAbsent};
-ghost use Rattle.wb_program.specs.Contents.{ContentsAre};
+ghost use Rattle.std.specs.Prelude.{◌≡◌, IfOk, IfErr, [], ◌∷◌};
+ghost use Rattle.wb_reader.specs.Patterns.{IsNoMemory};
+ghost use Rattle.wb_program.specs.Asked.{specification};
 ghost use Rattle.wb_program.specs.Lines.{spec_refused_line};
+ghost use Rattle.wb_program.specs.Reads.{StopsAt};
 ghost use Rattle.wb_program.specs.ShowReport.{ShowReport};
-ghost use Rattle.wb_program.specs.Shown.{ContentsShow};
+ghost use Rattle.wb_program.specs.Inner.Shown.{ContentsShow};
+ghost use Rattle.wb_program.specs.Inner.Stopped.{outside, Stopped, GoesOn};
 
 use crate::answer::Answer;
 use crate::lines;
-use crate::reading::{Contents, Stop, read_file};
+use crate::reading::{Contents, ReadFailure, read_file};
 use crate::status::Status;
 use std::alloc::{AllocError, Global};
 use wb_printer::print_spec;
 use wb_reader::{SpecRefusal, read_spec};
 use wb_world::Shelf;
 
-/// The answer to `show SPEC`.
-pub fn answer_show<S: Shelf>(alloc: Global, shelf: &mut S, file: &str) -> Result<Answer, Stop>
-    ensures ok { IfOk result (λ answer. ShowReport (S.files shelf.old) answer.status answer.report.items file.now) }
-    ensures absent { IsErrOf result Stop.Absent → Rose (S.absences shelf.old file.now) (S.absences shelf.new file.now) × KnownAbsent (S.files shelf.old) file.now }
-    ensures read_fault { IsErrOf result Stop.ReadFault → Rose (S.faults shelf.old file.now) (S.faults shelf.new file.now) }
-    ensures files { S.files shelf.new ≡ S.files shelf.old }
+// The most bytes that a specification has.
+const LIMIT: usize = 1_048_576;
+
+// The answer to `show SPEC`.
+pub(crate) fn answer_show<S: Shelf>(
+    alloc: Global,
+    shelf: &mut S,
+    file: &str,
+) -> Result<Answer, ReadFailure>
+    ensures ok { IfOk result (λ answer. ShowReport (S.files shelf.old) file.now answer.status answer.report.items) }
+    ensures stopped { IfErr result (Stopped (outside (S.files shelf.old) (S.absences shelf.old) (S.faults shelf.old))
+        (outside (S.files shelf.new) (S.absences shelf.new) (S.faults shelf.new)) (λ P. StopsAt (S.files shelf.old) P (specification file.now ∷ []))) }
+    ensures goes_on { GoesOn (outside (S.files shelf.old) (S.absences shelf.old) (S.faults shelf.old))
+        (outside (S.files shelf.new) (S.absences shelf.new) (S.faults shelf.new)) }
 {
-    let contents = read_file(alloc, shelf, file)?;
-    let answer = answer_contents(alloc, file, contents)?;
-    Ok(answer)
+    let contents = read_file(alloc, shelf, file, LIMIT)?;
+    Ok(answer_contents(alloc, file, contents)?)
 }
 
 // The answer for what was read of the file.
@@ -47,6 +55,7 @@ fn answer_contents(alloc: Global, file: &str, contents: Contents) -> Result<Answ
 
 // The answer for a file that isn't taken.
 fn refused(alloc: Global, file: &str, refusal: &SpecRefusal) -> Result<Answer, AllocError>
+    requires { ¬ IsNoMemory refusal.now }
     ensures status { IfOk result (λ answer. answer.status ≡ Status.SpecRefused) }
     ensures report { IfOk result (λ answer. answer.report.items ≡ spec_refused_line file.now refusal.now) }
 {

@@ -1,11 +1,11 @@
-//! The words of the command line, read as a command.
+//! Which command the words of the command line ask for, where they ask for one that is built.
 ghost use Rattle.std.specs.Prelude.{◌↔◌, IsTrue, IfSome, IfNone};
-ghost use Rattle.wb_program.specs.Words.{texts, IsPositional, InCommandSet, OnValue, OnShow};
-ghost use Rattle.wb_program.specs.Commands.{IsCommand};
+ghost use Rattle.wb_program.specs.Words.{texts, IsPositional, Asks, InCommandSet};
+ghost use Rattle.wb_program.specs.Inner.Commands.{asked_by, AreValue, AreShow};
 
-/// A command with its words.
+// A command with its words.
 #[derive(Clone, Copy)]
-pub enum Command<'a> {
+pub(crate) enum Command<'a> {
     Value {
         host: &'a str,
         term: &'a str,
@@ -16,9 +16,9 @@ pub enum Command<'a> {
     },
 }
 
-/// The command that the words are, where they are one.
-pub fn command_of(words: &[String]) -> Option<Command<'_>>
-    ensures some { IfSome result (λ command. IsCommand command (texts words.now)) }
+// The command that the words ask for, where they do.
+pub(crate) fn command_of(words: &[String]) -> Option<Command<'_>>
+    ensures some { IfSome result (λ command. Asks (texts words.now) (asked_by command)) }
     ensures none { IfNone result (¬ InCommandSet (texts words.now)) }
 {
     match value_of(words) {
@@ -29,16 +29,16 @@ pub fn command_of(words: &[String]) -> Option<Command<'_>>
 
 // The words as `value HOST TERM ATTR`.
 fn value_of(words: &[String]) -> Option<Command<'_>>
-    ensures some { IfSome result (λ command. IsCommand command (texts words.now)) }
-    ensures none { IfNone result (¬ OnValue (texts words.now) (λ host term attribute. Unit {0})) }
+    ensures some { IfSome result (λ command. Asks (texts words.now) (asked_by command)) }
+    ensures none { IfNone result (¬ AreValue (texts words.now)) }
 {
-    let [command, host, term, attribute] = words else {
+    let [verb, host, term, attribute] = words else {
         return None;
     };
     let host = host.as_str();
     let term = term.as_str();
     let attribute = attribute.as_str();
-    if command.as_str() == "value"
+    if verb.as_str() == "value"
         && is_positional(host)
         && is_positional(term)
         && is_positional(attribute)
@@ -55,14 +55,14 @@ fn value_of(words: &[String]) -> Option<Command<'_>>
 
 // The words as `show SPEC`.
 fn show_of(words: &[String]) -> Option<Command<'_>>
-    ensures some { IfSome result (λ command. IsCommand command (texts words.now)) }
-    ensures none { IfNone result (¬ OnShow (texts words.now) (λ file. Unit {0})) }
+    ensures some { IfSome result (λ command. Asks (texts words.now) (asked_by command)) }
+    ensures none { IfNone result (¬ AreShow (texts words.now)) }
 {
-    let [command, file] = words else {
+    let [verb, file] = words else {
         return None;
     };
     let file = file.as_str();
-    if command.as_str() == "show" && is_positional(file) {
+    if verb.as_str() == "show" && is_positional(file) {
         Some(Command::Show { file })
     } else {
         None

@@ -1,19 +1,19 @@
-//! A report, written in as many calls as the sink asks for.
+//! A report, written in as many calls as the sink asks for, since a sink may take less than it is given.
 ghost use Rattle.std.specs.Prelude.{◌≡◌, ◌≤◌, OnOk, OnErr};
 ghost use Rattle.std.specs.Io.KnownBytes.{append_known};
 ghost use Rattle.wb_world.specs.Cause.{Rose};
-ghost use Rattle.wb_program.specs.Written.{WroteFront};
+ghost use Rattle.wb_program.specs.Written.{WrotePrefix};
 
 use wb_world::{Put, Sink};
 
-/// The sink failed.
-#[derive(Clone, Copy, Debug, PartialEq, Eq)]
-pub struct WriteFailed;
+// The sink failed.
+#[derive(Clone, Copy)]
+pub(crate) struct WriteFailed;
 
-/// Writes a report. After a failure the sink has taken its first bytes, and not all.
-pub fn write_report<K: Sink>(sink: &mut K, report: &[u8]) -> Result<(), WriteFailed>
+// Writes a report. After a failure the sink has taken its first bytes, and not all.
+pub(crate) fn write_report<K: Sink>(sink: &mut K, report: &[u8]) -> Result<(), WriteFailed>
     ensures ok { OnOk result (K.written sink.new ≡ append_known (K.written sink.old) report.now) }
-    ensures err { OnErr result (WroteFront (K.written sink.old) (K.written sink.new) report.now) }
+    ensures err { OnErr result (WrotePrefix (K.written sink.old) (K.written sink.new) report.now) }
     ensures faults { K.faults sink.old ≤ K.faults sink.new }
     ensures failed { OnErr result (Rose (K.faults sink.old) (K.faults sink.new)) }
 {

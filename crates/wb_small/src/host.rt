@@ -21,21 +21,54 @@ pub fn number_host(alloc: Global, named: &NamedHost) -> Result<SmallSpec, SmallR
     ensures refused { IfErr result (λ e. OnRefused e ((spec : SmallSpec) → ¬ IsSmallHost named.now spec)) }
 {
     let mut nonterminals = different_names(alloc, named.nonterminals.as_slice())?;
+    number_with(alloc, &mut nonterminals, named)
+}
+
+// The same, with the nonterminals numbered.
+fn number_with(
+    alloc: Global,
+    nonterminals: &mut Names,
+    named: &NamedHost,
+) -> Result<SmallSpec, SmallRefusal>
+    requires differ { Differ nonterminals.old }
+    requires same { nonterminals.old ≡ named.now.nonterminals }
+    ensures ok { IfOk result (λ spec. IsSmallHost named.now spec) }
+    ensures only { IfOk result (λ spec. (other : SmallSpec) → IsSmallHost named.now other → other ≡ spec) }
+    ensures refused { IfErr result (λ e. OnRefused e ((spec : SmallSpec) → ¬ IsSmallHost named.now spec)) }
+{
     let attributes = different_names(alloc, named.attributes.as_slice())?;
+    number_over(alloc, nonterminals, &attributes, named)
+}
+
+// The same, with the attributes numbered too.
+fn number_over(
+    alloc: Global,
+    nonterminals: &mut Names,
+    attributes: &Names,
+    named: &NamedHost,
+) -> Result<SmallSpec, SmallRefusal>
+    requires nonterminals { Differ nonterminals.old }
+    requires attributes { Differ attributes.now }
+    requires same { nonterminals.old ≡ named.now.nonterminals }
+    requires alike { attributes.now ≡ named.now.attributes }
+    ensures ok { IfOk result (λ spec. IsSmallHost named.now spec) }
+    ensures only { IfOk result (λ spec. (other : SmallSpec) → IsSmallHost named.now other → other ≡ spec) }
+    ensures refused { IfErr result (λ e. OnRefused e ((spec : SmallSpec) → ¬ IsSmallHost named.now spec)) }
+{
     let occurrences = number_occurrences(
         alloc,
-        &nonterminals,
-        &attributes,
+        nonterminals,
+        attributes,
         named.occurrences.as_slice(),
     )?;
     let productions = number_productions(
         alloc,
-        &nonterminals,
-        &attributes,
+        nonterminals,
+        attributes,
         &occurrences,
         named.productions.as_slice(),
     )?;
-    add_names(&mut nonterminals, &productions)?;
+    add_names(nonterminals, &productions)?;
     Ok(SmallSpec {
         nonterminals: copies(alloc, named.nonterminals.as_slice())?,
         attributes: copies(alloc, named.attributes.as_slice())?,

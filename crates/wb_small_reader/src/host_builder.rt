@@ -1,6 +1,6 @@
 //! What is made of a small host while it is read.
 
-ghost use Rattle.std.specs.Prelude.{◌≡◌, ℤ, IfOk, OnOk};
+ghost use Rattle.std.specs.Prelude.{[], ◌≡◌, ℤ, IfOk, OnOk};
 ghost use Rattle.wb_small_reader.specs.HostParts.{empty, named, with_nonterminal, with_attribute, with_occurrence, with_head, with_int_child, with_tree_child, with_target, with_number, with_child, with_read, with_left, with_sum, with_equation, with_production, host_of};
 
 use std::alloc::{AllocError, Global};
@@ -42,24 +42,34 @@ pub struct HostBuilder {
     pub lefts: Stack<usize>,
 }
 
+// The empty text.
+fn no_bytes(alloc: Global) -> Bytes
+    ensures { result ≡ [] }
+{
+    match Bytes::from_slice(alloc, &[]) {
+        Ok(bytes) => bytes,
+        Err(_) => unreachable!(),
+    }
+}
+
 impl HostBuilder {
     /// No parts. The only error is want of memory.
     pub fn new(alloc: Global) -> Result<HostBuilder, AllocError>
         ensures ok { IfOk result (λ made. made ≡ empty) }
     {
         Ok(HostBuilder {
-            previous: Bytes::from_slice(alloc, &[])?,
-            name: Bytes::from_slice(alloc, &[])?,
+            previous: no_bytes(alloc),
+            name: no_bytes(alloc),
             integer: 0,
             nonterminals: List::new(alloc),
             attributes: List::new(alloc),
             occurrences: List::new(alloc),
             productions: List::new(alloc),
-            production: Bytes::from_slice(alloc, &[])?,
-            left: Bytes::from_slice(alloc, &[])?,
+            production: no_bytes(alloc),
+            left: no_bytes(alloc),
             children: List::new(alloc),
             equations: List::new(alloc),
-            target: Bytes::from_slice(alloc, &[])?,
+            target: no_bytes(alloc),
             nodes: List::new(alloc),
             lefts: Stack::new(alloc),
         })

@@ -14,8 +14,6 @@ mod small_term;
 mod term_builder;
 mod term_rules;
 mod term_table;
-#[cfg(test)]
-mod tests;
 
 pub use small_host::read_small_spec;
 pub use small_term::read_small_term;

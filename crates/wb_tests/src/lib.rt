@@ -1,6 +1,10 @@
-//! Tests that go through the top call, and others across crates. Nothing stands on this crate.
+//! Tests of texts and of the program: what reads and prints a format, and runs of the top call over files in memory.
+//!
+//! Tests of the libraries that know no format are in `wb_library_tests`. Nothing stands on this crate.
 #![tactic(auto)]
 
+#[cfg(test)]
+mod eval;
 #[cfg(test)]
 mod predictive;
 #[cfg(test)]
@@ -12,6 +16,8 @@ mod reader;
 #[cfg(test)]
 mod show;
 #[cfg(test)]
+mod small_reader;
+#[cfg(test)]
 mod specifications;
 #[cfg(test)]
 mod syntax;
@@ -21,3 +27,5 @@ mod terms;
 mod tokens;
 #[cfg(test)]
 mod value;
+#[cfg(test)]
+mod world;

@@ -15,25 +15,31 @@ pub enum Wrong {
     At(usize),
 }
 
-// How `show h` ends and what it writes to the sink, where the file has these bytes.
-fn shown_to(
-    alloc: Global,
-    text: &[u8],
-    sink: &mut MemorySink,
-) -> Result<(Status, Vec<u8>), AllocError> {
+// How `show h` ends, where the file has these bytes and the report goes to this sink.
+fn status_to(alloc: Global, text: &[u8], sink: &mut MemorySink) -> Result<Status, AllocError> {
     let mut shelf = MemoryShelf::new(alloc);
     shelf.add_file("h", text)?;
+    let words = words_of(alloc)?;
+    Ok(workbench(alloc, &words, &mut shelf, sink))
+}
+
+fn words_of(alloc: Global) -> Result<Vec<String>, AllocError> {
     let mut words = Vec::new(alloc);
     words.push(String::from_str(alloc, "show")?)?;
     words.push(String::from_str(alloc, "h")?)?;
-    let status = workbench(alloc, &words, &mut shelf, sink);
-    Ok((status, sink.bytes().to_vec(alloc)?))
+    Ok(words)
 }
 
-// How `show h` ends and what it writes, where the file has these bytes.
-fn shown(alloc: Global, text: &[u8]) -> Result<(Status, Vec<u8>), AllocError> {
+// Whether `show h` ends so and writes this, where the file has these bytes.
+fn is_shown(
+    alloc: Global,
+    text: &[u8],
+    status: Status,
+    report: &[u8],
+) -> Result<bool, AllocError> {
     let mut sink = MemorySink::new(alloc, 20_000, 1_000)?;
-    shown_to(alloc, text, &mut sink)
+    let ended = status_to(alloc, text, &mut sink)?;
+    Ok(ended == status && sink.bytes() == report)
 }
 
 // The first text, of those with their reports, that has another one. A report that begins with `refused` has status 3.
@@ -42,9 +48,12 @@ fn first_wrong<'a>(
     cases: &[(&'a str, &str)],
 ) -> Result<Option<&'a str>, AllocError> {
     for (text, report) in cases {
-        let (status, bytes) = shown(alloc, text.as_bytes())?;
-        let refused = status == Status::SpecRefused;
-        if bytes.as_slice() != report.as_bytes() || refused != report.starts_with("refused") {
+        let status = if report.starts_with("refused") {
+            Status::SpecRefused
+        } else {
+            Status::Done
+        };
+        if !is_shown(alloc, text.as_bytes(), status, report.as_bytes())? {
             return Ok(Some(*text));
         }
     }
@@ -53,9 +62,10 @@ fn first_wrong<'a>(
 
 // Whether a text is shown, and what is shown of it is shown again as it is.
 fn is_stable(alloc: Global, text: &str) -> Result<bool, AllocError> {
-    let (status, bytes) = shown(alloc, text.as_bytes())?;
-    let (again, same) = shown(alloc, &bytes)?;
-    Ok(status == Status::Done && again == Status::Done && bytes.as_slice() == same.as_slice())
+    let mut sink = MemorySink::new(alloc, 20_000, 1_000)?;
+    let status = status_to(alloc, text.as_bytes(), &mut sink)?;
+    let again = is_shown(alloc, sink.bytes(), Status::Done, sink.bytes())?;
+    Ok(status == Status::Done && again)
 }
 
 // The first text that isn't shown and shown again.
@@ -70,14 +80,19 @@ fn first_unstable<'a>(alloc: Global, texts: &[&'a str]) -> Result<Option<&'a str
 
 // Whether a prefix goes wrong there.
 fn goes_wrong(alloc: Global, prefix: &[u8], wrong: Wrong) -> Result<bool, AllocError> {
-    let (status, bytes) = shown(alloc, prefix)?;
     let place = match wrong {
-        Wrong::Nowhere => return Ok(status == Status::Done),
+        Wrong::Nowhere => return is_status(alloc, prefix, Status::Done),
         Wrong::AtItsEnd => prefix.len(),
         Wrong::At(place) => place,
     };
     let line = format!(in alloc; "refused h S1 at {place}\n")?;
-    Ok(status == Status::SpecRefused && bytes.as_slice() == line.as_bytes())
+    is_shown(alloc, prefix, Status::SpecRefused, line.as_bytes())
+}
+
+// Whether `show h` ends so, where the file has these bytes.
+fn is_status(alloc: Global, text: &[u8], status: Status) -> Result<bool, AllocError> {
+    let mut sink = MemorySink::new(alloc, 20_000, 1_000)?;
+    Ok(status_to(alloc, text, &mut sink)? == status)
 }
 
 // The length of the first prefix that goes wrong elsewhere than these say, from each length on to before the next.
@@ -162,13 +177,17 @@ fn each_prefix_goes_wrong_at_its_place(rt: HostRuntime) -> Result<(), Fail> {
     Ok(())
 }
 
-#[test]
-fn a_write_that_fails_leaves_a_front_of_the_text(rt: HostRuntime) -> Result<(), Fail> {
-    let mut sink = MemorySink::new(rt.alloc(), 20_000, 8)?;
+// Whether a write that fails leaves a prefix of the text.
+fn is_cut(alloc: Global) -> Result<bool, AllocError> {
+    let mut sink = MemorySink::new(alloc, 20_000, 8)?;
     sink.fail_at(2)?;
-    let (status, bytes) = shown_to(rt.alloc(), MINI.as_bytes(), &mut sink)?;
-    assert_eq!(rt; status, Status::WriteFault);
-    assert_eq!(rt; bytes.as_slice(), b"format 1".as_slice());
+    let status = status_to(alloc, MINI.as_bytes(), &mut sink)?;
+    Ok(status == Status::WriteFault && sink.bytes() == b"format 1".as_slice())
+}
+
+#[test]
+fn a_write_that_fails_leaves_a_prefix_of_the_text(rt: HostRuntime) -> Result<(), Fail> {
+    assert!(rt; is_cut(rt.alloc())?);
     Ok(())
 }
 
@@ -176,8 +195,7 @@ fn a_write_that_fails_leaves_a_front_of_the_text(rt: HostRuntime) -> Result<(), 
 fn a_file_past_the_limit_is_too_long(rt: HostRuntime) -> Result<(), Fail> {
     let mut text = Vec::new(rt.alloc());
     text.resize(1_048_577, b' ')?;
-    let (status, bytes) = shown(rt.alloc(), &text)?;
-    assert_eq!(rt; status, Status::SpecRefused);
-    assert_eq!(rt; bytes.as_slice(), b"refused h S2\n".as_slice());
+    let is = is_shown(rt.alloc(), &text, Status::SpecRefused, b"refused h S2\n")?;
+    assert!(rt; is);
     Ok(())
 }

@@ -20,83 +20,146 @@ const LINE: &[u8] = b"value = 3\n";
 const USAGE: &[u8] =
     b"usage: workbench value|show|check|certify|compose|tree|run|generate ARGUMENTS\n";
 
-// A shelf with a host and a term.
-fn shelf_of(alloc: Global, host: &[u8], term: &[u8]) -> Result<MemoryShelf, AllocError> {
+// A run of the program over a host in the file `h` and a term in the file `t`.
+#[derive(Clone, Copy)]
+struct Run<'a> {
+    words: &'a [&'a str],
+    host: &'a [u8],
+    term: &'a [u8],
+    // The read call that fails, counted from 1.
+    failing_read: Option<u64>,
+    // The write call that fails, counted from 1.
+    failing_write: Option<u64>,
+    // How many bytes a write takes at most.
+    most: usize,
+}
+
+// A run with these words over these files, in which nothing fails.
+fn run_of<'a>(words: &'a [&'a str], host: &'a [u8], term: &'a [u8]) -> Run<'a> {
+    Run {
+        words,
+        host,
+        term,
+        failing_read: None,
+        failing_write: None,
+        most: 1000,
+    }
+}
+
+// The shelf of a run.
+fn shelf_of(alloc: Global, run: &Run) -> Result<MemoryShelf, AllocError> {
     let mut shelf = MemoryShelf::new(alloc);
-    shelf.add_file("h", host)?;
-    shelf.add_file("t", term)?;
+    shelf.add_file("h", run.host)?;
+    shelf.add_file("t", run.term)?;
+    if let Some(call) = run.failing_read {
+        shelf.fail_at(call)?;
+    }
     Ok(shelf)
 }
 
-// The text with spaces behind it, up to a length.
-fn padded(alloc: Global, text: &[u8], len: usize) -> Result<Vec<u8>, AllocError> {
-    let mut bytes = Vec::from_slice(alloc, text)?;
-    for _ in text.len()..len {
-        bytes.push(b' ')?;
-    }
-    Ok(bytes)
-}
-
-// How a run with these words ends, and what it has written.
-fn run(
-    alloc: Global,
-    words: &[&str],
-    shelf: &mut MemoryShelf,
-    sink: &mut MemorySink,
-) -> Result<(Status, Vec<u8>), AllocError> {
+// The words as the program has them.
+fn words_of(alloc: Global, words: &[&str]) -> Result<Vec<String>, AllocError> {
     let mut texts = Vec::new(alloc);
     for word in words {
         texts.push(String::from_str(alloc, *word)?)?;
     }
-    let status = workbench(alloc, &texts, shelf, sink);
-    Ok((status, sink.bytes().to_vec(alloc)?))
+    Ok(texts)
+}
+
+// How a run ends that writes to this sink.
+fn status_to(alloc: Global, run: &Run, sink: &mut MemorySink) -> Result<Status, AllocError> {
+    let mut shelf = shelf_of(alloc, run)?;
+    let words = words_of(alloc, run.words)?;
+    Ok(workbench(alloc, &words, &mut shelf, sink))
+}
+
+// Whether a run ends with this status and has written this.
+fn ends(alloc: Global, run: &Run, status: Status, line: &[u8]) -> Result<bool, AllocError> {
+    let mut sink = MemorySink::new(alloc, 1000, run.most)?;
+    if let Some(call) = run.failing_write {
+        sink.fail_at(call)?;
+    }
+    let ended = status_to(alloc, run, &mut sink)?;
+    Ok(ended == status && sink.bytes() == line)
+}
+
+// The text with spaces after it, up to a length.
+fn padded(alloc: Global, text: &[u8], len: usize) -> Result<Vec<u8>, AllocError> {
+    let mut bytes = Vec::from_slice(alloc, text)?;
+    bytes.resize(len, b' ')?;
+    Ok(bytes)
+}
+
+// Whether `value h t value` ends so where the files have these lengths.
+fn ends_at_lengths(
+    alloc: Global,
+    host: usize,
+    term: usize,
+    status: Status,
+    line: &[u8],
+) -> Result<bool, AllocError> {
+    let host = padded(alloc, CALC, host)?;
+    let term = padded(alloc, THREE, term)?;
+    ends(alloc, &run_of(&VALUE, &host, &term), status, line)
 }
 
 #[test]
 fn row_one_prints_three(rt: HostRuntime) -> Result<(), Fail> {
-    let mut shelf = shelf_of(rt.alloc(), CALC, THREE)?;
-    let mut sink = MemorySink::new(rt.alloc(), 1000, 1000)?;
-    let (status, bytes) = run(rt.alloc(), &VALUE, &mut shelf, &mut sink)?;
-    assert_eq!(rt; status, Status::Done);
-    assert_eq!(rt; bytes.as_slice(), LINE);
+    assert!(rt; ends(rt.alloc(), &run_of(&VALUE, CALC, THREE), Status::Done, LINE)?);
     Ok(())
 }
 
 #[test]
 fn each_status_has_its_line(rt: HostRuntime) -> Result<(), Fail> {
     let value = VALUE.as_slice();
-    let absent = ["value", "h", "u", "value"].as_slice();
-    let size = ["value", "h", "t", "size"].as_slice();
-    let dashed = ["value", "h", "t", "-x"].as_slice();
     let sum = b"add(lit(9223372036854775807), lit(1))".as_slice();
+    let no_host = ["value", "g", "t", "value"].as_slice();
+    let no_term = ["value", "h", "u", "value"].as_slice();
+    let size = ["value", "h", "t", "size"].as_slice();
+    let no_size = b"no attribute size\n".as_slice();
     let cases = [
         (value, CALC, THREE, Status::Done, LINE),
-        (["frob"].as_slice(), CALC, THREE, Status::Usage, USAGE),
-        (dashed, CALC, THREE, Status::Usage, USAGE),
         (value, b"", THREE, Status::SpecRefused, b"refused h S0\n"),
-        (
-            value,
-            CALC,
-            b"add(lit(1)",
-            Status::SpecRefused,
-            b"refused t S0\n",
-        ),
+        (value, CALC, b"add(lit(1)", Status::SpecRefused, b"refused t S0\n"),
         (value, CALC, sum, Status::OperationFault, b"fault add 1\n"),
-        (absent, CALC, THREE, Status::Absent, b""),
-        (
-            size,
-            CALC,
-            b"lit(1)",
-            Status::UnknownAttribute,
-            b"no attribute size\n",
-        ),
+        (no_host, CALC, THREE, Status::Absent, b""),
+        (no_term, CALC, THREE, Status::Absent, b""),
+        (["show", "g"].as_slice(), CALC, THREE, Status::Absent, b""),
+        (size, CALC, b"lit(1)", Status::UnknownAttribute, no_size),
     ];
     for (words, host, term, status, line) in cases {
-        let mut shelf = shelf_of(rt.alloc(), host, term)?;
-        let mut sink = MemorySink::new(rt.alloc(), 1000, 1000)?;
-        let (ended, bytes) = run(rt.alloc(), words, &mut shelf, &mut sink)?;
-        assert_eq!(rt; ended, status);
-        assert_eq!(rt; bytes.as_slice(), line);
+        let is = ends(rt.alloc(), &run_of(words, host, term), status, line)?;
+        assert!(rt; is, "{words:?}");
+    }
+    Ok(())
+}
+
+#[test]
+fn words_that_ask_for_nothing_built_are_usage_errors(rt: HostRuntime) -> Result<(), Fail> {
+    let cases = [
+        [].as_slice(),
+        &["frob"],
+        &["--help"],
+        &["value"],
+        &["value", "h", "t"],
+        &["value", "h", "t", "value", "value"],
+        &["value", "h", "t", "-x"],
+        &["value", "h", "", "value"],
+        &["value", "--steps", "1", "h", "t", "value"],
+        &["show"],
+        &["show", "--"],
+        &["show", "h", "t"],
+        // Not built yet.
+        &["check", "h"],
+        &["certify", "h", "t"],
+        &["compose", "h"],
+        &["tree", "--text", "t", "h"],
+        &["run", "--text", "t", "--attr=value", "h"],
+        &["generate", "--number", "0", "--size", "1", "--attr", "a", "h"],
+    ];
+    for words in cases {
+        let is = ends(rt.alloc(), &run_of(words, CALC, THREE), Status::Usage, USAGE)?;
+        assert!(rt; is, "{words:?}");
     }
     Ok(())
 }
@@ -104,56 +167,40 @@ fn each_status_has_its_line(rt: HostRuntime) -> Result<(), Fail> {
 #[test]
 fn a_read_that_fails_ends_the_run(rt: HostRuntime) -> Result<(), Fail> {
     for call in 1..100 {
-        let mut shelf = shelf_of(rt.alloc(), CALC, THREE)?;
-        shelf.fail_at(call)?;
-        let mut sink = MemorySink::new(rt.alloc(), 1000, 1000)?;
-        let (status, bytes) = run(rt.alloc(), &VALUE, &mut shelf, &mut sink)?;
-        if status == Status::Done {
+        let mut run = run_of(&VALUE, CALC, THREE);
+        run.failing_read = Some(call);
+        if ends(rt.alloc(), &run, Status::Done, LINE)? {
             assert!(rt; call > 2, "both files are read");
-            assert_eq!(rt; bytes.as_slice(), LINE);
             return Ok(());
         }
-        assert_eq!(rt; status, Status::ReadFault);
-        assert!(rt; bytes.is_empty());
+        assert!(rt; ends(rt.alloc(), &run, Status::ReadFault, b"")?);
     }
     Err(Fail::from("a run has less than 99 reads"))
 }
 
 #[test]
 fn a_write_that_fails_ends_the_run(rt: HostRuntime) -> Result<(), Fail> {
-    for call in 1..=LINE.len() + 1 {
-        let mut shelf = shelf_of(rt.alloc(), CALC, THREE)?;
-        let mut sink = MemorySink::new(rt.alloc(), 1000, 1)?;
-        sink.fail_at(call as u64)?;
-        let (status, bytes) = run(rt.alloc(), &VALUE, &mut shelf, &mut sink)?;
-        let whole = call > LINE.len();
-        let ended = if whole {
-            Status::Done
-        } else {
-            Status::WriteFault
-        };
-        assert_eq!(rt; status, ended);
-        assert_eq!(rt; bytes.as_slice(), &LINE[..call - 1]);
+    for call in 1..=LINE.len() {
+        let mut run = run_of(&VALUE, CALC, THREE);
+        run.failing_write = Some(call as u64);
+        run.most = 1;
+        let is = ends(rt.alloc(), &run, Status::WriteFault, &LINE[..call - 1])?;
+        assert!(rt; is, "write {call}");
     }
     Ok(())
 }
 
 #[test]
 fn a_file_may_be_as_long_as_its_limit(rt: HostRuntime) -> Result<(), Fail> {
-    let limit = 1048576;
+    let limit = 1_048_576;
     let cases = [
         (limit, limit, Status::Done, LINE),
         (limit + 1, limit, Status::SpecRefused, b"refused h S0\n"),
         (limit, limit + 1, Status::SpecRefused, b"refused t S0\n"),
     ];
     for (host, term, status, line) in cases {
-        let host = padded(rt.alloc(), CALC, host)?;
-        let term = padded(rt.alloc(), THREE, term)?;
-        let mut shelf = shelf_of(rt.alloc(), host.as_slice(), term.as_slice())?;
-        let mut sink = MemorySink::new(rt.alloc(), 1000, 1000)?;
-        let (ended, bytes) = run(rt.alloc(), &VALUE, &mut shelf, &mut sink)?;
-        assert_eq!(rt; ended, status);
-        assert_eq!(rt; bytes.as_slice(), line);
+        let is = ends_at_lengths(rt.alloc(), host, term, status, line)?;
+        assert!(rt; is, "{host} {term}");
     }
     Ok(())
 }

@@ -11,8 +11,6 @@ mod memory_sink;
 mod output_sink;
 mod shelf;
 mod sink;
-#[cfg(test)]
-mod tests;
 
 pub use file_shelf::FileShelf;
 pub use memory_shelf::MemoryShelf;

@@ -4,11 +4,11 @@ use Rattle.std.proofs.lemmas.Grind.{common_steps}
 use Rattle.wb_program.proofs.Pieces.{whole, too_long}
 use Rattle.wb_program.proofs.reading.read_file.Goals as goal
 
-pub returns-then-len-le-LIMIT-clause-ok : goal.returns-then-len-le-LIMIT-clause-ok
-returns-then-len-le-LIMIT-clause-ok g c =
-    let short : length c.in_ok-bytes.bytes.items ≤ 1048576 = grind (arith, common_steps) in
-    (whole (g.S.Shelf.files c.args.shelf.now) c.args.name.now c.in_ok-bytes.bytes.items 1048576 c.in_ok-bytes.ensures.ok short, short)
+pub returns-then-len-limit-clause-ok : goal.returns-then-len-limit-clause-ok
+returns-then-len-limit-clause-ok g c =
+    let short : length c.in_ok-bytes.bytes.items ≤ c.args.limit = grind (arith, common_steps) in
+    (whole (g.S.Shelf.files c.args.shelf.now) c.args.name.now c.in_ok-bytes.bytes.items c.args.limit c.in_ok-bytes.ensures.ok short, short)
 
-pub returns-else-len-le-LIMIT-clause-ok : goal.returns-else-len-le-LIMIT-clause-ok
-returns-else-len-le-LIMIT-clause-ok g c =
-    too_long (g.S.Shelf.files c.args.shelf.now) c.args.name.now c.in_ok-bytes.bytes.items 1048576 c.in_ok-bytes.ensures.ok (grind (arith, common_steps))
+pub returns-else-len-limit-clause-ok : goal.returns-else-len-limit-clause-ok
+returns-else-len-limit-clause-ok g c =
+    too_long (g.S.Shelf.files c.args.shelf.now) c.args.name.now c.in_ok-bytes.bytes.items c.args.limit c.in_ok-bytes.ensures.ok (grind (arith, common_steps))

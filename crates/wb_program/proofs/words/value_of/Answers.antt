@@ -1,7 +1,8 @@
 -- Four words are those of the command.
-use Rattle.std.proofs.Common.{rules, string_bytes, refl, ◌≡◌, List, [], ◌∷◌, length, get_or, arith, sym, ◌∙◌, ap}
+use Rattle.std.proofs.Common.{rules, string_bytes, ◌≡◌, ℕ, List, [], ◌∷◌, All, length, get_or, arith, sym, ◌∙◌, ap}
+use Rattle.std.proofs.lemmas.List.Elements.{All-nil, All-cons}
 use lib.Chars.{codes}
-use Rattle.wb_program.specs.Words.{texts}
+use Rattle.wb_program.specs.Words.{texts, IsPositional, Value, no_option, says_value}
 use Rattle.wb_program.proofs.words.value_of.Goals as goal
 
 -- a list of four is its four elements
@@ -13,11 +14,25 @@ four (w ∷ x ∷ y ∷ []) a b c d l p q r s = absurd (omega arith)
 four (w ∷ x ∷ y ∷ z ∷ []) a b c d l p q r s = cc
 four (w ∷ x ∷ y ∷ z ∷ v ∷ vs) a b c d l p q r s = absurd (omega arith)
 
+-- three positional words
+three : (a b c : List ℕ) → IsPositional a → IsPositional b → IsPositional c → All IsPositional (a ∷ b ∷ c ∷ [])
+three a b c p q r = All-cons IsPositional a (b ∷ c ∷ []) p (All-cons IsPositional b (c ∷ []) q (All-cons IsPositional c [] r (All-nil IsPositional)))
+
 pub returns-then-is_positional-3-clause-some : goal.returns-then-is_positional-3-clause-some
 returns-then-is_positional-3-clause-some c =
-    let words : c.args.words.now ≡ c.command-item.result ∷ c.host-item.result ∷ c.term-item.result ∷ c.attribute-item.result ∷ [] = four _ _ _ _ _ (omega arith) c.command-item.is c.host-item.is c.term-item.is c.attribute-item.is in
-    let command : c.as_str.result.now ≡ codes "value" = search rules in
-    let first : string_bytes c.command-item.result ≡ codes "value" = sym c.as_str.ensures.value ∙ command in
-    let all : texts c.args.words.now ≡ string_bytes c.command-item.result ∷ string_bytes c.host-item.result ∷ string_bytes c.term-item.result ∷ string_bytes c.attribute-item.result ∷ [] = ap texts words in
-    let said : texts c.args.words.now ≡ codes "value" ∷ c.as_str-host.result.now ∷ c.as_str-term.result.now ∷ c.as_str-attribute.result.now ∷ [] = cc (all, first, c.as_str-host.ensures.value, c.as_str-term.ensures.value, c.as_str-attribute.ensures.value) in
-    (said, record { command_is = refl; host_is = search rules; term_is = search rules; attribute_is = search rules })
+    let words : c.args.words.now ≡ c.verb-item.result ∷ c.host-item.result ∷ c.term-item.result ∷ c.attribute-item.result ∷ [] = four _ _ _ _ _ (omega arith) c.verb-item.is c.host-item.is c.term-item.is c.attribute-item.is in
+    let verb : c.as_str.result.now ≡ codes "value" = search rules in
+    let first : string_bytes c.verb-item.result ≡ codes "value" = sym c.as_str.ensures.value ∙ verb in
+    let all : texts c.args.words.now ≡ string_bytes c.verb-item.result ∷ string_bytes c.host-item.result ∷ string_bytes c.term-item.result ∷ string_bytes c.attribute-item.result ∷ [] = ap texts words in
+    let host : IsPositional c.as_str-host.result.now = search rules in
+    let term : IsPositional c.as_str-term.result.now = search rules in
+    let attribute : IsPositional c.as_str-attribute.result.now = search rules in
+    record {
+      verb = Value;
+      options = [];
+      rest = c.as_str-host.result.now ∷ c.as_str-term.result.now ∷ c.as_str-attribute.result.now ∷ [];
+      positional = c.as_str-host.result.now ∷ c.as_str-term.result.now ∷ c.as_str-attribute.result.now ∷ [];
+      line = cc (all, first, c.as_str-host.ensures.value, c.as_str-term.ensures.value, c.as_str-attribute.ensures.value);
+      splits = no_option (three c.as_str-host.result.now c.as_str-term.result.now c.as_str-attribute.result.now host term attribute);
+      says = says_value;
+    }

@@ -1,0 +1,5 @@
+-- Words of private functions: what a command stands for, what is read of a file, how a run stops.
+pub mod Commands
+pub mod Contents
+pub mod Shown
+pub mod Stopped

@@ -1,0 +1,76 @@
+//! The top call: from words and files to a status and the bytes of a report.
+ghost use Rattle.std.specs.Prelude.{◌≡◌, ◌⊎◌, IfOk, IfErr};
+ghost use Rattle.wb_world.specs.Cause.{Rose};
+ghost use Rattle.wb_program.specs.Words.{texts, InCommandSet};
+ghost use Rattle.wb_program.specs.Reads.{AbsentCause, FaultCause, ComesTo};
+ghost use Rattle.wb_program.specs.Report.{IsReport};
+ghost use Rattle.wb_program.specs.Written.{WritesNothing, Wrote};
+ghost use Rattle.wb_program.specs.Inner.Stopped.{outside, Stopped, GoesOn};
+
+use crate::answer::{Answer, answer_value, usage};
+use crate::reading::ReadFailure;
+use crate::show::answer_show;
+use crate::status::Status;
+use crate::words::{Command, command_of};
+use crate::writing::write_report;
+use std::alloc::Global;
+use wb_world::{Shelf, Sink};
+
+/// All that the program does: reads the words as a command, reads the files that they name, and writes the report.
+///
+/// The whole report is made before its first byte is written. Want of memory may come at any step before
+/// that. How many reads and writes there are is left open.
+pub fn workbench<S: Shelf, K: Sink>(
+    alloc: Global,
+    words: &[String],
+    shelf: &mut S,
+    sink: &mut K,
+) -> Status
+    // Usage is the status of words that are no command, and of no others.
+    ensures usage { result ≡ Status.Usage → ¬ InCommandSet (texts words.now) }
+    ensures only_usage { ¬ InCommandSet (texts words.now) → (result ≡ Status.Usage) ⊎ (result ≡ Status.WriteFault) ⊎ (result ≡ Status.NoMemory) }
+
+    // Each fault has a cause in this call.
+    ensures absent { result ≡ Status.Absent → AbsentCause (texts words.now) (S.files shelf.old) (S.absences shelf.old) (S.absences shelf.new) }
+    ensures read_fault { result ≡ Status.ReadFault → FaultCause (texts words.now) (S.files shelf.old) (S.faults shelf.old) (S.faults shelf.new) }
+    ensures write_fault { result ≡ Status.WriteFault → Rose (K.faults sink.old) (K.faults sink.new) }
+
+    // The bytes written are the report that the words and the files have with this status.
+    ensures written { Wrote (IsReport (texts words.now) (S.files shelf.old)) (K.written sink.old) (K.written sink.new) result }
+    ensures files { S.files shelf.new ≡ S.files shelf.old }
+{
+    match answer(alloc, words, shelf) {
+        Ok(answer) => match write_report(sink, &answer.report) {
+            Ok(()) => answer.status,
+            Err(_) => Status::WriteFault,
+        },
+        Err(ReadFailure::Absent) => Status::Absent,
+        Err(ReadFailure::ReadFault) => Status::ReadFault,
+        Err(ReadFailure::NoMemory) => Status::NoMemory,
+    }
+}
+
+// The answer to the words, before anything is written.
+fn answer<S: Shelf>(alloc: Global, words: &[String], shelf: &mut S) -> Result<Answer, ReadFailure>
+    ensures ok { IfOk result (λ answer. IsReport (texts words.now) (S.files shelf.old) answer.status answer.report.items) }
+    ensures usage { IfOk result (λ answer. answer.status ≡ Status.Usage → ¬ InCommandSet (texts words.now)) }
+    ensures only_usage { IfOk result (λ answer. ¬ InCommandSet (texts words.now) → answer.status ≡ Status.Usage) }
+    ensures reports { IfOk result (λ answer. ¬ WritesNothing answer.status) }
+    ensures asked { IfErr result (λ failure. ¬ InCommandSet (texts words.now) → failure ≡ ReadFailure.NoMemory) }
+    ensures stopped { IfErr result (Stopped (outside (S.files shelf.old) (S.absences shelf.old) (S.faults shelf.old))
+        (outside (S.files shelf.new) (S.absences shelf.new) (S.faults shelf.new)) (ComesTo (texts words.now) (S.files shelf.old))) }
+    ensures goes_on { GoesOn (outside (S.files shelf.old) (S.absences shelf.old) (S.faults shelf.old))
+        (outside (S.files shelf.new) (S.absences shelf.new) (S.faults shelf.new)) }
+{
+    match command_of(words) {
+        Some(
+            Command::Value {
+                host,
+                term,
+                attribute,
+            },
+        ) => answer_value(alloc, shelf, host, term, attribute),
+        Some(Command::Show { file }) => answer_show(alloc, shelf, file),
+        None => Ok(usage(alloc)?),
+    }
+}
