@@ -45,27 +45,37 @@ stops_first before now read file reads ReadFault first stopped = first (IsFaulty
 stops_first before now read file reads NoMemory first stopped = tt
 
 -- a run that stops at the term, after its host was read
-pub stops_second : (before between now : Outside) (host term : List ℕ) (spec : SmallSpec) (failure : ReadFailure) → KnownFile before.files host (IsHost spec)
+pub stops_second : (before between now : Outside) (host term : List ℕ) (spec : SmallSpec) (failure : ReadFailure) →
+    KnownFile before.files host (IsHost spec)
     → GoesOn before between → Stopped between now (λ P. P term) failure
     → Stopped before now (λ P. StopsAt before.files P (small_host host ∷ small_term term ∷ [])) failure
 stops_second before between now host term spec Absent is kept (rose, absent) =
-    inr (some_host before.files host spec is, inl (rose_since (before.absences term) (between.absences term) (now.absences term) (kept.absences term) rose, subst (λ known. KnownAbsent known term) kept.files absent))
+    inr (some_host before.files host spec is, inl
+        (rose_since (before.absences term) (between.absences term) (now.absences term) (kept.absences term) rose, subst
+        (λ known. KnownAbsent known term) kept.files absent))
 stops_second before between now host term spec ReadFault is kept rose =
-    inr (some_host before.files host spec is, inl (rose_since (before.faults term) (between.faults term) (now.faults term) (kept.faults term) rose))
+    inr (some_host before.files host spec is, inl
+        (rose_since (before.faults term) (between.faults term) (now.faults term) (kept.faults term) rose))
 stops_second before between now host term spec NoMemory is kept stopped = tt
 
 -- a run of a command stops at one of its files
 pub comes_to : (before now : Outside) (words : List (List ℕ)) (asked : Asked) (reads : List Read) (failure : ReadFailure) → Asks words asked
-    → AreReads asked reads → Stopped before now (λ P. StopsAt before.files P reads) failure → Stopped before now (ComesTo words before.files) failure
-comes_to before now words asked reads Absent asks are stops = record { asked = asked; asks = asks; reads = reads; are_reads = are; stops = stops }
-comes_to before now words asked reads ReadFault asks are stops = record { asked = asked; asks = asks; reads = reads; are_reads = are; stops = stops }
+    → AreReads asked reads → Stopped before now (λ P. StopsAt before.files P reads) failure →
+        Stopped before now (ComesTo words before.files) failure
+comes_to before now words asked reads Absent asks are stops = record { asked = asked; asks = asks; reads = reads; are_reads = are;
+    stops = stops }
+comes_to before now words asked reads ReadFault asks are stops = record { asked = asked; asks = asks; reads = reads; are_reads = are;
+    stops = stops }
 comes_to before now words asked reads NoMemory asks are stops = tt
 
 -- a run that stops at a file later stops at it since it began
 pub stops_since : (before between now : Outside) (file : List ℕ) (failure : ReadFailure) → GoesOn before between
     → Stopped between now (λ P. P file) failure → Stopped before now (λ P. P file) failure
-stops_since before between now file Absent kept (rose, absent) = (rose_since (before.absences file) (between.absences file) (now.absences file) (kept.absences file) rose, subst (λ known. KnownAbsent known file) kept.files absent)
-stops_since before between now file ReadFault kept rose = rose_since (before.faults file) (between.faults file) (now.faults file) (kept.faults file) rose
+stops_since before between now file Absent kept (rose, absent) =
+    (rose_since (before.absences file) (between.absences file) (now.absences file) (kept.absences file) rose, subst
+    (λ known. KnownAbsent known file) kept.files absent)
+stops_since before between now file ReadFault kept rose = rose_since (before.faults file) (between.faults file) (now.faults file)
+    (kept.faults file) rose
 stops_since before between now file NoMemory kept stopped = tt
 
 -- what is read is asked of a command that is built
@@ -75,13 +85,17 @@ built_of asked reads show_reads = show_is_built
 
 -- words that come to read a file are in the command set
 reads_built : (words : List (List ℕ)) (known : Option Files) (P : List ℕ → Type 0) → ComesTo words known P → InCommandSet words
-reads_built words known P comes = record { asked = comes.asked; asks = comes.asks; built = built_of comes.asked comes.reads comes.are_reads }
+reads_built words known P comes = record { asked = comes.asked; asks = comes.asks;
+    built = built_of comes.asked comes.reads comes.are_reads }
 
 -- a run that stops at a file that the words name is asked for something built, but for want of memory
-pub stopped_asked : (before now : Outside) (words : List (List ℕ)) (failure : ReadFailure) → Stopped before now (ComesTo words before.files) failure
+pub stopped_asked : (before now : Outside) (words : List (List ℕ)) (failure : ReadFailure) →
+    Stopped before now (ComesTo words before.files) failure
     → ¬ InCommandSet words → failure ≡ NoMemory
-stopped_asked before now words Absent stopped none_asked = absurd (none_asked (reads_built words before.files (IsMissing before.files before.absences now.absences) stopped))
-stopped_asked before now words ReadFault stopped none_asked = absurd (none_asked (reads_built words before.files (IsFaulty before.faults now.faults) stopped))
+stopped_asked before now words Absent stopped none_asked = absurd
+    (none_asked (reads_built words before.files (IsMissing before.files before.absences now.absences) stopped))
+stopped_asked before now words ReadFault stopped none_asked = absurd
+    (none_asked (reads_built words before.files (IsFaulty before.faults now.faults) stopped))
 stopped_asked before now words NoMemory stopped none_asked = refl
 
 -- what holds of an answer, from what holds of it

@@ -54,7 +54,8 @@ no_cut (x ∷ name) [] value none_is same = All-head (λ byte. byte ≢ 61) x na
 no_cut (x ∷ name) (y ∷ part) value none_is same = no_cut name part value (All-tail (λ byte. byte ≢ 61) x name none_is) (cc)
 
 -- two names before the first '=' are one, and so are the values after it
-one_cut : (name other value v : List ℕ) → All (λ byte. byte ≢ 61) name → All (λ byte. byte ≢ 61) other → name ++ 61 ∷ value ≡ other ++ 61 ∷ v
+one_cut : (name other value v : List ℕ) → All (λ byte. byte ≢ 61) name → All (λ byte. byte ≢ 61) other →
+    name ++ 61 ∷ value ≡ other ++ 61 ∷ v
     → (name ≡ other) × (value ≡ v)
 one_cut [] [] value v p q same = (refl, cc)
 one_cut [] (y ∷ other) value v p q same = absurd (All-head (λ byte. byte ≢ 61) y other q (cc))
@@ -86,7 +87,8 @@ one_split words xs ys u v (apart {word = word} {value = value} {words = later} {
     absurd (no_dash word (45 ∷ o.name) (All-head IsPositional word (value ∷ later) q) is)
 one_split words xs ys u v (joined {word = word} {words = later} {o = o} name is is_value rest) (no_option q) =
     absurd (no_dash word (45 ∷ (o.name ++ 61 ∷ o.value)) (All-head IsPositional word later q) is)
-one_split words xs ys u v (apart {words = later} {o = o} {options = os} name is same is_value rest) (apart {o = p} {options = ps} name' is' same' is_value' rest') =
+one_split words xs ys u v (apart {words = later} {o = o} {options = os} name is same is_value rest)
+    (apart {o = p} {options = ps} name' is' same' is_value' rest') =
     let both : 45 ∷ 45 ∷ o.name ≡ 45 ∷ 45 ∷ p.name = sym is ∙ is' in
     let names : o.name ≡ p.name = cc in
     let option : o ≡ p = one_given o p names (sym same ∙ same') in
@@ -99,7 +101,8 @@ one_split words xs ys u v (apart {o = o} name is same is_value rest) (joined {o 
 one_split words xs ys u v (joined {o = o} name is is_value rest) (apart {o = p} name' is' same' is_value' rest') =
     let both : 45 ∷ 45 ∷ p.name ≡ 45 ∷ 45 ∷ (o.name ++ 61 ∷ o.value) = sym is' ∙ is in
     absurd (no_cut p.name o.name o.value name' (cc))
-one_split words xs ys u v (joined {words = later} {o = o} {options = os} name is is_value rest) (joined {o = p} {options = ps} name' is' is_value' rest') =
+one_split words xs ys u v (joined {words = later} {o = o} {options = os} name is is_value rest)
+    (joined {o = p} {options = ps} name' is' is_value' rest') =
     let both : 45 ∷ 45 ∷ (o.name ++ 61 ∷ o.value) ≡ 45 ∷ 45 ∷ (p.name ++ 61 ∷ p.value) = sym is ∙ is' in
     let cut : (o.name ≡ p.name) × (o.value ≡ p.value) = one_cut o.name p.name o.value p.value name name' (cc) in
     let option : o ≡ p = one_given o p cut.0 cut.1 in
@@ -120,13 +123,15 @@ module _ (options : List Given) (once : Differ (map (λ o. o.name) options)) whe
   one_value : (name v w : List ℕ) → HasOption options name v → HasOption options name w → v ≡ w
   one_value name v w first second =
       let same : first.place ≡ second.place = once name first.place second.place (named_at name v first) (named_at name w second) in
-      let at : slice_get options second.place ≡ Some (record { name = name; value = v }) = subst (λ k. slice_get options k ≡ Some (record { name = name; value = v })) same first.given in
+      let at : slice_get options second.place ≡ Some (record { name = name; value = v }) = subst
+          (λ k. slice_get options k ≡ Some (record { name = name; value = v })) same first.given in
       let both : given name v ≡ given name w = same_Some (given name v) (given name w) (sym at ∙ second.given) in
       ap (λ (o : Given). o.value) both
 
   -- an option is one number
   one_number : (name : List ℕ) (least most m n : ℕ) → HasNumber options name least most m → HasNumber options name least most n → m ≡ n
-  one_number name least most m n first second = first.is ∙ (ap (digits_value 10) (one_value name first.value second.value first.given second.given) ∙ sym second.is)
+  one_number name least most m n first second = first.is
+      ∙ (ap (digits_value 10) (one_value name first.value second.value first.given second.given) ∙ sym second.is)
 
   -- there is one limit of steps
   one_limit : (m n : ℕ) → HasSteps options m → HasSteps options n → m ≡ n
@@ -136,7 +141,8 @@ module _ (options : List Given) (once : Differ (map (λ o. o.name) options)) whe
   one_limit m n (inr a) (inr b) = a.1 ∙ sym b.1
 
 -- a verb with its options and words says one thing
-one_said : (verb : Verb) (options : List Given) (words : List (List ℕ)) (x y : Asked) → Says verb options words x → Says verb options words y → x ≡ y
+one_said : (verb : Verb) (options : List Given) (words : List (List ℕ)) (x y : Asked) → Says verb options words x →
+    Says verb options words y → x ≡ y
 one_said Value options words x y says_value says_value = refl
 one_said Show options words x y says_show says_show = refl
 one_said Check options words x y says_check says_check = refl
@@ -145,12 +151,14 @@ one_said Compose options words x y says_compose says_compose = refl
 one_said Tree options words x y (says_tree {text = text} are has) (says_tree {text = other} are' has') =
     let same : text ≡ other = one_value options are.once (codes "text") text other has has' in
     cc
-one_said Run options words x y (says_run {text = text} {attribute = attribute} {steps = steps} are has named limit) (says_run {text = text'} {attribute = attribute'} {steps = steps'} are' has' named' limit') =
+one_said Run options words x y (says_run {text = text} {attribute = attribute} {steps = steps} are has named limit)
+    (says_run {text = text'} {attribute = attribute'} {steps = steps'} are' has' named' limit') =
     let same : text ≡ text' = one_value options are.once (codes "text") text text' has has' in
     let names_same : attribute ≡ attribute' = one_value options are.once (codes "attr") attribute attribute' named named' in
     let limits : steps ≡ steps' = one_limit options are.once steps steps' limit limit' in
     cc
-one_said Generate options words x y (says_generate {attribute = attribute} {number = number} {size = size} are first second named) (says_generate {attribute = attribute'} {number = number'} {size = size'} are' first' second' named') =
+one_said Generate options words x y (says_generate {attribute = attribute} {number = number} {size = size} are first second named)
+    (says_generate {attribute = attribute'} {number = number'} {size = size'} are' first' second' named') =
     let numbers : number ≡ number' = one_number options are.once (codes "number") 0 (2 ^ 64 - 1) number number' first first' in
     let sizes : size ≡ size' = one_number options are.once (codes "size") 0 100000 size size' second second' in
     let names_same : attribute ≡ attribute' = one_value options are.once (codes "attr") attribute attribute' named named' in
@@ -164,7 +172,8 @@ one_asked words asked other first second =
     let rest : first.rest ≡ second.rest = cc in
     let verb : first.verb ≡ second.verb = verb_text-injective first.verb second.verb text in
     let split : (first.options ≡ second.options) × (first.positional ≡ second.positional) =
-    one_split second.rest first.options second.options first.positional second.positional (subst (λ words. Splits words first.options first.positional) rest first.splits) second.splits in
+    one_split second.rest first.options second.options first.positional second.positional
+        (subst (λ words. Splits words first.options first.positional) rest first.splits) second.splits in
     let said : Says second.verb second.options second.positional asked =
     subst (λ (v : Verb). Says v second.options second.positional asked) verb
     (subst (λ (os : List Given). Says first.verb os second.positional asked) split.0

@@ -64,13 +64,15 @@ no_host spec contents (inl long) is = let short = is.short in absurd (omega arit
 no_host spec contents (inr none_is) is = none_is spec is
 
 -- a small term is none that is refused
-no_term : (spec : SmallSpec) (term : SmallTerm) (contents : List ℕ) → IsTooLongOr 1048576 (IsNoTerm spec) contents → IsTerm spec term contents → ⊥
+no_term : (spec : SmallSpec) (term : SmallTerm) (contents : List ℕ) → IsTooLongOr 1048576 (IsNoTerm spec) contents →
+    IsTerm spec term contents → ⊥
 no_term spec term contents (inl long) is = let short = is.short in absurd (omega arith)
 no_term spec term contents (inr none_is) is = none_is term is
 
 module _ (attribute : List ℕ) (s t : Status) (bytes others : List ℕ) (spec : SmallSpec) (tree : SmallTerm) (rules : IsSmallSpec spec) where
   -- an answer is no other
-  one_answer : (number : ℕ) (x y : SmallAnswer) → IsAnswer spec tree (root_of tree) number x → IsAnswer spec tree (root_of tree) number y → x ≡ y
+  one_answer : (number : ℕ) (x y : SmallAnswer) → IsAnswer spec tree (root_of tree) number x → IsAnswer spec tree (root_of tree) number y →
+      x ≡ y
   one_answer number x y first second = one_answer_at spec tree rules (root_of tree) number x y first second
 
   -- two faults of an attribute have one line
@@ -85,8 +87,10 @@ module _ (attribute : List ℕ) (s t : Status) (bytes others : List ℕ) (spec :
       → NumberReport attribute spec tree number t others
       → AreOne s t bytes others
   one_answer_report number =
-      one_check OperationFault s t bytes others (HasFault spec tree number) (λ value. IsAnswer spec tree (root_of tree) number (Value value)) (λ value. Ends Done (λ line. line ≡ value_line attribute value))
-      (λ line value fault has. (let same : Fault fault.code ≡ Value value = one_answer number (Fault fault.code) (Value value) fault.has has in cc))
+      one_check OperationFault s t bytes others (HasFault spec tree number)
+          (λ value. IsAnswer spec tree (root_of tree) number (Value value)) (λ value. Ends Done (λ line. line ≡ value_line attribute value))
+      (λ line value fault has. (let same : Fault fault.code ≡ Value value = one_answer number (Fault fault.code)
+          (Value value) fault.has has in cc))
       (one_fault number)
       (λ x y first second. (let same : Value x ≡ Value y = one_answer number (Value x) (Value y) first second in cc))
       (λ x has. one_end Done s t bytes others (λ line. line ≡ value_line attribute x) (λ p q. p ∙ sym q))
@@ -94,7 +98,8 @@ module _ (attribute : List ℕ) (s t : Status) (bytes others : List ℕ) (spec :
   -- two reports of a host and a term are one
   one_known : AnswerReport attribute spec tree s bytes → AnswerReport attribute spec tree t others → AreOne s t bytes others
   one_known =
-      one_check UnknownAttribute s t bytes others (LacksAttribute attribute spec tree) (λ number. IsAskedAttribute spec tree attribute number)
+      one_check UnknownAttribute s t bytes others (LacksAttribute attribute spec tree)
+          (λ number. IsAskedAttribute spec tree attribute number)
       (λ number. NumberReport attribute spec tree number)
       (λ line number lacks is. lacks.lacks number is)
       (λ first second. first.line ∙ sym second.line)
@@ -113,14 +118,18 @@ module _ (files : Files) (host term attribute : List ℕ) (s t : Status) (bytes 
       → AreOne s t bytes others
   one_term_report spec is =
       let rules : IsSmallSpec spec = host_rules (files host) spec is in
-      one_check SpecRefused s t bytes others (RefusesTerm (Some files) term spec) (λ tree. KnownFile (Some files) term (IsTerm spec tree)) (λ tree. AnswerReport attribute spec tree)
-      (λ line tree refuses read. on_file (files term) (IsTooLongOr 1048576 (IsNoTerm spec)) (IsTerm spec tree) ⊥ (no_term spec tree) refuses.refused read)
+      one_check SpecRefused s t bytes others (RefusesTerm (Some files) term spec) (λ tree. KnownFile (Some files) term (IsTerm spec tree))
+          (λ tree. AnswerReport attribute spec tree)
+      (λ line tree refuses read. on_file (files term) (IsTooLongOr 1048576 (IsNoTerm spec)) (IsTerm spec tree) ⊥
+          (no_term spec tree) refuses.refused read)
       (λ first second. first.line ∙ sym second.line)
-      (λ x y first second. on_file (files term) (IsTerm spec x) (IsTerm spec y) (x ≡ y) (λ contents p q. one_term_text spec contents x y rules p q) first second)
+      (λ x y first second. on_file (files term) (IsTerm spec x) (IsTerm spec y) (x ≡ y)
+          (λ contents p q. one_term_text spec contents x y rules p q) first second)
       (λ tree read. one_known attribute s t bytes others spec tree rules)
 
   -- two reports of `value` are one
-  one_value_report : ValueReport (Some files) host term attribute s bytes → ValueReport (Some files) host term attribute t others → AreOne s t bytes others
+  one_value_report : ValueReport (Some files) host term attribute s bytes → ValueReport (Some files) host term attribute t others →
+      AreOne s t bytes others
   one_value_report =
       one_check SpecRefused s t bytes others (RefusesHost (Some files) host) (λ spec. KnownFile (Some files) host (IsHost spec))
       (λ spec. TermReport (Some files) term attribute spec)
@@ -133,20 +142,26 @@ module _ (files : Files) (file : List ℕ) (s t : Status) (bytes others : List �
   -- two refusals of a specification have one line
   one_refused : RefusesSpec (Some files) file bytes → RefusesSpec (Some files) file others → bytes ≡ others
   one_refused x y =
-      let same : x.refusal ≡ y.refusal = on_file (files file) (λ c. HasCause c x.refusal) (λ c. HasCause c y.refusal) (x.refusal ≡ y.refusal) (λ c p q. one_refusal c x.refusal y.refusal p q x.not_memory y.not_memory) x.cause y.cause in
+      let same : x.refusal ≡ y.refusal = on_file (files file) (λ c. HasCause c x.refusal) (λ c. HasCause c y.refusal)
+          (x.refusal ≡ y.refusal) (λ c p q. one_refusal c x.refusal y.refusal p q x.not_memory y.not_memory) x.cause y.cause in
       x.line ∙ (ap (spec_refused_line file) same ∙ sym y.line)
 
   -- two reports of `show` are one
   one_show_report : ShowReport (Some files) file s bytes → ShowReport (Some files) file t others → AreOne s t bytes others
   one_show_report =
-      one_check SpecRefused s t bytes others (RefusesSpec (Some files) file) (λ spec. KnownFile (Some files) file (λ contents. IsAcceptedText contents spec)) (λ spec. Ends Done (IsCanonical spec))
-      (λ line spec refuses read. refuses.not_memory (on_file (files file) (λ c. IsAcceptedText c spec) (λ c. HasCause c refuses.refusal) (IsNoMemory refuses.refusal) (λ c p q. none_refused c spec refuses.refusal p q) read refuses.cause))
+      one_check SpecRefused s t bytes others (RefusesSpec (Some files) file)
+          (λ spec. KnownFile (Some files) file (λ contents. IsAcceptedText contents spec)) (λ spec. Ends Done (IsCanonical spec))
+      (λ line spec refuses read. refuses.not_memory
+          (on_file (files file) (λ c. IsAcceptedText c spec) (λ c. HasCause c refuses.refusal) (IsNoMemory refuses.refusal)
+          (λ c p q. none_refused c spec refuses.refusal p q) read refuses.cause))
       one_refused
-      (λ x y first second. on_file (files file) (λ c. IsAcceptedText c x) (λ c. IsAcceptedText c y) (x ≡ y) (λ c p q. one_read c x y p.1 q.1) first second)
+      (λ x y first second. on_file (files file) (λ c. IsAcceptedText c x) (λ c. IsAcceptedText c y) (x ≡ y)
+          (λ c p q. one_read c x y p.1 q.1) first second)
       (λ spec read. one_end Done s t bytes others (IsCanonical spec) (λ p q. one_canonical spec bytes others p q))
 
 -- two reports of what is asked are one
-one_report_of : (files : Files) (s t : Status) (bytes others : List ℕ) (asked : Asked) → IsReportOf (Some files) s bytes asked → IsReportOf (Some files) t others asked → AreOne s t bytes others
+one_report_of : (files : Files) (s t : Status) (bytes others : List ℕ) (asked : Asked) → IsReportOf (Some files) s bytes asked →
+    IsReportOf (Some files) t others asked → AreOne s t bytes others
 one_report_of files s t bytes others asked (value_report {host = host} {term = term} {attribute = attribute} x) (value_report y) =
     one_value_report files host term attribute s t bytes others x y
 one_report_of files s t bytes others asked (show_report {file = file} x) (show_report y) = one_show_report files file s t bytes others x y
@@ -161,12 +176,14 @@ in_set : (known : Option Files) (s : Status) (bytes : List ℕ) (words : List (L
 in_set known s bytes words x = record { asked = x.asked; asks = x.asks; built = is_built known s bytes x.asked x.report }
 
 -- two reports of words and files are one
-one_report : (words : List (List ℕ)) (files : Files) (s t : Status) (bytes others : List ℕ) → IsReport words (Some files) s bytes → IsReport words (Some files) t others → AreOne s t bytes others
+one_report : (words : List (List ℕ)) (files : Files) (s t : Status) (bytes others : List ℕ) → IsReport words (Some files) s bytes →
+    IsReport words (Some files) t others → AreOne s t bytes others
 one_report words files s t bytes others (inl x) (inl y) = (x.usage ∙ sym y.usage, x.line ∙ sym y.line)
 one_report words files s t bytes others (inl x) (inr y) = absurd (x.none_asked (in_set (Some files) t others words y))
 one_report words files s t bytes others (inr x) (inl y) = absurd (y.none_asked (in_set (Some files) s bytes words x))
 one_report words files s t bytes others (inr x) (inr y) =
-    one_report_of files s t bytes others x.asked x.report (subst (λ (z : Asked). IsReportOf (Some files) t others z) (one_asked words y.asked x.asked y.asks x.asks) y.report)
+    one_report_of files s t bytes others x.asked x.report
+        (subst (λ (z : Asked). IsReportOf (Some files) t others z) (one_asked words y.asked x.asked y.asks x.asks) y.report)
 
 -- words and known files have one status
 pub one_status : HaveOneStatus

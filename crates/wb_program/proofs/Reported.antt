@@ -41,7 +41,8 @@ unknown (inr (inl is)) = absurd (cc)
 unknown (inr (inr is)) = absurd (cc)
 
 -- a check with such a status, and a rest with one
-by_check : {X : Type 0} (ending s : Status) (bytes : List ℕ) (Line : List ℕ → Type 0) (Passes : X → Type 0) (rest : X → Report) → IsReported ending
+by_check : {X : Type 0} (ending s : Status) (bytes : List ℕ) (Line : List ℕ → Type 0) (Passes : X → Type 0) (rest : X → Report) →
+    IsReported ending
     → ((x : X) → rest x s bytes → IsReported s) → Check ending Line Passes rest s bytes → IsReported s
 by_check ending s bytes Line Passes rest is more (inl (same, line)) = subst IsReported (sym same) is
 by_check ending s bytes Line Passes rest is more (inr (x, passes, goes)) = more x goes
@@ -51,14 +52,21 @@ by_end : (ending s : Status) (bytes : List ℕ) (Line : List ℕ → Type 0) →
 by_end ending s bytes Line is (same, line) = subst IsReported (sym same) is
 
 -- a report of `value`
-pub value_reported : (known : Option Files) (host term attribute : List ℕ) (s : Status) (bytes : List ℕ) → ValueReport known host term attribute s bytes → IsReported s
+pub value_reported : (known : Option Files) (host term attribute : List ℕ) (s : Status) (bytes : List ℕ) →
+    ValueReport known host term attribute s bytes → IsReported s
 value_reported known host term attribute s bytes =
-    by_check SpecRefused s bytes (RefusesHost known host) (λ spec. KnownFile known host (IsHost spec)) (λ spec. TermReport known term attribute spec) refused (λ spec.
-    by_check SpecRefused s bytes (RefusesTerm known term spec) (λ tree. KnownFile known term (IsTerm spec tree)) (λ tree. AnswerReport attribute spec tree) refused (λ tree.
-    by_check UnknownAttribute s bytes (LacksAttribute attribute spec tree) (λ number. IsAskedAttribute spec tree attribute number) (λ number. NumberReport attribute spec tree number) unknown (λ number.
-    by_check OperationFault s bytes (HasFault spec tree number) (λ value. IsAnswer spec tree (root_of tree) number (Value value)) (λ value. Ends Done (λ line. line ≡ value_line attribute value)) fault (λ value.
+    by_check SpecRefused s bytes (RefusesHost known host) (λ spec. KnownFile known host (IsHost spec))
+        (λ spec. TermReport known term attribute spec) refused (λ spec.
+    by_check SpecRefused s bytes (RefusesTerm known term spec) (λ tree. KnownFile known term (IsTerm spec tree))
+        (λ tree. AnswerReport attribute spec tree) refused (λ tree.
+    by_check UnknownAttribute s bytes (LacksAttribute attribute spec tree) (λ number. IsAskedAttribute spec tree attribute number)
+        (λ number. NumberReport attribute spec tree number) unknown (λ number.
+    by_check OperationFault s bytes (HasFault spec tree number) (λ value. IsAnswer spec tree (root_of tree) number (Value value))
+        (λ value. Ends Done (λ line. line ≡ value_line attribute value)) fault (λ value.
     by_end Done s bytes (λ line. line ≡ value_line attribute value) done))))
 
 -- a report of `show`
 pub show_reported : (known : Option Files) (file : List ℕ) (s : Status) (bytes : List ℕ) → ShowReport known file s bytes → IsReported s
-show_reported known file s bytes = by_check SpecRefused s bytes (RefusesSpec known file) (λ spec. KnownFile known file (λ contents. IsAcceptedText contents spec)) (λ spec. Ends Done (IsCanonical spec)) refused (λ spec. by_end Done s bytes (IsCanonical spec) done)
+show_reported known file s bytes = by_check SpecRefused s bytes (RefusesSpec known file)
+    (λ spec. KnownFile known file (λ contents. IsAcceptedText contents spec)) (λ spec. Ends Done (IsCanonical spec)) refused
+    (λ spec. by_end Done s bytes (IsCanonical spec) done)

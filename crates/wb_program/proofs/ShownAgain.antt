@@ -15,5 +15,6 @@ is_stable spec text has canonical =
     let again : IsCanonical back.other text = canonical_again spec text canonical back.other back.same in
     record {
       short = λ short. (back.other, (short, back.read), back.same, again, λ bytes other. one_canonical back.other bytes text other again);
-      long = λ long. let more : HasCause text TooLong = omega (arith, long) in (more, λ refusal cause known. one_refusal text refusal TooLong cause more known (λ none. none));
+      long = λ long. let more : HasCause text TooLong = omega (arith, long) in
+          (more, λ refusal cause known. one_refusal text refusal TooLong cause more known (λ none. none));
     }

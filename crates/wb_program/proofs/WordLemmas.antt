@@ -10,15 +10,18 @@ split_words : (words rest : List (List ℕ)) → Splits words [] rest → (words
 split_words words rest (no_option all) = (refl, all)
 
 -- what is built is one of two, by what is said of it
-said : (words : List (List ℕ)) (verb : Verb) (options : List Given) (rest later : List (List ℕ)) (asked : Asked) → IsBuilt asked → Says verb options later asked
+said : (words : List (List ℕ)) (verb : Verb) (options : List Given) (rest later : List (List ℕ)) (asked : Asked) → IsBuilt asked →
+    Says verb options later asked
     → Splits rest options later → words ≡ verb_text verb ∷ rest → ¬ AreValue words → ¬ AreShow words → ⊥
-said words verb options rest later asked value_is_built (says_value {host = host} {term = term} {attribute = attribute}) splits line no_value no_show =
+said words verb options rest later asked value_is_built
+    (says_value {host = host} {term = term} {attribute = attribute}) splits line no_value no_show =
     let (same, all) = split_words rest (host ∷ term ∷ attribute ∷ []) splits in
     let every : All IsPositional (host ∷ term ∷ attribute ∷ []) = subst (All IsPositional) same all in
     let others : All IsPositional (term ∷ attribute ∷ []) = All-tail IsPositional host (term ∷ attribute ∷ []) every in
     let last : All IsPositional (attribute ∷ []) = All-tail IsPositional term (attribute ∷ []) others in
     no_value (subst AreValue (sym (line ∙ ap (λ ws. verb_text Value ∷ ws) same))
-    (refl, All-head IsPositional host (term ∷ attribute ∷ []) every, All-head IsPositional term (attribute ∷ []) others, All-head IsPositional attribute [] last))
+    (refl, All-head IsPositional host (term ∷ attribute ∷ []) every, All-head IsPositional term (attribute ∷ []) others,
+        All-head IsPositional attribute [] last))
 said words verb options rest later asked show_is_built (says_show {file = file}) splits line no_value no_show =
     let (same, all) = split_words rest (file ∷ []) splits in
     let every : All IsPositional (file ∷ []) = subst (All IsPositional) same all in

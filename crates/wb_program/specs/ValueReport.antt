@@ -48,7 +48,8 @@ AnswerReport attribute spec tree =
 -- a host: the term, then what is asked of it
 abbrev pub TermReport : Option Files → List ℕ → List ℕ → SmallSpec → Report
 TermReport known term attribute spec =
-    Check SpecRefused (RefusesTerm known term spec) (λ tree. KnownFile known term (IsTerm spec tree)) (λ tree. AnswerReport attribute spec tree)
+    Check SpecRefused (RefusesTerm known term spec) (λ tree. KnownFile known term (IsTerm spec tree))
+        (λ tree. AnswerReport attribute spec tree)
 
 -- the host, then the term, then the attribute and its answer
 abbrev pub ValueReport : Option Files → List ℕ → List ℕ → List ℕ → Report

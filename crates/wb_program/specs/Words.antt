@@ -28,10 +28,12 @@ IsOptionName name = All (λ byte. byte ≢ 61) name
 -- words are options, each as `--NAME VALUE` or as `--NAME=VALUE`, and then positional words
 pub data Splits : List (List ℕ) → List Given → List (List ℕ) → Type 0 where
   no_option : {words : List (List ℕ)} → All IsPositional words → Splits words [] words
-  apart : {word value : List ℕ} {words rest : List (List ℕ)} {o : Given} {options : List Given} → IsOptionName o.name → word ≡ codes "--" ++ o.name
+  apart : {word value : List ℕ} {words rest : List (List ℕ)} {o : Given} {options : List Given} → IsOptionName o.name →
+      word ≡ codes "--" ++ o.name
       → value ≡ o.value → IsPositional o.value → Splits words options rest → Splits (word ∷ value ∷ words) (o ∷ options) rest
   joined : {word : List ℕ} {words rest : List (List ℕ)} {o : Given} {options : List Given} → IsOptionName o.name
-      → word ≡ codes "--" ++ (o.name ++ (codes "=" ++ o.value)) → IsPositional o.value → Splits words options rest → Splits (word ∷ words) (o ∷ options) rest
+      → word ≡ codes "--" ++ (o.name ++ (codes "=" ++ o.value)) → IsPositional o.value → Splits words options rest →
+          Splits (word ∷ words) (o ∷ options) rest
 
 -- an option of this name has this value
 pub record HasOption (options : List Given) (name value : List ℕ) : Type 0 where

@@ -102,7 +102,7 @@ fn read_piece<S: Shelf>(
         (outside (S.files shelf.new) (S.absences shelf.new) (S.faults shelf.new)) }
 {
     match shelf.read(name, bytes.len() as u64, piece) {
-        Got::Got(count) => {
+        Got::Bytes(count) => {
             bytes.extend_from_slice(&piece[..count])?;
             Ok(count)
         }

@@ -9,11 +9,11 @@ fn reads_give_the_file_from_a_place(rt: HostRuntime) -> Result<(), Fail> {
     shelf.add_file("h", b"abcde")?;
     shelf.fail_at(4)?;
     let mut buffer = [0; 4];
-    assert_eq!(rt; shelf.read("h", 0, &mut buffer), Got::Got(4));
+    assert_eq!(rt; shelf.read("h", 0, &mut buffer), Got::Bytes(4));
     assert_eq!(rt; buffer, *b"abcd");
-    assert_eq!(rt; shelf.read("h", 4, &mut buffer), Got::Got(1));
+    assert_eq!(rt; shelf.read("h", 4, &mut buffer), Got::Bytes(1));
     assert_eq!(rt; buffer[0], b'e');
-    assert_eq!(rt; shelf.read("h", 5, &mut buffer), Got::Got(0));
+    assert_eq!(rt; shelf.read("h", 5, &mut buffer), Got::Bytes(0));
     assert_eq!(rt; shelf.read("h", 0, &mut buffer), Got::Failed);
     assert_eq!(rt; shelf.read("t", 0, &mut buffer), Got::Absent);
     Ok(())

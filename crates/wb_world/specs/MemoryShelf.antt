@@ -4,10 +4,10 @@ use Rattle.std.specs.Str.{bytes_eq}
 use Rattle.std.specs.declared.alloc.Global.{Global}
 use Rattle.wb_world.specs.Cause.{next_count}
 use Rattle.wb_world.specs.declared.shelf.Got.{Got}
-use Rattle.wb_world.specs.declared.shelf.Got.TheVariants.{Got as Gave, Absent, Failed, NoMemory}
+use Rattle.wb_world.specs.declared.shelf.Got.TheVariants.{Bytes as Gave, Absent, Failed, NoMemory}
 
 -- what a shelf in memory holds: its files by name, the reads that fail, and its counts
-pub record ShelfState : Type 0 where
+pub record ShelfView : Type 0 where
   pub files : List (List ℕ × List ℕ)
   pub fails : List ℕ
   pub calls : ℕ
@@ -24,7 +24,7 @@ abbrev pub named : List (String Global × Vec ℕ Global) → List (List ℕ × 
 named files = map (λ file. (string_bytes file.0, file.1.items)) files
 
 -- the counts after this answer, a listed read being the one that fails
-abbrev pub AnswersRead : ShelfState → ShelfState → List ℕ → Got → Type 0
+abbrev pub AnswersRead : ShelfView → ShelfView → List ℕ → Got → Type 0
 AnswersRead old new name (Gave n) =
     (new ≡ record old { calls = next_count old.calls }) × (¬ Contains old.fails new.calls) × (file_at old.files name ≢ None)
 AnswersRead old new name Absent =

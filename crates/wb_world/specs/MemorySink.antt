@@ -5,7 +5,7 @@ use Rattle.wb_world.specs.declared.sink.Put.{Put}
 use Rattle.wb_world.specs.declared.sink.Put.TheVariants.{Took, Failed}
 
 -- what a sink in memory holds: the bytes, its limits, the writes that fail, and its counts
-pub record SinkState : Type 0 where
+pub record SinkView : Type 0 where
   pub bytes : List ℕ
   pub room : ℕ
   pub most : ℕ
@@ -20,7 +20,7 @@ pub record IsSinkSound (len capacity room most : ℕ) : Type 0 where
   pub takes : 1 ≤ most
 
 -- the bytes and the counts after this answer, as many bytes being taken as the limits let through
-abbrev pub AnswersWrite : SinkState → SinkState → List ℕ → Put → Type 0
+abbrev pub AnswersWrite : SinkView → SinkView → List ℕ → Put → Type 0
 AnswersWrite old new piece (Took n) =
     (new ≡ record old { calls = next_count old.calls; bytes = old.bytes ++ take n piece })
     × (n ≡ min (min (length piece) old.most) (old.room - length old.bytes)) × (¬ Contains old.fails new.calls)

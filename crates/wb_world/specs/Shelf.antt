@@ -1,7 +1,7 @@
 -- What a read of a shelf may answer.
 use Rattle.std.specs.Prelude.{◌≡◌, ℕ, ◌≤◌, Option, Some, None, List, length, take, drop}
 use Rattle.wb_world.specs.declared.shelf.Got.{Got}
-use Rattle.wb_world.specs.declared.shelf.Got.TheVariants.{Got as Gave, Absent, Failed, NoMemory}
+use Rattle.wb_world.specs.declared.shelf.Got.TheVariants.{Bytes as Gave, Absent, Failed, NoMemory}
 
 -- the contents of a file by its name, if there is one
 abbrev pub Files : Type 0
@@ -31,7 +31,7 @@ FitsFile file from Absent buffer = file ≡ None
 FitsFile file from Failed buffer = Unit {0}
 FitsFile file from (NoMemory e) buffer = Unit {0}
 
--- the answer fits the files, where they are told
+-- the answer fits the files, where they are known
 abbrev pub FitsFiles : Option Files → List ℕ → ℕ → Got → List ℕ → Type 0
 FitsFiles None name from got buffer = Unit {0}
 FitsFiles (Some files) name from got buffer = FitsFile (files name) from got buffer

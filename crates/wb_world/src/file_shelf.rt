@@ -1,3 +1,4 @@
+//! The files of the system as a shelf: part of the trusted edge, since no contract says what a file contains.
 ghost use Rattle.std.specs.Prelude.{◌≡◌, None};
 ghost use Rattle.std.specs.Io.{ReadsAtMost};
 
@@ -9,10 +10,10 @@ use std::io::{ErrorKind, Read, Seek, SeekFrom};
 use std::marker::Model;
 use std::rt::Files;
 
-/// The files of the system. It tells nothing of contents, and keeps one count of each kind for all names.
+/// The files of the system. No contract says what they contain, and keeps one count of each kind for all names.
 ///
 /// Contracts see the counts of faults and of absences, each from 0 on. The last file stays open, so that a file that
-/// is read from its beginning on needs no seek, and pipes can be read too.
+/// is read from its beginning on needs no seek, and pipes can be read too. A read that the system interrupts counts as a fault.
 #[derive(Drop)]
 pub struct FileShelf<R: Files + Drop> {
     alloc: Global,
@@ -62,7 +63,7 @@ impl<R: Files + Drop> Shelf for FileShelf<R> {
 
     fn read(&mut self, name: &str, from: u64, into: &mut [u8]) -> Got {
         match read_at(self.alloc, &self.rt, &mut self.opened, name, from, into) {
-            Ok(count) => Got::Got(count),
+            Ok(count) => Got::Bytes(count),
             Err(error) => match error.kind() {
                 ErrorKind::NotFound => {
                     self.absences = self.absences.saturating_add(1);

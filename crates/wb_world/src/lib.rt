@@ -2,7 +2,7 @@
 //!
 //! The program meets the system only through the traits `Shelf` and `Sink`, whose contracts give each fault its
 //! cause: a count that rose. `FileShelf` and `OutputSink` are the system's own files and output, `MemoryShelf` and
-//! `MemorySink` those of tests, which fail where they are told to.
+//! `MemorySink` those of tests, which fail where they are known to.
 #![tactic(auto)]
 
 mod file_shelf;

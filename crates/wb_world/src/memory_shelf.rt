@@ -1,14 +1,15 @@
+//! A shelf in memory, for tests and laws: contracts see all of it, and it fails where it is asked to.
 ghost use Rattle.std.specs.Prelude.{◌≡◌, ◌≢◌, ◌≤◌, ◌<◌, ◌++◌, ◌∷◌, [], length, OnOk, OnErr, Some, None};
 ghost use Rattle.std.specs.Option.{option_copied};
 ghost use Rattle.wb_world.specs.Cause.{Rose, NeverFalls};
 ghost use Rattle.wb_world.specs.Shelf.{FitsFiles, FromPlace, given};
-ghost use Rattle.wb_world.specs.MemoryShelf.{ShelfState, file_at, named, AnswersRead};
+ghost use Rattle.wb_world.specs.MemoryShelf.{ShelfView, file_at, named, AnswersRead};
 
 use crate::{Got, Shelf};
 use std::alloc::{AllocError, Global};
 use std::marker::Model;
 
-/// Files in memory, of which stated reads fail. It tells all, and keeps one count of each kind for all names.
+/// Files in memory, of which stated reads fail. Contracts see all of it, and it keeps one count of each kind for all names.
 #[derive(Drop)]
 pub struct MemoryShelf {
     alloc: Global,
@@ -20,9 +21,9 @@ pub struct MemoryShelf {
 }
 
 impl Model for MemoryShelf {
-    ghost use Rattle.wb_world.specs.MemoryShelf.{ShelfState, named};
+    ghost use Rattle.wb_world.specs.MemoryShelf.{ShelfView, named};
 
-    ghost Value = { ShelfState };
+    ghost Value = { ShelfView };
 
     ghost view = { λ s. record { files = named s.files.items; fails = s.fails.items; calls = s.calls; faults = s.faults; absences = s.absences } };
 }
@@ -76,7 +77,7 @@ impl Shelf for MemoryShelf {
         requires place { from ≤ 16777216 }
 
         ensures within { given result ≤ length into.old }
-        ensures told { FitsFiles (Some (file_at self.old.files)) name.now from result into.new }
+        ensures known { FitsFiles (Some (file_at self.old.files)) name.now from result into.new }
         ensures files { Some (file_at self.new.files) ≡ Some (file_at self.old.files) }
         ensures failed { result ≡ Got.Failed → Rose self.old.faults self.new.faults }
         ensures absent { result ≡ Got.Absent → Rose self.old.absences self.new.absences }
@@ -95,7 +96,7 @@ impl Shelf for MemoryShelf {
             self.absences = self.absences.saturating_add(1);
             return Got::Absent;
         };
-        Got::Got(copy_from(contents, from as usize, into))
+        Got::Bytes(copy_from(contents, from as usize, into))
     }
 }
 

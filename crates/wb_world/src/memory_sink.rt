@@ -1,14 +1,15 @@
+//! A sink in memory, for tests and laws: contracts see all of it, and it fails where it is asked to.
 ghost use Rattle.std.specs.Prelude.{◌≡◌, ◌≤◌, ◌<◌, ◌++◌, ◌∷◌, [], length, take, IfOk, OnOk, OnErr, Some};
 ghost use Rattle.std.specs.Io.KnownBytes.{append_known};
 ghost use Rattle.wb_world.specs.Cause.{Rose};
 ghost use Rattle.wb_world.specs.Sink.{TakesSome, taken};
-ghost use Rattle.wb_world.specs.MemorySink.{SinkState, AnswersWrite};
+ghost use Rattle.wb_world.specs.MemorySink.{SinkView, AnswersWrite};
 
 use crate::{Put, Sink};
 use std::alloc::{AllocError, Global};
 use std::marker::Model;
 
-/// A sink in memory that keeps the bytes, takes a stated number at once, and fails at stated writes. It tells all.
+/// A sink in memory that keeps the bytes, takes a stated number at once, and fails at stated writes. Contracts see all of it.
 #[derive(Drop)]
 pub struct MemorySink {
     bytes: Vec<u8>,
@@ -21,9 +22,9 @@ pub struct MemorySink {
 
 impl Model for MemorySink {
     ghost use Rattle.std.specs.Prelude.{vec_len, vec_capacity};
-    ghost use Rattle.wb_world.specs.MemorySink.{SinkState, IsSinkSound};
+    ghost use Rattle.wb_world.specs.MemorySink.{SinkView, IsSinkSound};
 
-    ghost Value = { SinkState };
+    ghost Value = { SinkView };
 
     ghost view = { λ s. record { bytes = s.bytes.items; room = s.room; most = s.most; fails = s.fails.items; calls = s.calls; faults = s.faults } };
 

@@ -1,9 +1,10 @@
+//! Standard output as a sink: part of the trusted edge, since no contract says what was written.
 ghost use Rattle.std.specs.Prelude.{◌≡◌, None};
 
 use crate::{Put, Sink};
 use std::marker::Model;
 
-/// Standard output. It tells nothing of the bytes written. A write that takes no byte counts as a fault.
+/// Standard output. No contract says what was written. A write that takes no byte counts as a fault.
 ///
 /// Contracts see the count of its faults, from 0 on.
 #[derive(Drop)]

@@ -1,3 +1,4 @@
+//! What the program asks of files. Each failure has a cause, a count that rose, so that no answer comes from nowhere.
 ghost use Rattle.std.specs.Prelude.{◌≡◌, ◌<◌, ◌≤◌, List, ℕ, length};
 ghost use Rattle.std.specs.declared.option.Option.{Option};
 ghost use Rattle.wb_world.specs.Cause.{Rose, NeverFalls};
@@ -9,7 +10,7 @@ use std::alloc::AllocError;
 #[derive(Clone, Copy, Debug, PartialEq, Eq)]
 pub enum Got {
     /// So many bytes were read. None only at the end of the file.
-    Got(usize),
+    Bytes(usize),
     /// No file has the name.
     Absent,
     /// The read failed.
@@ -20,10 +21,10 @@ pub enum Got {
 
 /// Files by their names.
 ///
-/// Contracts see the contents of the files, where they are told, and two counts for each name: how often a read
+/// Contracts see the contents of the files, where they are known, and two counts for each name: how often a read
 /// failed, and how often it found no file. A count never falls, and stands still at `u64::MAX`.
 pub trait Shelf {
-    /// The contents of each file by its name, where they are told.
+    /// The contents of each file by its name, where they are known.
     ghost files: { Self → Option Files };
 
     /// How often a read of that name failed.
@@ -32,7 +33,7 @@ pub trait Shelf {
     /// How often a read of that name found no file.
     ghost absences: { Self → List ℕ → ℕ };
 
-    /// Reads some bytes of a file, from a place counted in bytes from 0, into the front of a buffer.
+    /// Reads some bytes of a file, from a place counted in bytes from 0, into the beginning of a buffer.
     ///
     /// The number of the answer says how many. What the rest of the buffer holds afterwards is left open.
     fn read(&mut self, name: &str, from: u64, into: &mut [u8]) -> Got
@@ -40,7 +41,7 @@ pub trait Shelf {
         requires place { from ≤ 16777216 }
 
         ensures within { given result ≤ length into.old }
-        ensures told { FitsFiles (files self.old) name.now from result into.new }
+        ensures known { FitsFiles (files self.old) name.now from result into.new }
         ensures files { files self.new ≡ files self.old }
 
         // A fault has a cause: the count of the name that was read.

@@ -1,3 +1,4 @@
+//! What the program asks of its output. Each failure has a cause, a count that rose.
 ghost use Rattle.std.specs.Prelude.{◌≡◌, ◌<◌, ◌≤◌, List, ℕ, length, take};
 ghost use Rattle.std.specs.declared.option.Option.{Option};
 ghost use Rattle.std.specs.Io.KnownBytes.{append_known};
@@ -7,7 +8,7 @@ ghost use Rattle.wb_world.specs.Sink.{TakesSome, taken};
 /// The answer to a write.
 #[derive(Clone, Copy, Debug, PartialEq, Eq)]
 pub enum Put {
-    /// So many bytes were taken, from the front of the piece.
+    /// So many bytes were taken, from the beginning of the piece.
     Took(usize),
     /// The write failed, and nothing was taken.
     Failed,
@@ -15,16 +16,16 @@ pub enum Put {
 
 /// A place that bytes are written to.
 ///
-/// Contracts see the bytes written, where they are told, and how often a write failed. That count never falls, and
+/// Contracts see the bytes written, where they are known, and how often a write failed. That count never falls, and
 /// stands still at `u64::MAX`.
 pub trait Sink {
-    /// The bytes written, where they are told.
+    /// The bytes written, where they are known.
     ghost written: { Self → Option (List ℕ) };
 
     /// How often a write failed.
     ghost faults: { Self → ℕ };
 
-    /// Writes at least one byte from the front of a piece. Takes no memory.
+    /// Writes at least one byte from the beginning of a piece. Takes no memory.
     fn write(&mut self, piece: &[u8]) -> Put
         requires { 0 < length piece.now }
 

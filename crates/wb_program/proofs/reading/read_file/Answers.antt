@@ -11,4 +11,5 @@ returns-then-len-limit-clause-ok g c =
 
 pub returns-else-len-limit-clause-ok : goal.returns-else-len-limit-clause-ok
 returns-else-len-limit-clause-ok g c =
-    too_long (g.S.Shelf.files c.args.shelf.now) c.args.name.now c.in_ok-bytes.bytes.items c.args.limit c.in_ok-bytes.ensures.ok (grind (arith, common_steps))
+    too_long (g.S.Shelf.files c.args.shelf.now) c.args.name.now c.in_ok-bytes.bytes.items c.args.limit c.in_ok-bytes.ensures.ok
+        (grind (arith, common_steps))

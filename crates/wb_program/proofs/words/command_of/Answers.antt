@@ -7,4 +7,5 @@ use Rattle.wb_program.proofs.words.command_of.Goals as goal
 pub returns-in-None-clause-none : goal.returns-in-None-clause-none
 returns-in-None-clause-none c =
     let no_value : ¬ AreValue (texts c.args.words.now) = search rules in
-    if_none c.show_of.result (¬ AreShow (texts c.args.words.now)) (¬ InCommandSet (texts c.args.words.now)) (none_asked (texts c.args.words.now) no_value) c.show_of.ensures.none
+    if_none c.show_of.result (¬ AreShow (texts c.args.words.now)) (¬ InCommandSet (texts c.args.words.now))
+        (none_asked (texts c.args.words.now) no_value) c.show_of.ensures.none

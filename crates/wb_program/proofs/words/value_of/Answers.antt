@@ -6,7 +6,8 @@ use Rattle.wb_program.specs.Words.{texts, IsPositional, Value, no_option, says_v
 use Rattle.wb_program.proofs.words.value_of.Goals as goal
 
 -- a list of four is its four elements
-four : {X : Type 0} (xs : List X) (a b c d : X) → length xs ≡ 4 → a ≡ get_or xs 0 a → b ≡ get_or xs 1 b → c ≡ get_or xs 2 c → d ≡ get_or xs 3 d → xs ≡ a ∷ b ∷ c ∷ d ∷ []
+four : {X : Type 0} (xs : List X) (a b c d : X) → length xs ≡ 4 → a ≡ get_or xs 0 a → b ≡ get_or xs 1 b → c ≡ get_or xs 2 c →
+    d ≡ get_or xs 3 d → xs ≡ a ∷ b ∷ c ∷ d ∷ []
 four [] a b c d l p q r s = absurd (omega arith)
 four (w ∷ []) a b c d l p q r s = absurd (omega arith)
 four (w ∷ x ∷ []) a b c d l p q r s = absurd (omega arith)
@@ -16,7 +17,8 @@ four (w ∷ x ∷ y ∷ z ∷ v ∷ vs) a b c d l p q r s = absurd (omega arith)
 
 -- three positional words
 three : (a b c : List ℕ) → IsPositional a → IsPositional b → IsPositional c → All IsPositional (a ∷ b ∷ c ∷ [])
-three a b c p q r = All-cons IsPositional a (b ∷ c ∷ []) p (All-cons IsPositional b (c ∷ []) q (All-cons IsPositional c [] r (All-nil IsPositional)))
+three a b c p q r = All-cons IsPositional a (b ∷ c ∷ []) p
+    (All-cons IsPositional b (c ∷ []) q (All-cons IsPositional c [] r (All-nil IsPositional)))
 
 pub returns-then-is_positional-3-clause-some : goal.returns-then-is_positional-3-clause-some
 returns-then-is_positional-3-clause-some c =
