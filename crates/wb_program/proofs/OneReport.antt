@@ -16,6 +16,7 @@ use Rattle.wb_reader.specs.Patterns.{IsNoMemory}
 use Rattle.wb_reader.proofs.Excluding.{none_refused, one_refusal}
 use Rattle.wb_reader.proofs.OneText.{one_text as one_read}
 use Rattle.wb_printer.proofs.CallerLemmas.{one_canonical}
+use Rattle.wb_operations.specs.Operations.{Operations}
 use Rattle.wb_program.specs.Asked.{Asked, IsBuilt, value_is_built, show_is_built}
 use Rattle.wb_program.specs.Checks.{Report, Ends, Check}
 use Rattle.wb_program.specs.Files.{FileIs, KnownFile, IsTooLongOr}
@@ -160,35 +161,35 @@ module _ (files : Files) (file : List ℕ) (s t : Status) (bytes others : List �
       (λ spec read. one_end Done s t bytes others (IsCanonical spec) (λ p q. one_canonical spec bytes others p q))
 
 -- two reports of what is asked are one
-one_report_of : (files : Files) (s t : Status) (bytes others : List ℕ) (asked : Asked) → IsReportOf (Some files) s bytes asked →
-    IsReportOf (Some files) t others asked → AreOne s t bytes others
-one_report_of files s t bytes others asked (value_report {host = host} {term = term} {attribute = attribute} x) (value_report y) =
+one_report_of : (operations : Operations) (files : Files) (s t : Status) (bytes others : List ℕ) (asked : Asked) → IsReportOf operations (Some files) s bytes asked →
+    IsReportOf operations (Some files) t others asked → AreOne s t bytes others
+one_report_of operations files s t bytes others asked (value_report {host = host} {term = term} {attribute = attribute} x) (value_report y) =
     one_value_report files host term attribute s t bytes others x y
-one_report_of files s t bytes others asked (show_report {file = file} x) (show_report y) = one_show_report files file s t bytes others x y
+one_report_of operations files s t bytes others asked (show_report {file = file} x) (show_report y) = one_show_report files file s t bytes others x y
 
 -- what has a report is built
-is_built : (known : Option Files) (s : Status) (bytes : List ℕ) (asked : Asked) → IsReportOf known s bytes asked → IsBuilt asked
-is_built known s bytes asked (value_report x) = value_is_built
-is_built known s bytes asked (show_report x) = show_is_built
+is_built : (operations : Operations) (known : Option Files) (s : Status) (bytes : List ℕ) (asked : Asked) → IsReportOf operations known s bytes asked → IsBuilt asked
+is_built operations known s bytes asked (value_report x) = value_is_built
+is_built operations known s bytes asked (show_report x) = show_is_built
 
 -- words with a report are in the command set
-in_set : (known : Option Files) (s : Status) (bytes : List ℕ) (words : List (List ℕ)) → IsAnswered words known s bytes → InCommandSet words
-in_set known s bytes words x = record { asked = x.asked; asks = x.asks; built = is_built known s bytes x.asked x.report }
+in_set : (operations : Operations) (known : Option Files) (s : Status) (bytes : List ℕ) (words : List (List ℕ)) → IsAnswered operations words known s bytes → InCommandSet words
+in_set operations known s bytes words x = record { asked = x.asked; asks = x.asks; built = is_built operations known s bytes x.asked x.report }
 
 -- two reports of words and files are one
-one_report : (words : List (List ℕ)) (files : Files) (s t : Status) (bytes others : List ℕ) → IsReport words (Some files) s bytes →
-    IsReport words (Some files) t others → AreOne s t bytes others
-one_report words files s t bytes others (inl x) (inl y) = (x.usage ∙ sym y.usage, x.line ∙ sym y.line)
-one_report words files s t bytes others (inl x) (inr y) = absurd (x.none_asked (in_set (Some files) t others words y))
-one_report words files s t bytes others (inr x) (inl y) = absurd (y.none_asked (in_set (Some files) s bytes words x))
-one_report words files s t bytes others (inr x) (inr y) =
-    one_report_of files s t bytes others x.asked x.report
-        (subst (λ (z : Asked). IsReportOf (Some files) t others z) (one_asked words y.asked x.asked y.asks x.asks) y.report)
+one_report : (operations : Operations) (words : List (List ℕ)) (files : Files) (s t : Status) (bytes others : List ℕ) → IsReport operations words (Some files) s bytes →
+    IsReport operations words (Some files) t others → AreOne s t bytes others
+one_report operations words files s t bytes others (inl x) (inl y) = (x.usage ∙ sym y.usage, x.line ∙ sym y.line)
+one_report operations words files s t bytes others (inl x) (inr y) = absurd (x.none_asked (in_set operations (Some files) t others words y))
+one_report operations words files s t bytes others (inr x) (inl y) = absurd (y.none_asked (in_set operations (Some files) s bytes words x))
+one_report operations words files s t bytes others (inr x) (inr y) =
+    one_report_of operations files s t bytes others x.asked x.report
+        (subst (λ (z : Asked). IsReportOf operations (Some files) t others z) (one_asked words y.asked x.asked y.asks x.asks) y.report)
 
 -- words and known files have one status
 pub one_status : HaveOneStatus
-one_status words files s t bytes others first second = (one_report words files s t bytes others first second).0
+one_status operations words files s t bytes others first second = (one_report operations words files s t bytes others first second).0
 
 -- words and known files have one text with a status
 pub one_text : HaveOneText
-one_text words files s bytes others chooses first second = (one_report words files s s bytes others first second).1
+one_text operations words files s bytes others chooses first second = (one_report operations words files s s bytes others first second).1

@@ -1,6 +1,7 @@
--- Which status and which bytes the words and the files give.
+-- Which status and which bytes the words and the files give, where operations mean what they mean.
 use Rattle.std.specs.Prelude.{◌≡◌, ◌⊎◌, ℕ, Option, List}
 use Rattle.wb_world.specs.Shelf.{Files}
+use Rattle.wb_operations.specs.Operations.{Operations}
 use Rattle.wb_program.specs.Asked.{Asked}
 use Rattle.wb_program.specs.Asked as a
 use Rattle.wb_program.specs.Lines.{usage_line}
@@ -11,10 +12,10 @@ use Rattle.wb_program.specs.declared.status.Status.{Status}
 use Rattle.wb_program.specs.declared.status.Status.TheVariants.{Usage}
 
 -- the report of what is asked, one alternative a command
-pub data IsReportOf (known : Option Files) (status : Status) (bytes : List ℕ) : Asked → Type 0 where
+pub data IsReportOf (operations : Operations) (known : Option Files) (status : Status) (bytes : List ℕ) : Asked → Type 0 where
   value_report : {host term attribute : List ℕ} → ValueReport known host term attribute status bytes
-      → IsReportOf known status bytes (a.value host term attribute)
-  show_report : {file : List ℕ} → ShowReport known file status bytes → IsReportOf known status bytes (a.show file)
+      → IsReportOf operations known status bytes (a.value host term attribute)
+  show_report : {file : List ℕ} → ShowReport known file status bytes → IsReportOf operations known status bytes (a.show file)
 
 -- the words ask for no command, and the bytes are the usage line
 pub record IsUsage (words : List (List ℕ)) (status : Status) (bytes : List ℕ) : Type 0 where
@@ -23,11 +24,11 @@ pub record IsUsage (words : List (List ℕ)) (status : Status) (bytes : List ℕ
   pub line : bytes ≡ usage_line
 
 -- the words ask for a command, and this is its report
-pub record IsAnswered (words : List (List ℕ)) (known : Option Files) (status : Status) (bytes : List ℕ) : Type 0 where
+pub record IsAnswered (operations : Operations) (words : List (List ℕ)) (known : Option Files) (status : Status) (bytes : List ℕ) : Type 0 where
   pub asked : Asked
   pub asks : Asks words asked
-  pub report : IsReportOf known status bytes asked
+  pub report : IsReportOf operations known status bytes asked
 
 -- the words and the files give this status and these bytes
-abbrev pub IsReport : List (List ℕ) → Option Files → Status → List ℕ → Type 0
-IsReport words known status bytes = IsUsage words status bytes ⊎ IsAnswered words known status bytes
+abbrev pub IsReport : Operations → List (List ℕ) → Option Files → Status → List ℕ → Type 0
+IsReport operations words known status bytes = IsUsage words status bytes ⊎ IsAnswered operations words known status bytes

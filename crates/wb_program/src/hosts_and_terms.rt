@@ -8,12 +8,10 @@ ghost use Rattle.wb_program.specs.Inner.Stopped.{outside, Stopped, GoesOn};
 
 use crate::reading::{Contents, ReadFailure, read_file};
 use std::alloc::{AllocError, Global};
+use wb_base::FILE_LIMIT;
 use wb_small::{SmallRefusal, SmallSpec, SmallTerm};
 use wb_small_reader::{read_small_spec, read_small_term};
 use wb_world::Shelf;
-
-// The most bytes that a small host or a small term has.
-const LIMIT: usize = 1_048_576;
 
 // Reads the host of a file, where it has one.
 pub(crate) fn read_host<S: Shelf>(
@@ -28,7 +26,7 @@ pub(crate) fn read_host<S: Shelf>(
     ensures goes_on { GoesOn (outside (S.files shelf.old) (S.absences shelf.old) (S.faults shelf.old))
         (outside (S.files shelf.new) (S.absences shelf.new) (S.faults shelf.new)) }
 {
-    let contents = read_file(alloc, shelf, name, LIMIT)?;
+    let contents = read_file(alloc, shelf, name, FILE_LIMIT)?;
     Ok(host_of(alloc, contents)?)
 }
 
@@ -47,7 +45,7 @@ pub(crate) fn read_term<S: Shelf>(
     ensures goes_on { GoesOn (outside (S.files shelf.old) (S.absences shelf.old) (S.faults shelf.old))
         (outside (S.files shelf.new) (S.absences shelf.new) (S.faults shelf.new)) }
 {
-    let contents = read_file(alloc, shelf, name, LIMIT)?;
+    let contents = read_file(alloc, shelf, name, FILE_LIMIT)?;
     Ok(term_of(alloc, contents, spec)?)
 }
 

@@ -1,6 +1,7 @@
 //! The top call: from words and files to a status and the bytes of a report.
 ghost use Rattle.std.specs.Prelude.{◌≡◌, ◌⊎◌, IfOk, IfErr};
 ghost use Rattle.wb_world.specs.Cause.{Rose};
+ghost use Rattle.wb_operations.specs.Kept.{IsKept};
 ghost use Rattle.wb_program.specs.Words.{texts, InCommandSet};
 ghost use Rattle.wb_program.specs.Reads.{AbsentCause, FaultCause, ComesTo};
 ghost use Rattle.wb_program.specs.Report.{IsReport};
@@ -14,18 +15,24 @@ use crate::status::Status;
 use crate::words::{Command, command_of};
 use crate::writing::write_report;
 use std::alloc::Global;
+use wb_operations::{Meaning, OperationTable, Run};
 use wb_world::{Shelf, Sink};
 
 /// All that the program does: reads the words as a command, reads the files that they name, and writes the report.
 ///
+/// Equations may name the operations of the table. Of those, the commands that are built use none but `add`, which they know themselves.
+///
 /// The whole report is made before its first byte is written. Want of memory may come at any step before
 /// that. How many reads and writes there are is left open.
-pub fn workbench<S: Shelf, K: Sink>(
+pub fn workbench<S: Shelf, K: Sink, M: Meaning>(
     alloc: Global,
     words: &[String],
     shelf: &mut S,
     sink: &mut K,
+    operations: &OperationTable<M>,
 ) -> Status
+    requires kept { IsKept operations.now.signatures operations.now.built_in operations.now.runs.items M.meaning (λ run vs. Run.pre run vs) (λ run vs r. Run.post run vs r) }
+
     // Usage is the status of words that are no command, and of no others.
     ensures usage { result ≡ Status.Usage → ¬ InCommandSet (texts words.now) }
     ensures only_usage { ¬ InCommandSet (texts words.now) → (result ≡ Status.Usage) ⊎ (result ≡ Status.WriteFault) ⊎ (result ≡ Status.NoMemory) }
@@ -36,10 +43,10 @@ pub fn workbench<S: Shelf, K: Sink>(
     ensures write_fault { result ≡ Status.WriteFault → Rose (K.faults sink.old) (K.faults sink.new) }
 
     // The bytes written are the report that the words and the files have with this status.
-    ensures written { Wrote (IsReport (texts words.now) (S.files shelf.old)) (K.written sink.old) (K.written sink.new) result }
+    ensures written { Wrote (IsReport (record { signatures = operations.now.signatures; meaning = M.meaning }) (texts words.now) (S.files shelf.old)) (K.written sink.old) (K.written sink.new) result }
     ensures files { S.files shelf.new ≡ S.files shelf.old }
 {
-    match answer(alloc, words, shelf) {
+    match answer(alloc, words, shelf, operations) {
         Ok(answer) => match write_report(sink, &answer.report) {
             Ok(()) => answer.status,
             Err(_) => Status::WriteFault,
@@ -51,8 +58,13 @@ pub fn workbench<S: Shelf, K: Sink>(
 }
 
 // The answer to the words, before anything is written.
-fn answer<S: Shelf>(alloc: Global, words: &[String], shelf: &mut S) -> Result<Answer, ReadFailure>
-    ensures ok { IfOk result (λ answer. IsReport (texts words.now) (S.files shelf.old) answer.status answer.report.items) }
+fn answer<S: Shelf, M: Meaning>(
+    alloc: Global,
+    words: &[String],
+    shelf: &mut S,
+    operations: &OperationTable<M>,
+) -> Result<Answer, ReadFailure>
+    ensures ok { IfOk result (λ answer. IsReport (record { signatures = operations.now.signatures; meaning = M.meaning }) (texts words.now) (S.files shelf.old) answer.status answer.report.items) }
     ensures usage { IfOk result (λ answer. answer.status ≡ Status.Usage → ¬ InCommandSet (texts words.now)) }
     ensures only_usage { IfOk result (λ answer. ¬ InCommandSet (texts words.now) → answer.status ≡ Status.Usage) }
     ensures reports { IfOk result (λ answer. ¬ WritesNothing answer.status) }

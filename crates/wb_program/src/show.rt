@@ -13,12 +13,10 @@ use crate::lines;
 use crate::reading::{Contents, ReadFailure, read_file};
 use crate::status::Status;
 use std::alloc::{AllocError, Global};
+use wb_base::FILE_LIMIT;
 use wb_printer::print_spec;
 use wb_reader::{SpecRefusal, read_spec};
 use wb_world::Shelf;
-
-// The most bytes that a specification has.
-const LIMIT: usize = 1_048_576;
 
 // The answer to `show SPEC`.
 pub(crate) fn answer_show<S: Shelf>(
@@ -32,7 +30,7 @@ pub(crate) fn answer_show<S: Shelf>(
     ensures goes_on { GoesOn (outside (S.files shelf.old) (S.absences shelf.old) (S.faults shelf.old))
         (outside (S.files shelf.new) (S.absences shelf.new) (S.faults shelf.new)) }
 {
-    let contents = read_file(alloc, shelf, file, LIMIT)?;
+    let contents = read_file(alloc, shelf, file, FILE_LIMIT)?;
     Ok(answer_contents(alloc, file, contents)?)
 }
 

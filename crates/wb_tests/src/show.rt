@@ -4,6 +4,7 @@ use crate::prefixes::MINI_PREFIXES;
 use crate::specifications::{MINI, OTHERS};
 use std::alloc::{AllocError, Global};
 use std::test::Fail;
+use wb_operations::standard_table;
 use wb_program::{Status, workbench};
 use wb_world::{MemoryShelf, MemorySink};
 
@@ -20,7 +21,8 @@ fn status_to(alloc: Global, text: &[u8], sink: &mut MemorySink) -> Result<Status
     let mut shelf = MemoryShelf::new(alloc);
     shelf.add_file("h", text)?;
     let words = words_of(alloc)?;
-    Ok(workbench(alloc, &words, &mut shelf, sink))
+    let operations = standard_table(alloc)?;
+    Ok(workbench(alloc, &words, &mut shelf, sink, &operations))
 }
 
 fn words_of(alloc: Global) -> Result<Vec<String>, AllocError> {

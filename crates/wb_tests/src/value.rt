@@ -2,6 +2,7 @@
 
 use std::alloc::{AllocError, Global};
 use std::test::Fail;
+use wb_operations::standard_table;
 use wb_program::{Status, workbench};
 use wb_world::{MemoryShelf, MemorySink};
 
@@ -70,7 +71,8 @@ fn words_of(alloc: Global, words: &[&str]) -> Result<Vec<String>, AllocError> {
 fn status_to(alloc: Global, run: &Run, sink: &mut MemorySink) -> Result<Status, AllocError> {
     let mut shelf = shelf_of(alloc, run)?;
     let words = words_of(alloc, run.words)?;
-    Ok(workbench(alloc, &words, &mut shelf, sink))
+    let operations = standard_table(alloc)?;
+    Ok(workbench(alloc, &words, &mut shelf, sink, &operations))
 }
 
 // Whether a run ends with this status and has written this.

@@ -1,12 +1,13 @@
 //! The workbench as a program of the command line.
 //!
-//! It hands the words, the files of the system and standard output to `wb_program`, and ends with the number of the
+//! It hands the words, the files of the system, standard output and the standard operations to `wb_program`, and ends with the number of the
 //! status. What each status means is said there.
 #![tactic(auto)]
 
 use std::process::ExitCode;
 use std::rt::Env;
 use std::{env, io};
+use wb_operations::standard_table;
 use wb_program::{Status, workbench};
 use wb_world::{FileShelf, OutputSink};
 
@@ -22,9 +23,12 @@ fn run(rt: HostRuntime) -> Status {
         Err(error) if error.kind() == io::ErrorKind::OutOfMemory => return Status::NoMemory,
         Err(_) => Vec::new(alloc),
     };
+    let Ok(operations) = standard_table(alloc) else {
+        return Status::NoMemory;
+    };
     let mut shelf = FileShelf::new(alloc, rt);
     let mut sink = OutputSink::new(rt);
-    workbench(alloc, &words, &mut shelf, &mut sink)
+    workbench(alloc, &words, &mut shelf, &mut sink, &operations)
 }
 
 // The words of the command line, without the program's name.

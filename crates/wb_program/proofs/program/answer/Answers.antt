@@ -20,7 +20,7 @@ returns-in-Some-Value-clause-ok g c =
     let asks : Asks (texts c.args.words.now) (a.value c.in-Some-Value.host.now c.in-Some-Value.term.now c.in-Some-Value.attribute.now) = search rules in
     on_ok c.answer_value.result (λ answer. ValueReport
         (g.S.Shelf.files c.args.shelf.now) c.in-Some-Value.host.now c.in-Some-Value.term.now c.in-Some-Value.attribute.now answer.status answer.report.items)
-    (λ answer. IsReport (texts c.args.words.now) (g.S.Shelf.files c.args.shelf.now) answer.status answer.report.items)
+    (λ answer. IsReport (record { signatures = c.args.operations.now.signatures; meaning = g.M.Meaning.meaning }) (texts c.args.words.now) (g.S.Shelf.files c.args.shelf.now) answer.status answer.report.items)
     (λ answer report. inr (record { asked = a.value c.in-Some-Value.host.now c.in-Some-Value.term.now c.in-Some-Value.attribute.now;
         asks = asks; report = value_report report }))
     c.answer_value.ensures.ok
@@ -45,7 +45,7 @@ returns-in-Some-Show-clause-ok g c =
     let asks : Asks (texts c.args.words.now) (a.show c.in-Some-Show.file.now) = search rules in
     on_ok c.answer_show.result (λ answer. ShowReport
         (g.S.Shelf.files c.args.shelf.now) c.in-Some-Show.file.now answer.status answer.report.items)
-    (λ answer. IsReport (texts c.args.words.now) (g.S.Shelf.files c.args.shelf.now) answer.status answer.report.items)
+    (λ answer. IsReport (record { signatures = c.args.operations.now.signatures; meaning = g.M.Meaning.meaning }) (texts c.args.words.now) (g.S.Shelf.files c.args.shelf.now) answer.status answer.report.items)
     (λ answer report. inr (record { asked = a.show c.in-Some-Show.file.now; asks = asks; report = show_report report }))
     c.answer_show.ensures.ok
 
