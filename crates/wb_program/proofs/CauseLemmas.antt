@@ -50,30 +50,50 @@ pub stops_second : (before between now : Outside) (host term : List ℕ) (spec :
     → GoesOn before between → Stopped between now (λ P. P term) failure
     → Stopped before now (λ P. StopsAt before.files P (small_host host ∷ small_term term ∷ [])) failure
 stops_second before between now host term spec Absent is kept (rose, absent) =
-    inr (some_host before.files host spec is, inl
-        (rose_since (before.absences term) (between.absences term) (now.absences term) (kept.absences term) rose, subst
-        (λ known. KnownAbsent known term) kept.files absent))
+    inr (
+      some_host before.files host spec is,
+      inl (
+        rose_since (before.absences term) (between.absences term) (now.absences term) (kept.absences term) rose,
+        subst
+            (λ known. KnownAbsent known term) kept.files absent,
+      ),
+    )
 stops_second before between now host term spec ReadFault is kept rose =
-    inr (some_host before.files host spec is, inl
-        (rose_since (before.faults term) (between.faults term) (now.faults term) (kept.faults term) rose))
+    inr (
+      some_host before.files host spec is,
+      inl
+          (rose_since (before.faults term) (between.faults term) (now.faults term) (kept.faults term) rose),
+    )
 stops_second before between now host term spec NoMemory is kept stopped = tt
 
 -- a run of a command stops at one of its files
 pub comes_to : (before now : Outside) (words : List (List ℕ)) (asked : Asked) (reads : List Read) (failure : ReadFailure) → Asks words asked
     → AreReads asked reads → Stopped before now (λ P. StopsAt before.files P reads) failure →
-        Stopped before now (ComesTo words before.files) failure
-comes_to before now words asked reads Absent asks are stops = record { asked = asked; asks = asks; reads = reads; are_reads = are;
-    stops = stops }
-comes_to before now words asked reads ReadFault asks are stops = record { asked = asked; asks = asks; reads = reads; are_reads = are;
-    stops = stops }
+    Stopped before now (ComesTo words before.files) failure
+comes_to before now words asked reads Absent asks are stops = record {
+  asked = asked;
+  asks = asks;
+  reads = reads;
+  are_reads = are;
+  stops = stops;
+}
+comes_to before now words asked reads ReadFault asks are stops = record {
+  asked = asked;
+  asks = asks;
+  reads = reads;
+  are_reads = are;
+  stops = stops;
+}
 comes_to before now words asked reads NoMemory asks are stops = tt
 
 -- a run that stops at a file later stops at it since it began
 pub stops_since : (before between now : Outside) (file : List ℕ) (failure : ReadFailure) → GoesOn before between
     → Stopped between now (λ P. P file) failure → Stopped before now (λ P. P file) failure
-stops_since before between now file Absent kept (rose, absent) =
-    (rose_since (before.absences file) (between.absences file) (now.absences file) (kept.absences file) rose, subst
-    (λ known. KnownAbsent known file) kept.files absent)
+stops_since before between now file Absent kept (rose, absent) = (
+  rose_since (before.absences file) (between.absences file) (now.absences file) (kept.absences file) rose,
+  subst
+      (λ known. KnownAbsent known file) kept.files absent,
+)
 stops_since before between now file ReadFault kept rose = rose_since (before.faults file) (between.faults file) (now.faults file)
     (kept.faults file) rose
 stops_since before between now file NoMemory kept stopped = tt
@@ -85,8 +105,11 @@ built_of asked reads show_reads = show_is_built
 
 -- words that come to read a file are in the command set
 reads_built : (words : List (List ℕ)) (known : Option Files) (P : List ℕ → Type 0) → ComesTo words known P → InCommandSet words
-reads_built words known P comes = record { asked = comes.asked; asks = comes.asks;
-    built = built_of comes.asked comes.reads comes.are_reads }
+reads_built words known P comes = record {
+  asked = comes.asked;
+  asks = comes.asks;
+  built = built_of comes.asked comes.reads comes.are_reads;
+}
 
 -- a run that stops at a file that the words name is asked for something built, but for want of memory
 pub stopped_asked : (before now : Outside) (words : List (List ℕ)) (failure : ReadFailure) →

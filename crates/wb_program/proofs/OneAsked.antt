@@ -124,7 +124,7 @@ module _ (options : List Given) (once : Differ (map (λ o. o.name) options)) whe
   one_value name v w first second =
       let same : first.place ≡ second.place = once name first.place second.place (named_at name v first) (named_at name w second) in
       let at : slice_get options second.place ≡ Some (record { name = name; value = v }) = subst
-          (λ k. slice_get options k ≡ Some (record { name = name; value = v })) same first.given in
+      (λ k. slice_get options k ≡ Some (record { name = name; value = v })) same first.given in
       let both : given name v ≡ given name w = same_Some (given name v) (given name w) (sym at ∙ second.given) in
       ap (λ (o : Given). o.value) both
 
@@ -173,7 +173,7 @@ one_asked words asked other first second =
     let verb : first.verb ≡ second.verb = verb_text-injective first.verb second.verb text in
     let split : (first.options ≡ second.options) × (first.positional ≡ second.positional) =
     one_split second.rest first.options second.options first.positional second.positional
-        (subst (λ words. Splits words first.options first.positional) rest first.splits) second.splits in
+    (subst (λ words. Splits words first.options first.positional) rest first.splits) second.splits in
     let said : Says second.verb second.options second.positional asked =
     subst (λ (v : Verb). Says v second.options second.positional asked) verb
     (subst (λ (os : List Given). Says first.verb os second.positional asked) split.0

@@ -89,9 +89,9 @@ module _ (attribute : List ℕ) (s t : Status) (bytes others : List ℕ) (spec :
       → AreOne s t bytes others
   one_answer_report number =
       one_check OperationFault s t bytes others (HasFault spec tree number)
-          (λ value. IsAnswer spec tree (root_of tree) number (Value value)) (λ value. Ends Done (λ line. line ≡ value_line attribute value))
+      (λ value. IsAnswer spec tree (root_of tree) number (Value value)) (λ value. Ends Done (λ line. line ≡ value_line attribute value))
       (λ line value fault has. (let same : Fault fault.code ≡ Value value = one_answer number (Fault fault.code)
-          (Value value) fault.has has in cc))
+      (Value value) fault.has has in cc))
       (one_fault number)
       (λ x y first second. (let same : Value x ≡ Value y = one_answer number (Value x) (Value y) first second in cc))
       (λ x has. one_end Done s t bytes others (λ line. line ≡ value_line attribute x) (λ p q. p ∙ sym q))
@@ -100,7 +100,7 @@ module _ (attribute : List ℕ) (s t : Status) (bytes others : List ℕ) (spec :
   one_known : AnswerReport attribute spec tree s bytes → AnswerReport attribute spec tree t others → AreOne s t bytes others
   one_known =
       one_check UnknownAttribute s t bytes others (LacksAttribute attribute spec tree)
-          (λ number. IsAskedAttribute spec tree attribute number)
+      (λ number. IsAskedAttribute spec tree attribute number)
       (λ number. NumberReport attribute spec tree number)
       (λ line number lacks is. lacks.lacks number is)
       (λ first second. first.line ∙ sym second.line)
@@ -120,12 +120,12 @@ module _ (files : Files) (host term attribute : List ℕ) (s t : Status) (bytes 
   one_term_report spec is =
       let rules : IsSmallSpec spec = host_rules (files host) spec is in
       one_check SpecRefused s t bytes others (RefusesTerm (Some files) term spec) (λ tree. KnownFile (Some files) term (IsTerm spec tree))
-          (λ tree. AnswerReport attribute spec tree)
+      (λ tree. AnswerReport attribute spec tree)
       (λ line tree refuses read. on_file (files term) (IsTooLongOr 1048576 (IsNoTerm spec)) (IsTerm spec tree) ⊥
-          (no_term spec tree) refuses.refused read)
+      (no_term spec tree) refuses.refused read)
       (λ first second. first.line ∙ sym second.line)
       (λ x y first second. on_file (files term) (IsTerm spec x) (IsTerm spec y) (x ≡ y)
-          (λ contents p q. one_term_text spec contents x y rules p q) first second)
+      (λ contents p q. one_term_text spec contents x y rules p q) first second)
       (λ tree read. one_known attribute s t bytes others spec tree rules)
 
   -- two reports of `value` are one
@@ -144,20 +144,20 @@ module _ (files : Files) (file : List ℕ) (s t : Status) (bytes others : List �
   one_refused : RefusesSpec (Some files) file bytes → RefusesSpec (Some files) file others → bytes ≡ others
   one_refused x y =
       let same : x.refusal ≡ y.refusal = on_file (files file) (λ c. HasCause c x.refusal) (λ c. HasCause c y.refusal)
-          (x.refusal ≡ y.refusal) (λ c p q. one_refusal c x.refusal y.refusal p q x.not_memory y.not_memory) x.cause y.cause in
+      (x.refusal ≡ y.refusal) (λ c p q. one_refusal c x.refusal y.refusal p q x.not_memory y.not_memory) x.cause y.cause in
       x.line ∙ (ap (spec_refused_line file) same ∙ sym y.line)
 
   -- two reports of `show` are one
   one_show_report : ShowReport (Some files) file s bytes → ShowReport (Some files) file t others → AreOne s t bytes others
   one_show_report =
       one_check SpecRefused s t bytes others (RefusesSpec (Some files) file)
-          (λ spec. KnownFile (Some files) file (λ contents. IsAcceptedText contents spec)) (λ spec. Ends Done (IsCanonical spec))
+      (λ spec. KnownFile (Some files) file (λ contents. IsAcceptedText contents spec)) (λ spec. Ends Done (IsCanonical spec))
       (λ line spec refuses read. refuses.not_memory
-          (on_file (files file) (λ c. IsAcceptedText c spec) (λ c. HasCause c refuses.refusal) (IsNoMemory refuses.refusal)
-          (λ c p q. none_refused c spec refuses.refusal p q) read refuses.cause))
+      (on_file (files file) (λ c. IsAcceptedText c spec) (λ c. HasCause c refuses.refusal) (IsNoMemory refuses.refusal)
+      (λ c p q. none_refused c spec refuses.refusal p q) read refuses.cause))
       one_refused
       (λ x y first second. on_file (files file) (λ c. IsAcceptedText c x) (λ c. IsAcceptedText c y) (x ≡ y)
-          (λ c p q. one_read c x y p.1 q.1) first second)
+      (λ c p q. one_read c x y p.1 q.1) first second)
       (λ spec read. one_end Done s t bytes others (IsCanonical spec) (λ p q. one_canonical spec bytes others p q))
 
 -- two reports of what is asked are one
@@ -184,7 +184,7 @@ one_report operations words files s t bytes others (inl x) (inr y) = absurd (x.n
 one_report operations words files s t bytes others (inr x) (inl y) = absurd (y.none_asked (in_set operations (Some files) s bytes words x))
 one_report operations words files s t bytes others (inr x) (inr y) =
     one_report_of operations files s t bytes others x.asked x.report
-        (subst (λ (z : Asked). IsReportOf operations (Some files) t others z) (one_asked words y.asked x.asked y.asks x.asks) y.report)
+    (subst (λ (z : Asked). IsReportOf operations (Some files) t others z) (one_asked words y.asked x.asked y.asks x.asks) y.report)
 
 -- words and known files have one status
 pub one_status : HaveOneStatus

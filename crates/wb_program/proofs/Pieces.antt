@@ -15,7 +15,7 @@ prefix_more_file None bytes buffer more n prefix gives within is = absurd gives
 prefix_more_file (Some contents) bytes buffer more n prefix gives within is =
     let e : take n buffer ≡ take n (drop (length bytes) contents) = gives.bytes in
     let a : bytes ++ more ≡ take (length bytes + n) contents = ap (λ l. bytes ++ l) (is ∙ e)
-        ∙ ap (λ l. l ++ take n (drop (length bytes) contents)) prefix ∙ sym (take-add (length bytes) n contents) in
+    ∙ ap (λ l. l ++ take n (drop (length bytes) contents)) prefix ∙ sym (take-add (length bytes) n contents) in
     let l : length (bytes ++ more) ≡ length bytes + n = grind (arith, common_steps, is) in
     rw l a
 

@@ -56,13 +56,13 @@ pub value_reported : (known : Option Files) (host term attribute : List ℕ) (s 
     ValueReport known host term attribute s bytes → IsReported s
 value_reported known host term attribute s bytes =
     by_check SpecRefused s bytes (RefusesHost known host) (λ spec. KnownFile known host (IsHost spec))
-        (λ spec. TermReport known term attribute spec) refused (λ spec.
+    (λ spec. TermReport known term attribute spec) refused (λ spec.
     by_check SpecRefused s bytes (RefusesTerm known term spec) (λ tree. KnownFile known term (IsTerm spec tree))
-        (λ tree. AnswerReport attribute spec tree) refused (λ tree.
+    (λ tree. AnswerReport attribute spec tree) refused (λ tree.
     by_check UnknownAttribute s bytes (LacksAttribute attribute spec tree) (λ number. IsAskedAttribute spec tree attribute number)
-        (λ number. NumberReport attribute spec tree number) unknown (λ number.
+    (λ number. NumberReport attribute spec tree number) unknown (λ number.
     by_check OperationFault s bytes (HasFault spec tree number) (λ value. IsAnswer spec tree (root_of tree) number (Value value))
-        (λ value. Ends Done (λ line. line ≡ value_line attribute value)) fault (λ value.
+    (λ value. Ends Done (λ line. line ≡ value_line attribute value)) fault (λ value.
     by_end Done s bytes (λ line. line ≡ value_line attribute value) done))))
 
 -- a report of `show`

@@ -19,9 +19,12 @@ said words verb options rest later asked value_is_built
     let every : All IsPositional (host ∷ term ∷ attribute ∷ []) = subst (All IsPositional) same all in
     let others : All IsPositional (term ∷ attribute ∷ []) = All-tail IsPositional host (term ∷ attribute ∷ []) every in
     let last : All IsPositional (attribute ∷ []) = All-tail IsPositional term (attribute ∷ []) others in
-    no_value (subst AreValue (sym (line ∙ ap (λ ws. verb_text Value ∷ ws) same))
-    (refl, All-head IsPositional host (term ∷ attribute ∷ []) every, All-head IsPositional term (attribute ∷ []) others,
-        All-head IsPositional attribute [] last))
+    no_value (subst AreValue (sym (line ∙ ap (λ ws. verb_text Value ∷ ws) same)) (
+      refl,
+      All-head IsPositional host (term ∷ attribute ∷ []) every,
+      All-head IsPositional term (attribute ∷ []) others,
+      All-head IsPositional attribute [] last,
+    ))
 said words verb options rest later asked show_is_built (says_show {file = file}) splits line no_value no_show =
     let (same, all) = split_words rest (file ∷ []) splits in
     let every : All IsPositional (file ∷ []) = subst (All IsPositional) same all in

@@ -49,7 +49,7 @@ AnswerReport attribute spec tree =
 abbrev pub TermReport : Option Files → List ℕ → List ℕ → SmallSpec → Report
 TermReport known term attribute spec =
     Check SpecRefused (RefusesTerm known term spec) (λ tree. KnownFile known term (IsTerm spec tree))
-        (λ tree. AnswerReport attribute spec tree)
+    (λ tree. AnswerReport attribute spec tree)
 
 -- the host, then the term, then the attribute and its answer
 abbrev pub ValueReport : Option Files → List ℕ → List ℕ → List ℕ → Report

@@ -33,7 +33,7 @@ pub data Splits : List (List ℕ) → List Given → List (List ℕ) → Type 0 
       → value ≡ o.value → IsPositional o.value → Splits words options rest → Splits (word ∷ value ∷ words) (o ∷ options) rest
   joined : {word : List ℕ} {words rest : List (List ℕ)} {o : Given} {options : List Given} → IsOptionName o.name
       → word ≡ codes "--" ++ (o.name ++ (codes "=" ++ o.value)) → IsPositional o.value → Splits words options rest →
-          Splits (word ∷ words) (o ∷ options) rest
+      Splits (word ∷ words) (o ∷ options) rest
 
 -- an option of this name has this value
 pub record HasOption (options : List Given) (name value : List ℕ) : Type 0 where

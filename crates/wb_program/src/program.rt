@@ -15,7 +15,8 @@ use crate::status::Status;
 use crate::words::{Command, command_of};
 use crate::writing::write_report;
 use std::alloc::Global;
-use wb_operations::{Meaning, OperationTable, Run};
+use wb_operations::{Meaning, OperationRefusal, OperationTable};
+use wb_values::Value;
 use wb_world::{Shelf, Sink};
 
 /// All that the program does: reads the words as a command, reads the files that they name, and writes the report.
@@ -31,7 +32,10 @@ pub fn workbench<S: Shelf, K: Sink, M: Meaning>(
     sink: &mut K,
     operations: &OperationTable<M>,
 ) -> Status
-    requires kept { IsKept operations.now.signatures operations.now.built_in operations.now.runs.items M.meaning (λ run vs. Run.pre run vs) (λ run vs r. Run.post run vs r) }
+    // The table answers what M means.
+    requires kept { IsKept operations.now.signatures operations.now.built_in operations.now.runs.items M.meaning
+        (λ run vs. ⟦<Box<dyn Fn(&[Value]) -> Result<Value, OperationRefusal>> as Fn(&[Value]) -> Result<Value, OperationRefusal>>⟧.pre run vs)
+        (λ run vs r. ⟦<Box<dyn Fn(&[Value]) -> Result<Value, OperationRefusal>> as Fn(&[Value]) -> Result<Value, OperationRefusal>>⟧.post run vs r) }
 
     // Usage is the status of words that are no command, and of no others.
     ensures usage { result ≡ Status.Usage → ¬ InCommandSet (texts words.now) }

@@ -23,5 +23,5 @@ pub record RefusesText (contents file bytes : List ℕ) : Type 0 where
 abbrev pub ContentsShow : Contents → Status → List ℕ → List ℕ → Type 0
 ContentsShow (Whole contents) status bytes file =
     Check SpecRefused (RefusesText contents.items file) (λ spec. IsAcceptedText contents.items spec)
-        (λ spec. Ends Done (IsCanonical spec)) status bytes
+    (λ spec. Ends Done (IsCanonical spec)) status bytes
 ContentsShow TooLong status bytes file = Ends SpecRefused (λ bytes. bytes ≡ spec_refused_line file r.TooLong) status bytes

@@ -12,4 +12,4 @@ returns-then-len-limit-clause-ok g c =
 pub returns-else-len-limit-clause-ok : goal.returns-else-len-limit-clause-ok
 returns-else-len-limit-clause-ok g c =
     too_long (g.S.Shelf.files c.args.shelf.now) c.args.name.now c.in_ok-bytes.bytes.items c.args.limit c.in_ok-bytes.ensures.ok
-        (grind (arith, common_steps))
+    (grind (arith, common_steps))

@@ -11,9 +11,9 @@ pub returns-in_ok-extend_from_slice-in-Bytes-clause-part :
 returns-in_ok-extend_from_slice-in-Bytes-clause-part g c = λ front.
     let place : c.len.result ≡ length c.args.bytes.now.items = grind (arith, common_steps) in
     let fits : FitsFiles (g.S.Shelf.files c.args.shelf.now) c.args.name.now (length c.args.bytes.now.items)
-        (Gave c.in-Bytes.count) c.read.new.into =
+    (Gave c.in-Bytes.count) c.read.new.into =
     subst (λ from. FitsFiles (g.S.Shelf.files c.args.shelf.now) c.args.name.now from
-        (Gave c.in-Bytes.count) c.read.new.into) place c.in-Bytes.ensures.known in
+    (Gave c.in-Bytes.count) c.read.new.into) place c.in-Bytes.ensures.known in
     rw c.in_ok-extend_from_slice-in-Bytes.ensures.items
     (prefix_more (g.S.Shelf.files c.args.shelf.now) c.args.name.now c.args.bytes.now.items c.read.new.into _ c.in-Bytes.count front fits
-        (grind (arith, common_steps)) (grind (arith, common_steps)))
+    (grind (arith, common_steps)) (grind (arith, common_steps)))

@@ -10,12 +10,12 @@ pub returns-then-branch-eq0-clause-ok : goal.returns-then-branch-eq0-clause-ok
 returns-then-branch-eq0-clause-ok g c =
     let none : c.in_ok-read_piece.field-0 ≡ 0 = search rules in
     let ended : KnownFile (g.S.Shelf.files c.loop-bytes.shelf) c.args.name.now
-        (λ contents. length contents ≤ vec_len c.read_piece.new.bytes) = c.in_ok-read_piece.ensures.end none in
+    (λ contents. length contents ≤ vec_len c.read_piece.new.bytes) = c.in_ok-read_piece.ensures.end none in
     let same : g.S.Shelf.files c.loop-bytes.shelf ≡ g.S.Shelf.files c.args.shelf.now = c.loop-bytes.invariant.goes_on.files in
     let before : KnownPrefix (g.S.Shelf.files c.loop-bytes.shelf) c.args.name.now c.loop-bytes.bytes.items = subst
-        (λ told. KnownPrefix told c.args.name.now c.loop-bytes.bytes.items) (sym same) c.loop-bytes.invariant.part in
+    (λ told. KnownPrefix told c.args.name.now c.loop-bytes.bytes.items) (sym same) c.loop-bytes.invariant.part in
     prefix_end (g.S.Shelf.files c.args.shelf.now) c.args.name.now c.read_piece.new.bytes.items (vec_len c.read_piece.new.bytes)
-        (c.args.limit + 1)
+    (c.args.limit + 1)
     (subst (λ told. KnownPrefix told c.args.name.now c.read_piece.new.bytes.items) same (c.in_ok-read_piece.ensures.part before))
     (subst (λ told. KnownFile told c.args.name.now (λ contents. length contents ≤ vec_len c.read_piece.new.bytes)) same ended)
     (grind (arith, common_steps)) (grind (arith, common_steps))

@@ -8,4 +8,4 @@ pub returns-in-None-clause-none : goal.returns-in-None-clause-none
 returns-in-None-clause-none c =
     let no_value : ¬ AreValue (texts c.args.words.now) = search rules in
     if_none c.show_of.result (¬ AreShow (texts c.args.words.now)) (¬ InCommandSet (texts c.args.words.now))
-        (none_asked (texts c.args.words.now) no_value) c.show_of.ensures.none
+    (none_asked (texts c.args.words.now) no_value) c.show_of.ensures.none

@@ -9,12 +9,12 @@ pub loop-at-preserved : goal.loop-at-preserved
 loop-at-preserved g c =
     let r : List ℕ = c.args.report.now in
     let e : take c.in-Took.count (take (length r - c.loop-at.at) (drop c.loop-at.at r)) ≡ take c.in-Took.count (drop c.loop-at.at r) = grind
-        (arith, common_steps) in
+    (arith, common_steps) in
     record {
       within = grind (arith, common_steps);
       bytes = c.in-Took.ensures.bytes
           ∙ ap (λ known. append_known known (take c.in-Took.count
-              (take (length r - c.loop-at.at) (drop c.loop-at.at r)))) c.loop-at.invariant.bytes
+          (take (length r - c.loop-at.at) (drop c.loop-at.at r)))) c.loop-at.invariant.bytes
           ∙ ap (append_known (append_known (g.K.Sink.written c.args.sink.now) (take c.loop-at.at r))) e
           ∙ append_more (g.K.Sink.written c.args.sink.now) r c.loop-at.at c.in-Took.count;
       faults = omega (arith, c.in-Took.ensures.faults, c.loop-at.invariant.faults);
