@@ -12,7 +12,7 @@ use Rattle.wb_eval.specs.Asked.{IsAskedAttribute, root_of}
 use Rattle.wb_eval.proofs.Uniqueness.{one_answer_at}
 use Rattle.wb_syntax.specs.Canonical.{IsCanonical}
 use Rattle.wb_reader.specs.Refusals.{HasCause, IsAcceptedText}
-use Rattle.wb_reader.specs.Patterns.{IsNoMemory}
+use Rattle.wb_reader.specs.OneAnswer.{IsNoMemory}
 use Rattle.wb_reader.proofs.Excluding.{none_refused, one_refusal}
 use Rattle.wb_reader.proofs.OneText.{one_text as one_read}
 use Rattle.wb_printer.proofs.CallerLemmas.{one_canonical}

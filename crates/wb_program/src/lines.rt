@@ -1,7 +1,7 @@
 //! How the lines of reports are written. Which line a command gives is its own choice.
 ghost use Rattle.std.specs.Prelude.{◌≡◌, ◌++◌, IfOk};
 ghost use lib.Chars.{codes};
-ghost use Rattle.wb_reader.specs.Patterns.{IsNoMemory};
+ghost use Rattle.wb_reader.specs.OneAnswer.{IsNoMemory};
 ghost use Rattle.wb_program.specs.Lines.{usage_line, refused_line, unknown_line, fault_line, value_line, spec_refused_line};
 
 use std::alloc::{AllocError, Global};

@@ -1,6 +1,6 @@
 //! What `show SPEC` answers: the canonical text of a specification, or why the file isn't one.
 ghost use Rattle.std.specs.Prelude.{◌≡◌, IfOk, IfErr, [], ◌∷◌};
-ghost use Rattle.wb_reader.specs.Patterns.{IsNoMemory};
+ghost use Rattle.wb_reader.specs.OneAnswer.{IsNoMemory};
 ghost use Rattle.wb_program.specs.Asked.{specification};
 ghost use Rattle.wb_program.specs.Lines.{spec_refused_line};
 ghost use Rattle.wb_program.specs.Reads.{StopsAt};
