@@ -1,9 +1,9 @@
 //! Answers of the evaluation of small terms.
 
-use wb_eval::{SmallAnswer, attribute_named, evaluate_small};
 use std::alloc::{AllocError, Global};
 use std::test::Fail;
 use wb_base::{Bytes, Sequence};
+use wb_eval::{SmallAnswer, attribute_named, evaluate_small};
 use wb_small::{
     NamedChild, NamedEquation, NamedHost, NamedNode, NamedOccurrence, NamedProduction, NamedTerm,
     NamedTermNode, SmallRefusal, SmallValue, number_host, number_term,

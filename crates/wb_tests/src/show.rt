@@ -33,12 +33,7 @@ fn words_of(alloc: Global) -> Result<Vec<String>, AllocError> {
 }
 
 // Whether `show h` ends so and writes this, where the file has these bytes.
-fn is_shown(
-    alloc: Global,
-    text: &[u8],
-    status: Status,
-    report: &[u8],
-) -> Result<bool, AllocError> {
+fn is_shown(alloc: Global, text: &[u8], status: Status, report: &[u8]) -> Result<bool, AllocError> {
     let mut sink = MemorySink::new(alloc, 20_000, 1_000)?;
     let ended = status_to(alloc, text, &mut sink)?;
     Ok(ended == status && sink.bytes() == report)

@@ -1,9 +1,9 @@
 //! Which texts are small hosts and small terms.
 
-use wb_small_reader::{read_small_spec, read_small_term};
 use std::alloc::{AllocError, Global};
 use std::test::Fail;
 use wb_small::{SmallNode, SmallRefusal, SmallValue};
+use wb_small_reader::{read_small_spec, read_small_term};
 
 // Whether the two texts, one behind the other, are a small host.
 fn is_host(alloc: Global, start: &str, rest: &str) -> Result<bool, AllocError> {

@@ -122,7 +122,13 @@ fn each_status_has_its_line(rt: HostRuntime) -> Result<(), Fail> {
     let cases = [
         (value, CALC, THREE, Status::Done, LINE),
         (value, b"", THREE, Status::SpecRefused, b"refused h S0\n"),
-        (value, CALC, b"add(lit(1)", Status::SpecRefused, b"refused t S0\n"),
+        (
+            value,
+            CALC,
+            b"add(lit(1)",
+            Status::SpecRefused,
+            b"refused t S0\n",
+        ),
         (value, CALC, sum, Status::OperationFault, b"fault add 1\n"),
         (no_host, CALC, THREE, Status::Absent, b""),
         (no_term, CALC, THREE, Status::Absent, b""),
@@ -157,10 +163,17 @@ fn words_that_ask_for_nothing_built_are_usage_errors(rt: HostRuntime) -> Result<
         &["compose", "h"],
         &["tree", "--text", "t", "h"],
         &["run", "--text", "t", "--attr=value", "h"],
-        &["generate", "--number", "0", "--size", "1", "--attr", "a", "h"],
+        &[
+            "generate", "--number", "0", "--size", "1", "--attr", "a", "h",
+        ],
     ];
     for words in cases {
-        let is = ends(rt.alloc(), &run_of(words, CALC, THREE), Status::Usage, USAGE)?;
+        let is = ends(
+            rt.alloc(),
+            &run_of(words, CALC, THREE),
+            Status::Usage,
+            USAGE,
+        )?;
         assert!(rt; is, "{words:?}");
     }
     Ok(())

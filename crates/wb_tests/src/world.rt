@@ -1,7 +1,7 @@
 //! Reads and writes of the shelf and the sink in memory.
 
-use wb_world::{Got, MemoryShelf, MemorySink, Put, Shelf, Sink};
 use std::test::Fail;
+use wb_world::{Got, MemoryShelf, MemorySink, Put, Shelf, Sink};
 
 #[test]
 fn reads_give_the_file_from_a_place(rt: HostRuntime) -> Result<(), Fail> {
