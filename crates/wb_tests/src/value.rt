@@ -77,6 +77,9 @@ fn status_to(alloc: Global, run: &Run, sink: &mut MemorySink) -> Result<Status, 
 
 // Whether a run ends with this status and has written this.
 fn ends(alloc: Global, run: &Run, status: Status, line: &[u8]) -> Result<bool, AllocError> {
+    if run.most == 0 {
+        return Ok(false);
+    }
     let mut sink = MemorySink::new(alloc, 1000, run.most)?;
     if let Some(call) = run.failing_write {
         sink.fail_at(call)?;
@@ -142,39 +145,37 @@ fn each_status_has_its_line(rt: HostRuntime) -> Result<(), Fail> {
     Ok(())
 }
 
+// Whether these words, with a space between each two, are a usage error.
+fn is_usage(alloc: Global, line: &str) -> Result<bool, AllocError> {
+    let words: Vec<&str> = line.split(' ').collect(alloc)?;
+    ends(alloc, &run_of(&words, CALC, THREE), Status::Usage, USAGE)
+}
+
 #[test]
 fn words_that_ask_for_nothing_built_are_usage_errors(rt: HostRuntime) -> Result<(), Fail> {
+    assert!(rt; ends(rt.alloc(), &run_of(&[], CALC, THREE), Status::Usage, USAGE)?);
     let cases = [
-        [].as_slice(),
-        &["frob"],
-        &["--help"],
-        &["value"],
-        &["value", "h", "t"],
-        &["value", "h", "t", "value", "value"],
-        &["value", "h", "t", "-x"],
-        &["value", "h", "", "value"],
-        &["value", "--steps", "1", "h", "t", "value"],
-        &["show"],
-        &["show", "--"],
-        &["show", "h", "t"],
-        // Not built yet.
-        &["check", "h"],
-        &["certify", "h", "t"],
-        &["compose", "h"],
-        &["tree", "--text", "t", "h"],
-        &["run", "--text", "t", "--attr=value", "h"],
-        &[
-            "generate", "--number", "0", "--size", "1", "--attr", "a", "h",
-        ],
+        "",
+        "frob",
+        "--help",
+        "value",
+        "value h t",
+        "value h t value value",
+        "value h t -x",
+        "value h  value", // an empty word
+        "value --steps 1 h t value",
+        "show",
+        "show --",
+        "show h t",
+        "check h", // not built yet
+        "certify h t",
+        "compose h",
+        "tree --text t h",
+        "run --text t --attr=value h",
+        "generate --number 0 --size 1 --attr a h",
     ];
-    for words in cases {
-        let is = ends(
-            rt.alloc(),
-            &run_of(words, CALC, THREE),
-            Status::Usage,
-            USAGE,
-        )?;
-        assert!(rt; is, "{words:?}");
+    for line in cases {
+        assert!(rt; is_usage(rt.alloc(), line)?, "{line:?}");
     }
     Ok(())
 }
