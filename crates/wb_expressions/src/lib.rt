@@ -4,6 +4,8 @@
 //! trees, their nodes and the walk over them are defined and proved here once. What an expression means lies elsewhere.
 #![tactic(auto)]
 
+mod laws;
 mod node;
 
+pub use laws::whole_law;
 pub use node::Node;

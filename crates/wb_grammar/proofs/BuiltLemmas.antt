@@ -12,7 +12,7 @@ use Rattle.wb_grammars.specs.Derives.{Derives, done, keep, expand, IsText, empty
 use Rattle.wb_grammars.specs.Shape.{IsProductive}
 use Rattle.wb_grammars.proofs.DerivesLemmas.{nil_parts}
 use Rattle.wb_grammars.proofs.TreeLemmas.{text_left, text_right}
-use Rattle.wb_grammar.specs.Built.{Builds, nothing, terminal, nonterminal, Holds, IsKnown, AreBuilt, IsClosedAt, IsBuiltSet}
+use Rattle.wb_grammar.specs.Inner.Built.{Builds, nothing, terminal, nonterminal, Holds, IsKnown, AreBuilt, IsClosedAt, IsBuiltSet}
 use Rattle.wb_grammar.specs.Facts.{IsNullableSet}
 
 -- what a sound set holds is built

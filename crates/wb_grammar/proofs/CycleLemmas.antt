@@ -15,10 +15,10 @@ use Rattle.wb_grammars.specs.Walks.{Walk, one, more}
 use Rattle.wb_grammars.proofs.DerivesLemmas.{Derives-append, Nullable-parts}
 use Rattle.wb_grammars.proofs.UnitLemmas.{unit_cycle_is, production_alone}
 use Rattle.wb_grammars.proofs.ProductionLemmas.{production_below}
-use Rattle.wb_grammar.specs.Built.{Holds}
+use Rattle.wb_grammar.specs.Inner.Built.{Holds}
 use Rattle.wb_grammar.specs.Facts.{IsNullableSet}
 use Rattle.wb_grammar.specs.declared.part.Part.TheVariants.{Alone}
-use Rattle.wb_grammar.specs.Edges.{IsEdgeBy, AreEdges}
+use Rattle.wb_grammar.specs.Inner.Edges.{IsEdgeBy, AreEdges}
 
 -- what the set of the nullable nonterminals holds derives the empty text
 pub held_empty : (g : GrammarView) (s : List Bool) → IsNullableSet g s → (w : List Symbol) → All (Holds false s) w → Derives g w []

@@ -10,7 +10,7 @@ use Rattle.wb_graph.specs.Graphs.{Edge, IsEdgeBelow}
 use Rattle.wb_grammars.specs.Productions.{IsProduction}
 use Rattle.wb_grammars.proofs.ProductionLemmas.{production_once, production_within, production_below}
 use Rattle.wb_grammar.specs.declared.part.Part.{Part}
-use Rattle.wb_grammar.specs.Edges.{IsPlaced, IsEdgeBy, AreEdges, edges_of}
+use Rattle.wb_grammar.specs.Inner.Edges.{IsPlaced, IsEdgeBy, AreEdges, edges_of}
 use Rattle.wb_grammar.proofs.PartLemmas.{placed_within}
 
 edge_cases : (e : Edge) (es : List Edge) (x : Edge) → Contains (e ∷ es) x → (e ≡ x) ⊎ Contains es x

@@ -13,7 +13,7 @@ use Rattle.wb_grammars.specs.Productions.{IsProduction}
 use Rattle.wb_grammars.specs.Derives.{Derives, done, keep, expand, IsNullable, IsFirst}
 use Rattle.wb_grammars.proofs.DerivesLemmas.{append_nil, Derives-same, First-of_head, First-of_tail}
 use Rattle.wb_grammar.specs.Facts.{IsNullableSet, AreSets, AreFirstSets, set_of}
-use Rattle.wb_grammar.specs.Firsts.{CanBegin, AreFirsts, IsFirstClosedAt, SetsWithin, SetsGrew}
+use Rattle.wb_grammar.specs.Inner.Firsts.{CanBegin, AreFirsts, IsFirstClosedAt, SetsWithin, SetsGrew}
 
 -- after the symbols before `left`, the terminals in the set, and those that can begin `left`, are those that can begin all
 abbrev pub Begun : List Bool → List (List Bool) → List Symbol → List Bool → List Symbol → Type 0

@@ -12,8 +12,8 @@ use Rattle.wb_grammars.specs.Walks.{Walk, one, more, HiddenWalk, last, here, lat
 use Rattle.wb_grammars.proofs.HiddenLemmas.{hidden_is}
 use Rattle.wb_grammar.specs.Facts.{IsNullableSet}
 use Rattle.wb_grammar.specs.declared.part.Part.TheVariants.{Corner, Hidden}
-use Rattle.wb_grammar.specs.Edges.{IsEdgeBy, AreEdges}
-use Rattle.wb_grammar.specs.Paths.{IsPathTo, alone, longer}
+use Rattle.wb_grammar.specs.Inner.Edges.{IsEdgeBy, AreEdges}
+use Rattle.wb_grammar.specs.Inner.Paths.{IsPathTo, alone, longer}
 use Rattle.wb_grammar.proofs.CycleLemmas.{held_empty, empty_held}
 use Rattle.wb_grammar.proofs.ReachLemmas.{walk_from}
 use Rattle.wb_grammar.proofs.PathLemmas.{at_push, left_push, last_push}

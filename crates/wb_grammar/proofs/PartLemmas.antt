@@ -5,9 +5,9 @@ use Rattle.std.proofs.lemmas.List.{take_all, drop_all}
 use Rattle.std.proofs.Math.Seq.{drop-cons}
 use Rattle.std.proofs.lemmas.List.Elements.{All-head, All-tail, All-cons, All-nil, Contains-append_right}
 use Rattle.wb_base.specs.declared.symbol.Symbol.{Symbol}
-use Rattle.wb_grammar.specs.Built.{Holds}
+use Rattle.wb_grammar.specs.Inner.Built.{Holds}
 use Rattle.wb_grammar.specs.declared.part.Part.TheVariants.{Whole, Corner, Hidden, Alone}
-use Rattle.wb_grammar.specs.Edges.{IsPlaced, IsLeading, over, stops, goes_on}
+use Rattle.wb_grammar.specs.Inner.Edges.{IsPlaced, IsLeading, over, stops, goes_on}
 
 -- an empty list has denied element
 pub contains_nil : (x : Symbol) → Contains [] x → ⊥

@@ -6,7 +6,7 @@ use Rattle.std.proofs.lemmas.Bool.{cases_eq, cases_lt}
 use Rattle.std.proofs.lemmas.List.{get_or-replicate, get_or_past, length-replicate}
 use Rattle.std.proofs.lemmas.Grind.{common_steps}
 use Rattle.wb_graph.specs.Graphs.{Edge, IsEdge, Walk, stay, step, IsReached}
-use Rattle.wb_grammar.specs.Paths.{IsPathTo, alone, longer, LeadsBack, IsTrail, IsBackClosed}
+use Rattle.wb_grammar.specs.Inner.Paths.{IsPathTo, alone, longer, LeadsBack, IsTrail, IsBackClosed}
 
 -- an element of a list with one more at its end
 pub at_push : {A : Type 0} (xs : List A) (x y : A) (i : ℕ) → slice_get (xs ++ x ∷ []) i ≡ Some y → (slice_get xs i ≡ Some y) ⊎ ((i ≡ length xs) × (x ≡ y))

@@ -10,7 +10,7 @@ use Rattle.wb_grammars.specs.Derives.{Derives, done, keep, expand}
 use Rattle.wb_grammars.specs.Shape.{IsReachable}
 use Rattle.wb_grammars.proofs.DerivesLemmas.{Derives-same, Derives-append, Derives-then}
 use Rattle.wb_grammar.specs.declared.part.Part.TheVariants.{Whole}
-use Rattle.wb_grammar.specs.Edges.{AreEdges}
+use Rattle.wb_grammar.specs.Inner.Edges.{AreEdges}
 use Rattle.wb_grammar.proofs.PartLemmas.{whole_is, contains_cases, contains_nil}
 
 -- a walk with one more edge in front

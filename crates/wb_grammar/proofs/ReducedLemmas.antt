@@ -7,8 +7,8 @@ use Rattle.wb_termset.specs.Sets.{IsMember}
 use Rattle.wb_graph.specs.Graphs.{Edge, AreReached}
 use Rattle.wb_grammars.specs.Shape.{IsReachable, IsProductive}
 use Rattle.wb_grammar.specs.declared.part.Part.TheVariants.{Whole}
-use Rattle.wb_grammar.specs.Edges.{AreEdges}
-use Rattle.wb_grammar.specs.Built.{IsBuiltSet}
+use Rattle.wb_grammar.specs.Inner.Edges.{AreEdges}
+use Rattle.wb_grammar.specs.Inner.Built.{IsBuiltSet}
 use Rattle.wb_grammar.proofs.BuiltLemmas.{productive_built}
 use Rattle.wb_grammar.proofs.ReachLemmas.{reached_is}
 

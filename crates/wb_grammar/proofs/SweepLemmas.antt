@@ -3,8 +3,8 @@ use Rattle.std.proofs.Common.{◌≡◌, ℕ, ◌+◌, ◌<◌, ◌≤◌, List,
 use Rattle.std.specs.Prelude.{slice_index}
 use Rattle.std.proofs.lemmas.Bool.{cases_lt}
 use Rattle.wb_graph.specs.Graphs.{Edge}
-use Rattle.wb_grammar.specs.Paths.{IsBackClosed}
-use Rattle.wb_grammar.specs.Together.{edge_at}
+use Rattle.wb_grammar.specs.Inner.Paths.{IsBackClosed}
+use Rattle.wb_grammar.specs.Inner.Together.{edge_at}
 use Rattle.wb_grammar.proofs.TogetherLemmas.{edge_place}
 
 -- where the end of the edge has been met, what it leaves has too

@@ -6,8 +6,8 @@ use Rattle.std.proofs.lemmas.Option.{slice_get-get_or, same_Some}
 use Rattle.std.proofs.lemmas.List.Elements.{Contains-get_or}
 use Rattle.wb_graph.specs.Graphs.{Edge, IsEdge, IsReached, Walk, stay, step}
 use Rattle.wb_graph.specs.Components.{ComponentsView, AreComponents}
-use Rattle.wb_grammar.specs.Together.{edge_at, IsTogether}
-use Rattle.wb_grammar.specs.Paths.{IsPathTo}
+use Rattle.wb_grammar.specs.Inner.Together.{edge_at, IsTogether}
+use Rattle.wb_grammar.specs.Inner.Paths.{IsPathTo}
 
 pub at_within : (edges : List Edge) (i : ℕ) → i < length edges → IsEdge edges (edge_at edges i).0 (edge_at edges i).1
 at_within edges i lt = Contains-get_or edges i (0, 0) lt

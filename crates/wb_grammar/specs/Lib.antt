@@ -1,8 +1,4 @@
-pub mod Built
-pub mod Edges
 pub mod Facts
-pub mod Firsts
-pub mod Order
-pub mod Paths
 pub mod Refusals
-pub mod Together
+-- what loops keep, and words of private functions
+pub mod Inner

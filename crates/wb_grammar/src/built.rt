@@ -2,7 +2,7 @@
 
 ghost use Rattle.std.specs.Prelude.{◌≡◌, ℕ, ◌<◌, ◌↔◌, false, length, All, IfOk, IsTrue};
 ghost use Rattle.wb_termset.specs.Sets.{Grew, IsSubset};
-ghost use Rattle.wb_grammar.specs.Built.{Holds, IsKnown, AreBuilt, IsClosedAt, IsBuiltSet};
+ghost use Rattle.wb_grammar.specs.Inner.Built.{Holds, IsKnown, AreBuilt, IsClosedAt, IsBuiltSet};
 
 use std::alloc::{AllocError, Global};
 use wb_base::{Grammar, Symbol};

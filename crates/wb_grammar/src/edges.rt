@@ -4,7 +4,7 @@ ghost use Rattle.std.specs.Prelude.{◌≡◌, ◌++◌, All, IfOk, OnOk};
 ghost use Rattle.wb_base.specs.Grammar.{IsGrammar};
 ghost use Rattle.wb_graph.specs.Graphs.{IsEdgeBelow};
 ghost use Rattle.wb_grammar.specs.Facts.{IsNullableSet};
-ghost use Rattle.wb_grammar.specs.Edges.{edges_of, AreEdges};
+ghost use Rattle.wb_grammar.specs.Inner.Edges.{edges_of, AreEdges};
 
 use crate::part::{Part, part_of};
 use std::alloc::{AllocError, Global};

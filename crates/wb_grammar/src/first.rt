@@ -4,7 +4,7 @@ ghost use Rattle.std.specs.Prelude.{◌≡◌, ℕ, ◌+◌, ◌<◌, ◌↔◌,
 ghost use Rattle.wb_base.specs.Grammar.{IsSymbolBelow};
 ghost use Rattle.wb_termset.specs.Sets.{IsMember, Grew, IsUnion};
 ghost use Rattle.wb_grammar.specs.Facts.{IsNullableSet, AreSets, AreFirstSets, set_of};
-ghost use Rattle.wb_grammar.specs.Firsts.{CanBegin, AreFirsts, IsFirstClosedAt, SetsWithin, SetsGrew};
+ghost use Rattle.wb_grammar.specs.Inner.Firsts.{CanBegin, AreFirsts, IsFirstClosedAt, SetsWithin, SetsGrew};
 
 use crate::first_sets::FirstSets;
 use std::alloc::{AllocError, Global};

@@ -5,8 +5,8 @@ ghost use Rattle.wb_graph.specs.Graphs.{Edge, IsEdgeBelow, IsReached};
 ghost use Rattle.wb_grammars.specs.Shape.{IsReduced};
 ghost use Rattle.wb_grammars.specs.Cycles.{HasNoUnitCycle, HasNoHiddenLeftRecursion};
 ghost use Rattle.wb_grammar.specs.Facts.{IsNullableSet};
-ghost use Rattle.wb_grammar.specs.Paths.{IsPathTo};
-ghost use Rattle.wb_grammar.specs.Together.{IsTogether};
+ghost use Rattle.wb_grammar.specs.Inner.Paths.{IsPathTo};
+ghost use Rattle.wb_grammar.specs.Inner.Together.{IsTogether};
 ghost use Rattle.wb_grammar.specs.Refusals.{IsTrueRefusal};
 
 use crate::GrammarRefusal;

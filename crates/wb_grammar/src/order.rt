@@ -4,7 +4,7 @@
 
 ghost use Rattle.std.specs.Prelude.{◌<◌, ◌≤◌, ℕ, All, IfOk, IfSome, OnOk, length};
 ghost use Rattle.wb_base.specs.Grammar.{IsGrammar};
-ghost use Rattle.wb_grammar.specs.Order.{IsWalk};
+ghost use Rattle.wb_grammar.specs.Inner.Order.{IsWalk};
 
 use std::alloc::{AllocError, Global};
 use wb_base::{Grammar, Symbol, push};

@@ -2,8 +2,8 @@
 
 ghost use Rattle.std.specs.Prelude.{◌≤◌, ◌↔◌, IsTrue, false, length, All, Contains};
 ghost use Rattle.wb_base.specs.declared.symbol.Symbol.{Symbol};
-ghost use Rattle.wb_grammar.specs.Built.{Holds, IsKnown};
-ghost use Rattle.wb_grammar.specs.Edges.{IsPlaced, IsLeading};
+ghost use Rattle.wb_grammar.specs.Inner.Built.{Holds, IsKnown};
+ghost use Rattle.wb_grammar.specs.Inner.Edges.{IsPlaced, IsLeading};
 
 use crate::built::holds_all;
 use wb_base::Symbol;

@@ -2,7 +2,7 @@
 
 ghost use Rattle.std.specs.Prelude.{◌≡◌, ◌≢◌, ◌↔◌, ◌<◌, ◌≤◌, ◌∷◌, [], ℕ, List, false, All, Some, length, IfOk, OnOk, MatchOption, IsTrue, slice_get, slice_index};
 ghost use Rattle.wb_graph.specs.Graphs.{Edge, IsEdge, IsEdgeBelow, IsReached};
-ghost use Rattle.wb_grammar.specs.Paths.{IsPathTo, IsTrail, IsBackClosed};
+ghost use Rattle.wb_grammar.specs.Inner.Paths.{IsPathTo, IsTrail, IsBackClosed};
 
 use std::alloc::{AllocError, Global};
 use wb_base::push;

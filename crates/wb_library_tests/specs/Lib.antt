@@ -1,2 +1,2 @@
--- a meaning whose operations differ by their number
-pub mod Odd
+-- what loops keep, and words of private functions
+pub mod Inner

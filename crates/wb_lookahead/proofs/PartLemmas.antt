@@ -6,8 +6,8 @@ use Rattle.wb_lookahead.specs.declared.parts.Parts.{Parts}
 use Rattle.wb_lookahead.specs.Codes.{action_at, goto_at}
 use Rattle.wb_lookahead.specs.Contents.{action_in, goto_in}
 use Rattle.wb_lookahead.specs.Grids.{GridView}
-use Rattle.wb_lookahead.specs.Parts.{ArePartsUpTo}
-use Rattle.wb_lookahead.specs.Rows.{AreGotos, IsRowOf}
+use Rattle.wb_lookahead.specs.Inner.Parts.{ArePartsUpTo}
+use Rattle.wb_lookahead.specs.Inner.Rows.{AreGotos, IsRowOf}
 use Rattle.wb_lookahead.specs.Tables.{AreTables, IsAction, IsGoto, IsValidSet}
 use Rattle.wb_lookahead.proofs.RowLemmas.{each_more, row_action, row_only}
 use Rattle.wb_lookahead.proofs.StandLemmas.{no_conflict}

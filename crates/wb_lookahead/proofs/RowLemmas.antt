@@ -23,7 +23,7 @@ use Rattle.wb_lookahead.specs.declared.action.TableRefusal.TheVariants.{Conflict
 use Rattle.wb_lookahead.specs.Codes.{goto_at}
 use Rattle.wb_lookahead.specs.Contents.{action_in}
 use Rattle.wb_lookahead.specs.Tables.{IsAction, IsConflict, IsGoto, IsTableRefusal, IsValidSet, Stands, ComesBefore}
-use Rattle.wb_lookahead.specs.Rows.{Asks, shift, reduce, accept, AddsItem, AreGotos, IsClash, IsReduction, IsRowOf, IsSoundRow, Puts, RowUpTo, ShowsBoth}
+use Rattle.wb_lookahead.specs.Inner.Rows.{Asks, shift, reduce, accept, AddsItem, AreGotos, IsClash, IsReduction, IsRowOf, IsSoundRow, Puts, RowUpTo, ShowsBoth}
 use Rattle.wb_lookahead.proofs.StepLemmas.{step_once}
 use Rattle.wb_lookahead.proofs.StandLemmas.{before_or, stands_asked, stands_valid, valid_stands}
 

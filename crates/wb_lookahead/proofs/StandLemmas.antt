@@ -19,7 +19,7 @@ use Rattle.wb_lookahead.specs.declared.action.Action.{Action}
 use Rattle.wb_lookahead.specs.declared.action.Action.TheVariants as act
 use Rattle.wb_lookahead.specs.declared.action.Action.TheVariants.{Shift, Reduce, Accept}
 use Rattle.wb_lookahead.specs.Tables.{IsGoto, Stands, ComesBefore}
-use Rattle.wb_lookahead.specs.Rows.{Asks, shift, reduce, accept, IsReduction}
+use Rattle.wb_lookahead.specs.Inner.Rows.{Asks, shift, reduce, accept, IsReduction}
 use Rattle.wb_lookahead.proofs.StepLemmas.{step_once}
 
 -- an item asks for each action that stands

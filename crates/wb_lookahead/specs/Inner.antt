@@ -1,5 +1,7 @@
 -- What loops keep, and words of private functions.
+pub mod Parts
 pub mod Rests
+pub mod Rows
 pub mod Spreading
 pub mod Unions
 pub mod Waiting

@@ -4,8 +4,7 @@ pub mod Tables
 pub mod Contents
 -- numbers that stand for actions and for kernels after nonterminals
 pub mod Codes
+-- rows of one length, and the grids of tables
 pub mod Grids
-pub mod Parts
-pub mod Rows
 -- what loops keep, and words of private functions
 pub mod Inner

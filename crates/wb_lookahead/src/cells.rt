@@ -3,7 +3,7 @@
 ghost use Rattle.std.specs.Prelude.{◌≡◌, ◌≤◌, ◌<◌, ◌↔◌, IsTrue, IfErr, OnOk, length};
 ghost use Rattle.wb_termset.specs.Sets.{IsMember};
 ghost use Rattle.wb_lookahead.specs.Tables.{ComesBefore};
-ghost use Rattle.wb_lookahead.specs.Rows.{IsClash, IsReduction, Puts, ShowsBoth};
+ghost use Rattle.wb_lookahead.specs.Inner.Rows.{IsClash, IsReduction, Puts, ShowsBoth};
 
 use crate::action::{Action, TableRefusal};
 use wb_base::Grammar;

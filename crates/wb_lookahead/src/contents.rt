@@ -3,7 +3,7 @@
 ghost use Rattle.std.specs.Prelude.{◌≡◌, ◌≤◌, ◌<◌, length, map};
 ghost use Rattle.wb_lookahead.specs.Codes.{action_at, goto_at};
 ghost use Rattle.wb_lookahead.specs.Contents.{action_of, goto_of, size_of, valid_of};
-ghost use Rattle.wb_lookahead.specs.Parts.{AreGrids};
+ghost use Rattle.wb_lookahead.specs.Grids.{AreGrids};
 
 use crate::action::Action;
 use crate::codes::{action_from, goto_from};
@@ -27,7 +27,7 @@ impl Model for Tables {
     ghost use Rattle.std.specs.Prelude.{length, map};
     ghost use Rattle.wb_lookahead.specs.Codes.{action_at, goto_at};
     ghost use Rattle.wb_lookahead.specs.Contents.{TablesView};
-    ghost use Rattle.wb_lookahead.specs.Parts.{AreGrids};
+    ghost use Rattle.wb_lookahead.specs.Grids.{AreGrids};
 
     ghost Value = { TablesView };
 

@@ -3,7 +3,7 @@
 ghost use Rattle.std.specs.Prelude.{◌≡◌, ◌+◌, ◌<◌, IfErr, IfOk, OnOk};
 ghost use Rattle.wb_items.specs.Kernels.{AreKernels, count_of};
 ghost use Rattle.wb_items.specs.LookaheadSets.{AreLookaheads};
-ghost use Rattle.wb_lookahead.specs.Parts.{ArePartsUpTo};
+ghost use Rattle.wb_lookahead.specs.Inner.Parts.{ArePartsUpTo};
 ghost use Rattle.wb_lookahead.specs.Tables.{AreTables, IsTableRefusal};
 
 use crate::action::TableRefusal;

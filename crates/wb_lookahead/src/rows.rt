@@ -7,7 +7,7 @@ ghost use Rattle.wb_items.specs.Kernels.{AreKernels, count_of, prefix_of};
 ghost use Rattle.wb_items.specs.LookaheadSets.{AreLookaheads};
 ghost use Rattle.wb_lookahead.specs.Contents.{action_in};
 ghost use Rattle.wb_lookahead.specs.Tables.{IsTableRefusal};
-ghost use Rattle.wb_lookahead.specs.Rows.{AddsItem, AreGotos, IsRowOf, IsSoundRow};
+ghost use Rattle.wb_lookahead.specs.Inner.Rows.{AddsItem, AreGotos, IsRowOf, IsSoundRow};
 
 use crate::action::{Action, TableRefusal};
 use crate::cells::{put, put_all, reduction};

@@ -1,7 +1,8 @@
 -- Membership in lists of kinds, where kinds are compared as values.
 use Rattle.std.proofs.Common.{◌≡◌, ℕ, zero, suc, List, [], ◌∷◌, ◌++◌, Bool, true, false, ◌&&◌, not, cond, Option, Some, ◌⊎◌, inl, inr, ⊎_elim, sym, ap, ◌∙◌, subst}
 use Rattle.std.specs.Prelude.{slice_get, ◌↔◌}
-use Rattle.wb_predictive.specs.Kinds.{is_member, is_subset, is_apart, is_apart_from_all, are_apart, choose}
+use Rattle.wb_predictive.specs.Kinds.{is_member, is_subset, is_apart, is_apart_from_all, are_apart}
+use Rattle.wb_predictive.specs.Inner.Choice.{choose}
 use Rattle.wb_predictive.proofs.Booleans.{and_left, and_right, or_left, or_right, or_cases, skipped}
 
 module _ {K : Type 0} (same : K → K → Bool) where

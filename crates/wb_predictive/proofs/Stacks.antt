@@ -7,8 +7,9 @@ use Rattle.wb_predictive.specs.declared.symbol.Symbol.TheVariants.{Token, Nonter
 use Rattle.wb_predictive.specs.declared.table.Placed.{Placed}
 use Rattle.wb_predictive.specs.Grammar.{Grammar, Derives, done, token, expand, act, IsText, CanStart}
 use Rattle.wb_predictive.specs.Entries.{Entry, is_below, is_decided, is_foreseen, is_followed}
-use Rattle.wb_predictive.specs.Kinds.{is_member, choose}
-use Rattle.wb_predictive.specs.Stack.{IsFollowed, Stands, Any, Begins, NoneFits}
+use Rattle.wb_predictive.specs.Kinds.{is_member}
+use Rattle.wb_predictive.specs.Inner.Choice.{choose}
+use Rattle.wb_predictive.specs.Inner.Stack.{IsFollowed, Stands, Any, Begins, NoneFits}
 use Rattle.wb_predictive.proofs.Booleans.{and_left, and_right, and_both, not_true}
 use Rattle.wb_predictive.proofs.Members.{chosen_is}
 use Rattle.wb_predictive.proofs.Rights.{right_facts, some_below}

@@ -1,5 +1,5 @@
 -- Tests on lists of kinds, by a test whether two kinds are the same.
-use Rattle.std.specs.Prelude.{List, [], ◌∷◌, Bool, true, false, ◌&&◌, ◌||◌, not, if◌then◌else◌, Option, Some, None}
+use Rattle.std.specs.Prelude.{List, [], ◌∷◌, Bool, true, false, ◌&&◌, ◌||◌, not, if◌then◌else◌}
 
 -- the second follows from the first
 abbrev pub implies : Bool → Bool → Bool
@@ -31,9 +31,3 @@ module _ {K : Type 0} (same : K → K → Bool) where
   abbrev pub are_apart : List (List K) → Bool
   are_apart [] = true
   are_apart (xs ∷ xss) = is_apart_from_all xs xss && are_apart xss
-
-  -- the right side that is chosen at a kind, where the lists are the kinds of each
-  abbrev pub choose : {S : Type 0} → List S → List (List K) → K → Option S
-  choose [] kss k = None
-  choose (right ∷ rest) [] k = None
-  choose (right ∷ rest) (ks ∷ kss) k = if is_member k ks then Some right else choose rest kss k

@@ -2,9 +2,7 @@ pub mod Rules
 pub mod Grammar
 pub mod Kinds
 pub mod Entries
-pub mod Stack
-pub mod Machine
 pub mod Reading
-pub mod Steps
 pub mod Nested
-pub mod NestedLaws
+-- what loops keep, and words of private functions
+pub mod Inner

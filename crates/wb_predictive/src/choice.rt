@@ -1,7 +1,8 @@
 //! Which rule of a nonterminal is chosen at a kind, and how its right side goes onto the stack.
 
 ghost use Rattle.std.specs.Prelude.{◌≡◌, ◌++◌, reverse, OnOk, MatchOption, Some, None};
-ghost use Rattle.wb_predictive.specs.Kinds.{is_member, choose};
+ghost use Rattle.wb_predictive.specs.Kinds.{is_member};
+ghost use Rattle.wb_predictive.specs.Inner.Choice.{choose};
 ghost use Rattle.wb_predictive.specs.Rules.{rights_of, kinds_of};
 
 use crate::symbol::{Rule, Symbol};

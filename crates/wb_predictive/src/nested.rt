@@ -7,7 +7,7 @@ ghost use Rattle.std.specs.Prelude.{◌≡◌, ◌≢◌, ◌<◌, ◌≤◌, �
 ghost use denote.Enum.Bare.{same_true, true_same};
 ghost use Rattle.wb_predictive.specs.contracts.nested.Kind.{the_type};
 ghost use Rattle.wb_predictive.specs.Nested.{kind_of, next_after, mark_of, shift, act, nested_grammar, nested_entries, IsNestedNext};
-ghost use Rattle.wb_predictive.specs.NestedLaws.{nested_sampled, nested_one_next, nested_advances, nested_decided, nested_ends};
+ghost use Rattle.wb_predictive.specs.Inner.NestedLaws.{nested_sampled, nested_one_next, nested_advances, nested_decided, nested_ends};
 
 use crate::symbol::Rule;
 use crate::symbol::Symbol::{Act, Nonterminal, Token};

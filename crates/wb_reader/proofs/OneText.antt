@@ -10,7 +10,7 @@ use Rattle.wb_tokens.proofs.PlacedLaws.{one_next}
 use Rattle.wb_syntax.specs.declared.written.WrittenSpec.{WrittenSpec}
 use Rattle.wb_syntax.specs.SpecText.{SpecView, IsWrittenText, IsSpecText, IsReadSpec}
 use Rattle.wb_tokens.specs.declared.kind.TokenKind.TheVariants.{End}
-use Rattle.wb_tokens.specs.SameKind.{same_kind}
+use Rattle.wb_tokens.specs.Inner.SameKind.{same_kind}
 use Rattle.wb_tokens.proofs.KindLaws.{kinds_same}
 use Rattle.wb_reader.specs.declared.builder.SpecBuilder.{SpecBuilder}
 use Rattle.wb_reader.specs.Inner.Entries.{spec_entries}

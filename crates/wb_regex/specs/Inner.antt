@@ -12,3 +12,4 @@ pub mod Reader
 pub mod ReaderSteps
 -- from bytes to symbols
 pub mod Scan
+pub mod TreeCode

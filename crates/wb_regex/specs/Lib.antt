@@ -16,7 +16,5 @@ pub mod Grammar
 pub mod Text
 -- what reading answers, and when
 pub mod Answer
--- a code of trees, for models of them
-pub mod TreeCode
 -- what only proofs need
 pub mod Inner

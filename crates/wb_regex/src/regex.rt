@@ -20,7 +20,7 @@ pub struct Regex {
 
 impl Model for Regex {
     ghost use Rattle.wb_regex.specs.Tree.{Tree};
-    ghost use Rattle.wb_regex.specs.TreeCode.{coded_tree};
+    ghost use Rattle.wb_regex.specs.Inner.TreeCode.{coded_tree};
     ghost use Rattle.wb_regex.specs.Whole.{tree_of, IsWhole};
 
     ghost Value = { Tree };

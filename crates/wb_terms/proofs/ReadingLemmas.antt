@@ -1,6 +1,6 @@
 -- A reading by the table is one by the grammar of terms.
 use Rattle.std.proofs.Common.{◌≡◌, ℕ, List, [], ◌++◌, refl}
-use Rattle.wb_tokens.specs.SameKind.{same_kind}
+use Rattle.wb_tokens.specs.Inner.SameKind.{same_kind}
 use Rattle.wb_tokens.specs.declared.kind.TokenKind.TheVariants.{End}
 use Rattle.wb_tokens.proofs.KindLaws.{kinds_same}
 use Rattle.wb_predictive.specs.declared.table.Next.{Next}

@@ -11,7 +11,7 @@ use Rattle.wb_tokens.specs.declared.token.Token.{Token}
 use Rattle.wb_tokens.specs.declared.token.Token.TheVariants as t
 use Rattle.wb_tokens.specs.declared.word.Word.{Word as ReservedWord}
 use Rattle.wb_tokens.specs.Kinds.{kind_of, integer_kind}
-use Rattle.wb_tokens.specs.SameKind.{same_kind}
+use Rattle.wb_tokens.specs.Inner.SameKind.{same_kind}
 
 -- where the test holds, they are
 same_kind_true : (a b : TokenKind) → same_kind a b ≡ true → a ≡ b

@@ -4,3 +4,4 @@ pub mod Longest
 pub mod Marks
 pub mod Numbers
 pub mod Parts
+pub mod SameKind

@@ -8,7 +8,6 @@ pub mod Skipping
 pub mod NextToken
 -- the kinds of tokens, and the test whether two are the same
 pub mod Kinds
-pub mod SameKind
 -- how a text is printed as a string
 pub mod Printing
 -- the longest token at the beginning of bytes

@@ -1,11 +1,11 @@
 -- For whoever builds trees: values among more trees, at a place, and at a push.
-use Rattle.std.proofs.Common.{◌≡◌, ℕ, zero, suc, ◌+◌, ◌-◌, ◌<◌, ◌≤◌, List, [], ◌∷◌, ◌++◌, Option, Some, length, drop, All, get_or, refl, sym, ap, subst, ◌∙◌, arith, length-append}
+use Rattle.std.proofs.Common.{◌≡◌, ℕ, zero, suc, ◌+◌, ◌-◌, ◌<◌, ◌≤◌, List, [], ◌∷◌, ◌++◌, Option, Some, None, length, drop, All, get_or, refl, sym, ap, subst, ◌∙◌, arith, length-append}
 use Rattle.std.specs.Prelude.{slice_get}
 use Rattle.std.specs.Option.{option_map}
 use Rattle.std.proofs.lemmas.List.{drop-append-le}
 use Rattle.std.proofs.Math.Seq.{get_or-append_seam}
 use Rattle.std.proofs.Math.ListN.{get_or-append}
-use Rattle.wb_values.specs.Tree.{Tree, node, empty, value_at}
+use Rattle.wb_values.specs.Tree.{Tree, node, empty}
 use Rattle.wb_values.specs.Tree as v
 use Rattle.wb_values.specs.Tree.{Values}
 use Rattle.wb_values.specs.Signature.{Signature}
@@ -15,6 +15,12 @@ use Rattle.wb_values.specs.declared.value.Value.{Value}
 use Rattle.wb_values.specs.declared.value.Value.TheVariants.{Int, Bool, Text, Tree as Stored}
 use Rattle.wb_values.specs.ValuesIn.{tree_in, value_in, values_in, last, IsIn}
 use Rattle.wb_values.proofs.Grown.{value-stable, values-stable}
+
+-- the value at a place, from 0 on
+abbrev pub value_at : Values → ℕ → Option v.Value
+value_at v.empty k = None
+value_at (v.more x xs) zero = Some x
+value_at (v.more x xs) (suc k) = value_at xs k
 
 -- a value among the first trees is among more
 pub is_in_more : (m n : ℕ) (x : Value) → m ≤ n → IsIn m x → IsIn n x

@@ -1,5 +1,5 @@
 -- Trees and values, as mathematical objects.
-use Rattle.std.specs.Prelude.{ℕ, zero, suc, ℤ, Bool, List, Option, Some, None}
+use Rattle.std.specs.Prelude.{ℕ, ℤ, Bool, List}
 
 -- a plain value: a number, a truth value or a text
 pub data Plain : Type 0 where
@@ -27,9 +27,3 @@ production_of (node p vs) = p
 -- the values directly below the top of a tree
 abbrev pub children_of : Tree → Values
 children_of (node p vs) = vs
-
--- the value at a place, from 0 on
-abbrev pub value_at : Values → ℕ → Option Value
-value_at empty k = None
-value_at (more v vs) zero = Some v
-value_at (more v vs) (suc k) = value_at vs k

@@ -2,7 +2,7 @@
 use Rattle.std.specs.Prelude.{ℕ, List, Bool, refl}
 use Rattle.std.specs.Coded.{Coded, code_by, coded×, coded_list, coded_ℕ, coded_bool}
 use Rattle.wb_regex.specs.Tree.{Tree}
-use Rattle.wb_regex.specs.TreeCode.{coded_tree}
+use Rattle.wb_regex.specs.Inner.TreeCode.{coded_tree}
 use Rattle.wb_automata.specs.Automata.{AutomatonView, Path}
 
 abbrev coded_path : Coded Path

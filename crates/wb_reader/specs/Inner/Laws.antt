@@ -3,7 +3,7 @@ use Rattle.std.proofs.Common.{◌≡◌, true, refl}
 use Rattle.wb_predictive.specs.Entries.{is_decided}
 use Rattle.wb_predictive.specs.Kinds.{is_member}
 use Rattle.wb_tokens.specs.declared.kind.TokenKind.TheVariants.{End}
-use Rattle.wb_tokens.specs.SameKind.{same_kind}
+use Rattle.wb_tokens.specs.Inner.SameKind.{same_kind}
 use Rattle.wb_reader.specs.declared.part.Part.{Part}
 use Rattle.wb_reader.specs.Inner.Entries.{spec_entries}
 use Rattle.wb_reader.specs.Inner.Rights.{spec_rights}

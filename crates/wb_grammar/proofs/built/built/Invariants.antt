@@ -1,6 +1,6 @@
 use Rattle.std.proofs.Common.{◌≡◌, ◌-◌, length}
 use Rattle.wb_termset.specs.Sets.{members}
-use Rattle.wb_grammar.specs.Built.{AreBuilt}
+use Rattle.wb_grammar.specs.Inner.Built.{AreBuilt}
 use Rattle.wb_grammar.proofs.built.built.Given as goal
 
 abbrev pub invariant-rounds : goal.invariant-rounds

@@ -1,5 +1,5 @@
 use Rattle.std.proofs.Common.{◌≡◌, ◌++◌, drop}
-use Rattle.wb_grammar.specs.Edges.{edges_of}
+use Rattle.wb_grammar.specs.Inner.Edges.{edges_of}
 use Rattle.wb_grammar.proofs.edges.add_edges.Given as goal
 
 abbrev pub invariant-symbols : goal.invariant-symbols

@@ -1,5 +1,5 @@
 use Rattle.wb_grammar.specs.Facts.{AreSets}
-use Rattle.wb_grammar.specs.Firsts.{AreFirsts}
+use Rattle.wb_grammar.specs.Inner.Firsts.{AreFirsts}
 use Rattle.wb_grammar.proofs.FirstLemmas.{room}
 use Rattle.wb_grammar.proofs.first.first_of_all.Given as goal
 

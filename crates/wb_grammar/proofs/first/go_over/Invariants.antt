@@ -1,5 +1,5 @@
 use Rattle.wb_grammar.specs.Facts.{AreSets}
-use Rattle.wb_grammar.specs.Firsts.{AreFirsts, SetsWithin}
+use Rattle.wb_grammar.specs.Inner.Firsts.{AreFirsts, SetsWithin}
 use Rattle.wb_grammar.proofs.first.go_over.Given as goal
 
 abbrev pub invariant-order : goal.invariant-order

@@ -1,6 +1,6 @@
 use Rattle.std.proofs.Common.{sym, subst}
 use Rattle.wb_grammar.specs.declared.part.Part.TheVariants.{Corner, Hidden}
-use Rattle.wb_grammar.specs.Edges.{AreEdges}
+use Rattle.wb_grammar.specs.Inner.Edges.{AreEdges}
 use Rattle.wb_grammar.proofs.HiddenTestLemmas.{no_hidden, path_cycle, hidden_corners}
 use Rattle.wb_grammar.proofs.hidden.test_hidden_left_recursion.Goals as goal
 

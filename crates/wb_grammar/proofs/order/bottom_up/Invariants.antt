@@ -1,5 +1,5 @@
 use Rattle.std.proofs.Common.{length}
-use Rattle.wb_grammar.specs.Order.{IsWalk}
+use Rattle.wb_grammar.specs.Inner.Order.{IsWalk}
 use Rattle.wb_grammar.proofs.order.bottom_up.Given as goal
 
 abbrev pub invariant-steps : goal.invariant-steps

@@ -1,6 +1,6 @@
 use Rattle.std.proofs.Common.{◌+◌, ◌-◌, false, arith, subst, sym}
 use Rattle.std.specs.Prelude.{All}
-use Rattle.wb_grammar.specs.Built.{Holds}
+use Rattle.wb_grammar.specs.Inner.Built.{Holds}
 use Rattle.wb_grammar.proofs.PartLemmas.{alone_whole, alone_one, alone_none, rest_of}
 use Rattle.wb_grammar.proofs.part.alone.Goals as goal
 

@@ -1,5 +1,5 @@
 use Rattle.std.proofs.Common.{◌≡◌, ◌-◌, ◌^◌, length}
-use Rattle.wb_grammar.specs.Paths.{IsTrail}
+use Rattle.wb_grammar.specs.Inner.Paths.{IsTrail}
 use Rattle.wb_grammar.proofs.paths.path.Given as goal
 
 abbrev pub invariant-sweeps : goal.invariant-sweeps

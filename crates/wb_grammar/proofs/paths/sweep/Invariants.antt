@@ -1,5 +1,5 @@
 use Rattle.std.proofs.Common.{◌≡◌, ◌<◌, ◌≤◌, ℕ, true, false, length}
-use Rattle.wb_grammar.specs.Paths.{IsTrail}
+use Rattle.wb_grammar.specs.Inner.Paths.{IsTrail}
 use Rattle.wb_grammar.proofs.SweepLemmas.{ClosedBefore}
 use Rattle.wb_grammar.proofs.paths.sweep.Given as goal
 

@@ -1,6 +1,6 @@
 use Rattle.std.proofs.Common.{sym, subst}
 use Rattle.wb_grammar.specs.declared.part.Part.TheVariants.{Whole}
-use Rattle.wb_grammar.specs.Edges.{AreEdges}
+use Rattle.wb_grammar.specs.Inner.Edges.{AreEdges}
 use Rattle.wb_grammar.proofs.ReducedLemmas.{unreachable_found}
 use Rattle.wb_grammar.proofs.reduced.unreachable_in.Goals as goal
 

@@ -1,6 +1,6 @@
 use Rattle.std.specs.Prelude.{◌<◌}
 use Rattle.wb_termset.specs.Sets.{IsMember}
-use Rattle.wb_lookahead.specs.Rows.{Puts}
+use Rattle.wb_lookahead.specs.Inner.Rows.{Puts}
 use Rattle.wb_lookahead.proofs.cells.put_all.Given as goal
 
 abbrev pub invariant-terminals : goal.invariant-terminals

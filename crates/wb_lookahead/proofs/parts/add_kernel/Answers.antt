@@ -1,6 +1,6 @@
 use Rattle.std.proofs.Common.{◌≡◌, map, sym, ◌∙◌, ap, subst}
 use Rattle.wb_lookahead.specs.Codes.{action_at}
-use Rattle.wb_lookahead.specs.Rows.{AreGotos, IsRowOf}
+use Rattle.wb_lookahead.specs.Inner.Rows.{AreGotos, IsRowOf}
 use Rattle.wb_lookahead.proofs.PartLemmas.{parts_more}
 use Rattle.wb_lookahead.proofs.RowLemmas.{row_valid}
 use Rattle.wb_lookahead.proofs.parts.add_kernel.Goals as goal

@@ -1,4 +1,4 @@
-use Rattle.wb_lookahead.specs.Parts.{ArePartsUpTo}
+use Rattle.wb_lookahead.specs.Inner.Parts.{ArePartsUpTo}
 use Rattle.wb_lookahead.proofs.parts.parts_of.Given as goal
 
 abbrev pub invariant-kernels : goal.invariant-kernels

@@ -1,4 +1,4 @@
-use Rattle.wb_lookahead.specs.Rows.{RowUpTo}
+use Rattle.wb_lookahead.specs.Inner.Rows.{RowUpTo}
 use Rattle.wb_lookahead.proofs.rows.actions_at.Given as goal
 
 abbrev pub invariant-items : goal.invariant-items

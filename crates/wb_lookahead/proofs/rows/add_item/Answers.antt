@@ -8,7 +8,7 @@ use Rattle.wb_grammars.specs.Lookaheads.{IsLookahead}
 use Rattle.wb_items.specs.Kernels.{LeadsTo, prefix_of}
 use Rattle.wb_lookahead.specs.declared.action.Action.TheVariants.{Shift}
 use Rattle.wb_lookahead.specs.Tables.{IsTableRefusal, Stands}
-use Rattle.wb_lookahead.specs.Rows.{IsClash, IsReduction}
+use Rattle.wb_lookahead.specs.Inner.Rows.{IsClash, IsReduction}
 use Rattle.wb_lookahead.proofs.RowLemmas.{adds_none, clash_refused, complete_asks, complete_stands, nothing_asked, puts_adds, shift_asks}
 use Rattle.wb_grammars.proofs.ShiftLemmas.{valid_production}
 use Rattle.wb_lookahead.proofs.StepLemmas.{row_has}

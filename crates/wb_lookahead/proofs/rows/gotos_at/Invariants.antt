@@ -1,4 +1,4 @@
-use Rattle.wb_lookahead.specs.Rows.{AreGotos}
+use Rattle.wb_lookahead.specs.Inner.Rows.{AreGotos}
 use Rattle.wb_lookahead.proofs.rows.gotos_at.Given as goal
 
 abbrev pub invariant-nonterminals : goal.invariant-nonterminals

@@ -1,6 +1,6 @@
 use Rattle.std.proofs.Common.{reverse, subst}
 use Rattle.wb_predictive.specs.declared.machine.Top.TheVariants.{Token, Bottom, Stuck}
-use Rattle.wb_predictive.specs.Machine.{TopIs}
+use Rattle.wb_predictive.specs.Inner.Machine.{TopIs}
 use Rattle.wb_predictive.proofs.Stacks.{token_at_end, finished, none_ends}
 use Rattle.wb_predictive.proofs.machine.finish.Goals as goal
 

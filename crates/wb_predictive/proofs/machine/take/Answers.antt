@@ -1,7 +1,7 @@
 use Rattle.std.proofs.Common.{◌≡◌, [], ◌∷◌, ◌++◌, reverse, sym, ◌∙◌, subst}
 use Rattle.wb_predictive.specs.declared.machine.Top.TheVariants.{Token, Bottom, Stuck}
-use Rattle.wb_predictive.specs.Stack.{Stands, Any}
-use Rattle.wb_predictive.specs.Machine.{TopIs}
+use Rattle.wb_predictive.specs.Inner.Stack.{Stands, Any}
+use Rattle.wb_predictive.specs.Inner.Machine.{TopIs}
 use Rattle.wb_predictive.proofs.Stacks.{takes, other_token, none_starts, nothing_follows}
 use Rattle.wb_predictive.proofs.machine.take.Goals as goal
 

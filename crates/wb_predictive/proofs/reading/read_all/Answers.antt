@@ -1,8 +1,8 @@
 use Rattle.std.proofs.Common.{[], ◌∷◌, ◌++◌, length, reverse, refl, sym, ap, ◌∙◌, subst, arith}
 use Rattle.wb_predictive.specs.declared.symbol.Symbol.TheVariants.{Nonterminal}
 use Rattle.wb_predictive.specs.Reading.{Spells, none}
-use Rattle.wb_predictive.specs.Stack.{Stands, Any}
-use Rattle.wb_predictive.specs.Steps.{StepIs, GoesOn}
+use Rattle.wb_predictive.specs.Inner.Stack.{Stands, Any}
+use Rattle.wb_predictive.specs.Inner.Steps.{StepIs, GoesOn}
 use Rattle.wb_predictive.proofs.Stacks.{stands_first, can_go_on}
 use Rattle.wb_predictive.specs.declared.reading.Outcome.TheVariants.{Whole, Stopped}
 use Rattle.wb_predictive.proofs.CallerLemmas.{one_outcome}

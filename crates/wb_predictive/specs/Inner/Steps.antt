@@ -8,7 +8,7 @@ use Rattle.wb_predictive.specs.declared.reading.Step.{Step}
 use Rattle.wb_predictive.specs.declared.reading.Step.TheVariants.{Went, Done, Stuck}
 use Rattle.wb_predictive.specs.Grammar.{Grammar, IsText}
 use Rattle.wb_predictive.specs.Entries.{Entry}
-use Rattle.wb_predictive.specs.Stack.{Stands, Any}
+use Rattle.wb_predictive.specs.Inner.Stack.{Stands, Any}
 use Rattle.wb_predictive.specs.Reading.{CannotFollow, place_of}
 
 -- a token stood next behind the place and was taken, or the end stood there and the tokens are a text, or what stood there can't follow them

@@ -4,7 +4,7 @@ use Rattle.wb_base.specs.declared.symbol.Symbol.{Symbol}
 use Rattle.wb_base.specs.declared.symbol.Symbol.TheVariants.{Terminal, Nonterminal}
 use Rattle.wb_base.specs.Grammar.{GrammarView}
 use Rattle.wb_grammars.specs.Productions.{IsProduction}
-use Rattle.wb_grammar.specs.Built.{Holds}
+use Rattle.wb_grammar.specs.Inner.Built.{Holds}
 use Rattle.wb_grammar.specs.declared.part.Part.{Part}
 use Rattle.wb_grammar.specs.declared.part.Part.TheVariants.{Whole, Corner, Hidden, Alone}
 

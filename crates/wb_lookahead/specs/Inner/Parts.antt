@@ -1,17 +1,11 @@
 -- Tables in the making: what was made for the first kernels.
-use Rattle.std.specs.Prelude.{◌≡◌, ◌<◌, ◌+◌, ℕ, [], length, map, slice_index_or}
+use Rattle.std.specs.Prelude.{◌≡◌, ◌<◌, ℕ, [], length, map, slice_index_or}
 use Rattle.wb_items.specs.Kernels.{KernelsView}
 use Rattle.wb_lookahead.specs.declared.parts.Parts.{Parts}
 use Rattle.wb_lookahead.specs.Codes.{action_at}
-use Rattle.wb_lookahead.specs.Grids.{GridView}
-use Rattle.wb_lookahead.specs.Rows.{AreGotos, IsRowOf}
+use Rattle.wb_lookahead.specs.Grids.{AreGrids}
+use Rattle.wb_lookahead.specs.Inner.Rows.{AreGotos, IsRowOf}
 use Rattle.wb_lookahead.specs.Tables.{IsValidSet}
-
--- both grids have this many rows, the one with room for the terminals and the end of a text
-pub record AreGrids (terminals : ℕ) (actions gotos : GridView) (n : ℕ) : Type 0 where
-  pub width : actions.width ≡ terminals + 1
-  pub actions_len : length actions.rows ≡ n
-  pub gotos_len : length gotos.rows ≡ n
 
 -- the parts are those of the first so many kernels
 pub record ArePartsUpTo (kernels : KernelsView) (parts : Parts) (n : ℕ) : Type 0 where

@@ -1,0 +1,7 @@
+-- What loops keep, and words of private functions.
+pub mod Built
+pub mod Edges
+pub mod Firsts
+pub mod Order
+pub mod Paths
+pub mod Together
