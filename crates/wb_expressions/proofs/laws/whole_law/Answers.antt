@@ -3,4 +3,4 @@ use Rattle.wb_expressions.proofs.PartLemmas.{whole_some, whole_has_parts_before}
 use Rattle.wb_expressions.proofs.laws.whole_law.Goals as goal
 
 pub returns : goal.returns
-returns c = record { some = whole_some; parts = whole_has_parts_before; only = one_expression }
+returns c start = record { some = whole_some; parts = whole_has_parts_before; only = one_expression }
