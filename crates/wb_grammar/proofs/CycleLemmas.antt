@@ -65,9 +65,9 @@ place_of list v (i, lt, is) = (i, slice_get-get_or list i v lt ∙ ap Some is)
 
 -- along a walk places fall
 walk_falls : (g : GrammarView) (s : List Bool) → IsNullableSet g s → (count : ℕ) (edges : List Edge) (order : List ℕ) → AreEdges Alone g s edges → IsOrder count edges order → {a b : ℕ} → Walk (IsUnitProduction g) a b → (i : ℕ) → slice_get order i ≡ Some a → (j : ℕ) × (j < i) × (slice_get order j ≡ Some b)
-walk_falls g s set count edges order are is (one {a} {b} u) i at = is.behind a b i ((are a b).1 (unit_edge g s set a b u)) at
+walk_falls g s set count edges order are is (one {a} {b} u) i at = is.after a b i ((are a b).1 (unit_edge g s set a b u)) at
 walk_falls g s set count edges order are is (more {a} {b} {c} u w) i at =
-    let (j, lt, at_b) = is.behind a b i ((are a b).1 (unit_edge g s set a b u)) at in
+    let (j, lt, at_b) = is.after a b i ((are a b).1 (unit_edge g s set a b u)) at in
     let (k, lt', at_c) = walk_falls g s set count edges order are is w j at_b in
     (k, omega arith, at_c)
 

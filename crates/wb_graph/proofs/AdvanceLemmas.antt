@@ -6,7 +6,7 @@ use Rattle.wb_graph.specs.Graphs.{Edge, IsEdge}
 use Rattle.wb_graph.specs.Inner.Search.{State, IsSearch, KeepsMet, Advances, ClosesPath}
 use Rattle.wb_graph.specs.Inner.Taking.{IsLinked, Takes}
 use Rattle.wb_graph.specs.declared.search.Colour.TheVariants.{White, Grey, Black}
-use Rattle.wb_lemmas.proofs.Places.{push_last}
+use Rattle.wb_lemmas.proofs.Places.{push_last, nothing_at}
 use Rattle.wb_graph.proofs.Places.{at_set_same}
 use Rattle.wb_graph.proofs.LeaveLemmas.{left}
 use Rattle.wb_graph.proofs.SearchLemmas.{before, retrailed, retaken, took, passed, entered, closes}
@@ -68,7 +68,7 @@ pub begins : (edges : List Edge) (s new : State) (v : ℕ) → s.path ≡ [] →
 begins edges s new v empty h white is =
     let within : v < length s.colours = slice_get_within s.colours v White white in
     subst (λ (n : State). IsSearch edges n.path n × KeepsMet s n × (¬ (slice_get n.colours v ≡ Some White))) (sym is) (
-      entered edges s v white (λ u at. nowhere u (subst (λ path. slice_get path (length path - 1) ≡ Some u) empty at))
+      entered edges s v white (λ u at. absurd (nothing_at u (length {A = ℕ} [] - 1) (subst (λ path. slice_get path (length path - 1) ≡ Some u) empty at)))
           (retrailed edges s [] (s.path ++ v ∷ []) empty h),
       record {
         len = length-set s.colours v Grey;
@@ -77,8 +77,5 @@ begins edges s new v empty h white is =
       λ at. grey_white (sym (at_set_same s.colours v Grey within) ∙ at),
     )
   where
-    nowhere : (u : ℕ) → slice_get [] (length {A = ℕ} [] - 1) ≡ Some u → IsEdge edges u v
-    nowhere u at = cc
-
     grey_white : Some Grey ≡ Some White → ⊥
     grey_white e = cc

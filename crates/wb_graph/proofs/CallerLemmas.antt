@@ -7,7 +7,7 @@ use Rattle.wb_graph.specs.Orders.{IsOrder, IsCycle}
 use Rattle.wb_lemmas.proofs.Members.{place_of}
 use Rattle.wb_graph.proofs.TakingLemmas.{edge_below}
 
--- two walks, the one behind the other, are a walk
+-- two walks, the one after the other, are a walk
 pub walk_on : (edges : List Edge) (u v w : ℕ) → Walk edges u v → Walk edges v w → Walk edges u w
 walk_on edges u v w first (stay _ is) = subst (Walk edges u) is first
 walk_on edges u v w first (step t _ before edge) = step t w (walk_on edges u v t first before) edge
@@ -40,7 +40,7 @@ module _ (count : ℕ) (edges : List Edge) (order cycle : List ℕ) (below : All
       let next : suc k ≡ k + 1 = omega arith in
       let edge = c.next k t v before (subst (λ n. slice_get cycle n ≡ Some v) next here) in
       let (m, at_m) = place_in t v edge in
-      let (n, lower, at_n) = h.behind t v m edge at_m in
+      let (n, lower, at_n) = h.after t v m edge at_m in
       let same : n ≡ i = h.once v n i at_n at in
       omega (arith, falls k first t m j begin at_first before at_m)
 
@@ -55,5 +55,5 @@ module _ (count : ℕ) (edges : List Edge) (order cycle : List ℕ) (below : All
       let finish = slice_get-get_or cycle (length cycle - 1) 0 less in
       let edge = c.closes last first finish begin in
       let (m, at_m) = place_in last first edge in
-      let (j, lower, at_j) = h.behind last first m edge at_m in
+      let (j, lower, at_j) = h.after last first m edge at_m in
       absurd (omega (arith, lower, falls (length cycle - 1) first last m j begin at_j finish at_m))

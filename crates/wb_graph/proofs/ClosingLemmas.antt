@@ -1,16 +1,17 @@
 -- A vertex of which no edge is left goes off the path, and a group that begins with it is a component.
-use Rattle.std.proofs.Common.{◌≡◌, ◌≢◌, ◌<◌, ◌≤◌, ◌+◌, ◌-◌, ◌⊎◌, ◌++◌, ◌∷◌, [], ℕ, List, Option, Some, None, All, Contains, length, get_or, slice_get, take, drop, inl, inr, refl, sym, ◌∙◌, ap, subst, arith, length-append}
+use Rattle.std.proofs.Common.{◌≡◌, ◌<◌, ◌≤◌, ◌+◌, ◌-◌, ◌⊎◌, ◌++◌, ◌∷◌, [], ℕ, List, Some, None, Contains, length, get_or, slice_get, take, drop, inl, inr, sym, ◌∙◌, ap, subst, arith, length-append}
 use Rattle.std.proofs.lemmas.Bool.{cases_eq, cases_lt}
 use Rattle.std.proofs.lemmas.Grind.{common_steps}
 use Rattle.std.proofs.lemmas.Option.{slice_get_within, same_Some, gets}
-use Rattle.wb_lemmas.proofs.Members.{contains_at, place_of}
+use Rattle.wb_lemmas.proofs.Members.{contains_at, place_of, contains_push, push_contains, push_contains_last}
 use Rattle.wb_lemmas.proofs.Places.{at_push, push_keeps, push_last, at_take, at_drop}
 use Rattle.wb_graph.specs.Graphs.{Edge, IsEdge, Walk}
-use Rattle.wb_graph.specs.Inner.Groups.{State, IsOpen, IsClosed, IsOnPath, AreGrouped, LeadsOn, AreMarked, IsPath, AreWalks, AreClosed, IsGrouping, Closes}
+use Rattle.wb_graph.specs.Inner.Groups.{State, IsOpen, IsClosed, IsGrouping, Closes}
 use Rattle.wb_graph.specs.Inner.Taking.{IsTaken}
 use Rattle.wb_graph.specs.declared.groups.Mark.{Mark}
 use Rattle.wb_graph.specs.declared.groups.Mark.TheVariants.{New, Open, Closed}
-use Rattle.wb_graph.proofs.GroupLemmas.{one_place, starts_low, take_at, open-new, open-closed, new-closed, open_place, closed_number, start_push, start_kept, start_last}
+use Rattle.wb_graph.proofs.GroupLemmas.{one_place, starts_low, open-closed, closed_number}
+use Rattle.wb_graph.proofs.Places.{take_keeps}
 
 -- what is at a place is there after an earlier part is dropped
 drop_at : (xs : List ℕ) (n k p : ℕ) → n ≤ k → slice_get xs k ≡ Some p → slice_get (drop n xs) (k - n) ≡ Some p
@@ -103,15 +104,15 @@ module _ (edges : List Edge) (s : State) (h : IsGrouping edges None s) (rest : L
 
     -- the start is one
     has_start : Contains s.starts start
-    has_start = subst (λ xs. Contains xs start) (sym is_starts) (start_last starts start)
+    has_start = subst (λ xs. Contains xs start) (sym is_starts) (push_contains_last starts start)
 
     -- a start that is kept was one
     was_start : (p : ℕ) → Contains starts p → Contains s.starts p
-    was_start p has = subst (λ xs. Contains xs p) (sym is_starts) (start_kept starts start p has)
+    was_start p has = subst (λ xs. Contains xs p) (sym is_starts) (push_contains starts start p has)
 
     -- a start is kept, or the one of the group
     start_is : (p : ℕ) → Contains s.starts p → Contains starts p ⊎ (p ≡ start)
-    start_is p has = start_push starts start p (subst (λ xs. Contains xs p) is_starts has)
+    start_is p has = elim (contains_push starts start p (subst (λ xs. Contains xs p) is_starts has)) [ inl kept ↦ inl kept | inr is ↦ inr (sym is) ]
 
     -- a start that is kept is before
     start_before : (p : ℕ) → Contains starts p → p < start
@@ -130,7 +131,7 @@ module _ (edges : List Edge) (s : State) (h : IsGrouping edges None s) (rest : L
 
     -- what was open before the start is open
     still_open : (v j : ℕ) → j < start → IsOpen s v j → IsOpen after v j
-    still_open v j less at = take_at s.opened start j v less at
+    still_open v j less at = take_keeps s.opened start j v less at
 
     -- what was open from the start on is in the group
     in_group : (v j : ℕ) → start ≤ j → IsOpen s v j → Contains (drop start s.opened) v

@@ -1,10 +1,10 @@
 -- A search that has met every vertex, with none on its path, has closed the strongly connected components.
-use Rattle.std.proofs.Common.{◌≡◌, ◌<◌, ◌≤◌, [], ℕ, List, Some, None, All, length, get_or, slice_get, inl, inr, refl, sym, ◌∙◌, ap, subst, arith}
-use Rattle.std.proofs.lemmas.Option.{slice_get_within, slice_get-get_or, same_Some}
+use Rattle.std.proofs.Common.{◌≡◌, ◌<◌, ◌≤◌, [], ℕ, List, Some, None, All, length, slice_get, sym, ◌∙◌, ap, subst, arith}
+use Rattle.std.proofs.lemmas.Option.{slice_get_within}
 use Rattle.wb_lemmas.proofs.Elements.{all_from_places}
 use Rattle.wb_lemmas.proofs.Places.{at_within}
 use Rattle.wb_graph.specs.Components.{AreComponents}
-use Rattle.wb_graph.specs.Graphs.{Edge, IsEdge, Walk, stay, step}
+use Rattle.wb_graph.specs.Graphs.{Edge, Walk, stay, step}
 use Rattle.wb_graph.specs.Inner.Groups.{State, IsClosed, IsGrouping, IsClosedMark, AreNumbers}
 use Rattle.wb_graph.specs.declared.groups.Mark.{Mark}
 use Rattle.wb_graph.specs.declared.groups.Mark.TheVariants.{New, Open, Closed}

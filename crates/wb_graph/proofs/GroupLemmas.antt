@@ -1,18 +1,17 @@
 -- Each step of the search for components keeps what the search stands for.
-use Rattle.std.proofs.Common.{◌≡◌, ◌≢◌, ◌<◌, ◌≤◌, ◌+◌, ◌-◌, ◌⊎◌, ◌++◌, ◌∷◌, [], ℕ, List, Option, Some, None, All, Contains, length, replicate, get_or, set, slice_get, take, drop, inl, inr, refl, sym, ◌∙◌, ap, subst, arith, length-set, length-append}
+use Rattle.std.proofs.Common.{◌≡◌, ◌≢◌, ◌<◌, ◌≤◌, ◌-◌, ◌⊎◌, ◌++◌, ◌∷◌, [], ℕ, List, Option, Some, None, All, Contains, length, replicate, get_or, set, slice_get, take, inl, inr, sym, ◌∙◌, ap, subst, arith, length-set, length-append}
 use Rattle.std.proofs.lemmas.Bool.{cases_eq, cases_lt}
-use Rattle.std.proofs.lemmas.Grind.{common_steps}
 use Rattle.std.proofs.lemmas.List.{length-replicate, get_or-replicate}
-use Rattle.std.proofs.lemmas.Option.{slice_get_within, get_or_from_slice_get, same_Some, gets}
-use Rattle.wb_lemmas.proofs.Members.{contains_at, place_of}
-use Rattle.wb_lemmas.proofs.Places.{at_once, at_push, push_keeps, push_last, at_take, at_drop}
+use Rattle.std.proofs.lemmas.Option.{slice_get_within, get_or_from_slice_get, same_Some}
+use Rattle.wb_lemmas.proofs.Members.{contains_at, place_of, contains_push, push_contains, push_contains_last}
+use Rattle.wb_lemmas.proofs.Places.{at_push, push_keeps, push_last, at_take}
 use Rattle.wb_graph.specs.Graphs.{Edge, IsEdge, IsEdgeBelow, Walk, stay, step}
-use Rattle.wb_graph.specs.Inner.Groups.{State, IsOpen, IsClosed, IsOnPath, AreGrouped, LeadsOn, AreMarked, IsPath, AreWalks, AreClosed, IsGrouping, entered, AreKept, Closes}
+use Rattle.wb_graph.specs.Inner.Groups.{State, IsOpen, IsClosed, LeadsOn, AreMarked, IsPath, IsGrouping, entered, AreKept}
 use Rattle.wb_graph.specs.Inner.Taking.{IsLinked, IsTaken, NothingTaken, Takes}
 use Rattle.wb_graph.specs.declared.groups.Mark.{Mark}
 use Rattle.wb_graph.specs.declared.groups.Mark.TheVariants.{New, Open, Closed}
 use Rattle.wb_graph.proofs.CallerLemmas.{walk_on}
-use Rattle.wb_graph.proofs.Places.{at_set_same, at_set_other}
+use Rattle.wb_graph.proofs.Places.{at_set_same, at_set_other, take_keeps}
 use Rattle.wb_graph.proofs.SearchLemmas.{taken_along}
 
 -- no edge was just taken
@@ -42,27 +41,6 @@ open_place i j same = cc
 -- a closed mark has one number
 pub closed_number : (a b : ℕ) → Some (Closed a) ≡ Some (Closed b) → a ≡ b
 closed_number a b same = cc
-
--- a start is one that was there, or the one that was pushed
-pub start_push : (starts : List ℕ) (n p : ℕ) → Contains (starts ++ n ∷ []) p → Contains starts p ⊎ (p ≡ n)
-start_push starts n p has =
-    let (k, at) = place_of (starts ++ n ∷ []) p has in
-    elim (at_push starts n p k at) [
-      | inl before ↦ inl (contains_at starts p k before)
-      | inr last ↦ inr (sym last.1)
-    ]
-
--- a start that was there is still there after a push
-pub start_kept : (starts : List ℕ) (n p : ℕ) → Contains starts p → Contains (starts ++ n ∷ []) p
-start_kept starts n p has = let (k, at) = place_of starts p has in contains_at (starts ++ n ∷ []) p k (push_keeps starts n k p at)
-
--- a start that was pushed is there
-pub start_last : (starts : List ℕ) (n : ℕ) → Contains (starts ++ n ∷ []) n
-start_last starts n = contains_at (starts ++ n ∷ []) n (length starts) (push_last starts n)
-
--- what is at a place is there after a later cut
-pub take_at : (xs : List ℕ) (n k p : ℕ) → k < n → slice_get xs k ≡ Some p → slice_get (take n xs) k ≡ Some p
-take_at xs n k p less at = grind (arith, gets, common_steps)
 
 module _ (edges : List Edge) where
   -- a search begins with every vertex new
@@ -255,8 +233,8 @@ module _ (edges : List Edge) where
               | inr differs ↦ push_keeps s.opened w i v (h.marked.marked_open v i (sym (at_set_other s.marks w v (Open n) differs) ∙ at))
             ];
             grouped = λ v i at. elim (at_push s.opened w v i at) [
-              | inl before ↦ (let (p, has, low) = h.marked.grouped v i before in (p, start_kept s.starts n p has, low))
-              | inr last ↦ (n, start_last s.starts n, omega (arith, last.0))
+              | inl before ↦ (let (p, has, low) = h.marked.grouped v i before in (p, push_contains s.starts n p has, low))
+              | inr last ↦ (n, push_contains_last s.starts n, omega (arith, last.0))
             ];
           };
           on_path = record {
@@ -283,11 +261,11 @@ module _ (edges : List Edge) where
                   let past : l < length (s.path ++ w ∷ []) = slice_get_within (s.path ++ w ∷ []) l v at' in
                   absurd (omega (arith, last.0, length-append s.path (w ∷ [])))
             ];
-            begun = λ p has. elim (start_push s.starts n p has) [
+            begun = λ p has. elim (contains_push s.starts n p has) [
               | inl before ↦
                   let (v, there, (k, on)) = h.on_path.begun p before in
                   (v, push_keeps s.opened w p v there, (k, push_keeps s.path w k v on))
-              | inr is ↦ (w, ap (slice_get (s.opened ++ w ∷ [])) is ∙ push_last s.opened w, (length s.path, push_last s.path w))
+              | inr is ↦ (w, ap (slice_get (s.opened ++ w ∷ [])) (sym is) ∙ push_last s.opened w, (length s.path, push_last s.path w))
             ];
             starts_rise = λ p q k l less at at'. elim (at_push s.starts n p k at) [
               | inl before ↦ elim (at_push s.starts n q l at') [
@@ -319,13 +297,13 @@ module _ (edges : List Edge) where
             ];
             back = λ u v i j less at at' grouped. elim (at_push s.opened w v j at') [
               | inl before' ↦ elim (at_push s.opened w u i at) [
-                | inl before ↦ h.walks.back u v i j less before before' (λ p has. grouped p (start_kept s.starts n p has))
+                | inl before ↦ h.walks.back u v i j less before before' (λ p has. grouped p (push_contains s.starts n p has))
                 | inr last ↦ (let low : j < n = slice_get_within s.opened j v before' in absurd (omega (arith, last.0)))
               ]
               | inr last' ↦ elim (at_push s.opened w u i at) [
                 | inl before ↦
                     let low : i < n = slice_get_within s.opened i u before in
-                    let never : j < n = grouped n (start_last s.starts n) low in
+                    let never : j < n = grouped n (push_contains_last s.starts n) low in
                     absurd (omega (arith, last'.0))
                 | inr last ↦ stay u (sym last'.1 ∙ last.1)
               ]
@@ -346,7 +324,7 @@ module _ (edges : List Edge) where
                 | inr there ↦ inr (
                   there.0,
                   push_keeps s.opened w there.0 v there.1,
-                  λ p has more. elim (start_push s.starts n p has) [
+                  λ p has more. elim (contains_push s.starts n p has) [
                     | inl old ↦ there.2 p old more
                     | inr is ↦ (let low : i < n = slice_get_within s.opened i u before in omega arith)
                   ],
@@ -357,7 +335,7 @@ module _ (edges : List Edge) where
                   inl (inr (
                     n,
                     push_last s.opened w ∙ ap Some (sym same),
-                    λ p has more. elim (start_push s.starts n p has) [
+                    λ p has more. elim (contains_push s.starts n p has) [
                       | inl old ↦ (let low : p < n = start_within p old in absurd (omega arith))
                       | inr e ↦ absurd (omega arith)
                     ],
@@ -483,7 +461,7 @@ module _ (edges : List Edge) where
         keep p has low =
             let (k, on) = place_of s.starts p has in
             elim (cases_lt k n) [
-              | inl less ↦ contains_at (take n s.starts) p k (take_at s.starts n k p less on)
+              | inl less ↦ contains_at (take n s.starts) p k (take_keeps s.starts n k p less on)
               | inr more ↦ (let high : j < p = keeps.high k p on (omega arith) in absurd (omega arith))
             ]
 

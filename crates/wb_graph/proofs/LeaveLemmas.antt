@@ -37,7 +37,7 @@ module _ (edges : List Edge) (s : State) where
             (i, push_keeps s.finished v i u at')
       ];
       once = λ u i j at at'. once u i j (at_push s.finished v u i at) (at_push s.finished v u j at');
-      behind = λ u w i edge at. behind u w i edge (at_push s.finished v u i at);
+      after = λ u w i edge at. comes_after u w i edge (at_push s.finished v u i at);
     };
   }
     where
@@ -103,10 +103,10 @@ module _ (edges : List Edge) (s : State) where
           let past : length front + 1 < length s.path = slice_get_within s.path (length front + 1) w next in
           absurd (omega (arith, ap length e, length-append front (v ∷ [])))
 
-      behind : (u w i : ℕ) → IsEdge edges u w → (slice_get s.finished i ≡ Some u) ⊎ ((i ≡ length s.finished) × (v ≡ u)) → (j : ℕ) ×
+      comes_after : (u w i : ℕ) → IsEdge edges u w → (slice_get s.finished i ≡ Some u) ⊎ ((i ≡ length s.finished) × (v ≡ u)) → (j : ℕ) ×
           (j < i) × (slice_get (s.finished ++ v ∷ []) j ≡ Some w)
-      behind u w i edge (inl at) = let (j, less, at') = h.off_path.behind u w i edge at in (j, less, push_keeps s.finished v j w at')
-      behind u w i edge (inr (place, is)) =
+      comes_after u w i edge (inl at) = let (j, less, at') = h.off_path.after u w i edge at in (j, less, push_keeps s.finished v j w at')
+      comes_after u w i edge (inr (place, is)) =
           let (k, at) = place_of edges (v, w) (subst (λ x. IsEdge edges x w) (sym is) edge) in
           let taken : IsTaken edges s.firsts v w = (k, omega (arith, all), at) in
           let (j, at') = ends w (h.on_path.taken v w (length front) last taken) in

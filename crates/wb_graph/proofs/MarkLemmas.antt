@@ -1,10 +1,10 @@
 -- Marks that are closed one after another, starts that are kept, and the numbers of closed marks.
-use Rattle.std.proofs.Common.{◌≡◌, ◌<◌, ◌≤◌, ◌+◌, ◌-◌, ◌⊎◌, ◌++◌, ◌∷◌, [], ℕ, List, Some, Contains, length, get_or, set, slice_get, inl, inr, refl, sym, ◌∙◌, ap, subst, arith, length-set, length-append}
-use Rattle.std.proofs.lemmas.Bool.{cases_eq, cases_lt}
+use Rattle.std.proofs.Common.{◌≡◌, ◌<◌, ◌≤◌, ◌+◌, ◌-◌, ◌⊎◌, ◌++◌, ◌∷◌, [], ℕ, List, Some, length, set, slice_get, inl, inr, refl, sym, ◌∙◌, ap, subst, arith, length-set, length-append}
+use Rattle.std.proofs.lemmas.Bool.{cases_eq}
 use Rattle.std.proofs.lemmas.Option.{slice_get_within, same_Some}
 use Rattle.wb_lemmas.proofs.Members.{contains_at, place_of}
 use Rattle.wb_lemmas.proofs.Places.{at_push}
-use Rattle.wb_graph.specs.Inner.Groups.{AreKept, Closes, AreNumbers}
+use Rattle.wb_graph.specs.Inner.Groups.{AreKept, Closes}
 use Rattle.wb_graph.specs.declared.groups.Mark.{Mark}
 use Rattle.wb_graph.specs.declared.groups.Mark.TheVariants.{Closed}
 use Rattle.wb_graph.proofs.Places.{at_set_same, at_set_other}

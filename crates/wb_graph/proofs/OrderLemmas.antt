@@ -1,14 +1,14 @@
 -- A search that met every vertex gives an order, and a path that closes gives a cycle.
-use Rattle.std.proofs.Common.{◌≡◌, ◌<◌, ◌+◌, ◌-◌, ℕ, List, [], Some, length, get_or, slice_get, drop, sym, ◌∙◌, ap, subst, arith, length-drop}
+use Rattle.std.proofs.Common.{◌≡◌, ◌<◌, ◌+◌, ◌-◌, ℕ, List, [], Some, length, get_or, slice_get, drop, sym, ◌∙◌, subst, arith, length-drop}
 use Rattle.std.proofs.lemmas.List.Elements.{All-from_get_or}
-use Rattle.std.proofs.lemmas.Option.{slice_get_within, slice_get-get_or, get_or_from_slice_get, same_Some}
+use Rattle.std.proofs.lemmas.Option.{slice_get_within, slice_get-get_or, same_Some}
 use Rattle.wb_graph.specs.Graphs.{Edge, IsEdge}
 use Rattle.wb_graph.specs.Orders.{IsOrder, IsCycle, IsSimpleCycle}
 use Rattle.wb_graph.specs.Inner.Search.{State, IsSearch, ClosesPath}
 use Rattle.wb_graph.specs.declared.search.Colour.{Colour}
 use Rattle.wb_graph.specs.declared.search.Colour.TheVariants.{White, Grey, Black}
 use Rattle.wb_lemmas.proofs.Members.{contains_at}
-use Rattle.wb_lemmas.proofs.Places.{at_drop}
+use Rattle.wb_lemmas.proofs.Places.{at_drop, nothing_at}
 
 -- the rest of a closed path, from the vertex that it leads back to
 pub closed_cycle : (edges : List Edge) (path : List ℕ) (v i : ℕ) → ClosesPath edges path v → slice_get path i ≡ Some v →
@@ -47,16 +47,13 @@ searched_order edges trail s h empty met = record {
       (h.off_path.black (get_or s.finished i 0) i (slice_get-get_or s.finished i 0 less)));
   every = λ v less. let (i, at) = h.off_path.every v (black v less) in contains_at s.finished v i at;
   once = h.off_path.once;
-  behind = h.off_path.behind;
+  after = h.off_path.after;
 }
   where
-    nowhere : (v i : ℕ) → slice_get [] i ≡ Some v → ⊥
-    nowhere v i at = cc
-
     coloured : (v : ℕ) (colour : Colour) → slice_get s.colours v ≡ Some colour → v < length s.colours → slice_get s.colours v ≡ Some Black
     coloured v White at less = absurd (met v less at)
     coloured v Grey at less = let (i, on) = h.on_path.every v at in
-        absurd (nowhere v i (subst (λ path. slice_get path i ≡ Some v) empty on))
+        absurd (nothing_at v i (subst (λ path. slice_get path i ≡ Some v) empty on))
     coloured v Black at less = at
 
     black : (v : ℕ) → v < length s.colours → slice_get s.colours v ≡ Some Black

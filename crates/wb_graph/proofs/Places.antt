@@ -1,7 +1,7 @@
--- Elements of lists by their place, after a read, a write, a push and a pop.
-use Rattle.std.proofs.Common.{◌≡◌, ◌≢◌, ◌<◌, ◌-◌, ◌⊎◌, ◌++◌, ◌∷◌, [], ℕ, List, Some, Contains, length, get_or, set, slice_get, refl, sym, ◌∙◌, ap, subst, arith}
+-- Elements of lists by their place, after a read, a write and a cut.
+use Rattle.std.proofs.Common.{◌≡◌, ◌≢◌, ◌<◌, ◌-◌, ℕ, List, Some, length, get_or, set, take, slice_get, refl, sym, ◌∙◌, subst, arith}
 use Rattle.std.proofs.lemmas.Grind.{common_steps}
-use Rattle.std.proofs.lemmas.Option.{slice_get_within, slice_get_read, slice_get-get_or, get_or_from_slice_get, gets}
+use Rattle.std.proofs.lemmas.Option.{slice_get_read, slice_get-get_or, get_or_from_slice_get, gets}
 
 -- a number that was read, with any default
 pub read_at : (xs : List ℕ) (i x : ℕ) → i < length xs → x ≡ get_or xs i x → x ≡ get_or xs i 0
@@ -21,3 +21,7 @@ module _ {X : Type 0} where
   -- and after a write to another
   pub at_set_other : (xs : List X) (i j : ℕ) (x : X) → j ≢ i → slice_get (set xs i x) j ≡ slice_get xs j
   at_set_other xs i j x other = grind (arith, gets, common_steps)
+
+  -- an element before a cut
+  pub take_keeps : (xs : List X) (n i : ℕ) (x : X) → i < n → slice_get xs i ≡ Some x → slice_get (take n xs) i ≡ Some x
+  take_keeps xs n i x before at = grind (arith, gets, common_steps)

@@ -8,7 +8,7 @@ use Rattle.wb_graph.specs.Inner.Search.{State, IsSearch, ClosesPath}
 use Rattle.wb_graph.specs.Inner.Taking.{IsLinked, IsTaken, NothingTaken, Takes}
 use Rattle.wb_graph.specs.declared.search.Colour.{Colour}
 use Rattle.wb_graph.specs.declared.search.Colour.TheVariants.{White, Grey, Black}
-use Rattle.wb_lemmas.proofs.Places.{at_push, push_keeps, push_last}
+use Rattle.wb_lemmas.proofs.Places.{at_push, push_keeps, push_last, nothing_at}
 use Rattle.wb_graph.proofs.Places.{at_set_same, at_set_other}
 
 -- a vertex of another colour is another vertex
@@ -67,7 +67,7 @@ module _ (edges : List Edge) where
       black = λ v i at. cc;
       every = λ v black. absurd (white-black (sym (is_white v Black black) ∙ black));
       once = λ v i j at. cc;
-      behind = λ u v i edge at. cc;
+      after = λ u v i edge at. cc;
     };
   }
     where
@@ -92,7 +92,7 @@ module _ (edges : List Edge) where
         steps = h.on_path.steps;
         taken = λ u v i at taken. h.on_path.taken u v i at (taken_along edges s.firsts firsts u v (ap (λ xs. get_or xs u 0) e) taken);
       };
-      off_path = record { black = h.off_path.black; every = h.off_path.every; once = h.off_path.once; behind = h.off_path.behind };
+      off_path = record { black = h.off_path.black; every = h.off_path.every; once = h.off_path.once; after = h.off_path.after };
     }
 
     -- an edge of the path's last vertex is taken: the trail goes on to its end
@@ -125,7 +125,7 @@ module _ (edges : List Edge) where
           | inr other ↦ further i w (h.on_path.taken t w i at (taken_along edges s.firsts firsts t w (takes.others t other) taken))
         ];
       };
-      off_path = record { black = h.off_path.black; every = h.off_path.every; once = h.off_path.once; behind = h.off_path.behind };
+      off_path = record { black = h.off_path.black; every = h.off_path.every; once = h.off_path.once; after = h.off_path.after };
     }
       where
         further : (i w : ℕ) → (slice_get s.colours w ≡ Some Black) ⊎ (slice_get s.path (i + 1) ≡ Some w) →
@@ -145,13 +145,10 @@ module _ (edges : List Edge) where
         every = h.on_path.every;
         once = h.on_path.once;
         steps = h.on_path.steps;
-        taken = λ u v i at. absurd (nowhere u i (subst (λ path. slice_get path i ≡ Some u) e at));
+        taken = λ u v i at. absurd (nothing_at u i (subst (λ path. slice_get path i ≡ Some u) e at));
       };
       off_path = h.off_path;
     }
-      where
-        nowhere : (u i : ℕ) → slice_get [] i ≡ Some u → ⊥
-        nowhere u i at = cc
 
     -- the trail led to a finished vertex
     pub passed : (v : ℕ) → slice_get s.colours v ≡ Some Black → IsSearch edges (s.path ++ v ∷ []) s → IsSearch edges s.path s
@@ -200,7 +197,7 @@ module _ (edges : List Edge) where
             kept s.colours v u Grey Black (λ e. other_vertex s.colours v u White Black white-black white black (sym e)) black;
         every = λ u at. h.off_path.every u (before s.colours v u Grey Black within grey-black at);
         once = h.off_path.once;
-        behind = h.off_path.behind;
+        after = h.off_path.after;
       };
     }
       where

@@ -1,12 +1,12 @@
 -- Each outcome of one step of the search for components, with less left to do.
-use Rattle.std.proofs.Common.{◌≡◌, ◌<◌, ◌≤◌, ◌+◌, ◌-◌, ◌*◌, ◌⊎◌, ◌++◌, ◌∷◌, [], ℕ, List, Option, Some, None, All, Contains, length, get_or, set, slice_get, take, inl, inr, refl, sym, ◌∙◌, ap, subst, arith, length-set, length-append}
+use Rattle.std.proofs.Common.{◌≡◌, ◌<◌, ◌-◌, ◌++◌, ◌∷◌, [], ℕ, List, Some, None, All, length, get_or, set, slice_get, take, inl, inr, refl, sym, ◌∙◌, ap, subst, arith, length-set, length-append}
 use Rattle.std.specs.List.{sum}
 use Rattle.std.proofs.lemmas.Bool.{cases_eq}
-use Rattle.std.proofs.lemmas.Option.{slice_get_within, slice_get-get_or, same_Some}
+use Rattle.std.proofs.lemmas.Option.{slice_get_within, same_Some}
 use Rattle.wb_lemmas.proofs.Elements.{all_from_places, all_from_contained}
-use Rattle.wb_lemmas.proofs.Members.{contains_at}
-use Rattle.wb_graph.specs.Graphs.{Edge, IsEdge, Walk, step}
-use Rattle.wb_graph.specs.Inner.Groups.{State, IsOpen, IsGrouping, KeepsMet, Advances, Visits, entered, AreKept, Leaves}
+use Rattle.wb_lemmas.proofs.Places.{nothing_at}
+use Rattle.wb_graph.specs.Graphs.{Edge, step}
+use Rattle.wb_graph.specs.Inner.Groups.{State, IsOpen, IsGrouping, KeepsMet, Advances, entered, AreKept, Leaves}
 use Rattle.wb_graph.specs.Inner.Taking.{IsLinked, Takes}
 use Rattle.wb_graph.specs.declared.groups.Mark.{Mark}
 use Rattle.wb_graph.specs.declared.groups.Mark.TheVariants.{New, Open, Closed}
@@ -146,10 +146,7 @@ module _ (edges : List Edge) (s : State) (h : IsGrouping edges None s) where
   none_open empty v i at =
       let (p, has, low) = h.marked.grouped v i at in
       let (u, there, (k, on)) = h.on_path.begun p has in
-      nowhere u k (subst (λ path. slice_get path k ≡ Some u) empty on)
-    where
-      nowhere : (u k : ℕ) → slice_get [] k ≡ Some u → ⊥
-      nowhere u k at = cc
+      nothing_at u k (subst (λ path. slice_get path k ≡ Some u) empty on)
 
   -- a search of a root that wasn't met begins with the root on the path
   pub begins : (new : State) (v : ℕ) → s.path ≡ [] → slice_get s.marks v ≡ Some New → new ≡ entered s v

@@ -8,7 +8,7 @@ use Rattle.wb_graph.specs.Graphs.{Edge, IsEdge, IsEdgeBelow, Walk, IsReached, Ar
 use Rattle.wb_graph.specs.Graphs.Walk.{stay, step}
 use Rattle.wb_graph.specs.Inner.Worklist.{State, marked, IsMarked, IsWorklist, AdvancesTo}
 use Rattle.wb_graph.specs.Inner.Taking.{IsLinked, IsTaken, NothingTaken, Takes}
-use Rattle.wb_lemmas.proofs.Places.{at_push, push_keeps, push_last}
+use Rattle.wb_lemmas.proofs.Places.{at_push, push_keeps, push_last, nothing_at}
 use Rattle.wb_lemmas.proofs.Members.{place_of}
 use Rattle.wb_graph.proofs.CallerLemmas.{reached_on, reached_start}
 use Rattle.wb_graph.proofs.SearchLemmas.{taken_along}
@@ -212,15 +212,12 @@ worklist_reached edges from s h empty sound starts = record {
       (sound v, λ walked. along walked.start v (starts walked.start walked.is_start) walked.walk);
 }
   where
-    nowhere : (v i : ℕ) → slice_get [] i ≡ Some v → ⊥
-    nowhere v i at = cc
-
     on_edge : (u v : ℕ) → IsMarked s u → IsEdge edges u v → IsMarked s v
     on_edge u v on edge =
         let (j, at) = place_of edges (u, v) edge in
         let all : get_or s.firsts u 0 ≡ 0 = elim (h.left u on) [
           | inl none_left ↦ none_left
-          | inr (i, there) ↦ absurd (nowhere u i (subst (λ waiting. slice_get waiting i ≡ Some u) empty there))
+          | inr (i, there) ↦ absurd (nothing_at u i (subst (λ waiting. slice_get waiting i ≡ Some u) empty there))
         ] in
         elim (h.taken u v (j, omega (arith, all), at)) [
           | inl on' ↦ on'

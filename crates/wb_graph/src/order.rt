@@ -1,4 +1,4 @@
-//! An order of a graph in which each vertex stands behind the ends of its edges, or a cycle, which rules every order out.
+//! A topological order of a graph, or a cycle, which rules every order out.
 
 ghost use Rattle.std.specs.Prelude.{◌≡◌, ℕ, All, Contains, IfOk, Some, slice_get, drop};
 ghost use Rattle.wb_graph.specs.Graphs.{IsEdgeBelow};
@@ -10,15 +10,15 @@ use std::alloc::{AllocError, Global};
 /// What `order_of` answers.
 #[derive(Debug, Drop)]
 pub enum Order {
-    /// Every vertex once, each behind the ends of its edges.
+    /// Every vertex once, each after the ends of its edges.
     Sorted(Vec<usize>),
-    /// The vertices of a cycle: an edge leads from each to the next, and from the last to the first.
+    /// The vertices of a cycle, each once: an edge leads from each to the next, and from the last to the first.
     Cycle(Vec<usize>),
 }
 
-/// An order of the vertices from 0 to below the count, or a cycle where there is one.
+/// A topological order of the vertices from 0 to below the count, or a cycle where there is one.
 ///
-/// An edge `(u, v)` leads from u to v, so v stands before u. Which of several orders or cycles is answered is left open. The only error is want of memory.
+/// An edge `(u, v)` leads from u to v, so v comes before u. Which of several orders or cycles is answered is left open. The only error is want of memory.
 pub fn order_of(alloc: Global, count: usize, edges: &[(usize, usize)]) -> Result<Order, AllocError>
     requires { All (IsEdgeBelow count) edges.now }
     ensures ok { IfOk result (IsAnswer count edges.now) }

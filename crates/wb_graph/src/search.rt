@@ -1,4 +1,4 @@
-//! A depth-first search without recursion: its path is a list, and edges are taken from it one by one.
+//! A depth-first search without recursion: its path is a list, and edges are taken from the path's last vertex one by one.
 
 ghost use Rattle.std.specs.Prelude.{◌≡◌, ◌<◌, ◌-◌, ◌++◌, ◌∷◌, ℕ, [], All, Contains, length, slice_get, slice_set, IfOk, IfSome, IfNone, OnOk};
 ghost use Rattle.wb_graph.specs.Graphs.{IsEdgeBelow};
@@ -7,7 +7,7 @@ ghost use Rattle.wb_graph.specs.Inner.Search.{state_of, IsSearch, Advances, Visi
 use crate::edge_lists::EdgeLists;
 use std::alloc::{AllocError, Global};
 
-/// How far a search has come with a vertex: not met, on the path, or finished.
+// How far a search has come with a vertex: not met, on the path, or finished.
 #[derive(Clone, Copy, PartialEq)]
 pub(crate) enum Colour {
     White,
@@ -15,7 +15,7 @@ pub(crate) enum Colour {
     Black,
 }
 
-/// A search that has finished some vertices and stands at the last vertex of its path.
+// A search that has finished some vertices and is at the last vertex of its path.
 #[derive(Drop)]
 pub(crate) struct Search {
     untaken: EdgeLists,

@@ -1,4 +1,4 @@
-//! What walks reach, by edges that are taken one by one from the vertices that wait.
+//! What walks reach, by a worklist: edges are taken one by one from the vertices on it.
 
 ghost use Rattle.std.specs.Prelude.{◌≡◌, ◌<◌, All, length, slice_index_or, false, None, IfOk, OnOk};
 ghost use Rattle.wb_graph.specs.Graphs.{IsEdgeBelow, AreReached};
@@ -9,7 +9,7 @@ use std::alloc::{AllocError, Global};
 
 /// For each vertex from 0 to below the count, whether a walk of zero or more edges leads to it from a vertex of `from`.
 ///
-/// A vertex may stand in `from` several times. The only error is want of memory.
+/// A vertex may be in `from` several times. The only error is want of memory.
 pub fn reachable_from(
     alloc: Global,
     count: usize,
@@ -34,7 +34,7 @@ pub fn reachable_from(
     Ok(worklist.reached)
 }
 
-/// The vertices reached so far, and those of them of which edges may be left.
+// The vertices reached so far, and those of them of which edges may be left.
 #[derive(Drop)]
 struct Worklist {
     untaken: EdgeLists,

@@ -40,6 +40,10 @@ read_last {X} xs ys x same within is =
     let at : slice_get ys (length ys - 1) ≡ Some x = slice_get_read ys (length ys) (length ys - 1) x refl (omega (arith, some)) is in
     subst (λ (zs : List X). slice_get zs (length zs - 1) ≡ Some x) same at
 
+-- nothing is at any place of no elements
+pub nothing_at : {X : Type 0} (x : X) (i : ℕ) → slice_get [] i ≡ Some x → ⊥
+nothing_at x i at = cc
+
 -- a list of one element has it at the first place
 pub at_one : {X : Type 0} (x y : X) (i : ℕ) → slice_get (x ∷ []) i ≡ Some y → (i ≡ 0) × (x ≡ y)
 at_one x y zero at = (refl, same_Some x y at)

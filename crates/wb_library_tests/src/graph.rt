@@ -73,6 +73,23 @@ fn components_are_numbered_so_that_edges_fall(rt: HostRuntime) -> Result<(), Fai
 }
 
 #[test]
+fn each_component_has_a_vertex_of_its_number(rt: HostRuntime) -> Result<(), Fail> {
+    let components = strong_components(rt.alloc(), 3, &[(0, 1), (1, 0), (1, 2)])?;
+    assert_eq!(rt; components.len(), 2);
+    assert!(rt; !components.is_empty());
+    for component in 0..components.len() {
+        assert_eq!(rt; components.of(components.root(component)), component);
+    }
+    Ok(())
+}
+
+#[test]
+fn no_vertices_have_no_component(rt: HostRuntime) -> Result<(), Fail> {
+    assert!(rt; strong_components(rt.alloc(), 0, &[])?.is_empty());
+    Ok(())
+}
+
+#[test]
 fn one_edge_back_makes_one_component(rt: HostRuntime) -> Result<(), Fail> {
     let one = numbers_of(rt.alloc(), 4, &[(0, 1), (1, 2), (2, 3), (3, 1), (3, 0)])?;
     assert_eq!(rt; one.as_slice(), [0, 0, 0, 0].as_slice());

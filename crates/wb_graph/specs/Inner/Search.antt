@@ -34,12 +34,12 @@ pub record IsPath (edges : List Edge) (trail : List ℕ) (s : State) : Type 0 wh
   pub taken : (u v i : ℕ) → slice_get s.path i ≡ Some u → IsTaken edges s.firsts u v → (slice_get s.colours v ≡ Some Black) ⊎
       (slice_get trail (i + 1) ≡ Some v)
 
--- the black vertices are finished once, each behind the ends of its edges
+-- the black vertices are finished once, each after the ends of its edges
 pub record IsFinished (edges : List Edge) (s : State) : Type 0 where
   pub black : (v i : ℕ) → slice_get s.finished i ≡ Some v → slice_get s.colours v ≡ Some Black
   pub every : (v : ℕ) → slice_get s.colours v ≡ Some Black → (i : ℕ) × (slice_get s.finished i ≡ Some v)
   pub once : (v i j : ℕ) → slice_get s.finished i ≡ Some v → slice_get s.finished j ≡ Some v → i ≡ j
-  pub behind : (u v i : ℕ) → IsEdge edges u v → slice_get s.finished i ≡ Some u → (j : ℕ) × (j < i) × (slice_get s.finished j ≡ Some v)
+  pub after : (u v i : ℕ) → IsEdge edges u v → slice_get s.finished i ≡ Some u → (j : ℕ) × (j < i) × (slice_get s.finished j ≡ Some v)
 
 -- what a search keeps; the trail is its path, and the vertex that an edge was just taken to
 pub record IsSearch (edges : List Edge) (trail : List ℕ) (s : State) : Type 0 where

@@ -1,4 +1,4 @@
-use Rattle.std.proofs.Common.{◌≡◌, ◌<◌, ℕ, length, get_or, arith, sym, subst}
+use Rattle.std.proofs.Common.{◌<◌, ℕ, length, get_or, arith}
 use Rattle.std.proofs.lemmas.Option.{slice_get-get_or}
 use Rattle.wb_graph.proofs.MarkLemmas.{closes_none, closes_more, closes_all}
 use Rattle.wb_graph.proofs.groups.close_all.Goals as goal

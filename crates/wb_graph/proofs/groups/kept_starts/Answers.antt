@@ -1,4 +1,4 @@
-use Rattle.std.proofs.Common.{◌≡◌, ◌<◌, ◌-◌, ℕ, Some, arith, length, slice_get, get_or}
+use Rattle.std.proofs.Common.{◌-◌, arith, get_or}
 use Rattle.std.proofs.lemmas.Option.{slice_get-get_or, slice_get_within}
 use Rattle.wb_graph.proofs.MarkLemmas.{high_more, kept_low, kept_none}
 use Rattle.wb_graph.proofs.groups.kept_starts.Goals as goal

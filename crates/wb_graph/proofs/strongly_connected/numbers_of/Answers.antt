@@ -1,7 +1,6 @@
-use Rattle.std.proofs.Common.{◌≡◌, ◌∙◌, ◌+◌, [], ℕ, Some, length, slice_get, get_or, ap, sym, subst, refl, arith, rules}
+use Rattle.std.proofs.Common.{◌≡◌, ◌∙◌, ◌+◌, Some, slice_get, ap, sym, subst, refl, arith}
 use Rattle.std.proofs.lemmas.Option.{slice_get-get_or}
 use Rattle.wb_graph.specs.declared.groups.Mark.TheVariants.{New, Closed}
-use Rattle.wb_graph.specs.Inner.Groups.{AreNumbers}
 use Rattle.wb_graph.proofs.MarkLemmas.{AreFirstNumbers, number_more}
 use Rattle.wb_graph.proofs.strongly_connected.numbers_of.Goals as goal
 

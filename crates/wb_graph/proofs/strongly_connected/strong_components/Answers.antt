@@ -1,5 +1,5 @@
 -- All vertices are met, so that all are closed.
-use Rattle.std.proofs.Common.{◌≡◌, ◌<◌, ℕ, All, length, arith, sym, subst}
+use Rattle.std.proofs.Common.{All, arith, sym, subst}
 use Rattle.wb_graph.specs.Inner.Groups.{state_of, IsClosedMark, AreNumbers}
 use Rattle.wb_graph.proofs.ComponentLemmas.{all_closed, are_components}
 use Rattle.wb_graph.proofs.strongly_connected.strong_components.Goals as goal

@@ -1,9 +1,8 @@
 -- One step, by what the edge that is taken leads to.
-use Rattle.std.proofs.Common.{◌≡◌, ◌-◌, ◌∙◌, ℕ, Some, length, refl, ap, arith, slice_get, All, sym, subst, take, rules}
+use Rattle.std.proofs.Common.{◌≡◌, ◌∙◌, ℕ, Some, length, refl, ap, arith, sym, subst, take, rules}
 use Rattle.std.proofs.lemmas.Grind.{common_steps}
-use Rattle.std.proofs.lemmas.Option.{slice_get_read, slice_get_within}
-use Rattle.wb_graph.specs.Inner.Groups.{State, state_of, IsOpen, Advances}
-use Rattle.wb_graph.specs.declared.groups.Mark.TheVariants.{Open}
+use Rattle.std.proofs.lemmas.Option.{slice_get_read}
+use Rattle.wb_graph.specs.Inner.Groups.{State, state_of, Advances}
 use Rattle.wb_graph.proofs.Places.{read_last}
 use Rattle.wb_graph.proofs.TakingLemmas.{edge_below}
 use Rattle.wb_graph.proofs.StepLemmas.{last_open, open_below, opened_below, starts_below, some_start, leaves, goes_on, joins_on, passes}

@@ -1,5 +1,5 @@
 -- A root that is new is met first; else there is nothing to do.
-use Rattle.std.proofs.Common.{◌≡◌, ◌∙◌, Some, length, refl, ap, sym}
+use Rattle.std.proofs.Common.{◌∙◌, Some, length, refl, ap, sym}
 use Rattle.std.proofs.lemmas.Option.{slice_get_read, same_Some}
 use Rattle.wb_graph.specs.Inner.Groups.{state_of}
 use Rattle.wb_graph.proofs.StepLemmas.{begins}
