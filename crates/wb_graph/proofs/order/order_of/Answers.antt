@@ -1,9 +1,24 @@
-use Rattle.std.proofs.Common.{◌≡◌, ◌∙◌, [], Some, drop, slice_get, ap, sym, subst, arith}
+use Rattle.std.proofs.Common.{◌≡◌, ◌∙◌, [], Some, drop, slice_get, ap, sym, subst, inl, inr, arith}
+use Rattle.std.proofs.lemmas.Bool.{cases_eq}
 use Rattle.wb_graph.specs.Orders.{IsOrder, IsSimpleCycle}
-use Rattle.wb_graph.specs.Inner.Search.{state_of, ClosesPath}
+use Rattle.wb_graph.specs.Inner.Search.{state_of, ClosesPath, Visits}
 use Rattle.wb_graph.proofs.CallerLemmas.{order_excludes_cycle}
 use Rattle.wb_graph.proofs.OrderLemmas.{closed_cycle, simple_cycle, searched_order}
 use Rattle.wb_graph.proofs.order.order_of.Goals as goal
+
+pub roots-preserved : goal.roots-preserved
+roots-preserved c =
+    let h = c.roots.invariant in
+    let visits : Visits c.args.edges.now c.roots.root (state_of c.roots.search) (state_of c.visit.new.self) = rw c.in_default.is at c.in_ok-vertex.ensures.none in
+    record {
+      search = visits.search;
+      path = visits.path;
+      len = visits.keeps.len ∙ h.len;
+      met = λ v less. elim (cases_eq v c.roots.root) [
+        | inl same ↦ rw same visits.visited
+        | inr other ↦ λ at. h.met v (omega arith) (visits.keeps.met v at)
+      ];
+    }
 
 pub returns-in-Some-clause-ok : goal.returns-in-Some-clause-ok
 returns-in-Some-clause-ok c =
