@@ -12,60 +12,33 @@ use Rattle.wb_automata.specs.declared.ends.Side.TheVariants.{First, Last}
 use Rattle.wb_automata.specs.declared.ends.Parts.{Parts}
 use Rattle.wb_automata.specs.declared.ends.Parts.TheVariants.{Leaf, One, Two}
 use Rattle.wb_automata.specs.Rows.{row}
-use Rattle.wb_automata.specs.Inner.Nodes.{flag, first_at, last_at, AreNullable, AreFirsts, AreLasts, AreParts, PartsBelow}
+use Rattle.wb_automata.specs.Inner.Nodes.{flag, AreNullable, AreFirsts, AreLasts, AreParts, PartsBelow}
+use Rattle.wb_automata.specs.Inner.Follows.{AreBelow}
 use Rattle.wb_automata.specs.Inner.Ends.{sequence_parts, parts_of, leaves_at, rows_from, rows_of, todo, weight, AreBefore, IsOpened}
+use Rattle.wb_lemmas.proofs.Elements.{all_weaker}
+use Rattle.wb_lemmas.proofs.Places.{append_seam}
 use Rattle.wb_automata.proofs.NodeLemmas.{first_step, last_step}
-use Rattle.wb_automata.proofs.PlaceLemmas.{slice_get_more, slice_get_last}
-
--- both ways of saying what the leaves of a node are
-cond_leaves : (rows : List (List ℕ)) (place i j : ℕ) (b : Bool) → leaves_at rows place (cond b (Two i j) (One i)) ≡ cond b (row rows i ++ row rows j) (row rows i)
-cond_leaves rows place i j true = refl
-cond_leaves rows place i j false = refl
-
-first_parts : (es : List Bool) (rows : List (List ℕ)) (place : ℕ) (node : RegexNode) → leaves_at rows place (parts_of es First node) ≡ first_at es rows place node
-first_parts es rows place (n.Set words) = refl
-first_parts es rows place (n.Sequence i j) = cond_leaves rows place i j (flag es i)
-first_parts es rows place (n.Choice i j) = refl
-first_parts es rows place (n.Star i) = refl
-first_parts es rows place (n.Plus i) = refl
-first_parts es rows place (n.Maybe i) = refl
-
-last_parts : (es : List Bool) (rows : List (List ℕ)) (place : ℕ) (node : RegexNode) → leaves_at rows place (parts_of es Last node) ≡ last_at es rows place node
-last_parts es rows place (n.Set words) = refl
-last_parts es rows place (n.Sequence i j) = cond_leaves rows place j i (flag es j)
-last_parts es rows place (n.Choice i j) = refl
-last_parts es rows place (n.Star i) = refl
-last_parts es rows place (n.Plus i) = refl
-last_parts es rows place (n.Maybe i) = refl
 
 -- all rows are those of the nodes
 firsts_from : (es : List Bool) (all : List RegexNode) (m : ℕ) → AreNullable all es m → length all ≤ m → (done nodes : List RegexNode) (rows : List (List ℕ)) → all ≡ done ++ nodes → AreFirsts all rows (length done) → AreFirsts all (rows_from es First rows nodes) (length all)
 firsts_from es all m em le done [] rows e h = subst (AreFirsts all rows) (ap length (sym (append-nil done)) ∙ sym (ap length e)) h
 firsts_from es all m em le done (node ∷ nodes) rows e h =
-    let here : slice_get all (length done) ≡ Some node = ap (λ z. slice_get z (length done)) e ∙ at_seam done node nodes in
+    let here : slice_get all (length done) ≡ Some node = ap (λ z. slice_get z (length done)) e ∙ append_seam done node nodes in
     let lt : length done < length all = slice_get_within all (length done) node here in
-    let step : AreFirsts all (rows ++ first_at es rows (length done) node ∷ []) (length done + 1) = first_step all es m rows (length done) node em (omega arith) h here in
-    let same : leaves_at rows (length rows) (parts_of es First node) ≡ first_at es rows (length done) node = ap (λ z. leaves_at rows z (parts_of es First node)) h.len ∙ first_parts es rows (length done) node in
+    let step : AreFirsts all (rows ++ leaves_at rows (length done) (parts_of es First node) ∷ []) (length done + 1) = first_step all es m rows (length done) node em (omega arith) h here in
+    let same : leaves_at rows (length rows) (parts_of es First node) ≡ leaves_at rows (length done) (parts_of es First node) = ap (λ z. leaves_at rows z (parts_of es First node)) h.len in
     firsts_from es all m em le (done ++ node ∷ []) nodes (rows ++ leaves_at rows (length rows) (parts_of es First node) ∷ []) (e ∙ sym (append_assoc done (node ∷ []) nodes))
-    (subst (λ z. AreFirsts all (rows ++ z ∷ []) (length (done ++ node ∷ []))) (sym same) (subst (AreFirsts all (rows ++ first_at es rows (length done) node ∷ [])) (sym (length-append done (node ∷ []))) step))
-  where
-    at_seam : (done : List RegexNode) (node : RegexNode) (nodes : List RegexNode) → slice_get (done ++ node ∷ nodes) (length done) ≡ Some node
-    at_seam [] node nodes = refl
-    at_seam (x ∷ done) node nodes = at_seam done node nodes
+    (subst (λ z. AreFirsts all (rows ++ z ∷ []) (length (done ++ node ∷ []))) (sym same) (subst (AreFirsts all (rows ++ leaves_at rows (length done) (parts_of es First node) ∷ [])) (sym (length-append done (node ∷ []))) step))
 
 lasts_from : (es : List Bool) (all : List RegexNode) (m : ℕ) → AreNullable all es m → length all ≤ m → (done nodes : List RegexNode) (rows : List (List ℕ)) → all ≡ done ++ nodes → AreLasts all rows (length done) → AreLasts all (rows_from es Last rows nodes) (length all)
 lasts_from es all m em le done [] rows e h = subst (AreLasts all rows) (ap length (sym (append-nil done)) ∙ sym (ap length e)) h
 lasts_from es all m em le done (node ∷ nodes) rows e h =
-    let here : slice_get all (length done) ≡ Some node = ap (λ z. slice_get z (length done)) e ∙ at_seam done node nodes in
+    let here : slice_get all (length done) ≡ Some node = ap (λ z. slice_get z (length done)) e ∙ append_seam done node nodes in
     let lt : length done < length all = slice_get_within all (length done) node here in
-    let step : AreLasts all (rows ++ last_at es rows (length done) node ∷ []) (length done + 1) = last_step all es m rows (length done) node em (omega arith) h here in
-    let same : leaves_at rows (length rows) (parts_of es Last node) ≡ last_at es rows (length done) node = ap (λ z. leaves_at rows z (parts_of es Last node)) h.len ∙ last_parts es rows (length done) node in
+    let step : AreLasts all (rows ++ leaves_at rows (length done) (parts_of es Last node) ∷ []) (length done + 1) = last_step all es m rows (length done) node em (omega arith) h here in
+    let same : leaves_at rows (length rows) (parts_of es Last node) ≡ leaves_at rows (length done) (parts_of es Last node) = ap (λ z. leaves_at rows z (parts_of es Last node)) h.len in
     lasts_from es all m em le (done ++ node ∷ []) nodes (rows ++ leaves_at rows (length rows) (parts_of es Last node) ∷ []) (e ∙ sym (append_assoc done (node ∷ []) nodes))
-    (subst (λ z. AreLasts all (rows ++ z ∷ []) (length (done ++ node ∷ []))) (sym same) (subst (AreLasts all (rows ++ last_at es rows (length done) node ∷ [])) (sym (length-append done (node ∷ []))) step))
-  where
-    at_seam : (done : List RegexNode) (node : RegexNode) (nodes : List RegexNode) → slice_get (done ++ node ∷ nodes) (length done) ≡ Some node
-    at_seam [] node nodes = refl
-    at_seam (x ∷ done) node nodes = at_seam done node nodes
+    (subst (λ z. AreLasts all (rows ++ z ∷ []) (length (done ++ node ∷ []))) (sym same) (subst (AreLasts all (rows ++ leaves_at rows (length done) (parts_of es Last node) ∷ [])) (sym (length-append done (node ∷ []))) step))
 
 pub rows_are_firsts : (es : List Bool) (nodes : List RegexNode) → AreNullable nodes es (length nodes) → AreFirsts nodes (rows_of es First nodes) (length nodes)
 unfolding rows_of
@@ -108,7 +81,7 @@ row_from es side all done (first ∷ nodes) rows e len parts j node le at = elim
   | inl later ↦ row_from es side all (done ++ first ∷ []) nodes (rows ++ x ∷ []) (e ∙ sym (append_assoc done (first ∷ []) nodes)) (omega (arith, len, length-append rows (x ∷ []), length-append done (first ∷ []))) parts j node (omega (arith, length-append done (first ∷ []))) at
   | inr now ↦
       let same : j ≡ length rows = omega arith in
-      let is : first ≡ node = same_Some first node (sym (ap (λ z. slice_get z (length done)) e ∙ at_seam done first nodes) ∙ ap (slice_get all) (let f : length done ≡ j = omega arith in f) ∙ at) in
+      let is : first ≡ node = same_Some first node (sym (ap (λ z. slice_get z (length done)) e ∙ append_seam done first nodes) ∙ ap (slice_get all) (let f : length done ≡ j = omega arith in f) ∙ at) in
       let R : List (List ℕ) = rows_from es side (rows ++ x ∷ []) nodes in
       let here : row R (length rows) ≡ x = kept_row es side nodes (rows ++ x ∷ []) (length rows) (omega (arith, length-append rows (x ∷ []))) ∙ get_or_push rows x [] (length rows) refl in
       let agree : (i : ℕ) → i < length rows → row rows i ≡ row R i = λ i lt. sym (kept_row es side nodes (rows ++ x ∷ []) i (omega (arith, length-append rows (x ∷ []))) ∙ get_or_append_left rows (x ∷ []) [] i lt) in
@@ -119,14 +92,46 @@ row_from es side all done (first ∷ nodes) rows e len parts j node le at = elim
     x : List ℕ
     x = leaves_at rows (length rows) (parts_of es side first)
 
-    at_seam : (done : List RegexNode) (node : RegexNode) (nodes : List RegexNode) → slice_get (done ++ node ∷ nodes) (length done) ≡ Some node
-    at_seam [] node nodes = refl
-    at_seam (x ∷ done) node nodes = at_seam done node nodes
-
 -- the row of a node has the leaves of its parts
 pub row_is : (es : List Bool) (side : Side) (nodes : List RegexNode) → AreParts nodes → (j : ℕ) (node : RegexNode) → slice_get nodes j ≡ Some node → row (rows_of es side nodes) j ≡ leaves_at (rows_of es side nodes) j (parts_of es side node)
 unfolding rows_of
 row_is es side nodes parts j node at = row_from es side nodes [] nodes [] refl refl parts j node (omega arith) at
+
+-- how many rows there are
+rows_len : (es : List Bool) (side : Side) (nodes : List RegexNode) → length (rows_of es side nodes) ≡ length nodes
+unfolding rows_of
+rows_len es side nodes = (let e = longer [] nodes in omega arith)
+  where
+    longer : (rows : List (List ℕ)) (nodes : List RegexNode) → length (rows_from es side rows nodes) ≡ length rows + length nodes
+    longer rows [] = omega arith
+    longer rows (node ∷ nodes) =
+        let x : List ℕ = leaves_at rows (length rows) (parts_of es side node) in
+        omega (arith, longer (rows ++ x ∷ []) nodes, length-append rows (x ∷ []))
+
+-- a fact of the place itself and of the rows before it holds of its leaves
+leaves_all : (P : ℕ → Type 0) (rows : List (List ℕ)) (place : ℕ) (parts : Parts) → P place → ((i : ℕ) → i < place → All P (row rows i)) → AreBefore place parts → All P (leaves_at rows place parts)
+leaves_all P rows place Leaf own each h = All-cons P place [] own (All-nil P)
+leaves_all P rows place (One i) own each h = each i h
+leaves_all P rows place (Two i j) own each (x, y) = All-append P (row rows i) (row rows j) (each i x) (each j y)
+
+-- rows have places of nodes alone
+pub rows_below : (es : List Bool) (side : Side) (nodes : List RegexNode) → AreParts nodes → AreBelow (length nodes) (rows_of es side nodes)
+rows_below es side nodes parts j = elim (cases_lt j (length nodes)) [
+  | inl lt ↦ below_until (suc j) j (omega arith) lt
+  | inr past ↦ subst (All (λ p. p < length nodes)) (sym (get_or_past (rows_of es side nodes) j [] (omega (arith, rows_len es side nodes)))) (All-nil (λ p. p < length nodes))
+]
+  where
+    below_until : (m j : ℕ) → j < m → j < length nodes → All (λ p. p < length nodes) (row (rows_of es side nodes) j)
+    below_until zero j early lt = absurd (omega arith)
+    below_until (suc m) j early lt =
+        let node : RegexNode = get_or nodes j (n.Set []) in
+        let at : slice_get nodes j ≡ Some node = slice_get-get_or nodes j (n.Set []) lt in
+        subst (All (λ p. p < length nodes)) (sym (row_is es side nodes parts j node at))
+        (leaves_all (λ p. p < length nodes) (rows_of es side nodes) j (parts_of es side node) lt (λ i before. below_until m i (omega arith) (omega arith)) (parts_before es side j node (parts j node at)))
+
+-- and so of a longer list
+pub row_within : (es : List Bool) (side : Side) (nodes : List RegexNode) (m j : ℕ) → AreParts nodes → length nodes ≤ m → All (λ p. p < m) (row (rows_of es side nodes) j)
+row_within es side nodes m j parts le = all_weaker (λ p. p < length nodes) (λ p. p < m) (row (rows_of es side nodes) j) (λ p lt. omega arith) (rows_below es side nodes parts j)
 
 -- what is left to do, where more is opened
 todo-append : (rows : List (List ℕ)) (xs ys : List ℕ) → todo rows (xs ++ ys) ≡ todo rows ys ++ todo rows xs

@@ -15,6 +15,7 @@ pub mod PlaceLemmas
 pub mod PlantLemmas
 pub mod Paths
 pub mod Ranges
+pub mod RepeatedLemmas
 pub mod RootLemmas
 pub mod StateLemmas
 pub mod StandsLemmas

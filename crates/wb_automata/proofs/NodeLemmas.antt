@@ -10,8 +10,11 @@ use Rattle.wb_automata.proofs.Ranges.{more_room}
 use Rattle.wb_automata.specs.Inner.Positions.{Spans, First, Last, Follow}
 use Rattle.wb_regex.specs.declared.node.RegexNode.{RegexNode}
 use Rattle.wb_regex.specs.declared.node.RegexNode.TheVariants as n
-use Rattle.wb_automata.specs.Inner.Nodes.{Covers, one, seq, choice, star, plus, maybe, nullable_at, first_at, last_at, firsts, lasts, AreNullable, AreFirsts, AreLasts, PartsBelow}
+use Rattle.wb_automata.specs.Inner.Nodes.{Covers, one, seq, choice, star, plus, maybe, nullable_at, flag, firsts, lasts, AreNullable, AreFirsts, AreLasts, PartsBelow}
 use Rattle.wb_automata.specs.Rows.{row}
+use Rattle.wb_automata.specs.declared.ends.Side.TheVariants as side
+use Rattle.wb_automata.specs.declared.ends.Parts.TheVariants as parts
+use Rattle.wb_automata.specs.Inner.Ends.{parts_of, leaves_at}
 use Rattle.wb_automata.specs.Inner.Follows.{LinkAt, LinkIn, AreFollows}
 
 pub covers_lt : {nodes : List RegexNode} {s e : ℕ} {t : PositionTree} → Covers nodes s e t → s < e
@@ -57,51 +60,56 @@ empty_step nodes es i node h at = record {
   ];
 }
 
-first_node : {nodes : List RegexNode} {s e : ℕ} {t : PositionTree} (es : List Bool) (m : ℕ) (rows : List (List ℕ)) (i : ℕ) (node : RegexNode) → AreNullable nodes es m → i ≤ m → Covers nodes s e t → e ≡ i + 1 → slice_get nodes i ≡ Some node → AreFirsts nodes rows i → first_at es rows i node ≡ firsts t
-first_node {nodes} es m rows k node em le (one {s = s} words is f) g at h = ap (first_at es rows k) (same_node nodes k s node (n.Set words) at is (omega arith)) ∙ ap (λ p. p ∷ []) (let x : k ≡ s = omega arith in x)
+-- the leaves of a sequence, by whether the nearer part matches the empty text
+pub cond_leaves : (rows : List (List ℕ)) (place i j : ℕ) (b : Bool) → leaves_at rows place (cond b (parts.Two i j) (parts.One i)) ≡ cond b (row rows i ++ row rows j) (row rows i)
+cond_leaves rows place i j true = refl
+cond_leaves rows place i j false = refl
+
+first_node : {nodes : List RegexNode} {s e : ℕ} {t : PositionTree} (es : List Bool) (m : ℕ) (rows : List (List ℕ)) (i : ℕ) (node : RegexNode) → AreNullable nodes es m → i ≤ m → Covers nodes s e t → e ≡ i + 1 → slice_get nodes i ≡ Some node → AreFirsts nodes rows i → leaves_at rows i (parts_of es side.First node) ≡ firsts t
+first_node {nodes} es m rows k node em le (one {s = s} words is f) g at h = ap (λ o. leaves_at rows k (parts_of es side.First o)) (same_node nodes k s node (n.Set words) at is (omega arith)) ∙ ap (λ p. p ∷ []) (let x : k ≡ s = omega arith in x)
 first_node {nodes} es m rows k node em le (seq {s = s} {r = r} {t = t} i j c d is f) g at h =
     let p = h.each s i r (omega (arith, covers_lt d)) c in
     let q = h.each (i + 1) j t (omega arith) d in
     let b = em.each s i r (omega (arith, covers_lt d)) c in
-    ap (first_at es rows k) (same_node nodes k (j + 1) node (n.Sequence i j) at is (omega arith)) ∙ (rw (b, p, q) refl)
+    ap (λ o. leaves_at rows k (parts_of es side.First o)) (same_node nodes k (j + 1) node (n.Sequence i j) at is (omega arith)) ∙ cond_leaves rows k i j (flag es i) ∙ (rw (b, p, q) refl)
 first_node {nodes} es m rows k node em le (choice {s = s} {r = r} {t = t} i j c d is f) g at h =
     let p = h.each s i r (omega (arith, covers_lt d)) c in
     let q = h.each (i + 1) j t (omega arith) d in
-    ap (first_at es rows k) (same_node nodes k (j + 1) node (n.Choice i j) at is (omega arith)) ∙ (rw (p, q) refl)
-first_node {nodes} es m rows k node em le (star {s = s} {r = r} i c is f) g at h = ap (first_at es rows k) (same_node nodes k (i + 1) node (n.Star i) at is (omega arith)) ∙ h.each s i r (omega arith) c
-first_node {nodes} es m rows k node em le (plus {s = s} {r = r} i c is f) g at h = ap (first_at es rows k) (same_node nodes k (i + 1) node (n.Plus i) at is (omega arith)) ∙ h.each s i r (omega arith) c
-first_node {nodes} es m rows k node em le (maybe {s = s} {r = r} i c is f) g at h = ap (first_at es rows k) (same_node nodes k (i + 1) node (n.Maybe i) at is (omega arith)) ∙ h.each s i r (omega arith) c
+    ap (λ o. leaves_at rows k (parts_of es side.First o)) (same_node nodes k (j + 1) node (n.Choice i j) at is (omega arith)) ∙ (rw (p, q) refl)
+first_node {nodes} es m rows k node em le (star {s = s} {r = r} i c is f) g at h = ap (λ o. leaves_at rows k (parts_of es side.First o)) (same_node nodes k (i + 1) node (n.Star i) at is (omega arith)) ∙ h.each s i r (omega arith) c
+first_node {nodes} es m rows k node em le (plus {s = s} {r = r} i c is f) g at h = ap (λ o. leaves_at rows k (parts_of es side.First o)) (same_node nodes k (i + 1) node (n.Plus i) at is (omega arith)) ∙ h.each s i r (omega arith) c
+first_node {nodes} es m rows k node em le (maybe {s = s} {r = r} i c is f) g at h = ap (λ o. leaves_at rows k (parts_of es side.First o)) (same_node nodes k (i + 1) node (n.Maybe i) at is (omega arith)) ∙ h.each s i r (omega arith) c
 
-pub first_step : (nodes : List RegexNode) (es : List Bool) (m : ℕ) (rows : List (List ℕ)) (i : ℕ) (node : RegexNode) → AreNullable nodes es m → i ≤ m → AreFirsts nodes rows i → slice_get nodes i ≡ Some node → AreFirsts nodes (rows ++ first_at es rows i node ∷ []) (i + 1)
+pub first_step : (nodes : List RegexNode) (es : List Bool) (m : ℕ) (rows : List (List ℕ)) (i : ℕ) (node : RegexNode) → AreNullable nodes es m → i ≤ m → AreFirsts nodes rows i → slice_get nodes i ≡ Some node → AreFirsts nodes (rows ++ leaves_at rows i (parts_of es side.First node) ∷ []) (i + 1)
 first_step nodes es m rows i node em le h at = record {
-  len = length-append rows (first_at es rows i node ∷ []) ∙ ap (λ k. k + 1) h.len;
+  len = length-append rows (leaves_at rows i (parts_of es side.First node) ∷ []) ∙ ap (λ k. k + 1) h.len;
   each = λ s j t lt c. elim (cases_lt j i) [
-    | inl old ↦ get_or_append_left rows (first_at es rows i node ∷ []) [] j (omega (arith, h.len)) ∙ h.each s j t old c
-    | inr past ↦ get_or_push rows (first_at es rows i node) [] j (omega (arith, h.len)) ∙ first_node es m rows i node em le c (omega arith) at h
+    | inl old ↦ get_or_append_left rows (leaves_at rows i (parts_of es side.First node) ∷ []) [] j (omega (arith, h.len)) ∙ h.each s j t old c
+    | inr past ↦ get_or_push rows (leaves_at rows i (parts_of es side.First node)) [] j (omega (arith, h.len)) ∙ first_node es m rows i node em le c (omega arith) at h
   ];
 }
 
-last_node : {nodes : List RegexNode} {s e : ℕ} {t : PositionTree} (es : List Bool) (m : ℕ) (rows : List (List ℕ)) (i : ℕ) (node : RegexNode) → AreNullable nodes es m → i ≤ m → Covers nodes s e t → e ≡ i + 1 → slice_get nodes i ≡ Some node → AreLasts nodes rows i → last_at es rows i node ≡ lasts t
-last_node {nodes} es m rows k node em le (one {s = s} words is f) g at h = ap (last_at es rows k) (same_node nodes k s node (n.Set words) at is (omega arith)) ∙ ap (λ p. p ∷ []) (let x : k ≡ s = omega arith in x)
+last_node : {nodes : List RegexNode} {s e : ℕ} {t : PositionTree} (es : List Bool) (m : ℕ) (rows : List (List ℕ)) (i : ℕ) (node : RegexNode) → AreNullable nodes es m → i ≤ m → Covers nodes s e t → e ≡ i + 1 → slice_get nodes i ≡ Some node → AreLasts nodes rows i → leaves_at rows i (parts_of es side.Last node) ≡ lasts t
+last_node {nodes} es m rows k node em le (one {s = s} words is f) g at h = ap (λ o. leaves_at rows k (parts_of es side.Last o)) (same_node nodes k s node (n.Set words) at is (omega arith)) ∙ ap (λ p. p ∷ []) (let x : k ≡ s = omega arith in x)
 last_node {nodes} es m rows k node em le (seq {s = s} {r = r} {t = t} i j c d is f) g at h =
     let p = h.each s i r (omega (arith, covers_lt d)) c in
     let q = h.each (i + 1) j t (omega arith) d in
     let b = em.each (i + 1) j t (omega arith) d in
-    ap (last_at es rows k) (same_node nodes k (j + 1) node (n.Sequence i j) at is (omega arith)) ∙ (rw (b, p, q) refl)
+    ap (λ o. leaves_at rows k (parts_of es side.Last o)) (same_node nodes k (j + 1) node (n.Sequence i j) at is (omega arith)) ∙ cond_leaves rows k j i (flag es j) ∙ (rw (b, p, q) refl)
 last_node {nodes} es m rows k node em le (choice {s = s} {r = r} {t = t} i j c d is f) g at h =
     let p = h.each s i r (omega (arith, covers_lt d)) c in
     let q = h.each (i + 1) j t (omega arith) d in
-    ap (last_at es rows k) (same_node nodes k (j + 1) node (n.Choice i j) at is (omega arith)) ∙ (rw (p, q) refl)
-last_node {nodes} es m rows k node em le (star {s = s} {r = r} i c is f) g at h = ap (last_at es rows k) (same_node nodes k (i + 1) node (n.Star i) at is (omega arith)) ∙ h.each s i r (omega arith) c
-last_node {nodes} es m rows k node em le (plus {s = s} {r = r} i c is f) g at h = ap (last_at es rows k) (same_node nodes k (i + 1) node (n.Plus i) at is (omega arith)) ∙ h.each s i r (omega arith) c
-last_node {nodes} es m rows k node em le (maybe {s = s} {r = r} i c is f) g at h = ap (last_at es rows k) (same_node nodes k (i + 1) node (n.Maybe i) at is (omega arith)) ∙ h.each s i r (omega arith) c
+    ap (λ o. leaves_at rows k (parts_of es side.Last o)) (same_node nodes k (j + 1) node (n.Choice i j) at is (omega arith)) ∙ (rw (p, q) refl)
+last_node {nodes} es m rows k node em le (star {s = s} {r = r} i c is f) g at h = ap (λ o. leaves_at rows k (parts_of es side.Last o)) (same_node nodes k (i + 1) node (n.Star i) at is (omega arith)) ∙ h.each s i r (omega arith) c
+last_node {nodes} es m rows k node em le (plus {s = s} {r = r} i c is f) g at h = ap (λ o. leaves_at rows k (parts_of es side.Last o)) (same_node nodes k (i + 1) node (n.Plus i) at is (omega arith)) ∙ h.each s i r (omega arith) c
+last_node {nodes} es m rows k node em le (maybe {s = s} {r = r} i c is f) g at h = ap (λ o. leaves_at rows k (parts_of es side.Last o)) (same_node nodes k (i + 1) node (n.Maybe i) at is (omega arith)) ∙ h.each s i r (omega arith) c
 
-pub last_step : (nodes : List RegexNode) (es : List Bool) (m : ℕ) (rows : List (List ℕ)) (i : ℕ) (node : RegexNode) → AreNullable nodes es m → i ≤ m → AreLasts nodes rows i → slice_get nodes i ≡ Some node → AreLasts nodes (rows ++ last_at es rows i node ∷ []) (i + 1)
+pub last_step : (nodes : List RegexNode) (es : List Bool) (m : ℕ) (rows : List (List ℕ)) (i : ℕ) (node : RegexNode) → AreNullable nodes es m → i ≤ m → AreLasts nodes rows i → slice_get nodes i ≡ Some node → AreLasts nodes (rows ++ leaves_at rows i (parts_of es side.Last node) ∷ []) (i + 1)
 last_step nodes es m rows i node em le h at = record {
-  len = length-append rows (last_at es rows i node ∷ []) ∙ ap (λ k. k + 1) h.len;
+  len = length-append rows (leaves_at rows i (parts_of es side.Last node) ∷ []) ∙ ap (λ k. k + 1) h.len;
   each = λ s j t lt c. elim (cases_lt j i) [
-    | inl old ↦ get_or_append_left rows (last_at es rows i node ∷ []) [] j (omega (arith, h.len)) ∙ h.each s j t old c
-    | inr past ↦ get_or_push rows (last_at es rows i node) [] j (omega (arith, h.len)) ∙ last_node es m rows i node em le c (omega arith) at h
+    | inl old ↦ get_or_append_left rows (leaves_at rows i (parts_of es side.Last node) ∷ []) [] j (omega (arith, h.len)) ∙ h.each s j t old c
+    | inr past ↦ get_or_push rows (leaves_at rows i (parts_of es side.Last node)) [] j (omega (arith, h.len)) ∙ last_node es m rows i node em le c (omega arith) at h
   ];
 }
 
@@ -182,30 +190,8 @@ link_step old follow last first i lt within h = record {
     narrow p q (inl a) = inl (inl a)
     narrow p q (inr (a, b)) = elim ((taken last i p lt).0 a) [ inl c ↦ inl (inr (c, b)) | inr e ↦ inr (e, b) ]
 
--- a pass over the nodes
-pub follows_begin : (nodes : List RegexNode) (first last follow : List (List ℕ)) → ((p q : ℕ) → Contains (row follow p) q → ⊥) → AreFollows nodes first last follow (length follow) 0
-follows_begin nodes first last follow none = record { len = refl; each = λ p q. (λ h. absurd (none p q h), λ h. let lt = h.below in absurd (omega arith)) }
-
-pub follows_step : (nodes : List RegexNode) (first last follow new : List (List ℕ)) (m i : ℕ) (node : RegexNode) → slice_get nodes i ≡ Some node → AreFollows nodes first last follow m i → length new ≡ length follow → ((p q : ℕ) → Contains (row new p) q ↔ (Contains (row follow p) q ⊎ LinkAt first last node p q)) → AreFollows nodes first last new m (i + 1)
-follows_step nodes first last follow new m i node at h len exact = record {
-  len = len ∙ h.len;
-  each = λ p q. (
-    λ has. elim ((exact p q).0 has) [
-      | inl old ↦ let l = (h.each p q).0 old in record { place = l.place; node = l.node; least = l.least; below = omega arith; at = l.at; link = l.link }
-      | inr link ↦ record { place = i; node = node; least = omega arith; below = omega arith; at = at; link = link }
-    ],
-    λ l. elim (cases_lt l.place i) [
-      | inl old ↦ (exact p q).1 (inl ((h.each p q).1 (record { place = l.place; node = l.node; least = l.least; below = old; at = l.at; link = l.link })))
-      | inr past ↦ let lt = l.below in (exact p q).1 (inr (subst (λ o. LinkAt first last o p q) (same_node nodes l.place i l.node node l.at at (omega arith)) l.link))
-    ],
-  );
-}
-
 pub link_end : (old follow : List (List ℕ)) (last first : List ℕ) (i : ℕ) → length last ≤ i → LinkPass old follow last first i → (p q : ℕ) → Contains (row follow p) q ↔ (Contains (row old p) q ⊎ (Contains last p × Contains first q))
 link_end old follow last first i le h = subst (λ xs. (p q : ℕ) → Contains (row follow p) q ↔ (Contains (row old p) q ⊎ (Contains xs p × Contains first q))) (take_all i last le) h.exact
-
-pub link_by : (old new first last : List (List ℕ)) (xs ys : List ℕ) (a b : ℕ) → xs ≡ row last a → ys ≡ row first b → ((p q : ℕ) → Contains (row new p) q ↔ (Contains (row old p) q ⊎ (Contains xs p × Contains ys q))) → (p q : ℕ) → Contains (row new p) q ↔ (Contains (row old p) q ⊎ (Contains (row last a) p × Contains (row first b) q))
-link_by old new first last xs ys a b e f h p q = subst (λ zs. Contains (row new p) q ↔ (Contains (row old p) q ⊎ (Contains (row last a) p × Contains zs q))) f (subst (λ zs. Contains (row new p) q ↔ (Contains (row old p) q ⊎ (Contains zs p × Contains ys q))) e (h p q))
 
 pub parts_more : (node : RegexNode) (i m : ℕ) → i ≤ m → PartsBelow i node → PartsBelow m node
 parts_more (n.Set words) i m le h = h
@@ -295,7 +281,3 @@ link_follow {nodes} first last m p q hf hl le (maybe {s = s} {e = e} {r = r} i c
       | inl less ↦ link_follow first last m p q hf hl (omega arith) c (within nodes first last s e s (i + 1) p q l l.least less)
       | inr bad ↦ absurd bad
     ]
-
--- the table of the nodes of one expression, which are those from 0 on, is Follow
-pub follows_exact : {nodes : List RegexNode} {t : PositionTree} (first last follow : List (List ℕ)) (m e p q : ℕ) → AreFirsts nodes first e → AreLasts nodes last e → AreFollows nodes first last follow m e → Covers nodes 0 e t → Contains (row follow p) q ↔ Follow t p q
-follows_exact first last follow m e p q hf hl h c = (λ has. link_follow first last e p q hf hl (omega arith) c ((h.each p q).0 has), λ g. (h.each p q).1 (follow_link first last e p q hf hl (omega arith) c g))

@@ -9,7 +9,7 @@ use Rattle.wb_regex.specs.Tree.{Tree, Set}
 use Rattle.wb_regex.specs.declared.node.RegexNode.{RegexNode}
 use Rattle.wb_automata.specs.Inner.PositionTrees.{PositionTree, Leaf, Matches}
 use Rattle.wb_automata.specs.Inner.Projection.{IsProjection}
-use Rattle.wb_automata.specs.Inner.Nodes.{Covers, AreParts, AreLasts}
+use Rattle.wb_automata.specs.Inner.Nodes.{Covers, AreParts}
 use Rattle.wb_automata.specs.Rows.{row}
 use Rattle.wb_automata.specs.Inner.Follows.{AreBelow}
 use Rattle.wb_automata.specs.Inner.Concatenated.{size_of, bound_of, IsPart, AreConcatenated}
@@ -23,7 +23,7 @@ use Rattle.wb_automata.proofs.JoinLemmas.{place_all, bound_rises, bound_all, cov
 use Rattle.wb_automata.proofs.NodeLemmas.{covers_spans}
 use Rattle.wb_automata.proofs.PlaceLemmas.{all_from}
 use Rattle.wb_automata.proofs.Ranges.{first_within, follow_within}
-use Rattle.wb_automata.proofs.Subs.{Sub, sub_cover, parts_before, last_below}
+use Rattle.wb_automata.proofs.Subs.{Sub, sub_cover, parts_before}
 
 -- an expression with places at its leaves for a tree
 pub record Place (nodes : List RegexNode) (linears : List PositionTree) (a b k : ℕ) (tree : Tree) : Type 0 where
@@ -105,12 +105,6 @@ module _ (trees : List Tree) (nodes : List RegexNode) (roots : List ℕ) (h : Ar
 
   pub planted_parts : AreParts nodes
   planted_parts k node at = let s = planted_sub k (slice_get_within nodes k node at) in parts_before k node s.covers refl at
-
-  pub planted_lasts : (last : List (List ℕ)) → AreLasts nodes last (length nodes) → AreBelow (length nodes) last
-  planted_lasts last is j = elim (cases_lt j (length nodes)) [
-    | inl lt ↦ last_below nodes last j is lt (planted_sub j lt)
-    | inr past ↦ subst (All (λ p. p < length nodes)) (sym (get_or_past last j [] (omega (arith, is.len)))) (All-nil (λ p. p < length nodes))
-  ]
 
   pub planted_roots : All (λ r. r < length nodes) roots
   planted_roots k d lt =

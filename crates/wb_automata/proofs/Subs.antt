@@ -1,16 +1,13 @@
 -- Each node of a tree is the root of a tree.
 use Rattle.std.proofs.Common.{◌≡◌, ℕ, ◌+◌, ◌≤◌, ◌<◌, List, sym, ◌∙◌, ap, subst, arith, inl, inr, Some, length}
-use Rattle.std.specs.Prelude.{slice_get, Contains, All}
+use Rattle.std.specs.Prelude.{slice_get}
 use Rattle.std.proofs.lemmas.Bool.{cases_lt}
 use Rattle.std.proofs.lemmas.Option.{same_Some}
 use Rattle.wb_automata.specs.Inner.PositionTrees.{PositionTree, Leaf, Sequence, Choice, Star, Plus, Maybe}
 use Rattle.wb_regex.specs.declared.node.RegexNode.{RegexNode}
 use Rattle.wb_regex.specs.declared.node.RegexNode.TheVariants as n
-use Rattle.wb_automata.specs.Inner.Nodes.{Covers, one, seq, choice, star, plus, maybe, PartsBelow, AreLasts, lasts}
-use Rattle.wb_automata.specs.Rows.{row}
-use Rattle.wb_automata.proofs.NodeLemmas.{covers_lt, covers_spans, lasts_is}
-use Rattle.wb_automata.proofs.Ranges.{last_within}
-use Rattle.wb_automata.proofs.PlaceLemmas.{all_from}
+use Rattle.wb_automata.specs.Inner.Nodes.{Covers, one, seq, choice, star, plus, maybe, PartsBelow}
+use Rattle.wb_automata.proofs.NodeLemmas.{covers_lt}
 
 pub record Sub (nodes : List RegexNode) (j : ℕ) : Type 0 where
   pub start : ℕ
@@ -42,9 +39,3 @@ parts_before {nodes} j node (choice i k c d is f) g at = let lt = covers_lt d in
 parts_before {nodes} j node (star i c is f) g at = subst (PartsBelow j) (at_place nodes j (i + 1) node (n.Star i) at is (omega arith)) (omega arith)
 parts_before {nodes} j node (plus i c is f) g at = subst (PartsBelow j) (at_place nodes j (i + 1) node (n.Plus i) at is (omega arith)) (omega arith)
 parts_before {nodes} j node (maybe i c is f) g at = subst (PartsBelow j) (at_place nodes j (i + 1) node (n.Maybe i) at is (omega arith)) (omega arith)
-
--- and its last leaves lie in the list
-pub last_below : (nodes : List RegexNode) (last : List (List ℕ)) (j : ℕ) → AreLasts nodes last (length nodes) → j < length nodes → Sub nodes j → All (λ p. p < length nodes) (row last j)
-last_below nodes last j h lt sub =
-    let e : row last j ≡ lasts sub.tree = h.each sub.start j sub.tree lt sub.covers in
-    all_from (λ p. p < length nodes) (row last j) (λ p has. let w = last_within sub.tree sub.start (j + 1) p (covers_spans sub.covers) ((lasts_is sub.tree p).0 (subst (λ zs. Contains zs p) e has)) in let b = w.below in omega arith)

@@ -24,6 +24,8 @@ pub mod PositionTrees
 pub mod Positions
 -- expressions of positions and those of sets of bytes
 pub mod Projection
+-- nodes that a star or plus repeats as a whole
+pub mod Repeated
 -- where expressions begin and end
 pub mod Roots
 -- the first state that accepts two terminals

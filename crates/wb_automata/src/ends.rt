@@ -4,9 +4,10 @@
 
 ghost use Rattle.std.specs.Prelude.{◌≡◌, ◌<◌, ◌≤◌, ◌++◌, ◌∷◌, [], IfOk, length};
 ghost use Rattle.wb_automata.specs.Rows.{row};
-ghost use Rattle.wb_automata.specs.Inner.Nodes.{AreParts, PartsBelow};
-ghost use Rattle.wb_automata.specs.Inner.Ends.{parts_of, sequence_parts, rows_of, IsOpened};
+ghost use Rattle.wb_automata.specs.Inner.Nodes.{PartsBelow};
+ghost use Rattle.wb_automata.specs.Inner.Ends.{IsPostOrder, parts_of, sequence_parts, rows_of, IsOpened};
 
+use crate::post_order::PostOrder;
 use crate::rows::Leaves;
 use std::alloc::{AllocError, Global};
 use wb_regex::RegexNode;
@@ -28,24 +29,39 @@ pub(crate) enum Parts {
 // The leaves with which a match of the node at this place may begin or end.
 pub(crate) fn ends_of(
     alloc: Global,
-    nodes: &[RegexNode],
-    empty: &[bool],
+    order: &PostOrder,
     root: usize,
     side: Side,
 ) -> Result<Leaves, AllocError>
-    requires parts { AreParts nodes.now }
-    requires empty { length empty.now ≡ length nodes.now }
-    requires root { root < length nodes.now }
-    ensures { IfOk result (λ all. all ≡ row (rows_of empty.now side nodes.now) root) }
+    requires order { IsPostOrder order.now.nodes.now order.now.empty.now }
+    requires root { root < length order.now.nodes.now }
+    ensures { IfOk result (λ all. all ≡ row (rows_of order.now.empty.now side order.now.nodes.now) root) }
 {
     let mut all = Leaves::new(alloc);
+    add_ends(alloc, order, root, side, &mut all)?;
+    Ok(all)
+}
+
+// Puts them into an empty list.
+fn add_ends(
+    alloc: Global,
+    order: &PostOrder,
+    root: usize,
+    side: Side,
+    all: &mut Leaves,
+) -> Result<(), AllocError>
+    requires order { IsPostOrder order.now.nodes.now order.now.empty.now }
+    requires root { root < length order.now.nodes.now }
+    requires none { all.old ≡ [] }
+    ensures { IfOk result (λ _. all.new ≡ row (rows_of order.now.empty.now side order.now.nodes.now) root) }
+{
     let mut pending = Leaves::new(alloc);
     pending.push(root)?;
     'walk: while let Some(place) = pending.pop() {
-        let parts = parts_of(nodes[place], empty, side);
-        add_parts(place, parts, &mut all, &mut pending)?;
+        let parts = parts_of(order.nodes[place], order.empty, side);
+        add_parts(place, parts, all, &mut pending)?;
     }
-    Ok(all)
+    Ok(())
 }
 
 // A leaf is added to those that were found, and parts to those that are pending.

@@ -1,41 +1,131 @@
 //! Which leaves may come after which in a match?
+//!
+//! A node of which all links come by another is left out, so each pair of leaves is listed once: `repeated` says which.
 
 ghost use Rattle.std.specs.Prelude.{◌≡◌, ℕ, ◌<◌, ◌≤◌, ◌++◌, ◌∷◌, [], List, length, IfOk, All, Contains, ◌↔◌, ◌⊎◌};
-ghost use Rattle.wb_automata.specs.Inner.Nodes.{AreParts, PartsBelow, nullable_at, AreNullable};
+ghost use Rattle.wb_automata.specs.Inner.Nodes.{PartsBelow};
 ghost use Rattle.wb_automata.specs.Rows.{row};
-ghost use Rattle.wb_automata.specs.Inner.Ends.{rows_of};
+ghost use Rattle.wb_automata.specs.Inner.Ends.{IsPostOrder, rows_of};
 ghost use Rattle.wb_automata.specs.Inner.Follows.{AreBelow, LinkAt, AreFollows};
+ghost use Rattle.wb_automata.specs.Inner.Repeated.{AreRepeated, adds_nothing};
 
 use crate::ends::{Side, ends_of};
+use crate::post_order::PostOrder;
+use crate::repeated::repeated_of;
 use crate::rows::Rows;
 use std::alloc::{AllocError, Global};
 use wb_regex::RegexNode;
 
-// Whether each node matches the empty text.
-pub(crate) fn nullable(alloc: Global, nodes: &[RegexNode]) -> Result<Vec<bool>, AllocError>
-    requires parts { AreParts nodes.now }
-    ensures { IfOk result (λ all. AreNullable nodes.now all.items (length nodes.now)) }
+// Which leaves may come after which, over all the nodes.
+pub(crate) fn add_follows(
+    alloc: Global,
+    order: &PostOrder,
+    follow: &mut Rows,
+) -> Result<(), AllocError>
+    requires order { IsPostOrder order.now.nodes.now order.now.empty.now }
+    requires below { length order.now.nodes.now ≤ length follow.old }
+    requires none { (p q : ℕ) → Contains (row follow.old p) q → ⊥ }
+    ensures len { length follow.new ≡ length follow.old }
+    ensures exact { IfOk result (λ _. AreFollows order.now.nodes.now (rows_of order.now.empty.now Side.First order.now.nodes.now) (rows_of order.now.empty.now Side.Last order.now.nodes.now) follow.new (length follow.old) (length order.now.nodes.now)) }
 {
-    let mut all = Vec::new(alloc);
-    for node in nodes {
-        let empty = nullable_at(*node, &all);
-        all.push(empty)?;
-    }
-    Ok(all)
+    let repeated = repeated_of(alloc, order)?;
+    add_new_follows(alloc, order, &repeated, follow)
 }
 
-fn nullable_at(node: RegexNode, before: &[bool]) -> bool
-    requires parts { PartsBelow (length before.now) node }
-    ensures { result ≡ nullable_at before.now node }
+// The same by the nodes that add something.
+fn add_new_follows(
+    alloc: Global,
+    order: &PostOrder,
+    repeated: &[bool],
+    follow: &mut Rows,
+) -> Result<(), AllocError>
+    requires order { IsPostOrder order.now.nodes.now order.now.empty.now }
+    requires repeated { AreRepeated order.now.nodes.now (rows_of order.now.empty.now Side.First order.now.nodes.now) (rows_of order.now.empty.now Side.Last order.now.nodes.now) repeated.now 0 }
+    requires below { length order.now.nodes.now ≤ length follow.old }
+    requires none { (p q : ℕ) → Contains (row follow.old p) q → ⊥ }
+    ensures len { length follow.new ≡ length follow.old }
+    ensures exact { IfOk result (λ _. AreFollows order.now.nodes.now (rows_of order.now.empty.now Side.First order.now.nodes.now) (rows_of order.now.empty.now Side.Last order.now.nodes.now) follow.new (length follow.old) (length order.now.nodes.now)) }
+{
+    for (place, node) in order.nodes.iter().enumerate() {
+        if !adds_nothing(*node, repeated[place], order.empty) {
+            link_at(alloc, order, *node, follow)?;
+        }
+    }
+    Ok(())
+}
+
+// Whether the star or plus that repeats the node has all its links.
+fn adds_nothing(node: RegexNode, repeated: bool, empty: &[bool]) -> bool
+    requires { PartsBelow (length empty.now) node }
+    ensures { result ≡ adds_nothing empty.now repeated node }
 {
     match node {
-        RegexNode::Set(_) => false,
-        RegexNode::Sequence(i, j) => before[i] && before[j],
-        RegexNode::Choice(i, j) => before[i] || before[j],
-        RegexNode::Star(_) => true,
-        RegexNode::Plus(i) => before[i],
-        RegexNode::Maybe(_) => true,
+        RegexNode::Set(_) => repeated,
+        RegexNode::Sequence(i, j) => repeated && empty[i] && empty[j],
+        RegexNode::Choice(_, _) => repeated,
+        RegexNode::Star(_) => repeated,
+        RegexNode::Plus(_) => repeated,
+        RegexNode::Maybe(_) => repeated,
     }
+}
+
+fn link_at(
+    alloc: Global,
+    order: &PostOrder,
+    node: RegexNode,
+    follow: &mut Rows,
+) -> Result<(), AllocError>
+    requires order { IsPostOrder order.now.nodes.now order.now.empty.now }
+    requires parts { PartsBelow (length order.now.nodes.now) node }
+    requires below { length order.now.nodes.now ≤ length follow.old }
+    ensures len { length follow.new ≡ length follow.old }
+    ensures exact { IfOk result (λ _. (p q : ℕ) → Contains (row follow.new p) q ↔ (Contains (row follow.old p) q ⊎ LinkAt (rows_of order.now.empty.now Side.First order.now.nodes.now) (rows_of order.now.empty.now Side.Last order.now.nodes.now) node p q)) }
+{
+    match node {
+        RegexNode::Set(_) => {}
+        RegexNode::Sequence(i, j) => link_parts(alloc, order, i, j, follow)?,
+        RegexNode::Choice(_, _) => {}
+        RegexNode::Star(i) => link_parts(alloc, order, i, i, follow)?,
+        RegexNode::Plus(i) => link_parts(alloc, order, i, i, follow)?,
+        RegexNode::Maybe(_) => {}
+    }
+    Ok(())
+}
+
+// After each last leaf of the one node, each first leaf of the other.
+fn link_parts(
+    alloc: Global,
+    order: &PostOrder,
+    i: usize,
+    j: usize,
+    follow: &mut Rows,
+) -> Result<(), AllocError>
+    requires order { IsPostOrder order.now.nodes.now order.now.empty.now }
+    requires parts { (i < length order.now.nodes.now) × (j < length order.now.nodes.now) }
+    requires below { length order.now.nodes.now ≤ length follow.old }
+    ensures len { length follow.new ≡ length follow.old }
+    ensures exact { IfOk result (λ _. (p q : ℕ) → Contains (row follow.new p) q ↔ (Contains (row follow.old p) q ⊎ (Contains (row (rows_of order.now.empty.now Side.Last order.now.nodes.now) i) p × Contains (row (rows_of order.now.empty.now Side.First order.now.nodes.now) j) q))) }
+{
+    let last = ends_of(alloc, order, i, Side::Last)?;
+    link_first(alloc, order, last.as_slice(), j, follow)
+}
+
+// After each of these leaves, each first leaf of the node.
+fn link_first(
+    alloc: Global,
+    order: &PostOrder,
+    last: &[usize],
+    j: usize,
+    follow: &mut Rows,
+) -> Result<(), AllocError>
+    requires order { IsPostOrder order.now.nodes.now order.now.empty.now }
+    requires part { j < length order.now.nodes.now }
+    requires below { All (λ p. p < length follow.old) last.now }
+    ensures len { length follow.new ≡ length follow.old }
+    ensures exact { IfOk result (λ _. (p q : ℕ) → Contains (row follow.new p) q ↔ (Contains (row follow.old p) q ⊎ (Contains last.now p × Contains (row (rows_of order.now.empty.now Side.First order.now.nodes.now) j) q))) }
+{
+    let first = ends_of(alloc, order, j, Side::First)?;
+    link(follow, last, first.as_slice())
 }
 
 // After each leaf of the one list, each leaf of the other.
@@ -46,72 +136,6 @@ pub(crate) fn link(follow: &mut Rows, last: &[usize], first: &[usize]) -> Result
 {
     for p in last {
         follow.add(*p, first)?;
-    }
-    Ok(())
-}
-
-fn link_at(
-    alloc: Global,
-    nodes: &[RegexNode],
-    empty: &[bool],
-    node: RegexNode,
-    follow: &mut Rows,
-) -> Result<(), AllocError>
-    requires all { AreParts nodes.now }
-    requires empty { length empty.now ≡ length nodes.now }
-    requires parts { PartsBelow (length nodes.now) node }
-    requires below { AreBelow (length follow.old) (rows_of empty.now Side.Last nodes.now) }
-    ensures len { length follow.new ≡ length follow.old }
-    ensures exact { IfOk result (λ _. (p q : ℕ) → Contains (row follow.new p) q ↔ (Contains (row follow.old p) q ⊎ LinkAt (rows_of empty.now Side.First nodes.now) (rows_of empty.now Side.Last nodes.now) node p q)) }
-{
-    match node {
-        RegexNode::Set(_) => {}
-        RegexNode::Sequence(i, j) => link_parts(alloc, nodes, empty, i, j, follow)?,
-        RegexNode::Choice(_, _) => {}
-        RegexNode::Star(i) => link_parts(alloc, nodes, empty, i, i, follow)?,
-        RegexNode::Plus(i) => link_parts(alloc, nodes, empty, i, i, follow)?,
-        RegexNode::Maybe(_) => {}
-    }
-    Ok(())
-}
-
-// After each last leaf of the one node, each first leaf of the other.
-fn link_parts(
-    alloc: Global,
-    nodes: &[RegexNode],
-    empty: &[bool],
-    i: usize,
-    j: usize,
-    follow: &mut Rows,
-) -> Result<(), AllocError>
-    requires all { AreParts nodes.now }
-    requires empty { length empty.now ≡ length nodes.now }
-    requires parts { (i < length nodes.now) × (j < length nodes.now) }
-    requires below { AreBelow (length follow.old) (rows_of empty.now Side.Last nodes.now) }
-    ensures len { length follow.new ≡ length follow.old }
-    ensures exact { IfOk result (λ _. (p q : ℕ) → Contains (row follow.new p) q ↔ (Contains (row follow.old p) q ⊎ (Contains (row (rows_of empty.now Side.Last nodes.now) i) p × Contains (row (rows_of empty.now Side.First nodes.now) j) q))) }
-{
-    let last = ends_of(alloc, nodes, empty, i, Side::Last)?;
-    let first = ends_of(alloc, nodes, empty, j, Side::First)?;
-    link(follow, last.as_slice(), first.as_slice())
-}
-
-// Which leaves may come after which, over all the nodes.
-pub(crate) fn add_follows(
-    alloc: Global,
-    nodes: &[RegexNode],
-    empty: &[bool],
-    follow: &mut Rows,
-) -> Result<(), AllocError>
-    requires parts { AreParts nodes.now }
-    requires empty { length empty.now ≡ length nodes.now }
-    requires below { AreBelow (length follow.old) (rows_of empty.now Side.Last nodes.now) }
-    requires none { (p q : ℕ) → Contains (row follow.old p) q → ⊥ }
-    ensures len { length follow.new ≡ length follow.old }
-    ensures exact { IfOk result (λ _. AreFollows nodes.now (rows_of empty.now Side.First nodes.now) (rows_of empty.now Side.Last nodes.now) follow.new (length follow.old) (length nodes.now)) }
-{
-    for node in nodes {
-        link_at(alloc, nodes, empty, *node, follow)?;
     }
     Ok(())
 }

@@ -2,15 +2,16 @@
 
 ghost use Rattle.std.specs.Prelude.{◌≡◌, ◌+◌, ◌<◌, ◌↔◌, ◌⊎◌, ℕ, List, [], All, Contains, IfOk, length, replicate};
 ghost use Rattle.wb_automata.specs.Rows.{row};
-ghost use Rattle.wb_automata.specs.Inner.Nodes.{AreParts, AreLasts};
-ghost use Rattle.wb_automata.specs.Inner.Ends.{rows_of};
-ghost use Rattle.wb_automata.specs.Inner.Follows.{AreBelow, LinkIn};
+ghost use Rattle.wb_automata.specs.Inner.Nodes.{AreParts, AreNullable};
+ghost use Rattle.wb_automata.specs.Inner.Ends.{IsPostOrder, rows_of};
+ghost use Rattle.wb_automata.specs.Inner.Follows.{LinkIn};
 ghost use Rattle.wb_automata.specs.Inner.Roots.{StartAt, EndAt};
 ghost use Rattle.wb_automata.specs.Inner.Tables.{AreTables, AreLinks};
 
 use crate::concatenated::concatenate;
 use crate::ends::Side;
-use crate::positions::{add_follows, nullable};
+use crate::positions::add_follows;
+use crate::post_order::{PostOrder, nullable};
 use crate::rows::{Leaves, Rows};
 use crate::terminals::{begins, ends, starts_of};
 use std::alloc::{AllocError, Global};
@@ -55,52 +56,50 @@ struct Links {
 fn links_of(alloc: Global, nodes: &[RegexNode], roots: &[usize]) -> Result<Links, AllocError>
     requires parts { AreParts nodes.now }
     requires roots { All (λ r. r < length nodes.now) roots.now }
-    requires below { (last : List (List ℕ)) → AreLasts nodes.now last (length nodes.now) → AreBelow (length nodes.now) last }
     ensures { IfOk result (λ links. AreLinks nodes.now roots.now links.follow links.ends) }
 {
     let empty = nullable(alloc, nodes)?;
-    let flags = empty.as_slice();
-    let follow = follows(alloc, nodes, roots, flags)?;
-    let ends = ends_table(alloc, nodes, roots, flags)?;
+    let order = PostOrder {
+        nodes,
+        empty: &empty,
+    };
+    links_in(alloc, &order, roots)
+}
+
+// The same, where it is known which nodes match the empty text.
+fn links_in(alloc: Global, order: &PostOrder, roots: &[usize]) -> Result<Links, AllocError>
+    requires parts { AreParts order.now.nodes.now }
+    requires nullable { AreNullable order.now.nodes.now order.now.empty.now (length order.now.nodes.now) }
+    requires roots { All (λ r. r < length order.now.nodes.now) roots.now }
+    ensures { IfOk result (λ links. AreLinks order.now.nodes.now roots.now links.follow links.ends) }
+{
+    let follow = follows(alloc, order, roots)?;
+    let ends = ends_table(alloc, order, roots)?;
     Ok(Links { follow, ends })
 }
 
 // Which leaves may come after each place.
-fn follows(
-    alloc: Global,
-    nodes: &[RegexNode],
-    roots: &[usize],
-    empty: &[bool],
-) -> Result<Rows, AllocError>
-    requires parts { AreParts nodes.now }
-    requires empty { length empty.now ≡ length nodes.now }
-    requires below { AreBelow (length nodes.now) (rows_of empty.now Side.Last nodes.now) }
-    requires roots { All (λ r. r < length nodes.now) roots.now }
-    ensures len { IfOk result (λ f. length f ≡ length nodes.now + length roots.now) }
-    ensures exact { IfOk result (λ f. (p q : ℕ) → Contains (row f p) q ↔ (LinkIn nodes.now (rows_of empty.now Side.First nodes.now) (rows_of empty.now Side.Last nodes.now) 0 (length nodes.now) p q ⊎ StartAt (rows_of empty.now Side.First nodes.now) roots.now (length nodes.now) (length roots.now) p q)) }
+fn follows(alloc: Global, order: &PostOrder, roots: &[usize]) -> Result<Rows, AllocError>
+    requires order { IsPostOrder order.now.nodes.now order.now.empty.now }
+    requires roots { All (λ r. r < length order.now.nodes.now) roots.now }
+    ensures len { IfOk result (λ f. length f ≡ length order.now.nodes.now + length roots.now) }
+    ensures exact { IfOk result (λ f. (p q : ℕ) → Contains (row f p) q ↔ (LinkIn order.now.nodes.now (rows_of order.now.empty.now Side.First order.now.nodes.now) (rows_of order.now.empty.now Side.Last order.now.nodes.now) 0 (length order.now.nodes.now) p q ⊎ StartAt (rows_of order.now.empty.now Side.First order.now.nodes.now) roots.now (length order.now.nodes.now) (length roots.now) p q)) }
 {
-    let mut follow = blank(alloc, nodes, roots)?;
-    add_follows(alloc, nodes, empty, &mut follow)?;
-    begins(alloc, nodes, empty, roots, &mut follow)?;
+    let mut follow = blank(alloc, order.nodes, roots)?;
+    add_follows(alloc, order, &mut follow)?;
+    begins(alloc, order, roots, &mut follow)?;
     Ok(follow)
 }
 
 // Which expressions may end with each leaf.
-fn ends_table(
-    alloc: Global,
-    nodes: &[RegexNode],
-    roots: &[usize],
-    empty: &[bool],
-) -> Result<Rows, AllocError>
-    requires parts { AreParts nodes.now }
-    requires empty { length empty.now ≡ length nodes.now }
-    requires below { AreBelow (length nodes.now) (rows_of empty.now Side.Last nodes.now) }
-    requires roots { All (λ r. r < length nodes.now) roots.now }
-    ensures len { IfOk result (λ t. length t ≡ length nodes.now + length roots.now) }
-    ensures exact { IfOk result (λ t. (p k : ℕ) → Contains (row t p) k ↔ EndAt (rows_of empty.now Side.Last nodes.now) roots.now (length roots.now) p k) }
+fn ends_table(alloc: Global, order: &PostOrder, roots: &[usize]) -> Result<Rows, AllocError>
+    requires order { IsPostOrder order.now.nodes.now order.now.empty.now }
+    requires roots { All (λ r. r < length order.now.nodes.now) roots.now }
+    ensures len { IfOk result (λ t. length t ≡ length order.now.nodes.now + length roots.now) }
+    ensures exact { IfOk result (λ t. (p k : ℕ) → Contains (row t p) k ↔ EndAt (rows_of order.now.empty.now Side.Last order.now.nodes.now) roots.now (length roots.now) p k) }
 {
-    let mut table = blank(alloc, nodes, roots)?;
-    ends(alloc, nodes, empty, roots, &mut table)?;
+    let mut table = blank(alloc, order.nodes, roots)?;
+    ends(alloc, order, roots, &mut table)?;
     Ok(table)
 }
 

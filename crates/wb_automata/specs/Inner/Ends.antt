@@ -7,7 +7,12 @@ use Rattle.wb_automata.specs.declared.ends.Side.TheVariants.{First, Last}
 use Rattle.wb_automata.specs.declared.ends.Parts.{Parts}
 use Rattle.wb_automata.specs.declared.ends.Parts.TheVariants.{Leaf, One, Two}
 use Rattle.wb_automata.specs.Rows.{row}
-use Rattle.wb_automata.specs.Inner.Nodes.{flag}
+use Rattle.wb_automata.specs.Inner.Nodes.{flag, AreParts}
+
+-- the parts of nodes are before them, and for each node there is a flag
+pub record IsPostOrder (nodes : List RegexNode) (es : List Bool) : Type 0 where
+  pub parts : AreParts nodes
+  pub len : length es ≡ length nodes
 
 -- the parts of a sequence, from the one side or from the other
 abbrev pub sequence_parts : List Bool → ℕ → ℕ → Parts

@@ -39,16 +39,7 @@ nullable_at es (n.Star i) = true
 nullable_at es (n.Plus i) = flag es i
 nullable_at es (n.Maybe i) = true
 
--- the leaves that begin a match of the node, by those of its parts
-abbrev pub first_at : List Bool → List (List ℕ) → ℕ → RegexNode → List ℕ
-first_at es rows place (n.Set words) = place ∷ []
-first_at es rows place (n.Sequence i j) = cond (flag es i) (row rows i ++ row rows j) (row rows i)
-first_at es rows place (n.Choice i j) = row rows i ++ row rows j
-first_at es rows place (n.Star i) = row rows i
-first_at es rows place (n.Plus i) = row rows i
-first_at es rows place (n.Maybe i) = row rows i
-
--- the same of trees
+-- the leaves that begin a match
 abbrev pub firsts : PositionTree → List ℕ
 firsts (Leaf p) = p ∷ []
 firsts (Sequence r s) = cond (nullable_of r) (firsts r ++ firsts s) (firsts r)
@@ -67,16 +58,7 @@ pub record AreFirsts (nodes : List RegexNode) (rows : List (List ℕ)) (i : ℕ)
   pub len : length rows ≡ i
   pub each : (s j : ℕ) (t : PositionTree) → j < i → Covers nodes s (j + 1) t → row rows j ≡ firsts t
 
--- the leaves that end a match of the node, by those of its parts
-abbrev pub last_at : List Bool → List (List ℕ) → ℕ → RegexNode → List ℕ
-last_at es rows place (n.Set words) = place ∷ []
-last_at es rows place (n.Sequence i j) = cond (flag es j) (row rows j ++ row rows i) (row rows j)
-last_at es rows place (n.Choice i j) = row rows i ++ row rows j
-last_at es rows place (n.Star i) = row rows i
-last_at es rows place (n.Plus i) = row rows i
-last_at es rows place (n.Maybe i) = row rows i
-
--- the same of trees
+-- the leaves that end a match
 abbrev pub lasts : PositionTree → List ℕ
 lasts (Leaf p) = p ∷ []
 lasts (Sequence r s) = cond (nullable_of s) (lasts s ++ lasts r) (lasts s)

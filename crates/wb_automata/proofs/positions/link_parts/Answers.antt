@@ -1,12 +1,10 @@
-use Rattle.std.proofs.Common.{◌≡◌, ◌∙◌, subst, sym, length}
-use Rattle.std.specs.Prelude.{All}
-use Rattle.wb_automata.specs.declared.ends.Side.TheVariants.{First, Last}
-use Rattle.wb_automata.specs.Inner.Ends.{rows_of}
-use Rattle.wb_automata.specs.Rows.{row}
+use Rattle.std.proofs.Common.{length}
+use Rattle.wb_automata.specs.declared.ends.Side.TheVariants.{Last}
+use Rattle.wb_automata.proofs.EndLemmas.{row_within}
 use Rattle.wb_automata.proofs.positions.link_parts.Goals as goal
 
-pub link-requires : goal.link-requires
-link-requires c = record { below = rw (c.as_slice.ensures, c.in_ok-last.ensures) (c.requires.below c.args.i) }
+pub link_first-requires-clause-below : goal.link_first-requires-clause-below
+link_first-requires-clause-below c = rw (c.as_slice.ensures, c.in_ok-last.ensures) (row_within c.args.order.now.empty.now Last c.args.order.now.nodes.now (length c.args.follow.now) c.args.i c.requires.order.parts c.requires.below)
 
 pub returns-clause-exact : goal.returns-clause-exact
-returns-clause-exact c = rw (c.as_slice.ensures, c.in_ok-last.ensures, c.as_slice-2.ensures, c.in_ok-first.ensures) at c.link.ensures.exact
+returns-clause-exact c = rw (c.as_slice.ensures, c.in_ok-last.ensures) at c.link_first.ensures.exact

@@ -1,4 +1,4 @@
-use Rattle.wb_automata.proofs.PlantLemmas.{planted, planted_parts, planted_lasts, planted_roots}
+use Rattle.wb_automata.proofs.PlantLemmas.{planted, planted_parts, planted_roots}
 use Rattle.wb_automata.proofs.TableLemmas.{tables_whole}
 use Rattle.wb_automata.proofs.tables.tables_of.Goals as goal
 
@@ -7,9 +7,6 @@ links_of-requires-clause-parts c = rw (c.as_slice.ensures.value) (planted_parts 
 
 pub links_of-requires-clause-roots : goal.links_of-requires-clause-roots
 links_of-requires-clause-roots c = rw (c.as_slice.ensures.value, c.as_slice-2.ensures.value) (planted_roots c.args.terminals.now c.in_ok-all.all.nodes.items c.in_ok-all.all.roots.items (planted c.args.terminals.now c.in_ok-all.all.nodes.items c.in_ok-all.all.roots.items c.in_ok-all.ensures))
-
-pub links_of-requires-clause-below : goal.links_of-requires-clause-below
-links_of-requires-clause-below c = rw (c.as_slice.ensures.value) (planted_lasts c.args.terminals.now c.in_ok-all.all.nodes.items c.in_ok-all.all.roots.items (planted c.args.terminals.now c.in_ok-all.all.nodes.items c.in_ok-all.all.roots.items c.in_ok-all.ensures))
 
 pub returns : goal.returns
 returns c = tables_whole c.args.terminals.now c.args.sets.now c.in_ok-all.all.roots.items _ c.in_ok-all.ensures (rw (c.as_slice.ensures.value, c.as_slice-2.ensures.value) at c.in_ok-links.ensures) (rw (c.len.ensures, c.in_ok-all.all.nodes.ok.0) at c.in_ok-starts.ensures)

@@ -4,4 +4,4 @@ use Rattle.wb_automata.proofs.RootLemmas.{EndPass}
 use Rattle.wb_automata.proofs.terminals.ends.Given as goal
 
 abbrev pub invariant-loop-k : goal.invariant-loop-k
-invariant-loop-k l = EndPass l.fn.table l.table (rows_of l.empty Last l.nodes) l.roots l.k
+invariant-loop-k l = EndPass l.fn.table l.table (rows_of l.order.empty.now Last l.order.nodes.now) l.roots l.k
