@@ -38,6 +38,25 @@ fn numbers_of(
     Ok(numbers)
 }
 
+// The numbers of the vertices that stand for the components, in the order of the components.
+fn numbers_of_roots(
+    alloc: Global,
+    count: usize,
+    edges: &[(usize, usize)],
+) -> Result<Vec<usize>, AllocError>
+    requires { All (IsEdgeBelow count) edges.now }
+{
+    let components = strong_components(alloc, count, edges)?;
+    let mut numbers = Vec::new(alloc);
+    for component in 0..components.len() {
+        let vertex = components.root(component);
+        if vertex < count {
+            numbers.push(components.of(vertex))?;
+        }
+    }
+    Ok(numbers)
+}
+
 #[test]
 fn vertices_come_after_the_ends_of_their_edges(rt: HostRuntime) -> Result<(), Fail> {
     match order_of(rt.alloc(), 2, &[(0, 1)])? {
@@ -74,12 +93,8 @@ fn components_are_numbered_so_that_edges_fall(rt: HostRuntime) -> Result<(), Fai
 
 #[test]
 fn each_component_has_a_vertex_of_its_number(rt: HostRuntime) -> Result<(), Fail> {
-    let components = strong_components(rt.alloc(), 3, &[(0, 1), (1, 0), (1, 2)])?;
-    assert_eq!(rt; components.len(), 2);
-    assert!(rt; !components.is_empty());
-    for component in 0..components.len() {
-        assert_eq!(rt; components.of(components.root(component)), component);
-    }
+    let numbers = numbers_of_roots(rt.alloc(), 3, &[(0, 1), (1, 0), (1, 2)])?;
+    assert_eq!(rt; numbers.as_slice(), [0, 1].as_slice());
     Ok(())
 }
 
