@@ -1,4 +1,4 @@
-//! Actions put into a row, one on each terminal.
+//! Does an action fit into a row? One stands on each terminal, and a second one is a conflict.
 
 ghost use Rattle.std.specs.Prelude.{◌≡◌, ◌≤◌, ◌<◌, ◌↔◌, IsTrue, IfErr, OnOk, length};
 ghost use Rattle.wb_termset.specs.Sets.{IsMember};

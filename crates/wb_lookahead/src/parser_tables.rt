@@ -1,13 +1,15 @@
-//! The tables by which a parser runs.
+//! What does a parser ask tables? Actions, kernels after nonterminals, and valid terminals.
+//!
+//! They are made in `build_tables.rt`.
 
 ghost use Rattle.std.specs.Prelude.{◌≡◌, ◌≤◌, ◌<◌, length, map};
 ghost use Rattle.wb_lookahead.specs.Codes.{action_at, goto_at};
 ghost use Rattle.wb_lookahead.specs.Contents.{action_of, goto_of, size_of, valid_of};
-ghost use Rattle.wb_lookahead.specs.Grids.{AreGrids};
+ghost use Rattle.wb_lookahead.specs.Matrices.{AreMatrices};
 
 use crate::action::Action;
 use crate::codes::{action_from, goto_from};
-use crate::grid::Grid;
+use crate::matrix::Matrix;
 use std::marker::Model;
 use wb_termset::TermSet;
 
@@ -18,8 +20,8 @@ use wb_termset::TermSet;
 #[derive(Drop)]
 pub struct Tables {
     terminals: usize,
-    actions: Grid,
-    gotos: Grid,
+    actions: Matrix,
+    gotos: Matrix,
     valid: Vec<TermSet>,
 }
 
@@ -27,19 +29,19 @@ impl Model for Tables {
     ghost use Rattle.std.specs.Prelude.{length, map};
     ghost use Rattle.wb_lookahead.specs.Codes.{action_at, goto_at};
     ghost use Rattle.wb_lookahead.specs.Contents.{TablesView};
-    ghost use Rattle.wb_lookahead.specs.Grids.{AreGrids};
+    ghost use Rattle.wb_lookahead.specs.Matrices.{AreMatrices};
 
     ghost Value = { TablesView };
 
     ghost view = { λ t. record { terminals = t.terminals; nonterminals = t.gotos.width; actions = map (map action_at) t.actions.rows; gotos = map (map goto_at) t.gotos.rows; valid = t.valid.items } };
 
-    ghost invariant = { λ t. AreGrids t.terminals t.actions t.gotos (length t.valid.items) };
+    ghost invariant = { λ t. AreMatrices t.terminals t.actions t.gotos (length t.valid.items) };
 }
 
 impl Tables {
     // The tables of these parts.
-    pub(crate) fn of(terminals: usize, actions: Grid, gotos: Grid, valid: Vec<TermSet>) -> Tables
-        requires { AreGrids terminals actions gotos (length valid.items) }
+    pub(crate) fn of(terminals: usize, actions: Matrix, gotos: Matrix, valid: Vec<TermSet>) -> Tables
+        requires { AreMatrices terminals actions gotos (length valid.items) }
         ensures { result ≡ record { terminals = terminals; nonterminals = gotos.width; actions = map (map action_at) actions.rows; gotos = map (map goto_at) gotos.rows; valid = valid.items } }
     {
         Tables {

@@ -2,7 +2,7 @@ use Rattle.std.proofs.Common.{◌≡◌, sym, ◌∙◌, ap, subst}
 use Rattle.wb_base.specs.Grammar.{GrammarView}
 use Rattle.wb_lookahead.specs.Tables.{AreTables}
 use Rattle.wb_lookahead.proofs.PartLemmas.{parts_all}
-use Rattle.wb_lookahead.proofs.parts.tables.Goals as goal
+use Rattle.wb_lookahead.proofs.build_tables.tables.Goals as goal
 
 pub returns-clause-ok : goal.returns-clause-ok
 returns-clause-ok c =

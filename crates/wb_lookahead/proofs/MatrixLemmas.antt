@@ -2,7 +2,7 @@
 use Rattle.std.proofs.Common.{◌≡◌, ℕ, zero, suc, ◌+◌, ◌*◌, ◌<◌, ◌≤◌, List, [], ◌∷◌, ◌++◌, length, get_or, take, drop, refl, sym, ◌∙◌, ap, arith, add-one, length-append, length-drop}
 use Rattle.std.proofs.Math.Nat.{mul-le-mul_left}
 use Rattle.std.proofs.lemmas.List.{take-append-le, drop-append-le, drop-drop, take_all, length-take-le, get_or-take, get_or-drop}
-use Rattle.wb_lookahead.specs.Grids.{GridView, rows_of}
+use Rattle.wb_lookahead.specs.Matrices.{MatrixView, rows_of}
 
 pub rows_of-length : (height width : ℕ) (codes : List ℕ) → length (rows_of height width codes) ≡ height
 unfolding rows_of
@@ -58,13 +58,14 @@ module _ (height width : ℕ) (codes : List ℕ) (s : ℕ) where
       ap (λ (z : List ℕ). get_or z j 0) (rows_at height width codes s lt) ∙ get_or-take width (drop (s * width) codes) j 0 less
       ∙ get_or-drop (s * width) codes j 0
 
--- what a grid with a row more shows
-pub grid_more : (height more width : ℕ) (codes new row : List ℕ) → length codes ≡ height * width → length row ≡ width → more ≡ height + 1 →
-    new ≡ codes ++ row → ◌≡◌ {A = GridView} (record { width = width; rows = rows_of more width new })
+-- what a matrix with a row more shows
+pub matrix_more : (height more width : ℕ) (codes new row : List ℕ) → length codes ≡ height * width → length row ≡ width →
+    more ≡ height + 1 →
+    new ≡ codes ++ row → ◌≡◌ {A = MatrixView} (record { width = width; rows = rows_of more width new })
     (record { width = width; rows = rows_of height width codes ++ row ∷ [] })
-grid_more height more width codes new row e len more_is new_is =
-    let grid : List (List ℕ) → GridView = λ z. record { width = width; rows = z } in
-    ap grid (ap (λ n. rows_of n width new) more_is ∙ ap (rows_of (height + 1) width) new_is ∙ rows_of-more height width codes row e len)
+matrix_more height more width codes new row e len more_is new_is =
+    let matrix : List (List ℕ) → MatrixView = λ z. record { width = width; rows = z } in
+    ap matrix (ap (λ n. rows_of n width new) more_is ∙ ap (rows_of (height + 1) width) new_is ∙ rows_of-more height width codes row e len)
 
 -- the list is longer by a row
 pub length_more : (height more width : ℕ) (codes new row : List ℕ) → length codes ≡ height * width → length row ≡ width →

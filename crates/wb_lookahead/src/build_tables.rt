@@ -1,4 +1,6 @@
-//! Tables in the making, one kernel after another.
+//! Which tables has a grammar? They are made one kernel after another, unless some kernel has a conflict.
+//!
+//! One kernel's row is made in `rows.rt`; how tables are asked is in `parser_tables.rt`.
 
 ghost use Rattle.std.specs.Prelude.{◌≡◌, ◌+◌, ◌<◌, IfErr, IfOk, OnOk};
 ghost use Rattle.wb_items.specs.Kernels.{AreKernels, count_of};
@@ -8,8 +10,8 @@ ghost use Rattle.wb_lookahead.specs.Tables.{AreTables, IsTableRefusal};
 
 use crate::action::TableRefusal;
 use crate::codes::codes_of;
-use crate::contents::Tables;
-use crate::grid::Grid;
+use crate::parser_tables::Tables;
+use crate::matrix::Matrix;
 use crate::rows::{actions_at, gotos_at, valid_in};
 use std::alloc::{AllocError, Global};
 use wb_base::{Grammar, push};
@@ -19,8 +21,8 @@ use wb_termset::TermSet;
 // What was made for the first kernels.
 #[derive(Drop)]
 struct Parts {
-    actions: Grid,
-    gotos: Grid,
+    actions: Matrix,
+    gotos: Matrix,
     valid: Vec<TermSet>,
 }
 
@@ -62,8 +64,8 @@ fn parts_of(
         return Err(TableRefusal::NoMemory(AllocError));
     };
     let mut parts = Parts {
-        actions: Grid::new(alloc, width),
-        gotos: Grid::new(alloc, grammar.nonterminals()),
+        actions: Matrix::new(alloc, width),
+        gotos: Matrix::new(alloc, grammar.nonterminals()),
         valid: Vec::new(alloc),
     };
     'kernels: for state in 0..count {

@@ -3,7 +3,7 @@ use Rattle.wb_lookahead.specs.Codes.{action_at}
 use Rattle.wb_lookahead.specs.Inner.Rows.{AreGotos, IsRowOf}
 use Rattle.wb_lookahead.proofs.PartLemmas.{parts_more}
 use Rattle.wb_lookahead.proofs.RowLemmas.{row_valid}
-use Rattle.wb_lookahead.proofs.parts.add_kernel.Goals as goal
+use Rattle.wb_lookahead.proofs.build_tables.add_kernel.Goals as goal
 
 pub returns-clause-ok : goal.returns-clause-ok
 returns-clause-ok c =

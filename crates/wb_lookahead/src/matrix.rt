@@ -1,4 +1,4 @@
-//! Rows of numbers of one length, in one block of memory.
+//! How are rows of one length kept? In one block of memory.
 
 ghost use Rattle.std.specs.Prelude.{◌≡◌, ◌<◌, ◌++◌, ◌∷◌, [], OnOk, length, slice_index, slice_index_or};
 
@@ -6,29 +6,29 @@ use std::alloc::{AllocError, Global};
 use std::marker::Model;
 
 #[derive(Drop)]
-pub(crate) struct Grid {
+pub(crate) struct Matrix {
     width: usize,
     height: usize,
     codes: Vec<u32>,
 }
 
-impl Model for Grid {
+impl Model for Matrix {
     ghost use Rattle.std.specs.Prelude.{◌≡◌, ◌*◌, length};
-    ghost use Rattle.wb_lookahead.specs.Grids.{GridView, rows_of};
+    ghost use Rattle.wb_lookahead.specs.Matrices.{MatrixView, rows_of};
 
-    ghost Value = { GridView };
+    ghost Value = { MatrixView };
 
     ghost view = { λ g. record { width = g.width; rows = rows_of g.height g.width g.codes.items } };
 
     ghost invariant = { λ g. length g.codes.items ≡ g.height * g.width };
 }
 
-impl Grid {
+impl Matrix {
     // No rows.
-    pub(crate) fn new(alloc: Global, width: usize) -> Grid
+    pub(crate) fn new(alloc: Global, width: usize) -> Matrix
         ensures { result ≡ record { width = width; rows = [] } }
     {
-        Grid {
+        Matrix {
             width,
             height: 0,
             codes: Vec::new(alloc),
