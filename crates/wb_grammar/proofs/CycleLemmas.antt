@@ -15,9 +15,9 @@ use Rattle.wb_grammars.specs.Walks.{Walk, one, more}
 use Rattle.wb_grammars.proofs.DerivesLemmas.{Derives-append, Nullable-parts}
 use Rattle.wb_grammars.proofs.UnitLemmas.{unit_cycle_is, production_alone}
 use Rattle.wb_grammars.proofs.ProductionLemmas.{production_below}
-use Rattle.wb_grammar.specs.Inner.Built.{Holds}
+use Rattle.wb_grammar.specs.Inner.LeastSets.{Holds}
 use Rattle.wb_grammar.specs.Facts.{IsNullableSet}
-use Rattle.wb_grammar.specs.declared.part.Part.TheVariants.{Alone}
+use Rattle.wb_grammar.specs.declared.occurrence.Occurrence.TheVariants.{Unit}
 use Rattle.wb_grammar.specs.Inner.Edges.{IsEdgeBy, AreEdges}
 
 -- what the set of the nullable nonterminals holds derives the empty text
@@ -25,7 +25,8 @@ pub held_empty : (g : GrammarView) (s : List Bool) → IsNullableSet g s → (w 
 held_empty g s set [] all = done
 held_empty g s set (Terminal t ∷ w) all = (let bad : false ≡ true = All-head (Holds false s) (Terminal t) w all in cc)
 held_empty g s set (Nonterminal a ∷ w) all =
-    Derives-append ((set.each a).0 (All-head (Holds false s) (Nonterminal a) w all)) (held_empty g s set w (All-tail (Holds false s) (Nonterminal a) w all))
+    Derives-append ((set.each a).0 (All-head (Holds false s) (Nonterminal a) w all))
+        (held_empty g s set w (All-tail (Holds false s) (Nonterminal a) w all))
 
 -- and the other way round
 pub empty_held : (g : GrammarView) (s : List Bool) → IsNullableSet g s → (w : List Symbol) → Derives g w [] → All (Holds false s) w
@@ -36,7 +37,7 @@ empty_held g s set (Nonterminal a ∷ w) r =
     All-cons (Holds false s) (Nonterminal a) w ((set.each a).1 parts.head) (empty_held g s set w parts.tail)
 
 -- the edges are unit rules
-pub edge_unit : (g : GrammarView) (s : List Bool) → IsNullableSet g s → (a b : ℕ) → IsEdgeBy Alone g s a b → IsUnitProduction g a b
+pub edge_unit : (g : GrammarView) (s : List Bool) → IsNullableSet g s → (a b : ℕ) → IsEdgeBy Unit g s a b → IsUnitProduction g a b
 edge_unit g s set a b e = record {
   p = e.p;
   before = e.placed.before;
@@ -46,7 +47,7 @@ edge_unit g s set a b e = record {
   after_empty = held_empty g s set e.placed.after e.placed.fits.1;
 }
 
-pub unit_edge : (g : GrammarView) (s : List Bool) → IsNullableSet g s → (a b : ℕ) → IsUnitProduction g a b → IsEdgeBy Alone g s a b
+pub unit_edge : (g : GrammarView) (s : List Bool) → IsNullableSet g s → (a b : ℕ) → IsUnitProduction g a b → IsEdgeBy Unit g s a b
 unit_edge g s set a b u = record {
   p = u.p;
   right = u.before ++ Nonterminal b ∷ u.after;
@@ -64,7 +65,9 @@ pub place_of : (list : List ℕ) (v : ℕ) → Contains list v → (i : ℕ) × 
 place_of list v (i, lt, is) = (i, slice_get-get_or list i v lt ∙ ap Some is)
 
 -- along a walk places fall
-walk_falls : (g : GrammarView) (s : List Bool) → IsNullableSet g s → (count : ℕ) (edges : List Edge) (order : List ℕ) → AreEdges Alone g s edges → IsOrder count edges order → {a b : ℕ} → Walk (IsUnitProduction g) a b → (i : ℕ) → slice_get order i ≡ Some a → (j : ℕ) × (j < i) × (slice_get order j ≡ Some b)
+walk_falls : (g : GrammarView) (s : List Bool) → IsNullableSet g s → (count : ℕ) (edges : List Edge) (order : List ℕ) →
+    AreEdges Unit g s edges → IsOrder count edges order → {a b : ℕ} → Walk (IsUnitProduction g) a b → (i : ℕ) → slice_get order i ≡ Some a →
+    (j : ℕ) × (j < i) × (slice_get order j ≡ Some b)
 walk_falls g s set count edges order are is (one {a} {b} u) i at = is.after a b i ((are a b).1 (unit_edge g s set a b u)) at
 walk_falls g s set count edges order are is (more {a} {b} {c} u w) i at =
     let (j, lt, at_b) = is.after a b i ((are a b).1 (unit_edge g s set a b u)) at in
@@ -72,7 +75,8 @@ walk_falls g s set count edges order are is (more {a} {b} {c} u w) i at =
     (k, omega arith, at_c)
 
 -- with an order there is no unit cycle
-pub order_no_cycle : (g : GrammarView) (s : List Bool) (edges : List Edge) (order : List ℕ) → IsGrammar g → IsNullableSet g s → AreEdges Alone g s edges → IsOrder g.nonterminals edges order → HasNoUnitCycle g
+pub order_no_cycle : (g : GrammarView) (s : List Bool) (edges : List Edge) (order : List ℕ) → IsGrammar g → IsNullableSet g s →
+    AreEdges Unit g s edges → IsOrder g.nonterminals edges order → HasNoUnitCycle g
 order_no_cycle g s edges order ok set are is a (p, right, rule, r) =
     let below : a < g.nonterminals = (production_below g p a right ok rule).left in
     let (i, at) = place_of order a (is.every a below) in
@@ -81,7 +85,8 @@ order_no_cycle g s edges order ok set are is a (p, right, rule, r) =
     omega arith
 
 -- a cycle of edges is a cycle
-pub cycle_of_edges : (edges : List Edge) (list : List ℕ) (R : ℕ → ℕ → Type 0) → ((a b : ℕ) → IsEdge edges a b → R a b) → IsCycle edges list → IsCycleOf R list
+pub cycle_of_edges : (edges : List Edge) (list : List ℕ) (R : ℕ → ℕ → Type 0) → ((a b : ℕ) → IsEdge edges a b → R a b) →
+    IsCycle edges list → IsCycleOf R list
 cycle_of_edges edges list R sound cycle = record { nonempty = cycle.nonempty; each = each }
   where
     each : (a b : ℕ) → IsFollowedBy list a b → R a b
@@ -93,5 +98,7 @@ cycle_of_edges edges list R sound cycle = record { nonempty = cycle.nonempty; ea
     ]
 
 -- of nonterminals that derive the next alone
-pub unit_cycle_of_edges : (g : GrammarView) (s : List Bool) (edges : List Edge) (list : List ℕ) → IsNullableSet g s → AreEdges Alone g s edges → IsCycle edges list → IsUnitCycle g list
-unit_cycle_of_edges g s edges list set are cycle = cycle_of_edges edges list (DerivesAlone g) (λ a b edge. production_alone (edge_unit g s set a b ((are a b).0 edge))) cycle
+pub unit_cycle_of_edges : (g : GrammarView) (s : List Bool) (edges : List Edge) (list : List ℕ) → IsNullableSet g s →
+    AreEdges Unit g s edges → IsCycle edges list → IsUnitCycle g list
+unit_cycle_of_edges g s edges list set are cycle = cycle_of_edges edges list (DerivesAlone g)
+    (λ a b edge. production_alone (edge_unit g s set a b ((are a b).0 edge))) cycle

@@ -9,9 +9,9 @@ use Rattle.wb_base.specs.Grammar.{GrammarView, IsGrammar, IsSymbolBelow}
 use Rattle.wb_graph.specs.Graphs.{Edge, IsEdgeBelow}
 use Rattle.wb_grammars.specs.Productions.{IsProduction}
 use Rattle.wb_grammars.proofs.ProductionLemmas.{production_once, production_within, production_below}
-use Rattle.wb_grammar.specs.declared.part.Part.{Part}
+use Rattle.wb_grammar.specs.declared.occurrence.Occurrence.{Occurrence}
 use Rattle.wb_grammar.specs.Inner.Edges.{IsPlaced, IsEdgeBy, AreEdges, edges_of}
-use Rattle.wb_grammar.proofs.PartLemmas.{placed_within}
+use Rattle.wb_grammar.proofs.OccurrenceLemmas.{placed_within}
 
 edge_cases : (e : Edge) (es : List Edge) (x : Edge) → Contains (e ∷ es) x → (e ≡ x) ⊎ Contains es x
 edge_cases e es x (zero, lt, is) = inl is
@@ -48,17 +48,20 @@ edges_of_back left (Nonterminal c ∷ w) b h = elim (symbol_cases (Nonterminal c
     same_left left z = (left, z)
 
 -- the edges by the productions up to one
-pub record EdgesBefore (part : Part) (g : GrammarView) (nullable : List Bool) (edges : List Edge) (limit : ℕ) : Type 0 where
-  pub sound : (a b : ℕ) → Contains edges (a, b) → IsEdgeBy part g nullable a b
-  pub complete : (a b : ℕ) (e : IsEdgeBy part g nullable a b) → e.p < limit → Contains edges (a, b)
+pub record EdgesBefore (occurrence : Occurrence) (g : GrammarView) (nullable : List Bool) (edges : List Edge) (limit : ℕ) : Type 0 where
+  pub sound : (a b : ℕ) → Contains edges (a, b) → IsEdgeBy occurrence g nullable a b
+  pub complete : (a b : ℕ) (e : IsEdgeBy occurrence g nullable a b) → e.p < limit → Contains edges (a, b)
 
-pub edges_start : (part : Part) (g : GrammarView) (nullable : List Bool) → EdgesBefore part g nullable [] 0
-edges_start part g nullable = record { sound = λ a b (k, lt, is). absurd (omega arith); complete = λ a b e lt. absurd (omega arith) }
+pub edges_start : (occurrence : Occurrence) (g : GrammarView) (nullable : List Bool) → EdgesBefore occurrence g nullable [] 0
+edges_start occurrence g nullable = record { sound = λ a b (k, lt, is). absurd (omega arith); complete = λ a b e lt. absurd (omega arith) }
 
-pub edges_more : (part : Part) (g : GrammarView) (nullable : List Bool) (edges : List Edge) (p left : ℕ) (right symbols : List Symbol) → IsProduction g p left right → ((x : Symbol) → Contains symbols x ↔ IsPlaced part nullable right x) → EdgesBefore part g nullable edges p → EdgesBefore part g nullable (edges ++ edges_of left symbols) (p + 1)
-edges_more part g nullable edges p left right symbols rule placed before = record { sound = sound; complete = complete }
+pub edges_more : (occurrence : Occurrence) (g : GrammarView) (nullable : List Bool) (edges : List Edge) (p left : ℕ)
+    (right symbols : List Symbol) → IsProduction g p left right →
+    ((x : Symbol) → Contains symbols x ↔ IsPlaced occurrence nullable right x) → EdgesBefore occurrence g nullable edges p →
+    EdgesBefore occurrence g nullable (edges ++ edges_of left symbols) (p + 1)
+edges_more occurrence g nullable edges p left right symbols rule placed before = record { sound = sound; complete = complete }
   where
-    sound : (a b : ℕ) → Contains (edges ++ edges_of left symbols) (a, b) → IsEdgeBy part g nullable a b
+    sound : (a b : ℕ) → Contains (edges ++ edges_of left symbols) (a, b) → IsEdgeBy occurrence g nullable a b
     sound a b h = elim (Contains-append_cases edges (edges_of left symbols) (a, b) h) [
       | inl old ↦ before.sound a b old
       | inr new ↦
@@ -66,27 +69,32 @@ edges_more part g nullable edges p left right symbols rule placed before = recor
           record { p = p; right = right; rule = subst (λ z. IsProduction g p z right) r.0 rule; placed = (placed (Nonterminal b)).0 r.1 }
     ]
 
-    complete : (a b : ℕ) (e : IsEdgeBy part g nullable a b) → e.p < p + 1 → Contains (edges ++ edges_of left symbols) (a, b)
+    complete : (a b : ℕ) (e : IsEdgeBy occurrence g nullable a b) → e.p < p + 1 → Contains (edges ++ edges_of left symbols) (a, b)
     complete a b e lt = elim (cases_lt e.p p) [
       | inl old ↦ Contains-append_left edges (edges_of left symbols) (a, b) (before.complete a b e old)
       | inr new ↦
           let same : e.p ≡ p = omega arith in
           let r = production_once g p a left e.right right (subst (λ z. IsProduction g z a e.right) same e.rule) rule in
-          let there : Contains symbols (Nonterminal b) = (placed (Nonterminal b)).1 (subst (λ z. IsPlaced part nullable z (Nonterminal b)) r.1 e.placed) in
+          let there : Contains symbols (Nonterminal b) = (placed (Nonterminal b)).1
+              (subst (λ z. IsPlaced occurrence nullable z (Nonterminal b)) r.1 e.placed) in
           Contains-append_right edges (edges_of left symbols) (a, b)
           (subst (λ z. Contains (edges_of left symbols) (z, b)) (sym r.0) (edges_of_back left symbols b there))
     ]
 
-pub edges_exact : (part : Part) (g : GrammarView) (nullable : List Bool) (edges : List Edge) (limit : ℕ) → length g.productions ≤ limit → EdgesBefore part g nullable edges limit → AreEdges part g nullable edges
-edges_exact part g nullable edges limit le are a b =
+pub edges_exact : (occurrence : Occurrence) (g : GrammarView) (nullable : List Bool) (edges : List Edge) (limit : ℕ) →
+    length g.productions ≤ limit → EdgesBefore occurrence g nullable edges limit → AreEdges occurrence g nullable edges
+edges_exact occurrence g nullable edges limit le are a b =
     (are.sound a b, λ e. are.complete a b e (let lt : e.p < length g.productions = production_within g e.p a e.right e.rule in omega arith))
 
-edge_below : (part : Part) (g : GrammarView) (nullable : List Bool) (a b : ℕ) → IsGrammar g → IsEdgeBy part g nullable a b → IsEdgeBelow g.nonterminals (a, b)
-edge_below part g nullable a b ok e =
+edge_below : (occurrence : Occurrence) (g : GrammarView) (nullable : List Bool) (a b : ℕ) → IsGrammar g →
+    IsEdgeBy occurrence g nullable a b → IsEdgeBelow g.nonterminals (a, b)
+edge_below occurrence g nullable a b ok e =
     let below = production_below g e.p a e.right ok e.rule in
-    (below.left, All-contains (IsSymbolBelow g.terminals g.nonterminals) e.right (Nonterminal b) below.right (placed_within e.right e.placed.before e.placed.after (Nonterminal b) e.placed.is))
+    (below.left, All-contains (IsSymbolBelow g.terminals g.nonterminals) e.right (Nonterminal b) below.right
+        (placed_within e.right e.placed.before e.placed.after (Nonterminal b) e.placed.is))
 
-pub edges_below : (part : Part) (g : GrammarView) (nullable : List Bool) (edges : List Edge) → IsGrammar g → AreEdges part g nullable edges → All (IsEdgeBelow g.nonterminals) edges
-edges_below part g nullable edges ok are k d lt =
+pub edges_below : (occurrence : Occurrence) (g : GrammarView) (nullable : List Bool) (edges : List Edge) → IsGrammar g →
+    AreEdges occurrence g nullable edges → All (IsEdgeBelow g.nonterminals) edges
+edges_below occurrence g nullable edges ok are k d lt =
     let e : Edge = get_or edges k d in
-    edge_below part g nullable e.0 e.1 ok ((are e.0 e.1).0 (Contains-get_or edges k d lt))
+    edge_below occurrence g nullable e.0 e.1 ok ((are e.0 e.1).0 (Contains-get_or edges k d lt))

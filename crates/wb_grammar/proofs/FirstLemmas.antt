@@ -32,36 +32,42 @@ abbrev pub room : List (List Bool) → ℕ
 room [] = 0
 room (r ∷ rows) = (length r - members r) + room rows
 
-room_mono : (old new : List (List Bool)) → length old ≡ length new → SetsWithin old new → (n : ℕ) → All (λ r. length r ≡ n) old → All (λ r. length r ≡ n) new → room new ≤ room old
+room_mono : (old new : List (List Bool)) → length old ≡ length new → SetsWithin old new → (n : ℕ) → All (λ r. length r ≡ n) old →
+    All (λ r. length r ≡ n) new → room new ≤ room old
 room_mono [] [] e h n p q = omega arith
 room_mono [] (y ∷ new) e h n p q = absurd (omega arith)
 room_mono (x ∷ old) [] e h n p q = absurd (omega arith)
 room_mono (x ∷ old) (y ∷ new) e h n p q =
-    let rest = room_mono old new (omega arith) (λ a. h (suc a)) n (All-tail (λ r. length r ≡ n) x old p) (All-tail (λ r. length r ≡ n) y new q) in
+    let rest = room_mono old new (omega arith) (λ a. h (suc a)) n (All-tail (λ r. length r ≡ n) x old p)
+        (All-tail (λ r. length r ≡ n) y new q) in
     let a : length x ≡ n = All-head (λ r. length r ≡ n) x old p in
     let b : length y ≡ n = All-head (λ r. length r ≡ n) y new q in
     let more : members x ≤ members y = members_mono x y (a ∙ sym b) (h 0) in
     omega (arith, members_le y, rest)
 
-pub room_grow : (old new : List (List Bool)) (a : ℕ) → length old ≡ length new → SetsWithin old new → (n : ℕ) → All (λ r. length r ≡ n) old → All (λ r. length r ≡ n) new → Grew (set_of old a) (set_of new a) → room new < room old
+pub room_grow : (old new : List (List Bool)) (a : ℕ) → length old ≡ length new → SetsWithin old new → (n : ℕ) →
+    All (λ r. length r ≡ n) old → All (λ r. length r ≡ n) new → Grew (set_of old a) (set_of new a) → room new < room old
 room_grow [] [] a e h n p q (k, out, on) = absurd (true≢false (sym on))
 room_grow [] (y ∷ new) a e h n p q grew = absurd (omega arith)
 room_grow (x ∷ old) [] a e h n p q grew = absurd (omega arith)
 room_grow (x ∷ old) (y ∷ new) zero e h n p q grew =
-    let rest = room_mono old new (omega arith) (λ a. h (suc a)) n (All-tail (λ r. length r ≡ n) x old p) (All-tail (λ r. length r ≡ n) y new q) in
+    let rest = room_mono old new (omega arith) (λ a. h (suc a)) n (All-tail (λ r. length r ≡ n) x old p)
+        (All-tail (λ r. length r ≡ n) y new q) in
     let a : length x ≡ n = All-head (λ r. length r ≡ n) x old p in
     let b : length y ≡ n = All-head (λ r. length r ≡ n) y new q in
     let more : members x < members y = members_grow x y (a ∙ sym b) (h 0) grew in
     omega (arith, members_le y, rest)
 room_grow (x ∷ old) (y ∷ new) (suc a) e h n p q grew =
-    let rest = room_grow old new a (omega arith) (λ a. h (suc a)) n (All-tail (λ r. length r ≡ n) x old p) (All-tail (λ r. length r ≡ n) y new q) grew in
+    let rest = room_grow old new a (omega arith) (λ a. h (suc a)) n (All-tail (λ r. length r ≡ n) x old p)
+        (All-tail (λ r. length r ≡ n) y new q) grew in
     let a : length x ≡ n = All-head (λ r. length r ≡ n) x old p in
     let b : length y ≡ n = All-head (λ r. length r ≡ n) y new q in
     let more : members x ≤ members y = members_mono x y (a ∙ sym b) (h 0) in
     omega (arith, members_le y, rest)
 
 -- what can begin the symbols by sound sets is in First
-pub begin_sound : (g : GrammarView) (nullable : List Bool) (rows : List (List Bool)) → ((a : ℕ) → IsMember nullable a → IsNullable g a) → AreFirsts g rows → (w : List Symbol) (t : ℕ) → CanBegin nullable rows w t → IsFirst g w t
+pub begin_sound : (g : GrammarView) (nullable : List Bool) (rows : List (List Bool)) → ((a : ℕ) → IsMember nullable a → IsNullable g a) →
+    AreFirsts g rows → (w : List Symbol) (t : ℕ) → CanBegin nullable rows w t → IsFirst g w t
 begin_sound g nullable rows n sound [] t h = absurd h
 begin_sound g nullable rows n sound (Terminal u ∷ w) t h = (w, rw h (Derives-same g (Terminal u ∷ w)))
 begin_sound g nullable rows n sound (Nonterminal b ∷ w) t h = elim h [
@@ -78,7 +84,9 @@ begin_expand g nullable rows a w [] v rest t empty first later is = inr (empty r
 begin_expand g nullable rows a w (y ∷ u) v rest t empty first later is = inl (first u (cc))
 
 -- what is in First can begin the symbols by closed sets
-pub begin_complete : {g : GrammarView} (nullable : List Bool) (rows : List (List Bool)) → ((a : ℕ) → IsNullable g a → IsMember nullable a) → ((p : ℕ) → IsFirstClosedAt g nullable rows p) → {w x : List Symbol} → Derives g w x → (t : ℕ) (v : List Symbol) → x ≡ Terminal t ∷ v → CanBegin nullable rows w t
+pub begin_complete : {g : GrammarView} (nullable : List Bool) (rows : List (List Bool)) → ((a : ℕ) → IsNullable g a → IsMember nullable a) →
+    ((p : ℕ) → IsFirstClosedAt g nullable rows p) → {w x : List Symbol} → Derives g w x → (t : ℕ) (v : List Symbol) → x ≡ Terminal t ∷ v →
+    CanBegin nullable rows w t
 begin_complete nullable rows n closed done t v e = cc
 begin_complete nullable rows n closed (keep (Terminal u) r) t v e = cc
 begin_complete nullable rows n closed (keep (Nonterminal b) r) t v e = cc
@@ -90,7 +98,8 @@ begin_complete {g} nullable rows n closed (expand p a right u v {w} rule r s is)
     (sym e ∙ is)
 
 -- sound and closed sets are First
-pub first_exact : (g : GrammarView) (nullable : List Bool) (rows : List (List Bool)) → IsNullableSet g nullable → AreSets g rows → AreFirsts g rows → ((p : ℕ) → IsFirstClosedAt g nullable rows p) → AreFirstSets g rows
+pub first_exact : (g : GrammarView) (nullable : List Bool) (rows : List (List Bool)) → IsNullableSet g nullable → AreSets g rows →
+    AreFirsts g rows → ((p : ℕ) → IsFirstClosedAt g nullable rows p) → AreFirstSets g rows
 first_exact g nullable rows n shape sound closed =
     record {
       shape = shape;
@@ -104,7 +113,9 @@ first_exact g nullable rows n shape sound closed =
     }
 
 -- a union with what can begin a right side is sound
-pub sound_add : (g : GrammarView) (nullable new begin : List Bool) (rows : List (List Bool)) (p a : ℕ) (right : List Symbol) → IsNullableSet g nullable → AreFirsts g rows → IsProduction g p a right → a < length rows → ((t : ℕ) → IsMember begin t → CanBegin nullable rows right t) → IsUnion (set_of rows a) begin new → AreFirsts g (set rows a new)
+pub sound_add : (g : GrammarView) (nullable new begin : List Bool) (rows : List (List Bool)) (p a : ℕ) (right : List Symbol) →
+    IsNullableSet g nullable → AreFirsts g rows → IsProduction g p a right → a < length rows →
+    ((t : ℕ) → IsMember begin t → CanBegin nullable rows right t) → IsUnion (set_of rows a) begin new → AreFirsts g (set rows a new)
 sound_add g nullable new begin rows p a right n sound rule lt exact union b t has =
     elim (cases_eq b a) [
       | inl same ↦
@@ -119,11 +130,14 @@ sound_add g nullable new begin rows p a right n sound rule lt exact union b t ha
     ]
 
 -- the sets lack less after a pass in which one grew
-pub room_less : (g : GrammarView) (old new : List (List Bool)) → AreSets g old → AreSets g new → SetsWithin old new → SetsGrew old new → room new < room old
+pub room_less : (g : GrammarView) (old new : List (List Bool)) → AreSets g old → AreSets g new → SetsWithin old new → SetsGrew old new →
+    room new < room old
 room_less g old new p q keeps (a, lt, grew) = room_grow old new a (p.len ∙ sym q.len) keeps (g.terminals + 1) p.each q.each grew
 
 pub no_members : (g : GrammarView) (n m : ℕ) → AreFirsts g (replicate n (replicate m false))
 no_members g n m a t has = elim (cases_lt a n) [
   | inl lt ↦ absurd (IsEmpty-replicate m t (ap (λ s. get_or s t false) (sym (get_or-replicate n a (replicate m false) [] lt)) ∙ has))
-  | inr past ↦ absurd (true≢false (sym has ∙ ap (λ s. get_or s t false) (get_or_past (replicate n (replicate m false)) a [] (omega (arith, length-replicate n (replicate m false))))))
+  | inr past ↦ absurd (true≢false
+        (sym has ∙ ap (λ s. get_or s t false)
+        (get_or_past (replicate n (replicate m false)) a [] (omega (arith, length-replicate n (replicate m false))))))
 ]

@@ -1,10 +1,11 @@
-mod BuiltLemmas
+mod LeastSetLemmas
+mod WorklistLemmas
 mod CycleLemmas
 mod EdgeLemmas
 mod FirstLemmas
 mod HiddenTestLemmas
 mod OrderLemmas
-mod PartLemmas
+mod OccurrenceLemmas
 mod PathLemmas
 mod ReachLemmas
 mod ReducedLemmas

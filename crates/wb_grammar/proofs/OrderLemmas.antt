@@ -23,14 +23,16 @@ All-taken P xs ys None is all = tt
 All-taken P xs ys (Some x) is all = All-head P x [] (All-right P ys (x ∷ []) (subst (All P) is all))
 
 -- a bound on all numbers of a list, at one that is set
-pub bound_set : (xs : List ℕ) (i v count : ℕ) → v ≤ count → ((a : ℕ) → slice_index xs a ≤ count) → (a : ℕ) → slice_index (set xs i v) a ≤ count
+pub bound_set : (xs : List ℕ) (i v count : ℕ) → v ≤ count → ((a : ℕ) → slice_index xs a ≤ count) → (a : ℕ) →
+    slice_index (set xs i v) a ≤ count
 bound_set [] i v count le all a = all a
 bound_set (x ∷ xs) zero v count le all zero = le
 bound_set (x ∷ xs) zero v count le all (suc a) = all (suc a)
 bound_set (x ∷ xs) (suc i) v count le all zero = all zero
 bound_set (x ∷ xs) (suc i) v count le all (suc a) = bound_set xs i v count le (λ b. all (suc b)) a
 
-pub bound_push : (xs : List ℕ) (v count : ℕ) → v ≤ count → ((a : ℕ) → slice_index xs a ≤ count) → (a : ℕ) → slice_index (xs ++ v ∷ []) a ≤ count
+pub bound_push : (xs : List ℕ) (v count : ℕ) → v ≤ count → ((a : ℕ) → slice_index xs a ≤ count) → (a : ℕ) →
+    slice_index (xs ++ v ∷ []) a ≤ count
 bound_push [] v count le all zero = le
 bound_push [] v count le all (suc a) = omega arith
 bound_push (x ∷ xs) v count le all zero = all zero

@@ -7,9 +7,11 @@ use Rattle.wb_grammar.specs.declared.refusal.GrammarRefusal.TheVariants.{NotRedu
 use Rattle.wb_grammar.specs.Facts.{FactsState, AreFacts}
 use Rattle.wb_grammar.specs.Refusals.{IsTrueRefusal, IsNoMemory}
 
-pub excluded : (g : GrammarView) (refusal : GrammarRefusal) (facts : FactsState) → IsTrueRefusal g refusal → AreFacts g facts → IsNoMemory refusal
+pub excluded : (g : GrammarView) (refusal : GrammarRefusal) (facts : FactsState) → IsTrueRefusal g refusal → AreFacts g facts →
+    IsNoMemory refusal
 excluded g (NotReduced (Unreachable a)) facts h are = absurd (h.1 (are.reduced.reachable a h.0))
 excluded g (NotReduced (Unproductive a)) facts h are = absurd (h.1 (are.reduced.productive a h.0))
-excluded g (UnitCycle list) facts h are = (let (a, at) = first_element list h.1.nonempty in absurd (are.no_unit_cycle a (unit_cycle_member g list h.1 0 a at)))
+excluded g (UnitCycle list) facts h are = (let (a, at) =
+    first_element list h.1.nonempty in absurd (are.no_unit_cycle a (unit_cycle_member g list h.1 0 a at)))
 excluded g (HiddenLeftRecursion list) facts h are = absurd (are.no_hidden_left_recursion h.2.above (hidden_cycle_above g list h.2))
 excluded g (NoMemory e) facts h are = tt

@@ -31,7 +31,8 @@ pub record AreFirstSets (g : GrammarView) (sets : List (List Bool)) : Type 0 whe
   pub shape : AreSets g sets
   pub each : (a t : ℕ) → IsMember (set_of sets a) t ↔ IsFirst g (Nonterminal a ∷ []) t
 
--- the facts are those of the grammar, which is reduced and has neither unit cycles nor hidden left recursion; so some terminal begins what is after any dot
+-- the facts are those of the grammar, which is reduced and has neither unit cycles nor hidden left recursion. So it is live: for each
+-- item with a symbol after its dot, and each terminal, some terminal begins what the symbols after that one derive with the terminal last
 pub record AreFacts (g : GrammarView) (facts : FactsState) : Type 0 where
   pub reduced : IsReduced g
   pub live : IsLive g

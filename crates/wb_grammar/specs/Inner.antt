@@ -1,7 +1,8 @@
 -- What loops keep, and words of private functions.
-pub mod Built
+pub mod LeastSets
 pub mod Edges
 pub mod Firsts
 pub mod Order
 pub mod Paths
 pub mod Together
+pub mod Worklists

@@ -1,5 +1,6 @@
 -- Why a grammar is refused: each reason with a true example, where no earlier one holds.
 use Rattle.std.specs.Prelude.{◌<◌}
+use Rattle.wb_base.specs.Different.{Differ}
 use Rattle.wb_base.specs.Grammar.{GrammarView}
 use Rattle.wb_grammars.specs.Shape.{IsReduced, IsReachable, IsProductive}
 use Rattle.wb_grammars.specs.Cycles.{HasNoUnitCycle, IsUnitCycle, IsHiddenCycle}
@@ -13,11 +14,12 @@ abbrev pub IsTrueReason : GrammarView → Reason → Type 0
 IsTrueReason g (Unreachable a) = (a < g.nonterminals) × (¬ IsReachable g a)
 IsTrueReason g (Unproductive a) = (a < g.nonterminals) × (¬ IsProductive g a)
 
--- the first of these that holds: the grammar isn't reduced, has a unit cycle, or has hidden left recursion; and what is shown is an example. Want of memory says nothing of the grammar
+-- the first of these that holds: the grammar isn't reduced, has a unit cycle, or has hidden left recursion; and what is shown is an
+-- example, a cycle with each of its nonterminals once. Want of memory says nothing of the grammar
 abbrev pub IsTrueRefusal : GrammarView → GrammarRefusal → Type 0
 IsTrueRefusal g (NotReduced reason) = IsTrueReason g reason
-IsTrueRefusal g (UnitCycle list) = IsReduced g × IsUnitCycle g list
-IsTrueRefusal g (HiddenLeftRecursion list) = IsReduced g × HasNoUnitCycle g × IsHiddenCycle g list
+IsTrueRefusal g (UnitCycle list) = IsReduced g × IsUnitCycle g list × Differ list
+IsTrueRefusal g (HiddenLeftRecursion list) = IsReduced g × HasNoUnitCycle g × IsHiddenCycle g list × Differ list
 IsTrueRefusal g (NoMemory _) = Unit {0}
 
 -- the refusal is want of memory

@@ -1,4 +1,6 @@
-//! The analysis of a grammar: each test in the order in which refusals are shown, and what is known after them.
+//! Is a grammar fit for parsing? Each test in the order in which refusals are shown, and what is known after them.
+//!
+//! The tests are in `reduced.rt`, `unit_cycles.rt` and `hidden_left_recursion.rt`, the sets in `least_fixpoint.rt` and `first.rt`.
 
 ghost use Rattle.std.specs.Prelude.{◌≡◌, ◌<◌, ℕ, length, All, IfErr, IfOk};
 ghost use Rattle.wb_base.specs.Grammar.{GrammarView};
@@ -6,12 +8,11 @@ ghost use Rattle.wb_grammar.specs.declared.refusal.GrammarRefusal.{GrammarRefusa
 ghost use Rattle.wb_grammar.specs.Facts.{FactsState, AreFacts, IsNullableSet};
 ghost use Rattle.wb_grammar.specs.Refusals.{IsTrueRefusal, IsNoMemory};
 
-use crate::built::built;
 use crate::first::first_of_all;
-use crate::hidden::test_hidden_left_recursion;
-use crate::order::bottom_up;
+use crate::hidden_left_recursion::test_hidden_left_recursion;
+use crate::least_fixpoint::least_set;
 use crate::reduced::test_reduced;
-use crate::units::test_unit_cycles;
+use crate::unit_cycles::test_unit_cycles;
 use crate::{Facts, GrammarRefusal};
 use std::alloc::{AllocError, Global};
 use wb_base::Grammar;
@@ -19,20 +20,20 @@ use wb_termset::TermSet;
 
 /// The facts of a grammar, or why it is refused: it isn't reduced, or has a unit cycle, or has hidden left recursion, in this order.
 ///
-/// Nonterminals, terminals and productions have the grammar's numbers. Which of several examples a refusal shows is left open. Unit
-/// cycles and hidden left recursion are found in linear time. Nullable, productive and First are least fixpoints by passes over the
-/// productions from below: a few passes for usual grammars, and at most one for each nonterminal. A refusal may look for its path by
-/// as many passes as the path is long. No clause bounds the time.
+/// Nonterminals, terminals and productions have the grammar's numbers. Which of several examples a refusal shows is left open.
+///
+/// Time is linear in the grammar but for two things. First sets are found by passes over the productions from below, until none
+/// grows: a few passes for usual grammars, and at most one for each nonterminal and one more. A refusal for hidden left recursion
+/// looks for its path by as many passes as the path is long. No clause bounds the time.
 pub fn analyse(alloc: Global, grammar: &Grammar) -> Result<Facts, GrammarRefusal>
     ensures ok { IfOk result (λ facts. AreFacts grammar.now facts) }
     ensures refused { IfErr result (IsTrueRefusal grammar.now) }
 {
-    let order = bottom_up(alloc, grammar)?;
-    let nullable = nullable_in(alloc, grammar, &order)?;
-    test_reduced(alloc, grammar, &nullable, &order)?;
+    let nullable = nullable_in(alloc, grammar)?;
+    test_reduced(alloc, grammar, &nullable)?;
     test_unit_cycles(alloc, grammar, &nullable)?;
     test_hidden_left_recursion(alloc, grammar, &nullable)?;
-    let first = first_of_all(alloc, grammar, &nullable, &order)?.sets;
+    let first = first_of_all(alloc, grammar, &nullable)?.sets;
     Ok(Facts { nullable, first })
 }
 
@@ -42,9 +43,8 @@ pub fn refusals_law()
 {}
 
 // The nonterminals that derive the empty text.
-fn nullable_in(alloc: Global, grammar: &Grammar, order: &[usize]) -> Result<TermSet, AllocError>
-    requires { All (λ p. p < length grammar.now.productions) order.now }
+fn nullable_in(alloc: Global, grammar: &Grammar) -> Result<TermSet, AllocError>
     ensures { IfOk result (λ set. IsNullableSet grammar.now set) }
 {
-    built(alloc, grammar, false, order)
+    least_set(alloc, grammar, false)
 }

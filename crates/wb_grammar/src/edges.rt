@@ -1,4 +1,6 @@
-//! Edges between nonterminals: from the left side of each production to nonterminals of its right side.
+//! Which nonterminals does a production lead to? An edge goes from its left side to each that occurs in its right side as asked.
+//!
+//! Tests by graphs go over these edges. Which symbols occur how is in `occurrence.rt`.
 
 ghost use Rattle.std.specs.Prelude.{◌≡◌, ◌++◌, All, IfOk, OnOk};
 ghost use Rattle.wb_base.specs.Grammar.{IsGrammar};
@@ -6,26 +8,26 @@ ghost use Rattle.wb_graph.specs.Graphs.{IsEdgeBelow};
 ghost use Rattle.wb_grammar.specs.Facts.{IsNullableSet};
 ghost use Rattle.wb_grammar.specs.Inner.Edges.{edges_of, AreEdges};
 
-use crate::part::{Part, part_of};
+use crate::occurrence::{Occurrence, occurring};
 use std::alloc::{AllocError, Global};
 use wb_base::{Grammar, Symbol, push};
 use wb_termset::TermSet;
 
-// The edges by all productions, to the nonterminals in this part of each right side.
+// The edges by all productions, to the nonterminals that occur so in each right side.
 pub(crate) fn edges(
     alloc: Global,
     grammar: &Grammar,
     nullable: &TermSet,
-    part: Part,
+    occurrence: Occurrence,
 ) -> Result<Vec<(usize, usize)>, AllocError>
     requires { IsNullableSet grammar.now nullable.now }
-    ensures exact { IfOk result (λ edges. AreEdges part grammar.now nullable.now edges.items) }
+    ensures exact { IfOk result (λ edges. AreEdges occurrence grammar.now nullable.now edges.items) }
     ensures grammar { IfOk result (λ _. IsGrammar grammar.now) }
     ensures below { IfOk result (λ edges. All (IsEdgeBelow grammar.now.nonterminals) edges.items) }
 {
     let mut edges = Vec::new(alloc);
     'productions: for production in 0..grammar.productions() {
-        let symbols = part_of(part, grammar.right(production), nullable);
+        let symbols = occurring(occurrence, grammar.right(production), nullable);
         add_edges(grammar.left(production), symbols, &mut edges)?;
     }
     Ok(edges)

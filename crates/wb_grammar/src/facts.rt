@@ -1,4 +1,4 @@
-//! What is known of a grammar that passed its analysis.
+//! What is known of a grammar that passed its analysis: `analyse` makes it, and the crates above ask it.
 
 ghost use Rattle.std.specs.Prelude.{◌≡◌, ◌+◌, ◌<◌, ◌↔◌, ◌∷◌, [], ℕ, IsTrue, length};
 ghost use Rattle.wb_base.specs.declared.symbol.Symbol.TheVariants.{Nonterminal};

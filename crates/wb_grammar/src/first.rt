@@ -1,37 +1,40 @@
-//! The terminals that begin what each nonterminal derives, by passes over the productions until no set grows.
+//! Which terminals begin what each nonterminal derives? Passes over the productions find them, until no set grows.
+//!
+//! The first of a pass goes by the order of `order.rt`, so that few passes are needed. The sets themselves are in `first_sets.rt`.
 
 ghost use Rattle.std.specs.Prelude.{◌≡◌, ℕ, ◌+◌, ◌<◌, ◌↔◌, false, length, All, IfOk, IsTrue, replicate, slice_set};
-ghost use Rattle.wb_base.specs.Grammar.{IsSymbolBelow};
+ghost use Rattle.wb_base.specs.Grammar.{IsGrammar, IsSymbolBelow};
 ghost use Rattle.wb_termset.specs.Sets.{IsMember, Grew, IsUnion};
 ghost use Rattle.wb_grammar.specs.Facts.{IsNullableSet, AreSets, AreFirstSets, set_of};
 ghost use Rattle.wb_grammar.specs.Inner.Firsts.{CanBegin, AreFirsts, IsFirstClosedAt, SetsWithin, SetsGrew};
 
 use crate::first_sets::FirstSets;
+use crate::order::bottom_up;
 use std::alloc::{AllocError, Global};
 use wb_base::{Grammar, Symbol};
 use wb_termset::TermSet;
 
-// The set of each nonterminal. The order lists productions; it changes the time alone.
+// The set of each nonterminal.
 pub(crate) fn first_of_all(
     alloc: Global,
     grammar: &Grammar,
     nullable: &TermSet,
-    order: &[usize],
 ) -> Result<FirstSets, AllocError>
-    requires nullable { IsNullableSet grammar.now nullable.now }
-    requires order { All (λ p. p < length grammar.now.productions) order.now }
-    ensures { IfOk result (λ sets. AreFirstSets grammar.now sets) }
+    requires { IsNullableSet grammar.now nullable.now }
+    ensures exact { IfOk result (λ sets. AreFirstSets grammar.now sets) }
+    ensures grammar { IfOk result (λ _. IsGrammar grammar.now) }
 {
     let Some(count) = grammar.terminals().checked_add(1) else {
         return Err(AllocError);
     };
+    let order = bottom_up(alloc, grammar)?;
     let mut sets = FirstSets::new(alloc, grammar.nonterminals(), count)?;
-    'rounds: while round(alloc, grammar, nullable, order, &mut sets)? {}
+    'passes: while pass(alloc, grammar, nullable, &order, &mut sets)? {}
     Ok(sets)
 }
 
 // Goes over the productions in the order, and then over all, and answers whether in the latter a set grew.
-fn round(
+fn pass(
     alloc: Global,
     grammar: &Grammar,
     nullable: &TermSet,
@@ -48,12 +51,12 @@ fn round(
     ensures grew { IfOk result (λ grew. IsTrue grew → SetsGrew sets.old sets.new) }
     ensures stayed { IfOk result (λ grew. grew ≡ false → (p : ℕ) → IsFirstClosedAt grammar.now nullable.now sets.new p) }
 {
-    go_over(alloc, grammar, nullable, order, sets)?;
-    grow(alloc, grammar, nullable, sets)
+    pass_in_order(alloc, grammar, nullable, order, sets)?;
+    pass_over_all(alloc, grammar, nullable, sets)
 }
 
 // Goes over the productions in the order.
-fn go_over(
+fn pass_in_order(
     alloc: Global,
     grammar: &Grammar,
     nullable: &TermSet,
@@ -75,7 +78,7 @@ fn go_over(
 }
 
 // Goes over all productions, and answers whether a set grew.
-fn grow(
+fn pass_over_all(
     alloc: Global,
     grammar: &Grammar,
     nullable: &TermSet,

@@ -1,4 +1,4 @@
-//! A set of terminals for each nonterminal.
+//! A set of terminals for each nonterminal, which passes of `first.rt` enlarge.
 
 ghost use Rattle.std.specs.Prelude.{◌≡◌, ◌<◌, Bool, false, List, length, IfOk, IsTrue, replicate, slice_set};
 ghost use Rattle.wb_termset.specs.Sets.{Grew, IsUnion};

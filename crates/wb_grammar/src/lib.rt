@@ -5,18 +5,18 @@
 #![tactic(auto)]
 
 mod analysis;
-mod built;
 mod edges;
 mod facts;
 mod first;
 mod first_sets;
-mod hidden;
+mod hidden_left_recursion;
+mod least_fixpoint;
+mod occurrence;
 mod order;
-mod part;
 mod paths;
 mod reduced;
 mod refusal;
-mod units;
+mod unit_cycles;
 
 pub use analysis::{analyse, refusals_law};
 pub use facts::Facts;

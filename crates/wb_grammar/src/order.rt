@@ -1,6 +1,6 @@
-//! An order of productions in which those of the nonterminals of a right side mostly come before it.
+//! In which order do productions mostly come after those of the nonterminals of their right sides? By a walk down from the start.
 //!
-//! Passes in this order need few rounds. No result depends on the order, so no clause says more of it than that it lists productions.
+//! Passes in this order need few rounds. No result depends on it, so no clause says more than that it lists productions.
 
 ghost use Rattle.std.specs.Prelude.{◌<◌, ◌≤◌, ℕ, All, IfOk, IfSome, OnOk, length};
 ghost use Rattle.wb_base.specs.Grammar.{IsGrammar};

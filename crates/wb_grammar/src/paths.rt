@@ -1,4 +1,6 @@
-//! A path between two vertices of a graph, found by going back from its end.
+//! Which path leads from one vertex of a graph to another? It is found by going back from its end, so it has no vertex twice.
+//!
+//! Used once a refusal is certain; whether there is a path is tested by `reachable_from`.
 
 ghost use Rattle.std.specs.Prelude.{◌≡◌, ◌≢◌, ◌↔◌, ◌<◌, ◌≤◌, ◌∷◌, [], ℕ, List, false, All, Some, length, IfOk, OnOk, MatchOption, IsTrue, slice_get, slice_index};
 ghost use Rattle.wb_graph.specs.Graphs.{Edge, IsEdge, IsEdgeBelow, IsReached};

@@ -1,4 +1,6 @@
-//! Whether every nonterminal is reachable from the start and derives some text.
+//! Is every nonterminal reachable from the start, and does it derive some text?
+//!
+//! The reachable ones are those that walks along `edges.rt` lead to; those that derive a text are a set of `least_fixpoint.rt`.
 
 ghost use Rattle.std.specs.Prelude.{◌≡◌, ◌<◌, ℕ, Bool, true, false, length, All, IfOk, IfErr, OnOk, MatchOption, slice_index_or};
 ghost use Rattle.wb_termset.specs.Sets.{IsMember};
@@ -6,31 +8,29 @@ ghost use Rattle.wb_grammars.specs.Shape.{IsReachable, IsProductive, IsReduced};
 ghost use Rattle.wb_grammar.specs.Facts.{IsNullableSet};
 ghost use Rattle.wb_grammar.specs.Refusals.{IsTrueRefusal};
 
-use crate::built::built;
 use crate::edges::edges;
-use crate::part::Part;
+use crate::least_fixpoint::least_set;
+use crate::occurrence::Occurrence;
 use crate::{GrammarRefusal, Reason};
 use std::alloc::{AllocError, Global};
 use wb_base::Grammar;
 use wb_graph::reachable_from;
 use wb_termset::TermSet;
 
-// Refuses a grammar that isn't reduced. The order lists productions; it changes the time alone.
+// Refuses a grammar that isn't reduced.
 pub(crate) fn test_reduced(
     alloc: Global,
     grammar: &Grammar,
     nullable: &TermSet,
-    order: &[usize],
 ) -> Result<(), GrammarRefusal>
-    requires nullable { IsNullableSet grammar.now nullable.now }
-    requires order { All (λ p. p < length grammar.now.productions) order.now }
+    requires { IsNullableSet grammar.now nullable.now }
     ensures ok { OnOk result (IsReduced grammar.now) }
     ensures refused { IfErr result (IsTrueRefusal grammar.now) }
 {
     if let Some(nonterminal) = unreachable_in(alloc, grammar, nullable)? {
         return Err(GrammarRefusal::NotReduced(Reason::Unreachable(nonterminal)));
     }
-    if let Some(nonterminal) = unproductive_in(alloc, grammar, order)? {
+    if let Some(nonterminal) = unproductive_in(alloc, grammar)? {
         return Err(GrammarRefusal::NotReduced(Reason::Unproductive(nonterminal)));
     }
     Ok(())
@@ -45,22 +45,17 @@ fn unreachable_in(
     requires { IsNullableSet grammar.now nullable.now }
     ensures { IfOk result (λ found. MatchOption found ((a : ℕ) → a < grammar.now.nonterminals → IsReachable grammar.now a) (λ a. (a < grammar.now.nonterminals) × (¬ IsReachable grammar.now a))) }
 {
-    let edges = edges(alloc, grammar, nullable, Part::Whole)?;
+    let edges = edges(alloc, grammar, nullable, Occurrence::Any)?;
     let start = [grammar.start()];
     let reached = reachable_from(alloc, grammar.nonterminals(), &edges, &start)?;
     Ok(first_unset(&reached))
 }
 
 // A nonterminal that derives no text, if there is one.
-fn unproductive_in(
-    alloc: Global,
-    grammar: &Grammar,
-    order: &[usize],
-) -> Result<Option<usize>, AllocError>
-    requires { All (λ p. p < length grammar.now.productions) order.now }
+fn unproductive_in(alloc: Global, grammar: &Grammar) -> Result<Option<usize>, AllocError>
     ensures { IfOk result (λ found. MatchOption found ((a : ℕ) → a < grammar.now.nonterminals → IsProductive grammar.now a) (λ a. (a < grammar.now.nonterminals) × (¬ IsProductive grammar.now a))) }
 {
-    let productive = built(alloc, grammar, true, order)?;
+    let productive = least_set(alloc, grammar, true)?;
     Ok(first_missing(&productive))
 }
 

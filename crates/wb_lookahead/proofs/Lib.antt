@@ -1,5 +1,6 @@
 pub mod FillLemmas
-pub mod GridLemmas
+pub mod GotoLemmas
+pub mod MatrixLemmas
 pub mod MarkLemmas
 pub mod PartLemmas
 pub mod PassLemmas

@@ -66,12 +66,14 @@ marked_more waiting marks new place h change s at marked = elim (change s at mar
 ]
 
 -- the same of one that is added before the others
-pub marked_before : (waiting : List Place) (marks new : List (List Bool)) (place : Place) → AreMarked waiting marks → MarksChange marks place.state place.at true new →
+pub marked_before : (waiting : List Place) (marks new : List (List Bool)) (place : Place) → AreMarked waiting marks →
+    MarksChange marks place.state place.at true new →
     AreMarked (place ∷ waiting) new
 marked_before waiting marks new place h change s at marked = elim (change s at marked) [
   | inl (old, _) ↦ (let (item, (k, lt, is)) = h s at old in (item, (suc k, omega arith, is)))
   | inr (s_is, at_is, _) ↦
-      let is : place ≡ record { state = s; item = place.item; at = at } = λ i. record { state = sym s_is i; item = place.item; at = sym at_is i } in
+      let is : place ≡ record { state = s; item = place.item; at = at } = λ i. record { state = sym s_is i; item = place.item;
+          at = sym at_is i } in
       (place.item, subst (Contains (place ∷ waiting)) is (0, omega arith, refl))
 ]
 
@@ -101,7 +103,8 @@ none_marked marks count h s at marked = elim (cases_lt s (length marks)) [
   | inl lt ↦ h s at (ap (λ z. get_or z at false) (sym (get_or-append marks (replicate count false ∷ []) [] s lt)) ∙ marked)
   | inr ge ↦ elim (cases_eq s (length marks)) [
     | inl same ↦ IsEmpty-replicate count at (ap (λ z. get_or z at false)
-        (sym (ap (λ z. get_or (marks ++ replicate count false ∷ []) z []) same ∙ get_or-append_seam marks (replicate count false) [] [])) ∙ marked)
+        (sym (ap (λ z. get_or (marks ++ replicate count false ∷ []) z []) same ∙ get_or-append_seam marks (replicate count false) [] [])) ∙
+            marked)
     | inr ne ↦ absurd (true≢false (sym marked ∙ ap (λ z. get_or z at false)
         (get_or_past (marks ++ replicate count false ∷ []) s [] (omega (arith, length-append marks (replicate count false ∷ []))))))
   ]

@@ -112,8 +112,10 @@ empty_lists lookaheads empty s item t (a, there, has) = elim (cases_lt s (length
 ]
 
 -- what begins the symbols after a nonterminal flows to its initial items
-pub open_flows : {kernels : KernelsView} {g : GrammarView} → AreKernels kernels → kernels.grammar ≡ g → (s : ℕ) → s < count_of kernels → (item : Item) →
-    HasItem kernels.grammar (prefix_of kernels s) item → (b p : ℕ) (rest : List Symbol) → after_dot g item ≡ Nonterminal b ∷ rest → IsFirstOf g b p →
+pub open_flows : {kernels : KernelsView} {g : GrammarView} → AreKernels kernels → kernels.grammar ≡ g → (s : ℕ) → s < count_of kernels →
+    (item : Item) →
+    HasItem kernels.grammar (prefix_of kernels s) item → (b p : ℕ) (rest : List Symbol) → after_dot g item ≡ Nonterminal b ∷ rest →
+        IsFirstOf g b p →
     (u : ℕ) → IsFirst g rest u → FlowsTo kernels s (initial_item p) u
 open_flows {kernels} h same s lt item has b p rest is first u begins =
     let (t, f) = item_flows h s lt item has in
@@ -124,15 +126,18 @@ open_flows {kernels} h same s lt item has b p rest is first u begins =
 
 -- and where these symbols derive the empty text, what flows to the item does
 pub open_flows_on : (kernels : KernelsView) {g : GrammarView} → kernels.grammar ≡ g → (s : ℕ) (item : Item) (b p : ℕ) (rest : List Symbol) →
-    after_dot g item ≡ Nonterminal b ∷ rest → IsFirstOf g b p → Derives g rest [] → (t : ℕ) → FlowsTo kernels s item t → FlowsTo kernels s (initial_item p) t
+    after_dot g item ≡ Nonterminal b ∷ rest → IsFirstOf g b p → Derives g rest [] → (t : ℕ) → FlowsTo kernels s item t →
+        FlowsTo kernels s (initial_item p) t
 open_flows_on kernels same s item b p rest is first empty t f =
     let here = ap (λ z. after_dot z item) same ∙ is in
     let rule = subst (λ z. IsProduction z p b first.right) (sym same) first.production in
     close item t b rest p t first.right f here rule
-    ((First-append kernels.grammar rest (Terminal t ∷ []) t).1 (inr (subst (λ z. Derives z rest []) (sym same) empty, ([], Derives-same kernels.grammar (Terminal t ∷ [])))))
+    ((First-append kernels.grammar rest (Terminal t ∷ []) t).1
+        (inr (subst (λ z. Derives z rest []) (sym same) empty, ([], Derives-same kernels.grammar (Terminal t ∷ [])))))
 
 -- what begins these symbols with a terminal after them begins these, or is the terminal
-pub first_then : {g : GrammarView} (rest : List Symbol) (t u : ℕ) → IsFirst g (rest ++ Terminal t ∷ []) u → IsFirst g rest u ⊎ (Derives g rest [] × (t ≡ u))
+pub first_then : {g : GrammarView} (rest : List Symbol) (t u : ℕ) → IsFirst g (rest ++ Terminal t ∷ []) u →
+    IsFirst g rest u ⊎ (Derives g rest [] × (t ≡ u))
 first_then {g} rest t u f = elim ((First-append g rest (Terminal t ∷ []) u).0 f) [
   | inl here ↦ inl here
   | inr (empty, (v, r)) ↦ inr (empty, alone r refl)
@@ -143,16 +148,20 @@ first_then {g} rest t u f = elim ((First-append g rest (Terminal t ∷ []) u).0 
 
 -- the initial item is there
 pub open_has : {kernels : KernelsView} {g : GrammarView} → AreKernels kernels → kernels.grammar ≡ g → (s : ℕ) (item : Item) →
-    HasItem kernels.grammar (prefix_of kernels s) item → (b p : ℕ) (rest : List Symbol) → after_dot g item ≡ Nonterminal b ∷ rest → IsFirstOf g b p →
+    HasItem kernels.grammar (prefix_of kernels s) item → (b p : ℕ) (rest : List Symbol) → after_dot g item ≡ Nonterminal b ∷ rest →
+        IsFirstOf g b p →
     HasItem kernels.grammar (prefix_of kernels s) (initial_item p)
 open_has {kernels} h same s item has b p rest is first =
-    initial_has h s b item rest p first.right has (ap (λ z. after_dot z item) same ∙ is) (subst (λ z. IsProduction z p b first.right) (sym same) first.production)
+    initial_has h s b item rest p first.right has (ap (λ z. after_dot z item) same ∙ is)
+        (subst (λ z. IsProduction z p b first.right) (sym same) first.production)
 
 -- what moved on and what was opened is all that is passed on
-pub item_passed : (kernels : KernelsView) {g : GrammarView} (old : List (List ItemLookahead)) {new : List (List ItemLookahead)} → kernels.grammar ≡ g → (s : ℕ) (item : Item)
+pub item_passed : (kernels : KernelsView) {g : GrammarView} (old : List (List ItemLookahead)) {new : List (List ItemLookahead)} →
+    kernels.grammar ≡ g → (s : ℕ) (item : Item)
     (x : Symbol) (rest : List Symbol) → after_dot g item ≡ x ∷ rest → (t : ℕ) → Keeps old new →
     ((next : ℕ) → LeadsTo kernels s x next → Lists old next (advance item) t) →
-    ((u b p : ℕ) (more : List Symbol) → after_dot g item ≡ Nonterminal b ∷ more → IsFirstOf g b p → IsFirst g (more ++ Terminal t ∷ []) u → Lists new s (initial_item p) u) →
+    ((u b p : ℕ) (more : List Symbol) → after_dot g item ≡ Nonterminal b ∷ more → IsFirstOf g b p → IsFirst g (more ++ Terminal t ∷ []) u →
+        Lists new s (initial_item p) u) →
     IsItemPassed kernels new s item t
 item_passed kernels {g} old same s item x rest is t keeps moves opens = record {
   moves = λ y more next here leads.
@@ -160,11 +169,13 @@ item_passed kernels {g} old same s item x rest is t keeps moves opens = record {
       let first : y ≡ x = cc in
       keeps next (advance item) t (moves next (subst (λ z. LeadsTo kernels s z next) first leads));
   opens = λ b more p u here first begins.
-      opens u b p more (sym (ap (λ z. after_dot z item) same) ∙ here) (subst (λ z. IsFirstOf z b p) same first) (subst (λ z. IsFirst z (more ++ Terminal t ∷ []) u) same begins);
+      opens u b p more (sym (ap (λ z. after_dot z item) same) ∙ here) (subst (λ z. IsFirstOf z b p) same first)
+          (subst (λ z. IsFirst z (more ++ Terminal t ∷ []) u) same begins);
 }
 
 -- nothing flows on from a complete item
-pub complete_passed : (kernels : KernelsView) {g : GrammarView} {new : List (List ItemLookahead)} → kernels.grammar ≡ g → (s : ℕ) (item : Item) → after_dot g item ≡ [] → (t : ℕ) →
+pub complete_passed : (kernels : KernelsView) {g : GrammarView} {new : List (List ItemLookahead)} → kernels.grammar ≡ g →
+    (s : ℕ) (item : Item) → after_dot g item ≡ [] → (t : ℕ) →
     IsItemPassed kernels new s item t
 complete_passed kernels same s item none t = record {
   moves = λ x rest next is leads. absurd (no_symbol x rest (sym (ap (λ z. after_dot z item) same ∙ none) ∙ is));
@@ -174,39 +185,51 @@ complete_passed kernels same s item none t = record {
     no_symbol : (x : Symbol) (rest : List Symbol) → [] ≡ x ∷ rest → ⊥
     no_symbol x rest e = cc
 
-pub passed_kept : {kernels : KernelsView} (old : List (List ItemLookahead)) {new : List (List ItemLookahead)} {s : ℕ} {item : Item} {t : ℕ} → Keeps old new → IsItemPassed kernels old s item t → IsItemPassed kernels new s item t
+pub passed_kept : {kernels : KernelsView}
+    (old : List (List ItemLookahead)) {new : List (List ItemLookahead)} {s : ℕ} {item : Item} {t : ℕ} → Keeps old new →
+    IsItemPassed kernels old s item t → IsItemPassed kernels new s item t
 passed_kept old {s = s} {item} {t} keeps p = record {
   moves = λ x rest next is leads. keeps next (advance item) t (p.moves x rest next is leads);
   opens = λ b rest p' u is first begins. keeps s (initial_item p') u (p.opens b rest p' u is first begins);
 }
 
 -- an item that is no initial item stands for itself alone
-pub sole_passed : {kernels : KernelsView} {new : List (List ItemLookahead)} {s : ℕ} {one : Item} {t : ℕ} → IsSole kernels.grammar one → IsItemPassed kernels new s one t → IsPassedOn kernels new s one t
+pub sole_passed : {kernels : KernelsView} {new : List (List ItemLookahead)} {s : ℕ} {one : Item} {t : ℕ} → IsSole kernels.grammar one →
+    IsItemPassed kernels new s one t → IsPassedOn kernels new s one t
 sole_passed {kernels} {new} {s} {one} {t} sole passed item (itself e _) = subst (λ z. IsItemPassed kernels new s z t) e passed
 sole_passed sole passed item (initial b p q right first rule is item_is) = absurd (sole p b first.right first.production is)
 
 -- an initial item stands for those of its nonterminal
-pub initial_passed : {kernels : KernelsView} {new : List (List ItemLookahead)} {s : ℕ} {one : Item} {t : ℕ} (b p : ℕ) (w : List Symbol) → IsProduction kernels.grammar p b w → one ≡ initial_item p →
-    ((q : ℕ) (right : List Symbol) → IsProduction kernels.grammar q b right → IsItemPassed kernels new s (initial_item q) t) → IsPassedOn kernels new s one t
+pub initial_passed : {kernels : KernelsView} {new : List (List ItemLookahead)} {s : ℕ} {one : Item} {t : ℕ} (b p : ℕ) (w : List Symbol) →
+    IsProduction kernels.grammar p b w → one ≡ initial_item p →
+    ((q : ℕ) (right : List Symbol) → IsProduction kernels.grammar q b right → IsItemPassed kernels new s (initial_item q) t) →
+        IsPassedOn kernels new s one t
 initial_passed b p w rule is passed item (itself e sole) = absurd (sole p b w rule (sym e ∙ is))
 initial_passed {kernels} {new} {s} {one} {t} b p w rule is passed item (initial c r q right first other one_is item_is) =
     let same : r ≡ p = ap (λ (i : Item). i.production) (sym one_is ∙ is) in
-    let left : c ≡ b = (production_once kernels.grammar p c b first.right w (subst (λ n. IsProduction kernels.grammar n c first.right) same first.production) rule).0 in
-    subst (λ z. IsItemPassed kernels new s z t) (sym item_is) (passed q right (subst (λ n. IsProduction kernels.grammar q n right) left other))
+    let left : c ≡ b = (production_once kernels.grammar p c b first.right w
+        (subst (λ n. IsProduction kernels.grammar n c first.right) same first.production) rule).0 in
+    subst (λ z. IsItemPassed kernels new s z t) (sym item_is)
+        (passed q right (subst (λ n. IsProduction kernels.grammar q n right) left other))
 
 -- the set at a place is that of its item
-pub set_at : {kernels : KernelsView} → AreKernels kernels → (lookaheads : List (List ItemLookahead)) → AreLookaheadsOf kernels lookaheads → (s : ℕ) → s < count_of kernels →
-    (item : Item) (at : ℕ) → slice_get (closure_of kernels s) at ≡ Some item → (looks : ItemLookahead) → slice_get (row_of lookaheads s) at ≡ Some looks →
+pub set_at : {kernels : KernelsView} → AreKernels kernels → (lookaheads : List (List ItemLookahead)) → AreLookaheadsOf kernels lookaheads →
+    (s : ℕ) → s < count_of kernels →
+    (item : Item) (at : ℕ) → slice_get (closure_of kernels s) at ≡ Some item → (looks : ItemLookahead) →
+        slice_get (row_of lookaheads s) at ≡ Some looks →
     IsSetOf lookaheads s item looks.set
 set_at {kernels} h lookaheads shape s lt item at here looks there =
     let items = row_items h lookaheads shape s lt in
     let listed : slice_get (closure_of kernels s) at ≡ Some looks.item =
-    ap (λ z. slice_get z at) (sym items) ∙ slice_get-map (λ (z : ItemLookahead). z.item) (row_of lookaheads s) at ∙ ap (option_map (λ (z : ItemLookahead). z.item)) there in
+    ap (λ z. slice_get z at) (sym items) ∙ slice_get-map (λ (z : ItemLookahead). z.item) (row_of lookaheads s) at ∙
+        ap (option_map (λ (z : ItemLookahead). z.item)) there in
     let is : looks.item ≡ item = same_Some looks.item item (sym listed ∙ here) in
-    subst (λ z. IsSetOf lookaheads s z looks.set) is (at, slice_get_within (row_of lookaheads s) at looks there, get_or_from_slice_get (row_of lookaheads s) at looks looks there)
+    subst (λ z. IsSetOf lookaheads s z looks.set) is (at, slice_get_within (row_of lookaheads s) at looks there, get_or_from_slice_get
+        (row_of lookaheads s) at looks looks there)
 
 -- a place of a closure is one of the row
-pub place_in_row : {kernels : KernelsView} → AreKernels kernels → (lookaheads : List (List ItemLookahead)) → AreLookaheadsOf kernels lookaheads → (s : ℕ) → s < count_of kernels →
+pub place_in_row : {kernels : KernelsView} → AreKernels kernels → (lookaheads : List (List ItemLookahead)) →
+    AreLookaheadsOf kernels lookaheads → (s : ℕ) → s < count_of kernels →
     (item : Item) (at : ℕ) → slice_get (closure_of kernels s) at ≡ Some item → at < length (row_of lookaheads s)
 place_in_row {kernels} h lookaheads shape s lt item at here =
     let items = row_items h lookaheads shape s lt in

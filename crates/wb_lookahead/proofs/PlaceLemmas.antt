@@ -19,28 +19,38 @@ use Rattle.wb_lookahead.proofs.PassLemmas.{set_at, set_once}
 use Rattle.wb_lookahead.proofs.StepLemmas.{row_wide}
 
 -- the item of a place is one of its prefix
-pub place_has : {kernels : KernelsView} → AreKernels kernels → (place : Place) → IsPlace kernels place → HasItem kernels.grammar (prefix_of kernels place.state) place.item
-place_has {kernels} h place p = (h.closures place.state p.state place.item).0 (Contains-at (closure_of kernels place.state) place.at place.item p.here)
+pub place_has : {kernels : KernelsView} → AreKernels kernels → (place : Place) → IsPlace kernels place →
+    HasItem kernels.grammar (prefix_of kernels place.state) place.item
+place_has {kernels} h place p = (h.closures place.state p.state place.item).0
+    (Contains-at (closure_of kernels place.state) place.at place.item p.here)
 
 -- what was read at a place is the set of its item
-pub held : {kernels : KernelsView} → AreKernels kernels → (lookaheads : List (List ItemLookahead)) → AreLookaheadsOf kernels lookaheads → (place : Place) → IsPlace kernels place →
-    (r set : List Bool) → (looks : ItemLookahead) × (slice_get (row_of lookaheads place.state) place.at ≡ Some looks) × (r ≡ looks.set) → set ≡ r →
+pub held : {kernels : KernelsView} → AreKernels kernels → (lookaheads : List (List ItemLookahead)) → AreLookaheadsOf kernels lookaheads →
+    (place : Place) → IsPlace kernels place →
+    (r set : List Bool) → (looks : ItemLookahead) × (slice_get (row_of lookaheads place.state) place.at ≡ Some looks) × (r ≡ looks.set) →
+        set ≡ r →
     IsSetOf lookaheads place.state place.item set
 held h lookaheads shape place p r set (looks, there, is) set_is =
-    subst (IsSetOf lookaheads place.state place.item) (sym (set_is ∙ is)) (set_at h lookaheads shape place.state p.state place.item place.at p.here looks there)
+    subst (IsSetOf lookaheads place.state place.item) (sym (set_is ∙ is))
+        (set_at h lookaheads shape place.state p.state place.item place.at p.here looks there)
 
 -- a set of an item has room for the terminals and the end
-pub held_len : {kernels : KernelsView} → AreKernels kernels → (lookaheads : List (List ItemLookahead)) → AreLookaheadsOf kernels lookaheads → (s : ℕ) → s < count_of kernels → (item : Item)
+pub held_len : {kernels : KernelsView} → AreKernels kernels → (lookaheads : List (List ItemLookahead)) →
+    AreLookaheadsOf kernels lookaheads → (s : ℕ) → s < count_of kernels → (item : Item)
     (set : List Bool) → IsSetOf lookaheads s item set → length set ≡ kernels.grammar.terminals + 1
 held_len {kernels} h lookaheads shape s lt item set is =
-    All-contains (λ (looks : ItemLookahead). length looks.set ≡ kernels.grammar.terminals + 1) (row_of lookaheads s) (record { item = item; set = set }) (row_wide h lookaheads shape s lt) is
+    All-contains (λ (looks : ItemLookahead). length looks.set ≡ kernels.grammar.terminals + 1) (row_of lookaheads s)
+        (record { item = item; set = set }) (row_wide h lookaheads shape s lt) is
 
 -- what is listed at an item is in its set
-pub listed_held : {kernels : KernelsView} → AreKernels kernels → (lookaheads : List (List ItemLookahead)) → AreLookaheadsOf kernels lookaheads → (s : ℕ) → s < count_of kernels → (item : Item)
+pub listed_held : {kernels : KernelsView} → AreKernels kernels → (lookaheads : List (List ItemLookahead)) →
+    AreLookaheadsOf kernels lookaheads → (s : ℕ) → s < count_of kernels → (item : Item)
     (set : List Bool) → IsSetOf lookaheads s item set → (t : ℕ) → Lists lookaheads s item t → IsMember set t
-listed_held h lookaheads shape s lt item set is t (other, there, has) = subst (λ z. IsMember z t) (set_once h lookaheads shape s lt item other set there is) has
+listed_held h lookaheads shape s lt item set is t (other, there, has) = subst (λ z. IsMember z t)
+    (set_once h lookaheads shape s lt item other set there is) has
 
 -- the productions of a nonterminal, by the grammar of the kernels
-pub productions_here : (kernels : KernelsView) {g : GrammarView} → kernels.grammar ≡ g → (rows : List (List ℕ)) → AreProductions g rows → (b : ℕ) (numbers : List ℕ) →
+pub productions_here : (kernels : KernelsView) {g : GrammarView} → kernels.grammar ≡ g → (rows : List (List ℕ)) → AreProductions g rows →
+    (b : ℕ) (numbers : List ℕ) →
     slice_get rows b ≡ Some numbers → AreProductionsOf kernels.grammar b numbers
 productions_here kernels same rows are b numbers at = subst (λ z. AreProductionsOf z b numbers) (sym same) (are.each b numbers at)

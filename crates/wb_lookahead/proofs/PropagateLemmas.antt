@@ -48,18 +48,22 @@ rest_there g rests are item lt x rest is row at =
     (omega (arith, row_is.len, within), λ r r_at. subst (λ z. IsRest g z r) rest_is (row_is.each item.dot r r_at))
 
 -- nothing is after the start in the added production
-pub nothing_after : (g : GrammarView) (item : Item) → length g.productions ≤ item.production → (x : Symbol) (rest : List Symbol) → after_dot g item ≡ x ∷ rest → Derives g rest []
+pub nothing_after : (g : GrammarView) (item : Item) → length g.productions ≤ item.production → (x : Symbol) (rest : List Symbol) →
+    after_dot g item ≡ x ∷ rest → Derives g rest []
 nothing_after g item le x rest is = subst (λ z. Derives g z []) (rest_past g item le x rest is) done
 
-pub nothing_begins : (g : GrammarView) (item : Item) → length g.productions ≤ item.production → (x : Symbol) (rest : List Symbol) → after_dot g item ≡ x ∷ rest → (u : ℕ) → IsFirst g rest u → ⊥
+pub nothing_begins : (g : GrammarView) (item : Item) → length g.productions ≤ item.production → (x : Symbol) (rest : List Symbol) →
+    after_dot g item ≡ x ∷ rest → (u : ℕ) → IsFirst g rest u → ⊥
 nothing_begins g item le x rest is u f = nothing_first u (subst (λ z. IsFirst g z u) (sym (rest_past g item le x rest is)) f)
 
 -- what begins the rest, and the terminals where it derives the empty text, is all that opens
-pub open_lists : (g : GrammarView) (set : List Bool) (lookaheads : List (List ItemLookahead)) (s : ℕ) (item : Item) (n p0 : ℕ) (rest0 : List Symbol) →
+pub open_lists : (g : GrammarView) (set : List Bool) (lookaheads : List (List ItemLookahead)) (s : ℕ) (item : Item) (n p0 : ℕ)
+    (rest0 : List Symbol) →
     after_dot g item ≡ Nonterminal n ∷ rest0 → IsFirstOf g n p0 →
     ((u : ℕ) → IsFirst g rest0 u → Lists lookaheads s (initial_item p0) u) →
     (Derives g rest0 [] → (t : ℕ) → IsMember set t → Lists lookaheads s (initial_item p0) t) →
-    (t u b p : ℕ) (rest : List Symbol) → after_dot g item ≡ Nonterminal b ∷ rest → IsFirstOf g b p → IsMember set t → IsFirst g (rest ++ Terminal t ∷ []) u →
+    (t u b p : ℕ) (rest : List Symbol) → after_dot g item ≡ Nonterminal b ∷ rest → IsFirstOf g b p → IsMember set t →
+        IsFirst g (rest ++ Terminal t ∷ []) u →
     Lists lookaheads s (initial_item p) u
 open_lists g set lookaheads s item n p0 rest0 here first0 of_rest of_set t u b p rest at first has begins =
     let heads : Nonterminal b ∷ rest ≡ Nonterminal n ∷ rest0 = sym at ∙ here in
@@ -73,11 +77,13 @@ open_lists g set lookaheads s item n p0 rest0 here first0 of_rest of_set t u b p
     ])
 
 -- a nonterminal has no production where none is listed
-pub none_listed : (g : GrammarView) (b : ℕ) (numbers : List ℕ) → AreProductionsOf g b numbers → length numbers ≤ 0 → (q : ℕ) (right : List Symbol) → IsProduction g q b right → ⊥
+pub none_listed : (g : GrammarView) (b : ℕ) (numbers : List ℕ) → AreProductionsOf g b numbers → length numbers ≤ 0 →
+    (q : ℕ) (right : List Symbol) → IsProduction g q b right → ⊥
 none_listed g b numbers are none q right rule = (let there = are.complete q right rule in omega (arith, none, there.1))
 
 -- a number that is listed is that of a production of the nonterminal
-pub left_is : (g : GrammarView) (p left : ℕ) → p < length g.productions → IfSome (slice_get g.productions p) (λ r. left ≡ r.0) → (right : List Symbol) × IsProduction g p left right
+pub left_is : (g : GrammarView) (p left : ℕ) → p < length g.productions → IfSome (slice_get g.productions p) (λ r. left ≡ r.0) →
+    (right : List Symbol) × IsProduction g p left right
 left_is g p left lt e =
     let (a, right, rule) = production_there g p lt in
     let same : left ≡ a = subst (λ o. IfSome o (λ r. left ≡ r.0)) rule e in

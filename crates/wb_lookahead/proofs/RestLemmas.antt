@@ -134,11 +134,14 @@ begins_end g w left set none h = record {
 }
 
 -- the same by what an insertion leaves
-pub begins_insert : (g : GrammarView) (w left all : List Symbol) (set new : List Bool) (v : ℕ) → all ≡ Terminal v ∷ left → v < length set → BeginsSoFar g w set all →
+pub begins_insert : (g : GrammarView) (w left all : List Symbol) (set new : List Bool) (v : ℕ) → all ≡ Terminal v ∷ left → v < length set →
+    BeginsSoFar g w set all →
     new ≡ slice_set set v true → IsRest g w (record { set = new; empty = false })
 begins_insert g w left all set new v all_is lt h is =
     begins_terminal g w left set new v (subst (BeginsSoFar g w set) all_is h) (ap (λ (z : List Bool). length z) is ∙ length-set set v true)
     (λ u. (
       λ has. IsMember-insert set v u (subst (λ z. IsMember z u) is has),
-      λ p. subst (λ z. IsMember z u) (sym is) (elim p [ inl old ↦ IsSubset-insert set v u old | inr same ↦ subst (IsMember (slice_set set v true)) (sym same) (IsMember-insert_same set v lt) ]),
+      λ p. subst (λ z. IsMember z u) (sym is)
+          (elim p [ inl old ↦ IsSubset-insert set v u old | inr same ↦ subst (IsMember (slice_set set v true)) (sym same)
+          (IsMember-insert_same set v lt) ]),
     ))

@@ -9,8 +9,10 @@ use Rattle.wb_lookahead.specs.declared.first_of.Rest.{Rest}
 use Rattle.wb_lookahead.specs.Inner.Rests.{AreRestsOf, IsRest}
 
 -- one rest more
-pub rests_more : (g : GrammarView) (right : List Symbol) (row new : List Rest) (n : ℕ) (rest : Rest) → length row ≡ n → new ≡ row ++ rest ∷ [] → IsRest g (drop (n + 1) right) rest →
-    ((d : ℕ) (r : Rest) → slice_get row d ≡ Some r → IsRest g (drop (d + 1) right) r) → (d : ℕ) (r : Rest) → slice_get new d ≡ Some r → IsRest g (drop (d + 1) right) r
+pub rests_more : (g : GrammarView) (right : List Symbol) (row new : List Rest) (n : ℕ) (rest : Rest) → length row ≡ n →
+    new ≡ row ++ rest ∷ [] → IsRest g (drop (n + 1) right) rest →
+    ((d : ℕ) (r : Rest) → slice_get row d ≡ Some r → IsRest g (drop (d + 1) right) r) → (d : ℕ) (r : Rest) → slice_get new d ≡ Some r →
+        IsRest g (drop (d + 1) right) r
 rests_more g right row new n rest len is last each d r at = elim (at_cases row rest d r (subst (λ z. slice_get z d ≡ Some r) is at)) [
   | inl old ↦ each d r old
   | inr (d_is, r_is) ↦ subst (IsRest g (drop (d + 1) right)) r_is (subst (λ k. IsRest g (drop (k + 1) right) rest) (sym (d_is ∙ len)) last)

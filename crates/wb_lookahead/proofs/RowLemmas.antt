@@ -216,11 +216,3 @@ each_more {A} P xs x d n len each here s lt = at (cases_eq s n)
         let first : get_or (xs ++ x ∷ []) s d ≡ get_or xs s d = get_or_append_left xs (x ∷ []) d s (omega arith) in
         subst (P s) (sym first) (each s (omega arith))
 
--- one nonterminal more
-pub gotos_more : {kernels : KernelsView} {s : ℕ} (codes more : List ℕ) (n code : ℕ) (goto : Option ℕ) → more ≡ codes ++ code ∷ [] →
-    goto_at code ≡ goto → IsGoto kernels s n goto → AreGotos kernels s codes n → AreGotos kernels s more (n + 1)
-gotos_more {kernels} {s} codes more n code goto is code_is here before = subst (λ z. AreGotos kernels s z (n + 1)) (sym is) (record {
-  len = omega (arith, length-append codes (code ∷ []), before.len);
-  each = each_more (λ b z. IsGoto kernels s b (goto_at z)) codes code 0 n before.len before.each
-      (subst (IsGoto kernels s n) (sym code_is) here);
-})

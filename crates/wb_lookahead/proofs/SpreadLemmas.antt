@@ -29,7 +29,8 @@ spreads_then {l} {m} {n} {v} {w} {x} p q = record {
   less = (let a = p.less in let b = q.less in omega arith);
 }
   where
-    both : (s : ℕ) (item : Item) → Waits x s item ⊎ ((t : ℕ) → Lists n s item t → Lists m s item t) → Waits w s item ⊎ ((t : ℕ) → Lists m s item t → Lists l s item t) →
+    both : (s : ℕ) (item : Item) → Waits x s item ⊎ ((t : ℕ) → Lists n s item t → Lists m s item t) →
+        Waits w s item ⊎ ((t : ℕ) → Lists m s item t → Lists l s item t) →
         Waits x s item ⊎ ((t : ℕ) → Lists n s item t → Lists l s item t)
     both s item (inl waits) _ = inl waits
     both s item (inr same) (inl waited) = inl (q.waits s item waited)
@@ -64,11 +65,14 @@ contains_later place one old (k, lt, is) = (suc k, omega arith, is)
 
 -- what waited waits, and the place that was added
 pub adds_waits : {old new : List Place} (place : Place) → Adds old place new → (s : ℕ) (item : Item) → Waits old s item → Waits new s item
-adds_waits {old} place (in_front is) s item (at, h) = (at, subst (λ z. Contains z (place_of s item at)) (sym is) (contains_later place (place_of s item at) old h))
-adds_waits {old} place (at_end is) s item (at, h) = (at, subst (λ z. Contains z (place_of s item at)) (sym is) (Contains-append_left old (place ∷ []) (place_of s item at) h))
+adds_waits {old} place (in_front is) s item
+    (at, h) = (at, subst (λ z. Contains z (place_of s item at)) (sym is) (contains_later place (place_of s item at) old h))
+adds_waits {old} place (at_end is) s item
+    (at, h) = (at, subst (λ z. Contains z (place_of s item at)) (sym is) (Contains-append_left old (place ∷ []) (place_of s item at) h))
 adds_waits place (stays other is there) s item (at, h) = (at, subst (λ z. Contains z (place_of s item at)) (sym is) h)
 
-pub adds_it : {kernels : KernelsView} {old new : List Place} {place : Place} → All (IsPlace kernels) old → IsPlace kernels place → Adds old place new → Waits new place.state place.item
+pub adds_it : {kernels : KernelsView} {old new : List Place} {place : Place} → All (IsPlace kernels) old → IsPlace kernels place →
+    Adds old place new → Waits new place.state place.item
 adds_it {place = place} places p (in_front is) = (place.at, subst (λ z. Contains z place) (sym is) (0, omega arith, refl))
 adds_it {old = old} {place = place} places p (at_end is) = (place.at, subst (λ z. Contains z place) (sym is) (Contains-push old place))
 adds_it {kernels} {old} {new} {place} places p (stays item is there) =
@@ -77,45 +81,59 @@ adds_it {kernels} {old} {new} {place} places p (stays item is there) =
     let same : item ≡ place.item = same_Some item place.item (sym q.here ∙ p.here) in
     (place.at, subst (λ z. Contains z place) (sym is) (subst (λ z. Contains old (place_of place.state z place.at)) same there))
 
-pub adds_places : {kernels : KernelsView} {old new : List Place} {place : Place} → All (IsPlace kernels) old → IsPlace kernels place → Adds old place new → All (IsPlace kernels) new
-adds_places {kernels} {old} {new} {place} places p (in_front is) = subst (All (IsPlace kernels)) (sym is) (All-cons (IsPlace kernels) place old p places)
-adds_places {kernels} {old} {new} {place} places p (at_end is) = subst (All (IsPlace kernels)) (sym is) (All-push (IsPlace kernels) old place places p)
+pub adds_places : {kernels : KernelsView} {old new : List Place} {place : Place} → All (IsPlace kernels) old → IsPlace kernels place →
+    Adds old place new → All (IsPlace kernels) new
+adds_places {kernels} {old} {new} {place} places p (in_front is) = subst (All (IsPlace kernels)) (sym is)
+    (All-cons (IsPlace kernels) place old p places)
+adds_places {kernels} {old} {new} {place} places p (at_end is) = subst (All (IsPlace kernels)) (sym is)
+    (All-push (IsPlace kernels) old place places p)
 adds_places {kernels} places p (stays item is there) = subst (All (IsPlace kernels)) (sym is) places
 
 adds_length : {old new : List Place} (place : Place) → Adds old place new → length new ≤ length old + 1
-adds_length {old} {new} place (in_front is) = (let e : length new ≡ length (place ∷ old) = ap (λ (z : List Place). length z) is in omega (arith, e))
-adds_length {old} {new} place (at_end is) = (let e : length new ≡ length old + 1 = ap (λ (z : List Place). length z) is ∙ length-append old (place ∷ []) in omega (arith, e))
-adds_length {old} {new} place (stays item is there) = (let e : length new ≡ length old = ap (λ (z : List Place). length z) is in omega (arith, e))
+adds_length {old} {new} place (in_front is) = (let e : length new ≡ length (place ∷ old) =
+    ap (λ (z : List Place). length z) is in omega (arith, e))
+adds_length {old} {new} place (at_end is) = (let e : length new ≡ length old + 1 = ap (λ (z : List Place). length z) is ∙
+    length-append old (place ∷ []) in omega (arith, e))
+adds_length {old} {new} place (stays item is there) = (let e : length new ≡ length old =
+    ap (λ (z : List Place). length z) is in omega (arith, e))
 
 -- what a union leaves flows where it is listed
 pub union_sound : (kernels : KernelsView) (place : Place) {old new : List (List ItemLookahead)} {added : List Bool} {b : Bool} →
     Unites old place.state place.item added b new → place.state < length old →
-    ((s : ℕ) (item : Item) (t : ℕ) → Lists old s item t → FlowsTo kernels s item t) → ((t : ℕ) → IsMember added t → FlowsTo kernels place.state place.item t) →
+    ((s : ℕ) (item : Item) (t : ℕ) → Lists old s item t → FlowsTo kernels s item t) →
+        ((t : ℕ) → IsMember added t → FlowsTo kernels place.state place.item t) →
     (s : ℕ) (item : Item) (t : ℕ) → Lists new s item t → FlowsTo kernels s item t
 union_sound kernels place u lt sound flows s item t lists = elim (lists_new u lt s item t lists) [
   | inl before ↦ sound s item t before
-  | inr (s_is, item_is, has) ↦ subst (λ z. FlowsTo kernels z item t) (sym s_is) (subst (λ z. FlowsTo kernels place.state z t) (sym item_is) (flows t has))
+  | inr (s_is, item_is, has) ↦ subst (λ z. FlowsTo kernels z item t) (sym s_is)
+        (subst (λ z. FlowsTo kernels place.state z t) (sym item_is) (flows t has))
 ]
 
-pub state_within : {kernels : KernelsView} → AreKernels kernels → (place : Place) → place.state < count_of kernels → (old : List (List ItemLookahead)) → AreLookaheadsOf kernels old →
+pub state_within : {kernels : KernelsView} → AreKernels kernels → (place : Place) → place.state < count_of kernels →
+    (old : List (List ItemLookahead)) → AreLookaheadsOf kernels old →
     place.state < length old
 state_within k place lt old shape = (let e = rows_within k old shape in omega (arith, e, lt))
 
-pub is_place : {kernels : KernelsView} → AreKernels kernels → (lookaheads : List (List ItemLookahead)) → AreLookaheadsOf kernels lookaheads → (s : ℕ) → s < count_of kernels →
+pub is_place : {kernels : KernelsView} → AreKernels kernels → (lookaheads : List (List ItemLookahead)) →
+    AreLookaheadsOf kernels lookaheads → (s : ℕ) → s < count_of kernels →
     (item : Item) (at : ℕ) → slice_get (items_in (row_of lookaheads s)) at ≡ Some item → IsPlace kernels (place_of s item at)
 is_place k lookaheads shape s lt item at e = record { state = lt; here = closure_at k lookaheads shape s lt item at e }
 
 -- a union that adds something, whose place then waits
-pub spread_sound : {kernels : KernelsView} (place : Place) {old new : List (List ItemLookahead)} {added : List Bool} {b : Bool} {w v : List Place} → AreKernels kernels →
-    IsPlace kernels place → Unites old place.state place.item added b new → AreSound kernels old w → ((t : ℕ) → IsMember added t → FlowsTo kernels place.state place.item t) →
+pub spread_sound : {kernels : KernelsView}
+    (place : Place) {old new : List (List ItemLookahead)} {added : List Bool} {b : Bool} {w v : List Place} → AreKernels kernels →
+    IsPlace kernels place → Unites old place.state place.item added b new → AreSound kernels old w →
+        ((t : ℕ) → IsMember added t → FlowsTo kernels place.state place.item t) →
     Adds w place v → AreSound kernels new v
 spread_sound {kernels} place {old} k p u h flows adds =
     let lt = state_within k place p.state old h.shape in
     record { shape = shape_kept u lt h.shape; sound = union_sound kernels place u lt h.sound flows; places = adds_places h.places p adds }
 
 -- the sets grew, and the place waits
-pub spread_spreads : {kernels : KernelsView} (place : Place) {old new : List (List ItemLookahead)} {added : List Bool} {b : Bool} {w v : List Place} → place.state < length old →
-    Unites old place.state place.item added b new → b ≡ true → All (IsPlace kernels) w → IsPlace kernels place → Adds w place v → Spreads old w new v
+pub spread_spreads : {kernels : KernelsView}
+    (place : Place) {old new : List (List ItemLookahead)} {added : List Bool} {b : Bool} {w v : List Place} → place.state < length old →
+    Unites old place.state place.item added b new → b ≡ true → All (IsPlace kernels) w → IsPlace kernels place → Adds w place v →
+        Spreads old w new v
 spread_spreads {kernels} place {old} {new} {added} {b} {w} {v} lt u grew places p adds = record {
   keeps = lists_kept u lt;
   waits = adds_waits place adds;
@@ -123,18 +141,21 @@ spread_spreads {kernels} place {old} {new} {added} {b} {w} {v} lt u grew places 
   less = (let less = room_less u lt grew in let more = adds_length place adds in omega (arith, less, more));
 }
   where
-    kept : (s : ℕ) (item : Item) → (((s ≡ place.state) × (item ≡ place.item)) → ⊥) → (t : ℕ) → Lists old s item t ⊎ ((s ≡ place.state) × (item ≡ place.item) × IsMember added t) →
+    kept : (s : ℕ) (item : Item) → (((s ≡ place.state) × (item ≡ place.item)) → ⊥) → (t : ℕ) →
+        Lists old s item t ⊎ ((s ≡ place.state) × (item ≡ place.item) × IsMember added t) →
         Lists old s item t
     kept s item other t (inl before) = before
     kept s item other t (inr (s_is, i_is, has)) = absurd (other (s_is, i_is))
 
     changes : (s : ℕ) (item : Item) → ((s ≡ place.state) × (item ≡ place.item)) ⊎ (((s ≡ place.state) × (item ≡ place.item)) → ⊥) →
         Waits v s item ⊎ ((t : ℕ) → Lists new s item t → Lists old s item t)
-    changes s item (inl same) = inl (subst (λ z. Waits v z item) (sym same.0) (subst (Waits v place.state) (sym same.1) (adds_it places p adds)))
+    changes s item (inl same) = inl
+        (subst (λ z. Waits v z item) (sym same.0) (subst (Waits v place.state) (sym same.1) (adds_it places p adds)))
     changes s item (inr other) = inr (λ t h. kept s item other t (lists_new u lt s item t h))
 
 -- an element of a front that is one longer
-pub contains_more : {A : Type 0} (xs : List A) (i : ℕ) (d x : A) → i < length xs → Contains (take (i + 1) xs) x → Contains (take i xs) x ⊎ (get_or xs i d ≡ x)
+pub contains_more : {A : Type 0} (xs : List A) (i : ℕ) (d x : A) → i < length xs → Contains (take (i + 1) xs) x →
+    Contains (take i xs) x ⊎ (get_or xs i d ≡ x)
 contains_more xs i d x lt h = Contains-push_cases (take i xs) (get_or xs i d) x (subst (λ z. Contains z x) (take_more xs i d lt) h)
 
 -- an element, where the front is the whole list

@@ -34,7 +34,8 @@ past_sole g item le q b right rule e =
     let lt = production_within g q b right rule in
     omega (arith, f, lt)
 
-later : (x : Production) (rs : List Production) (b p : ℕ) → (x.0 ≡ b → ⊥) → ((r : ℕ) (u : List Symbol) → slice_get rs r ≡ Some (b, u) → p ≤ r) →
+later : (x : Production) (rs : List Production) (b p : ℕ) → (x.0 ≡ b → ⊥) →
+    ((r : ℕ) (u : List Symbol) → slice_get rs r ≡ Some (b, u) → p ≤ r) →
     (r : ℕ) (u : List Symbol) → slice_get (x ∷ rs) r ≡ Some (b, u) → suc p ≤ r
 later x rs b p ne least zero u h = absurd (ne (ap (λ (r : Production). r.0) (same_Some x (b, u) h)))
 later x rs b p ne least (suc r) u h = (let le = least r u h in omega arith)
@@ -62,7 +63,8 @@ first_once g b p q one other =
     omega arith
 
 -- of the productions of a nonterminal in order, the one at the first place
-pub first_listed : (g : GrammarView) (b p : ℕ) (numbers : List ℕ) → AreProductionsOf g b numbers → slice_get numbers 0 ≡ Some p → IsFirstOf g b p
+pub first_listed : (g : GrammarView) (b p : ℕ) (numbers : List ℕ) → AreProductionsOf g b numbers → slice_get numbers 0 ≡ Some p →
+    IsFirstOf g b p
 first_listed g b p numbers are at =
     let (right, rule) = are.sound p (0, slice_get_within numbers 0 p at, first_default numbers p at) in
     record { right = right; production = rule; least = λ q other h. least q (are.complete q other h) }
@@ -73,7 +75,8 @@ first_listed g b p numbers are at =
 
     least : (q : ℕ) → Contains numbers q → p ≤ q
     least q (zero, lt, is) = (let e : p ≡ q = same_Some p q (sym at ∙ slice_get-get_or numbers 0 q lt ∙ ap Some is) in omega arith)
-    least q (suc j, lt, is) = (let less = are.rising 0 (suc j) p q (omega arith) at (slice_get-get_or numbers (suc j) q lt ∙ ap Some is) in omega arith)
+    least q (suc j, lt, is) = (let less = are.rising 0 (suc j) p q (omega arith) at (slice_get-get_or numbers (suc j) q lt ∙
+        ap Some is) in omega arith)
 
 -- an item has one that stands for it
 pub stands_once : (g : GrammarView) (one other item : Item) → StandsFor g one item → StandsFor g other item → one ≡ other
@@ -89,38 +92,46 @@ stands_once g one other item (initial b p q right first rule is item_is) (initia
 -- the same terminals flow to the initial items of a nonterminal
 initial_flows : (kernels : KernelsView) {s : ℕ} {item : Item} {t : ℕ} → FlowsTo kernels s item t → (b p q : ℕ) (w v : List Symbol) →
     IsProduction kernels.grammar p b w → IsProduction kernels.grammar q b v → item ≡ initial_item p → FlowsTo kernels s (initial_item q) t
-initial_flows kernels start b p q w v one other e = absurd (top_no_production kernels.grammar p b w one (sym (ap (λ (i : Item). i.production) e)))
+initial_flows kernels start b p q w v one other e = absurd
+    (top_no_production kernels.grammar p b w one (sym (ap (λ (i : Item). i.production) e)))
 initial_flows kernels (close item t c rest r u right f is rule first) b p q w v one other e =
     let same : r ≡ p = same_initial r p e in
-    let same_left : c ≡ b = (production_once kernels.grammar p c b right w (subst (λ n. IsProduction kernels.grammar n c right) same rule) one).0 in
+    let same_left : c ≡ b =
+        (production_once kernels.grammar p c b right w (subst (λ n. IsProduction kernels.grammar n c right) same rule) one).0 in
     close item t c rest q u v f is (subst (λ n. IsProduction kernels.grammar q n v) (sym same_left) other) first
 initial_flows kernels (move item x rest s f is next moved_is) b p q w v one other e = absurd (no_dot item p (sym moved_is ∙ e))
 
 -- what flows to an item flows to those for which it stands
-pub stands_flows : (kernels : KernelsView) {s : ℕ} {one item : Item} {t : ℕ} → StandsFor kernels.grammar one item → FlowsTo kernels s one t → FlowsTo kernels s item t
+pub stands_flows : (kernels : KernelsView) {s : ℕ} {one item : Item} {t : ℕ} → StandsFor kernels.grammar one item →
+    FlowsTo kernels s one t → FlowsTo kernels s item t
 stands_flows kernels {s} {one} {item} {t} (itself e sole) f = subst (λ z. FlowsTo kernels s z t) e f
 stands_flows kernels {s} {one} {item} {t} (initial b p q right first rule is item_is) f =
     subst (λ z. FlowsTo kernels s z t) (sym item_is) (initial_flows kernels f b p q first.right right first.production rule is)
 
 -- and from one initial item to each of its nonterminal
-pub initial_flows_all : (kernels : KernelsView) {s : ℕ} {t : ℕ} (b p q : ℕ) (w v : List Symbol) → IsProduction kernels.grammar p b w → IsProduction kernels.grammar q b v →
+pub initial_flows_all : (kernels : KernelsView) {s : ℕ} {t : ℕ} (b p q : ℕ) (w v : List Symbol) → IsProduction kernels.grammar p b w →
+    IsProduction kernels.grammar q b v →
     FlowsTo kernels s (initial_item p) t → FlowsTo kernels s (initial_item q) t
 initial_flows_all kernels b p q w v one other f = initial_flows kernels f b p q w v one other refl
 
 -- an item of a kernel's closure has something that flows to it
-pub item_flows : {kernels : KernelsView} → AreKernels kernels → (s : ℕ) → s < count_of kernels → (item : Item) → HasItem kernels.grammar (prefix_of kernels s) item →
+pub item_flows : {kernels : KernelsView} → AreKernels kernels → (s : ℕ) → s < count_of kernels → (item : Item) →
+    HasItem kernels.grammar (prefix_of kernels s) item →
     (t : ℕ) × FlowsTo kernels s item t
-item_flows {kernels} h s lt item (t, v) = (t, flows_complete (prefix_of kernels) h.live h.states v s lt (same_itself kernels.grammar (prefix_of kernels s)))
+item_flows {kernels} h s lt item
+    (t, v) = (t, flows_complete (prefix_of kernels) h.live h.states v s lt (same_itself kernels.grammar (prefix_of kernels s)))
 
 -- where an initial item is, all of its nonterminal are
 pub initial_all : {kernels : KernelsView} → AreKernels kernels → (s : ℕ) → s < count_of kernels → (b p q : ℕ) (w v : List Symbol) →
-    IsProduction kernels.grammar p b w → IsProduction kernels.grammar q b v → HasItem kernels.grammar (prefix_of kernels s) (initial_item p) → HasItem kernels.grammar (prefix_of kernels s) (initial_item q)
+    IsProduction kernels.grammar p b w → IsProduction kernels.grammar q b v →
+        HasItem kernels.grammar (prefix_of kernels s) (initial_item p) → HasItem kernels.grammar (prefix_of kernels s) (initial_item q)
 initial_all {kernels} h s lt b p q w v one other has =
     let (t, f) = item_flows h s lt (initial_item p) has in
     flows_has (prefix_of kernels) h.live h.states (initial_flows_all kernels b p q w v one other f)
 
 -- the item that stands for one is there where that is
-pub stands_has : {kernels : KernelsView} → AreKernels kernels → (s : ℕ) → s < count_of kernels → (one item : Item) → StandsFor kernels.grammar one item →
+pub stands_has : {kernels : KernelsView} → AreKernels kernels → (s : ℕ) → s < count_of kernels → (one item : Item) →
+    StandsFor kernels.grammar one item →
     HasItem kernels.grammar (prefix_of kernels s) item → HasItem kernels.grammar (prefix_of kernels s) one
 stands_has {kernels} h s lt one item (itself e sole) has = subst (HasItem kernels.grammar (prefix_of kernels s)) (sym e) has
 stands_has {kernels} h s lt one item (initial b p q right first rule is item_is) has =
@@ -137,10 +148,12 @@ sole_alone g one other sole (itself e _) = sym e
 sole_alone g one other sole (initial b p q right first rule is other_is) = absurd (sole p b first.right first.production is)
 
 -- and an initial item that isn't that of the nonterminal's first production stands for none
-pub later_alone : (g : GrammarView) (one other : Item) (b : ℕ) (w : List Symbol) → IsProduction g one.production b w → one ≡ initial_item one.production →
+pub later_alone : (g : GrammarView) (one other : Item) (b : ℕ) (w : List Symbol) → IsProduction g one.production b w →
+    one ≡ initial_item one.production →
     (IsFirstOf g b one.production → ⊥) → StandsFor g one other → other ≡ one
 later_alone g one other b w rule is not (itself e sole) = absurd (sole one.production b w rule (sym e ∙ is))
 later_alone g one other b w rule is not (initial c p q right first other_rule one_is other_is) =
     let same : p ≡ one.production = ap (λ (i : Item). i.production) (sym one_is) in
-    let left : c ≡ b = (production_once g one.production c b first.right w (subst (λ n. IsProduction g n c first.right) same first.production) rule).0 in
+    let left : c ≡ b = (production_once g one.production c b first.right w
+        (subst (λ n. IsProduction g n c first.right) same first.production) rule).0 in
     absurd (not (subst (λ z. IsFirstOf g z one.production) left (subst (IsFirstOf g c) same first)))

@@ -4,7 +4,7 @@ pub mod Tables
 pub mod Contents
 -- numbers that stand for actions and for kernels after nonterminals
 pub mod Codes
--- rows of one length, and the grids of tables
-pub mod Grids
+-- matrices: rows of one length, as tables keep them
+pub mod Matrices
 -- what loops keep, and words of private functions
 pub mod Inner

@@ -1,6 +1,6 @@
-//! Actions and kernels after nonterminals as numbers of 32 bits.
+//! How is an action or a kernel kept in 32 bits? By codes, whose meaning is a definition.
 
-ghost use Rattle.std.specs.Prelude.{◌≡◌, ◌<◌, ◌/◌, ◌%◌, IfOk, map};
+ghost use Rattle.std.specs.Prelude.{◌≡◌, ◌<◌, ◌/◌, ◌%◌, IfOk, Some, map};
 ghost use Rattle.wb_lookahead.specs.Codes.{action_at, goto_at};
 
 use crate::action::Action;
@@ -58,13 +58,10 @@ pub(crate) fn action_from(code: u32) -> Action
     }
 }
 
-// The code of a kernel after a nonterminal, or of none.
-pub(crate) fn goto_code(goto: Option<usize>) -> Result<u32, AllocError>
-    ensures { IfOk result (λ code. goto_at code ≡ goto) }
+// The code of a kernel after a nonterminal. The code of none is 0.
+pub(crate) fn goto_code(state: usize) -> Result<u32, AllocError>
+    ensures { IfOk result (λ code. goto_at code ≡ Some state) }
 {
-    let Some(state) = goto else {
-        return Ok(0);
-    };
     if state >= LIMIT {
         return Err(AllocError);
     }

@@ -1,6 +1,6 @@
-//! The terminals that begin what symbols derive: First of each rest of a right side, found once.
+//! Which terminals begin what symbols derive? First of each rest of a right side, found once.
 //!
-//! What begins the nonterminals is in the facts of `wb_grammar`; `propagate` asks for a rest at each item that it passes.
+//! What begins the nonterminals is in the facts of `wb_grammar`; `propagate.rt` asks for a rest at each item that it passes.
 
 ghost use Rattle.std.specs.Prelude.{◌≡◌, ◌+◌, ◌<◌, [], All, Some, IfOk, length, drop, slice_get};
 ghost use Rattle.wb_base.specs.Grammar.{IsSymbolBelow};

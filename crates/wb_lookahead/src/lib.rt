@@ -6,12 +6,12 @@
 #![tactic(auto)]
 
 mod action;
-mod cells;
+mod action_row;
+mod build_tables;
 mod codes;
-mod contents;
 mod first_of;
-mod grid;
-mod parts;
+mod matrix;
+mod parser_tables;
 mod plain;
 mod propagate;
 mod rows;
@@ -19,6 +19,6 @@ mod spread;
 mod worklist;
 
 pub use action::{Action, TableRefusal};
-pub use contents::Tables;
-pub use parts::tables;
+pub use parser_tables::Tables;
+pub use build_tables::tables;
 pub use plain::plain_lookaheads;

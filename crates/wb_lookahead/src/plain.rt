@@ -1,7 +1,6 @@
-//! The lookaheads of all items: LALR(1) by propagation.
+//! Which terminals are lookaheads of which item? LALR(1) lookaheads by propagation over the merged kernels.
 //!
-//! Prefixes with the same kernel share their lookaheads, so the sets are those of the merged kernels. What passes from one item to
-//! others is in `propagate`.
+//! Prefixes with the same kernel share their lookaheads. What passes from one item to others is in `propagate.rt`.
 
 ghost use Rattle.std.specs.Prelude.{◌≡◌, ◌<◌, ◌+◌, ◌↔◌, [], ℕ, List, IfOk, IfSome, MatchOption, OnOk, length};
 ghost use Rattle.wb_base.specs.declared.symbol.Symbol.{Symbol};

@@ -1,7 +1,6 @@
-//! LALR(1) lookaheads by propagation: how what is listed at an item is passed on from there.
+//! To which items do an item's lookaheads flow? To the item after its symbol, and to the initial items of a nonterminal after its dot.
 //!
-//! The initial items of a nonterminal in a kernel's closure have the same lookaheads, so that of its first production stands for all:
-//! only it and the other items of kernels wait in `worklist`. The sets of the rest are filled at the end, in `plain`.
+//! All initial items of one nonterminal in one kernel have the same lookaheads, so the first stands for them. `plain.rt` fills the rest.
 
 ghost use Rattle.std.specs.Prelude.{◌≡◌, ◌+◌, ◌<◌, ◌^◌, ◌∷◌, ◌++◌, [], ℕ, List, MatchOption, OnOk, length};
 ghost use Rattle.wb_base.specs.declared.symbol.Symbol.{Symbol};

@@ -1,4 +1,6 @@
-//! The actions, the kernels after nonterminals, and the valid terminals of one kernel.
+//! What has one kernel? Its actions, the kernels after nonterminals, and its valid terminals.
+//!
+//! Single actions are put by `action_row.rt`, and the rows gathered by `build_tables.rt`.
 
 ghost use Rattle.std.specs.Prelude.{◌≡◌, ◌≢◌, ◌<◌, ◌↔◌, ℕ, IfErr, IfOk, OnOk, length};
 ghost use Rattle.wb_termset.specs.Sets.{IsMember};
@@ -7,14 +9,14 @@ ghost use Rattle.wb_items.specs.Kernels.{AreKernels, count_of, prefix_of};
 ghost use Rattle.wb_items.specs.LookaheadSets.{AreLookaheads};
 ghost use Rattle.wb_lookahead.specs.Contents.{action_in};
 ghost use Rattle.wb_lookahead.specs.Tables.{IsTableRefusal};
-ghost use Rattle.wb_lookahead.specs.Inner.Rows.{AddsItem, AreGotos, IsRowOf, IsSoundRow};
+ghost use Rattle.wb_lookahead.specs.Inner.Rows.{AddsItem, AreGotos, IsRowOf, IsSoundRow, PutsGoto};
 
 use crate::action::{Action, TableRefusal};
-use crate::cells::{put, put_all, reduction};
+use crate::action_row::{put, put_all, reduction};
 use crate::codes::goto_code;
 use std::alloc::{AllocError, Global};
-use wb_base::{Grammar, Symbol, push};
-use wb_items::{Item, Kernels, Lookaheads, symbol_after};
+use wb_base::{Grammar, Symbol};
+use wb_items::{Item, Kernels, Lookaheads, Move, symbol_after};
 use wb_termset::TermSet;
 
 // The actions of a kernel, or a conflict there.
@@ -85,12 +87,25 @@ pub(crate) fn gotos_at(
     requires state { state < count_of kernels.now }
     ensures { IfOk result (λ row. AreGotos kernels.now state row.items kernels.now.grammar.nonterminals) }
 {
-    let mut row = Vec::new(alloc);
-    'nonterminals: for nonterminal in 0..grammar.nonterminals() {
-        let goto = kernels.next(state, Symbol::Nonterminal(nonterminal));
-        push(&mut row, goto_code(goto)?)?;
+    let mut row = vec![in alloc; 0; grammar.nonterminals()]?;
+    'moves: for step in kernels.moves(state) {
+        put_goto(*step, &mut row)?;
     }
     Ok(row)
+}
+
+// Puts the code of the kernel to which a move by a nonterminal leads.
+fn put_goto(step: Move, row: &mut Vec<u32>) -> Result<(), AllocError>
+    ensures { OnOk result (PutsGoto step row.old.items row.new.items) }
+{
+    let Symbol::Nonterminal(nonterminal) = step.symbol else {
+        return Ok(());
+    };
+    let code = goto_code(step.state)?;
+    if nonterminal < row.len() {
+        row[nonterminal] = code;
+    }
+    Ok(())
 }
 
 // The terminals on which the row has an action.

@@ -1,4 +1,4 @@
-//! How a set of terminals spreads to an item of a kernel.
+//! How does a set of terminals come to an item? It is joined to the item's own, and the item waits if that grew.
 
 ghost use Rattle.std.specs.Prelude.{◌≡◌, ◌+◌, ◌<◌, ℕ, All, OnOk, Some, length, slice_get};
 ghost use Rattle.wb_termset.specs.Sets.{IsMember};

@@ -1,7 +1,6 @@
-//! The places whose sets grew and are still to be passed on, each once.
+//! Which sets grew and are still to be passed on? A worklist with a mark for each place, so that each waits once.
 //!
-//! A mark for each place of each kernel's closure says that the place waits. Places of the kernel that was taken last come first, since
-//! its sets are then at hand. What is passed on from a place is in `propagate`.
+//! Places of the kernel that was taken last come first, since its sets are then at hand. `propagate.rt` passes on.
 
 ghost use Rattle.std.specs.Prelude.{◌≡◌, ◌⊎◌, ◌++◌, ◌∷◌, [], IsTrue, ◌↔◌, MatchOption, IfOk, OnErr, OnOk, slice_index_or, slice_set, false, replicate};
 ghost use Rattle.wb_lookahead.specs.Inner.Waiting.{Adds, IsMarked, MarksChange};

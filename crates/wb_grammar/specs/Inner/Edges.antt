@@ -4,34 +4,35 @@ use Rattle.wb_base.specs.declared.symbol.Symbol.{Symbol}
 use Rattle.wb_base.specs.declared.symbol.Symbol.TheVariants.{Terminal, Nonterminal}
 use Rattle.wb_base.specs.Grammar.{GrammarView}
 use Rattle.wb_grammars.specs.Productions.{IsProduction}
-use Rattle.wb_grammar.specs.Inner.Built.{Holds}
-use Rattle.wb_grammar.specs.declared.part.Part.{Part}
-use Rattle.wb_grammar.specs.declared.part.Part.TheVariants.{Whole, Corner, Hidden, Alone}
+use Rattle.wb_grammar.specs.Inner.LeastSets.{Holds}
+use Rattle.wb_grammar.specs.declared.occurrence.Occurrence.{Occurrence}
+use Rattle.wb_grammar.specs.declared.occurrence.Occurrence.TheVariants as variants
 
--- the places that a part of a right side has, by what is before and after them: all; those before which all derives the empty text; those of these before which something stands; and those beside which all derives the empty text
-abbrev pub Fits : Part → List Bool → List Symbol → List Symbol → Type 0
-Fits Whole nullable before after = Unit {0}
-Fits Corner nullable before after = All (Holds false nullable) before
-Fits Hidden nullable before after = All (Holds false nullable) before × (before ≢ [])
-Fits Alone nullable before after = All (Holds false nullable) before × All (Holds false nullable) after
+-- the places of a right side that count, by what is before and after them: all; left corners, before which all derives the empty text;
+-- left corners before which there is a symbol; and those beside which all derives the empty text
+abbrev pub Fits : Occurrence → List Bool → List Symbol → List Symbol → Type 0
+Fits variants.Any nullable before after = Unit {0}
+Fits variants.LeftCorner nullable before after = All (Holds false nullable) before
+Fits variants.HiddenLeft nullable before after = All (Holds false nullable) before × (before ≢ [])
+Fits variants.Unit nullable before after = All (Holds false nullable) before × All (Holds false nullable) after
 
 -- the symbol is at such a place
-pub record IsPlaced (part : Part) (nullable : List Bool) (symbols : List Symbol) (x : Symbol) : Type 0 where
+pub record IsPlaced (occurrence : Occurrence) (nullable : List Bool) (symbols : List Symbol) (x : Symbol) : Type 0 where
   pub before : List Symbol
   pub after : List Symbol
   pub is : symbols ≡ before ++ x ∷ after
-  pub fits : Fits part nullable before after
+  pub fits : Fits occurrence nullable before after
 
 -- a production leads from its left side to the nonterminal, which is at such a place of its right side
-pub record IsEdgeBy (part : Part) (g : GrammarView) (nullable : List Bool) (a b : ℕ) : Type 0 where
+pub record IsEdgeBy (occurrence : Occurrence) (g : GrammarView) (nullable : List Bool) (a b : ℕ) : Type 0 where
   pub p : ℕ
   pub right : List Symbol
   pub rule : IsProduction g p a right
-  pub placed : IsPlaced part nullable right (Nonterminal b)
+  pub placed : IsPlaced occurrence nullable right (Nonterminal b)
 
 -- the edges are those of such places
-abbrev pub AreEdges : Part → GrammarView → List Bool → List (ℕ × ℕ) → Type 0
-AreEdges part g nullable edges = (a b : ℕ) → Contains edges (a, b) ↔ IsEdgeBy part g nullable a b
+abbrev pub AreEdges : Occurrence → GrammarView → List Bool → List (ℕ × ℕ) → Type 0
+AreEdges occurrence g nullable edges = (a b : ℕ) → Contains edges (a, b) ↔ IsEdgeBy occurrence g nullable a b
 
 -- an edge from the left side to each nonterminal among the symbols
 abbrev pub edges_of : ℕ → List Symbol → List (ℕ × ℕ)
@@ -43,4 +44,5 @@ edges_of left (Nonterminal b ∷ symbols) = (left, b) ∷ edges_of left symbols
 pub data IsLeading (nullable : List Bool) : List Symbol → ℕ → Type 0 where
   over : IsLeading nullable [] 0
   stops : {x : Symbol} {w : List Symbol} → ¬ Holds false nullable x → IsLeading nullable (x ∷ w) 0
-  goes_on : {x : Symbol} {w : List Symbol} {count : ℕ} → Holds false nullable x → IsLeading nullable w count → IsLeading nullable (x ∷ w) (suc count)
+  goes_on : {x : Symbol} {w : List Symbol} {count : ℕ} → Holds false nullable x → IsLeading nullable w count →
+      IsLeading nullable (x ∷ w) (suc count)

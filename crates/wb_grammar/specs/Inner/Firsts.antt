@@ -8,7 +8,8 @@ use Rattle.wb_grammars.specs.Productions.{IsProduction}
 use Rattle.wb_grammars.specs.Derives.{IsFirst}
 use Rattle.wb_grammar.specs.Facts.{set_of}
 
--- the terminal can begin the symbols: it is the first of them, or a member of the set of the first, or can begin the rest where the first is nullable
+-- the terminal can begin the symbols: it is the first of them, or a member of the set of the first, or can begin the rest where the first
+-- is nullable
 abbrev pub CanBegin : List Bool → List (List Bool) → List Symbol → ℕ → Type 0
 CanBegin nullable sets [] t = ⊥
 CanBegin nullable sets (Terminal u ∷ w) t = t ≡ u
@@ -20,7 +21,8 @@ AreFirsts g sets = (a t : ℕ) → IsMember (set_of sets a) t → IsFirst g (Non
 
 -- the production adds nothing
 abbrev pub IsFirstClosedAt : GrammarView → List Bool → List (List Bool) → ℕ → Type 0
-IsFirstClosedAt g nullable sets p = (a : ℕ) (right : List Symbol) → IsProduction g p a right → (t : ℕ) → CanBegin nullable sets right t → IsMember (set_of sets a) t
+IsFirstClosedAt g nullable sets p = (a : ℕ) (right : List Symbol) → IsProduction g p a right → (t : ℕ) → CanBegin nullable sets right t →
+    IsMember (set_of sets a) t
 
 -- every set is within the other of its number
 abbrev pub SetsWithin : List (List Bool) → List (List Bool) → Type 0

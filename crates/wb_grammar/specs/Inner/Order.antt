@@ -2,7 +2,8 @@
 use Rattle.std.specs.Prelude.{◌≡◌, ◌<◌, ◌≤◌, ℕ, List, All, length, slice_index}
 use Rattle.wb_grammar.specs.declared.order.Walk.{Walk}
 
--- the productions of a nonterminal lie in a chain: one more than the number of the last, or 0, and for each production the same of the one before it
+-- the productions of a nonterminal lie in a chain: one more than the number of the last, or 0, and for each production the same of the one
+-- before it
 pub record AreChains (nonterminals count : ℕ) (firsts links : List ℕ) : Type 0 where
   pub firsts_len : length firsts ≡ nonterminals
   pub firsts_below : (a : ℕ) → slice_index firsts a ≤ count

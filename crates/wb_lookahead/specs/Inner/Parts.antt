@@ -1,15 +1,15 @@
 -- Tables in the making: what was made for the first kernels.
 use Rattle.std.specs.Prelude.{◌≡◌, ◌<◌, ℕ, [], length, map, slice_index_or}
 use Rattle.wb_items.specs.Kernels.{KernelsView}
-use Rattle.wb_lookahead.specs.declared.parts.Parts.{Parts}
+use Rattle.wb_lookahead.specs.declared.build_tables.Parts.{Parts}
 use Rattle.wb_lookahead.specs.Codes.{action_at}
-use Rattle.wb_lookahead.specs.Grids.{AreGrids}
+use Rattle.wb_lookahead.specs.Matrices.{AreMatrices}
 use Rattle.wb_lookahead.specs.Inner.Rows.{AreGotos, IsRowOf}
 use Rattle.wb_lookahead.specs.Tables.{IsValidSet}
 
 -- the parts are those of the first so many kernels
 pub record ArePartsUpTo (kernels : KernelsView) (parts : Parts) (n : ℕ) : Type 0 where
-  pub grids : AreGrids kernels.grammar.terminals parts.actions parts.gotos n
+  pub matrices : AreMatrices kernels.grammar.terminals parts.actions parts.gotos n
   pub nonterminals : parts.gotos.width ≡ kernels.grammar.nonterminals
   pub valid_len : length parts.valid.items ≡ n
   pub actions : (s : ℕ) → s < n → IsRowOf kernels s (map action_at (slice_index_or parts.actions.rows s []))

@@ -1,11 +1,12 @@
 -- The actions of one kernel as they are found, item by item.
-use Rattle.std.specs.Prelude.{◌≡◌, ◌≢◌, ◌⊎◌, ◌<◌, ◌+◌, ℕ, List, [], ◌∷◌, length, Some, slice_get, slice_index}
+use Rattle.std.specs.Prelude.{◌≡◌, ◌≢◌, ◌⊎◌, ◌<◌, ◌+◌, ℕ, List, [], ◌∷◌, length, Some, slice_get, slice_set, slice_index}
 use Rattle.wb_base.specs.declared.symbol.Symbol.{Symbol}
-use Rattle.wb_base.specs.declared.symbol.Symbol.TheVariants.{Terminal}
+use Rattle.wb_base.specs.declared.symbol.Symbol.TheVariants.{Terminal, Nonterminal}
 use Rattle.wb_grammars.specs.declared.item.Item.{Item}
 use Rattle.wb_grammars.specs.Productions.{top_of}
 use Rattle.wb_grammars.specs.Items.{after_dot}
 use Rattle.wb_grammars.specs.Lookaheads.{IsLookahead}
+use Rattle.wb_items.specs.declared.transitions.Move.{Move}
 use Rattle.wb_items.specs.Kernels.{KernelsView, LeadsTo, closure_of, prefix_of}
 use Rattle.wb_lookahead.specs.declared.action.Action.{Action}
 use Rattle.wb_lookahead.specs.declared.action.Action.TheVariants as act
@@ -81,3 +82,16 @@ IsRowOf kernels s row = RowUpTo kernels s row (length (closure_of kernels s))
 pub record AreGotos (kernels : KernelsView) (s : ℕ) (codes : List ℕ) (n : ℕ) : Type 0 where
   pub len : length codes ≡ n
   pub each : (b : ℕ) → b < n → IsGoto kernels s b (goto_at (slice_index codes b))
+
+-- the code of the kernel to which a move by a nonterminal leads is in the row at the nonterminal, and nothing else changed
+abbrev pub PutsGoto : Move → List ℕ → List ℕ → Type 0
+PutsGoto move old new =
+    (((t : ℕ) × (move.symbol ≡ Terminal t)) × (new ≡ old)) ⊎
+    ((b code : ℕ) × (move.symbol ≡ Nonterminal b) × (goto_at code ≡ Some move.state) × (new ≡ slice_set old b code))
+
+-- the codes say where the moves at the first places lead by nonterminals
+pub record GotosUpTo (kernels : KernelsView) (s : ℕ) (moves : List Move) (codes : List ℕ) (n : ℕ) : Type 0 where
+  pub len : length codes ≡ kernels.grammar.nonterminals
+  pub sound : (b next : ℕ) → goto_at (slice_index codes b) ≡ Some next → LeadsTo kernels s (Nonterminal b) next
+  pub complete : (i b next : ℕ) → i < n → slice_get moves i ≡ Some (record { symbol = Nonterminal b; state = next }) →
+      b < kernels.grammar.nonterminals → goto_at (slice_index codes b) ≡ Some next

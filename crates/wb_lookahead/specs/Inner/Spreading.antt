@@ -18,7 +18,8 @@ use Rattle.wb_lookahead.specs.declared.first_of.Rest.{Rest}
 use Rattle.wb_lookahead.specs.declared.worklist.Place.{Place}
 use Rattle.wb_lookahead.specs.Inner.Rests.{AreRests}
 
--- what stays while lookaheads spread: the kernels of the grammar, the productions of each nonterminal, and what rests of right sides begin with
+-- what stays while lookaheads spread: the kernels of the grammar, the productions of each nonterminal, and what rests of right sides begin
+-- with
 pub record IsContext (kernels : KernelsView) (g : GrammarView) (productions : List (List ℕ)) (rests : List (List Rest)) : Type 0 where
   pub are_kernels : AreKernels kernels
   pub of_grammar : kernels.grammar ≡ g
@@ -39,10 +40,12 @@ pub record IsFirstOf (g : GrammarView) (b p : ℕ) : Type 0 where
 abbrev pub IsSole : GrammarView → Item → Type 0
 IsSole g item = (q b : ℕ) (right : List Symbol) → IsProduction g q b right → item ≢ initial_item q
 
--- the first item stands for the second: the initial item of a nonterminal's first production for the initial items of all its productions, and any other for itself
+-- the first item stands for the second: the initial item of a nonterminal's first production for the initial items of all its productions,
+-- and any other for itself
 pub data StandsFor (g : GrammarView) : Item → Item → Type 0 where
   itself : {one item : Item} → one ≡ item → IsSole g item → StandsFor g one item
-  initial : (b p q : ℕ) (right : List Symbol) {one item : Item} → IsFirstOf g b p → IsProduction g q b right → one ≡ initial_item p → item ≡ initial_item q → StandsFor g one item
+  initial : (b p q : ℕ) (right : List Symbol) {one item : Item} → IsFirstOf g b p → IsProduction g q b right → one ≡ initial_item p →
+      item ≡ initial_item q → StandsFor g one item
 
 -- the terminal is in the set at the item that stands for this one
 abbrev pub ListsFor : GrammarView → List (List ItemLookahead) → ℕ → Item → ℕ → Type 0
@@ -67,7 +70,8 @@ pub record AreSound (kernels : KernelsView) (lookaheads : List (List ItemLookahe
   pub sound : (s : ℕ) (item : Item) (t : ℕ) → Lists lookaheads s item t → FlowsTo kernels s item t
   pub places : All (IsPlace kernels) waiting
 
--- where a terminal at the item flows from there, it is listed: at the item after the symbol, and at the one that stands for the initial items of a nonterminal
+-- where a terminal at the item flows from there, it is listed: at the item after the symbol, and at the one that stands for the initial
+-- items of a nonterminal
 pub record IsItemPassed (kernels : KernelsView) (lookaheads : List (List ItemLookahead)) (s : ℕ) (item : Item) (t : ℕ) : Type 0 where
   pub moves : (x : Symbol) (rest : List Symbol) (next : ℕ) → after_dot kernels.grammar item ≡ x ∷ rest → LeadsTo kernels s x next →
       Lists lookaheads next (advance item) t
@@ -91,11 +95,13 @@ pub record ArePropagated (kernels : KernelsView) (lookaheads : List (List ItemLo
 
 -- what flows to the items for which the one stands is listed there
 abbrev pub IsFilledFrom : KernelsView → List (List ItemLookahead) → ℕ → Item → Type 0
-IsFilledFrom kernels lookaheads s one = (item : Item) (t : ℕ) → StandsFor kernels.grammar one item → FlowsTo kernels s item t → Lists lookaheads s item t
+IsFilledFrom kernels lookaheads s one = (item : Item) (t : ℕ) → StandsFor kernels.grammar one item → FlowsTo kernels s item t →
+    Lists lookaheads s item t
 
 -- the same of each of the items at the first places of the kernel
 abbrev pub IsFilled : KernelsView → List (List ItemLookahead) → ℕ → ℕ → Type 0
-IsFilled kernels lookaheads s n = (j : ℕ) (one : Item) → j < n → slice_get (closure_of kernels s) j ≡ Some one → IsFilledFrom kernels lookaheads s one
+IsFilled kernels lookaheads s n = (j : ℕ) (one : Item) → j < n → slice_get (closure_of kernels s) j ≡ Some one →
+    IsFilledFrom kernels lookaheads s one
 
 -- nothing that was listed is lost
 abbrev pub Keeps : List (List ItemLookahead) → List (List ItemLookahead) → Type 0
@@ -114,7 +120,8 @@ abbrev pub work_left : List (List ItemLookahead) → List Place → ℕ
 work_left lookaheads waiting = 2 * room lookaheads + length waiting
 
 -- the sets grew at most, each item of which a set grew waits, and the work that is left did not grow
-pub record Spreads (lookaheads : List (List ItemLookahead)) (waiting : List Place) (new_lookaheads : List (List ItemLookahead)) (new_waiting : List Place) : Type 0 where
+pub record Spreads (lookaheads : List (List ItemLookahead)) (waiting : List Place) (new_lookaheads : List (List ItemLookahead))
+    (new_waiting : List Place) : Type 0 where
   pub keeps : Keeps lookaheads new_lookaheads
   pub waits : (s : ℕ) (item : Item) → Waits waiting s item → Waits new_waiting s item
   pub grew : (s : ℕ) (item : Item) → Waits new_waiting s item ⊎ ((t : ℕ) → Lists new_lookaheads s item t → Lists lookaheads s item t)

@@ -15,7 +15,8 @@ AreMarked waiting marks = (s at : ℕ) → IsMarked marks s at → (item : Item)
 pub data Adds (old : List Place) (place : Place) : List Place → Type 0 where
   in_front : {new : List Place} → new ≡ place ∷ old → Adds old place new
   at_end : {new : List Place} → new ≡ old ++ place ∷ [] → Adds old place new
-  stays : (item : Item) {new : List Place} → new ≡ old → Contains old (record { state = place.state; item = item; at = place.at }) → Adds old place new
+  stays : (item : Item) {new : List Place} → new ≡ old → Contains old (record { state = place.state; item = item; at = place.at }) →
+      Adds old place new
 
 -- at other places no mark is new, and at this one there is none but this
 abbrev pub MarksChange : List (List Bool) → ℕ → ℕ → Bool → List (List Bool) → Type 0

@@ -3,8 +3,8 @@ use Rattle.wb_grammar.specs.Inner.Firsts.{AreFirsts}
 use Rattle.wb_grammar.proofs.FirstLemmas.{room}
 use Rattle.wb_grammar.proofs.first.first_of_all.Given as goal
 
-abbrev pub invariant-rounds : goal.invariant-rounds
-invariant-rounds l = AreSets l.grammar l.sets × AreFirsts l.grammar l.sets
+abbrev pub invariant-passes : goal.invariant-passes
+invariant-passes l = AreSets l.grammar l.sets × AreFirsts l.grammar l.sets
 
-abbrev pub decreases-rounds : goal.decreases-rounds
-decreases-rounds l = room l.sets
+abbrev pub decreases-passes : goal.decreases-passes
+decreases-passes l = room l.sets

@@ -12,7 +12,8 @@ returns-in-Terminal c =
     let i = c.symbols.symbol-index in
     let w = c.args.symbols.now in
     let below : IsSymbolBelow c.args.grammar.now.terminals c.args.grammar.now.nonterminals (Terminal c.in-Terminal.terminal) =
-    subst (IsSymbolBelow c.args.grammar.now.terminals c.args.grammar.now.nonterminals) c.in-Terminal.is (c.requires.symbols i (Terminal 0) c.symbols-test.true) in
+    subst (IsSymbolBelow c.args.grammar.now.terminals c.args.grammar.now.nonterminals) c.in-Terminal.is
+        (c.requires.symbols i (Terminal 0) c.symbols-test.true) in
     begins_insert c.args.grammar.now w (drop (i + 1) w) (drop i w) c.symbols.set c.insert.new.self c.in-Terminal.terminal
     (drop_more w i (Terminal 0) c.symbols-test.true ∙ ap (λ z. z ∷ drop (i + 1) w) c.in-Terminal.is)
     (let len = c.symbols.invariant.len in omega (arith, len, below)) c.symbols.invariant c.insert.ensures.after
@@ -34,7 +35,8 @@ symbols-preserved c =
     let all = drop_more w i (Terminal 0) c.symbols-test.true ∙ ap (λ z. z ∷ drop (i + 1) w) c.in-Nonterminal.is in
     begins_on c.args.grammar.now w (drop (i + 1) w) c.symbols.set c.first.result.now c.union_with.new.self c.in-Nonterminal.nonterminal
     (subst (BeginsSoFar c.args.grammar.now w c.symbols.set) all c.symbols.invariant) c.union_with.ensures.after
-    (c.first.ensures.exact c.args.grammar.now c.requires.facts) ((c.nullable.ensures.exact c.args.grammar.now c.requires.facts).0 c.if-not-nullable.false)
+    (c.first.ensures.exact c.args.grammar.now c.requires.facts)
+        ((c.nullable.ensures.exact c.args.grammar.now c.requires.facts).0 c.if-not-nullable.false)
 
 pub returns : goal.returns
 returns c =

@@ -9,5 +9,6 @@ use Rattle.wb_lookahead.proofs.first_of.rests_of.Given as goal
 abbrev pub invariant-productions : goal.invariant-productions
 invariant-productions l = record {
   len : length l.rests.items ≡ l.production;
-  each : (p a : ℕ) (right : List Symbol) (row : List Rest) → slice_get l.rests.items p ≡ Some row → IsProduction l.grammar p a right → AreRestsOf l.grammar right row;
+  each : (p a : ℕ) (right : List Symbol) (row : List Rest) → slice_get l.rests.items p ≡ Some row → IsProduction l.grammar p a right →
+      AreRestsOf l.grammar right row;
 }

@@ -8,5 +8,6 @@ abbrev pub invariant-productions : goal.invariant-productions
 invariant-productions l = record {
   propagated : ArePropagated l.context.kernels.now l.lookaheads;
   keeps : Keeps l.initial.lookaheads l.lookaheads;
-  filled : (q t : ℕ) → Contains (take l.production-index l.numbers) q → FlowsTo l.context.kernels.now l.state (initial_item q) t → Lists l.lookaheads l.state (initial_item q) t;
+  filled : (q t : ℕ) → Contains (take l.production-index l.numbers) q → FlowsTo l.context.kernels.now l.state (initial_item q) t →
+      Lists l.lookaheads l.state (initial_item q) t;
 }

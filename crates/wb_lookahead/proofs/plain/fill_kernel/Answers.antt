@@ -12,6 +12,8 @@ pub places-preserved : goal.places-preserved
 places-preserved c = record {
   propagated = c.in_ok-fill_from.ensures.propagated;
   keeps = λ s item t lists. c.in_ok-fill_from.ensures.keeps s item t (c.places.invariant.keeps s item t lists);
-  filled = filled_more c.args.context.now.kernels.now c.places.lookaheads c.fill_from.new.lookaheads c.args.state c.places.at (get_or c.closure-item-items.result.now c.places.at start)
-      (ap (λ z. slice_get z c.places.at) (sym c.closure-item-items.ensures.is) ∙ slice_get-get_or c.closure-item-items.result.now c.places.at start c.places-test.true) c.in_ok-fill_from.ensures.keeps c.places.invariant.filled c.in_ok-fill_from.ensures.filled;
+  filled = filled_more c.args.context.now.kernels.now c.places.lookaheads c.fill_from.new.lookaheads c.args.state c.places.at
+      (get_or c.closure-item-items.result.now c.places.at start)
+      (ap (λ z. slice_get z c.places.at) (sym c.closure-item-items.ensures.is) ∙
+          slice_get-get_or c.closure-item-items.result.now c.places.at start c.places-test.true) c.in_ok-fill_from.ensures.keeps c.places.invariant.filled c.in_ok-fill_from.ensures.filled;
 }

@@ -9,5 +9,6 @@ abbrev pub invariant-productions : goal.invariant-productions
 invariant-productions l = record {
   sound : AreSound l.context.kernels.now l.lookaheads l.worklist;
   spreads : Spreads l.initial.lookaheads l.initial.worklist l.lookaheads l.worklist;
-  passed : (q t : ℕ) → Contains (take l.production-index l.numbers) q → IsMember l.set t → IsItemPassed l.context.kernels.now l.lookaheads l.state (initial_item q) t;
+  passed : (q t : ℕ) → Contains (take l.production-index l.numbers) q → IsMember l.set t →
+      IsItemPassed l.context.kernels.now l.lookaheads l.state (initial_item q) t;
 }

@@ -5,7 +5,8 @@ use Rattle.wb_lookahead.proofs.SpreadLemmas.{spreads_then}
 use Rattle.wb_lookahead.proofs.propagate.pass_item.Goals as goal
 
 pub returns-clause-spreads : goal.returns-clause-spreads
-returns-clause-spreads c = on_ok_weaker c.open_after.result (λ s. spreads_then c.in_ok-move_on.ensures.spreads s) c.open_after.ensures.spreads
+returns-clause-spreads c = on_ok_weaker c.open_after.result
+    (λ s. spreads_then c.in_ok-move_on.ensures.spreads s) c.open_after.ensures.spreads
 
 pub returns-clause-passed : goal.returns-clause-passed
 returns-clause-passed c =

@@ -19,7 +19,8 @@ reduction-action-requires c = subst (λ (g : GrammarView). c.args.item.productio
     (valid_production c.requires.item.1)
 
 pub of-requires-clause-item : goal.of-requires-clause-item
-of-requires-clause-item c = row_has c.requires.kernels c.args.lookaheads.now c.requires.lookaheads.shape c.args.state c.args.item c.requires.state c.requires.item
+of-requires-clause-item c =
+    row_has c.requires.kernels c.args.lookaheads.now c.requires.lookaheads.shape c.args.state c.args.item c.requires.state c.requires.item
 
 pub returns-in_default-clause-ok : goal.returns-in_default-clause-ok
 returns-in_default-clause-ok c =
@@ -29,7 +30,8 @@ returns-in_default-clause-ok c =
     (λ (g : GrammarView). IsReduction (length g.productions) c.args.item.production c.reduction-action.result)
     (sym c.requires.grammar) c.reduction-action.ensures in
     let exact : (t : ℕ) → IsMember c.of.result.now t ↔ IsLookahead c.args.kernels.now.grammar
-    (prefix_of c.args.kernels.now c.args.state) c.args.item t = λ t. c.requires.lookaheads.exact c.args.state c.args.item c.of.result.now t c.requires.state c.of.ensures in
+    (prefix_of c.args.kernels.now c.args.state) c.args.item t =
+        λ t. c.requires.lookaheads.exact c.args.state c.args.item c.of.result.now t c.requires.state c.of.ensures in
     on_ok_weaker c.put_all.result
     (puts_adds (IsMember c.of.result.now)
     (λ t has. complete_stands c.args.kernels.now c.args.state c.args.item c.reduction-action.result c.requires.item complete is t
@@ -46,7 +48,8 @@ returns-in_default-clause-refused c =
     (λ (g : GrammarView). IsReduction (length g.productions) c.args.item.production c.reduction-action.result)
     (sym c.requires.grammar) c.reduction-action.ensures in
     let exact : (t : ℕ) → IsMember c.of.result.now t ↔ IsLookahead c.args.kernels.now.grammar
-    (prefix_of c.args.kernels.now c.args.state) c.args.item t = λ t. c.requires.lookaheads.exact c.args.state c.args.item c.of.result.now t c.requires.state c.of.ensures in
+    (prefix_of c.args.kernels.now c.args.state) c.args.item t =
+        λ t. c.requires.lookaheads.exact c.args.state c.args.item c.of.result.now t c.requires.state c.of.ensures in
     IfErr-weaker c.put_all.result (IsClash c.args.state c.args.row.now (IsMember c.of.result.now) c.reduction-action.result)
     (IsTableRefusal c.args.kernels.now)
     (clash_refused (IsMember c.of.result.now) c.requires.kernels c.requires.state

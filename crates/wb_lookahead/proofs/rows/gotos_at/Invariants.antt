@@ -1,5 +1,5 @@
-use Rattle.wb_lookahead.specs.Inner.Rows.{AreGotos}
+use Rattle.wb_lookahead.specs.Inner.Rows.{GotosUpTo}
 use Rattle.wb_lookahead.proofs.rows.gotos_at.Given as goal
 
-abbrev pub invariant-nonterminals : goal.invariant-nonterminals
-invariant-nonterminals l = AreGotos l.kernels l.state l.row.items l.nonterminal
+abbrev pub invariant-moves : goal.invariant-moves
+invariant-moves l = GotosUpTo l.kernels l.state l.step-items l.row.items l.step-index

@@ -5,7 +5,8 @@ use Rattle.wb_lookahead.proofs.UnionLemmas.{lists_added}
 use Rattle.wb_lookahead.proofs.spread.spread.Goals as goal
 
 pub place-at-requires-clause-item : goal.place-at-requires-clause-item
-place-at-requires-clause-item c = row_has c.requires.kernels c.args.lookaheads.now c.requires.sound.shape c.args.state c.args.item c.requires.state c.requires.has
+place-at-requires-clause-item c =
+    row_has c.requires.kernels c.args.lookaheads.now c.requires.sound.shape c.args.state c.args.item c.requires.state c.requires.has
 
 pub returns-in_ok-add-clause-sound : goal.returns-in_ok-add-clause-sound
 returns-in_ok-add-clause-sound c =
@@ -16,15 +17,20 @@ returns-in_ok-add-clause-sound c =
 pub returns-in_ok-add-clause-spreads : goal.returns-in_ok-add-clause-spreads
 returns-in_ok-add-clause-spreads c =
     let place = place_of c.args.state c.args.item c.place-at.result in
-    spread_spreads place (state_within c.requires.kernels place c.requires.state c.args.lookaheads.now c.requires.sound.shape) c.unite.ensures c.if-unite.true
+    spread_spreads place
+        (state_within c.requires.kernels place c.requires.state c.args.lookaheads.now c.requires.sound.shape) c.unite.ensures c.if-unite.true
     c.requires.sound.places
     (is_place c.requires.kernels c.args.lookaheads.now c.requires.sound.shape c.args.state c.requires.state c.args.item c.place-at.result c.place-at.ensures)
     c.in_ok-add.ensures
 
 pub returns-in_ok-add-clause-lists : goal.returns-in_ok-add-clause-lists
 returns-in_ok-add-clause-lists c =
-    lists_added c.unite.ensures (state_within c.requires.kernels (place_of c.args.state c.args.item c.place-at.result) c.requires.state c.args.lookaheads.now c.requires.sound.shape)
+    lists_added c.unite.ensures
+        (state_within c.requires.kernels
+        (place_of c.args.state c.args.item c.place-at.result) c.requires.state c.args.lookaheads.now c.requires.sound.shape)
 
 pub returns-else-unite-clause-lists : goal.returns-else-unite-clause-lists
 returns-else-unite-clause-lists c =
-    lists_added c.unite.ensures (state_within c.requires.kernels (place_of c.args.state c.args.item c.place-at.result) c.requires.state c.args.lookaheads.now c.requires.sound.shape)
+    lists_added c.unite.ensures
+        (state_within c.requires.kernels
+        (place_of c.args.state c.args.item c.place-at.result) c.requires.state c.args.lookaheads.now c.requires.sound.shape)

@@ -10,7 +10,8 @@ returns-then-is_marked c =
     let marked : IsMarked c.self.inside.marks.items c.args.place.state c.args.place.at =
     subst (λ z. IsMarked z c.args.place.state c.args.place.at) c.deref.ensures.value (c.is_marked.ensures.0 c.if-is_marked.true) in
     let (item, there) = c.self.invariant c.args.place.state c.args.place.at marked in
-    stays item refl (subst (λ z. Contains z (record { state = c.args.place.state; item = item; at = c.args.place.at })) c.self.view_is there)
+    stays item refl (subst (λ z. Contains z (record { state = c.args.place.state; item = item; at =
+        c.args.place.at })) c.self.view_is there)
 
 pub invariant_of-self-2 : goal.invariant_of-self-2
 invariant_of-self-2 c = elim c.in_ok-put_place.ensures.ok [

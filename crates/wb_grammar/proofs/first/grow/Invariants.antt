@@ -1,5 +1,0 @@
-use Rattle.wb_grammar.proofs.FirstLemmas.{FirstPass}
-use Rattle.wb_grammar.proofs.first.grow.Given as goal
-
-abbrev pub invariant-productions : goal.invariant-productions
-invariant-productions l = FirstPass l.grammar l.nullable l.fn.sets l.sets l.production l.grew

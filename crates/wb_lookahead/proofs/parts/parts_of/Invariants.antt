@@ -1,5 +1,0 @@
-use Rattle.wb_lookahead.specs.Inner.Parts.{ArePartsUpTo}
-use Rattle.wb_lookahead.proofs.parts.parts_of.Given as goal
-
-abbrev pub invariant-kernels : goal.invariant-kernels
-invariant-kernels l = ArePartsUpTo l.kernels l.parts l.state

@@ -1,0 +1,105 @@
+//! Does an action fit into a row? One stands on each terminal, and a second one is a conflict.
+
+ghost use Rattle.std.specs.Prelude.{◌≡◌, ◌≤◌, ◌<◌, ◌↔◌, IsTrue, IfErr, OnOk, length};
+ghost use Rattle.wb_termset.specs.Sets.{IsMember};
+ghost use Rattle.wb_lookahead.specs.Tables.{ComesBefore};
+ghost use Rattle.wb_lookahead.specs.Inner.Rows.{IsClash, IsReduction, Puts, ShowsBoth};
+
+use crate::action::{Action, TableRefusal};
+use wb_base::Grammar;
+use wb_termset::TermSet;
+
+// Puts an action on each member of a set, or refuses where another stands.
+pub(crate) fn put_all(
+    state: usize,
+    set: &TermSet,
+    action: Action,
+    row: &mut [Action],
+) -> Result<(), TableRefusal>
+    requires { length row.old ≡ length set.now }
+    ensures ok { OnOk result (Puts row.old (IsMember set.now) action row.new) }
+    ensures refused { IfErr result (IsClash state row.old (IsMember set.now) action) }
+{
+    'terminals: for terminal in 0..set.count() {
+        if set.contains(terminal) {
+            put(state, terminal, action, row)?;
+        }
+    }
+    Ok(())
+}
+
+// Puts an action on a terminal, or refuses where another stands.
+pub(crate) fn put(
+    state: usize,
+    terminal: usize,
+    action: Action,
+    row: &mut [Action],
+) -> Result<(), TableRefusal>
+    requires { terminal < length row.old }
+    ensures ok { OnOk result (Puts row.old (λ t. t ≡ terminal) action row.new) }
+    ensures refused { IfErr result (IsClash state row.old (λ t. t ≡ terminal) action) }
+{
+    let there = row[terminal];
+    if there == action {
+        return Ok(());
+    }
+    if there != Action::None {
+        return Err(conflict(state, terminal, there, action));
+    }
+    row[terminal] = action;
+    Ok(())
+}
+
+// The refusal that shows two actions in order.
+fn conflict(state: usize, terminal: usize, one: Action, other: Action) -> TableRefusal
+    ensures { ShowsBoth state terminal one other result }
+{
+    if is_before(one, other) {
+        return TableRefusal::Conflict {
+            state,
+            terminal,
+            first: one,
+            second: other,
+        };
+    }
+    TableRefusal::Conflict {
+        state,
+        terminal,
+        first: other,
+        second: one,
+    }
+}
+
+// Whether the one action comes before the other.
+fn is_before(one: Action, other: Action) -> bool
+    ensures { IsTrue result ↔ ComesBefore one other }
+{
+    match one {
+        Action::Shift(_) => match other {
+            Action::Reduce(_) => true,
+            Action::Accept => true,
+            Action::Shift(_) => false,
+            Action::None => false,
+        },
+        Action::Reduce(production) => match other {
+            Action::Reduce(second) => production < second,
+            Action::Accept => true,
+            Action::Shift(_) => false,
+            Action::None => false,
+        },
+        Action::Accept => false,
+        Action::None => false,
+    }
+}
+
+// The reduction by a production.
+pub(crate) fn reduction(grammar: &Grammar, production: usize) -> Action
+    requires { production ≤ length grammar.now.productions }
+    ensures { IsReduction (length grammar.now.productions) production result }
+{
+    if production < grammar.productions() {
+        Action::Reduce(production)
+    } else {
+        Action::Accept
+    }
+}
