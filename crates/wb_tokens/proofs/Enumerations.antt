@@ -16,7 +16,8 @@ values_from ((F ∷ Fs) ∷ Fss) make = []
 abbrev pub values_of : (N : Record) → List N.D
 values_of N = values_from N.parts N.make
 
-contains_choice : {D : Type 0} (Fss : List (List Field)) → Bare Fss → (make : Choice Fss → D) (c : Choice Fss) → Contains (values_from Fss make) (make c)
+contains_choice : {D : Type 0} (Fss : List (List Field)) → Bare Fss → (make : Choice Fss → D) (c : Choice Fss)
+    → Contains (values_from Fss make) (make c)
 contains_choice [] bare make c = absurd c
 contains_choice ([] ∷ Fss) bare make (inl x) = contains_first (make (inl tt)) (values_from Fss (λ c. make (inr c)))
 contains_choice ([] ∷ Fss) bare make (inr c) =

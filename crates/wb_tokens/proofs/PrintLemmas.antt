@@ -33,7 +33,8 @@ hexadecimal_printed b lt =
     IsStringPart.hexadecimal (hex_digit_read (b / 16) (omega (arith, lt))) (hex_digit_read (b % 16) (omega arith)) (omega arith) refl
 
 -- a byte from 0x20 to 0x7e stands for itself, and any other is printed by digits
-range_printed : (b : ℕ) → b < 256 → eqb b 34 ≡ false → eqb b 92 ≡ false → eqb b 10 ≡ false → (t : Bool) → IsStringPart (cond t (b ∷ []) (hexadecimal b)) b
+range_printed : (b : ℕ) → b < 256 → eqb b 34 ≡ false → eqb b 92 ≡ false → eqb b 10 ≡ false
+    → (t : Bool) → IsStringPart (cond t (b ∷ []) (hexadecimal b)) b
 range_printed b lt q s l true = IsStringPart.plain (plain_read b q s l) refl
 range_printed b lt q s l false = hexadecimal_printed b lt
 
