@@ -14,6 +14,12 @@ module _ {X : Type 0} (IsNext : ℕ → Next X → Type 0) where
   spells_more x (none e) n = next (subst (λ i. IsNext i (Found x)) (sym e) n) (none refl)
   spells_more x (next m s) n = next m (spells_more x s n)
 
+  -- further tokens
+  pub spells_append : {from mid to : ℕ} {xs ys : List (Placed X)} → Spells IsNext from xs mid → Spells IsNext mid ys to
+      → Spells IsNext from (xs ++ ys) to
+  spells_append {to = to} {ys = ys} (none e) s = subst (λ i. Spells IsNext i ys to) (sym e) s
+  spells_append (next m r) s = next m (spells_append r s)
+
   -- how two lists of tokens of one text lie: they are one, or one goes on where the other ends
   data Compared : List (Placed X) → List (Placed X) → ℕ → ℕ → Type 0 where
     equal : {xs ys : List (Placed X)} {a b : ℕ} → xs ≡ ys → a ≡ b → Compared xs ys a b

@@ -10,6 +10,7 @@ mod LongestLemmas
 mod MarkLemmas
 mod NoPieceLemmas
 mod OnlyLemmas
+pub mod OverLemmas
 mod PartLemmas
 pub mod PlacedLaws
 mod PrintLemmas

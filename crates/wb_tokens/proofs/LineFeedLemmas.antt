@@ -64,7 +64,8 @@ string_part_line : (part : List ℕ) (b : ℕ) → IsStringPart part b → IsOne
 string_part_line part b (IsStringPart.plain h e) = subst IsOneLine (sym e) (one_byte b (tested is_plain refl b h))
 string_part_line part b (IsStringPart.escaped {e = c} h e) = subst IsOneLine (sym e) (one_byte c (mapped escaped_byte refl c b h))
 string_part_line part b (IsStringPart.hexadecimal {h = h} {l = l} {m = m} {n = n} i j q e) =
-    subst IsOneLine (sym e) (both_lines (h ∷ []) (l ∷ []) (one_byte h (mapped hex_value refl h m i)) (one_byte l (mapped hex_value refl l n j)))
+    subst IsOneLine (sym e) (both_lines (h ∷ []) (l ∷ []) (one_byte h (mapped hex_value refl h m i))
+    (one_byte l (mapped hex_value refl l n j)))
 
 -- what is between the quotes of a string
 string_line : (body text : List ℕ) → IsStringBody body text → IsOneLine body

@@ -44,10 +44,12 @@ skip_line : (layout : Layout) (text before w : List ℕ) (from : ℕ) → text �
     → ((behind : ℕ) → ¬ IsLayoutPiece layout text (from + 1) behind) → SkipsLayout layout text from (from + 1)
 skip_line layout text before w from e f no_more =
     let here : get_or text from 0 ≡ 10 = ap (λ l. get_or l from 0) e ∙ get_or_at before 10 w 0 from (sym f) in
-    skip {behind = from + 1} (blank (omega (arith, f, ap length e, length-append before (10 ∷ w))) (ap is_blank here) refl) (stop no_more refl)
+    skip {behind = from + 1} (blank (omega (arith, f, ap length e, length-append before (10 ∷ w))) (ap is_blank here) refl)
+    (stop no_more refl)
 
 -- lines are read, from where layout goes up to them
-pub lines_read : (layout : Layout) (text before x : List ℕ) (start from : ℕ) (tokens : List Token) → text ≡ before ++ x → from ≡ length before
+pub lines_read : (layout : Layout) (text before x : List ℕ) (start from : ℕ) (tokens : List Token)
+    → text ≡ before ++ x → from ≡ length before
     → ((at : ℕ) → SkipsLayout layout text from at → SkipsLayout layout text start at) → AreLines x tokens → AreRead layout text start tokens
 lines_read layout text before x start from tokens e f more (last g) =
     let whole : text ≡ before ++ 10 ∷ [] = e ∙ ap (λ l. before ++ l) g in
@@ -74,7 +76,8 @@ lines_read layout text before x start from tokens e f more (line {token = token}
     let ends : Ends token rest = subst (λ l. Ends token l) (sym begins.1) (ends_line token begins.0) in
     let here : IsTokenAt text token at end =
     subst (λ l. IsTokenAt l token at end) (sym apart)
-    (subst (λ k. IsTokenAt (front ++ (spelling ++ rest)) token k (k + length spelling)) (sym place) (stands front spelling rest token s ends)) in
+    (subst (λ k. IsTokenAt (front ++ (spelling ++ rest)) token k (k + length spelling))
+    (sym place) (stands front spelling rest token s ends)) in
     let skipped = more at (skip_line layout text before (spelling ++ rest) from whole f
     (no_piece layout text token at end here.within here.spelled)) in
     let i = lines_read layout text (front ++ spelling) rest end end others (apart ∙ sym (append_assoc front spelling rest))

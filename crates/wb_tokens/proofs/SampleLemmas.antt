@@ -7,6 +7,7 @@ use Rattle.std.specs.Prelude.{codes, ◌==◌, nat_lt}
 use Rattle.wb_base.specs.Identifiers.{IsReserved}
 use Rattle.wb_lemmas.proofs.Booleans.{and_left, and_right}
 use Rattle.wb_predictive.specs.declared.table.Placed.{Placed}
+use Rattle.wb_predictive.proofs.ByKind.{SameKinds, none, more}
 use Rattle.wb_tokens.specs.Kinds.{kind_of, integer_kind}
 use Rattle.wb_tokens.specs.Spelling.{IsToken, IsInteger, IsStringBody, IsRegexPart, IsRegexBody}
 use Rattle.wb_tokens.specs.Words.{word_text, punctuation_text}
@@ -58,8 +59,15 @@ sample_spelled Name = ((refl, (refl, refl), long_word (codes "a") (omega arith))
 sample_spelled One = (IsInteger.positive (omega arith, (omega arith, tt)) refl, sfits_lit tt)
 sample_spelled Number = (IsInteger.positive (omega arith, (omega arith, tt)) refl, sfits_lit tt)
 sample_spelled String = (record { body = []; stands = IsStringBody.none refl refl; quoted = refl }, tt)
-sample_spelled Regex =
-    ((refl, (λ e. absurd (cc)), IsRegexBody.next {part = codes "a"} {x = []} (IsRegexPart.plain {b = 97} refl refl) (IsRegexBody.none refl) refl), tt)
+sample_spelled Regex = (
+  (
+    refl,
+    (λ e. absurd (cc)),
+    IsRegexBody.next {part = codes "a"} {x = []} (IsRegexPart.plain {b = 97} refl refl)
+        (IsRegexBody.none refl) refl,
+  ),
+  tt,
+)
 sample_spelled End = ((refl, (refl, refl), long_word (codes "a") (omega arith)), tt)
 
 -- the sample of an integer's kind is of that kind
@@ -95,7 +103,8 @@ bytes_if (b ∷ x) h =
 -- a spelling is of bytes
 spelling_bytes : (kind : TokenKind) → AreBytes (spelling kind)
 spelling_bytes (Word word) = bytes_if (word_text word) (each_value words.enum (λ y. list_all (λ b. nat_lt b 256) (word_text y)) refl word)
-spelling_bytes (Mark mark) = bytes_if (punctuation_text mark) (each_value marks.enum (λ m. list_all (λ b. nat_lt b 256) (punctuation_text m)) refl mark)
+spelling_bytes (Mark mark) =
+    bytes_if (punctuation_text mark) (each_value marks.enum (λ m. list_all (λ b. nat_lt b 256) (punctuation_text m)) refl mark)
 spelling_bytes Name = bytes_if (codes "a") refl
 spelling_bytes One = bytes_if (codes "1") refl
 spelling_bytes Number = bytes_if (codes "0") refl
@@ -123,3 +132,13 @@ lines_bytes [] = bytes_if (10 ∷ []) refl
 lines_bytes (x ∷ xs) =
     All-cons (λ b. b < 256) 10 (spelling (kind_of x.token) ++ lines_of xs) (omega arith)
     (All-append (λ b. b < 256) (spelling (kind_of x.token)) (lines_of xs) (spelling_bytes (kind_of x.token)) (lines_bytes xs))
+
+-- tokens that are the samples are of the kinds
+pub samples_kinds : (xs ys : List (Placed Token)) → map (λ x. x.token) ys ≡ samples xs → SameKinds kind_of xs ys
+samples_kinds [] [] e = none
+samples_kinds [] (y ∷ ys) e = absurd (cc)
+samples_kinds (x ∷ xs) [] e = absurd (cc)
+samples_kinds (x ∷ xs) (y ∷ ys) e =
+    let first : y.token ≡ sample (kind_of x.token) = cc in
+    let others : map (λ z. z.token) ys ≡ samples xs = cc in
+    more (ap kind_of first ∙ sample_kind x.token) (samples_kinds xs ys others)
