@@ -1,23 +1,19 @@
 -- Of two texts with the same beginning: what is read in the one, as long as it ends there, is read in the other.
-use Rattle.std.proofs.Common.{◌≡◌, ◌≢◌, ℕ, ◌+◌, ◌-◌, ◌<◌, ◌≤◌, List, [], ◌∷◌, ◌++◌, length, get_or, take, drop, refl, sym, ap, ◌∙◌, subst, arith, length-append, length-drop, ◌⊎◌, inl, inr, ⊎_elim}
-use Rattle.std.proofs.lemmas.Bool.{cases_lt, cases_order}
+use Rattle.std.proofs.Common.{◌≡◌, ℕ, ◌+◌, ◌-◌, ◌<◌, ◌≤◌, List, ◌∷◌, ◌++◌, length, get_or, take, drop, refl, sym, ap, ◌∙◌, subst, arith, length-append, length-drop, ⊎_elim}
+use Rattle.std.proofs.lemmas.Bool.{cases_lt}
 use Rattle.std.proofs.lemmas.List.{get_or_append_left, get_or_at, take-append-le, drop-append-le}
 use Rattle.std.specs.Prelude.{slice_range}
 use Rattle.wb_predictive.specs.declared.table.Placed.{Placed}
-use Rattle.wb_predictive.specs.declared.table.Next.{Next}
-use Rattle.wb_predictive.specs.declared.table.Next.TheVariants.{Found, End}
 use Rattle.wb_predictive.specs.Reading as reading
 use Rattle.wb_predictive.specs.Reading.{none, next}
-use Rattle.wb_tokens.specs.NextToken.{IsTokenAt, NextToken, IsEnd, IsNextIn}
-use Rattle.wb_tokens.specs.Skipping.{is_blank, IsComment, IsLayoutPiece, blank, comment, SkipsLayout, stop, skip}
+use Rattle.wb_tokens.specs.NextToken.{IsTokenAt, NextToken, IsNextIn}
+use Rattle.wb_tokens.specs.Skipping.{is_blank, IsLayoutPiece, blank, comment, SkipsLayout, stop, skip}
 use Rattle.wb_tokens.specs.Spelling.{Spells}
 use Rattle.wb_tokens.specs.declared.token.Layout.{Layout}
 use Rattle.wb_tokens.specs.declared.token.Token.{Token}
 use Rattle.wb_tokens.proofs.LineFeedLemmas.{crosses_none}
 use Rattle.wb_tokens.proofs.NoPieceLemmas.{no_piece}
-use Rattle.wb_tokens.proofs.OnlyLemmas.{same_token}
 use Rattle.wb_tokens.proofs.PlacedLaws.{layout_forward}
-use Rattle.wb_tokens.proofs.SkippingLemmas.{skips_only}
 
 -- a piece of the common beginning
 piece_of_first : (p u : List ℕ) (from to : ℕ) → from ≤ to → to ≤ length p → slice_range (p ++ u) from to ≡ slice_range p from to

@@ -1,5 +1,5 @@
 -- Enums without fields: the list of their values, and tests of each value by one computation. So no proof lists the variants again.
-use Rattle.std.proofs.Common.{◌≡◌, ℕ, List, [], ◌∷◌, Bool, true, false, ◌&&◌, ◌⊎◌, inl, inr, refl, subst}
+use Rattle.std.proofs.Common.{◌≡◌, List, [], ◌∷◌, Bool, true, false, ◌&&◌, inl, inr, subst}
 use Rattle.std.specs.Prelude.{Contains}
 use Rattle.wb_lemmas.proofs.Booleans.{and_left, and_right}
 use Rattle.wb_lemmas.proofs.Members.{contains_first, contains_later}

@@ -1,13 +1,11 @@
 -- The number behind an optional sign, as far as digits go, is the longest integer.
-use Rattle.std.proofs.Common.{rules, ◌≡◌, ◌≢◌, ℕ, zero, suc, ◌+◌, ◌-◌, ◌*◌, ◌<◌, ◌≤◌, ◌⊎◌, List, [], ◌∷◌, ◌++◌, Some, None, Bool, true, false, cond, length, get_or, take, drop, refl, sym, ap, ◌∙◌, subst, arith, length-take, length-append, pos, neg_ℤ, ℤ, ⊎_elim, FitsSigned, w64}
+use Rattle.std.proofs.Common.{◌≡◌, ◌≢◌, ℕ, zero, suc, ◌+◌, ◌<◌, ◌≤◌, ◌⊎◌, List, [], ◌∷◌, ◌++◌, Some, None, Bool, true, false, cond, length, get_or, take, drop, refl, sym, ap, ◌∙◌, subst, arith, length-take, length-append, pos, neg_ℤ, ℤ, ⊎_elim, FitsSigned, w64}
 use Rattle.std.proofs.Math.Seq.{take-append-add}
 use Rattle.std.proofs.lemmas.Bool.{cases_lt}
-use Rattle.std.proofs.lemmas.List.{get_or-take, take_more}
-use Rattle.std.proofs.lemmas.Int.Digits.{digits_value_push}
+use Rattle.std.proofs.lemmas.List.{get_or-take}
 use Rattle.std.proofs.lemmas.List.Sums.{prefix_len-le-length}
-use Rattle.std.proofs.lemmas.Str.Parse.{IsDigitsTest, numerals_by_value, digit_from_value, digit_at, digits_value-take-le}
-use Rattle.std.specs.Char.{is_ascii_digit, digit_value}
-use Rattle.std.specs.List.{list_all}
+use Rattle.std.proofs.lemmas.Str.Parse.{digit_from_value}
+use Rattle.std.specs.Char.{is_ascii_digit}
 use Rattle.std.specs.Str.Parse.{AllDigits, IsNumeral, digits_value}
 use Rattle.wb_tokens.specs.Inner.Longest.{first_class, IsLongest}
 use Rattle.wb_tokens.specs.Inner.Numbers.{number_of, FindsNumber}

@@ -1,7 +1,7 @@
 -- No layout begins where a token does.
-use Rattle.std.proofs.Common.{◌≡◌, ◌≢◌, ℕ, ◌+◌, ◌-◌, ◌<◌, ◌≤◌, List, [], ◌∷◌, ◌++◌, Bool, true, false, ◌||◌, not, eqb, length, get_or, take, drop, refl, sym, ap, ◌∙◌, subst, arith, length-take, length-drop, length-append, ⊎_elim}
+use Rattle.std.proofs.Common.{◌≡◌, ◌≢◌, ℕ, ◌+◌, ◌-◌, ◌<◌, ◌≤◌, List, [], ◌∷◌, ◌++◌, true, false, ◌||◌, not, eqb, length, get_or, take, drop, refl, sym, ap, ◌∙◌, subst, arith, length-take, length-append, ⊎_elim}
 use Rattle.std.proofs.lemmas.Bool.{eqb-true}
-use Rattle.std.proofs.lemmas.List.{get_or-take, get_or-drop, get_or_append_left}
+use Rattle.std.proofs.lemmas.List.{get_or-take, get_or-drop}
 use Rattle.std.specs.Prelude.{slice_range}
 use Rattle.wb_lemmas.proofs.Booleans.{or_cases, not_true}
 use Rattle.wb_tokens.specs.Inner.Longest.{first_class}
@@ -11,9 +11,9 @@ use Rattle.wb_tokens.specs.Words.{punctuation_text}
 use Rattle.wb_tokens.specs.contracts.punctuation.Punctuation as marks
 use Rattle.wb_tokens.specs.declared.token.Layout.{Layout}
 use Rattle.wb_tokens.specs.declared.token.Token.{Token}
-use Rattle.wb_tokens.specs.declared.token_class.TokenClass.TheVariants.{Slash, Mark}
+use Rattle.wb_tokens.specs.declared.token_class.TokenClass.TheVariants.{Mark}
 use Rattle.wb_tokens.proofs.Enumerations.{each_value}
-use Rattle.wb_tokens.proofs.FirstByteLemmas.{class_of, spelled_some, spelled_beginning, regex_is, punctuation_is}
+use Rattle.wb_tokens.proofs.FirstByteLemmas.{spelled_some, spelled_beginning, regex_is, punctuation_is}
 
 -- a byte of a piece of a text
 pub byte_of_piece : (text : List ℕ) (at end k : ℕ) → k < end - at → get_or (take (end - at) (drop at text)) k 0 ≡ get_or text (at + k) 0

@@ -1,10 +1,9 @@
 -- Of two texts with the same beginning: the second has the tokens of the first, as long as none of its own goes over the beginning's end.
-use Rattle.std.proofs.Common.{◌≡◌, ◌≢◌, ℕ, ◌<◌, ◌≤◌, List, [], ◌∷◌, ◌++◌, length, refl, sym, ap, ◌∙◌, subst, arith, ◌⊎◌, inl, inr, ⊎_elim}
+use Rattle.std.proofs.Common.{◌≡◌, ℕ, ◌<◌, ◌≤◌, List, ◌∷◌, ◌++◌, length, refl, sym, ap, ◌∙◌, subst, arith, ◌⊎◌, inl, inr, ⊎_elim}
 use Rattle.std.proofs.lemmas.Bool.{cases_lt, cases_order}
 use Rattle.std.proofs.lemmas.List.{get_or_at}
 use Rattle.std.specs.Prelude.{slice_range}
 use Rattle.wb_predictive.specs.declared.table.Placed.{Placed}
-use Rattle.wb_predictive.specs.declared.table.Next.TheVariants.{End}
 use Rattle.wb_predictive.specs.Reading as reading
 use Rattle.wb_predictive.specs.Reading.{none, next}
 use Rattle.wb_tokens.specs.NextToken.{NextToken, IsEnd, IsNextIn, GoesOver}
@@ -69,7 +68,7 @@ one_more layout text from to x y xs ys e i = record {
 }
 
 -- a later place for the beginning
-begun_before : (text : List ℕ) (at later end : ℕ) → at ≤ later → GoesOver text at end → GoesOver text later end
+pub begun_before : (text : List ℕ) (at later end : ℕ) → at ≤ later → GoesOver text at end → GoesOver text later end
 begun_before text at later end le o = record {
   token = o.token;
   from = o.from;
