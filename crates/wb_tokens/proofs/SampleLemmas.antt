@@ -21,7 +21,7 @@ use Rattle.wb_tokens.proofs.Enumerations.{each_value}
 use Rattle.wb_tokens.proofs.LinesLemmas.{AreLines, last, line}
 use Rattle.wb_tokens.proofs.WordLemmas.{reserved_word}
 
--- a token of the kind: the names, texts and regular expressions are `a`, the empty one and `a`, an integer that isn't 1 is 0; the end has none
+-- a token of the kind: the name `a`, the integers 1 and 0, the empty string and the regular expression `a`. The end has none
 abbrev pub sample : TokenKind → Token
 sample (Word word) = t.Word word
 sample (Mark mark) = t.Punctuation mark
