@@ -1,4 +1,5 @@
 pub mod Booleans
+pub mod ByKind
 pub mod Members
 pub mod Rights
 pub mod Derivations

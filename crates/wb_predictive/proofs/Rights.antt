@@ -7,18 +7,29 @@ use Rattle.wb_predictive.specs.Kinds.{implies, is_subset, are_apart}
 use Rattle.wb_predictive.proofs.Booleans.{and_left, and_right, or_cases}
 
 -- a right side that is below the rank
-pub below_at : {K N A : Type 0} (entries : N → Entry K) (rank : ℕ) (rs : List (List (Symbol K N A))) → is_some_below entries rank rs ≡ true → (p : ℕ) × (r : List (Symbol K N A)) × (slice_get rs p ≡ Some r) × (is_below entries rank r ≡ true)
+pub below_at : {K N A : Type 0} (entries : N → Entry K) (rank : ℕ) (rs : List (List (Symbol K N A)))
+    → is_some_below entries rank rs ≡ true
+    → (p : ℕ) × (r : List (Symbol K N A)) × (slice_get rs p ≡ Some r) × (is_below entries rank r ≡ true)
 below_at entries rank [] h = cc
 below_at entries rank (r ∷ rs) h =
-    ⊎_elim (λ m. (0, r, refl, m)) (λ m. let i = below_at entries rank rs m in (suc i.0, i.1, i.2, i.3)) (or_cases (is_below entries rank r) (is_some_below entries rank rs) h)
+    ⊎_elim (λ m. (0, r, refl, m)) (λ m. let i = below_at entries rank rs m in
+    (suc i.0, i.1, i.2, i.3)) (or_cases (is_below entries rank r) (is_some_below entries rank rs) h)
 
 module _ {K N A : Type 0} (same : K → K → Bool) (end : K) (entries : N → Entry K) where
-  -- each right side stands beside its kinds and agrees with the entry
-  right_at : (e : Entry K) (rs : List (List (Symbol K N A))) (kss : List (List K)) (p : ℕ) (r : List (Symbol K N A)) → are_rights same end entries e rs kss ≡ true → slice_get rs p ≡ Some r → (ks : List K) × (slice_get kss p ≡ Some ks) × (is_right same end entries e r ks ≡ true)
+  -- each right side is beside its kinds and agrees with the entry
+  right_at : (e : Entry K) (rs : List (List (Symbol K N A))) (kss : List (List K)) (p : ℕ) (r : List (Symbol K N A))
+      → are_rights same end entries e rs kss ≡ true → slice_get rs p ≡ Some r
+      → (ks : List K) × (slice_get kss p ≡ Some ks) × (is_right same end entries e r ks ≡ true)
   right_at e [] kss p r h g = cc
   right_at e (s ∷ rs) [] p r h g = cc
-  right_at e (s ∷ rs) (ks ∷ kss) zero r h g = let i : s ≡ r = cc in (ks, refl, subst (λ z. is_right same end entries e z ks ≡ true) i (and_left (is_right same end entries e s ks) (are_rights same end entries e rs kss) h))
-  right_at e (s ∷ rs) (ks ∷ kss) (suc p) r h g = right_at e rs kss p r (and_right (is_right same end entries e s ks) (are_rights same end entries e rs kss) h) g
+  right_at e (s ∷ rs) (ks ∷ kss) zero r h g = let i : s ≡ r = cc in (
+    ks,
+    refl,
+    subst (λ z. is_right same end entries e z ks ≡ true) i
+        (and_left (is_right same end entries e s ks) (are_rights same end entries e rs kss) h),
+  )
+  right_at e (s ∷ rs) (ks ∷ kss) (suc p) r h g =
+      right_at e rs kss p r (and_right (is_right same end entries e s ks) (are_rights same end entries e rs kss) h) g
 
   -- what the test says of a right side and its kinds
   pub record RightFacts (e : Entry K) (r : List (Symbol K N A)) (kss : List (List K)) (p : ℕ) : Type 0 where
@@ -31,7 +42,8 @@ module _ {K N A : Type 0} (same : K → K → Bool) (end : K) (entries : N → E
     pub lighter : nat_lt (weight_of entries r) e.weight ≡ true
 
   -- the test, part by part
-  parts : (e : Entry K) (r ks : _) (kss : List (List K)) (p : ℕ) → slice_get kss p ≡ Some ks → is_right same end entries e r ks ≡ true → RightFacts e r kss p
+  parts : (e : Entry K) (r ks : _) (kss : List (List K)) (p : ℕ) → slice_get kss p ≡ Some ks
+      → is_right same end entries e r ks ≡ true → RightFacts e r kss p
   parts e r ks kss p b h =
       let a1 = is_foreseen same entries r e.follow ks in
       let a2 = is_subset same (firsts entries r) e.first in

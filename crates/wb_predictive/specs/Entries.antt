@@ -59,7 +59,8 @@ module _ {K N A : Type 0} (same : K → K → Bool) (entries : N → Entry K) wh
   is_foreseen f follow ks = is_subset same (firsts entries f) ks && implies (all_nullable entries f) (is_subset same follow ks)
 
 module _ {K N A : Type 0} (same : K → K → Bool) (end : K) (entries : N → Entry K) where
-  -- where these kinds can follow the row, what can follow each nonterminal in it is in the nonterminal's entry; and the row doesn't name the end
+  -- where these kinds can follow the row, what can follow each nonterminal in it is in the nonterminal's entry;
+  -- and the row doesn't name the end
   abbrev pub is_followed : List K → List (Symbol K N A) → Bool
   is_followed follow [] = true
   is_followed follow (Token k ∷ f) = not (same k end) && is_followed follow f
@@ -68,7 +69,8 @@ module _ {K N A : Type 0} (same : K → K → Bool) (end : K) (entries : N → E
 
   -- a right side agrees with its nonterminal's entry, and is chosen at these kinds
   abbrev pub is_right : Entry K → List (Symbol K N A) → List K → Bool
-  is_right e right ks = is_foreseen same entries right e.follow ks && is_subset same (firsts entries right) e.first && implies (all_nullable entries right) e.nullable && is_followed e.follow right && nat_lt (weight_of entries right) e.weight
+  is_right e right ks = is_foreseen same entries right e.follow ks && is_subset same (firsts entries right) e.first
+      && implies (all_nullable entries right) e.nullable && is_followed e.follow right && nat_lt (weight_of entries right) e.weight
 
   -- each right side does, at the kinds beside it
   abbrev pub are_rights : Entry K → List (List (Symbol K N A)) → List (List K) → Bool
@@ -79,4 +81,5 @@ module _ {K N A : Type 0} (same : K → K → Bool) (end : K) (entries : N → E
 
   -- at this nonterminal one token of lookahead decides, and it derives some text
   abbrev pub is_decided : (N → List (List (Symbol K N A))) → N → Bool
-  is_decided rights n = are_rights (entries n) (rights n) (entries n).kinds && are_apart same (entries n).kinds && is_some_below entries (entries n).rank (rights n)
+  is_decided rights n = are_rights (entries n) (rights n) (entries n).kinds && are_apart same (entries n).kinds
+      && is_some_below entries (entries n).rank (rights n)

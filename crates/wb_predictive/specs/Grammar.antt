@@ -22,9 +22,11 @@ pub data Derives {K N A X V : Type 0} (g : Grammar K N A X V) : List (Symbol K N
   -- nothing is left
   done : {w : List (Placed X)} {a b : V} → w ≡ [] → a ≡ b → Derives g [] w a b
   -- a token of the kind, and then the rest
-  token : {k : K} {f : List (Symbol K N A)} {x : Placed X} {v w : List (Placed X)} {a b : V} → g.kind_of x.token ≡ k → Derives g f v (g.shift x.token x.at x.end a) b → w ≡ x ∷ v → Derives g (Token k ∷ f) w a b
+  token : {k : K} {f : List (Symbol K N A)} {x : Placed X} {v w : List (Placed X)} {a b : V}
+      → g.kind_of x.token ≡ k → Derives g f v (g.shift x.token x.at x.end a) b → w ≡ x ∷ v → Derives g (Token k ∷ f) w a b
   -- a nonterminal by one of its right sides
-  expand : {n : N} {f right : List (Symbol K N A)} {w : List (Placed X)} {a b : V} (p : ℕ) → slice_get (g.rights n) p ≡ Some right → Derives g (right ++ f) w a b → Derives g (Nonterminal n ∷ f) w a b
+  expand : {n : N} {f right : List (Symbol K N A)} {w : List (Placed X)} {a b : V} (p : ℕ)
+      → slice_get (g.rights n) p ≡ Some right → Derives g (right ++ f) w a b → Derives g (Nonterminal n ∷ f) w a b
   -- an action, which takes no token
   act : {c : A} {f : List (Symbol K N A)} {w : List (Placed X)} {a b : V} → Derives g f w (g.act c a) b → Derives g (Act c ∷ f) w a b
 

@@ -1,5 +1,5 @@
 -- Tests on lists of kinds, by a test whether two kinds are the same.
-use Rattle.std.specs.Prelude.{List, [], ◌∷◌, Bool, true, false, ◌&&◌, ◌||◌, not, if◌then◌else◌}
+use Rattle.std.specs.Prelude.{List, [], ◌∷◌, Bool, true, false, ◌&&◌, ◌||◌, not}
 
 -- the second follows from the first
 abbrev pub implies : Bool → Bool → Bool

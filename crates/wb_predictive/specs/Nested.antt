@@ -17,19 +17,21 @@ use Rattle.wb_predictive.specs.Entries.{Entry}
 
 -- the token that a byte is
 abbrev pub mark_of : ℕ → Option Mark
-mark_of b = if b == 40 then Some Mark.Open else if b == 41 then Some Mark.Close else if nat_le 48 b && nat_le b 57 then Some (Mark.Digit (b - 48)) else None
+mark_of b =
+    if b == 40 then Some Mark.Open else if b == 41 then Some Mark.Close
+    else if nat_le 48 b && nat_le b 57 then Some (Mark.Digit (b - 48)) else None
 
 -- the token at a place, or none
 abbrev pub token_at : ℕ → Option Mark → Next Mark
 token_at at None = Next.NoToken at
 token_at at (Some mark) = Next.Found (record { token = mark; at = at; end = at + 1 })
 
--- what stands next in these bytes, which begin at this place: spaces are skipped
+-- what is next in these bytes, which begin at this place: spaces are skipped
 abbrev pub next_after : ℕ → List ℕ → Next Mark
 next_after at [] = Next.End at
 next_after at (b ∷ bs) = if b == 32 then next_after (at + 1) bs else token_at at (mark_of b)
 
--- this stands next behind a place of the text
+-- this is next after a place of the text
 abbrev pub IsNestedNext : List ℕ → ℕ → Next Mark → Type 0
 IsNestedNext text from next = next_after from (drop from text) ≡ next
 
@@ -61,5 +63,19 @@ nested_grammar = record { start = Nest; rights = nested_rights; kind_of = kind_o
 
 -- the entries
 unfoldable pub nested_entries : Part → Entry Kind
-nested_entries Nest = record { kinds = (Open ∷ []) ∷ []; nullable = false; first = Open ∷ []; follow = Open ∷ Close ∷ Digit ∷ End ∷ []; rank = 1; weight = 1 }
-nested_entries Items = record { kinds = (Close ∷ []) ∷ (Digit ∷ []) ∷ (Open ∷ []) ∷ []; nullable = true; first = Open ∷ Digit ∷ []; follow = Close ∷ []; rank = 0; weight = 2 }
+nested_entries Nest = record {
+  kinds = (Open ∷ []) ∷ [];
+  nullable = false;
+  first = Open ∷ [];
+  follow = Open ∷ Close ∷ Digit ∷ End ∷ [];
+  rank = 1;
+  weight = 1;
+}
+nested_entries Items = record {
+  kinds = (Close ∷ []) ∷ (Digit ∷ []) ∷ (Open ∷ []) ∷ [];
+  nullable = true;
+  first = Open ∷ Digit ∷ [];
+  follow = Close ∷ [];
+  rank = 0;
+  weight = 2;
+}

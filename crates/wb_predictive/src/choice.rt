@@ -1,4 +1,6 @@
-//! Which rule of a nonterminal is chosen at a kind, and how its right side goes onto the stack.
+//! Which rule of a nonterminal is chosen at a kind, and how does its right side go onto the stack?
+//!
+//! Rules are few, so they are tried in their order. What the stack stands for is in `machine`.
 
 ghost use Rattle.std.specs.Prelude.{◌≡◌, ◌++◌, reverse, OnOk, MatchOption, Some, None};
 ghost use Rattle.wb_predictive.specs.Kinds.{is_member};

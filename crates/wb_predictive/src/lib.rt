@@ -1,11 +1,12 @@
-//! Reading a text by a grammar with one token of lookahead: exactly, and without recursion.
+//! Is this text in a grammar, with which values, or where is its first error?
 //!
-//! A format gives a `Table`: its tokens, the right sides of its nonterminals with actions between
-//! their symbols, and for each nonterminal what decides between its right sides. `read_all` is
-//! proved once for every table whose test computes to true. A text is accepted exactly where the
-//! grammar derives its tokens, with exactly the values that the grammar gives; any other text is
-//! stopped at the first thing that can't follow what is before it. `nested` is a small table,
-//! whole. Lemmas for the crates above are in `proofs/CallerLemmas.antt`.
+//! A predictive parser with one token of lookahead, an LL(1) parser, that keeps a stack and doesn't
+//! recurse. A format gives a `Table`: its tokens, the right sides of its nonterminals with actions
+//! between their symbols, and for each nonterminal what decides between its right sides. `read_all`
+//! is proved once for every table whose test computes to true: a text is accepted exactly where the
+//! grammar derives its tokens, with exactly the values that the grammar gives, and any other text is
+//! stopped at the first thing that can't follow what is before it. `nested` is a small table, whole.
+//! Lemmas for the crates above are in `proofs/CallerLemmas.antt`.
 #![tactic(auto)]
 
 mod choice;

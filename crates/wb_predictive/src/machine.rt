@@ -1,7 +1,7 @@
-//! The machine: a stack of symbols that may still come, the next on top.
+//! What does one token do to the stack of symbols that may still come, the next on top?
 //!
-//! Each step costs one rule, one action or one token, and nothing recurses, so a text may nest as
-//! deep as memory allows. After an error the stack and the values may be anything.
+//! Each step costs one rule, one action or one token, and nothing recurses, so a text may nest as deep as memory allows. Which
+//! right side is chosen is in `choice`. After an error the stack and the values may be anything.
 
 ghost use Rattle.std.specs.Prelude.{◌≡◌, List, [], ◌∷◌, ◌++◌, reverse, IfOk, MatchBool, MatchOption, Some, None};
 ghost use Rattle.wb_predictive.specs.declared.table.Placed.{Placed};

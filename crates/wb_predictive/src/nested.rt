@@ -1,7 +1,7 @@
 //! Nested lists of digits, as `(1 (2 3))`: an example of a table, with all that one needs.
 //!
-//! A reading is the list of what is met from left to right, each digit with its place. Spaces may
-//! stand between tokens. Only the tests use it; a format's table is built in the same way.
+//! A reading is the list of what is met from left to right, each digit with its place. Spaces may be between tokens. Only the tests
+//! use it: a format's table is built in the same way, and the laws of the trait are shown to be met here.
 
 ghost use Rattle.std.specs.Prelude.{◌≡◌, ◌≢◌, ◌<◌, ◌≤◌, ◌++◌, ◌∷◌, [], OnOk, drop, length, slice_index};
 ghost use denote.Enum.Bare.{same_true, true_same};
@@ -16,7 +16,7 @@ use std::alloc::{AllocError, Global};
 use std::marker::Model;
 
 /// The kinds of tokens, and the end of the text.
-#[derive(Clone, Copy, Debug, PartialEq, Eq)]
+#[derive(Clone, Copy, PartialEq, Eq)]
 pub enum Kind {
     Open,
     Close,
@@ -26,21 +26,21 @@ pub enum Kind {
 
 /// The parts of a text, the grammar's nonterminals: a list in parentheses, and what is between
 /// them.
-#[derive(Clone, Copy, Debug, PartialEq, Eq)]
+#[derive(Clone, Copy)]
 pub enum Part {
     Nest,
     Items,
 }
 
 /// What is done between the symbols of a right side.
-#[derive(Clone, Copy, Debug, PartialEq, Eq)]
+#[derive(Clone, Copy)]
 pub enum Action {
     Begin,
     Finish,
 }
 
 /// A token.
-#[derive(Clone, Copy, Debug, PartialEq, Eq, Drop)]
+#[derive(Clone, Copy, Drop)]
 pub enum Mark {
     Open,
     Close,
@@ -56,7 +56,7 @@ pub enum Event {
 }
 
 /// What a reading has met, in order.
-#[derive(Debug, Drop)]
+#[derive(Drop)]
 pub struct Events {
     items: Vec<Event>,
 }

@@ -1,4 +1,6 @@
-//! A whole text is read, or the place of the first thing that can't follow is found.
+//! Is a text whole, or at which place is the first thing that can't follow?
+//!
+//! The loop over a text's tokens; what one token does to the stack is in `machine`.
 
 ghost use Rattle.std.specs.Prelude.{◌≡◌, ◌≤◌, List, length, reverse, IfOk};
 ghost use Rattle.wb_predictive.specs.declared.reading.Outcome.{Outcome};
@@ -13,12 +15,12 @@ use crate::table::{Next, Table};
 use std::alloc::{AllocError, Global};
 
 /// What became of a text.
-#[derive(Debug, Drop)]
+#[derive(Drop)]
 pub enum Outcome<V> {
     /// It is a text of the grammar, with these values.
     Whole(V),
-    /// It is none. At this place stands the first token that can't follow those before it in any
-    /// text, or the first bytes that no token begins, or the end of a text that ends too early.
+    /// It is none. At this place is the first token that can't follow those before it in any text,
+    /// or the first bytes that no token begins, or the end of a text that ends too early.
     Stopped { at: usize },
 }
 
@@ -33,7 +35,7 @@ enum Step {
     Stuck(usize),
 }
 
-// Reads what stands next, and takes it if it can follow the tokens before it.
+// Reads what is next, and takes it if it can follow the tokens before it.
 fn advance<T: Table>(
     alloc: Global,
     table: &T,
@@ -75,7 +77,7 @@ fn advance<T: Table>(
 ///
 /// It is accepted exactly where its bytes spell tokens that the grammar derives, and the answer has
 /// the values that the grammar makes of them, which are the only ones. Else the answer is its one
-/// first fault. The time is linear in the text: each token costs a number of steps that the table
+/// first error. The time is linear in the text: each token costs a number of steps that the table
 /// bounds. The only error is want of memory.
 pub fn read_all<T: Table>(
     alloc: Global,

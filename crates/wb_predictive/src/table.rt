@@ -1,3 +1,8 @@
+//! What does a format give, so that its texts are read?
+//!
+//! A trait, so that the parser is proved once for all formats. What a table's test computes is in `specs/Entries.antt`; `nested` is a
+//! small example.
+
 ghost use Rattle.std.specs.Prelude.{◌≡◌, ◌≤◌, ◌<◌, ℕ, true, false, length, IfOk, OnOk};
 ghost use Rattle.wb_predictive.specs.Rules.{rights_of, kinds_of};
 
@@ -5,21 +10,21 @@ use crate::symbol::Rule;
 use std::alloc::{AllocError, Global};
 
 /// A token with its place in a text, in bytes.
-#[derive(Clone, Copy, Debug, Drop)]
+#[derive(Drop)]
 pub struct Placed<X> {
     pub token: X,
     /// The place of its first byte.
     pub at: usize,
-    /// The place behind its last byte.
+    /// The place after its last byte.
     pub end: usize,
 }
 
-/// What stands next behind a place of a text, once layout is skipped.
-#[derive(Debug, Drop)]
+/// What is next after a place of a text, once layout is skipped.
+#[derive(Drop)]
 pub enum Next<X> {
     /// A token.
     Found(Placed<X>),
-    /// The end of the text. A text that ends here too early goes wrong at this place.
+    /// The end of the text. The error of a text that ends too early is at this place.
     End { at: usize },
     /// Bytes that no token begins, from this place on.
     NoToken { at: usize },
@@ -30,7 +35,7 @@ pub enum Next<X> {
 ///
 /// The types are a crate's own: enums of kinds, nonterminals and actions, a type of tokens, and a
 /// type of the values that a reading makes. The kind of the end is a kind that no right side names,
-/// so a text that ends too early goes wrong like any other. The members below the functions are
+/// so a text that ends too early has its error like any other. The members below the functions are
 /// facts that an impl proves; `decided` and `ends` compute.
 pub trait Table {
     ghost use Rattle.std.specs.Prelude.{List, Bool, ◌↔◌};
@@ -61,7 +66,7 @@ pub trait Table {
     /// What is given of each nonterminal, and only checked.
     ghost entries: { Self.Nonterminal → Entry Self.Kind };
 
-    /// This stands next behind a place of the text.
+    /// This is next after a place of the text.
     ghost IsNext: { List ℕ → ℕ → Next Self.Token → Type 0 };
 
     /// The nonterminal that derives whole texts. Takes no memory.
@@ -84,7 +89,7 @@ pub trait Table {
         ensures rights { rights_of result.now ≡ grammar.rights nonterminal }
         ensures kinds { let entry = entries nonterminal in kinds_of result.now ≡ entry.kinds };
 
-    /// What stands next behind a place. The only error is want of memory.
+    /// What is next after a place. The only error is want of memory.
     fn next(&self, alloc: Global, text: &[u8], from: usize) -> Result<Next<Self::Token>, AllocError>
         requires { from ≤ length text.now }
         ensures ok { IfOk result (λ next. IsNext text.now from next) };
@@ -118,11 +123,11 @@ pub trait Table {
     ghost sampled: { (kind : Self.Kind) → Self.Kind.eq kind end_kind ≡ false →
         (token : Self.Token) × (grammar.kind_of token ≡ kind) };
 
-    /// One thing stands next.
+    /// One thing is next.
     ghost one_next: { (text : List ℕ) (from : ℕ) (a b : Next Self.Token) →
         IsNext text from a → IsNext text from b → a ≡ b };
 
-    /// A token ends behind the place and within the text.
+    /// A token ends after the place and within the text.
     ghost advances: { (text : List ℕ) (from : ℕ) (x : Placed Self.Token) → from ≤ length text →
         IsNext text from (Found x) → (from < x.end) × (x.end ≤ length text) };
 

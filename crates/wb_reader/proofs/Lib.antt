@@ -3,12 +3,14 @@ mod EquationSound
 pub mod Excluding
 mod ExpressionComplete
 mod ExpressionSound
+mod FaultLemmas
 pub mod FormatLemmas
 mod Giving
 mod ItemComplete
 mod ItemSound
 mod Joins
 mod Many
+pub mod NoneBegins
 pub mod OneText
 mod PartComplete
 mod PartSound

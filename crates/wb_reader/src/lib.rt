@@ -7,6 +7,7 @@ mod build_items;
 mod build_parts;
 mod builder;
 mod expression_rules;
+mod first_fault;
 mod format;
 mod item_rules;
 mod laws;
@@ -18,6 +19,7 @@ mod spec;
 mod table;
 mod written;
 
+pub use first_fault::first_fault_law;
 pub use laws::one_answer_law;
 pub use refusal::SpecRefusal;
 pub use spec::read_spec;

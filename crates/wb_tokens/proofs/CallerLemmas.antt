@@ -21,7 +21,8 @@ pub token_only : (text : List ℕ) (a b : Token) (at i j : ℕ) → IsTokenAt te
 token_only = only.token_only
 
 -- one thing comes next
-pub next_only : (layout : Layout) (text : List ℕ) (from : ℕ) (a b : Next Token) → IsNextIn layout text from a → IsNextIn layout text from b → a ≡ b
+pub next_only : (layout : Layout) (text : List ℕ) (from : ℕ) (a b : Next Token) → IsNextIn layout text from a
+    → IsNextIn layout text from b → a ≡ b
 next_only = only.next_only
 
 -- a printed integer is that integer

@@ -1,5 +1,5 @@
 -- Enums without fields: the list of their values, and tests of each value by one computation. So no proof lists the variants again.
-use Rattle.std.proofs.Common.{◌≡◌, ℕ, List, [], ◌∷◌, Bool, true, false, ◌&&◌, ◌⊎◌, inl, inr, refl, subst}
+use Rattle.std.proofs.Common.{◌≡◌, List, [], ◌∷◌, Bool, true, false, ◌&&◌, inl, inr, subst}
 use Rattle.std.specs.Prelude.{Contains}
 use Rattle.wb_lemmas.proofs.Booleans.{and_left, and_right}
 use Rattle.wb_lemmas.proofs.Members.{contains_first, contains_later}
@@ -16,7 +16,8 @@ values_from ((F ∷ Fs) ∷ Fss) make = []
 abbrev pub values_of : (N : Record) → List N.D
 values_of N = values_from N.parts N.make
 
-contains_choice : {D : Type 0} (Fss : List (List Field)) → Bare Fss → (make : Choice Fss → D) (c : Choice Fss) → Contains (values_from Fss make) (make c)
+contains_choice : {D : Type 0} (Fss : List (List Field)) → Bare Fss → (make : Choice Fss → D) (c : Choice Fss)
+    → Contains (values_from Fss make) (make c)
 contains_choice [] bare make c = absurd c
 contains_choice ([] ∷ Fss) bare make (inl x) = contains_first (make (inl tt)) (values_from Fss (λ c. make (inr c)))
 contains_choice ([] ∷ Fss) bare make (inr c) =

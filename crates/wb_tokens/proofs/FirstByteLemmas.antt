@@ -50,7 +50,11 @@ word_is word =
     let x = word_text word in
     let h = each_value words.enum (λ y. is_letter (get_or (word_text y) 0 0) && list_all is_name_byte (word_text y)) refl word in
     let letter = and_left (is_letter (get_or x 0 0)) (list_all is_name_byte x) h in
-    record { some = some_of x letter; letter = letter_is (get_or x 0 0) letter; bytes = and_right (is_letter (get_or x 0 0)) (list_all is_name_byte x) h }
+    record {
+      some = some_of x letter;
+      letter = letter_is (get_or x 0 0) letter;
+      bytes = and_right (is_letter (get_or x 0 0)) (list_all is_name_byte x) h;
+    }
 
 -- what each mark is
 record IsMarkText (x : List ℕ) : Type 0 where
@@ -82,7 +86,8 @@ digit_no_letter b low high = grind arith
 -- a digit begins integers
 digit_begins : (b : ℕ) → 48 ≤ b → b ≤ 57 → first_class b ≡ Number
 digit_begins b low high =
-    ap (λ t. cond t Letter (cond (is_ascii_digit b || eqb b 45) Number (cond (eqb b 34) Quote (cond (eqb b 47) Slash Mark)))) (digit_no_letter b low high)
+    ap (λ t. cond t Letter (cond (is_ascii_digit b || eqb b 45) Number (cond (eqb b 34) Quote (cond (eqb b 47) Slash Mark))))
+    (digit_no_letter b low high)
     ∙ ap (λ t. cond (t || eqb b 45) Number (cond (eqb b 34) Quote (cond (eqb b 47) Slash Mark))) (digit_is b low high)
 
 -- a numeral begins with a digit
@@ -168,7 +173,8 @@ number_is (t.Regex body) x s k = cc
 number_is (t.Punctuation mark) x s k = cc
 
 -- a token that begins with a quote is a string
-pub string_is : (token : Token) (x : List ℕ) → Spells token x → class_of token ≡ Quote → (text : List ℕ) × (token ≡ t.Text text) × IsString x text
+pub string_is : (token : Token) (x : List ℕ) → Spells token x → class_of token ≡ Quote
+    → (text : List ℕ) × (token ≡ t.Text text) × IsString x text
 string_is (t.Name text) x s k = cc
 string_is (t.Word word) x s k = cc
 string_is (t.Int value) x s k = cc
@@ -187,7 +193,8 @@ regex_is (t.Regex body) x s k = (body, refl, s.0, s.1, s.2)
 regex_is (t.Punctuation mark) x s k = cc
 
 -- any other token is a punctuation mark
-pub punctuation_is : (token : Token) (x : List ℕ) → Spells token x → class_of token ≡ Mark → (mark : Punctuation) × (token ≡ t.Punctuation mark) × (x ≡ punctuation_text mark)
+pub punctuation_is : (token : Token) (x : List ℕ) → Spells token x → class_of token ≡ Mark
+    → (mark : Punctuation) × (token ≡ t.Punctuation mark) × (x ≡ punctuation_text mark)
 punctuation_is (t.Name text) x s k = cc
 punctuation_is (t.Word word) x s k = cc
 punctuation_is (t.Int value) x s k = cc

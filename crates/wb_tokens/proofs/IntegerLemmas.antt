@@ -1,13 +1,11 @@
 -- The number behind an optional sign, as far as digits go, is the longest integer.
-use Rattle.std.proofs.Common.{rules, ◌≡◌, ◌≢◌, ℕ, zero, suc, ◌+◌, ◌-◌, ◌*◌, ◌<◌, ◌≤◌, ◌⊎◌, List, [], ◌∷◌, ◌++◌, Some, None, Bool, true, false, cond, length, get_or, take, drop, refl, sym, ap, ◌∙◌, subst, arith, length-take, length-append, pos, neg_ℤ, ℤ, ⊎_elim, FitsSigned, w64}
+use Rattle.std.proofs.Common.{◌≡◌, ◌≢◌, ℕ, zero, suc, ◌+◌, ◌<◌, ◌≤◌, ◌⊎◌, List, [], ◌∷◌, ◌++◌, Some, None, Bool, true, false, cond, length, get_or, take, drop, refl, sym, ap, ◌∙◌, subst, arith, length-take, length-append, pos, neg_ℤ, ℤ, ⊎_elim, FitsSigned, w64}
 use Rattle.std.proofs.Math.Seq.{take-append-add}
 use Rattle.std.proofs.lemmas.Bool.{cases_lt}
-use Rattle.std.proofs.lemmas.List.{get_or-take, take_more}
-use Rattle.std.proofs.lemmas.Int.Digits.{digits_value_push}
+use Rattle.std.proofs.lemmas.List.{get_or-take}
 use Rattle.std.proofs.lemmas.List.Sums.{prefix_len-le-length}
-use Rattle.std.proofs.lemmas.Str.Parse.{IsDigitsTest, numerals_by_value, digit_from_value, digit_at, digits_value-take-le}
-use Rattle.std.specs.Char.{is_ascii_digit, digit_value}
-use Rattle.std.specs.List.{list_all}
+use Rattle.std.proofs.lemmas.Str.Parse.{digit_from_value}
+use Rattle.std.specs.Char.{is_ascii_digit}
 use Rattle.std.specs.Str.Parse.{AllDigits, IsNumeral, digits_value}
 use Rattle.wb_tokens.specs.Inner.Longest.{first_class, IsLongest}
 use Rattle.wb_tokens.specs.Inner.Numbers.{number_of, FindsNumber}
@@ -54,14 +52,22 @@ record IsShape (negative : Bool) (digits : List ℕ) (count : ℕ) (z : ℤ) : T
   value : z ≡ signed negative (digits_value 10 (take taken digits))
 
 -- an integer in a text without a minus
-shape_plain : (text : List ℕ) → get_or text 0 0 ≢ 45 → (count : ℕ) (z : ℤ) → count ≤ length text → IsInteger (take count text) z → IsShape false text count z
-shape_plain text plain count z le (IsInteger.positive n e) = record { taken = count; counted = omega arith; within = le; numeral = n; value = e }
+shape_plain : (text : List ℕ) → get_or text 0 0 ≢ 45 → (count : ℕ) (z : ℤ) → count ≤ length text
+    → IsInteger (take count text) z → IsShape false text count z
+shape_plain text plain count z le (IsInteger.positive n e) = record {
+  taken = count;
+  counted = omega arith;
+  within = le;
+  numeral = n;
+  value = e;
+}
 shape_plain text plain zero z le (IsInteger.negative n e f) = cc
 shape_plain text plain (suc m) z le (IsInteger.negative {x} {y} n e f) =
     absurd (plain (sym (get_or-take (suc m) text 0 0 (omega arith)) ∙ ap (λ l. get_or l 0 0) e))
 
 -- an integer in a text with a minus
-shape_negative : (digits : List ℕ) (count : ℕ) (z : ℤ) → count ≤ length (45 ∷ digits) → IsInteger (take count (45 ∷ digits)) z → IsShape true digits count z
+shape_negative : (digits : List ℕ) (count : ℕ) (z : ℤ) → count ≤ length (45 ∷ digits)
+    → IsInteger (take count (45 ∷ digits)) z → IsShape true digits count z
 shape_negative digits zero z le (IsInteger.positive n e) = absurd (omega (arith, n.0))
 shape_negative digits (suc m) z le (IsInteger.positive n e) = absurd (omega (arith, n.1.0))
 shape_negative digits zero z le (IsInteger.negative n e f) = cc
@@ -84,28 +90,41 @@ shape text false digits s count z le i =
     subst (λ l. IsShape false l count z) s.joined (shape_plain text (s.plain refl) count z le i)
 
 -- the digits at the beginning, with the sign, are an integer
-whole : (negative : Bool) (digits : List ℕ) → 0 < digit_count digits → IsInteger (sign negative ++ take (digit_count digits) digits) (number_of negative digits)
+whole : (negative : Bool) (digits : List ℕ) → 0 < digit_count digits
+    → IsInteger (sign negative ++ take (digit_count digits) digits) (number_of negative digits)
 whole true digits some =
-    let n : IsNumeral 10 (take (digit_count digits) digits) = (omega (arith, length-take (digit_count digits) digits, prefix_len-le-length is_ascii_digit digits), run_digits digits) in
+    let n : IsNumeral 10 (take (digit_count digits) digits) = (
+      omega
+          (arith, length-take (digit_count digits) digits, prefix_len-le-length is_ascii_digit digits),
+      run_digits digits,
+    ) in
     IsInteger.negative n refl refl
 whole false digits some =
-    let n : IsNumeral 10 (take (digit_count digits) digits) = (omega (arith, length-take (digit_count digits) digits, prefix_len-le-length is_ascii_digit digits), run_digits digits) in
+    let n : IsNumeral 10 (take (digit_count digits) digits) = (
+      omega
+          (arith, length-take (digit_count digits) digits, prefix_len-le-length is_ascii_digit digits),
+      run_digits digits,
+    ) in
     IsInteger.positive n refl
 
 -- the same as the first bytes of the text
 whole_at : (text : List ℕ) (negative : Bool) (digits : List ℕ) → IsSigned text negative digits → 0 < digit_count digits
     → IsInteger (take (length (sign negative) + digit_count digits) text) (number_of negative digits)
 whole_at text negative digits s some =
-    subst (λ l. IsInteger l (number_of negative digits)) (sym (ap (take (length (sign negative) + digit_count digits)) s.joined ∙ take-append-add (sign negative) digits (digit_count digits)))
+    subst (λ l. IsInteger l (number_of negative digits)) (sym (ap (take (length (sign negative) + digit_count digits)) s.joined
+    ∙ take-append-add (sign negative) digits (digit_count digits)))
     (whole negative digits some)
 
 -- a number in range is the longest token
-pub integer_longest : (text : List ℕ) (negative : Bool) (digits : List ℕ) → IsSigned text negative digits → first_class (get_or text 0 0) ≡ Number
-    → (value : ℤ) (n count : ℕ) → FindsNumber negative digits (Some (value, n)) → count ≡ length (sign negative) + n → IsLongest text (t.Int value) count
+pub integer_longest : (text : List ℕ) (negative : Bool) (digits : List ℕ) → IsSigned text negative digits
+    → first_class (get_or text 0 0) ≡ Number
+    → (value : ℤ) (n count : ℕ) → FindsNumber negative digits (Some (value, n)) → count ≡ length (sign negative) + n
+    → IsLongest text (t.Int value) count
 integer_longest text negative digits s begins value n count found e =
     let at : count ≡ length (sign negative) + digit_count digits = omega (arith, e, found.1) in
     let spelled : IsInteger (take count text) value =
-    subst (λ k. IsInteger (take k text) value) (sym at) (subst (λ z. IsInteger (take (length (sign negative) + digit_count digits) text) z) (sym found.0) (whole_at text negative digits s found.2)) in
+    subst (λ k. IsInteger (take k text) value) (sym at) (subst (λ z. IsInteger (take (length (sign negative) + digit_count digits) text) z)
+    (sym found.0) (whole_at text negative digits s found.2)) in
     record {
       some = prefix_some text (t.Int value) count spelled;
       within = omega (arith, at, ap length s.joined, length-append (sign negative) digits, prefix_len-le-length is_ascii_digit digits);
@@ -119,17 +138,26 @@ integer_longest text negative digits s begins value n count found e =
     }
 
 -- an integer that is cut before its last digit isn't the longest
-no_shorter : (text : List ℕ) (negative : Bool) (digits : List ℕ) → IsSigned text negative digits → (z : ℤ) (count : ℕ) → IsLongest text (t.Int z) count
+no_shorter : (text : List ℕ) (negative : Bool) (digits : List ℕ) → IsSigned text negative digits
+    → (z : ℤ) (count : ℕ) → IsLongest text (t.Int z) count
     → count < length (sign negative) + digit_count digits → ⊥
 no_shorter text negative digits s z count l less =
     let more = length (sign negative) + digit_count digits in
     let some : 0 < digit_count digits =
-    let h = shape text negative digits s count z l.within l.spelled in omega (arith, less, h.counted, h.numeral.0, length-take h.taken digits) in
-    let within : more ≤ length text = omega (arith, ap length s.joined, length-append (sign negative) digits, prefix_len-le-length is_ascii_digit digits) in
+    let h = shape text negative digits s count z l.within l.spelled in
+    omega (arith, less, h.counted, h.numeral.0, length-take h.taken digits) in
+    let within : more ≤ length text = omega (
+      arith,
+      ap length s.joined,
+      length-append
+          (sign negative) digits,
+      prefix_len-le-length is_ascii_digit digits,
+    ) in
     l.longest (t.Int (number_of negative digits)) more less within (whole_at text negative digits s some)
 
 -- no integer is the longest token where there is no digit or the number is out of range
-no_token : (text : List ℕ) (negative : Bool) (digits : List ℕ) → IsSigned text negative digits → (z : ℤ) (count : ℕ) → IsLongest text (t.Int z) count
+no_token : (text : List ℕ) (negative : Bool) (digits : List ℕ) → IsSigned text negative digits
+    → (z : ℤ) (count : ℕ) → IsLongest text (t.Int z) count
     → (digit_count digits ≡ 0) ⊎ (¬ FitsSigned w64 (number_of negative digits)) → ⊥
 no_token text negative digits s z count l none =
     let h = shape text negative digits s count z l.within l.spelled in
@@ -144,7 +172,8 @@ no_token text negative digits s z count l none =
     (cases_lt h.taken (digit_count digits))
 
 -- where there is no digit, or the number is out of range, no token begins
-pub integer_none : (text : List ℕ) (negative : Bool) (digits : List ℕ) → IsSigned text negative digits → first_class (get_or text 0 0) ≡ Number
+pub integer_none : (text : List ℕ) (negative : Bool) (digits : List ℕ) → IsSigned text negative digits
+    → first_class (get_or text 0 0) ≡ Number
     → FindsNumber negative digits None → (token : Token) (count : ℕ) → IsLongest text token count → ⊥
 integer_none text negative digits s begins none token count l =
     let i = number_is token (take count text) l.spelled (sym (prefix_kind text token count l.spelled) ∙ begins) in

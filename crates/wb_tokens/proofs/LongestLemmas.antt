@@ -1,10 +1,10 @@
 -- For each kind of token, what the reader of its bytes finds is the longest token.
-use Rattle.std.proofs.Common.{◌≡◌, ℕ, suc, ◌+◌, ◌<◌, ◌≤◌, List, [], ◌∷◌, Bool, true, false, ◌||◌, ◌&&◌, cond, length, get_or, take, drop, refl, sym, ap, ◌∙◌, subst, arith, length-take}
+use Rattle.std.proofs.Common.{◌≡◌, ℕ, suc, ◌+◌, ◌<◌, List, [], ◌∷◌, true, ◌||◌, cond, length, get_or, take, sym, ap, ◌∙◌, subst, arith, length-take}
 use Rattle.std.proofs.lemmas.List.{get_or-take}
 use Rattle.std.proofs.lemmas.List.Folds.{list_all_at}
-use Rattle.std.proofs.lemmas.List.Sums.{prefix_len-le-length, prefix_len_stops, prefix_len_is}
+use Rattle.std.proofs.lemmas.List.Sums.{prefix_len-le-length, prefix_len_stops}
 use Rattle.std.specs.Char.{is_ascii_digit}
-use Rattle.std.specs.List.{list_all, prefix_len}
+use Rattle.std.specs.List.{prefix_len}
 use Rattle.wb_tokens.specs.Inner.Longest.{first_class, IsLongest}
 use Rattle.wb_tokens.specs.Spelling.{Spells, HasValueInRange}
 use Rattle.wb_lemmas.proofs.Runs.{all_before}
@@ -17,13 +17,15 @@ pub prefix_some : (text : List ℕ) (token : Token) (count : ℕ) → Spells tok
 prefix_some text token count s = omega (arith, spelled_some token (take count text) s, length-take count text)
 
 -- the first byte of the text tells the kind of each prefix that is a token
-pub prefix_kind : (text : List ℕ) (token : Token) (count : ℕ) → Spells token (take count text) → first_class (get_or text 0 0) ≡ class_of token
+pub prefix_kind : (text : List ℕ) (token : Token) (count : ℕ) → Spells token (take count text)
+    → first_class (get_or text 0 0) ≡ class_of token
 prefix_kind text token count s =
     let some = prefix_some text token count s in
     ap first_class (sym (get_or-take count text 0 0 some)) ∙ spelled_beginning token (take count text) s
 
 -- a letter and the bytes that go on a name are an identifier
-pub identifier : (text : List ℕ) → 0 < length text → is_letter (get_or text 0 0) ≡ true → IsIdentifier (take (prefix_len is_name_byte text) text)
+pub identifier : (text : List ℕ) → 0 < length text → is_letter (get_or text 0 0) ≡ true
+    → IsIdentifier (take (prefix_len is_name_byte text) text)
 identifier [] some h = absurd (omega (arith, some))
 identifier (b ∷ x) some h =
     let e : prefix_len is_name_byte (b ∷ x) ≡ suc (prefix_len is_name_byte x) =

@@ -19,7 +19,8 @@ abbrev BeginsWith : List ℕ → Punctuation → Type 0
 BeginsWith text mark = (rest : List ℕ) × (text ≡ punctuation_text mark ++ rest)
 
 -- the mark is found by its byte, or among the others
-either : (b k : ℕ) (found mark : Punctuation) (others : Option Punctuation) (x : List ℕ) → punctuation_text mark ≡ k ∷ [] → cond (eqb b k) (Some mark) others ≡ Some found
+either : (b k : ℕ) (found mark : Punctuation) (others : Option Punctuation) (x : List ℕ)
+    → punctuation_text mark ≡ k ∷ [] → cond (eqb b k) (Some mark) others ≡ Some found
     → (others ≡ Some found → BeginsWith (b ∷ x) found) → BeginsWith (b ∷ x) found
 either b k found mark others x spelled h other = ⊎_elim
     (λ yes. let e : Some mark ≡ Some found = sym (ap (λ t. cond t (Some mark) others) yes) ∙ h in
@@ -128,7 +129,8 @@ mark_longest text found begins h =
     }
 
 -- where none is found, no token begins
-pub mark_none : (text : List ℕ) → first_class (get_or text 0 0) ≡ Mark → mark_at text ≡ None → (token : Token) (count : ℕ) → IsLongest text token count → ⊥
+pub mark_none : (text : List ℕ) → first_class (get_or text 0 0) ≡ Mark → mark_at text ≡ None
+    → (token : Token) (count : ℕ) → IsLongest text token count → ⊥
 mark_none text begins h token count l =
     let i = punctuation_is token (take count text) l.spelled (sym (prefix_kind text token count l.spelled) ∙ begins) in
     let r = reaches_at text i.0 count i.2 in

@@ -24,8 +24,10 @@ use Rattle.wb_tokens.proofs.WordLemmas.{same_word, same_mark, word_reserved}
 -- an integer has one value
 same_integer : (x : List ℕ) (a b : ℤ) → IsInteger x a → IsInteger x b → a ≡ b
 same_integer x a b (IsInteger.positive n e) (IsInteger.positive m f) = e ∙ sym f
-same_integer x a b (IsInteger.positive n e) (IsInteger.negative m f g) = let h = subst (λ l. IsNumeral 10 l) f n in absurd (omega (arith, h.1.0))
-same_integer x a b (IsInteger.negative n e f) (IsInteger.positive m g) = let h = subst (λ l. IsNumeral 10 l) e m in absurd (omega (arith, h.1.0))
+same_integer x a b (IsInteger.positive n e) (IsInteger.negative m f g) = let h = subst (λ l. IsNumeral 10 l) f n in
+    absurd (omega (arith, h.1.0))
+same_integer x a b (IsInteger.negative n e f) (IsInteger.positive m g) = let h = subst (λ l. IsNumeral 10 l) e m in
+    absurd (omega (arith, h.1.0))
 same_integer x a b (IsInteger.negative {y} n e f) (IsInteger.negative {y = z} m g h) =
     let same : y ≡ z = cc in f ∙ ap (λ l. neg_ℤ (pos (digits_value 10 l))) same ∙ sym h
 
@@ -79,30 +81,35 @@ token_only text a b at i j x y =
     (same_token (slice_range text at i) a b x.spelled (subst (λ k. Spells b (slice_range text at k)) (sym same) y.spelled), same)
 
 -- one thing comes next
-pub next_only : (layout : Layout) (text : List ℕ) (from : ℕ) (a b : Next Token) → IsNextIn layout text from a → IsNextIn layout text from b → a ≡ b
+pub next_only : (layout : Layout) (text : List ℕ) (from : ℕ) (a b : Next Token) → IsNextIn layout text from a
+    → IsNextIn layout text from b → a ≡ b
 next_only layout text from (n.Found x) (n.Found y) h k =
     let places : x.at ≡ y.at = skips_only h.skipped k.skipped in
-    let same = token_only text x.token y.token x.at x.end y.end h.stands (subst (λ p. IsTokenAt text y.token p y.end) (sym places) k.stands) in
+    let same = token_only text x.token y.token x.at x.end y.end h.stands
+    (subst (λ p. IsTokenAt text y.token p y.end) (sym places) k.stands) in
     let tokens = same.0 in let ends = same.1 in
     ap n.Found (ap (λ t. record { token = t; at = x.at; end = x.end }) tokens
     ∙ (ap (λ p. record { token = y.token; at = p; end = x.end }) places ∙ ap (λ e. record { token = y.token; at = y.at; end = e }) ends))
 next_only layout text from (n.Found x) (n.End at') h k =
     let places = skips_only h.skipped k.skipped in absurd (omega (arith, places, k.last, h.stands.ordered, h.stands.within))
 next_only layout text from (n.Found x) (n.NoToken at') h k =
-    let places = skips_only h.skipped k.skipped in absurd (k.none_stands x.token x.end (subst (λ p. IsTokenAt text x.token p x.end) places h.stands))
+    let places = skips_only h.skipped k.skipped in
+    absurd (k.none_stands x.token x.end (subst (λ p. IsTokenAt text x.token p x.end) places h.stands))
 next_only layout text from (n.End at) (n.Found y) h k =
     let places = skips_only h.skipped k.skipped in absurd (omega (arith, places, h.last, k.stands.ordered, k.stands.within))
 next_only layout text from (n.End at) (n.End at') h k = ap n.End (skips_only h.skipped k.skipped)
 next_only layout text from (n.End at) (n.NoToken at') h k =
     let places = skips_only h.skipped k.skipped in absurd (omega (arith, places, h.last, k.within))
 next_only layout text from (n.NoToken at) (n.Found y) h k =
-    let places = skips_only h.skipped k.skipped in absurd (h.none_stands y.token y.end (subst (λ p. IsTokenAt text y.token p y.end) (sym places) k.stands))
+    let places = skips_only h.skipped k.skipped in
+    absurd (h.none_stands y.token y.end (subst (λ p. IsTokenAt text y.token p y.end) (sym places) k.stands))
 next_only layout text from (n.NoToken at) (n.End at') h k =
     let places = skips_only h.skipped k.skipped in absurd (omega (arith, places, k.last, h.within))
 next_only layout text from (n.NoToken at) (n.NoToken at') h k = ap n.NoToken (skips_only h.skipped k.skipped)
 
 -- the longest token of what stands from a place on stands there
-pub stands_at : (text : List ℕ) (at count : ℕ) (token : Token) → at ≤ length text → IsLongest (drop at text) token count → IsTokenAt text token at (at + count)
+pub stands_at : (text : List ℕ) (at count : ℕ) (token : Token) → at ≤ length text → IsLongest (drop at text) token count
+    → IsTokenAt text token at (at + count)
 stands_at text at count token le l =
     let e : (at + count) - at ≡ count = omega arith in
     record {
@@ -114,7 +121,8 @@ stands_at text at count token le l =
     }
 
 -- and the other way round
-pub longest_at : (text : List ℕ) (at behind : ℕ) (token : Token) → IsTokenAt text token at behind → IsLongest (drop at text) token (behind - at)
+pub longest_at : (text : List ℕ) (at behind : ℕ) (token : Token) → IsTokenAt text token at behind
+    → IsLongest (drop at text) token (behind - at)
 longest_at text at behind token s = record {
   some = omega (arith, s.ordered);
   within = omega (arith, s.ordered, s.within, length-drop at text);

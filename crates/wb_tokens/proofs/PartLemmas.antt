@@ -33,7 +33,8 @@ string_only r (IsStringPart.hexadecimal {x} {h} {l} {m} {n} {b} p q g f) =
 regex_only : {part : List ℕ} (r : List ℕ) → IsRegexPart part → regex_part (part ++ r) ≡ Some (length part)
 regex_only r (IsRegexPart.plain {x} {b} h e) = ap (λ p. regex_part (p ++ r)) e ∙ known b h ∙ ap (λ p. Some (length p)) (sym e)
   where
-    known : (b : ℕ) → (eqb b 47 || eqb b 92 || eqb b 10) ≡ false → cond (eqb b 92) (regex_escape r) (cond (eqb b 47 || eqb b 10) None (Some 1)) ≡ Some 1
+    known : (b : ℕ) → (eqb b 47 || eqb b 92 || eqb b 10) ≡ false
+        → cond (eqb b 92) (regex_escape r) (cond (eqb b 47 || eqb b 10) None (Some 1)) ≡ Some 1
     known b h = grind (arith, h)
 regex_only r (IsRegexPart.escaped {x} {b} h e) =
     ap (λ p. regex_part (p ++ r)) e ∙ ap (λ t. cond t None (Some 2)) h ∙ ap (λ p. Some (length p)) (sym e)
@@ -47,7 +48,8 @@ same_front : (p q u v : List ℕ) → length p ≡ length q → p ++ u ≡ q ++ 
 same_front p q u v h e = sym (take-append_seam p u) ∙ ap (λ n. take n (p ++ u)) h ∙ ap (take (length q)) e ∙ take-append_seam q v
 
 -- two bodies of strings that go on in one text, the one where no part stands and the other with a quote, are one
-pub same_string : {front body text other : List ℕ} (r rest : List ℕ) → IsStringBody front text → string_part r ≡ None → IsStringBody body other
+pub same_string : {front body text other : List ℕ} (r rest : List ℕ) → IsStringBody front text
+    → string_part r ≡ None → IsStringBody body other
     → front ++ r ≡ body ++ 34 ∷ rest → (front ≡ body) × (text ≡ other) × (r ≡ 34 ∷ rest)
 same_string r rest (IsStringBody.none e f) n (IsStringBody.none g h) j = (cc, cc, sym (ap (λ u. u ++ r) e) ∙ j ∙ ap (λ u. u ++ 34 ∷ rest) g)
 same_string r rest (IsStringBody.none e f) n (IsStringBody.next {part} {x} p b g h) j =
@@ -56,9 +58,12 @@ same_string r rest (IsStringBody.none e f) n (IsStringBody.next {part} {x} p b g
 same_string r rest (IsStringBody.next {part} {x} p b e f) n (IsStringBody.none g h) j =
     let a = sym (append_assoc part x r) ∙ sym (ap (λ u. u ++ r) e) ∙ j ∙ ap (λ u. u ++ 34 ∷ rest) g in
     let s = sym (string_only (x ++ r) p) ∙ ap string_part a in absurd (cc)
-same_string r rest (IsStringBody.next {part} {x} {y} {text} {whole} {b = byte} p b e f) n (IsStringBody.next {part = q} {x = z} {y = w} {text = other} {whole = all} {b = c} p' b' g h) j =
-    let a : part ++ (x ++ r) ≡ q ++ (z ++ 34 ∷ rest) = sym (append_assoc part x r) ∙ sym (ap (λ u. u ++ r) e) ∙ j ∙ ap (λ u. u ++ 34 ∷ rest) g ∙ append_assoc q z (34 ∷ rest) in
-    let s : ◌≡◌ {A = Option (ℕ × ℕ)} (Some (byte, length part)) (Some (c, length q)) = sym (string_only (x ++ r) p) ∙ ap string_part a ∙ string_only (z ++ 34 ∷ rest) p' in
+same_string r rest (IsStringBody.next {part} {x} {y} {text} {whole} {b = byte} p b e f) n
+    (IsStringBody.next {part = q} {x = z} {y = w} {text = other} {whole = all} {b = c} p' b' g h) j =
+    let a : part ++ (x ++ r) ≡ q ++ (z ++ 34 ∷ rest) = sym (append_assoc part x r) ∙ sym
+    (ap (λ u. u ++ r) e) ∙ j ∙ ap (λ u. u ++ 34 ∷ rest) g ∙ append_assoc q z (34 ∷ rest) in
+    let s : ◌≡◌ {A = Option (ℕ × ℕ)} (Some (byte, length part)) (Some (c, length q)) = sym
+    (string_only (x ++ r) p) ∙ ap string_part a ∙ string_only (z ++ 34 ∷ rest) p' in
     let pair : ◌≡◌ {A = ℕ × ℕ} (byte, length part) (c, length q) = cc in
     let count = ap (λ (k : ℕ × ℕ). k.1) pair in
     let same = ap (λ (k : ℕ × ℕ). k.0) pair in
@@ -77,7 +82,8 @@ same_regex r rest (IsRegexBody.next {part} {x} p b e) n (IsRegexBody.none g) j =
     let a = sym (append_assoc part x r) ∙ sym (ap (λ u. u ++ r) e) ∙ j ∙ ap (λ u. u ++ 47 ∷ rest) g in
     let s = sym (regex_only (x ++ r) p) ∙ ap regex_part a in absurd (cc)
 same_regex r rest (IsRegexBody.next {part} {x} p b e) n (IsRegexBody.next {part = q} {x = z} p' b' g) j =
-    let a : part ++ (x ++ r) ≡ q ++ (z ++ 47 ∷ rest) = sym (append_assoc part x r) ∙ sym (ap (λ u. u ++ r) e) ∙ j ∙ ap (λ u. u ++ 47 ∷ rest) g ∙ append_assoc q z (47 ∷ rest) in
+    let a : part ++ (x ++ r) ≡ q ++ (z ++ 47 ∷ rest) = sym (append_assoc part x r) ∙ sym
+    (ap (λ u. u ++ r) e) ∙ j ∙ ap (λ u. u ++ 47 ∷ rest) g ∙ append_assoc q z (47 ∷ rest) in
     let s : Some (length part) ≡ Some (length q) = sym (regex_only (x ++ r) p) ∙ ap regex_part a ∙ regex_only (z ++ 47 ∷ rest) p' in
     let count : length part ≡ length q = cc in
     let i = same_regex r rest b n b' (same_length part q (x ++ r) (z ++ 47 ∷ rest) count a) in
@@ -143,7 +149,8 @@ found_escape (e ∷ x) b n h = ⊎_elim hexadecimal other (cases_Bool (eqb e 120
         subst (λ k. StandsFor (92 ∷ e ∷ x) b k) g.1 (IsStringPart.escaped g.0 refl, omega arith, omega arith)
 
 -- a plain byte is found
-found_plain : (b c n : ℕ) (x : List ℕ) (t : Bool) → is_plain b ≡ t → cond {A = Option (ℕ × ℕ)} t (Some (b, 1)) None ≡ Some (c, n) → StandsFor (b ∷ x) c n
+found_plain : (b c n : ℕ) (x : List ℕ) (t : Bool) → is_plain b ≡ t → cond {A = Option (ℕ × ℕ)} t (Some (b, 1)) None ≡ Some (c, n)
+    → StandsFor (b ∷ x) c n
 found_plain b c n x true t h =
     let pair : ◌≡◌ {A = ℕ × ℕ} (b, 1) (c, n) = cc in
     subst (λ (k : ℕ × ℕ). StandsFor (b ∷ x) k.0 k.1) pair (IsStringPart.plain t refl, omega arith, omega arith)
@@ -185,10 +192,15 @@ regex_found (b ∷ x) n h = ⊎_elim escape other (cases_Bool (eqb b 92))
 
     plain : (t : Bool) → (eqb b 47 || eqb b 10) ≡ t → eqb b 92 ≡ false → cond t None (Some 1) ≡ Some n → IsPartAt (b ∷ x) n
     plain true s t h = cc
-    plain false s t h = let e : 1 ≡ n = cc in subst (λ k. IsPartAt (b ∷ x) k) e (IsRegexPart.plain (grind (arith, s, t)) refl, omega arith, omega arith)
+    plain false s t h = let e : 1 ≡ n = cc in subst (λ k. IsPartAt (b ∷ x) k) e (
+      IsRegexPart.plain (grind (arith, s, t)) refl,
+      omega arith,
+      omega arith,
+    )
 
     other : eqb b 92 ≡ false → IsPartAt (b ∷ x) n
-    other t = plain (eqb b 47 || eqb b 10) refl t (sym (ap (λ t. cond t (regex_escape x) (cond (eqb b 47 || eqb b 10) None (Some 1))) t) ∙ h)
+    other t = plain (eqb b 47 || eqb b 10) refl t (sym (ap (λ t. cond t (regex_escape x) (cond (eqb b 47 || eqb b 10) None (Some 1))) t)
+        ∙ h)
 
 -- what stands at a place begins what is left from there
 byte_at : (x : List ℕ) (at b : ℕ) (rest : List ℕ) → drop at x ≡ b ∷ rest → HasByte x at b

@@ -10,7 +10,8 @@ use Rattle.wb_tokens.proofs.CallerLemmas.{next_only}
 use Rattle.wb_tokens.specs.NextToken.{IsNextIn}
 
 -- one thing is next
-pub one_next : (layout : Layout) (text : List ℕ) (from : ℕ) (a b : Next Token) → IsNextIn layout text from a → IsNextIn layout text from b → a ≡ b
+pub one_next : (layout : Layout) (text : List ℕ) (from : ℕ) (a b : Next Token) → IsNextIn layout text from a
+    → IsNextIn layout text from b → a ≡ b
 one_next = next_only
 
 -- a piece of layout goes forward
@@ -19,7 +20,7 @@ piece_forward layout text from behind (blank w b e) = omega (arith, e)
 piece_forward layout text from behind (comment l c) = omega (arith, c.ordered)
 
 -- layout goes forward
-layout_forward : (layout : Layout) (text : List ℕ) (from at : ℕ) → SkipsLayout layout text from at → from ≤ at
+pub layout_forward : (layout : Layout) (text : List ℕ) (from at : ℕ) → SkipsLayout layout text from at → from ≤ at
 layout_forward layout text from at (stop none e) = omega (arith, e)
 layout_forward layout text from at (skip {behind = behind} piece rest) =
     let here = piece_forward layout text from behind piece in
@@ -27,7 +28,8 @@ layout_forward layout text from at (skip {behind = behind} piece rest) =
     omega (arith, here, there)
 
 -- a token ends behind the place and within the text
-pub advances : (layout : Layout) (text : List ℕ) (from : ℕ) (x : Placed Token) → from ≤ length text → IsNextIn layout text from (Found x) → (from < x.end) × (x.end ≤ length text)
+pub advances : (layout : Layout) (text : List ℕ) (from : ℕ) (x : Placed Token) → from ≤ length text
+    → IsNextIn layout text from (Found x) → (from < x.end) × (x.end ≤ length text)
 advances layout text from x h e =
     let forward = layout_forward layout text from x.at e.skipped in
     let ordered = e.stands.ordered in

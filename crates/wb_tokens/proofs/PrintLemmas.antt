@@ -1,7 +1,9 @@
 -- What is printed is the spelling of its token.
-use Rattle.std.proofs.Common.{◌≡◌, ℕ, suc, ◌/◌, ◌%◌, ◌<◌, List, [], ◌∷◌, Some, Bool, true, false, ◌&&◌, cond, eqb, leb, length, get_or, refl, sym, ap, arith, pos, negsuc, neg_ℤ, ℤ, FitsSigned, w64}
+use Rattle.std.proofs.Common.{◌≡◌, ℕ, suc, ◌+◌, ◌/◌, ◌%◌, ◌<◌, List, [], ◌∷◌, ◌++◌, Some, Bool, true, false, ◌&&◌, cond, eqb, leb, length, get_or, take, refl, sym, ap, ◌∙◌, append_assoc, arith, pos, negsuc, neg_ℤ, ℤ, FitsSigned, w64}
 use Rattle.std.proofs.lemmas.Bool.{eqb-true}
 use Rattle.std.proofs.lemmas.Fmt.{decimal_is_IsNumeral}
+use Rattle.std.proofs.lemmas.Grind.{flat_map-append}
+use Rattle.std.proofs.lemmas.List.{append-nil, take_more}
 use Rattle.std.specs.Fmt.{signed_decimal, digit_glyph}
 use Rattle.std.specs.List.{flat_map}
 use Rattle.wb_tokens.specs.Printing.{printed_byte, printed_text}
@@ -33,7 +35,8 @@ hexadecimal_printed b lt =
     IsStringPart.hexadecimal (hex_digit_read (b / 16) (omega (arith, lt))) (hex_digit_read (b % 16) (omega arith)) (omega arith) refl
 
 -- a byte from 0x20 to 0x7e stands for itself, and any other is printed by digits
-range_printed : (b : ℕ) → b < 256 → eqb b 34 ≡ false → eqb b 92 ≡ false → eqb b 10 ≡ false → (t : Bool) → IsStringPart (cond t (b ∷ []) (hexadecimal b)) b
+range_printed : (b : ℕ) → b < 256 → eqb b 34 ≡ false → eqb b 92 ≡ false → eqb b 10 ≡ false
+    → (t : Bool) → IsStringPart (cond t (b ∷ []) (hexadecimal b)) b
 range_printed b lt q s l true = IsStringPart.plain (plain_read b q s l) refl
 range_printed b lt q s l false = hexadecimal_printed b lt
 
@@ -73,3 +76,14 @@ body_printed (b ∷ text) bytes =
 -- a printed text is the string of the text
 pub text_printed : (text : List ℕ) → ((k : ℕ) → k < length text → get_or text k 0 < 256) → IsString (printed_text text) text
 text_printed text bytes = record { body = flat_map printed_byte text; stands = body_printed text bytes; quoted = refl }
+
+-- one byte more is printed
+pub text_more : (before out new text : List ℕ) (i : ℕ) → i < length text → out ≡ before ++ flat_map printed_byte (take i text)
+    → new ≡ out ++ printed_byte (get_or text i 0) → new ≡ before ++ flat_map printed_byte (take (i + 1) text)
+text_more before out new text i within e f =
+    let one : flat_map printed_byte (get_or text i 0 ∷ []) ≡ printed_byte (get_or text i 0) = append-nil (printed_byte (get_or text i 0)) in
+    let more : flat_map printed_byte (take (i + 1) text) ≡ flat_map printed_byte (take i text) ++ printed_byte (get_or text i 0) =
+    ap (flat_map printed_byte) (take_more text i 0 within)
+    ∙ (flat_map-append printed_byte (take i text) (get_or text i 0 ∷ []) ∙ ap (λ l. flat_map printed_byte (take i text) ++ l) one) in
+    f ∙ (ap (λ l. l ++ printed_byte (get_or text i 0)) e
+    ∙ (append_assoc before (flat_map printed_byte (take i text)) (printed_byte (get_or text i 0)) ∙ ap (λ l. before ++ l) (sym more)))

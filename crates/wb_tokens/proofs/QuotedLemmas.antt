@@ -26,9 +26,11 @@ record IsClosed (q : ℕ) (x body : List ℕ) (count : ℕ) : Type 0 where
   counted : count ≡ length body + 2
 
 -- such a prefix goes to a closing byte
-is_closed : (q : ℕ) (x body : List ℕ) (count : ℕ) → count ≤ length (q ∷ x) → take count (q ∷ x) ≡ q ∷ (body ++ q ∷ []) → IsClosed q x body count
+is_closed : (q : ℕ) (x body : List ℕ) (count : ℕ) → count ≤ length (q ∷ x) → take count (q ∷ x) ≡ q ∷ (body ++ q ∷ [])
+    → IsClosed q x body count
 is_closed q x body count le h =
-    let all : q ∷ x ≡ q ∷ ((body ++ q ∷ []) ++ drop count (q ∷ x)) = sym (take-append-drop count (q ∷ x)) ∙ ap (λ l. l ++ drop count (q ∷ x)) h in
+    let all : q ∷ x ≡ q ∷ ((body ++ q ∷ []) ++ drop count (q ∷ x)) = sym (take-append-drop count (q ∷ x)) ∙ ap
+    (λ l. l ++ drop count (q ∷ x)) h in
     let behind : x ≡ (body ++ q ∷ []) ++ drop count (q ∷ x) = cc in
     record {
       rest = drop count (q ∷ x);
@@ -45,7 +47,8 @@ no_regex_part : (x : List ℕ) (place : ℕ) → HasByte x place 47 → regex_pa
 no_regex_part x place h = ap regex_part (drop_more x place 0 h.within ∙ ap (λ b. b ∷ drop (place + 1) x) h.is)
 
 -- the body of a string that ends at its quote is the one that was found
-string_ends : (x text other body : List ℕ) (place count : ℕ) → FindsString x (Some (text, place)) → IsStringBody body other → IsClosed 34 x body count → count ≡ place + 2
+string_ends : (x text other body : List ℕ) (place count : ℕ) → FindsString x (Some (text, place))
+    → IsStringBody body other → IsClosed 34 x body count → count ≡ place + 2
 string_ends x text other body place count found stands c =
     let same = same_string (drop place x) c.rest found.0 (no_string_part x place found.1) stands (take-append-drop place x ∙ c.joined) in
     omega (arith, c.counted, sym (ap length same.0), length-take place x, found.1.within)
@@ -53,7 +56,8 @@ string_ends x text other body place count found stands c =
 -- a string that was found is the longest token
 pub string_longest : (x text : List ℕ) (place : ℕ) → FindsString x (Some (text, place)) → IsLongest (34 ∷ x) (t.Text text) (place + 2)
 string_longest x text place found =
-    let s : IsString (take (place + 2) (34 ∷ x)) text = record { body = take place x; stands = found.0; quoted = closed 34 place x found.1 } in
+    let s : IsString (take (place + 2) (34 ∷ x)) text = record
+    { body = take place x; stands = found.0; quoted = closed 34 place x found.1 } in
     record {
       some = omega arith;
       within = omega (arith, found.1.within);
@@ -73,13 +77,15 @@ string_none x none token count l =
     none i.2.body i.0 c.rest i.2.stands c.joined
 
 -- the body of a regular expression that ends at its slash is the one that was found
-regex_ends : (x body : List ℕ) (place count : ℕ) → FindsRegex x (Some place) → IsRegexBody body → IsClosed 47 x body count → count ≡ place + 2
+regex_ends : (x body : List ℕ) (place count : ℕ) → FindsRegex x (Some place) → IsRegexBody body
+    → IsClosed 47 x body count → count ≡ place + 2
 regex_ends x body place count found stands c =
     let same = same_regex (drop place x) c.rest found.0 (no_regex_part x place found.1) stands (take-append-drop place x ∙ c.joined) in
     omega (arith, c.counted, sym (ap length same.0), length-take place x, found.1.within)
 
 -- a regular expression that was found is the longest token
-pub regex_longest : (x : List ℕ) (place : ℕ) → 0 < place → FindsRegex x (Some place) → IsLongest (47 ∷ x) (t.Regex (take place x)) (place + 2)
+pub regex_longest : (x : List ℕ) (place : ℕ) → 0 < place → FindsRegex x (Some place)
+    → IsLongest (47 ∷ x) (t.Regex (take place x)) (place + 2)
 regex_longest x place some found =
     record {
       some = omega arith;
@@ -131,7 +137,8 @@ string_missing text some begins none token count l =
 pub regex_found : (text : List ℕ) (place : ℕ) → 0 < length text → first_class (get_or text 0 0) ≡ Slash → 0 < place
     → FindsRegex (drop 1 text) (Some place) → IsLongest text (t.Regex (take place (drop 1 text))) (place + 2)
 regex_found text place some begins more found =
-    subst (λ l. IsLongest l (t.Regex (take place (drop 1 text))) (place + 2)) (slash_first text some begins) (regex_longest (drop 1 text) place more found)
+    subst (λ l. IsLongest l (t.Regex (take place (drop 1 text))) (place + 2)) (slash_first text some begins)
+    (regex_longest (drop 1 text) place more found)
 
 -- where none was found behind a slash, no token begins
 pub regex_missing : (text : List ℕ) → 0 < length text → first_class (get_or text 0 0) ≡ Slash → FindsRegex (drop 1 text) None

@@ -80,7 +80,8 @@ begins : (token : Token) (x rest : List ℕ) → Spells token x → first_class 
 begins token x rest s = ap first_class (get_or_append_left x rest 0 0 (spelled_some token x s)) ∙ spelled_beginning token x s
 
 -- a name or a reserved word
-name_stands : (token : Token) (x rest : List ℕ) → Spells token x → HasValueInRange token → class_of token ≡ Letter → StopsAt is_name_byte rest
+name_stands : (token : Token) (x rest : List ℕ) → Spells token x → HasValueInRange token
+    → class_of token ≡ Letter → StopsAt is_name_byte rest
     → IsLongest (x ++ rest) token (length x)
 name_stands token x rest s range kind stops =
     let e = run_length is_name_byte x rest (name_bytes token x s kind) stops in
@@ -89,7 +90,8 @@ name_stands token x rest s range kind stops =
     subst (λ n. IsLongest (x ++ rest) token n) e (name_longest (x ++ rest) token first range (subst (λ l. Spells token l) (sym here) s))
 
 -- the digits of a number and what follows
-digits_stand : (negative : Bool) (y rest : List ℕ) (z : ℤ) → IsNumeral 10 y → z ≡ signed negative (digits_value 10 y) → FitsSigned w64 z → StopsAt is_ascii_digit rest
+digits_stand : (negative : Bool) (y rest : List ℕ) (z : ℤ) → IsNumeral 10 y → z ≡ signed negative (digits_value 10 y)
+    → FitsSigned w64 z → StopsAt is_ascii_digit rest
     → FindsNumber negative (y ++ rest) (Some (z, length y))
 digits_stand negative y rest z n e fits stops =
     let run = run_length is_ascii_digit y rest (pass_digits y n.1) stops in
@@ -101,13 +103,15 @@ no_minus [] rest n = absurd (omega (arith, n.0))
 no_minus (c ∷ x) rest n = λ e. let r = digit_from_value c n.1.0 in omega (arith, r, e)
 
 -- an integer
-integer_stands : (x rest : List ℕ) (z : ℤ) → IsInteger x z → FitsSigned w64 z → StopsAt is_ascii_digit rest → first_class (get_or (x ++ rest) 0 0) ≡ Number
+integer_stands : (x rest : List ℕ) (z : ℤ) → IsInteger x z → FitsSigned w64 z → StopsAt is_ascii_digit rest
+    → first_class (get_or (x ++ rest) 0 0) ≡ Number
     → IsLongest (x ++ rest) (t.Int z) (length x)
 integer_stands x rest z (IsInteger.positive n e) fits stops first =
     integer_longest (x ++ rest) false (x ++ rest) (record { joined = refl; plain = λ _. no_minus x rest n }) first z (length x) (length x)
     (digits_stand false x rest z n e fits stops) (omega arith)
 integer_stands x rest z (IsInteger.negative {x = w} {y} n e f) fits stops first =
-    integer_longest (x ++ rest) true (y ++ rest) (record { joined = ap (λ l. l ++ rest) e; plain = λ h. absurd (cc) }) first z (length y) (length x)
+    integer_longest (x ++ rest) true (y ++ rest) (record { joined = ap (λ l. l ++ rest) e; plain = λ h. absurd (cc) }) first z
+    (length y) (length x)
     (digits_stand true y rest z n f fits stops) (omega (arith, ap length e))
 
 -- what stands between two closing bytes, and what follows
@@ -122,12 +126,14 @@ string_stands : (x rest text : List ℕ) → IsString x text → IsLongest (x ++
 string_stands x rest text s =
     let found = string_longest (s.body ++ 34 ∷ rest) text (length s.body)
     (subst (λ l. IsStringBody l text) (sym (take-append_seam s.body (34 ∷ rest))) s.stands, closing 34 s.body rest) in
-    let whole : 34 ∷ (s.body ++ 34 ∷ rest) ≡ x ++ rest = sym (ap (λ l. l ++ rest) s.quoted ∙ ap (λ l. 34 ∷ l) (after_body 34 s.body rest)) in
+    let whole : 34 ∷ (s.body ++ 34 ∷ rest) ≡ x ++ rest = sym
+    (ap (λ l. l ++ rest) s.quoted ∙ ap (λ l. 34 ∷ l) (after_body 34 s.body rest)) in
     let count : length s.body + 2 ≡ length x = omega (arith, ap length s.quoted, length-append s.body (34 ∷ [])) in
     subst (λ n. IsLongest (x ++ rest) (t.Text text) n) count (subst (λ l. IsLongest l (t.Text text) (length s.body + 2)) whole found)
 
 -- a regular expression
-regex_stands : (x rest body : List ℕ) → x ≡ 47 ∷ (body ++ 47 ∷ []) → body ≢ [] → IsRegexBody body → IsLongest (x ++ rest) (t.Regex body) (length x)
+regex_stands : (x rest body : List ℕ) → x ≡ 47 ∷ (body ++ 47 ∷ []) → body ≢ [] → IsRegexBody body
+    → IsLongest (x ++ rest) (t.Regex body) (length x)
 regex_stands x rest body e some stands =
     let taken = take-append_seam body (47 ∷ rest) in
     let more : 0 < length body = not_empty body some in
@@ -167,7 +173,8 @@ longest (t.Text text) x rest s ends = string_stands x rest text s.0
 longest (t.Regex body) x rest s ends = regex_stands x rest body s.0.0 s.0.1 s.0.2
 longest (t.Punctuation mark) x rest s ends =
     let e : mark_at (x ++ rest) ≡ Some mark = ap (λ l. mark_at (l ++ rest)) s.0 ∙ mark_stands mark rest ends in
-    subst (λ n. IsLongest (x ++ rest) (t.Punctuation mark) n) (sym (ap length s.0)) (mark_longest (x ++ rest) mark (begins (t.Punctuation mark) x rest s.0) e)
+    subst (λ n. IsLongest (x ++ rest) (t.Punctuation mark) n) (sym (ap length s.0))
+    (mark_longest (x ++ rest) mark (begins (t.Punctuation mark) x rest s.0) e)
 
 -- a spelling stands in a text as its token
 pub stands : (before x rest : List ℕ) (token : Token) → IsToken token x → Ends token rest

@@ -59,7 +59,8 @@ abbrev is_found : {X : Type 0} → (X → X → Bool) → Option X → X → Boo
 is_found same None x = false
 is_found same (Some y) x = same y x
 
-found_is : {X : Type 0} (same : X → X → Bool) → ((a b : X) → same a b ≡ true → a ≡ b) → (found : Option X) (x : X) → is_found same found x ≡ true → found ≡ Some x
+found_is : {X : Type 0} (same : X → X → Bool) → ((a b : X) → same a b ≡ true → a ≡ b)
+    → (found : Option X) (x : X) → is_found same found x ≡ true → found ≡ Some x
 found_is same equal None x h = absurd (cc)
 found_is same equal (Some y) x h = ap Some (equal y x h)
 
@@ -89,6 +90,7 @@ same_mark a b h = let e : Some a ≡ Some b = sym (named_mark a) ∙ ap (spelled
 
 -- a search of the list tells the reserved words
 pub either_way : (text : List ℕ) (found : Option Word) → IfSome found (λ word. text ≡ word_text word)
-    → IfNone found ((k : ℕ) (d : Word) → k < length all_words → text ≢ word_text (get_or all_words k d)) → MatchOption found (¬ IsReserved text) (λ word. text ≡ word_text word)
+    → IfNone found ((k : ℕ) (d : Word) → k < length all_words → text ≢ word_text (get_or all_words k d))
+    → MatchOption found (¬ IsReserved text) (λ word. text ≡ word_text word)
 either_way text None some none = not_reserved text none
 either_way text (Some word) some none = some

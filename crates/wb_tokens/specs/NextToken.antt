@@ -16,6 +16,15 @@ pub record IsTokenAt (text : List ℕ) (token : Token) (at end : ℕ) : Type 0 w
   pub in_range : HasValueInRange token
   pub longest : (other : Token) (later : ℕ) → end < later → later ≤ length text → ¬ Spells other (slice_range text at later)
 
+-- a token of the text begins at the first place or before it, and goes on over the second
+pub record GoesOver (text : List ℕ) (at end : ℕ) : Type 0 where
+  pub token : Token
+  pub from : ℕ
+  pub to : ℕ
+  pub begins : from ≤ at
+  pub over : end < to
+  pub stands : IsTokenAt text token from to
+
 -- the next token from a place on, after layout
 pub record NextToken (layout : Layout) (text : List ℕ) (from : ℕ) (token : Token) (at end : ℕ) : Type 0 where
   pub skipped : SkipsLayout layout text from at

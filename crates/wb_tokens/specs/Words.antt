@@ -1,5 +1,5 @@
 -- The reserved words and the punctuation, and how each is spelled.
-use Rattle.std.specs.Prelude.{◌≡◌, ℕ, List, codes}
+use Rattle.std.specs.Prelude.{ℕ, List, codes}
 use Rattle.wb_tokens.specs.declared.word.Word.{Word}
 use Rattle.wb_tokens.specs.declared.word.Word.TheVariants as w
 use Rattle.wb_tokens.specs.declared.punctuation.Punctuation.{Punctuation}

@@ -11,13 +11,16 @@ use Rattle.wb_predictive.specs.Entries.{Entry}
 use Rattle.wb_predictive.specs.Inner.Stack.{Stands, Any}
 use Rattle.wb_predictive.specs.Reading.{CannotFollow, place_of}
 
--- a token stood next behind the place and was taken, or the end stood there and the tokens are a text, or what stood there can't follow them
-abbrev pub StepIs : {K N A X V : Type 0} → (K → K → Bool) → K → (N → Entry K) → Grammar K N A X V → (ℕ → Next X → Type 0) → ℕ → V → List (Placed X) → List (Symbol K N A) → V → Step → Type 0
-StepIs {X = X} same end entries g IsNext from first read row now (Went to) = (x : Placed X) × IsNext from (Found x) × (x.end ≡ to) × Stands same end entries g first (read ++ x ∷ []) row now Any
+-- a token was next after the place and was taken, or the end was next and the tokens are a text, or what was next can't follow them
+abbrev pub StepIs : {K N A X V : Type 0} → (K → K → Bool) → K → (N → Entry K) → Grammar K N A X V
+    → (ℕ → Next X → Type 0) → ℕ → V → List (Placed X) → List (Symbol K N A) → V → Step → Type 0
+StepIs {X = X} same end entries g IsNext from first read row now (Went to) = (x : Placed X)
+    × IsNext from (Found x) × (x.end ≡ to) × Stands same end entries g first (read ++ x ∷ []) row now Any
 StepIs same end entries g IsNext from first read row now Done = (at : ℕ) × IsNext from (End at) × IsText g first read now
-StepIs {X = X} same end entries g IsNext from first read row now (Stuck at) = (next : Next X) × IsNext from next × CannotFollow g first read next × (place_of next ≡ at)
+StepIs {X = X} same end entries g IsNext from first read row now (Stuck at) = (next : Next X)
+    × IsNext from next × CannotFollow g first read next × (place_of next ≡ at)
 
--- a step goes on behind the place, within the text
+-- a step goes on after the place, within the text
 abbrev pub GoesOn : ℕ → ℕ → Step → Type 0
 GoesOn from long (Went to) = (from < to) × (to ≤ long)
 GoesOn from long Done = Unit {0}

@@ -9,8 +9,10 @@ returns-in-Token g c = record {
   ok = λ first read s.
       let t = g.T.Table in let same = g.T.Kind.PartialEq.eq in
       let row = reverse c.expand.new.stack.items in let now = c.expand.new.values in
-      let top = subst (λ top. TopIs same t.end_kind t.entries t.grammar c.end.result first read row now top) c.in-Token.is (c.in_ok-expand.ensures.ok first read s) in
-      let h = subst (λ kind. TopIs same t.end_kind t.entries t.grammar kind first read row now (Token c.in-Token.field-0)) c.end.ensures top in
+      let top = subst (λ top. TopIs same t.end_kind t.entries t.grammar c.end.result first read row now top) c.in-Token.is
+      (c.in_ok-expand.ensures.ok first read s) in
+      let h = subst (λ kind. TopIs same t.end_kind t.entries t.grammar kind first read row now
+      (Token c.in-Token.field-0)) c.end.ensures top in
       token_at_end same g.met.T.Table.same t.end_kind t.entries t.grammar g.met.T.Table.decided first read c.in-Token.field-0 row now h;
 }
 
@@ -19,7 +21,8 @@ returns-in-Bottom g c = record {
   ok = λ first read s.
       let t = g.T.Table in let same = g.T.Kind.PartialEq.eq in
       let row = reverse c.expand.new.stack.items in let now = c.expand.new.values in
-      let top = subst (λ top. TopIs same t.end_kind t.entries t.grammar c.end.result first read row now top) c.in-Bottom.is (c.in_ok-expand.ensures.ok first read s) in
+      let top = subst (λ top. TopIs same t.end_kind t.entries t.grammar c.end.result first read row now top) c.in-Bottom.is
+      (c.in_ok-expand.ensures.ok first read s) in
       let h = subst (λ kind. TopIs same t.end_kind t.entries t.grammar kind first read row now Bottom) c.end.ensures top in
       finished same g.met.T.Table.same t.end_kind t.entries t.grammar g.met.T.Table.decided first read now h;
 }
@@ -29,7 +32,8 @@ returns-in-Stuck g c = record {
   ok = λ first read s.
       let t = g.T.Table in let same = g.T.Kind.PartialEq.eq in
       let row = reverse c.expand.new.stack.items in let now = c.expand.new.values in
-      let top = subst (λ top. TopIs same t.end_kind t.entries t.grammar c.end.result first read row now top) c.in-Stuck.is (c.in_ok-expand.ensures.ok first read s) in
+      let top = subst (λ top. TopIs same t.end_kind t.entries t.grammar c.end.result first read row now top) c.in-Stuck.is
+      (c.in_ok-expand.ensures.ok first read s) in
       let h = subst (λ kind. TopIs same t.end_kind t.entries t.grammar kind first read row now Stuck) c.end.ensures top in
       none_ends same g.met.T.Table.same t.end_kind t.entries t.grammar g.met.T.Table.decided first read h;
 }

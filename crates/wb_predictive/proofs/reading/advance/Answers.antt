@@ -11,7 +11,9 @@ returns-then-branch-clause-ok g c = λ first read s.
       x,
       subst (λ n. t.IsNext c.args.text.now c.args.from n) c.in-Found.is c.in_ok-token.ensures.ok,
       refl,
-      subst (λ b. MatchBool b (Stands g.T.Kind.PartialEq.eq t.end_kind t.entries t.grammar first (read ++ x ∷ []) (reverse c.take.new.stack.items) c.take.new.values Any) (CanStart t.grammar first (read ++ x ∷ []) → ⊥)) c.if-branch.true (c.in_ok-take-in-Found.ensures.ok first read s),
+      subst (λ b. MatchBool b (Stands g.T.Kind.PartialEq.eq t.end_kind t.entries t.grammar first
+          (read ++ x ∷ []) (reverse c.take.new.stack.items) c.take.new.values Any)
+          (CanStart t.grammar first (read ++ x ∷ []) → ⊥)) c.if-branch.true (c.in_ok-take-in-Found.ensures.ok first read s),
     )
 
 pub returns-else-branch-clause-ok : goal.returns-else-branch-clause-ok
@@ -19,7 +21,9 @@ returns-else-branch-clause-ok g c = λ first read s.
     let t = g.T.Table in let x = c.in-Found.token in (
       Found x,
       subst (λ n. t.IsNext c.args.text.now c.args.from n) c.in-Found.is c.in_ok-token.ensures.ok,
-      subst (λ b. MatchBool b (Stands g.T.Kind.PartialEq.eq t.end_kind t.entries t.grammar first (read ++ x ∷ []) (reverse c.take.new.stack.items) c.take.new.values Any) (CanStart t.grammar first (read ++ x ∷ []) → ⊥)) c.if-branch.false (c.in_ok-take-in-Found.ensures.ok first read s),
+      subst (λ b. MatchBool b (Stands g.T.Kind.PartialEq.eq t.end_kind t.entries t.grammar first
+          (read ++ x ∷ []) (reverse c.take.new.stack.items) c.take.new.values Any)
+          (CanStart t.grammar first (read ++ x ∷ []) → ⊥)) c.if-branch.false (c.in_ok-take-in-Found.ensures.ok first read s),
       refl,
     )
 
@@ -28,7 +32,9 @@ returns-then-branch-2-clause-ok g c = λ first read s.
     let t = g.T.Table in (
       c.in-End.at,
       subst (λ n. t.IsNext c.args.text.now c.args.from n) c.in-End.is c.in_ok-token.ensures.ok,
-      subst (λ b. MatchBool b (IsText t.grammar first read c.finish.new.values) ((last : g.row.T-Values.Denot) → IsText t.grammar first read last → ⊥)) c.if-branch-2.true (c.in_ok-finish-in-End.ensures.ok first read s),
+      subst (λ b. MatchBool b (IsText t.grammar first read c.finish.new.values)
+          ((last : g.row.T-Values.Denot) → IsText t.grammar first read last → ⊥)) c.if-branch-2.true
+          (c.in_ok-finish-in-End.ensures.ok first read s),
     )
 
 pub returns-else-branch-2-clause-ok : goal.returns-else-branch-2-clause-ok
@@ -36,7 +42,9 @@ returns-else-branch-2-clause-ok g c = λ first read s.
     let t = g.T.Table in (
       End c.in-End.at,
       subst (λ n. t.IsNext c.args.text.now c.args.from n) c.in-End.is c.in_ok-token.ensures.ok,
-      subst (λ b. MatchBool b (IsText t.grammar first read c.finish.new.values) ((last : g.row.T-Values.Denot) → IsText t.grammar first read last → ⊥)) c.if-branch-2.false (c.in_ok-finish-in-End.ensures.ok first read s),
+      subst (λ b. MatchBool b (IsText t.grammar first read c.finish.new.values)
+          ((last : g.row.T-Values.Denot) → IsText t.grammar first read last → ⊥)) c.if-branch-2.false
+          (c.in_ok-finish-in-End.ensures.ok first read s),
       refl,
     )
 

@@ -9,7 +9,8 @@ invariant-read g l = record {
   within : l.from ≤ length l.text;
   read : List (Placed g.row.T-Token.Denot);
   spelled : Spells (g.T.Table.IsNext l.text) 0 read l.from;
-  stands : Stands g.T.Kind.PartialEq.eq g.T.Table.end_kind g.T.Table.entries g.T.Table.grammar l.fn.values read (reverse l.stack.items) l.made Any;
+  stands : Stands g.T.Kind.PartialEq.eq g.T.Table.end_kind g.T.Table.entries g.T.Table.grammar l.fn.values read
+      (reverse l.stack.items) l.made Any;
 }
 
 abbrev pub decreases-read : goal.decreases-read

@@ -7,7 +7,8 @@ use Rattle.wb_tokens.proofs.name.name.Goals as goal
 pub returns-in-Some : goal.returns-in-Some
 returns-in-Some c =
     let text = c.args.text.now in
-    rw c.name_len-length.ensures (name_longest text (t.Word c.in-Some.word) (begins_letter (get_or text 0 0) c.requires.begins) tt (rw c.name_len-length.ensures at c.in-Some.ensures))
+    rw c.name_len-length.ensures (name_longest text (t.Word c.in-Some.word) (begins_letter (get_or text 0 0) c.requires.begins) tt
+    (rw c.name_len-length.ensures at c.in-Some.ensures))
 
 pub returns : goal.returns
 returns c =
@@ -15,4 +16,8 @@ returns c =
     let begins = begins_letter (get_or text 0 0) c.requires.begins in
     let same = rw c.name_len-length.ensures at c.in_ok-name.ensures.ok in
     let free = rw c.name_len-length.ensures at c.in_default.ensures in
-    rw c.name_len-length.ensures (name_longest text (t.Name c.in_ok-name.name) begins tt (sym same, identifier text c.requires.some begins, free))
+    rw c.name_len-length.ensures (name_longest text (t.Name c.in_ok-name.name) begins tt (
+      sym same,
+      identifier text c.requires.some begins,
+      free,
+    ))

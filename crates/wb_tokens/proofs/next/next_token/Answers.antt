@@ -13,7 +13,11 @@ pub returns-in-Some-clause-only : goal.returns-in-Some-clause-only
 returns-in-Some-clause-only c = λ other h.
     let longest = rw take_rest at (rw c.in-Some.is at c.in_ok-token.ensures) in
     next_only c.args.layout c.args.text.now c.args.from other _ h
-    (record { skipped = c.skip_layout-at.ensures.skipped; stands = stands_at c.args.text.now c.skip_layout-at.result c.in-Some.length c.in-Some.token c.skip_layout-at.ensures.within longest })
+    (record {
+      skipped = c.skip_layout-at.ensures.skipped;
+      stands =
+          stands_at c.args.text.now c.skip_layout-at.result c.in-Some.length c.in-Some.token c.skip_layout-at.ensures.within longest;
+    })
 
 pub returns-in-None-clause-ok : goal.returns-in-None-clause-ok
 returns-in-None-clause-ok c =

@@ -13,4 +13,5 @@ loop-count-preserved c =
     regex_step c.args.x.now c.loop-count.at c.in-Some.count i.0 i.1 (sym (rw take_rest at c.in-Some.ensures))
 
 pub returns-else-has_byte : goal.returns-else-has_byte
-returns-else-has_byte c = regex_open c.args.x.now c.loop-count.at c.loop-count.invariant.1 (sym (rw take_rest at c.in_default.ensures)) (λ h. let e = c.if-has_byte.ensures.1 h in search rules)
+returns-else-has_byte c = regex_open c.args.x.now c.loop-count.at c.loop-count.invariant.1
+    (sym (rw take_rest at c.in_default.ensures)) (λ h. let e = c.if-has_byte.ensures.1 h in search rules)

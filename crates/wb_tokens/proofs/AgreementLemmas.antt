@@ -1,0 +1,156 @@
+-- Of two texts with the same beginning: what is read in the one, as long as it ends there, is read in the other.
+use Rattle.std.proofs.Common.{◌≡◌, ℕ, ◌+◌, ◌-◌, ◌<◌, ◌≤◌, List, ◌∷◌, ◌++◌, length, get_or, take, drop, refl, sym, ap, ◌∙◌, subst, arith, length-append, length-drop, ⊎_elim}
+use Rattle.std.proofs.lemmas.Bool.{cases_lt}
+use Rattle.std.proofs.lemmas.List.{get_or_append_left, get_or_at, take-append-le, drop-append-le}
+use Rattle.std.specs.Prelude.{slice_range}
+use Rattle.wb_predictive.specs.declared.table.Placed.{Placed}
+use Rattle.wb_predictive.specs.Reading as reading
+use Rattle.wb_predictive.specs.Reading.{none, next}
+use Rattle.wb_tokens.specs.NextToken.{IsTokenAt, NextToken, IsNextIn}
+use Rattle.wb_tokens.specs.Skipping.{is_blank, IsLayoutPiece, blank, comment, SkipsLayout, stop, skip}
+use Rattle.wb_tokens.specs.Spelling.{Spells}
+use Rattle.wb_tokens.specs.declared.token.Layout.{Layout}
+use Rattle.wb_tokens.specs.declared.token.Token.{Token}
+use Rattle.wb_tokens.proofs.LineFeedLemmas.{crosses_none}
+use Rattle.wb_tokens.proofs.NoPieceLemmas.{no_piece}
+use Rattle.wb_tokens.proofs.PlacedLaws.{layout_forward}
+
+-- a piece of the common beginning
+piece_of_first : (p u : List ℕ) (from to : ℕ) → from ≤ to → to ≤ length p → slice_range (p ++ u) from to ≡ slice_range p from to
+piece_of_first p u from to le within =
+    ap (take (to - from)) (drop-append-le from p u (omega arith))
+    ∙ take-append-le (to - from) (drop from p) u (omega (arith, length-drop from p))
+
+-- it is in both
+pub same_piece : (p u v : List ℕ) (from to : ℕ) → from ≤ to → to ≤ length p → slice_range (p ++ u) from to ≡ slice_range (p ++ v) from to
+same_piece p u v from to le within = piece_of_first p u from to le within ∙ sym (piece_of_first p v from to le within)
+
+-- a byte of it is in both
+same_byte : (p u v : List ℕ) (k : ℕ) → k < length p → get_or (p ++ u) k 0 ≡ get_or (p ++ v) k 0
+same_byte p u v k lt = get_or_append_left p u 0 k lt ∙ sym (get_or_append_left p v 0 k lt)
+
+-- the beginning is no longer than the text
+pub longer : (p v : List ℕ) → length p ≤ length (p ++ v)
+longer p v = omega (arith, length-append p v)
+
+-- the second text ends at the place, or has a line feed there
+abbrev pub EndsLine : List ℕ → ℕ → Type 0
+EndsLine text place = place < length text → get_or text place 0 ≡ 10
+
+-- a piece of layout
+kept_piece : (layout : Layout) (p u v : List ℕ) (from behind : ℕ) → IsLayoutPiece layout (p ++ u) from behind → behind ≤ length p
+    → (behind ≡ length p → EndsLine (p ++ v) behind) → IsLayoutPiece layout (p ++ v) from behind
+kept_piece layout p u v from behind (blank w is e) le line =
+    let lt : from < length p = omega (arith, e, le) in
+    blank (omega (arith, lt, longer p v)) (ap is_blank (sym (same_byte p u v from lt)) ∙ is) e
+kept_piece layout p u v from behind (comment l c) le line = comment l (record {
+  first = record {
+    within = omega (arith, c.ordered, le, longer p v);
+    is = sym (same_byte p u v from (omega (arith, c.ordered)))
+        ∙ c.first.is;
+  };
+  second = record {
+    within = omega (arith, c.ordered, le, longer p v);
+    is = sym (same_byte p u v (from + 1) (omega (arith, c.ordered)))
+        ∙ c.second.is;
+  };
+  ordered = c.ordered;
+  within = omega (arith, le, longer p v);
+  one_line = λ place low high e. c.one_line place low high (same_byte p u v place (omega arith) ∙ e);
+  ended = λ more. ⊎_elim
+      (λ lt. sym (same_byte p u v behind lt) ∙ c.ended (omega (arith, lt, longer p u)))
+      (λ ge. line (omega arith) more) (cases_lt behind (length p));
+})
+
+-- layout up to a place, and what is skipped from there on
+pub kept_layout : (layout : Layout) (p u v : List ℕ) (from at end : ℕ) → SkipsLayout layout (p ++ u) from at → at ≤ length p
+    → (at ≡ length p → EndsLine (p ++ v) at) → SkipsLayout layout (p ++ v) at end → SkipsLayout layout (p ++ v) from end
+kept_layout layout p u v from at end (stop n e) le line rest = subst (λ k. SkipsLayout layout (p ++ v) k end) (sym e) rest
+kept_layout layout p u v from at end (skip {behind = behind} piece s) le line rest =
+    let forward = layout_forward layout (p ++ u) behind at s in
+    skip (kept_piece layout p u v from behind piece (omega arith)
+    (λ e. let same : at ≡ behind = omega (arith, e, le, forward) in subst (λ k. EndsLine (p ++ v) k) same (line (same ∙ e))))
+    (kept_layout layout p u v behind at end s le line rest)
+
+-- layout up to a token
+pub kept_skip : (layout : Layout) (p u v : List ℕ) (from : ℕ) (x : Placed Token) → NextToken layout (p ++ u) from x.token x.at x.end
+    → x.end ≤ length p
+    → SkipsLayout layout (p ++ v) from x.at
+kept_skip layout p u v from x h le =
+    let lt = h.stands.ordered in
+    kept_layout layout p u v from x.at x.at h.skipped (omega arith) (λ e. absurd (omega (arith, e)))
+    (stop (no_piece layout (p ++ v) x.token x.at x.end (omega (arith, le, longer p v))
+    (subst (λ y. Spells x.token y) (same_piece p u v x.at x.end (omega arith) le) h.stands.spelled)) refl)
+
+-- a token, where the second text has a line feed next, or ends
+kept_token : (p u v : List ℕ) (token : Token) (at end : ℕ) → IsTokenAt (p ++ u) token at end → end ≤ length p → EndsLine (p ++ v) (length p)
+    → IsTokenAt (p ++ v) token at end
+kept_token p u v token at end h le line = record {
+  ordered = h.ordered;
+  within = omega (arith, le, longer p v);
+  spelled = subst (λ y. Spells token y) (same_piece p u v at end (omega (arith, h.ordered)) le) h.spelled;
+  in_range = h.in_range;
+  longest = λ other later lt within s. ⊎_elim
+      (λ over. crosses_none (p ++ v) other at later (length p) s within (omega (arith, h.ordered, le)) over
+      (line (omega (arith, over, within))))
+      (λ inside. h.longest other later lt (omega (arith, inside, longer p u))
+      (subst (λ y. Spells other y) (sym (same_piece p u v at later (omega (arith, lt, h.ordered)) inside)) s))
+      (cases_lt (length p) later);
+}
+
+-- tokens go forward
+pub spells_forward : (layout : Layout) (text : List ℕ) (from to : ℕ) (xs : List (Placed Token))
+    → reading.Spells (IsNextIn layout text) from xs to → from ≤ to
+spells_forward layout text from to xs (none e) = omega (arith, e)
+spells_forward layout text from to xs (next {x = x} {xs = rest} h r) =
+    let here = layout_forward layout text from x.at h.skipped in
+    let there = spells_forward layout text x.end to rest r in
+    omega (arith, here, there, h.stands.ordered)
+
+-- tokens up to a place, where the second text has a line feed next, or ends
+pub kept_tokens : (layout : Layout) (p u v : List ℕ) (from to : ℕ) (xs : List (Placed Token))
+    → reading.Spells (IsNextIn layout (p ++ u)) from xs to
+    → to ≤ length p → EndsLine (p ++ v) (length p) → reading.Spells (IsNextIn layout (p ++ v)) from xs to
+kept_tokens layout p u v from to xs (none e) le line = none e
+kept_tokens layout p u v from to xs (next {x = x} {xs = rest} h r) le line =
+    let inside : x.end ≤ length p = omega (arith, spells_forward layout (p ++ u) x.end to rest r) in
+    next (record { skipped = kept_skip layout p u v from x h inside; stands = kept_token p u v x.token x.at x.end h.stands inside line })
+    (kept_tokens layout p u v x.end to rest r le line)
+
+-- where layout stops, none begins
+stops : (layout : Layout) (text : List ℕ) (from at : ℕ) → SkipsLayout layout text from at
+    → (behind : ℕ) → ¬ IsLayoutPiece layout text at behind
+stops layout text from at (stop n e) behind = subst (λ k. ¬ IsLayoutPiece layout text k behind) e (n behind)
+stops layout text from at (skip {behind = after} piece s) behind = stops layout text after at s behind
+
+-- a piece of layout that begins before a line feed doesn't go over it
+piece_in_line : (layout : Layout) (p w : List ℕ) (from behind : ℕ) → IsLayoutPiece layout (p ++ 10 ∷ w) from behind → from < length p
+    → behind ≤ length p
+piece_in_line layout p w from behind (blank here is e) lt = omega (arith, e, lt)
+piece_in_line layout p w from behind (comment l c) lt =
+    let feed : get_or (p ++ 10 ∷ w) (length p) 0 ≡ 10 = get_or_at p 10 w 0 (length p) refl in
+    let more : from + 2 ≤ length p = ⊎_elim
+    (λ inside. omega (arith, inside))
+    (λ over. let same : from + 1 ≡ length p = omega (arith, over, lt) in
+    let e = sym c.second.is ∙ (ap (λ k. get_or (p ++ 10 ∷ w) k 0) same ∙ feed) in absurd (cc))
+    (cases_lt (from + 1) (length p)) in
+    ⊎_elim (λ over. absurd (c.one_line (length p) more over feed)) (λ inside. inside) (cases_lt (length p) behind)
+
+-- no token is at a place, and none is there where a line feed comes before the texts differ, or where the first text ends there
+pub kept_none : (layout : Layout) (p u w : List ℕ) (from at : ℕ) → SkipsLayout layout (p ++ u) from at
+    → at < length p → EndsLine (p ++ u) (length p)
+    → ((token : Token) (end : ℕ) → ¬ IsTokenAt (p ++ u) token at end)
+    → SkipsLayout layout (p ++ 10 ∷ w) from at × ((token : Token) (end : ℕ) → ¬ IsTokenAt (p ++ 10 ∷ w) token at end)
+kept_none layout p u w from at skipped lt line no_token = (
+  kept_layout layout p u (10 ∷ w) from at at skipped (omega arith) (λ e. absurd (omega (arith, e)))
+      (stop (λ behind piece.
+      let inside = piece_in_line layout p w at behind piece lt in
+      stops layout (p ++ u) from at skipped behind (kept_piece layout p (10 ∷ w) u at behind piece inside
+      (λ e. subst (λ k. EndsLine (p ++ u) k) (sym e) line))) refl),
+  (λ token end h.
+      let feed : get_or (p ++ 10 ∷ w) (length p) 0 ≡ 10 = get_or_at p 10 w 0 (length p) refl in
+      ⊎_elim
+      (λ over. crosses_none (p ++ 10 ∷ w) token at end (length p) h.spelled h.within (omega arith) over feed)
+      (λ inside. no_token token end (kept_token p (10 ∷ w) u token at end h inside line))
+      (cases_lt (length p) end)),
+)
