@@ -1,0 +1,51 @@
+//! What do nonterminals, attributes and their occurrences keep, by numbers?
+//!
+//! An attribute occurs on many nonterminals, each time with a flow type: the inherited attributes of that nonterminal that it needs.
+
+use wb_base::{Bytes, Kind, Sequence};
+
+/// A nonterminal.
+#[derive(Drop)]
+pub struct Nonterminal {
+    /// Its name, as its owner's file writes it.
+    pub name: Bytes,
+    /// Whose it is.
+    pub owner: usize,
+    /// The numbers of the inherited attributes that what its productions forward to may need.
+    pub forward_needs: Sequence<usize>,
+}
+
+/// Which way an attribute's values go in a tree.
+#[derive(Clone, Copy)]
+pub enum Direction {
+    /// Up: a production gives it to its top.
+    Synthesized,
+    /// Down: a production gives it to its children, locals and forwarded tree.
+    Inherited,
+}
+
+/// An attribute.
+#[derive(Drop)]
+pub struct Attribute {
+    /// Its name, as its owner's file writes it.
+    pub name: Bytes,
+    /// Whose it is.
+    pub owner: usize,
+    /// Which way its values go.
+    pub direction: Direction,
+    /// The kind of its values.
+    pub kind: Kind,
+}
+
+/// An attribute on a nonterminal.
+#[derive(Drop)]
+pub struct Occurrence {
+    /// Whose it is.
+    pub owner: usize,
+    /// The number of the attribute.
+    pub attribute: usize,
+    /// The number of the nonterminal.
+    pub nonterminal: usize,
+    /// Its flow type: the numbers of inherited attributes of the nonterminal. Empty for an inherited attribute.
+    pub needs: Sequence<usize>,
+}
