@@ -1,6 +1,6 @@
-//! How long is what is read at most?
+//! How long may a file be?
 //!
-//! The readers of specifications, texts and terms have this limit in common, and refuse what is longer before they read it.
+//! The program refuses what is longer before it reads it as anything. `wb_reader` and `wb_small_reader` have this number of their own.
 
 /// The most bytes that a file may have.
 pub const FILE_LIMIT: usize = 1_048_576;

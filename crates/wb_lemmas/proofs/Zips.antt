@@ -77,16 +77,16 @@ one_zip R one (x ∷ xs) (y ∷ ys) [] first second = absurd second
 one_zip R one (x ∷ xs) (y ∷ ys) (z ∷ zs) first second = ap (λ w. w ∷ ys) (one x y z first.0 second.0) ∙ ap (λ ws. z ∷ ws) (one_zip R one xs ys zs first.1 second.1)
 
 -- the first part of the second list, where the first is two joined
-pub zip_front : {A B : Type 0} (R : A → B → Type 0) (xs us : List A) (ys : List B) → AllZip R (xs ++ us) ys → AllZip R xs (take (length xs) ys)
-zip_front R [] us ys all = tt
-zip_front R (x ∷ xs) us [] all = absurd all
-zip_front R (x ∷ xs) us (y ∷ ys) all = (all.0, zip_front R xs us ys all.1)
+pub zip_take : {A B : Type 0} (R : A → B → Type 0) (xs us : List A) (ys : List B) → AllZip R (xs ++ us) ys → AllZip R xs (take (length xs) ys)
+zip_take R [] us ys all = tt
+zip_take R (x ∷ xs) us [] all = absurd all
+zip_take R (x ∷ xs) us (y ∷ ys) all = (all.0, zip_take R xs us ys all.1)
 
 -- the second part of the second list, where the first is two joined
-pub zip_back : {A B : Type 0} (R : A → B → Type 0) (xs us : List A) (ys : List B) → AllZip R (xs ++ us) ys → AllZip R us (drop (length xs) ys)
-zip_back R [] us ys all = all
-zip_back R (x ∷ xs) us [] all = absurd all
-zip_back R (x ∷ xs) us (y ∷ ys) all = zip_back R xs us ys all.1
+pub zip_drop : {A B : Type 0} (R : A → B → Type 0) (xs us : List A) (ys : List B) → AllZip R (xs ++ us) ys → AllZip R us (drop (length xs) ys)
+zip_drop R [] us ys all = all
+zip_drop R (x ∷ xs) us [] all = absurd all
+zip_drop R (x ∷ xs) us (y ∷ ys) all = zip_drop R xs us ys all.1
 
 -- what is at one place of both lists is related
 pub zip_both_at : {A B : Type 0} (R : A → B → Type 0) (xs : List A) (ys : List B) (i : ℕ) (x : A) (y : B) → AllZip R xs ys → slice_get xs i ≡ Some x → slice_get ys i ≡ Some y → R x y

@@ -1,4 +1,6 @@
-//! Lists and stacks with which a builder keeps what it has read, seen by contracts as their values and nothing else.
+//! With which lists and stacks does a builder keep what it has read?
+//!
+//! Contracts see them as their values and nothing else. Lists that don't grow are `wb_base::Sequence`.
 #![tactic(auto)]
 
 mod list;

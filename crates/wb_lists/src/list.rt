@@ -1,4 +1,6 @@
-//! A list that grows at its end, and can be taken out as a whole.
+//! How are values kept in order, until all are taken at once?
+//!
+//! A builder hands its list on without memory and goes on with an empty one. Values that are taken one by one are in `stack`.
 
 ghost use Rattle.std.specs.Prelude.{◌≡◌, ◌++◌, ◌∷◌, [], OnOk, length};
 

@@ -1,4 +1,6 @@
-//! A stack, seen from its top.
+//! How are values kept of which the last is taken first?
+//!
+//! Contracts see the stack from its top, as an action of a table speaks of it. Values that are taken all at once are in `list`.
 
 ghost use Rattle.std.specs.Prelude.{◌≡◌, ◌∷◌, [], OnOk, MatchOption};
 

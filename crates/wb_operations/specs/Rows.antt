@@ -1,6 +1,7 @@
 -- What the standard operations give, in whole numbers: the code is 1 outside 64 bits, 2 for a zero divisor, 3 for a text that is no
 -- number, and 4 for a text that is too long.
-use Rattle.std.specs.Prelude.{◌^◌, ◌&&◌, ℕ, zero, suc, ℤ, pos, negsuc, Bool, true, false, List, ◌++◌, length, drop, nat_lt, nat_le, if◌then◌else◌, int_div, int_rem}
+use Rattle.std.specs.Prelude.{◌^◌, ◌&&◌, ℕ, zero, suc, ℤ, pos, negsuc, Bool, true, false, if◌then◌else◌, int_div, int_rem}
+use Rattle.std.specs.Prelude.{List, ◌++◌, length, drop, nat_lt, nat_le}
 use Rattle.std.specs.Char.{is_ascii_digit}
 use Rattle.std.specs.List.{list_all}
 use Rattle.std.specs.Str.Parse.{digits_value, starts_with_minus}

@@ -8,7 +8,8 @@ use Rattle.wb_base.specs.declared.symbol.Kind.TheVariants as kind
 use Rattle.wb_values.specs.Tree.{Plain, int, bool, text}
 use Rattle.wb_operations.specs.Given.{Given, gives, fails}
 use Rattle.wb_operations.specs.Operations.{OperationSignature}
-use Rattle.wb_operations.specs.Takes.{one_int, two_ints, one_bool, two_bools, one_text, two_texts, of_int, of_ints, of_bool, of_bools, of_text, of_texts}
+use Rattle.wb_operations.specs.Takes.{one_int, two_ints, one_bool, two_bools, one_text, two_texts}
+use Rattle.wb_operations.specs.Takes.{of_int, of_ints, of_bool, of_bools, of_text, of_texts}
 use Rattle.wb_operations.specs.Rows.{inside, quotient, remainder, joined, number_of}
 
 -- an operation: its signature, and what it gives

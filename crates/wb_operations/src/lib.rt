@@ -1,7 +1,6 @@
-//! Stored operations: a table of operations with a meaning, and the sixteen standard ones.
+//! Which operations are there, and what does one answer?
 //!
-//! What each operation number gives on each list of plain values is a `Meaning`, which has no code. Whoever calls a table's operations
-//! knows their answers by that meaning alone, so what holds of an evaluation holds for every table.
+//! What is meant is a `Meaning`, which has no code, so that what holds of an evaluation holds for every table. Values are in `wb_values`.
 #![tactic(auto)]
 
 pub mod arithmetic;

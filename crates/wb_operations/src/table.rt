@@ -1,7 +1,6 @@
 //! How are operations looked up and called, whatever they mean?
 //!
-//! The standard ones need no closures; others are boxed by the caller. That all answer what M means is the clause `kept` of each
-//! call: a type cannot keep it beside a boxed closure.
+//! That all answer what M means is the clause `kept` of each call, since no type keeps it beside a boxed closure. Names: `signatures`.
 
 ghost use Rattle.std.specs.Prelude.{◌≡◌, ◌+◌, ◌<◌, List, [], ◌∷◌, ◌++◌, All, length, IfOk, OnErr, OnOk, IfSome, IfNone, Some, slice_get};
 ghost use Rattle.wb_values.specs.Kinds.{AreOfKinds};

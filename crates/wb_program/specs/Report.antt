@@ -24,7 +24,8 @@ pub record IsUsage (words : List (List ℕ)) (status : Status) (bytes : List ℕ
   pub line : bytes ≡ usage_line
 
 -- the words ask for a command, and this is its report
-pub record IsAnswered (operations : Operations) (words : List (List ℕ)) (known : Option Files) (status : Status) (bytes : List ℕ) : Type 0 where
+pub record IsAnswered (operations : Operations) (words : List (List ℕ)) (known : Option Files) (status : Status) (bytes : List ℕ)
+    : Type 0 where
   pub asked : Asked
   pub asks : Asks words asked
   pub report : IsReportOf operations known status bytes asked

@@ -1,7 +1,8 @@
 -- The numbers of statuses.
 use Rattle.std.specs.Prelude.{ℕ}
 use Rattle.wb_program.specs.declared.status.Status.{Status}
-use Rattle.wb_program.specs.declared.status.Status.TheVariants.{Done, Usage, SpecRefused, OperationFault, Absent, ReadFault, WriteFault, NoMemory, UnknownAttribute}
+use Rattle.wb_program.specs.declared.status.Status.TheVariants.{Done, Usage, SpecRefused, OperationFault, UnknownAttribute}
+use Rattle.wb_program.specs.declared.status.Status.TheVariants.{Absent, ReadFault, WriteFault, NoMemory}
 
 -- the number that a process with this status ends with
 abbrev pub number_of : Status → ℕ

@@ -1,5 +1,6 @@
 -- Which words ask what: the command first, then its options in any order, then files and names.
-use Rattle.std.specs.Prelude.{◌≡◌, ◌≢◌, ◌≤◌, ◌⊎◌, ◌++◌, ◌-◌, ◌^◌, ℕ, List, [], ◌∷◌, All, Contains, Some, map, slice_get, String, string_bytes}
+use Rattle.std.specs.Prelude.{◌≡◌, ◌≢◌, ◌≤◌, ◌⊎◌, ◌++◌, ◌-◌, ◌^◌, ℕ, List, [], ◌∷◌, All, Contains, Some}
+use Rattle.std.specs.Prelude.{map, slice_get, String, string_bytes}
 use Rattle.std.specs.Str.Parse.{IsNumeral, digits_value}
 use Rattle.std.specs.declared.alloc.Global.{Global}
 use lib.Chars.{codes}

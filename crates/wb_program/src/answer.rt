@@ -1,4 +1,7 @@
-//! What `value` and words that are no command answer: a status with its report, or the reason why a run ends without one.
+//! What does `value` answer, and what is answered to words that are no command?
+//!
+//! A status with its report, which is made whole before its first byte is written. `show` is in `show`, the lines in `lines`.
+
 ghost use Rattle.std.specs.Prelude.{◌≡◌, IfOk, IfErr, [], ◌∷◌};
 ghost use Rattle.wb_small.specs.SmallSpec.{IsSmallSpec};
 ghost use Rattle.wb_small.specs.SmallTerm.{IsSmallTerm};

@@ -1,4 +1,7 @@
-//! The files of small hosts and small terms, read from a shelf.
+//! Which small host, or small term of it, is in a file?
+//!
+//! Each is one answer about the file, so that reports don't speak of its pieces. How a file is read is in `reading`.
+
 ghost use Rattle.std.specs.Prelude.{◌≡◌, IfOk, IfErr, IfSome};
 ghost use Rattle.wb_small.specs.SmallSpec.{IsSmallSpec};
 ghost use Rattle.wb_small.specs.SmallTerm.{IsSmallTerm};

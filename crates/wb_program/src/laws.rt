@@ -1,4 +1,7 @@
-//! Laws of what words ask for and of what is reported and shown.
+//! Do words and files allow more than one report?
+//!
+//! The contract of `workbench` says that what is written is a report; these say that there is one at most. There is nothing to run.
+
 ghost use Rattle.wb_program.specs.Laws.{AskOneThing, HaveOneStatus, HaveOneText};
 ghost use Rattle.wb_program.specs.ShownAgain.{IsStable};
 

@@ -1,8 +1,6 @@
-//! The program as one call: from words and files to a status and the bytes of a report.
+//! Which status and which report do words and files give?
 //!
-//! `workbench` reads the words, then the files in the order in which they are tested, makes the whole report, and
-//! writes it. Its contract holds for every shelf and sink, and gives each status but want of memory its cause. What hosts and terms are
-//! is read in `wb_small_reader`, and attributes are evaluated in `wb_eval`.
+//! One call, `workbench`, over any shelf and sink, so that its contract is the whole program's. Small hosts are in `wb_small_reader`.
 #![tactic(auto)]
 
 mod answer;

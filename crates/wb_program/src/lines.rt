@@ -1,4 +1,7 @@
-//! How the lines of reports are written. Which line a command gives is its own choice.
+//! How are the lines of reports written?
+//!
+//! Each is a definition of `specs/Lines`, so that its bytes are promised once. Which line a command gives is in `answer` and `show`.
+
 ghost use Rattle.std.specs.Prelude.{◌≡◌, ◌++◌, IfOk};
 ghost use lib.Chars.{codes};
 ghost use Rattle.wb_reader.specs.OneAnswer.{IsNoMemory};

@@ -1,4 +1,7 @@
-//! The top call: from words and files to a status and the bytes of a report.
+//! What does a run of the program do, from its words to its status?
+//!
+//! The report is made before anything is written, so that a fault leaves a prefix of it. The answers are in `answer` and `show`.
+
 ghost use Rattle.std.specs.Prelude.{◌≡◌, ◌⊎◌, IfOk, IfErr};
 ghost use Rattle.wb_world.specs.Cause.{Rose};
 ghost use Rattle.wb_operations.specs.Kept.{IsKept};

@@ -1,4 +1,7 @@
-//! A file, read in pieces until its end or one byte past its limit, so that no file is read for ever.
+//! What is in a file, up to a limit?
+//!
+//! It is read in pieces until its end or one byte past the limit, so that no file is read for ever. What the bytes are is found elsewhere.
+
 ghost use Rattle.std.specs.Prelude.{◌≡◌, ◌≤◌, ◌<◌, ◌+◌, length, take, vec_len, IfOk, OnOk, IfErr};
 ghost use Rattle.wb_program.specs.Files.{KnownFile};
 ghost use Rattle.wb_program.specs.Inner.Contents.{ContentsAre, KnownPrefix};

@@ -1,4 +1,7 @@
-//! What `show SPEC` answers: the canonical text of a specification, or why the file isn't one.
+//! What does `show SPEC` answer?
+//!
+//! The canonical text, or why the file isn't a specification: both come from `wb_printer` and `wb_reader`, and become a report here.
+
 ghost use Rattle.std.specs.Prelude.{◌≡◌, IfOk, IfErr, [], ◌∷◌};
 ghost use Rattle.wb_reader.specs.OneAnswer.{IsNoMemory};
 ghost use Rattle.wb_program.specs.Asked.{specification};

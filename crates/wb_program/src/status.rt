@@ -1,3 +1,7 @@
+//! How can a run end?
+//!
+//! Each status has a number of its own, so that a script can tell them apart. Which comes when is in `program`.
+
 ghost use Rattle.std.specs.Prelude.{◌≡◌};
 ghost use Rattle.wb_program.specs.StatusNumber.{number_of};
 

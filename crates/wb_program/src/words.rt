@@ -1,4 +1,7 @@
-//! Which command the words of the command line ask for, where they ask for one that is built.
+//! Which command do the words ask for, where they ask for one that is built?
+//!
+//! Commands that aren't built are usage errors until they are. What each of all commands asks is in `specs/Words`.
+
 ghost use Rattle.std.specs.Prelude.{◌↔◌, IsTrue, IfSome, IfNone};
 ghost use Rattle.wb_program.specs.Words.{texts, IsPositional, Asks, InCommandSet};
 ghost use Rattle.wb_program.specs.Inner.Commands.{asked_by, AreValue, AreShow};

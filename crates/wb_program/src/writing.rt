@@ -1,4 +1,7 @@
-//! A report, written in as many calls as the sink asks for, since a sink may take less than it is given.
+//! How is a report written whole?
+//!
+//! In as many calls as the sink asks for, since it may take less than it is given. What is written is made in `answer` and `show`.
+
 ghost use Rattle.std.specs.Prelude.{◌≡◌, ◌≤◌, OnOk, OnErr};
 ghost use Rattle.std.specs.Io.KnownBytes.{append_known};
 ghost use Rattle.wb_world.specs.Cause.{Rose};

@@ -1,5 +1,6 @@
 -- The concrete grammar of a resolved specification, and that all is numbered by it.
-use Rattle.std.specs.Prelude.{◌≡◌, ◌≢◌, ◌⊎◌, ◌<◌, ◌≤◌, ◌↔◌, ℕ, List, Option, Some, None, Contains, map, option_map, length, slice_get}
+use Rattle.std.specs.Prelude.{◌≡◌, ◌≢◌, ◌⊎◌, ◌<◌, ◌≤◌, ◌↔◌, ℕ, List, Option, Some, None, Contains, IfSome, map, option_map, length}
+use Rattle.std.specs.Prelude.{slice_get}
 use Rattle.wb_base.specs.declared.symbol.Kind.TheVariants as kind
 use Rattle.wb_base.specs.declared.symbol.Symbol.{Symbol}
 use Rattle.wb_base.specs.declared.symbol.Symbol.TheVariants as symbol
@@ -14,7 +15,7 @@ use Rattle.wb_resolved.specs.declared.production.ProductionRole.TheVariants.{Con
 use Rattle.wb_resolved.specs.declared.resolved.ResolvedParts.{ResolvedParts}
 use Rattle.wb_resolved.specs.declared.terminal.Terminal.{Terminal}
 use Rattle.wb_resolved.specs.declared.terminal.TerminalKind.TheVariants.{Ignore}
-use Rattle.wb_resolved.specs.Numbered.{IsInParts}
+use Rattle.wb_resolved.specs.Numbered.{IsGrouped}
 
 -- the nonterminal is on the left of the production, or one of its children is a tree of it
 abbrev pub IsIn : Production → ℕ → Type 0
@@ -58,13 +59,9 @@ pub record IsGrammarOf (r : ResolvedParts) (g : GrammarView) : Type 0 where
   pub productions_are : (p : ℕ) (production : Production) (plain : ℕ × List Symbol) → slice_get r.attributes.productions p ≡ Some production
       → slice_get g.productions p ≡ Some plain → IsGrammarProduction production plain
 
--- the grammar is that of the resolved specification, where it has a start
-abbrev pub IsGrammarWhere : ResolvedParts → Option GrammarView → Type 0
-IsGrammarWhere r None = Unit {0}
-IsGrammarWhere r (Some g) = IsGrammarOf r g
-
--- layout comes after the other terminals, what is abstract alone after the nonterminals of the grammar, and all go by owner
+-- layout comes after the other terminals, and what is abstract alone after the nonterminals of the grammar, each of these groups by owner;
+-- and the grammar, where there is one, has these numbers
 pub record IsNumberedAll (r : ResolvedParts) : Type 0 where
-  pub terminals : IsInParts (λ (t : Terminal). t.owner) (λ k t. t.kind ≢ Ignore) r.terminals
-  pub nonterminals : IsInParts (λ (n : Nonterminal). n.owner) (λ k n. IsOfGrammar r k) r.attributes.nonterminals
-  pub grammar : IsGrammarWhere r r.grammar
+  pub terminals : IsGrouped (λ (t : Terminal). t.owner) (λ k t. t.kind ≢ Ignore) r.terminals
+  pub nonterminals : IsGrouped (λ (n : Nonterminal). n.owner) (λ k n. IsOfGrammar r k) r.attributes.nonterminals
+  pub grammar : IfSome r.grammar (IsGrammarOf r)

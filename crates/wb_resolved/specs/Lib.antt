@@ -8,13 +8,13 @@ pub mod Visible
 pub mod Named
 -- that extensions declare and write only what they may
 pub mod Owned
--- that nothing is declared twice
+-- that nothing is declared twice where one owner sees it
 pub mod Once
--- that all is numbered in order, with the signatures
+-- that productions and attributes are numbered in order, with the signatures
 pub mod Numbered
 -- what is an attribution
 pub mod Attribution
--- the concrete grammar, and the numbers by it
+-- the concrete grammar, and the numbers of nonterminals and terminals by it
 pub mod Grammar
 -- what is a resolved specification
-pub mod Whole
+pub mod Resolved

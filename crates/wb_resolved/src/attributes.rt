@@ -1,6 +1,6 @@
 //! What do nonterminals, attributes and their occurrences keep, by numbers?
 //!
-//! An attribute occurs on many nonterminals, each time with a flow type: the inherited attributes of that nonterminal that it needs.
+//! An occurrence has a flow type, so that one production is tested without the others. Which numbers are in range is in `specs/Named`.
 
 use wb_base::{Bytes, Kind, Sequence};
 

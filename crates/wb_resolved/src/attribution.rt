@@ -1,6 +1,7 @@
 //! Which lists are the attributes of a host with extensions?
 //!
-//! Those in which each name is declared and of the right kind, and nothing is declared twice, so that no reader has to test it.
+//! Those in which each name is seen where it is written and is of the right kind, and extensions keep to what they may, so that no reader
+//! has to test it. Which nonterminals come first is in `specs/Grammar`.
 
 ghost use Rattle.std.specs.Prelude.{◌≡◌, IfOk};
 ghost use Rattle.wb_resolved.specs.Attribution.{IsAttribution};
@@ -31,9 +32,10 @@ pub struct AttributionParts {
 
 /// The attributes of a host, of a host with one extension, or of a host with many, on all its productions.
 ///
-/// Nonterminals, attributes and productions are numbered from 0 on. Concrete productions come first, and each part goes by owner. Each
-/// name is declared and of the kind that its place asks for, operations aside; extensions declare and write only what they may; no
-/// attribute occurs twice on a nonterminal, and no two equations of a production are for the same.
+/// Nonterminals, attributes and productions are numbered from 0 on. Concrete productions come before abstract ones, each by owner, and
+/// attributes go by owner; a resolved specification keeps the order of nonterminals. Each name is declared where its writer sees it, and
+/// is of the right kind, operations and numbers of terminals aside; extensions declare and write only what they may; no attribute
+/// occurs twice on a nonterminal, and no two equations of a production are for the same.
 #[derive(Drop)]
 pub struct Attribution {
     parts: Rc<AttributionParts>,

@@ -1,6 +1,6 @@
 //! What does a production keep, by numbers?
 //!
-//! Its children and locals with their labels, and all equations that the host and the extensions write on it.
+//! All that is written on it is in one row, so that it is tested by itself. What an owner may write there is in `specs/Owned`.
 
 use crate::{Equation, Node};
 use wb_base::{Bytes, Kind, Sequence};
@@ -17,7 +17,7 @@ pub enum ProductionRole {
 /// What a child is.
 #[derive(Clone, Copy)]
 pub enum ChildKind {
-    /// The terminal of this number, whose value is the text of its lexeme.
+    /// The terminal of this number, whose value is the text of its lexeme. In range where a resolved specification has it.
     Terminal(usize),
     /// A value of this kind.
     Value(Kind),
@@ -69,10 +69,10 @@ pub struct Production {
     pub left: usize,
     /// Its children, from left to right.
     pub children: Sequence<Child>,
-    /// Its locals, the host's and those of extensions.
+    /// Its locals, of all owners that see it, in any order.
     pub locals: Sequence<Local>,
     /// What it forwards to, where it does.
     pub forward: Option<Forward>,
-    /// Its equations for attributes, the host's and those of extensions.
+    /// Its equations for attributes, of all owners that see it, in any order.
     pub equations: Sequence<Equation>,
 }

@@ -3,7 +3,7 @@
 //! Those whose attributes are an attribution and whose grammar and terminals fit it.
 
 ghost use Rattle.std.specs.Prelude.{◌≡◌, IfOk};
-ghost use Rattle.wb_resolved.specs.Whole.{IsResolved};
+ghost use Rattle.wb_resolved.specs.Resolved.{IsResolved};
 
 use crate::{Attribution, Preference, Terminal};
 use std::alloc::{AllocError, Global};
@@ -20,9 +20,9 @@ pub struct ResolvedParts {
     pub grammar: Option<Grammar>,
     /// The terminals, by number: those of the grammar, then layout.
     pub terminals: Sequence<Terminal>,
-    /// The preferences, in any order.
+    /// The preferences, each once, in any order.
     pub preferences: Sequence<Preference>,
-    /// The numbers of the nonterminals to which extensions may add productions.
+    /// The numbers of the host's nonterminals to which extensions may add productions, each once.
     pub extensible: Sequence<usize>,
     /// Its attributes.
     pub attributes: Attribution,
@@ -31,8 +31,8 @@ pub struct ResolvedParts {
 /// A host, a host with one extension, or a host with many, whose names are numbers.
 ///
 /// Terminals and nonterminals of the grammar come first, with the numbers that they have there; layout, and nonterminals that are
-/// abstract alone, follow; each part goes by owner. Each name is declared and of the kind that its place asks for, operations aside, and
-/// nothing is declared twice.
+/// abstract alone, follow; each of these groups goes by owner. Each name is declared and of the kind that its position asks for, operations
+/// aside, and nothing is declared twice by owners of whom one sees the other.
 #[derive(Drop)]
 pub struct Resolved {
     parts: Rc<ResolvedParts>,
@@ -43,7 +43,7 @@ impl Model for Resolved {
     ghost use Rattle.std.specs.Rc.{rc_value};
     ghost use Rattle.wb_regex.specs.contracts.regex.Regex as regex;
     ghost use Rattle.wb_resolved.specs.declared.resolved.ResolvedParts.{ResolvedParts};
-    ghost use Rattle.wb_resolved.specs.Whole.{IsResolved};
+    ghost use Rattle.wb_resolved.specs.Resolved.{IsResolved};
 
     ghost Value = { ResolvedParts };
 

@@ -1,6 +1,7 @@
 //! What does a terminal keep, by numbers?
 //!
-//! Layout is numbered on after the terminals of the grammar.
+//! Layout is numbered on after the terminals of the grammar, so that one list has all that is scanned. What holds of it is in
+//! `specs/Resolved`.
 
 use wb_base::Bytes;
 use wb_regex::Regex;
@@ -12,7 +13,7 @@ pub enum TerminalKind {
     Plain,
     /// Layout, which is skipped.
     Ignore,
-    /// It is of the grammar, and begins an extension's production on a host's nonterminal.
+    /// A marker: it is of the grammar, and an extension's.
     Marking,
 }
 

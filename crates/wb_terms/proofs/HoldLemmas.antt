@@ -24,7 +24,7 @@ use Rattle.wb_terms.specs.Inner.Smallest.{smaller_of}
 use Rattle.wb_terms.specs.Inner.Built.{IsNumberOf, IsBuiltValue, AreBuilt, IsStored, IsKnown, FitsIfKnown, FindsUnknown, FindsWrong}
 use Rattle.wb_terms.specs.Inner.Holding.{AreFrames, Holds, AddsValue}
 use Rattle.wb_terms.proofs.LeastLemmas.{either, lesser_least, same_least}
-use Rattle.wb_lemmas.proofs.Zips.{zip_weaker, zip_front, zip_back}
+use Rattle.wb_lemmas.proofs.Zips.{zip_weaker, zip_take, zip_drop}
 
 -- a value stands for the same among more trees
 value_stable : (ts r : List Tree) (x : Value) → IsIn (length ts) x → value_in (ts ++ r) x ≡ value_in ts x
@@ -121,7 +121,7 @@ module _ (ss : List Signature) (ts : List Tree) (name : List ℕ) (place : ℕ) 
     number = s.framed.0;
     here = s.framed.1;
     valued =
-        subst (λ n. AllZip (IsStored ss ts) met (drop n values)) (sym start) (zip_back (IsStored ss ts) (all_met outer) met values s.valued);
+        subst (λ n. AllZip (IsStored ss ts) met (drop n values)) (sym start) (zip_drop (IsStored ss ts) (all_met outer) met values s.valued);
     placed =
         subst (λ n. map place_of met ≡ drop n places) (sym long) (subst (λ l. map place_of met ≡ drop (length (map place_of (all_met outer))) l) apart (sym (drop-append_seam (map place_of (all_met outer)) (map place_of met))));
   }
@@ -131,7 +131,7 @@ module _ (ss : List Signature) (ts : List Tree) (name : List ℕ) (place : ℕ) 
   outer_shape = record {
     framed = s.framed.3;
     valued =
-        subst (λ n. AllZip (IsStored ss ts) (all_met outer) (take n values)) (sym start) (zip_front (IsStored ss ts) (all_met outer) met values s.valued);
+        subst (λ n. AllZip (IsStored ss ts) (all_met outer) (take n values)) (sym start) (zip_take (IsStored ss ts) (all_met outer) met values s.valued);
     placed =
         subst (λ n. map place_of (all_met outer) ≡ take n places) (sym long) (subst (λ l. map place_of (all_met outer) ≡ take (length (map place_of (all_met outer))) l) apart (sym (take-append_seam (map place_of (all_met outer)) (map place_of met))));
   }

@@ -12,7 +12,7 @@ pub either : {A B C : Type 0} → (A → C) → (B → C) → A ⊎ B → C
 either f g (inl a) = f a
 either f g (inr b) = g b
 
--- what holds of both holds of the lesser
+-- what holds of both holds of the smaller
 of_min : (Q : ℕ → Type 0) (m n : ℕ) → Q m → Q n → Q (min m n)
 of_min Q m n a b = either (λ (e : min m n ≡ m). rw e a) (λ (e : min m n ≡ n). rw e b) (min_is m n)
 

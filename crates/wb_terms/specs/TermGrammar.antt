@@ -29,7 +29,8 @@ mutual
   pub data IsTerm : Term → Tokens → Tokens → Type 0 where
     whole : {name : List ℕ} {place : ℕ} {arguments : Arguments} {tokens inner rest : Tokens} {opening closing : Placed Token}
         → IsHead name place tokens (opening ∷ inner) → Is (t.Punctuation p.OpenParenthesis) opening
-        → AreArguments arguments inner (closing ∷ rest) → Is (t.Punctuation p.CloseParenthesis) closing → IsTerm (named name place arguments) tokens rest
+        → AreArguments arguments inner (closing ∷ rest) → Is (t.Punctuation p.CloseParenthesis) closing
+        → IsTerm (named name place arguments) tokens rest
 
   -- nothing, or an argument and more
   pub data AreArguments : Arguments → Tokens → Tokens → Type 0 where

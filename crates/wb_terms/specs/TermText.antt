@@ -1,4 +1,4 @@
--- Which bytes are which term, and where bytes that are none first go wrong.
+-- Which bytes are which term, and where bytes that are none have their first error.
 use Rattle.std.specs.Prelude.{◌≡◌, ℕ, List, [], ◌∷◌, ◌++◌}
 use Rattle.wb_predictive.specs.declared.table.Next.{Next}
 use Rattle.wb_predictive.specs.declared.table.Next.TheVariants.{Found, End, NoToken}

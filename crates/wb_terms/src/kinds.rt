@@ -1,6 +1,6 @@
 //! Where does a node of a term not fit the signature of its production?
 //!
-//! Asked once for each node, when it ends. Which of several faults is reported is found by `least`.
+//! Asked once for each node, when it ends. Which of several faults is reported is found by `smallest`.
 
 ghost use Rattle.std.specs.Prelude.{◌≡◌, ◌↔◌, ◌<◌, ◌≤◌, ℕ, List, All, length, map, IsTrue, slice_get, Some};
 ghost use Rattle.std.specs.List.{AllZip};

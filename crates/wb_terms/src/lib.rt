@@ -1,8 +1,6 @@
-//! Terms: which texts they are, the trees that they stand for, and how values are printed.
+//! Which texts are terms, for which trees do they stand, and how are values printed?
 //!
-//! A term is a text of names, numbers, truth values and strings, as `add(lit(1), lit(-2))`. What it is made of is in
-//! `specs/Term.antt`, which bytes are one in `specs/TermText.antt`, which tree of given signatures it stands for in
-//! `specs/TreeOf.antt`, and what is printed in `specs/Printed.antt`. What trees mean is no matter of this crate.
+//! Each is one exact answer, defined in `specs/Term`, `TermText`, `TreeOf` and `Printed`. What trees mean is no matter of this crate.
 #![tactic(auto)]
 
 mod builder;

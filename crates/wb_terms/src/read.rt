@@ -1,4 +1,4 @@
-//! Which tree do some bytes stand for as a term, and where do they go wrong?
+//! Which tree do some bytes stand for as a term, or where is their first error?
 //!
 //! What is met in the text comes from `reading`, and trees are made by `builder`; a refusal takes them back.
 

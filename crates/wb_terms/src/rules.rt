@@ -1,9 +1,6 @@
-//! The grammar of terms, as a table.
+//! Which rules has the grammar of terms as a table?
 //!
-//! ```text
-//! term     = NAME [':' NAME] '(' [argument (',' argument)*] ')'
-//! argument = term | INT | STRING | 'true' | 'false'
-//! ```
+//! They are those of `specs/TermGrammar` with actions between the symbols. What is made of the actions is in `events`.
 
 use wb_predictive::Rule;
 use wb_predictive::Symbol::{Act, Nonterminal, Token};

@@ -5,7 +5,7 @@
 ghost use Rattle.std.specs.Prelude.{◌≡◌};
 ghost use Rattle.wb_terms.specs.Inner.Smallest.{smallest_with, smaller_of};
 
-// The lesser of the place so far and this one, where this one counts.
+// The smaller of the place so far and this one, where this one counts.
 pub(crate) fn smallest_with(least: Option<usize>, counts: bool, place: usize) -> Option<usize>
     ensures { result ≡ smallest_with counts place least }
 {
@@ -18,7 +18,7 @@ pub(crate) fn smallest_with(least: Option<usize>, counts: bool, place: usize) ->
     }
 }
 
-// The lesser of two places, where they are there.
+// The smaller of two places, where they are there.
 pub(crate) fn smaller_of(least: Option<usize>, other: Option<usize>) -> Option<usize>
     ensures { result ≡ smaller_of other least }
 {

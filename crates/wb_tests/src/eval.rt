@@ -1,4 +1,6 @@
-//! Answers of the evaluation of small terms.
+//! Has each attribute of a small term the answer that the equations fix?
+//!
+//! Expected values follow from the equations, not from a run. What the program prints of them is in `value`.
 
 use std::alloc::{AllocError, Global};
 use std::test::Fail;

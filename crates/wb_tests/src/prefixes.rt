@@ -1,4 +1,6 @@
-//! Where the prefixes of a specification go wrong.
+//! Where has each prefix of `MINI` its first error?
+//!
+//! Worked out from the grammar, by another reader. The test that compares them is in `show`.
 
 use crate::show::Wrong;
 use crate::show::Wrong::{At, AtItsEnd, Nowhere};

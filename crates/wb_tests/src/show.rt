@@ -1,4 +1,6 @@
-//! The command `show`, over files and a sink in memory.
+//! Has each file the report of `show`, and is what is shown shown again?
+//!
+//! Over files and a sink in memory, which fail where they are asked to. `value` is in `value`.
 
 use crate::prefixes::MINI_PREFIXES;
 use crate::specifications::{MINI, OTHERS};
@@ -8,7 +10,7 @@ use wb_operations::standard_table;
 use wb_program::{Status, workbench};
 use wb_world::{MemoryShelf, MemorySink};
 
-/// Where a text goes wrong as a specification.
+/// Where a text has its first error as a specification.
 #[derive(Clone, Copy, Debug, PartialEq, Eq)]
 pub enum Wrong {
     Nowhere,
@@ -75,7 +77,7 @@ fn first_unstable<'a>(alloc: Global, texts: &[&'a str]) -> Result<Option<&'a str
     Ok(None)
 }
 
-// Whether a prefix goes wrong there.
+// Whether a prefix has its first error there.
 fn goes_wrong(alloc: Global, prefix: &[u8], wrong: Wrong) -> Result<bool, AllocError> {
     let place = match wrong {
         Wrong::Nowhere => return is_status(alloc, prefix, Status::Done),
@@ -92,7 +94,7 @@ fn is_status(alloc: Global, text: &[u8], status: Status) -> Result<bool, AllocEr
     Ok(status_to(alloc, text, &mut sink)? == status)
 }
 
-// The length of the first prefix that goes wrong elsewhere than these say, from each length on to before the next.
+// The length of the first prefix that has its first error elsewhere than these say, from each length on to before the next.
 fn first_prefix(
     alloc: Global,
     text: &[u8],

@@ -1,11 +1,13 @@
-//! Which texts are small hosts and small terms.
+//! Which texts are small hosts and small terms, and which aren't?
+//!
+//! Each rule has a text that misses it alone. What terms of them answer is in `eval`.
 
 use std::alloc::{AllocError, Global};
 use std::test::Fail;
 use wb_small::{SmallNode, SmallRefusal, SmallValue};
 use wb_small_reader::{read_small_spec, read_small_term};
 
-// Whether the two texts, one behind the other, are a small host.
+// Whether the two texts, one after the other, are a small host.
 fn is_host(alloc: Global, start: &str, rest: &str) -> Result<bool, AllocError> {
     let mut text = Vec::new(alloc);
     text.extend_from_slice(start.as_bytes())?;

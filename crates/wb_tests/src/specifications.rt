@@ -1,4 +1,6 @@
-//! Specifications of hosts and extensions, as tests read them.
+//! Which specifications do the tests read?
+//!
+//! One host with a form of each item, and others, each written for what the first lacks. What is shown of them is in `show`.
 
 /// A host with statements, expressions and an environment.
 pub const MINI: &str = r#"format 1; host mini;

@@ -1,4 +1,6 @@
-//! The command `value`, over files and a sink in memory.
+//! Has each run of `value` its status and its report?
+//!
+//! Over files and a sink in memory, which fail where they are asked to. `show` is in `show`.
 
 use std::alloc::{AllocError, Global};
 use std::test::Fail;

@@ -1,4 +1,6 @@
-//! Reads and writes of the shelf and the sink in memory.
+//! Do the shelf and the sink in memory answer as they are asked to?
+//!
+//! Expected values follow from their limits, not from a run. Runs of the program over them are in `show` and `value`.
 
 use std::test::Fail;
 use wb_world::{Got, MemoryShelf, MemorySink, Put, Shelf, Sink};

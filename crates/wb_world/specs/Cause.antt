@@ -5,7 +5,7 @@ use Rattle.std.specs.Prelude.{◌≡◌, ◌⊎◌, ℕ, ◌-◌, ◌+◌, ◌^�
 abbrev pub last_count : ℕ
 last_count = 2 ^ 64 - 1
 
--- a count rose: it is greater than before, or stands at its end
+-- a count rose: it is greater than before, or is at its end
 abbrev pub Rose : ℕ → ℕ → Type 0
 Rose before now = (before < now) ⊎ (now ≡ last_count)
 

@@ -1,4 +1,7 @@
-//! The files of the system as a shelf: part of the trusted edge, since no contract says what a file contains.
+//! How are the files of the system read as a shelf?
+//!
+//! Part of the trusted edge: no contract says what a file contains. What a read may answer is in `shelf`.
+
 ghost use Rattle.std.specs.Prelude.{◌≡◌, None};
 ghost use Rattle.std.specs.Io.{ReadsAtMost};
 

@@ -1,8 +1,6 @@
-//! The outside: a shelf that files are read from, and a sink that a report is written to.
+//! What may the program ask of the outside: files that it reads, and a sink that its report goes to?
 //!
-//! The program meets the system only through the traits `Shelf` and `Sink`, whose contracts give each fault its
-//! cause: a count that rose. `FileShelf` and `OutputSink` are the system's own files and output, `MemoryShelf` and
-//! `MemorySink` those of tests, which fail where they are known to.
+//! Each fault has a cause, a count that rose. The system's own are `FileShelf` and `OutputSink`; those in memory are for tests and laws.
 #![tactic(auto)]
 
 mod file_shelf;

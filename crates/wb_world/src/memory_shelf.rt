@@ -1,4 +1,7 @@
-//! A shelf in memory, for tests and laws: contracts see all of it, and it fails where it is asked to.
+//! Which shelf shows contracts all that it does?
+//!
+//! It is in memory, for tests and laws, and fails where it is asked to. The system's files are in `file_shelf`.
+
 ghost use Rattle.std.specs.Prelude.{◌≡◌, ◌≢◌, ◌≤◌, ◌<◌, ◌++◌, ◌∷◌, [], length, OnOk, OnErr, Some, None};
 ghost use Rattle.std.specs.Option.{option_copied};
 ghost use Rattle.wb_world.specs.Cause.{Rose, NeverFalls};

@@ -1,4 +1,7 @@
-//! A sink in memory, for tests and laws: contracts see all of it, and it fails where it is asked to.
+//! Which sink shows contracts all that it takes?
+//!
+//! It is in memory, for tests and laws, and fails where it is asked to. Standard output is in `output_sink`.
+
 ghost use Rattle.std.specs.Prelude.{◌≡◌, ◌≤◌, ◌<◌, ◌++◌, ◌∷◌, [], length, take, IfOk, OnOk, OnErr, Some};
 ghost use Rattle.std.specs.Io.KnownBytes.{append_known};
 ghost use Rattle.wb_world.specs.Cause.{Rose};

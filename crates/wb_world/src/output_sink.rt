@@ -1,4 +1,7 @@
-//! Standard output as a sink: part of the trusted edge, since no contract says what was written.
+//! How is standard output written to as a sink?
+//!
+//! Part of the trusted edge: no contract says what was written. What a write may answer is in `sink`.
+
 ghost use Rattle.std.specs.Prelude.{◌≡◌, None};
 
 use crate::{Put, Sink};

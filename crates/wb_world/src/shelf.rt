@@ -1,4 +1,7 @@
-//! What the program asks of files. Each failure has a cause, a count that rose, so that no answer comes from nowhere.
+//! What may the program ask of files?
+//!
+//! Each failure has a cause, a count that rose, so that no answer comes from nowhere. What is asked of output is in `sink`.
+
 ghost use Rattle.std.specs.Prelude.{◌≡◌, ◌<◌, ◌≤◌, List, ℕ, length};
 ghost use Rattle.std.specs.declared.option.Option.{Option};
 ghost use Rattle.wb_world.specs.Cause.{Rose, NeverFalls};

@@ -1,4 +1,7 @@
-//! What the program asks of its output. Each failure has a cause, a count that rose.
+//! What may the program ask of its output?
+//!
+//! Each failure has a cause, a count that rose, so that no answer comes from nowhere. What is asked of files is in `shelf`.
+
 ghost use Rattle.std.specs.Prelude.{◌≡◌, ◌<◌, ◌≤◌, List, ℕ, length, take};
 ghost use Rattle.std.specs.declared.option.Option.{Option};
 ghost use Rattle.std.specs.Io.KnownBytes.{append_known};

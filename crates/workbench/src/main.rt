@@ -1,7 +1,6 @@
-//! The workbench as a program of the command line.
+//! How is the workbench run from the command line?
 //!
-//! It hands the words, the files of the system, standard output and the standard operations to `wb_program`, and ends with the number of the
-//! status. What each status means is said there.
+//! It hands words, files, output and the standard operations to `wb_program`, and ends with the number of the status that this answers.
 #![tactic(auto)]
 
 use std::process::ExitCode;

@@ -12,7 +12,7 @@ pub record Outside : Type 0 where
   pub absences : List ℕ → ℕ
   pub faults : List ℕ → ℕ
 
--- what is known of a shelf
+-- the same, made of its parts
 abbrev pub outside : Option Files → (List ℕ → ℕ) → (List ℕ → ℕ) → Outside
 outside files absences faults = record { files = files; absences = absences; faults = faults }
 

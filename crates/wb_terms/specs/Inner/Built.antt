@@ -1,4 +1,4 @@
--- What a builder holds of the part of a term that was met.
+-- Which values an argument was built as, and which faults were found among the nodes that were ended.
 use Rattle.std.specs.Prelude.{◌≡◌, ◌⊎◌, ℕ, List, Option, length}
 use Rattle.std.specs.List.{AllZip}
 use Rattle.wb_values.specs.Signature.{Signature, IsFirst, HasNone}

@@ -9,8 +9,46 @@ use Rattle.wb_terms.specs.declared.rules.Part.{Part}
 
 -- what is given of each nonterminal
 unfoldable pub term_entries : Part → Entry TokenKind
-term_entries Part.Term = record { kinds = (k.Name ∷ []) ∷ []; nullable = false; first = k.Name ∷ []; follow = k.Mark p.CloseParenthesis ∷ k.Mark p.Comma ∷ k.End ∷ []; rank = 1; weight = 1 }
-term_entries Part.Owner = record { kinds = (k.Mark p.OpenParenthesis ∷ []) ∷ (k.Mark p.Colon ∷ []) ∷ []; nullable = true; first = k.Mark p.Colon ∷ []; follow = k.Mark p.OpenParenthesis ∷ []; rank = 0; weight = 1 }
-term_entries Part.Arguments = record { kinds = (k.Mark p.CloseParenthesis ∷ []) ∷ (k.Name ∷ k.One ∷ k.Number ∷ k.String ∷ k.Word w.True ∷ k.Word w.False ∷ []) ∷ []; nullable = true; first = k.Name ∷ k.One ∷ k.Number ∷ k.String ∷ k.Word w.True ∷ k.Word w.False ∷ []; follow = k.Mark p.CloseParenthesis ∷ []; rank = 0; weight = 3 }
-term_entries Part.More = record { kinds = (k.Mark p.CloseParenthesis ∷ []) ∷ (k.Mark p.Comma ∷ []) ∷ []; nullable = true; first = k.Mark p.Comma ∷ []; follow = k.Mark p.CloseParenthesis ∷ []; rank = 0; weight = 1 }
-term_entries Part.Argument = record { kinds = (k.One ∷ []) ∷ (k.Number ∷ []) ∷ (k.String ∷ []) ∷ (k.Word w.True ∷ []) ∷ (k.Word w.False ∷ []) ∷ (k.Name ∷ []) ∷ []; nullable = false; first = k.Name ∷ k.One ∷ k.Number ∷ k.String ∷ k.Word w.True ∷ k.Word w.False ∷ []; follow = k.Mark p.CloseParenthesis ∷ k.Mark p.Comma ∷ []; rank = 0; weight = 2 }
+term_entries Part.Term = record {
+  kinds = (k.Name ∷ []) ∷ [];
+  nullable = false;
+  first = k.Name ∷ [];
+  follow = k.Mark p.CloseParenthesis ∷ k.Mark p.Comma ∷ k.End ∷ [];
+  rank = 1;
+  weight = 1;
+}
+term_entries Part.Owner = record {
+  kinds = (k.Mark p.OpenParenthesis ∷ []) ∷ (k.Mark p.Colon ∷ []) ∷ [];
+  nullable = true;
+  first = k.Mark p.Colon ∷ [];
+  follow = k.Mark p.OpenParenthesis ∷ [];
+  rank = 0;
+  weight = 1;
+}
+term_entries Part.Arguments = record {
+  kinds =
+      (k.Mark p.CloseParenthesis ∷ [])
+      ∷ (k.Name ∷ k.One ∷ k.Number ∷ k.String ∷ k.Word w.True ∷ k.Word w.False ∷ []) ∷ [];
+  nullable = true;
+  first = k.Name ∷ k.One ∷ k.Number ∷ k.String ∷ k.Word w.True ∷ k.Word w.False ∷ [];
+  follow = k.Mark p.CloseParenthesis ∷ [];
+  rank = 0;
+  weight = 3;
+}
+term_entries Part.More = record {
+  kinds = (k.Mark p.CloseParenthesis ∷ []) ∷ (k.Mark p.Comma ∷ []) ∷ [];
+  nullable = true;
+  first = k.Mark p.Comma ∷ [];
+  follow = k.Mark p.CloseParenthesis ∷ [];
+  rank = 0;
+  weight = 1;
+}
+term_entries Part.Argument = record {
+  kinds =
+      (k.One ∷ []) ∷ (k.Number ∷ []) ∷ (k.String ∷ []) ∷ (k.Word w.True ∷ []) ∷ (k.Word w.False ∷ []) ∷ (k.Name ∷ []) ∷ [];
+  nullable = false;
+  first = k.Name ∷ k.One ∷ k.Number ∷ k.String ∷ k.Word w.True ∷ k.Word w.False ∷ [];
+  follow = k.Mark p.CloseParenthesis ∷ k.Mark p.Comma ∷ [];
+  rank = 0;
+  weight = 2;
+}

@@ -17,12 +17,14 @@ use Rattle.wb_terms.specs.Inner.Events.{shift, act}
 -- the right sides
 unfoldable pub term_rights : Part → List (List (Symbol TokenKind Part Action))
 term_rights Part.Term =
-    (Token k.Name ∷ Nonterminal Part.Owner ∷ Token (k.Mark p.OpenParenthesis) ∷ Nonterminal Part.Arguments ∷ Token (k.Mark p.CloseParenthesis) ∷ Act Action.Close ∷ []) ∷ []
+    (Token k.Name ∷ Nonterminal Part.Owner ∷ Token (k.Mark p.OpenParenthesis) ∷ Nonterminal Part.Arguments
+    ∷ Token (k.Mark p.CloseParenthesis) ∷ Act Action.Close ∷ []) ∷ []
 term_rights Part.Owner = [] ∷ (Token (k.Mark p.Colon) ∷ Token k.Name ∷ Act Action.Qualify ∷ []) ∷ []
 term_rights Part.Arguments = [] ∷ (Nonterminal Part.Argument ∷ Nonterminal Part.More ∷ []) ∷ []
 term_rights Part.More = [] ∷ (Token (k.Mark p.Comma) ∷ Nonterminal Part.Argument ∷ Nonterminal Part.More ∷ []) ∷ []
 term_rights Part.Argument =
-    (Token k.One ∷ []) ∷ (Token k.Number ∷ []) ∷ (Token k.String ∷ []) ∷ (Token (k.Word w.True) ∷ []) ∷ (Token (k.Word w.False) ∷ []) ∷ (Nonterminal Part.Term ∷ []) ∷ []
+    (Token k.One ∷ []) ∷ (Token k.Number ∷ []) ∷ (Token k.String ∷ []) ∷ (Token (k.Word w.True) ∷ [])
+    ∷ (Token (k.Word w.False) ∷ []) ∷ (Nonterminal Part.Term ∷ []) ∷ []
 
 -- the grammar
 abbrev pub term_grammar : Grammar TokenKind Part Action Lexeme (List Event)

@@ -1,4 +1,4 @@
--- Whether the front is the whole file, by its length.
+-- Whether the prefix is the whole file, by its length.
 use Rattle.std.proofs.Common.{arith, length, ◌≤◌}
 use Rattle.std.proofs.lemmas.Grind.{common_steps}
 use Rattle.wb_program.proofs.Pieces.{whole, too_long}

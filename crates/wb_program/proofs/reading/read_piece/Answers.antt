@@ -1,4 +1,4 @@
--- What was read goes on the front.
+-- What was read goes after the prefix.
 use Rattle.std.proofs.Common.{◌≡◌, arith, length, subst}
 use Rattle.std.proofs.lemmas.Grind.{common_steps}
 use Rattle.wb_world.specs.Shelf.{FitsFiles}

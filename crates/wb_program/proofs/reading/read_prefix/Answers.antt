@@ -1,4 +1,4 @@
--- At the end, or one byte past the limit, the bytes are the front that is asked for.
+-- At the end, or one byte past the limit, the bytes are the prefix that is asked for.
 use Rattle.std.proofs.Common.{rules, sym, ◌≡◌, ◌≤◌, ◌+◌, arith, subst, length, vec_len}
 use Rattle.std.proofs.lemmas.Grind.{common_steps}
 use Rattle.wb_program.specs.Files.{KnownFile}

@@ -3,7 +3,7 @@ use Rattle.std.proofs.lemmas.Grind.{common_steps}
 use Rattle.std.proofs.lemmas.List.{drop_min, take-append-le}
 use Rattle.wb_world.proofs.memory_shelf.copy_from.Goals as goal
 
--- the front of what was copied
+-- the first of what was copied
 copied : (n from start : ℕ) (p q contents : List ℕ) → start ≡ min from (length contents) →
     p ≡ take n (take (length contents - start) (drop start contents)) → length p ≡ n → take n (p ++ q) ≡ take n (drop from contents)
 copied n from start p q contents s e l = grind (arith, common_steps, take-append-le n p q, drop_min from contents)

@@ -1,6 +1,7 @@
--- What is a resolved specification. Its attributes are an attribution by their type.
-use Rattle.std.specs.Prelude.{◌≡◌, ◌≢◌, ℕ, List, ◌++◌, All, map, slice_get, Some}
+-- What is a resolved specification.
+use Rattle.std.specs.Prelude.{◌≡◌, ◌≢◌, ℕ, ◌++◌, All, IfSome, map, slice_get, Some}
 use Rattle.wb_base.specs.Different.{Differ}
+use Rattle.wb_base.specs.Grammar.{GrammarView}
 use Rattle.wb_base.specs.Identifiers.{IsName}
 use Rattle.wb_resolved.specs.declared.production.Child.{Child}
 use Rattle.wb_resolved.specs.declared.production.ChildKind.TheVariants as child
@@ -9,12 +10,13 @@ use Rattle.wb_resolved.specs.declared.resolved.ResolvedParts.{ResolvedParts}
 use Rattle.wb_resolved.specs.declared.terminal.Preference.{Preference}
 use Rattle.wb_resolved.specs.declared.terminal.Terminal.{Terminal}
 use Rattle.wb_resolved.specs.declared.terminal.TerminalKind.TheVariants.{Marking, Ignore}
+use Rattle.wb_resolved.specs.Attribution.{IsAttribution}
 use Rattle.wb_resolved.specs.Owners.{Sees, IsOwner}
 use Rattle.wb_resolved.specs.Visible.{SeesNonterminal}
 use Rattle.wb_resolved.specs.Once.{NamesDiffer, symbol_names}
 use Rattle.wb_resolved.specs.Grammar.{IsNumberedAll}
 
--- a terminal: only an extension has markers
+-- a terminal: its name is a name, its owner is there, and a marker is an extension's
 pub record IsNamedTerminal (r : ResolvedParts) (terminal : Terminal) : Type 0 where
   pub owner : IsOwner r.attributes.extensions terminal.owner
   pub name : IsName terminal.name
@@ -41,22 +43,26 @@ pub record IsTerminalChild (r : ResolvedParts) (owner number : ℕ) : Type 0 whe
   pub plain : terminal.kind ≢ Ignore
 
 -- the terminals among the children of a production are ones of the grammar, which its owner sees
-abbrev pub HasTerminals : ResolvedParts → Production → Type 0
-HasTerminals r production =
+abbrev pub HasGrammarTerminals : ResolvedParts → Production → Type 0
+HasGrammarTerminals r production =
     All (λ (c : Child). (number : ℕ) → c.kind ≡ child.Terminal number → IsTerminalChild r production.owner number) production.children
 
--- no name of terminals, nonterminals and productions is there twice, and no preference or extensible nonterminal
+-- no name of a terminal, nonterminal or production is there twice for owners of whom one sees the other, and no preference and no
+-- extensible nonterminal is there twice
 pub record IsOnceAll (r : ResolvedParts) : Type 0 where
   pub symbols : NamesDiffer (map (λ (t : Terminal). (t.owner, t.name)) r.terminals ++ symbol_names r.attributes)
   pub preferences : Differ r.preferences
   pub extensible : Differ r.extensible
 
--- each name beside the attributes is declared and of the right kind, nothing is there twice, and all is numbered in order
+-- the attributes are an attribution; each name beside them is declared and of the right kind, the start and what is extensible are the
+-- host's, nothing is declared twice by owners of whom one sees the other, and terminals, nonterminals and the grammar are numbered in order
 pub record IsResolved (r : ResolvedParts) : Type 0 where
+  pub attributes : IsAttribution r.attributes
   pub host : IsName r.host
   pub terminals : All (IsNamedTerminal r) r.terminals
   pub preferences : All (IsNamedPreference r) r.preferences
+  pub start : IfSome r.grammar (λ (g : GrammarView). SeesNonterminal r.attributes 0 g.start)
   pub extensible : All (SeesNonterminal r.attributes 0) r.extensible
-  pub children : All (HasTerminals r) r.attributes.productions
+  pub children : All (HasGrammarTerminals r) r.attributes.productions
   pub once : IsOnceAll r
   pub numbered : IsNumberedAll r
