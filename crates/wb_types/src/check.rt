@@ -1,0 +1,242 @@
+//! Is each expression of the kind that its place asks for?
+//!
+//! Each rule is tested on all expressions before the next, so the first that fails is the answer. The kinds of nodes are in `kinds`.
+
+ghost use Rattle.std.specs.Prelude.{◌≡◌, ◌↔◌, Some, IfOk, IfErr, IsTrue, All, Contains};
+ghost use Rattle.wb_base.specs.declared.symbol.Kind.{Kind};
+ghost use Rattle.wb_base.specs.declared.symbol.Kind.TheVariants.{Tree};
+ghost use Rattle.wb_expressions.specs.Expression.{IsWhole};
+ghost use Rattle.wb_resolved.specs.declared.equation.Equation.{Equation};
+ghost use Rattle.wb_resolved.specs.declared.production.Forward.{Forward};
+ghost use Rattle.wb_resolved.specs.declared.production.Local.{Local};
+ghost use Rattle.wb_resolved.specs.declared.production.Production.{Production};
+ghost use Rattle.wb_resolved.specs.Attribution.{IsAttribution};
+ghost use Rattle.wb_resolved.specs.Named.{IsNamedProduction};
+ghost use Rattle.wb_types.specs.Asked.{attribute_of};
+ghost use Rattle.wb_types.specs.Kinds.{IsAttributeKind};
+ghost use Rattle.wb_types.specs.Refusals.{IsTrueRefusal};
+ghost use Rattle.wb_types.specs.Rules.{AreKinds, IsKnown, HasArity};
+ghost use Rattle.wb_types.specs.Inner.Passes.{Passes, FailsKnown, Fails, AllPass, SomeFails, AnyFails};
+
+use crate::TypeRefusal;
+use crate::context::{Asked, Context, Rule};
+use crate::kinds::{attribute_kind, is_at, kinds_of};
+use std::alloc::Global;
+use wb_base::Kind;
+use wb_operations::{Meaning, OperationSignatures, OperationTable};
+use wb_resolved::{AttributionParts, Node, Resolved, Target};
+
+/// Whether each expression of a resolved specification is of the kind that its place asks for, over a table of operations.
+///
+/// A literal has its kind; a plain child, a local, an attribute and an operation have their declared kinds; a lexeme is a text; a call of
+/// a production has the kind of its left side, and its arguments have the kinds of the children. The condition of an `if` is a truth
+/// value, and both branches have the kind of the whole. Takes time about linear in the specification.
+pub fn check_types<M: Meaning>(
+    alloc: Global,
+    resolved: &Resolved,
+    operations: &OperationTable<M>,
+) -> Result<(), TypeRefusal>
+    ensures ok { IfOk result (λ done. AreKinds resolved.now.attributes operations.now.signatures) }
+    ensures refused { IfErr result (IsTrueRefusal resolved.now.attributes operations.now.signatures) }
+{
+    check_kinds(
+        alloc,
+        resolved.parts().attributes.parts(),
+        operations.signatures(),
+    )
+}
+
+// The same by the signatures of the operations.
+fn check_kinds(
+    alloc: Global,
+    attributes: &AttributionParts,
+    operations: &OperationSignatures,
+) -> Result<(), TypeRefusal>
+    requires { IsAttribution attributes.now }
+    ensures ok { IfOk result (λ done. AreKinds attributes.now operations.now) }
+    ensures refused { IfErr result (IsTrueRefusal attributes.now operations.now) }
+{
+    check_rule(alloc, Rule::Known, attributes, operations)?;
+    check_rule(alloc, Rule::Arity, attributes, operations)?;
+    check_rule(alloc, Rule::Kind, attributes, operations)
+}
+
+// Whether all expressions pass a rule.
+fn check_rule(
+    alloc: Global,
+    rule: Rule,
+    attributes: &AttributionParts,
+    operations: &OperationSignatures,
+) -> Result<(), TypeRefusal>
+    requires { IsAttribution attributes.now }
+    ensures ok { IfOk result (λ done. (production : Production) → Contains attributes.now.productions production → AllPass rule attributes.now operations.now production) }
+    ensures refused { IfErr result (AnyFails rule attributes.now operations.now) }
+{
+    'productions: for production in attributes.productions.as_slice() {
+        let context = Context {
+            attributes,
+            operations,
+            production,
+        };
+        check_production(alloc, rule, &context)?;
+    }
+    Ok(())
+}
+
+// Whether the expressions of a production pass a rule.
+fn check_production(alloc: Global, rule: Rule, context: &Context) -> Result<(), TypeRefusal>
+    requires { IsNamedProduction context.now.attributes.now context.now.production.now }
+    ensures ok { IfOk result (λ done. AllPass rule context.now.attributes.now context.now.operations.now context.now.production.now) }
+    ensures refused { IfErr result (SomeFails rule context.now.attributes.now context.now.operations.now context.now.production.now) }
+{
+    check_locals(alloc, rule, context)?;
+    check_forward(alloc, rule, context)?;
+    check_equations(alloc, rule, context)
+}
+
+// Whether the expressions of its locals do.
+fn check_locals(alloc: Global, rule: Rule, context: &Context) -> Result<(), TypeRefusal>
+    requires { IsNamedProduction context.now.attributes.now context.now.production.now }
+    ensures ok { IfOk result (λ done. (l : Local) → Contains context.now.production.now.locals l → Passes rule context.now.attributes.now context.now.operations.now context.now.production.now l.nodes (Tree l.nonterminal)) }
+    ensures refused { IfErr result (SomeFails rule context.now.attributes.now context.now.operations.now context.now.production.now) }
+{
+    'locals: for local in context.production.locals.as_slice() {
+        let asked = Asked {
+            nodes: local.nodes.as_slice(),
+            kind: Kind::Tree(local.nonterminal),
+            offset: local.offset,
+        };
+        check_expression(alloc, rule, context, &asked)?;
+    }
+    Ok(())
+}
+
+// Whether the expression of what it forwards to does.
+fn check_forward(alloc: Global, rule: Rule, context: &Context) -> Result<(), TypeRefusal>
+    requires { IsNamedProduction context.now.attributes.now context.now.production.now }
+    ensures ok { IfOk result (λ done. (f : Forward) → context.now.production.now.forward ≡ Some f → Passes rule context.now.attributes.now context.now.operations.now context.now.production.now f.nodes (Tree context.now.production.now.left)) }
+    ensures refused { IfErr result (SomeFails rule context.now.attributes.now context.now.operations.now context.now.production.now) }
+{
+    let Some(forward) = &context.production.forward else {
+        return Ok(());
+    };
+    let asked = Asked {
+        nodes: forward.nodes.as_slice(),
+        kind: Kind::Tree(context.production.left),
+        offset: forward.offset,
+    };
+    check_expression(alloc, rule, context, &asked)
+}
+
+// Whether the expressions of its equations do.
+fn check_equations(alloc: Global, rule: Rule, context: &Context) -> Result<(), TypeRefusal>
+    requires { IsNamedProduction context.now.attributes.now context.now.production.now }
+    ensures ok { IfOk result (λ done. (e : Equation) (is : Kind) → Contains context.now.production.now.equations e → IsAttributeKind context.now.attributes.now (attribute_of e.target) is → Passes rule context.now.attributes.now context.now.operations.now context.now.production.now e.nodes is) }
+    ensures refused { IfErr result (SomeFails rule context.now.attributes.now context.now.operations.now context.now.production.now) }
+{
+    let attributes = context.attributes.attributes.as_slice();
+    'equations: for equation in context.production.equations.as_slice() {
+        let Some(kind) = attribute_kind(attributes, target_attribute(equation.target)) else {
+            continue;
+        };
+        let asked = Asked {
+            nodes: equation.nodes.as_slice(),
+            kind,
+            offset: equation.offset,
+        };
+        check_expression(alloc, rule, context, &asked)?;
+    }
+    Ok(())
+}
+
+// The number of the attribute that an equation is for.
+fn target_attribute(target: Target) -> usize
+    ensures { result ≡ attribute_of target }
+{
+    match target {
+        Target::Top(attribute) => attribute,
+        Target::Place { attribute, .. } => attribute,
+        Target::Forward(attribute) => attribute,
+    }
+}
+
+// Whether an expression passes a rule.
+fn check_expression(
+    alloc: Global,
+    rule: Rule,
+    context: &Context,
+    asked: &Asked,
+) -> Result<(), TypeRefusal>
+    requires { IsWhole asked.now.nodes.now }
+    ensures ok { IfOk result (λ done. Passes rule context.now.attributes.now context.now.operations.now context.now.production.now asked.now.nodes.now asked.now.kind) }
+    ensures refused { IfErr result (Fails rule context.now.attributes.now context.now.operations.now context.now.production.now asked.now.nodes.now asked.now.kind asked.now.offset) }
+{
+    match rule {
+        Rule::Known => check_known(context.operations, asked.nodes),
+        Rule::Arity => {
+            if !have_arities(context, asked.nodes) {
+                return Err(TypeRefusal::WrongArity(asked.offset));
+            }
+            Ok(())
+        }
+        Rule::Kind => {
+            let kinds = kinds_of(alloc, context, asked.nodes)?;
+            if !is_at(&kinds, kinds.len() - 1, asked.kind) {
+                return Err(TypeRefusal::TypeMismatch(asked.offset));
+            }
+            Ok(())
+        }
+    }
+}
+
+// Whether each operation that the nodes call is in the table.
+fn check_known(operations: &OperationSignatures, nodes: &[Node]) -> Result<(), TypeRefusal>
+    ensures ok { IfOk result (λ done. All (IsKnown operations.now) nodes.now) }
+    ensures refused { IfErr result (FailsKnown operations.now nodes.now) }
+{
+    'nodes: for node in nodes {
+        let Node::Call { operation, .. } = node else {
+            continue;
+        };
+        if operations.find(operation.as_slice()).is_none() {
+            return Err(TypeRefusal::UnknownOperation(operation.copy()?));
+        }
+    }
+    Ok(())
+}
+
+// Whether each node has the right number of arguments.
+fn have_arities(context: &Context, nodes: &[Node]) -> bool
+    ensures { IsTrue result ↔ All (HasArity context.now.attributes.now context.now.operations.now) nodes.now }
+{
+    'nodes: for node in nodes {
+        if !has_arity(context, node) {
+            return false;
+        }
+    }
+    true
+}
+
+// Whether a node has the right number of arguments. Of what isn't there, any number is right.
+fn has_arity(context: &Context, node: &Node) -> bool
+    ensures { IsTrue result ↔ HasArity context.now.attributes.now context.now.operations.now node.now }
+{
+    match node {
+        Node::Build {
+            production,
+            children,
+        } => {
+            let signatures = &context.attributes.signatures;
+            *production >= signatures.len()
+                || signatures.children(*production).len() == children.len()
+        }
+        Node::Call {
+            operation,
+            arguments,
+        } => match context.operations.find(operation.as_slice()) {
+            None => true,
+            Some(number) => context.operations.takes(number).len() == arguments.len(),
+        },
+        _ => true,
+    }
+}

@@ -1,0 +1,31 @@
+//! Why do the kind rules fail?
+//!
+//! Which expressions they are about, and what each asks, is said in `specs/`.
+
+use std::alloc::AllocError;
+use wb_base::Bytes;
+
+/// Which kind rule fails first, in the order of this list. Which of several expressions is shown is left open.
+#[derive(Drop)]
+pub enum TypeRefusal {
+    /// N1: an expression calls an operation of this name, and there is none.
+    UnknownOperation(Bytes),
+    /// Y2: a production or operation has another number of arguments than it has to, in the expression whose equation begins at this
+    /// position, in bytes from the beginning of the file.
+    WrongArity(usize),
+    /// Y1: the expression whose equation begins at this position isn't of the kind that its place asks for.
+    TypeMismatch(usize),
+    /// There was no memory to tell.
+    NoMemory(AllocError),
+}
+
+impl From<AllocError> for TypeRefusal {
+    ghost use Rattle.std.specs.Prelude.{◌≡◌};
+    ghost use Rattle.wb_types.specs.declared.refusal.TypeRefusal.TheVariants.{NoMemory};
+
+    ghost from_gives = { λ error refusal. refusal ≡ NoMemory error };
+
+    fn from(error: AllocError) -> Self {
+        TypeRefusal::NoMemory(error)
+    }
+}
