@@ -66,6 +66,7 @@ impl Names {
     pub fn find(&self, name: &[u8]) -> Option<usize>
         ensures found { IfSome result (λ number. slice_get self.now number ≡ Some name.now) }
         ensures none { IfNone result (¬ Contains self.now name.now) }
+        ensures different { Differ self.now }
     {
         self.texts.get_index_of(name)
     }

@@ -86,6 +86,7 @@ impl OperationSignatures {
     pub fn find(&self, name: &[u8]) -> Option<usize>
         ensures found { IfSome result (IsOperation self.now name.now) }
         ensures none { IfNone result (¬ HasOperation self.now name.now) }
+        ensures different { Differ (names_of self.now) }
     {
         self.names.find(name)
     }
