@@ -1,5 +1,5 @@
 -- When each refusal is true: its rule fails there, and those before it hold.
-use Rattle.std.specs.Prelude.{◌≡◌, ℕ, List, All, Contains}
+use Rattle.std.specs.Prelude.{ℕ, List, All, Contains}
 use Rattle.wb_base.specs.declared.symbol.Kind.{Kind}
 use Rattle.wb_expressions.specs.declared.node.Node.TheVariants as n
 use Rattle.wb_operations.specs.Operations.{OperationSignature, HasOperation}

@@ -134,9 +134,9 @@ fn check_equations(alloc: Global, rule: Rule, context: &Context) -> Result<(), T
     ensures ok { IfOk result (λ done. (e : Equation) (is : Kind) → Contains context.now.production.now.equations e → IsAttributeKind context.now.attributes.now (attribute_of e.target) is → Passes rule context.now.attributes.now context.now.operations.now context.now.production.now e.nodes is) }
     ensures refused { IfErr result (SomeFails rule context.now.attributes.now context.now.operations.now context.now.production.now) }
 {
-    let attributes = context.attributes.attributes.as_slice();
     'equations: for equation in context.production.equations.as_slice() {
-        let Some(kind) = attribute_kind(attributes, target_attribute(equation.target)) else {
+        let Some(kind) = attribute_kind(context.attributes, target_attribute(equation.target))
+        else {
             continue;
         };
         let asked = Asked {
@@ -181,7 +181,7 @@ fn check_expression(
         }
         Rule::Kind => {
             let kinds = kinds_of(alloc, context, asked.nodes)?;
-            if !is_at(&kinds, kinds.len() - 1, asked.kind) {
+            if !is_at(&kinds, asked.nodes.len() - 1, asked.kind) {
                 return Err(TypeRefusal::TypeMismatch(asked.offset));
             }
             Ok(())
@@ -198,9 +198,9 @@ fn check_known(operations: &OperationSignatures, nodes: &[Node]) -> Result<(), T
         let Node::Call { operation, .. } = node else {
             continue;
         };
-        if operations.find(operation.as_slice()).is_none() {
+        let Some(_) = operations.find(operation.as_slice()) else {
             return Err(TypeRefusal::UnknownOperation(operation.copy()?));
-        }
+        };
     }
     Ok(())
 }

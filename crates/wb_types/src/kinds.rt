@@ -2,7 +2,7 @@
 //!
 //! Nodes are visited in order, so the kinds of a node's parts are known when it is met; a node without a kind has None.
 
-ghost use Rattle.std.specs.Prelude.{◌≡◌, ◌↔◌, Some, IfOk, IsTrue, length, option_map, slice_get};
+ghost use Rattle.std.specs.Prelude.{◌≡◌, ◌↔◌, Some, IfOk, IsTrue, length};
 ghost use Rattle.wb_base.specs.declared.symbol.Kind.{Kind};
 ghost use Rattle.wb_base.specs.declared.symbol.Kind.TheVariants.{Bool};
 ghost use Rattle.wb_expressions.specs.Places.{HasPartsBefore};
@@ -15,7 +15,7 @@ use crate::context::Context;
 use std::alloc::{AllocError, Global};
 use wb_base::{Kind, push};
 use wb_operations::OperationSignatures;
-use wb_resolved::{Attribute, ChildKind, Node, Place, Production};
+use wb_resolved::{AttributionParts, ChildKind, Node, Place, Production};
 use wb_values::Signatures;
 
 // The kind of each node, by place. The only error is want of memory.
@@ -40,16 +40,15 @@ pub(crate) fn kinds_of(
 fn kind_of(context: &Context, node: &Node, kinds: &[Option<Kind>]) -> Option<Kind>
     ensures { (is : Kind) → (result ≡ Some is) ↔ NodeHasKind context.now.attributes.now context.now.operations.now context.now.production.now kinds.now node.now is }
 {
-    let attributes = context.attributes.attributes.as_slice();
     match node {
         Node::Int(_) => Some(Kind::Int),
         Node::Text(_) => Some(Kind::Text),
         Node::Bool(_) => Some(Kind::Bool),
         Node::Label(place) => place_kind(context.production, *place),
-        Node::Read { attribute, .. } => attribute_kind(attributes, *attribute),
+        Node::Read { attribute, .. } => attribute_kind(context.attributes, *attribute),
         Node::Lexeme(_) => Some(Kind::Text),
-        Node::Top(attribute) => attribute_kind(attributes, *attribute),
-        Node::Forward(attribute) => attribute_kind(attributes, *attribute),
+        Node::Top(attribute) => attribute_kind(context.attributes, *attribute),
+        Node::Forward(attribute) => attribute_kind(context.attributes, *attribute),
         Node::Build {
             production,
             children,
@@ -102,9 +101,10 @@ fn place_kind(production: &Production, place: Place) -> Option<Kind>
 }
 
 // The kind of an attribute.
-pub(crate) fn attribute_kind(attributes: &[Attribute], number: usize) -> Option<Kind>
-    ensures { (is : Kind) → (result ≡ Some is) ↔ (option_map (λ (r : Attribute). r.kind) (slice_get attributes.now number) ≡ Some is) }
+pub(crate) fn attribute_kind(attributes: &AttributionParts, number: usize) -> Option<Kind>
+    ensures { (is : Kind) → (result ≡ Some is) ↔ IsAttributeKind attributes.now number is }
 {
+    let attributes = attributes.attributes.as_slice();
     if number >= attributes.len() {
         return None;
     }
@@ -146,12 +146,7 @@ fn kind_called(
 }
 
 // The kind of a choice between two parts by a third.
-fn kind_chosen(
-    kinds: &[Option<Kind>],
-    condition: usize,
-    holds: usize,
-    fails: usize,
-) -> Option<Kind>
+fn kind_chosen(kinds: &[Option<Kind>], condition: usize, holds: usize, fails: usize) -> Option<Kind>
     ensures { (is : Kind) → (result ≡ Some is) ↔ (IsAt kinds.now condition Bool × IsAt kinds.now holds is × IsAt kinds.now fails is) }
 {
     if !is_at(kinds, condition, Kind::Bool) || holds >= kinds.len() {

@@ -1,0 +1,27 @@
+use Rattle.std.proofs.Common.{◌≡◌, Some, ap, subst, true}
+use Rattle.wb_types.specs.Inner.Nodes.{CallsKind}
+use Rattle.wb_types.proofs.OperationLemmas.{operation_within, calls_exact, calls_gives, gives_calls}
+use Rattle.wb_types.proofs.kinds.kind_called.Goals as goal
+
+pub returns-then-not-are_at : goal.returns-then-not-are_at
+returns-then-not-are_at c = λ is. (
+  λ e. absurd (cc e),
+  λ calls. absurd (
+      let yes : c.are_at.result ≡ true = c.are_at.ensures.1 (
+      calls_exact c.args.operations.now c.args.kinds.now c.args.name.now c.args.arguments.now c.in_ok-number.number c.takes.result.now
+      c.in_ok-number.ensures.different c.in_ok-number.ensures.found c.takes.ensures is calls) in
+      let other = c.if-not-are_at.true in
+      cc),
+)
+
+pub gives-requires : goal.gives-requires
+gives-requires c = operation_within c.args.operations.now c.args.name.now c.in_ok-number.number c.in_ok-number.ensures.found
+
+pub returns : goal.returns
+returns c = λ is. (
+  λ e. subst (CallsKind c.args.operations.now c.args.kinds.now c.args.name.now c.args.arguments.now) (cc e)
+      (gives_calls c.args.operations.now c.args.kinds.now c.args.name.now c.args.arguments.now c.in_ok-number.number c.takes.result.now c.gives.result
+      c.in_ok-number.ensures.found c.takes.ensures c.gives.ensures (c.are_at.ensures.0 c.if-not-are_at.false)),
+  λ calls. ap Some (calls_gives c.args.operations.now c.args.kinds.now c.args.name.now c.args.arguments.now c.in_ok-number.number c.gives.result
+      c.in_ok-number.ensures.different c.in_ok-number.ensures.found c.gives.ensures is calls),
+)
