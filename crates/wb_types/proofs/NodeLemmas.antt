@@ -1,5 +1,6 @@
 -- The kinds of nodes are those of their expressions.
-use Rattle.std.proofs.Common.{◌≡◌, ◌<◌, ◌+◌, ◌↔◌, ◌∷◌, ◌++◌, [], ℕ, zero, suc, List, Option, Some, All, length, refl, sym, ap, subst, ◌∙◌, slice_get, arith}
+use Rattle.std.proofs.Common.{◌≡◌, ◌<◌, ◌+◌, ◌↔◌, ◌∷◌, ◌++◌, [], ℕ, zero, suc, List, Option, Some, All, length, refl, sym, ap, subst, ◌∙◌}
+use Rattle.std.proofs.Common.{slice_get, arith}
 use Rattle.std.proofs.Math.Decide.{dec_lt}
 use Rattle.wb_lemmas.proofs.Places.{push_last, push_before}
 use Rattle.std.proofs.lemmas.List.Elements.{All-head, All-tail}
@@ -21,7 +22,8 @@ use Rattle.wb_types.specs.Kinds as k
 use Rattle.wb_types.specs.Inner.Nodes.{IsAt, AreAt, NodeHasKind, AreKept}
 
 -- what holds of the form of a node holds of the node
-pub of_node : (a : AttributionParts) (operations : List OperationSignature) (production : Production) (kinds : List (Option Kind)) (node form : Node)
+pub of_node : (a : AttributionParts) (operations : List OperationSignature) (production : Production) (kinds : List (Option Kind))
+    (node form : Node)
     (r : Option Kind) (is : Kind) → node ≡ form → (r ≡ Some is) ↔ NodeHasKind a operations production kinds form is
     → (r ≡ Some is) ↔ NodeHasKind a operations production kinds node is
 of_node a operations production kinds node form r is e exact =
@@ -36,7 +38,8 @@ module _ (a : AttributionParts) (operations : List OperationSignature) (producti
     record { count = let e = parts.count in omega (arith, e); each = λ i p q here there. parts.each (suc i) p q here there },
   )
 
-  with_first : (kinds : List (Option Kind)) (at : ℕ) (places : List ℕ) (is : Kind) (are : List Kind) → IsAt kinds at is → AreAt kinds places are
+  with_first : (kinds : List (Option Kind)) (at : ℕ) (places : List ℕ) (is : Kind) (are : List Kind) → IsAt kinds at is
+      → AreAt kinds places are
       → AreAt kinds (at ∷ places) (is ∷ are)
   with_first kinds at places is are here rest = record { count = ap suc rest.count; each = each } where
     each : (i p : ℕ) (q : Kind) → slice_get (at ∷ places) i ≡ Some p → slice_get (is ∷ are) i ≡ Some q → IsAt kinds p q
@@ -59,7 +62,8 @@ module _ (a : AttributionParts) (operations : List OperationSignature) (producti
       (number : ℕ) × (s : OperationSignature) × (slice_get operations number ≡ Some s) × (s.name ≡ name)
       × HaveKinds a operations production es s.takes × (is ≡ s.gives)
   KindFacts (x.If condition holds fails) is =
-      HasKind a operations production condition kind.Bool × HasKind a operations production holds is × HasKind a operations production fails is
+      HasKind a operations production condition kind.Bool × HasKind a operations production holds is
+          × HasKind a operations production fails is
 
   facts : {e : Expression} {is : Kind} → HasKind a operations production e is → KindFacts e is
   facts k.int = refl
@@ -77,7 +81,8 @@ module _ (a : AttributionParts) (operations : List OperationSignature) (producti
   -- what several have, by their form
   abbrev KindsFacts : Expressions → List Kind → Type 0
   KindsFacts x.none are = are ≡ []
-  KindsFacts (x.more e es) are = (is : Kind) × (rest : List Kind) × (are ≡ is ∷ rest) × HasKind a operations production e is × HaveKinds a operations production es rest
+  KindsFacts (x.more e es) are = (is : Kind) × (rest : List Kind) × (are ≡ is ∷ rest) × HasKind a operations production e is
+      × HaveKinds a operations production es rest
 
   all_facts : {es : Expressions} {are : List Kind} → HaveKinds a operations production es are → KindsFacts es are
   all_facts k.nothing = refl
@@ -113,17 +118,23 @@ module _ (a : AttributionParts) (operations : List OperationSignature) (producti
 
     form_of : {at : ℕ} {e : Expression} → Stands nodes at e → HasPartsBefore nodes → at ≡ count → FormOf at e
     form_of (p.int {z = z} h) before last =
-        record { form = n.Int z; has = h; exact = λ is. (λ e. let f : is ≡ kind.Int = e in subst (HasKind a operations production (x.Int z)) (sym f) k.int, λ have. facts have) }
+        record { form = n.Int z; has = h; exact = λ is. (λ e. let f : is ≡ kind.Int = e in subst
+            (HasKind a operations production (x.Int z)) (sym f) k.int, λ have. facts have) }
     form_of (p.text {s = s} h) before last =
-        record { form = n.Text s; has = h; exact = λ is. (λ e. let f : is ≡ kind.Text = e in subst (HasKind a operations production (x.Text s)) (sym f) k.text, λ have. facts have) }
+        record { form = n.Text s; has = h; exact = λ is. (λ e. let f : is ≡ kind.Text = e in subst
+            (HasKind a operations production (x.Text s)) (sym f) k.text, λ have. facts have) }
     form_of (p.truth {b = b} h) before last =
-        record { form = n.Bool b; has = h; exact = λ is. (λ e. let f : is ≡ kind.Bool = e in subst (HasKind a operations production (x.Truth b)) (sym f) k.truth, λ have. facts have) }
+        record { form = n.Bool b; has = h; exact = λ is. (λ e. let f : is ≡ kind.Bool = e in subst
+            (HasKind a operations production (x.Truth b)) (sym f) k.truth, λ have. facts have) }
     form_of (p.label {l = l} h) before last = record { form = n.Label l; has = h; exact = λ is. (λ e. k.label e, λ have. facts have) }
-    form_of (p.read {l = l} {a = number} h) before last = record { form = n.Read l number; has = h; exact = λ is. (λ e. k.read e, λ have. facts have) }
+    form_of (p.read {l = l} {a = number} h) before last = record { form = n.Read l number; has = h; exact = λ is.
+        (λ e. k.read e, λ have. facts have) }
     form_of (p.lexeme {l = l} h) before last =
-        record { form = n.Lexeme l; has = h; exact = λ is. (λ e. let f : is ≡ kind.Text = e in subst (HasKind a operations production (x.Lexeme l)) (sym f) k.lexeme, λ have. facts have) }
+        record { form = n.Lexeme l; has = h; exact = λ is. (λ e. let f : is ≡ kind.Text = e in subst
+            (HasKind a operations production (x.Lexeme l)) (sym f) k.lexeme, λ have. facts have) }
     form_of (p.top {a = number} h) before last = record { form = n.Top number; has = h; exact = λ is. (λ e. k.top e, λ have. facts have) }
-    form_of (p.forward {a = number} h) before last = record { form = n.Forward number; has = h; exact = λ is. (λ e. k.forward e, λ have. facts have) }
+    form_of (p.forward {a = number} h) before last = record { form = n.Forward number; has = h; exact = λ is.
+        (λ e. k.forward e, λ have. facts have) }
     form_of {at} (p.build {name = number} {places = places} {es = es} h parts) before last =
         let below = subst (λ (z : ℕ). All (λ part. part < z) places) last (before at (n.Build number places) h) in
         record {
@@ -143,10 +154,12 @@ module _ (a : AttributionParts) (operations : List OperationSignature) (producti
           exact = λ is. (
             λ b. k.call b.number b.signature b.listed b.named (parts_have parts b.signature.takes below b.parts) b.whole,
             λ have. let (number, s, there, named, arguments, whole) = facts have in
-                record { number = number; signature = s; listed = there; named = named; parts = have_parts parts s.takes below arguments; whole = whole },
+                record { number = number; signature = s; listed = there; named = named; parts = have_parts parts s.takes below arguments;
+                    whole = whole },
           );
         }
-    form_of {at} (p.if_then {c = c} {h = y} {f = z} {condition = condition} {holds = holds} {fails = fails} has first second third) before last =
+    form_of {at}
+        (p.if_then {c = c} {h = y} {f = z} {condition = condition} {holds = holds} {fails = fails} has first second third) before last =
         let below = subst (λ (w : ℕ). All (λ part. part < w) (c ∷ y ∷ z ∷ [])) last (before at (n.If c y z) has) in
         let b0 : c < count = All-head (λ part. part < count) c (y ∷ z ∷ []) below in
         let rest1 = All-tail (λ part. part < count) c (y ∷ z ∷ []) below in
@@ -182,12 +195,14 @@ module _ (a : AttributionParts) (operations : List OperationSignature) (producti
     last : (at < count → ⊥) → IsAt (kinds ++ found ∷ []) at is ↔ HasKind a operations production e is
     last above =
         let here : at ≡ count = omega (arith, above, lt) in
-        let there : slice_get (kinds ++ found ∷ []) at ≡ Some found = ap (slice_get (kinds ++ found ∷ [])) (here ∙ sym len) ∙ push_last kinds found in
+        let there : slice_get (kinds ++ found ∷ []) at ≡ Some found = ap (slice_get (kinds ++ found ∷ [])) (here ∙ sym len)
+            ∙ push_last kinds found in
         let form = form_of nodes kinds count kept stands before here in
         let one : node ≡ form.form = one_node nodes count node form.form has (subst (λ z. HasNode nodes z form.form) here form.has) in (
           λ shown. let g : Some found ≡ Some (Some is) = sym there ∙ shown in let f : found ≡ Some is = cc in
               (form.exact is).0 (subst (λ z. NodeHasKind a operations production kinds z is) one ((exact is).0 f)),
-          λ have. there ∙ ap Some ((exact is).1 (subst (λ z. NodeHasKind a operations production kinds z is) (sym one) ((form.exact is).1 have))),
+          λ have. there ∙ ap Some ((exact is).1 (subst (λ z. NodeHasKind a operations production kinds z is) (sym one)
+              ((form.exact is).1 have))),
         )
 
     cases : Dec (at < count) → IsAt (kinds ++ found ∷ []) at is ↔ HasKind a operations production e is

@@ -27,7 +27,8 @@ pub operation_at : (operations : List OperationSignature) (name : List ℕ) (num
 operation_at operations name number is = some_at (slice_get operations number) (λ (s : OperationSignature). s.name ≡ name) is
 
 -- its number is in range
-pub operation_within : (operations : List OperationSignature) (name : List ℕ) (number : ℕ) → IsOperation operations name number → number < length operations
+pub operation_within : (operations : List OperationSignature) (name : List ℕ) (number : ℕ) → IsOperation operations name number
+    → number < length operations
 operation_within operations name number is =
     let (s, at, named) = operation_at operations name number is in
     slice_get_within operations number s at
@@ -39,7 +40,8 @@ named_at operations number s at =
     slice_get-map (λ (s : OperationSignature). s.name) operations number ∙ ap (option_map (λ (s : OperationSignature). s.name)) at
 
 -- operations of one name are one
-pub one_operation : (operations : List OperationSignature) (name : List ℕ) (i j : ℕ) (s t : OperationSignature) → Differ (names_of operations)
+pub one_operation : (operations : List OperationSignature) (name : List ℕ) (i j : ℕ) (s t : OperationSignature) → Differ
+    (names_of operations)
     → slice_get operations i ≡ Some s → s.name ≡ name → slice_get operations j ≡ Some t → t.name ≡ name → s ≡ t
 one_operation operations name i j s t differ at is there same =
     let named = named_at operations i s at ∙ ap Some is in
@@ -55,7 +57,8 @@ pub calls_exact : (operations : List OperationSignature) (kinds : List (Option K
     → CallsKind operations kinds name arguments is → AreAt kinds arguments takes
 calls_exact operations kinds name arguments number takes differ found takes_is is calls =
     let (s, at, named) = operation_at operations name number found in
-    let one : calls.signature ≡ s = one_operation operations name calls.number number calls.signature s differ calls.listed calls.named at named in
+    let one : calls.signature ≡ s = one_operation operations name calls.number number calls.signature s differ calls.listed calls.named at
+        named in
     let kinds_is = fact_at (slice_get operations number) (λ (s : OperationSignature). takes ≡ s.takes) s takes_is at in
     subst (AreAt kinds arguments) (ap (λ (s : OperationSignature). s.takes) one ∙ sym kinds_is) calls.parts
 
@@ -65,7 +68,8 @@ pub calls_gives : (operations : List OperationSignature) (kinds : List (Option K
     → CallsKind operations kinds name arguments is → gives ≡ is
 calls_gives operations kinds name arguments number gives differ found gives_is is calls =
     let (s, at, named) = operation_at operations name number found in
-    let one : calls.signature ≡ s = one_operation operations name calls.number number calls.signature s differ calls.listed calls.named at named in
+    let one : calls.signature ≡ s = one_operation operations name calls.number number calls.signature s differ calls.listed calls.named at
+        named in
     let kind_is = fact_at (slice_get operations number) (λ (s : OperationSignature). gives ≡ s.gives) s gives_is at in
     kind_is ∙ sym (calls.whole ∙ ap (λ (s : OperationSignature). s.gives) one)
 
@@ -79,16 +83,19 @@ gives_calls operations kinds name arguments number takes gives found takes_is gi
     let (s, at, named) = operation_at operations name number found in
     let kinds_is = fact_at (slice_get operations number) (λ (s : OperationSignature). takes ≡ s.takes) s takes_is at in
     let kind_is = fact_at (slice_get operations number) (λ (s : OperationSignature). gives ≡ s.gives) s gives_is at in
-    record { number = number; signature = s; listed = at; named = named; parts = subst (AreAt kinds arguments) kinds_is parts; whole = kind_is }
+    record { number = number; signature = s; listed = at; named = named; parts = subst
+        (AreAt kinds arguments) kinds_is parts; whole = kind_is }
 
 -- a name that was found is known
-pub found_known : (operations : List OperationSignature) (name : List ℕ) (number : ℕ) → IsOperation operations name number → HasOperation operations name
+pub found_known : (operations : List OperationSignature) (name : List ℕ) (number : ℕ) → IsOperation operations name number
+    → HasOperation operations name
 found_known operations name number found =
     let (s, at, named) = operation_at operations name number found in
     contains_at (names_of operations) name number (named_at operations number s at ∙ ap Some named)
 
 -- where a name isn't known, no operation has it
-pub unknown_none : (operations : List OperationSignature) (name : List ℕ) (number : ℕ) (s : OperationSignature) → ¬ HasOperation operations name
+pub unknown_none : (operations : List OperationSignature) (name : List ℕ) (number : ℕ) (s : OperationSignature)
+    → ¬ HasOperation operations name
     → slice_get operations number ≡ Some s → s.name ≡ name → ⊥
 unknown_none operations name number s unknown at named =
     unknown (contains_at (names_of operations) name number (named_at operations number s at ∙ ap Some named))

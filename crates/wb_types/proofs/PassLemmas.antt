@@ -1,5 +1,6 @@
 -- What passes a rule, node by node and expression by expression.
-use Rattle.std.proofs.Common.{◌≡◌, ◌<◌, ◌≤◌, ◌+◌, ◌-◌, ◌∷◌, ◌++◌, [], ℕ, List, Option, Some, All, length, take, get_or, refl, sym, ap, subst, ◌∙◌, slice_get, arith, Contains}
+use Rattle.std.proofs.Common.{◌≡◌, ◌<◌, ◌≤◌, ◌+◌, ◌-◌, ◌∷◌, ◌++◌, [], ℕ, List, Option, Some, All, length, take, get_or, refl, sym, ap}
+use Rattle.std.proofs.Common.{subst, ◌∙◌, slice_get, arith, Contains}
 use Rattle.std.proofs.lemmas.List.{take_more, take_all}
 use Rattle.std.proofs.lemmas.Option.{slice_get-get_or}
 use Rattle.wb_lemmas.proofs.Members.{contains_at}
@@ -54,7 +55,8 @@ calls_nothing operations (n.Build number children) other = tt
 calls_nothing operations (n.Call name arguments) other = absurd (other name arguments refl)
 calls_nothing operations (n.If condition holds fails) other = tt
 
-module _ (a : AttributionParts) (operations : List OperationSignature) (production : Production) (nodes : List Node) (kinds : List (Option Kind))
+module _ (a : AttributionParts) (operations : List OperationSignature) (production : Production) (nodes : List Node)
+    (kinds : List (Option Kind))
     (kept : AreKept a operations production nodes kinds (length nodes)) (is : Kind) where
   -- the last node has the kind, so the whole has it
   pub last_whole : IsWhole nodes → IsAt kinds (length nodes - 1) is → IsOfKind a operations production nodes is
@@ -69,14 +71,16 @@ module _ (a : AttributionParts) (operations : List OperationSignature) (producti
       (kept (length nodes - 1) e is (omega (arith, some)) (whole_stands nodes e same).0).1 have
 
 -- an expression that fails is one of its production's
-pub some_fails : (rule : Rule) (a : AttributionParts) (operations : List OperationSignature) (production : Production) (nodes : List Node) (is : Kind)
+pub some_fails : (rule : Rule) (a : AttributionParts) (operations : List OperationSignature) (production : Production) (nodes : List Node)
+    (is : Kind)
     (offset : ℕ) → IsAsked a production nodes is offset → (refusal : TypeRefusal)
     → Fails rule a operations production nodes is offset refusal → SomeFails rule a operations production refusal
 some_fails rule a operations production nodes is offset asked refusal fails =
     record { nodes = nodes; is = is; offset = offset; asked = asked; fails = fails }
 
 -- a production in which one fails is one of the attribution's
-pub any_fails : (rule : Rule) (a : AttributionParts) (operations : List OperationSignature) (production : Production) → Contains a.productions production
+pub any_fails : (rule : Rule) (a : AttributionParts) (operations : List OperationSignature) (production : Production)
+    → Contains a.productions production
     → (refusal : TypeRefusal) → SomeFails rule a operations production refusal → AnyFails rule a operations refusal
 any_fails rule a operations production listed refusal fails = record { production = production; listed = listed; fails = fails }
 
@@ -84,14 +88,17 @@ any_fails rule a operations production listed refusal fails = record { productio
 pub all_pass : (rule : Rule) (a : AttributionParts) (operations : List OperationSignature) (production : Production)
     → ((l : Local) → Contains production.locals l → Passes rule a operations production l.nodes (kind.Tree l.nonterminal))
     → ((f : Forward) → production.forward ≡ Some f → Passes rule a operations production f.nodes (kind.Tree production.left))
-    → ((e : Equation) (is : Kind) → Contains production.equations e → IsAttributeKind a (attribute_of e.target) is → Passes rule a operations production e.nodes is)
+    → ((e : Equation) (is : Kind) → Contains production.equations e → IsAttributeKind a (attribute_of e.target) is
+        → Passes rule a operations production e.nodes is)
     → AllPass rule a operations production
 all_pass rule a operations production locals forward equations nodes is offset asked = at asked where
   at : IsAsked a production nodes is offset → Passes rule a operations production nodes is
   at (s.local l listed e f g) =
-      subst (λ z. Passes rule a operations production z is) (sym e) (subst (Passes rule a operations production l.nodes) (sym f) (locals l listed))
+      subst (λ z. Passes rule a operations production z is) (sym e)
+          (subst (Passes rule a operations production l.nodes) (sym f) (locals l listed))
   at (s.forward y there e f g) =
-      subst (λ z. Passes rule a operations production z is) (sym e) (subst (Passes rule a operations production y.nodes) (sym f) (forward y there))
+      subst (λ z. Passes rule a operations production z is) (sym e)
+          (subst (Passes rule a operations production y.nodes) (sym f) (forward y there))
   at (s.equation y listed e f g) = subst (λ z. Passes rule a operations production z is) (sym e) (equations y is listed f)
 
 -- an expression that fails the first rule calls what isn't there

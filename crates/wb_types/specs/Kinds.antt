@@ -19,7 +19,8 @@ IsAttributeKind a number is = option_map (λ (r : Attribute). r.kind) (slice_get
 
 mutual
   -- the expression, in this production and over these operations, is of this kind
-  pub data HasKind (a : AttributionParts) (operations : List OperationSignature) (production : Production) : Expression → Kind → Type 0 where
+  pub data HasKind (a : AttributionParts) (operations : List OperationSignature) (production : Production) : Expression → Kind
+      → Type 0 where
     int : {z : ℤ} → HasKind a operations production (x.Int z) kind.Int
     text : {s : List ℕ} → HasKind a operations production (x.Text s) kind.Text
     truth : {b : Bool} → HasKind a operations production (x.Truth b) kind.Bool
@@ -41,7 +42,8 @@ mutual
         → HasKind a operations production (x.If condition holds fails) k
 
   -- the expressions are of these kinds, one by one
-  pub data HaveKinds (a : AttributionParts) (operations : List OperationSignature) (production : Production) : Expressions → List Kind → Type 0 where
+  pub data HaveKinds (a : AttributionParts) (operations : List OperationSignature) (production : Production) : Expressions → List Kind
+      → Type 0 where
     nothing : HaveKinds a operations production x.none []
     next : {e : Expression} {es : Expressions} {k : Kind} {ks : List Kind} → HasKind a operations production e k
         → HaveKinds a operations production es ks → HaveKinds a operations production (x.more e es) (k ∷ ks)

@@ -18,7 +18,8 @@ IsKnown operations other = Unit {0}
 
 -- a node has as many arguments as its production has children, or its operation takes
 abbrev pub HasArity : AttributionParts → List OperationSignature → Node → Type 0
-HasArity a operations (n.Build number children) = (s : Signature) → slice_get a.signatures number ≡ Some s → length children ≡ length s.children
+HasArity a operations (n.Build number children) = (s : Signature) → slice_get a.signatures number ≡ Some s
+    → length children ≡ length s.children
 HasArity a operations (n.Call name arguments) =
     (number : ℕ) (s : OperationSignature) → slice_get operations number ≡ Some s → s.name ≡ name → length arguments ≡ length s.takes
 HasArity a operations other = Unit {0}

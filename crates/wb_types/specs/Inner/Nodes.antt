@@ -30,7 +30,8 @@ pub record BuildsKind (signatures : List Signature) (kinds : List (Option Kind))
   pub whole : is ≡ kind.Tree signature.left
 
 -- a node that calls the operation of this name
-pub record CallsKind (operations : List OperationSignature) (kinds : List (Option Kind)) (name : List ℕ) (places : List ℕ) (is : Kind) : Type 0 where
+pub record CallsKind (operations : List OperationSignature) (kinds : List (Option Kind)) (name : List ℕ) (places : List ℕ)
+    (is : Kind) : Type 0 where
   pub number : ℕ
   pub signature : OperationSignature
   pub listed : slice_get operations number ≡ Some signature

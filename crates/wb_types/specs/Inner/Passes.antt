@@ -49,7 +49,8 @@ AllPass tested a operations production = (nodes : List Node) (is : Kind) (offset
     → Passes tested a operations production nodes is
 
 -- the refusal tells that an expression of the production fails the rule
-pub record SomeFails (tested : Rule) (a : AttributionParts) (operations : List OperationSignature) (production : Production) (refusal : TypeRefusal) : Type 0 where
+pub record SomeFails (tested : Rule) (a : AttributionParts) (operations : List OperationSignature) (production : Production)
+    (refusal : TypeRefusal) : Type 0 where
   pub nodes : List Node
   pub is : Kind
   pub offset : ℕ

@@ -16,7 +16,8 @@ equations-preserved-in_default c =
     let operations = c.args.context.now.operations.now in
     let production = c.args.context.now.production.now in
     let e = c.equation-item.result in
-    taken_more (λ (z : Equation). (is : Kind) → IsAttributeKind a (attribute_of z.target) is → Passes c.args.rule a operations production z.nodes is)
+    taken_more (λ (z : Equation). (is : Kind) → IsAttributeKind a (attribute_of z.target) is
+        → Passes c.args.rule a operations production z.nodes is)
     c.as_slice-equation-items.result.now c.equations.equation-index e c.equations.invariant c.equations-test.true c.equation-item.is
     (λ is of. absurd (c.in_default.not-Some is
     ((c.attribute_kind.ensures is).1 (subst (λ (number : ℕ). IsAttributeKind a number is) (sym c.target_attribute.ensures) of))))
@@ -29,11 +30,14 @@ returns-in_err-check_expression-clause-refused c =
     let e = c.equation-item.result in
     let nodes = c.as_slice.result.now in
     let is = c.in-Some.kind in
-    let of = subst (λ (number : ℕ). IsAttributeKind a number is) c.target_attribute.ensures ((c.attribute_kind.ensures is).0 c.in-Some.is) in
+    let of = subst (λ (number : ℕ). IsAttributeKind a number is) c.target_attribute.ensures
+        ((c.attribute_kind.ensures is).0 c.in-Some.is) in
     handed_on (Fails c.args.rule a operations production nodes is e.offset) (SomeFails c.args.rule a operations production)
     c.from_residual.result c.in_err-check_expression.field-0.0 c.from_residual.ensures.1
     (some_fails c.args.rule a operations production nodes is e.offset
-    (s.equation e (read_contained c.as_slice-equation-items.result.now production.equations c.equations.equation-index e c.as_slice-equation-items.ensures
+    (s.equation e
+        (read_contained c.as_slice-equation-items.result.now production.equations c.equations.equation-index e
+            c.as_slice-equation-items.ensures
     c.equations-test.true c.equation-item.is)
     c.as_slice.ensures of refl))
     c.in_err-check_expression.ensures.refused
@@ -44,7 +48,8 @@ equations-preserved c =
     let operations = c.args.context.now.operations.now in
     let production = c.args.context.now.production.now in
     let e = c.equation-item.result in
-    taken_more (λ (z : Equation). (is : Kind) → IsAttributeKind a (attribute_of z.target) is → Passes c.args.rule a operations production z.nodes is)
+    taken_more (λ (z : Equation). (is : Kind) → IsAttributeKind a (attribute_of z.target) is
+        → Passes c.args.rule a operations production z.nodes is)
     c.as_slice-equation-items.result.now c.equations.equation-index e c.equations.invariant c.equations-test.true c.equation-item.is
     (λ is of.
     let some : c.attribute_kind.result ≡ Some is =
@@ -59,10 +64,13 @@ returns-clause-ok c = λ e is listed of.
     let a = c.args.context.now.attributes.now in
     let operations = c.args.context.now.operations.now in
     let production = c.args.context.now.production.now in
-    all_contained (λ (z : Equation). (is : Kind) → IsAttributeKind a (attribute_of z.target) is → Passes c.args.rule a operations production z.nodes is)
+    all_contained (λ (z : Equation). (is : Kind) → IsAttributeKind a (attribute_of z.target) is
+        → Passes c.args.rule a operations production z.nodes is)
     production.equations e
-    (subst (λ (xs : List Equation). All (λ (z : Equation). (is : Kind) → IsAttributeKind a (attribute_of z.target) is → Passes c.args.rule a operations production z.nodes is) xs)
+    (subst (λ (xs : List Equation). All (λ (z : Equation). (is : Kind) → IsAttributeKind a (attribute_of z.target) is
+        → Passes c.args.rule a operations production z.nodes is) xs)
     c.as_slice-equation-items.ensures
-    (taken_all (λ (z : Equation). (is : Kind) → IsAttributeKind a (attribute_of z.target) is → Passes c.args.rule a operations production z.nodes is)
+    (taken_all (λ (z : Equation). (is : Kind) → IsAttributeKind a (attribute_of z.target) is
+        → Passes c.args.rule a operations production z.nodes is)
     c.as_slice-equation-items.result.now c.equations.equation-index c.equations.invariant c.equations-test.false))
     listed is of

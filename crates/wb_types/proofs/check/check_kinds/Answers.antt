@@ -19,14 +19,16 @@ pub returns-in_err-check_rule-2-clause-refused : goal.returns-in_err-check_rule-
 returns-in_err-check_rule-2-clause-refused c =
     handed_on (AnyFails Arity c.args.attributes.now c.args.operations.now) (IsTrueRefusal c.args.attributes.now c.args.operations.now)
     c.from_residual-in_err-check_rule-2.result c.in_err-check_rule-2.field-0.0 c.from_residual-in_err-check_rule-2.ensures.1
-    (arity_refused c.args.attributes.now c.args.operations.now (λ production nodes is offset listed asked. c.in_ok-check_rule.ensures.ok production listed nodes is offset asked))
+    (arity_refused c.args.attributes.now c.args.operations.now
+        (λ production nodes is offset listed asked. c.in_ok-check_rule.ensures.ok production listed nodes is offset asked))
     c.in_err-check_rule-2.ensures.refused
 
 pub returns-clause-ok : goal.returns-clause-ok
 returns-clause-ok c =
     let a = c.args.attributes.now in
     let operations = c.args.operations.now in
-    IfOk-weaker c.check_rule-3.result (λ done. (production : Production) → Contains a.productions production → AllPass Kind a operations production)
+    IfOk-weaker c.check_rule-3.result (λ done. (production : Production) → Contains a.productions production
+        → AllPass Kind a operations production)
     (λ done. AreKinds a operations)
     (λ done all. record {
       known = λ production nodes is offset listed asked. c.in_ok-check_rule.ensures.ok production listed nodes is offset asked;

@@ -15,10 +15,13 @@ returns-in_err-check_expression-clause-refused c =
     let production = c.args.context.now.production.now in
     let l = c.local-item.result in
     let nodes = c.as_slice.result.now in
-    handed_on (Fails c.args.rule a operations production nodes (Tree l.nonterminal) l.offset) (SomeFails c.args.rule a operations production)
+    handed_on (Fails c.args.rule a operations production nodes (Tree l.nonterminal) l.offset)
+        (SomeFails c.args.rule a operations production)
     c.from_residual.result c.in_err-check_expression.field-0.0 c.from_residual.ensures.1
     (some_fails c.args.rule a operations production nodes (Tree l.nonterminal) l.offset
-    (s.local l (read_contained c.as_slice-local-items.result.now production.locals c.locals.local-index l c.as_slice-local-items.ensures c.locals-test.true c.local-item.is)
+    (s.local l
+        (read_contained c.as_slice-local-items.result.now production.locals c.locals.local-index l c.as_slice-local-items.ensures
+            c.locals-test.true c.local-item.is)
     c.as_slice.ensures refl refl))
     c.in_err-check_expression.ensures.refused
 
@@ -38,7 +41,9 @@ returns-clause-ok c = λ l listed.
     let operations = c.args.context.now.operations.now in
     let production = c.args.context.now.production.now in
     all_contained (λ (z : Local). Passes c.args.rule a operations production z.nodes (Tree z.nonterminal)) production.locals l
-    (subst (λ (xs : List Local). All (λ (z : Local). Passes c.args.rule a operations production z.nodes (Tree z.nonterminal)) xs) c.as_slice-local-items.ensures
-    (taken_all (λ (z : Local). Passes c.args.rule a operations production z.nodes (Tree z.nonterminal)) c.as_slice-local-items.result.now c.locals.local-index
+    (subst (λ (xs : List Local). All (λ (z : Local). Passes c.args.rule a operations production z.nodes
+        (Tree z.nonterminal)) xs) c.as_slice-local-items.ensures
+    (taken_all (λ (z : Local). Passes c.args.rule a operations production z.nodes
+        (Tree z.nonterminal)) c.as_slice-local-items.result.now c.locals.local-index
     c.locals.invariant c.locals-test.false))
     listed
