@@ -1,5 +1,5 @@
 -- The first state that accepts has the least text.
-use Rattle.std.proofs.Common.{◌≡◌, ℕ, zero, suc, ◌+◌, ◌≤◌, ◌<◌, ◌⊎◌, Bool, List, [], ◌∷◌, ◌++◌, refl, sym, ◌∙◌, ap, subst, arith, inl, inr, Some, length, get_or, append-nil, set, true, false, length-set, get_or-set_same, get_or-set_other}
+use Rattle.std.proofs.Common.{◌≡◌, ℕ, ◌+◌, ◌≤◌, ◌<◌, Bool, List, [], ◌∷◌, ◌++◌, refl, sym, ◌∙◌, ap, subst, arith, inl, inr, Some, length, get_or, append-nil}
 use Rattle.std.specs.Prelude.{slice_get}
 use Rattle.std.proofs.lemmas.Bool.{cases_eq, cases_lt}
 use Rattle.std.proofs.lemmas.Option.{slice_get-get_or, slice_get_within, same_Some}
@@ -7,10 +7,10 @@ use Rattle.wb_regex.specs.Filled.{Filled}
 use Rattle.wb_regex.specs.Tree.{Tree, Set, Sequence, Choice, Star, Plus, Maybe}
 use Rattle.wb_regex.specs.Matches as w
 use Rattle.wb_termset.specs.Sets.{IsMember}
-use Rattle.wb_automata.specs.Order.{IsBefore, IsAtMost}
-use Rattle.wb_automata.specs.Automata.{AutomatonView, Path, IsEarlier, IsConsidered, IsMatch, MatchesIn, GoesOn, LeadsTo, IsOrdered}
+use Rattle.wb_automata.specs.Order.{IsAtMost}
+use Rattle.wb_automata.specs.Automata.{AutomatonView, Path, IsMatch, MatchesIn, GoesOn, LeadsTo, IsOrdered}
 use Rattle.wb_automata.specs.Inner.SharedStates.{HasAll, IsLeastState, AreApartBelow}
-use Rattle.wb_automata.specs.Overlaps.{IsLeastMatch, IsLeastShared}
+use Rattle.wb_automata.specs.Overlaps.{IsLeastShared}
 use Rattle.wb_automata.proofs.OrderLemmas.{IsLatest, latest_next}
 use Rattle.wb_automata.proofs.WalkLemmas.{alike_same}
 
@@ -86,10 +86,6 @@ right_two terminals r s x e m = record { tree = s; at = ap (λ z. slice_get z 1)
 pub in_all : (automaton : AutomatonView) (k : ℕ) (x : List ℕ) → HasAll 2 automaton.sets → k < 2 → IsMatch automaton.terminals k x → MatchesIn automaton 0 k x
 in_all automaton k x h lt m = record { considered = record { flags = h.set; at = ap (λ z. slice_get z 0) h.one; has = h.all k lt }; is = m }
 
--- and that set is the first
-first_set : (sets : List (List Bool)) (set : List Bool) (s k : ℕ) → sets ≡ set ∷ [] → IsConsidered sets s k → s ≡ 0
-first_set sets set s k e c = (let lt = slice_get_within sets s c.flags c.at in omega (arith, ap length e))
-
 pub least_of_two : (automaton : AutomatonView) (r s : Tree) (state : ℕ) (text : List ℕ) → automaton.terminals ≡ r ∷ s ∷ [] → HasAll 2 automaton.sets → ((path : Path) → slice_get automaton.paths state ≡ Some path → text ≡ path.text) → IsLeastState automaton 0 1 state → IsLeastShared r s text
 least_of_two automaton r s state text e all at l =
     subst (IsLeastShared r s) (sym (at l.path l.at)) (record {
@@ -107,9 +103,3 @@ least_of_two automaton r s state text e all at l =
 pub record AllBelow (set : List Bool) (count i : ℕ) : Type 0 where
   pub len : length set ≡ count
   pub all : (t : ℕ) → t < i → IsMember set t
-
-pub all_more : (flags : List Bool) (count i : ℕ) → i < count → AllBelow flags count i → AllBelow (set flags i true) count (i + 1)
-all_more flags count i lt h = record {
-  len = length-set flags i true ∙ h.len;
-  all = λ t less. elim (cases_eq t i) [ inl e ↦ rw e (get_or-set_same flags i true false (omega (arith, h.len))) | inr other ↦ get_or-set_other flags i t true false other ∙ h.all t (omega arith) ];
-}
