@@ -69,35 +69,31 @@ apart_more automaton one other n before here state s text lt l p q = elim (cases
   | inr late ↦ here s text (subst (LeadsTo automaton s text) (let e : state ≡ n = omega arith in e) l) p q
 ]
 
--- what the first two terminals match
-pub two_left : (terminals : List Tree) (r s : Tree) (x : List ℕ) → terminals ≡ r ∷ s ∷ [] → IsMatch terminals 0 x → w.Matches r x
-two_left terminals r s x e m = subst (λ z. w.Matches z x) (same_Some m.tree r (sym m.at ∙ ap (λ z. slice_get z 0) e)) m.matches
-
-pub two_right : (terminals : List Tree) (r s : Tree) (x : List ℕ) → terminals ≡ r ∷ s ∷ [] → IsMatch terminals 1 x → w.Matches s x
-two_right terminals r s x e m = subst (λ z. w.Matches z x) (same_Some m.tree s (sym m.at ∙ ap (λ z. slice_get z 1) e)) m.matches
-
-pub left_two : (terminals : List Tree) (r s : Tree) (x : List ℕ) → terminals ≡ r ∷ s ∷ [] → w.Matches r x → IsMatch terminals 0 x
-left_two terminals r s x e m = record { tree = r; at = ap (λ z. slice_get z 0) e; matches = m }
-
-pub right_two : (terminals : List Tree) (r s : Tree) (x : List ℕ) → terminals ≡ r ∷ s ∷ [] → w.Matches s x → IsMatch terminals 1 x
-right_two terminals r s x e m = record { tree = s; at = ap (λ z. slice_get z 1) e; matches = m }
+-- what a terminal matches
+pub tree_matches : (terminals : List Tree) (k : ℕ) (r : Tree) (x : List ℕ) → slice_get terminals k ≡ Some r → IsMatch terminals k x → w.Matches r x
+tree_matches terminals k r x at m = subst (λ z. w.Matches z x) (same_Some m.tree r (sym m.at ∙ at)) m.matches
 
 -- all terminals are in the one set
-pub in_all : (automaton : AutomatonView) (k : ℕ) (x : List ℕ) → HasAll 2 automaton.sets → k < 2 → IsMatch automaton.terminals k x → MatchesIn automaton 0 k x
-in_all automaton k x h lt m = record { considered = record { flags = h.set; at = ap (λ z. slice_get z 0) h.one; has = h.all k lt }; is = m }
+pub in_all : (automaton : AutomatonView) (n k : ℕ) (r : Tree) (x : List ℕ) → HasAll n automaton.sets → k < n → slice_get automaton.terminals k ≡ Some r → w.Matches r x → MatchesIn automaton 0 k x
+in_all automaton n k r x h lt at m = record {
+  considered = record { flags = h.set; at = ap (λ z. slice_get z 0) h.one; has = h.all k lt };
+  is = record { tree = r; at = at; matches = m };
+}
 
-pub least_of_two : (automaton : AutomatonView) (r s : Tree) (state : ℕ) (text : List ℕ) → automaton.terminals ≡ r ∷ s ∷ [] → HasAll 2 automaton.sets → ((path : Path) → slice_get automaton.paths state ≡ Some path → text ≡ path.text) → IsLeastState automaton 0 1 state → IsLeastShared r s text
-least_of_two automaton r s state text e all at l =
+-- the path of a state that isn't later than a text from the one start has no later text
+at_most : (path : Path) (shared : List ℕ) → IsLatest (record { set = 0; text = shared }) path → IsAtMost path.text shared
+at_most path shared (inl e) = inl (ap (λ z. z.text) e)
+at_most path shared (inr (inl lt)) = absurd (omega arith)
+at_most path shared (inr (inr (same, before))) = inr before
+
+-- the text of the first state that accepts two terminals is the least that both match
+pub least_of : (automaton : AutomatonView) (n j k : ℕ) (r s : Tree) (state : ℕ) (text : List ℕ) → HasAll n automaton.sets → j < n → k < n → slice_get automaton.terminals j ≡ Some r → slice_get automaton.terminals k ≡ Some s → ((path : Path) → slice_get automaton.paths state ≡ Some path → text ≡ path.text) → IsLeastState automaton j k state → IsLeastShared r s text
+least_of automaton n j k r s state text all lt less at_j at_k at l =
     subst (IsLeastShared r s) (sym (at l.path l.at)) (record {
-      one = two_left automaton.terminals r s l.path.text e l.first.is;
-      other = two_right automaton.terminals r s l.path.text e l.second.is;
-      least = λ shared p q. at_most shared (l.least 0 shared (in_all automaton 0 shared all (omega arith) (left_two automaton.terminals r s shared e p)) (in_all automaton 1 shared all (omega arith) (right_two automaton.terminals r s shared e q)));
+      one = tree_matches automaton.terminals j r l.path.text at_j l.first.is;
+      other = tree_matches automaton.terminals k s l.path.text at_k l.second.is;
+      least = λ shared p q. at_most l.path shared (l.least 0 shared (in_all automaton n j r shared all lt at_j p) (in_all automaton n k s shared all less at_k q));
     })
-  where
-    at_most : (shared : List ℕ) → IsLatest (record { set = 0; text = shared }) l.path → IsAtMost l.path.text shared
-    at_most shared (inl e) = inl (ap (λ z. z.text) e)
-    at_most shared (inr (inl lt)) = absurd (omega arith)
-    at_most shared (inr (inr (same, before))) = inr before
 
 -- one set of all numbers below the count, as far as it is made
 pub record AllBelow (set : List Bool) (count i : ℕ) : Type 0 where
