@@ -1,13 +1,13 @@
 -- The lists of accepted terminals.
-use Rattle.std.proofs.Common.{◌≡◌, ℕ, ◌+◌, ◌<◌, List, [], ◌∷◌, ◌++◌, refl, sym, ◌∙◌, ap, subst, arith, inl, inr, Some, length, get_or, length-append}
-use Rattle.std.specs.Prelude.{slice_get, Contains, ◌↔◌}
+use Rattle.std.proofs.Common.{◌≡◌, ℕ, ◌+◌, List, [], ◌∷◌, ◌++◌, refl, sym, ◌∙◌, ap, subst, arith, inl, inr, Some, length, length-append}
+use Rattle.std.specs.Prelude.{slice_get, Contains, ◌↔◌, IfOk, Result, Ok, Err}
 use Rattle.std.proofs.lemmas.Bool.{cases_lt, cases_eq}
 use Rattle.std.proofs.lemmas.List.{get_or_append_left, get_or_push, get_or_past}
 use Rattle.std.proofs.lemmas.Option.{same_Some}
 use Rattle.wb_automata.specs.Rows.{row}
 use Rattle.wb_automata.specs.Order.{AreRising}
 use Rattle.wb_automata.specs.Inner.Transitions.{Ahead}
-use Rattle.wb_automata.specs.Inner.Accepted.{AreAccepted}
+use Rattle.wb_automata.specs.Inner.Accepted.{AreAccepted, IsAccepted}
 
 pub rising_none : AreRising []
 rising_none i j lt below = absurd (omega arith)
@@ -37,3 +37,8 @@ accepted_step ends sets accepted set all i at exact rise h = record {
         subst (λ z. Contains (row (accepted ++ all ∷ []) z) k ↔ Ahead ends own k) (sym same) (rw (get_or_push accepted all [] i h.len) (subst (λ z. Contains all k ↔ Ahead ends z k) is (exact k)))
   ];
 }
+
+-- the list of one set more
+pub accepted_push : {E : Type 0} (ends : List (List ℕ)) (set all : List ℕ) (old new : List (List ℕ)) (r : Result (Unit {0}) E) → IfOk r (λ _. new ≡ old ++ all ∷ []) → AreRising all → ((k : ℕ) → Contains all k ↔ Ahead ends set k) → IfOk r (λ _. IsAccepted ends set old new)
+accepted_push ends set all old new (Ok _) last rise exact = record { all = all; last = last; rising = rise; exact = exact }
+accepted_push ends set all old new (Err e) last rise exact = tt

@@ -22,9 +22,6 @@ classes_begin nodes classes firsts e f = record {
     zero_at : (b : ℕ) → b < 256 → get_or classes b 0 ≡ 0
     zero_at b lt = ap (λ xs. get_or xs b 0) e ∙ get_or-replicate 256 b 0 0 lt
 
-pub class_begin : (node : RegexNode) (old : List ℕ) → ClassPass node old [] [] 0
-class_begin node old = record { len = refl; below = λ c lt. absurd (omega arith); first = λ c lt. absurd (omega arith); same = λ c lt. absurd (omega arith); holds = λ c lt. absurd (omega arith); small = λ k lt. absurd (omega arith); rising = λ i j lt below. absurd (omega arith) }
-
 -- the first bytes stay, and a new one is the byte
 pub record FirstsKept (old new : List ℕ) (b : ℕ) : Type 0 where
   pub kept : (k : ℕ) → k < length old → get_or new k 0 ≡ get_or old k 0

@@ -1,9 +1,9 @@
 -- The walk over the parts of a node finds its first or last leaves.
-use Rattle.std.proofs.Common.{◌≡◌, ℕ, zero, suc, ◌+◌, ◌*◌, ◌^◌, ◌≤◌, ◌<◌, ◌⊎◌, Bool, true, false, List, [], ◌∷◌, ◌++◌, refl, sym, ◌∙◌, ap, subst, arith, inl, inr, Some, length, get_or, length-append, append_assoc, append-nil, cond}
+use Rattle.std.proofs.Common.{◌≡◌, ℕ, zero, suc, ◌+◌, ◌^◌, ◌≤◌, ◌<◌, Bool, true, false, List, [], ◌∷◌, ◌++◌, refl, sym, ◌∙◌, ap, subst, arith, inl, inr, Some, length, get_or, length-append, append_assoc, append-nil, cond}
 use Rattle.std.specs.Prelude.{slice_get, All}
-use Rattle.std.proofs.lemmas.Bool.{cases_lt, cases_Bool}
+use Rattle.std.proofs.lemmas.Bool.{cases_lt}
 use Rattle.std.proofs.lemmas.List.{get_or_append_left, get_or_push, get_or_past}
-use Rattle.std.proofs.lemmas.List.Elements.{All-append, All-weaker, All-nil, All-cons}
+use Rattle.std.proofs.lemmas.List.Elements.{All-append, All-nil, All-cons}
 use Rattle.std.proofs.lemmas.Option.{slice_get-get_or, slice_get_within, same_Some}
 use Rattle.wb_regex.specs.declared.node.RegexNode.{RegexNode}
 use Rattle.wb_regex.specs.declared.node.RegexNode.TheVariants as n
@@ -14,7 +14,7 @@ use Rattle.wb_automata.specs.declared.ends.Parts.TheVariants.{Leaf, One, Two}
 use Rattle.wb_automata.specs.Rows.{row}
 use Rattle.wb_automata.specs.Inner.Nodes.{flag, AreNullable, AreFirsts, AreLasts, AreParts, PartsBelow}
 use Rattle.wb_automata.specs.Inner.Follows.{AreBelow}
-use Rattle.wb_automata.specs.Inner.Ends.{sequence_parts, parts_of, leaves_at, rows_from, rows_of, todo, weight, AreBefore, IsOpened}
+use Rattle.wb_automata.specs.Inner.Ends.{parts_of, leaves_at, rows_from, rows_of, todo, weight, AreBefore, IsOpened}
 use Rattle.wb_lemmas.proofs.Elements.{all_weaker}
 use Rattle.wb_lemmas.proofs.Places.{append_seam}
 use Rattle.wb_automata.proofs.NodeLemmas.{first_step, last_step}

@@ -14,16 +14,16 @@ use Rattle.wb_automata.specs.Inner.PositionTrees.{PositionTree, Matches, one, se
 use Rattle.wb_automata.specs.Inner.Projection.{IsProjection, leaf, sequence, choice, star, plus, maybe}
 use Rattle.wb_automata.specs.Inner.Transitions.{has_byte, node_holds, holds_of}
 use Rattle.wb_automata.specs.Inner.PositionSets.{Filled}
-use Rattle.wb_automata.proofs.Empties.{both_true, first_true, second_true}
+use Rattle.wb_lemmas.proofs.Booleans.{and_both, and_left, and_right}
 
 -- a set holds a byte where its bits say so
 pub has_byte_holds : (words : List ℕ) (b : ℕ) → has_byte words b ≡ true → w.HoldsByte words b
 has_byte_holds words b h =
-    let e : b / 256 ≡ 0 = eqb-true (b / 256) 0 (first_true _ _ h) in
-    (omega arith, eqb-true (bit_at (slice_index words (b / 64)) (b % 64)) 1 (second_true _ _ h))
+    let e : b / 256 ≡ 0 = eqb-true (b / 256) 0 (and_left _ _ h) in
+    (omega arith, eqb-true (bit_at (slice_index words (b / 64)) (b % 64)) 1 (and_right _ _ h))
 
 pub holds_has_byte : (words : List ℕ) (b : ℕ) → w.HoldsByte words b → has_byte words b ≡ true
-holds_has_byte words b (lt, h) = let e : b / 256 ≡ 0 = omega arith in both_true _ _ (eq-eqb (b / 256) 0 e) (eq-eqb _ 1 h)
+holds_has_byte words b (lt, h) = let e : b / 256 ≡ 0 = omega arith in and_both _ _ (eq-eqb (b / 256) 0 e) (eq-eqb _ 1 h)
 
 leaf_holds : (nodes : List RegexNode) (p : ℕ) (words : List ℕ) (b : ℕ) → slice_get nodes p ≡ Some (n.Set words) → holds_of nodes p b ≡ has_byte words b
 leaf_holds nodes p words b at = ap (λ z. node_holds z b) (get_or_from_slice_get nodes p (n.Set words) (n.Set []) at)

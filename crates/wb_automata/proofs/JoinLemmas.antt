@@ -1,9 +1,9 @@
 -- Nodes that are joined are those of expressions with places at their leaves.
-use Rattle.std.proofs.Common.{◌≡◌, ℕ, zero, suc, ◌+◌, ◌≤◌, ◌<◌, List, [], ◌∷◌, ◌++◌, refl, sym, ◌∙◌, ap, subst, arith, Some, length, get_or, add-one, map, length-append, length-take-le, take, append_assoc, ◌^◌, inl, inr}
+use Rattle.std.proofs.Common.{◌≡◌, ℕ, zero, suc, ◌+◌, ◌≤◌, ◌<◌, List, [], ◌∷◌, ◌++◌, refl, sym, ◌∙◌, ap, subst, arith, Some, length, get_or, add-one, map, length-append, length-take-le, take, ◌^◌, inl, inr}
 use Rattle.std.specs.Prelude.{slice_get, option_map, sum_by}
 use Rattle.std.proofs.lemmas.List.Sums.{sum_by-cons}
 use Rattle.std.proofs.lemmas.Bool.{cases_lt}
-use Rattle.std.proofs.lemmas.List.{get_or_append_left, get_or_push, take_more, map-append, length-map}
+use Rattle.std.proofs.lemmas.List.{get_or_append_left, get_or_push, length-map}
 use Rattle.std.proofs.lemmas.Option.{slice_get-get_or, slice_get-map, same_Some}
 use Rattle.wb_regex.specs.Tree.{Tree}
 use Rattle.wb_regex.specs.Covers as w
@@ -16,7 +16,7 @@ use Rattle.wb_automata.specs.Inner.Concatenated.{raised, size_of, bound_of, AreC
 use Rattle.wb_regex.specs.Filled.{Filled}
 use Rattle.wb_regex.specs.Matches.{Matches}
 use Rattle.wb_automata.proofs.NodeLemmas.{parts_more}
-use Rattle.wb_automata.proofs.PlaceLemmas.{slice_get_more}
+use Rattle.wb_lemmas.proofs.Places.{append_keeps}
 
 -- an expression with places at its leaves, of which the nodes are, and the tree is
 pub record IsPlaced (nodes : List RegexNode) (s e : ℕ) (tree : Tree) : Type 0 where
@@ -135,7 +135,7 @@ join_step trees old new roots i root tree at h a = record {
   parts = λ k t lt here. elim (cases_lt k i) [
     | inl less ↦
         let p = h.parts k t less here in
-        record { source = p.source; covers = p.covers; filled = p.filled; not_empty = p.not_empty; embeds = λ j node is. subst (λ z. slice_get z (bound_of trees k + j) ≡ Some (raised (bound_of trees k) node)) (sym a.joins) (slice_get_more old (map (raised (length old)) a.source) (bound_of trees k + j) (raised (bound_of trees k) node) (p.embeds j node is)) }
+        record { source = p.source; covers = p.covers; filled = p.filled; not_empty = p.not_empty; embeds = λ j node is. subst (λ z. slice_get z (bound_of trees k + j) ≡ Some (raised (bound_of trees k) node)) (sym a.joins) (append_keeps old (map (raised (length old)) a.source) (bound_of trees k + j) (raised (bound_of trees k) node) (p.embeds j node is)) }
     | inr past ↦
         let e : i ≡ k = omega arith in
         let same : tree ≡ t = same_Some tree t (sym at ∙ ap (slice_get trees) e ∙ here) in
@@ -173,10 +173,6 @@ join_begin trees = record { len = sym (bound_first trees); roots_len = refl; par
 pub bound_sum : (trees : List Tree) → bound_of trees (length trees) ≡ sum_by size_of trees
 bound_sum [] = refl
 bound_sum (t ∷ ts) = ap (λ z. size_of t + z) (bound_sum ts) ∙ sym (sum_by-cons size_of t ts)
-
--- nodes put after others one by one
-pub raised_more : (old : List RegexNode) (more : List RegexNode) (i : ℕ) (node d : RegexNode) (f : RegexNode → RegexNode) → i < length more → node ≡ get_or more i d → (old ++ map f (take i more)) ++ f node ∷ [] ≡ old ++ map f (take (i + 1) more)
-raised_more old more i node d f lt e = rw (take_more more i d lt, map-append f (take i more) (get_or more i d ∷ []), e) (append_assoc old (map f (take i more)) (f (get_or more i d) ∷ []))
 
 -- the places of parts are small where the nodes before them fit into memory
 pub parts_fit : (old more nodes : List RegexNode) (f : RegexNode → RegexNode) (i : ℕ) → nodes ≡ old ++ map f (take i more) → c.AreParts more → i < length more → length nodes < 2 ^ 63 → c.PartsBelow (2 ^ 63) (get_or more i (n.Set []))

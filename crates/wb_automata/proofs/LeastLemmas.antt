@@ -1,5 +1,5 @@
 -- The first state that accepts has the least text.
-use Rattle.std.proofs.Common.{◌≡◌, ℕ, zero, suc, ◌+◌, ◌≤◌, ◌<◌, ◌⊎◌, Bool, List, [], ◌∷◌, ◌++◌, refl, sym, ◌∙◌, ap, subst, arith, inl, inr, Some, length, get_or, append-nil, set, true, false, length-set, get_or-set_same, get_or-set_other}
+use Rattle.std.proofs.Common.{◌≡◌, ℕ, ◌+◌, ◌≤◌, ◌<◌, Bool, List, [], ◌∷◌, ◌++◌, refl, sym, ◌∙◌, ap, subst, arith, inl, inr, Some, length, get_or, append-nil}
 use Rattle.std.specs.Prelude.{slice_get}
 use Rattle.std.proofs.lemmas.Bool.{cases_eq, cases_lt}
 use Rattle.std.proofs.lemmas.Option.{slice_get-get_or, slice_get_within, same_Some}
@@ -7,10 +7,10 @@ use Rattle.wb_regex.specs.Filled.{Filled}
 use Rattle.wb_regex.specs.Tree.{Tree, Set, Sequence, Choice, Star, Plus, Maybe}
 use Rattle.wb_regex.specs.Matches as w
 use Rattle.wb_termset.specs.Sets.{IsMember}
-use Rattle.wb_automata.specs.Order.{IsBefore, IsAtMost}
-use Rattle.wb_automata.specs.Automata.{AutomatonView, Path, IsEarlier, IsConsidered, IsMatch, MatchesIn, GoesOn, LeadsTo, IsOrdered}
+use Rattle.wb_automata.specs.Order.{IsAtMost}
+use Rattle.wb_automata.specs.Automata.{AutomatonView, Path, IsMatch, MatchesIn, GoesOn, LeadsTo, IsOrdered}
 use Rattle.wb_automata.specs.Inner.SharedStates.{HasAll, IsLeastState, AreApartBelow}
-use Rattle.wb_automata.specs.Overlaps.{IsLeastMatch, IsLeastShared}
+use Rattle.wb_automata.specs.Overlaps.{IsLeastShared}
 use Rattle.wb_automata.proofs.OrderLemmas.{IsLatest, latest_next}
 use Rattle.wb_automata.proofs.WalkLemmas.{alike_same}
 
@@ -69,47 +69,33 @@ apart_more automaton one other n before here state s text lt l p q = elim (cases
   | inr late ↦ here s text (subst (LeadsTo automaton s text) (let e : state ≡ n = omega arith in e) l) p q
 ]
 
--- what the first two terminals match
-pub two_left : (terminals : List Tree) (r s : Tree) (x : List ℕ) → terminals ≡ r ∷ s ∷ [] → IsMatch terminals 0 x → w.Matches r x
-two_left terminals r s x e m = subst (λ z. w.Matches z x) (same_Some m.tree r (sym m.at ∙ ap (λ z. slice_get z 0) e)) m.matches
-
-pub two_right : (terminals : List Tree) (r s : Tree) (x : List ℕ) → terminals ≡ r ∷ s ∷ [] → IsMatch terminals 1 x → w.Matches s x
-two_right terminals r s x e m = subst (λ z. w.Matches z x) (same_Some m.tree s (sym m.at ∙ ap (λ z. slice_get z 1) e)) m.matches
-
-pub left_two : (terminals : List Tree) (r s : Tree) (x : List ℕ) → terminals ≡ r ∷ s ∷ [] → w.Matches r x → IsMatch terminals 0 x
-left_two terminals r s x e m = record { tree = r; at = ap (λ z. slice_get z 0) e; matches = m }
-
-pub right_two : (terminals : List Tree) (r s : Tree) (x : List ℕ) → terminals ≡ r ∷ s ∷ [] → w.Matches s x → IsMatch terminals 1 x
-right_two terminals r s x e m = record { tree = s; at = ap (λ z. slice_get z 1) e; matches = m }
+-- what a terminal matches
+pub tree_matches : (terminals : List Tree) (k : ℕ) (r : Tree) (x : List ℕ) → slice_get terminals k ≡ Some r → IsMatch terminals k x → w.Matches r x
+tree_matches terminals k r x at m = subst (λ z. w.Matches z x) (same_Some m.tree r (sym m.at ∙ at)) m.matches
 
 -- all terminals are in the one set
-pub in_all : (automaton : AutomatonView) (k : ℕ) (x : List ℕ) → HasAll 2 automaton.sets → k < 2 → IsMatch automaton.terminals k x → MatchesIn automaton 0 k x
-in_all automaton k x h lt m = record { considered = record { flags = h.set; at = ap (λ z. slice_get z 0) h.one; has = h.all k lt }; is = m }
+pub in_all : (automaton : AutomatonView) (n k : ℕ) (r : Tree) (x : List ℕ) → HasAll n automaton.sets → k < n → slice_get automaton.terminals k ≡ Some r → w.Matches r x → MatchesIn automaton 0 k x
+in_all automaton n k r x h lt at m = record {
+  considered = record { flags = h.set; at = ap (λ z. slice_get z 0) h.one; has = h.all k lt };
+  is = record { tree = r; at = at; matches = m };
+}
 
--- and that set is the first
-first_set : (sets : List (List Bool)) (set : List Bool) (s k : ℕ) → sets ≡ set ∷ [] → IsConsidered sets s k → s ≡ 0
-first_set sets set s k e c = (let lt = slice_get_within sets s c.flags c.at in omega (arith, ap length e))
+-- the path of a state that isn't later than a text from the one start has no later text
+at_most : (path : Path) (shared : List ℕ) → IsLatest (record { set = 0; text = shared }) path → IsAtMost path.text shared
+at_most path shared (inl e) = inl (ap (λ z. z.text) e)
+at_most path shared (inr (inl lt)) = absurd (omega arith)
+at_most path shared (inr (inr (same, before))) = inr before
 
-pub least_of_two : (automaton : AutomatonView) (r s : Tree) (state : ℕ) (text : List ℕ) → automaton.terminals ≡ r ∷ s ∷ [] → HasAll 2 automaton.sets → ((path : Path) → slice_get automaton.paths state ≡ Some path → text ≡ path.text) → IsLeastState automaton 0 1 state → IsLeastShared r s text
-least_of_two automaton r s state text e all at l =
+-- the text of the first state that accepts two terminals is the least that both match
+pub least_of : (automaton : AutomatonView) (n j k : ℕ) (r s : Tree) (state : ℕ) (text : List ℕ) → HasAll n automaton.sets → j < n → k < n → slice_get automaton.terminals j ≡ Some r → slice_get automaton.terminals k ≡ Some s → ((path : Path) → slice_get automaton.paths state ≡ Some path → text ≡ path.text) → IsLeastState automaton j k state → IsLeastShared r s text
+least_of automaton n j k r s state text all lt less at_j at_k at l =
     subst (IsLeastShared r s) (sym (at l.path l.at)) (record {
-      one = two_left automaton.terminals r s l.path.text e l.first.is;
-      other = two_right automaton.terminals r s l.path.text e l.second.is;
-      least = λ shared p q. at_most shared (l.least 0 shared (in_all automaton 0 shared all (omega arith) (left_two automaton.terminals r s shared e p)) (in_all automaton 1 shared all (omega arith) (right_two automaton.terminals r s shared e q)));
+      one = tree_matches automaton.terminals j r l.path.text at_j l.first.is;
+      other = tree_matches automaton.terminals k s l.path.text at_k l.second.is;
+      least = λ shared p q. at_most l.path shared (l.least 0 shared (in_all automaton n j r shared all lt at_j p) (in_all automaton n k s shared all less at_k q));
     })
-  where
-    at_most : (shared : List ℕ) → IsLatest (record { set = 0; text = shared }) l.path → IsAtMost l.path.text shared
-    at_most shared (inl e) = inl (ap (λ z. z.text) e)
-    at_most shared (inr (inl lt)) = absurd (omega arith)
-    at_most shared (inr (inr (same, before))) = inr before
 
 -- one set of all numbers below the count, as far as it is made
 pub record AllBelow (set : List Bool) (count i : ℕ) : Type 0 where
   pub len : length set ≡ count
   pub all : (t : ℕ) → t < i → IsMember set t
-
-pub all_more : (flags : List Bool) (count i : ℕ) → i < count → AllBelow flags count i → AllBelow (set flags i true) count (i + 1)
-all_more flags count i lt h = record {
-  len = length-set flags i true ∙ h.len;
-  all = λ t less. elim (cases_eq t i) [ inl e ↦ rw e (get_or-set_same flags i true false (omega (arith, h.len))) | inr other ↦ get_or-set_other flags i t true false other ∙ h.all t (omega arith) ];
-}

@@ -4,6 +4,7 @@ pub mod CountLemmas
 pub mod Empties
 pub mod EndLemmas
 pub mod ErasingLemmas
+pub mod FlatLemmas
 pub mod Forests
 pub mod JoinLemmas
 pub mod KeyLemmas

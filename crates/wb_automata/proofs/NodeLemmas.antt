@@ -1,11 +1,12 @@
 -- Tables over the nodes.
 use Rattle.std.proofs.Common.{◌≡◌, ℕ, ◌+◌, ◌≤◌, ◌<◌, Bool, true, false, cond, List, [], ◌∷◌, ◌++◌, refl, sym, ◌∙◌, ap, subst, arith, ◌⊎◌, inl, inr, Some, length, get_or, length-append, set, take, length-set, get_or-set_same, get_or-set_other}
 use Rattle.std.specs.Prelude.{slice_get, ◌↔◌, Contains}
-use Rattle.std.proofs.lemmas.List.{get_or_append_left, get_or_push, take_more, take_all}
+use Rattle.std.proofs.lemmas.List.{get_or_append_left, get_or_push, take_all}
 use Rattle.std.proofs.lemmas.List.Elements.{Contains-append_cases, Contains-append_left, Contains-append_right, Contains-push, Contains-push_cases}
 use Rattle.std.proofs.lemmas.Bool.{cases_eq, cases_lt}
 use Rattle.std.proofs.lemmas.Option.{same_Some}
 use Rattle.wb_automata.specs.Inner.PositionTrees.{PositionTree, Leaf, Sequence, Choice, Star, Plus, Maybe, nullable_of}
+use Rattle.wb_automata.proofs.MachineLemmas.{taken}
 use Rattle.wb_automata.proofs.Ranges.{more_room}
 use Rattle.wb_automata.specs.Inner.Positions.{Spans, First, Last, Follow}
 use Rattle.wb_regex.specs.declared.node.RegexNode.{RegexNode}
@@ -15,7 +16,7 @@ use Rattle.wb_automata.specs.Rows.{row}
 use Rattle.wb_automata.specs.declared.ends.Side.TheVariants as side
 use Rattle.wb_automata.specs.declared.ends.Parts.TheVariants as parts
 use Rattle.wb_automata.specs.Inner.Ends.{parts_of, leaves_at}
-use Rattle.wb_automata.specs.Inner.Follows.{LinkAt, LinkIn, AreFollows}
+use Rattle.wb_automata.specs.Inner.Follows.{LinkAt, LinkIn}
 
 pub covers_lt : {nodes : List RegexNode} {s e : ℕ} {t : PositionTree} → Covers nodes s e t → s < e
 covers_lt (one words is f) = omega arith
@@ -148,9 +149,6 @@ pub record LinkPass (old follow : List (List ℕ)) (last first : List ℕ) (i : 
 
 pub link_begin : (old : List (List ℕ)) (last first : List ℕ) → LinkPass old old last first 0
 link_begin old last first = record { len = refl; exact = λ p q. (λ h. inl h, λ h. elim h [ inl a ↦ a | inr ((k, lt, is), f) ↦ absurd (omega arith) ]) }
-
-taken : (last : List ℕ) (i p : ℕ) → i < length last → Contains (take (i + 1) last) p ↔ (Contains (take i last) p ⊎ (get_or last i 0 ≡ p))
-taken last i p lt = rw (take_more last i 0 lt) (λ h. Contains-push_cases (take i last) (get_or last i 0) p h, λ h. elim h [ inl a ↦ Contains-append_left (take i last) (get_or last i 0 ∷ []) p a | inr e ↦ subst (Contains (take i last ++ get_or last i 0 ∷ [])) e (Contains-push (take i last) (get_or last i 0)) ])
 
 pub link_step : (old follow : List (List ℕ)) (last first : List ℕ) (i : ℕ) → i < length last → get_or last i 0 < length follow → LinkPass old follow last first i → LinkPass old (set follow (get_or last i 0) (row follow (get_or last i 0) ++ first)) last first (i + 1)
 link_step old follow last first i lt within h = record {

@@ -48,12 +48,6 @@ pub at_most_more : (u v : List ℕ) (b : ℕ) → IsAtMost u v → IsAtMost (u +
 at_most_more u v b (inl e) = inl (ap (λ z. z ++ b ∷ []) e)
 at_most_more u v b (inr p) = inr (before_more u v b b p)
 
-pub at_most_last : (u : List ℕ) (a b : ℕ) → a ≤ b → IsAtMost (u ++ a ∷ []) (u ++ b ∷ [])
-at_most_last u a b le = elim (cases_eq a b) [
-  | inl e ↦ inl (ap (λ c. u ++ c ∷ []) e)
-  | inr ne ↦ inr (before_last u a b (omega arith))
-]
-
 -- the order of paths is transitive
 pub earlier_next : (p q r : Path) → IsEarlier p q → IsEarlier q r → IsEarlier p r
 earlier_next p q r (inl a) (inl b) = inl (omega arith)

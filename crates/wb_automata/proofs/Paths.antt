@@ -2,7 +2,8 @@
 use Rattle.std.proofs.Common.{◌≡◌, ℕ, Bool, true, List, [], ◌∷◌, ◌++◌, refl, sym, ◌∙◌, ap, subst, ◌⊎◌, inl, inr}
 use Rattle.wb_automata.specs.Inner.PositionTrees.{PositionTree, Leaf, Sequence, Choice, Star, Plus, Maybe, Matches, one, seq, left, right, none, more, once, absent, present}
 use Rattle.wb_automata.specs.Inner.Positions.{Spans, First, Last, Follow, After, Joined}
-use Rattle.wb_automata.proofs.Empties.{matches_empty, empty_matches, nil_left, nil_right}
+use Rattle.wb_lemmas.proofs.Parts.{append_nothing_left, append_nothing_right}
+use Rattle.wb_automata.proofs.Empties.{matches_empty, empty_matches}
 use Rattle.wb_automata.proofs.Ranges.{first_within, follow_within, after_within, apart}
 
 -- a joined text that begins with b
@@ -78,12 +79,12 @@ module _ (holds : ℕ → ℕ → Bool) where
 
   pub after_last : (t : PositionTree) (p : ℕ) (w : List ℕ) → After holds t p w → w ≡ [] → Last t p
   after_last (Leaf q) p w (e, f) g = e
-  after_last (Sequence r s) p w (inl j) g = inr (matches_empty j.behind (nil_right j.front j.rest (sym j.joins ∙ g)), after_last r p j.front j.before (nil_left j.front j.rest (sym j.joins ∙ g)))
+  after_last (Sequence r s) p w (inl j) g = inr (matches_empty j.behind (append_nothing_right j.front j.rest (sym j.joins ∙ g)), after_last r p j.front j.before (append_nothing_left j.front j.rest (sym j.joins ∙ g)))
   after_last (Sequence r s) p w (inr f) g = inl (after_last s p w f g)
   after_last (Choice r s) p w (inl f) g = inl (after_last r p w f g)
   after_last (Choice r s) p w (inr f) g = inr (after_last s p w f g)
-  after_last (Star r) p w j g = after_last r p j.front j.before (nil_left j.front j.rest (sym j.joins ∙ g))
-  after_last (Plus r) p w j g = after_last r p j.front j.before (nil_left j.front j.rest (sym j.joins ∙ g))
+  after_last (Star r) p w j g = after_last r p j.front j.before (append_nothing_left j.front j.rest (sym j.joins ∙ g))
+  after_last (Plus r) p w j g = after_last r p j.front j.before (append_nothing_left j.front j.rest (sym j.joins ∙ g))
   after_last (Maybe r) p w f g = after_last r p w f g
 
   -- a step

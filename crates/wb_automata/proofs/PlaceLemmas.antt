@@ -1,20 +1,17 @@
 -- What is found when a state is listed: the old states stay, and a new one comes after them in the order of its path.
-use Rattle.std.proofs.Common.{◌≡◌, ℕ, zero, suc, ◌+◌, ◌<◌, List, [], ◌∷◌, ◌++◌, refl, sym, subst, arith, ◌⊎◌, inl, inr, Some, length, get_or, length-append}
-use Rattle.std.specs.Prelude.{slice_get, ◌↔◌, Contains, All}
-use Rattle.std.proofs.lemmas.List.Elements.{Contains-get_or}
-use Rattle.std.proofs.lemmas.Option.{slice_get-get_or, slice_get_within, same_Some}
+use Rattle.std.proofs.Common.{◌≡◌, ℕ, ◌<◌, List, [], ◌∷◌, ◌++◌, refl, sym, ◌∙◌, ap, subst, arith, ◌⊎◌, inl, inr, Some, length, get_or, length-append}
+use Rattle.std.specs.Prelude.{slice_get, Contains}
+use Rattle.std.proofs.lemmas.Option.{slice_get-get_or, slice_get_within}
 use Rattle.std.proofs.lemmas.Bool.{cases_lt}
+use Rattle.wb_lemmas.proofs.Places.{append_keeps, at_push, push_last}
 use Rattle.wb_automata.specs.declared.predecessor.Predecessor.{Predecessor}
 use Rattle.wb_automata.specs.declared.tables.Tables.{Tables}
 use Rattle.wb_automata.specs.Automata.{Path, IsEarlier}
 use Rattle.wb_automata.specs.Rows.{row}
-use Rattle.wb_automata.specs.Inner.Transitions.{Reads, IsPlaceList}
+use Rattle.wb_automata.specs.Inner.Transitions.{IsPlaceList}
 use Rattle.wb_automata.specs.Inner.Found.{Found, on, pushed, IsPlaced, AllBefore, IsSetStart, IsChild, AreFound, Extends}
 use Rattle.wb_automata.specs.Paths.{path_by, grown, paths_of}
 use Rattle.wb_automata.proofs.OrderLemmas.{IsLatest}
-
-pub all_from : (P : ℕ → Type 0) (xs : List ℕ) → ((x : ℕ) → Contains xs x → P x) → All P xs
-all_from P xs f k d lt = f (get_or xs k d) (Contains-get_or xs k d lt)
 
 pub grown_more : (paths : List Path) (os : List Predecessor) (o : Predecessor) → grown paths (os ++ o ∷ []) ≡ grown paths os ++ path_by (grown paths os) o ∷ []
 grown_more paths [] o = refl
@@ -29,22 +26,9 @@ pub paths_none : paths_of [] ≡ []
 unfolding paths_of
 paths_none = refl
 
-pub slice_get_more : {X : Type 0} (xs ys : List X) (j : ℕ) (x : X) → slice_get xs j ≡ Some x → slice_get (xs ++ ys) j ≡ Some x
-slice_get_more [] ys j x e = cc
-slice_get_more (y ∷ xs) ys zero x e = e
-slice_get_more (y ∷ xs) ys (suc j) x e = slice_get_more xs ys j x e
-
-pub slice_get_last : {X : Type 0} (xs : List X) (y : X) (j : ℕ) → j ≡ length xs → slice_get (xs ++ y ∷ []) j ≡ Some y
-slice_get_last [] y zero e = refl
-slice_get_last [] y (suc j) e = absurd (omega arith)
-slice_get_last (x ∷ xs) y zero e = absurd (omega arith)
-slice_get_last (x ∷ xs) y (suc j) e = slice_get_last xs y j (omega arith)
-
-pub slice_get_cases : {X : Type 0} (xs : List X) (y x : X) (j : ℕ) → slice_get (xs ++ y ∷ []) j ≡ Some x → (slice_get xs j ≡ Some x) ⊎ ((j ≡ length xs) × (x ≡ y))
-slice_get_cases [] y x zero e = inr (refl, sym (same_Some y x e))
-slice_get_cases [] y x (suc j) e = cc
-slice_get_cases (z ∷ xs) y x zero e = inl e
-slice_get_cases (z ∷ xs) y x (suc j) e = elim (slice_get_cases xs y x j e) [ inl a ↦ inl a | inr (a, b) ↦ inr (omega arith, b) ]
+-- the element that was pushed, at its place
+pub pushed_at : {X : Type 0} (xs : List X) (y : X) (j : ℕ) → j ≡ length xs → slice_get (xs ++ y ∷ []) j ≡ Some y
+pushed_at xs y j last = ap (slice_get (xs ++ y ∷ [])) last ∙ push_last xs y
 
 pub extends_same : (found : Found) → Extends found found
 extends_same found = record { sets = λ j set e. e; paths = λ j path e. e; len = omega arith }
@@ -55,8 +39,8 @@ extends_more a b c g h = record { sets = λ j set e. h.sets j set (g.sets j set 
 -- a state more
 pushed_extends : (old : Found) (set : List ℕ) (path : Path) → Extends old (pushed old set path)
 pushed_extends old set path = record {
-  sets = λ j s h. slice_get_more old.sets (set ∷ []) j s h;
-  paths = λ j t h. slice_get_more old.paths (path ∷ []) j t h;
+  sets = λ j s h. append_keeps old.sets (set ∷ []) j s h;
+  paths = λ j t h. append_keeps old.paths (path ∷ []) j t h;
   len = omega (arith, length-append old.sets (set ∷ []));
 }
 
@@ -92,20 +76,20 @@ pub record NewState (t : Tables) (old : Found) (own : List ℕ) (path : Path) : 
 push_found : (t : Tables) (old : Found) (own : List ℕ) (path : Path) → NewState t old own path → AreFound t old → AreFound t (pushed old own path)
 push_found t old own path s h = record {
   len = omega (arith, h.len, length-append old.sets (own ∷ []), length-append old.paths (path ∷ []));
-  places = λ j set at. elim (slice_get_cases old.sets own set j at) [ inl e ↦ h.places j set e | inr (_, e) ↦ subst (IsPlaceList (length t.follow)) (sym e) s.places ];
+  places = λ j set at. elim (at_push old.sets own set j at) [ inl e ↦ h.places j set e | inr (_, e) ↦ subst (IsPlaceList (length t.follow)) e s.places ];
   each = λ j lt. elim (cases_lt j (length old.sets)) [
     | inl less ↦ each_extends t old (pushed old own path) j (pushed_extends old own path) (h.each j less)
     | inr past ↦
         let same : length old.sets ≡ j = omega (arith, length-append old.sets (own ∷ [])) in
         subst (λ z. IsSetStart t (pushed old own path) z ⊎ IsChild t (pushed old own path) z) same s.each
   ];
-  sorted = λ i j u v lt at at'. elim (slice_get_cases old.paths path v j at') [
-    | inl e ↦ elim (slice_get_cases old.paths path u i at) [
+  sorted = λ i j u v lt at at'. elim (at_push old.paths path v j at') [
+    | inl e ↦ elim (at_push old.paths path u i at) [
       | inl f ↦ h.sorted i j u v lt f e
       | inr (same, f) ↦ absurd (omega (arith, slice_get_within old.paths j v e))
     ]
-    | inr (last, e) ↦ elim (slice_get_cases old.paths path u i at) [
-      | inl f ↦ subst (IsEarlier u) (sym e) (s.before i u f)
+    | inr (last, e) ↦ elim (at_push old.paths path u i at) [
+      | inl f ↦ subst (IsEarlier u) e (s.before i u f)
       | inr (same, f) ↦ absurd (omega arith)
     ]
   ];
@@ -130,14 +114,14 @@ place_target old new set w i len before p = elim p.change [
       let own : Path = get_or old.paths i w in
       let at : slice_get old.paths i ≡ Some own = slice_get-get_or old.paths i w lt in
       record { own = own; at = subst (λ f. slice_get f.paths i ≡ Some own) (sym e) at; least = inr (before i own at) }
-  | inr (last, e) ↦ record { own = w; at = subst (λ f. slice_get f.paths i ≡ Some w) (sym e) (slice_get_last old.paths w i (omega arith)); least = inl refl }
+  | inr (last, e) ↦ record { own = w; at = subst (λ f. slice_get f.paths i ≡ Some w) (sym e) (pushed_at old.paths w i (omega arith)); least = inl refl }
 ]
 
 -- a path that is later than all the old ones and than the new one is later than all
 pub place_before : (old new : Found) (set : List ℕ) (w v : Path) (i : ℕ) → IsPlaced old set w new i → AllBefore old.paths v → IsEarlier w v → AllBefore new.paths v
 place_before old new set w v i p before lt = elim p.change [
   | inl e ↦ subst (λ f. AllBefore f.paths v) (sym e) before
-  | inr (last, e) ↦ subst (λ f. AllBefore f.paths v) (sym e) (λ j u at. elim (slice_get_cases old.paths w u j at) [ inl f ↦ before j u f | inr (_, f) ↦ subst (λ z. IsEarlier z v) (sym f) lt ])
+  | inr (last, e) ↦ subst (λ f. AllBefore f.paths v) (sym e) (λ j u at. elim (at_push old.paths w u j at) [ inl f ↦ before j u f | inr (_, f) ↦ subst (λ z. IsEarlier z v) f lt ])
 ]
 
 pub some_in : (xs : List ℕ) → (xs ≡ [] → ⊥) → (q : ℕ) × Contains xs q

@@ -3,7 +3,6 @@ use Rattle.std.proofs.Common.{◌≡◌, ℕ, zero, suc, ◌+◌, ◌<◌, List,
 use Rattle.std.specs.Prelude.{slice_get, Contains, All, ◌↔◌}
 use Rattle.std.proofs.lemmas.Bool.{cases_lt}
 use Rattle.std.proofs.lemmas.List.{get_or_past, get_or_default, get_or-replicate, length-replicate}
-use Rattle.std.proofs.lemmas.List.Elements.{All-nil}
 use Rattle.std.proofs.lemmas.Option.{slice_get-get_or, slice_get_within, same_Some}
 use Rattle.wb_regex.specs.Tree.{Tree, Set}
 use Rattle.wb_regex.specs.declared.node.RegexNode.{RegexNode}
@@ -21,7 +20,7 @@ use Rattle.wb_automata.proofs.ErasingLemmas.{placed_filled, erased}
 use Rattle.wb_automata.proofs.Forests.{locate}
 use Rattle.wb_automata.proofs.JoinLemmas.{place_all, bound_rises, bound_all, covers_size}
 use Rattle.wb_automata.proofs.NodeLemmas.{covers_spans}
-use Rattle.wb_automata.proofs.PlaceLemmas.{all_from}
+use Rattle.wb_lemmas.proofs.Elements.{all_from_contained}
 use Rattle.wb_automata.proofs.Ranges.{first_within, follow_within}
 use Rattle.wb_automata.proofs.Subs.{Sub, sub_cover, parts_before}
 
@@ -114,7 +113,7 @@ module _ (trees : List Tree) (nodes : List RegexNode) (roots : List ℕ) (h : Ar
       omega arith
 
   pub planted_follow : (follow : List (List ℕ)) → IsFollow nodes h.linears follow → AreBelow (length nodes) follow
-  planted_follow follow is p = all_from (λ q. q < length nodes) (row follow p) (λ q has.
+  planted_follow follow is p = all_from_contained (λ q. q < length nodes) (row follow p) (λ q has.
       let l = (is p q).0 has in
       let spans = covers_spans (h.forest.covers l.number l.tree l.at) in
       let le = h.forest.all (l.number + 1) in
@@ -124,7 +123,7 @@ module _ (trees : List Tree) (nodes : List RegexNode) (roots : List ℕ) (h : Ar
       ])
 
   pub planted_ends : (ends : List (List ℕ)) → IsEnds h.linears ends → AreBelow (length trees) ends
-  planted_ends ends is p = all_from (λ k. k < length trees) (row ends p) (λ k has. let x = (is p k).0 has in omega (arith, h.len, slice_get_within h.linears k x.tree x.at))
+  planted_ends ends is p = all_from_contained (λ k. k < length trees) (row ends p) (λ k has. let x = (is p k).0 has in omega (arith, h.len, slice_get_within h.linears k x.tree x.at))
 
 -- rows that are all empty have nothing
 pub blank_none : (m : ℕ) (rows : List (List ℕ)) (p q : ℕ) → rows ≡ replicate m [] → Contains (row rows p) q → ⊥

@@ -1,5 +1,5 @@
 -- Nodes that are marked as repeated are, and with the links left out that are those of what repeats them the table is the same.
-use Rattle.std.proofs.Common.{◌≡◌, ℕ, ◌+◌, ◌≤◌, ◌<◌, ◌⊎◌, Bool, true, false, ◌&&◌, cond, List, [], ◌∷◌, Some, length, replicate, refl, sym, ◌∙◌, ap, subst, arith, inl, inr}
+use Rattle.std.proofs.Common.{◌≡◌, ℕ, ◌+◌, ◌≤◌, ◌<◌, ◌⊎◌, Bool, true, false, ◌&&◌, cond, List, Some, length, replicate, refl, sym, ◌∙◌, ap, subst, arith, inl, inr}
 use Rattle.std.specs.Prelude.{slice_get, ◌↔◌, Contains}
 use Rattle.std.proofs.lemmas.Bool.{cases_lt, cases_Bool, true≢false}
 use Rattle.std.proofs.lemmas.List.{length-replicate}
@@ -10,7 +10,7 @@ use Rattle.wb_termset.proofs.CallerLemmas.{IsEmpty-replicate}
 use Rattle.wb_regex.specs.declared.node.RegexNode.{RegexNode}
 use Rattle.wb_regex.specs.declared.node.RegexNode.TheVariants as n
 use Rattle.wb_automata.specs.declared.ends.Side.TheVariants.{First, Last}
-use Rattle.wb_automata.specs.declared.ends.Parts.TheVariants.{Leaf, One, Two}
+use Rattle.wb_automata.specs.declared.ends.Parts.TheVariants.{One, Two}
 use Rattle.wb_automata.specs.Rows.{row}
 use Rattle.wb_automata.specs.Inner.Nodes.{flag, PartsBelow}
 use Rattle.wb_automata.specs.Inner.Ends.{IsPostOrder, parts_of, leaves_at, rows_of}

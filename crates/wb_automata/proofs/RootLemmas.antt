@@ -1,5 +1,5 @@
 -- Begins and ends of roots.
-use Rattle.std.proofs.Common.{◌≡◌, ℕ, ◌+◌, List, [], ◌∷◌, refl, sym, ◌∙◌, ap, subst, arith, ◌⊎◌, inl, inr, length, get_or}
+use Rattle.std.proofs.Common.{◌≡◌, ℕ, ◌+◌, List, [], ◌∷◌, sym, ◌∙◌, ap, subst, arith, ◌⊎◌, inl, inr, length, get_or}
 use Rattle.std.specs.Prelude.{◌↔◌, Contains}
 use Rattle.std.proofs.lemmas.Bool.{cases_lt}
 use Rattle.wb_automata.specs.Rows.{row}
@@ -9,9 +9,6 @@ use Rattle.wb_automata.proofs.NodeLemmas.{Contains-one}
 pub record StartsPass (old follow first : List (List ℕ)) (roots : List ℕ) (m i : ℕ) : Type 0 where
   pub len : length follow ≡ length old
   pub exact : (p q : ℕ) → Contains (row follow p) q ↔ (Contains (row old p) q ⊎ StartAt first roots m i p q)
-
-pub link_starts_begin : (old first : List (List ℕ)) (roots : List ℕ) (m : ℕ) → StartsPass old old first roots m 0
-link_starts_begin old first roots m = record { len = refl; exact = λ p q. (λ h. inl h, λ h. elim h [ inl a ↦ a | inr b ↦ (let lt = b.below in absurd (omega arith)) ]) }
 
 pub link_starts_step : (old follow new first : List (List ℕ)) (roots xs ys : List ℕ) (m i : ℕ) → StartsPass old follow first roots m i → xs ≡ (m + i) ∷ [] → ys ≡ row first (get_or roots i 0) → length new ≡ length follow → ((p q : ℕ) → Contains (row new p) q ↔ (Contains (row follow p) q ⊎ (Contains xs p × Contains ys q))) → StartsPass old new first roots m (i + 1)
 link_starts_step old follow new first roots xs ys m i h e f len exact = record {
@@ -34,9 +31,6 @@ link_starts_step old follow new first roots xs ys m i h e f len exact = record {
 pub record EndPass (old ends last : List (List ℕ)) (roots : List ℕ) (i : ℕ) : Type 0 where
   pub len : length ends ≡ length old
   pub exact : (p k : ℕ) → Contains (row ends p) k ↔ (Contains (row old p) k ⊎ EndAt last roots i p k)
-
-pub ends_start : (old last : List (List ℕ)) (roots : List ℕ) → EndPass old old last roots 0
-ends_start old last roots = record { len = refl; exact = λ p k. (λ h. inl h, λ h. elim h [ inl a ↦ a | inr b ↦ (let lt = b.below in absurd (omega arith)) ]) }
 
 pub ends_step : (old ends new last : List (List ℕ)) (roots xs : List ℕ) (i : ℕ) → EndPass old ends last roots i → xs ≡ row last (get_or roots i 0) → length new ≡ length ends → ((p j : ℕ) → Contains (row new p) j ↔ (Contains (row ends p) j ⊎ (Contains xs p × Contains (i ∷ []) j))) → EndPass old new last roots (i + 1)
 ends_step old ends new last roots xs i h e len exact = record {

@@ -1,9 +1,9 @@
 -- The lists of starts of the sets.
-use Rattle.std.proofs.Common.{◌≡◌, ℕ, ◌+◌, ◌≤◌, ◌<◌, Bool, List, [], ◌∷◌, ◌++◌, refl, sym, ◌∙◌, ap, subst, arith, inl, inr, Some, length, get_or, length-append}
-use Rattle.std.specs.Prelude.{slice_get, Contains, ◌↔◌, All}
+use Rattle.std.proofs.Common.{◌≡◌, ℕ, ◌+◌, ◌<◌, Bool, List, [], ◌∷◌, ◌++◌, refl, sym, ◌∙◌, ap, subst, arith, inl, inr, Some, length, get_or, length-append}
+use Rattle.std.specs.Prelude.{slice_get, Contains, ◌↔◌}
 use Rattle.std.proofs.lemmas.Bool.{cases_lt, cases_eq}
 use Rattle.std.proofs.lemmas.List.{get_or_append_left, get_or_push, get_or_past, get_or_default}
-use Rattle.std.proofs.lemmas.List.Elements.{Contains-append_left, Contains-push, Contains-push_cases, All-contains}
+use Rattle.std.proofs.lemmas.List.Elements.{Contains-append_left, Contains-push, Contains-push_cases}
 use Rattle.std.proofs.lemmas.Option.{same_Some}
 use Rattle.wb_termset.specs.Sets.{IsMember}
 use Rattle.wb_automata.specs.Rows.{row}
@@ -11,7 +11,7 @@ use Rattle.wb_automata.specs.Order.{AreRising}
 use Rattle.wb_automata.specs.Inner.Transitions.{IsPlaceList}
 use Rattle.wb_automata.specs.Inner.PositionSets.{IsStartOf}
 use Rattle.wb_automata.specs.Inner.Tables.{IsStartsOf, AreStarts}
-use Rattle.wb_automata.proofs.PlaceLemmas.{all_from}
+use Rattle.wb_lemmas.proofs.Elements.{all_from_contained}
 use Rattle.wb_automata.proofs.AcceptedLemmas.{rising_none}
 
 pub places_none : (m : ℕ) → IsPlaceList m []
@@ -30,9 +30,6 @@ rising_push xs x rise below i j lt within = elim (cases_lt j (length xs)) [
 pub record StartPass (n : ℕ) (flags : List Bool) (places : List ℕ) (k : ℕ) : Type 0 where
   pub exact : (p : ℕ) → Contains places p ↔ IsStartOf n k (IsMember flags) p
   pub rising : AreRising places
-
-pub start_none : (n : ℕ) (flags : List Bool) → StartPass n flags [] 0
-start_none n flags = record { exact = λ p. (λ (k, lt, is). absurd (omega arith), λ s. (let lt = s.below in absurd (omega arith))); rising = rising_none }
 
 pub start_more : (n : ℕ) (flags : List Bool) (places : List ℕ) (k : ℕ) → IsMember flags k → StartPass n flags places k → StartPass n flags (places ++ (n + k) ∷ []) (k + 1)
 start_more n flags places k has h = record {
@@ -62,7 +59,7 @@ start_skip n flags places k none h = record {
 }
 
 pub start_places : (n : ℕ) (flags : List Bool) (places : List ℕ) (k : ℕ) → StartPass n flags places k → IsPlaceList (n + k) places
-start_places n flags places k h = record { below = all_from (λ p. p < n + k) places (λ p is. let s = (h.exact p).0 is in let lt = s.below in let place = s.place in omega arith); rising = h.rising }
+start_places n flags places k h = record { below = all_from_contained (λ p. p < n + k) places (λ p is. let s = (h.exact p).0 is in let lt = s.below in let place = s.place in omega arith); rising = h.rising }
 
 pub starts_none : (n count : ℕ) (sets : List (List Bool)) → AreStarts n count sets [] 0
 starts_none n count sets = record { len = refl; each = λ s flags lt. absurd (omega arith); places = λ s. places_none (n + count) }

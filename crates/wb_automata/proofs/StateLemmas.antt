@@ -1,24 +1,20 @@
 -- The moves as states are found.
-use Rattle.std.proofs.Common.{mul_comm, ◌≡◌, ℕ, zero, suc, ◌+◌, ◌*◌, ◌^◌, ◌≤◌, ◌<◌, ◌⊎◌, List, [], ◌∷◌, ◌++◌, refl, sym, ◌∙◌, ap, subst, arith, inl, inr, Option, Some, None, length, get_or, length-append, suc-mul, add-one}
-use Rattle.std.specs.Prelude.{slice_get, ◌↔◌, Contains, All}
-use Rattle.std.proofs.lemmas.List.{get_or_append_left, get_or_push, get_or_default}
-use Rattle.std.proofs.lemmas.List.Elements.{All-contains}
-use Rattle.std.proofs.lemmas.Nat.{mul-add-lt}
+use Rattle.std.proofs.Common.{◌≡◌, ℕ, ◌+◌, ◌*◌, ◌^◌, ◌≤◌, ◌<◌, ◌⊎◌, List, [], ◌∷◌, ◌++◌, refl, sym, ◌∙◌, ap, subst, arith, inl, inr, Option, Some, None, length, get_or, length-append, suc-mul, add-one}
+use Rattle.std.specs.Prelude.{slice_get, ◌↔◌, Contains}
+use Rattle.std.proofs.lemmas.List.{get_or_append_left, get_or_push}
 use Rattle.std.proofs.lemmas.Option.{slice_get-get_or, slice_get_within, same_Some}
 use Rattle.std.proofs.lemmas.Bool.{cases_lt}
+use Rattle.wb_lemmas.proofs.Numbers.{place_below}
+use Rattle.wb_lemmas.proofs.Places.{append_keeps, at_push, push_last, nothing_at}
 use Rattle.wb_automata.specs.declared.tables.Tables.{Tables}
 use Rattle.wb_automata.specs.Automata.{Path, IsEarlier}
 use Rattle.wb_automata.specs.Rows.{row}
 use Rattle.wb_automata.specs.Inner.Transitions.{IsTable, IsPlaceList, Ahead, Reads}
 use Rattle.wb_automata.specs.Order.{AreRising}
-use Rattle.wb_automata.specs.Inner.Found.{Found, on, pushed, IsPlaced, IsMoved, AllBefore, IsChild, AreFound, Extends}
-use Rattle.wb_automata.specs.Inner.Exploring.{IsMove, AreMoves, IsReady, SetsBelow, RowPass, RowsPass, RowsFrom, StartsAt, AreExplored}
-use Rattle.wb_automata.proofs.OrderLemmas.{IsLatest, earlier_more, earlier_last, earlier_next}
-use Rattle.wb_automata.proofs.PlaceLemmas.{all_from, extends_same, extends_more, place_extends, place_found, place_target, place_before, slice_get_last, slice_get_cases, slice_get_more, NewState}
-
--- an index of a row lies before the rows after it
-place_below : (j k w h : ℕ) → j < h → k < w → j * w + k < h * w
-place_below j k w h lt less = omega (arith, mul-add-lt j w k h lt less, mul_comm w h)
+use Rattle.wb_automata.specs.Inner.Found.{Found, on, IsPlaced, IsMoved, AllBefore, AreFound, Extends}
+use Rattle.wb_automata.specs.Inner.Exploring.{IsMove, AreMoves, SetsBelow, RowPass, RowsPass, RowsFrom, StartsAt, AreExplored}
+use Rattle.wb_automata.proofs.OrderLemmas.{earlier_more, earlier_last, earlier_next}
+use Rattle.wb_automata.proofs.PlaceLemmas.{extends_same, extends_more, place_extends, place_found, place_target, place_before, pushed_at, NewState}
 
 -- a state that was there is as it was
 back_set : (old new : Found) (j : ℕ) (set : List ℕ) → Extends old new → j < length old.sets → slice_get new.sets j ≡ Some set → slice_get old.sets j ≡ Some set
@@ -69,8 +65,8 @@ moves_push t bytes found moves i c set path o short at at_path h last = record {
     ]
 
 -- a row begins
-pub row_begin : (t : Tables) (bytes : List ℕ) (top : ℕ) (found : Found) (moves : List (Option ℕ)) (i : ℕ) (ahead : List ℕ) → RowsPass t bytes top found moves i → i < length found.sets → ((set : List ℕ) → slice_get found.sets i ≡ Some set → (q : ℕ) → Contains ahead q ↔ Ahead t.follow set q) → IsPlaceList (length t.nodes.items) ahead → RowPass t bytes top found found i ahead moves 0
-row_begin t bytes top found moves i ahead h lt is places =
+pub row_begin : (t : Tables) (bytes : List ℕ) (found : Found) (moves : List (Option ℕ)) (i : ℕ) (ahead : List ℕ) → RowsPass t bytes found moves i → i < length found.sets → ((set : List ℕ) → slice_get found.sets i ≡ Some set → (q : ℕ) → Contains ahead q ↔ Ahead t.follow set q) → IsPlaceList (length t.nodes.items) ahead → RowPass t bytes found found i ahead moves 0
+row_begin t bytes found moves i ahead h lt is places =
     let ready = h.ready lt in
     record {
       set = ready.set;
@@ -80,16 +76,16 @@ row_begin t bytes top found moves i ahead h lt is places =
       is = is ready.set ready.at;
       places = places;
       extends = extends_same found;
+      sets_kept = λ top below. below;
       found_ok = h.found_ok;
-      sets_below = h.sets_below;
       are_moves = h.are_moves;
       edge = λ b up. ready.ahead b;
     }
 
 -- a move is put after the others of its row
-pub row_step : (t : Tables) (bytes : List ℕ) (top : ℕ) (old mid new : Found) (i : ℕ) (ahead : List ℕ) (moves : List (Option ℕ)) (c : ℕ) (o : Option ℕ) (w : Path) → IsTable t → AreRising bytes → c < length bytes → (h : RowPass t bytes top old mid i ahead moves c) → w ≡ on h.path (get_or bytes c 0) → IsMoved t.nodes.items ahead w (get_or bytes c 0) mid new o → RowPass t bytes top old new i ahead (moves ++ o ∷ []) (c + 1)
-row_step t bytes top old mid new i ahead moves c None w table rising lt h e (same, off) =
-    let f : RowPass t bytes top old mid i ahead (moves ++ None ∷ []) (c + 1) = record {
+pub row_step : (t : Tables) (bytes : List ℕ) (old mid new : Found) (i : ℕ) (ahead : List ℕ) (moves : List (Option ℕ)) (c : ℕ) (o : Option ℕ) (w : Path) → IsTable t → AreRising bytes → c < length bytes → (h : RowPass t bytes old mid i ahead moves c) → w ≡ on h.path (get_or bytes c 0) → IsMoved t.nodes.items ahead w (get_or bytes c 0) mid new o → RowPass t bytes old new i ahead (moves ++ o ∷ []) (c + 1)
+row_step t bytes old mid new i ahead moves c None w table rising lt h e (same, off) =
+    let f : RowPass t bytes old mid i ahead (moves ++ None ∷ []) (c + 1) = record {
       set = h.set;
       path = h.path;
       at = h.at;
@@ -97,13 +93,13 @@ row_step t bytes top old mid new i ahead moves c None w table rising lt h e (sam
       is = h.is;
       places = h.places;
       extends = h.extends;
+      sets_kept = h.sets_kept;
       found_ok = h.found_ok;
-      sets_below = h.sets_below;
       are_moves = moves_push t bytes mid moves i c h.set h.path None lt h.at h.at_path h.are_moves (λ q (holds, a). off q holds ((h.is q).1 a));
       edge = λ b up. h.edge b (λ k less. up k (omega arith));
     } in
-    subst (λ z. RowPass t bytes top old z i ahead (moves ++ None ∷ []) (c + 1)) (sym same) f
-row_step t bytes top old mid new i ahead moves c (Some j) w table rising lt h e m =
+    subst (λ z. RowPass t bytes old z i ahead (moves ++ None ∷ []) (c + 1)) (sym same) f
+row_step t bytes old mid new i ahead moves c (Some j) w table rising lt h e m =
     let r : ℕ = get_or bytes c 0 in
     let to : Path = on h.path r in
     let placed : IsPlaced mid m.next to new j = subst (λ z. IsPlaced mid m.next z new j) e m.placed in
@@ -121,10 +117,10 @@ row_step t bytes top old mid new i ahead moves c (Some j) w table rising lt h e 
         path = h.path;
         own = m.next;
         earlier = slice_get_within mid.sets i h.set h.at;
-        at = slice_get_more mid.sets (m.next ∷ []) i h.set h.at;
-        at_path = slice_get_more mid.paths (to ∷ []) i h.path h.at_path;
-        here = slice_get_last mid.sets m.next (length mid.sets) refl;
-        here_path = slice_get_last mid.paths to (length mid.sets) (sym len);
+        at = append_keeps mid.sets (m.next ∷ []) i h.set h.at;
+        at_path = append_keeps mid.paths (to ∷ []) i h.path h.at_path;
+        here = push_last mid.sets m.next;
+        here_path = pushed_at mid.paths to (length mid.sets) (sym len);
         exact = exact;
       });
     } in
@@ -138,8 +134,8 @@ row_step t bytes top old mid new i ahead moves c (Some j) w table rising lt h e 
       is = h.is;
       places = h.places;
       extends = extends_more old mid new h.extends g;
+      sets_kept = λ top below. place_top top mid new m.next to j placed (h.sets_kept top below) (h.sets_kept top below i h.path h.at_path);
       found_ok = found_ok;
-      sets_below = place_top top mid new m.next to j placed h.sets_below (h.sets_below i h.path h.at_path);
       are_moves = moves_push t bytes new moves i c h.set h.path (Some j) lt (g.sets i h.set h.at) (g.paths i h.path h.at_path)
           (moves_extend t bytes mid new moves i c len g (λ k l which. row_within i k (length mid.sets) (slice_get_within mid.sets i h.set h.at) l c which) h.are_moves)
           (record { next = m.next; own = target.own; at = placed.here; at_path = target.at; exact = exact; some = m.some; least = target.least });
@@ -149,7 +145,7 @@ row_step t bytes top old mid new i ahead moves c (Some j) w table rising lt h e 
     place_top : (top : ℕ) (mid new : Found) (set : List ℕ) (path : Path) (j : ℕ) → IsPlaced mid set path new j → SetsBelow top mid → path.set < top → SetsBelow top new
     place_top top mid new set path j p below lt k u at = elim p.change [
       | inl same ↦ below k u (subst (λ z. slice_get z.paths k ≡ Some u) same at)
-      | inr (last, same) ↦ elim (slice_get_cases mid.paths path u k (subst (λ z. slice_get z.paths k ≡ Some u) same at)) [ inl f ↦ below k u f | inr (_, f) ↦ subst (λ z. z.set < top) (sym f) lt ]
+      | inr (last, same) ↦ elim (at_push mid.paths path u k (subst (λ z. slice_get z.paths k ≡ Some u) same at)) [ inl f ↦ below k u f | inr (_, f) ↦ subst (λ z. z.set < top) f lt ]
     ]
 
     row_within : (i k n : ℕ) → i < n → (l c : ℕ) → (k < i) ⊎ ((k ≡ i) × (l < c)) → k < n
@@ -157,13 +153,13 @@ row_step t bytes top old mid new i ahead moves c (Some j) w table rising lt h e 
     row_within i k n lt l c (inr (e, less)) = omega arith
 
 -- the row is whole
-pub row_end : (t : Tables) (bytes : List ℕ) (top : ℕ) (old found : Found) (i : ℕ) (ahead : List ℕ) (moves : List (Option ℕ)) (c : ℕ) → ((k : ℕ) → k < length bytes → get_or bytes k 0 < 256) → c ≡ length bytes → RowPass t bytes top old found i ahead moves c → RowsFrom t bytes top old found moves (i + 1)
-row_end t bytes top old found i ahead moves c small whole h = record {
+pub row_end : (t : Tables) (bytes : List ℕ) (old found : Found) (i : ℕ) (ahead : List ℕ) (moves : List (Option ℕ)) (c : ℕ) → ((k : ℕ) → k < length bytes → get_or bytes k 0 < 256) → c ≡ length bytes → RowPass t bytes old found i ahead moves c → RowsFrom t bytes old found moves (i + 1)
+row_end t bytes old found i ahead moves c small whole h = record {
   extends = h.extends;
+  sets_kept = h.sets_kept;
   rows = record {
     within = (let lt = slice_get_within found.sets i h.set h.at in omega arith);
     found_ok = h.found_ok;
-    sets_below = h.sets_below;
     ready = λ less.
         let own : List ℕ = get_or found.sets (i + 1) [] in
         let next : Path = get_or found.paths (i + 1) h.path in
@@ -192,41 +188,37 @@ row_end t bytes top old found i ahead moves c small whole h = record {
     earlier j k (inr (e, lt)) below = absurd (omega arith)
 
 -- more rows
-pub rows_more : (t : Tables) (bytes : List ℕ) (top : ℕ) (old mid new : Found) (moves moves' : List (Option ℕ)) (i j : ℕ) → RowsFrom t bytes top old mid moves i → RowsFrom t bytes top mid new moves' j → RowsFrom t bytes top old new moves' j
-rows_more t bytes top old mid new moves moves' i j h k = record { extends = extends_more old mid new h.extends k.extends; rows = k.rows }
+pub rows_more : (t : Tables) (bytes : List ℕ) (old mid new : Found) (moves moves' : List (Option ℕ)) (i j : ℕ) → RowsFrom t bytes old mid moves i → RowsFrom t bytes mid new moves' j → RowsFrom t bytes old new moves' j
+rows_more t bytes old mid new moves moves' i j h k = record { extends = extends_more old mid new h.extends k.extends; sets_kept = λ top below. k.sets_kept top (h.sets_kept top below); rows = k.rows }
 
 -- none so far
-pub rows_same : (t : Tables) (bytes : List ℕ) (top : ℕ) (found : Found) (moves : List (Option ℕ)) (i : ℕ) → RowsPass t bytes top found moves i → RowsFrom t bytes top found found moves i
-rows_same t bytes top found moves i h = record { extends = extends_same found; rows = h }
+pub rows_same : (t : Tables) (bytes : List ℕ) (found : Found) (moves : List (Option ℕ)) (i : ℕ) → RowsPass t bytes found moves i → RowsFrom t bytes found found moves i
+rows_same t bytes found moves i h = record { extends = extends_same found; sets_kept = λ top below. below; rows = h }
 
 -- the start of a set is listed
-pub start_rows : (t : Tables) (bytes : List ℕ) (old new : Found) (moves : List (Option ℕ)) (starts : List ℕ) (s state : ℕ) → IsTable t → s < length t.starts → AreExplored t bytes old moves starts s → IsPlaced old (row t.starts s) (record { set = s; text = [] }) new state → RowsPass t bytes (s + 1) new moves (length old.sets)
+pub start_rows : (t : Tables) (bytes : List ℕ) (old new : Found) (moves : List (Option ℕ)) (starts : List ℕ) (s state : ℕ) → IsTable t → s < length t.starts → AreExplored t bytes old moves starts s → IsPlaced old (row t.starts s) (record { set = s; text = [] }) new state → RowsPass t bytes new moves (length old.sets)
 start_rows t bytes old new moves starts s state table lt h p =
     let path : Path = record { set = s; text = [] } in
     let own : List ℕ = row t.starts s in
     let g : Extends old new = place_extends old new own path state p in
-    let before : AllBefore old.paths path = λ j u at. inl (h.rows.sets_below j u at) in
+    let before : AllBefore old.paths path = λ j u at. inl (h.sets_below j u at) in
     let len : length old.paths ≡ length old.sets = h.rows.found_ok.len in
     let n : NewState t old own path = record {
       before = before;
       places = table.starts s;
-      each = inl (record { set = s; here = slice_get_last old.sets own (length old.sets) refl; here_path = slice_get_last old.paths path (length old.sets) (sym len); below = lt });
+      each = inl (record { set = s; here = push_last old.sets own; here_path = pushed_at old.paths path (length old.sets) (sym len); below = lt });
     } in
     record {
       within = g.len;
       found_ok = place_found t old new own path state n h.rows.found_ok p;
-      sets_below = λ k u at. elim p.change [
-        | inl same ↦ (let b = h.rows.sets_below k u (subst (λ z. slice_get z.paths k ≡ Some u) same at) in omega arith)
-        | inr (last, same) ↦ elim (slice_get_cases old.paths path u k (subst (λ z. slice_get z.paths k ≡ Some u) same at)) [ inl f ↦ (let b = h.rows.sets_below k u f in omega arith) | inr (_, f) ↦ subst (λ z. z.set < s + 1) (sym f) (omega arith) ]
-      ];
       ready = λ less. elim p.change [
         | inl same ↦ absurd (omega (arith, ap (λ z. length z.sets) same))
         | inr (last, same) ↦ record {
           set = own;
           path = path;
-          at = subst (λ z. slice_get z.sets (length old.sets) ≡ Some own) (sym same) (slice_get_last old.sets own (length old.sets) refl);
-          at_path = subst (λ z. slice_get z.paths (length old.sets) ≡ Some path) (sym same) (slice_get_last old.paths path (length old.sets) (sym len));
-          ahead = λ b. place_before old new own path (on path b) state p (λ j u at. inl (h.rows.sets_below j u at)) (inr (refl, inl (omega arith)));
+          at = subst (λ z. slice_get z.sets (length old.sets) ≡ Some own) (sym same) (push_last old.sets own);
+          at_path = subst (λ z. slice_get z.paths (length old.sets) ≡ Some path) (sym same) (pushed_at old.paths path (length old.sets) (sym len));
+          ahead = λ b. place_before old new own path (on path b) state p (λ j u at. inl (h.sets_below j u at)) (inr (refl, inl (omega arith)));
         }
       ];
       are_moves = moves_extend t bytes old new moves (length old.sets) 0 len g within h.rows.are_moves;
@@ -236,16 +228,27 @@ start_rows t bytes old new moves starts s state table lt h p =
     within j k (inl less) = less
     within j k (inr (e, none)) = absurd (omega arith)
 
+-- and paths begin at one set more
+start_sets : (t : Tables) (bytes : List ℕ) (old new : Found) (moves : List (Option ℕ)) (starts own : List ℕ) (s state : ℕ) → AreExplored t bytes old moves starts s → IsPlaced old own (record { set = s; text = [] }) new state → SetsBelow (s + 1) new
+start_sets t bytes old new moves starts own s state h p k u at = elim p.change [
+  | inl same ↦ (let b = h.sets_below k u (subst (λ z. slice_get z.paths k ≡ Some u) same at) in omega arith)
+  | inr (last, same) ↦ elim (at_push old.paths (record { set = s; text = [] }) u k (subst (λ z. slice_get z.paths k ≡ Some u) same at)) [
+    | inl f ↦ (let b = h.sets_below k u f in omega arith)
+    | inr (_, f) ↦ subst (λ z. z.set < s + 1) f (omega arith)
+  ]
+]
+
 -- one set more
-pub explored_more : (t : Tables) (bytes : List ℕ) (old mid new : Found) (moves moves' : List (Option ℕ)) (starts : List ℕ) (s state : ℕ) → AreExplored t bytes old moves starts s → IsPlaced old (row t.starts s) (record { set = s; text = [] }) mid state → RowsFrom t bytes (s + 1) mid new moves' (length new.sets) → length new.sets ≤ 2 ^ length t.follow → AreExplored t bytes new moves' (starts ++ state ∷ []) (s + 1)
+pub explored_more : (t : Tables) (bytes : List ℕ) (old mid new : Found) (moves moves' : List (Option ℕ)) (starts : List ℕ) (s state : ℕ) → AreExplored t bytes old moves starts s → IsPlaced old (row t.starts s) (record { set = s; text = [] }) mid state → RowsFrom t bytes mid new moves' (length new.sets) → length new.sets ≤ 2 ^ length t.follow → AreExplored t bytes new moves' (starts ++ state ∷ []) (s + 1)
 explored_more t bytes old mid new moves moves' starts s state h p r few =
     let path : Path = record { set = s; text = [] } in
     let own : List ℕ = row t.starts s in
     let g : Extends old new = extends_more old mid new (place_extends old mid own path state p) r.extends in
-    let target = place_target old mid own path state h.rows.found_ok.len (λ j u at. inl (h.rows.sets_below j u at)) p in
+    let target = place_target old mid own path state h.rows.found_ok.len (λ j u at. inl (h.sets_below j u at)) p in
     record {
       few = few;
       rows = r.rows;
+      sets_below = r.sets_kept (s + 1) (start_sets t bytes old mid moves starts own s state h p);
       starts_len = omega (arith, h.starts_len, length-append starts (state ∷ []));
       starts_at = λ j lt. elim (cases_lt j s) [
         | inl less ↦
@@ -262,19 +265,16 @@ pub explored_none : (t : Tables) (bytes : List ℕ) (found : Found) → found.se
 explored_none t bytes found e f =
     from found.sets found.paths e f
   where
-    none_at : {X : Type 0} {x : X} (j : ℕ) → slice_get [] j ≡ Some x → ⊥
-    none_at {X} {x} j at = (let lt = slice_get_within [] j x at in omega arith)
-
     empty : AreExplored t bytes (record { sets = []; paths = [] }) [] [] 0
     empty = record {
       few = omega arith;
       rows = record {
         within = omega arith;
-        found_ok = record { len = refl; places = λ j set at. absurd (none_at j at); each = λ j lt. absurd (omega arith); sorted = λ i j u v lt at at'. absurd (none_at j at') };
-        sets_below = λ j path at. absurd (none_at j at);
+        found_ok = record { len = refl; places = λ j set at. absurd (nothing_at set j at); each = λ j lt. absurd (omega arith); sorted = λ i j u v lt at at'. absurd (nothing_at v j at') };
         ready = λ lt. absurd (omega arith);
-        are_moves = record { len = omega arith; lead = λ j k set path which below at at_path. absurd (none_at j at) };
+        are_moves = record { len = omega arith; lead = λ j k set path which below at at_path. absurd (nothing_at set j at) };
       };
+      sets_below = λ j path at. absurd (nothing_at path j at);
       starts_len = refl;
       starts_at = λ j lt. absurd (omega arith);
     }

@@ -1,17 +1,12 @@
 -- The tables of the code are those of the expressions.
-use Rattle.std.proofs.Common.{◌≡◌, ℕ, ◌+◌, ◌≤◌, Bool, List, [], ◌∷◌, length, ◌⊎◌, subst, ap, sym, ◌∙◌, arith, inl, inr}
-use Rattle.std.specs.Prelude.{◌↔◌, Contains, slice_get, Some, sum_by}
-use Rattle.std.proofs.lemmas.Bool.{cases_lt}
-use Rattle.std.proofs.lemmas.List.{get_or_past}
+use Rattle.std.proofs.Common.{◌≡◌, ℕ, ◌+◌, Bool, List, length, subst, ap, sym, ◌∙◌, arith}
+use Rattle.std.specs.Prelude.{sum_by}
 use Rattle.std.proofs.lemmas.Option.{slice_get_within}
 use Rattle.wb_regex.specs.Tree.{Tree}
-use Rattle.wb_regex.specs.declared.node.RegexNode.{RegexNode}
 use Rattle.wb_automata.specs.declared.tables.Tables.{Tables}
 use Rattle.wb_automata.specs.Inner.Concatenated.{AreConcatenated, bound_of}
 use Rattle.wb_automata.specs.Rows.{row}
-use Rattle.wb_automata.specs.Inner.Follows.{LinkIn}
 use Rattle.wb_automata.specs.Inner.Transitions.{IsPlaceList}
-use Rattle.wb_automata.specs.Inner.Roots.{StartAt, EndAt}
 use Rattle.wb_automata.specs.Inner.Forests.{IsFollow, IsEnds}
 use Rattle.wb_automata.specs.Inner.Tables.{AreTreesAt, AreTables, AreStarts, AreLinks}
 use Rattle.wb_automata.specs.Automata.{size_of}

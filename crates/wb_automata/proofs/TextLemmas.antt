@@ -6,11 +6,12 @@ use Rattle.std.proofs.lemmas.Option.{slice_get-get_or, slice_get_past, same_Some
 use Rattle.wb_automata.specs.declared.predecessor.Predecessor.{Predecessor}
 use Rattle.wb_automata.specs.Automata.{Path}
 use Rattle.wb_automata.specs.Paths.{path_on, path_by, grown, paths_of}
-use Rattle.wb_automata.proofs.PlaceLemmas.{slice_get_more, slice_get_last}
+use Rattle.wb_lemmas.proofs.Places.{append_keeps}
+use Rattle.wb_automata.proofs.PlaceLemmas.{pushed_at}
 
 grown_keeps : (paths : List Path) (os : List Predecessor) (k : ℕ) (x : Path) → slice_get paths k ≡ Some x → slice_get (grown paths os) k ≡ Some x
 grown_keeps paths [] k x e = e
-grown_keeps paths (o ∷ os) k x e = grown_keeps (paths ++ path_by paths o ∷ []) os k x (slice_get_more paths (path_by paths o ∷ []) k x e)
+grown_keeps paths (o ∷ os) k x e = grown_keeps (paths ++ path_by paths o ∷ []) os k x (append_keeps paths (path_by paths o ∷ []) k x e)
 
 -- the paths before a place, and the path there
 record Entry (paths : List Path) (os : List Predecessor) (j : ℕ) (o : Predecessor) (place : ℕ) : Type 0 where
@@ -27,8 +28,8 @@ entry paths (p ∷ os) zero o place e at =
     record {
       earlier = paths;
       len = omega arith;
-      keeps = λ k x h. grown_keeps more os k x (slice_get_more paths (path_by paths p ∷ []) k x h);
-      is = grown_keeps more os place (path_by paths o) (subst (λ z. slice_get more place ≡ Some (path_by paths z)) same (slice_get_last paths (path_by paths p) place (omega arith)));
+      keeps = λ k x h. grown_keeps more os k x (append_keeps paths (path_by paths p ∷ []) k x h);
+      is = grown_keeps more os place (path_by paths o) (subst (λ z. slice_get more place ≡ Some (path_by paths z)) same (pushed_at paths (path_by paths p) place (omega arith)));
     }
 entry paths (p ∷ os) (suc j) o place e at =
     let more : List Path = paths ++ path_by paths p ∷ [] in

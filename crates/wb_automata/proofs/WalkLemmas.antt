@@ -1,32 +1,27 @@
 -- The steps over a text lead to a state whose path isn't later.
-use Rattle.std.proofs.Common.{mul_comm, ◌≡◌, ℕ, ◌+◌, ◌*◌, ◌^◌, ◌≤◌, ◌<◌, ◌⊎◌, Bool, List, [], ◌∷◌, ◌++◌, refl, sym, ◌∙◌, ap, subst, arith, inl, inr, Option, Some, None, length, get_or, append_assoc, append-nil}
+use Rattle.std.proofs.Common.{◌≡◌, ℕ, ◌+◌, ◌*◌, ◌^◌, ◌≤◌, ◌<◌, Bool, List, [], ◌∷◌, ◌++◌, refl, sym, ◌∙◌, ap, subst, arith, inl, inr, Option, Some, None, length, get_or, append_assoc, append-nil}
 use Rattle.std.specs.Prelude.{slice_get, ◌↔◌, Contains, IfSome, IsNone}
 use Rattle.std.proofs.lemmas.Bool.{cases_lt, true≢false}
-use Rattle.std.proofs.lemmas.List.{get_or_past, get_or_default}
-use Rattle.std.proofs.lemmas.Nat.{mul-add-lt}
+use Rattle.std.proofs.lemmas.List.{get_or_past}
 use Rattle.std.proofs.lemmas.Option.{slice_get-get_or, slice_get_within, same_Some}
+use Rattle.wb_lemmas.proofs.Numbers.{place_below}
 use Rattle.wb_regex.specs.Tree.{Tree}
 use Rattle.wb_regex.specs.declared.node.RegexNode.{RegexNode}
 use Rattle.wb_regex.specs.declared.node.RegexNode.TheVariants as n
 use Rattle.wb_automata.specs.declared.tables.Tables.{Tables}
 use Rattle.wb_automata.specs.Rows.{row}
 use Rattle.wb_automata.specs.Inner.Transitions.{holds_of, node_holds}
-use Rattle.wb_automata.specs.Order.{AreRising}
 use Rattle.wb_automata.specs.Inner.Found.{Found, on}
 use Rattle.wb_automata.specs.Inner.Exploring.{IsMove, AreExplored, StartsAt}
 use Rattle.wb_automata.specs.Inner.Classes.{AreClasses}
 use Rattle.wb_automata.specs.Inner.Accepted.{AreAccepted}
-use Rattle.wb_automata.specs.Automata.{AutomatonView, Path, IsMatch, MatchesIn, GoesOn, AreAlike, LeadsTo, IsFound, IsEarlier, most_states}
+use Rattle.wb_automata.specs.Automata.{AutomatonView, Path, MatchesIn, GoesOn, AreAlike, LeadsTo, IsFound, most_states}
 use Rattle.wb_automata.specs.Inner.Tables.{AreTables}
 use Rattle.wb_automata.specs.Kept.{IsStepOf, IsAutomaton}
 use Rattle.wb_automata.proofs.ErasingLemmas.{byte_within}
 use Rattle.wb_automata.proofs.TableLemmas.{nodes_many}
 use Rattle.wb_automata.proofs.OrderLemmas.{IsLatest, latest_next, latest_more, latest_last}
 use Rattle.wb_automata.proofs.WholeLemmas.{blank, Represents, move_step, represents, start_represents, alike, accepts_exact, not_empty, filled}
-
--- an index of a row lies before the rows after it
-place_below : (j k w h : ℕ) → j < h → k < w → j * w + k < h * w
-place_below j k w h lt less = omega (arith, mul-add-lt j w k h lt less, mul_comm w h)
 
 match_same : (automaton : AutomatonView) (s k : ℕ) (x y : List ℕ) → x ≡ y → MatchesIn automaton s k x → MatchesIn automaton s k y
 match_same automaton s k x y e m = subst (MatchesIn automaton s k) e m
@@ -175,6 +170,7 @@ module _ (trees : List Tree) (sets : List (List Bool)) (t : Tables) (classes fir
         (λ has. a.0 (e.0 has), λ m. e.1 (a.1 m));
     rising = h.are_accepted.rising;
     ordered = record { sorted = h.explored.rows.found_ok.sorted; every = every };
+    sets_below = λ s path at. (let lt = h.explored.sets_below s path at in omega (arith, h.tables.starts_len));
     few = subst (λ z. z ≤ most_states trees) (sym h.explored.rows.found_ok.len) (subst (λ z. length found.sets ≤ 2 ^ z) (h.tables.follow_len ∙ ap (λ z. z + length trees) (nodes_many trees sets t h.tables)) h.explored.few);
     not_empty = not_empty trees sets t h.tables;
     filled = filled trees sets t h.tables;

@@ -13,11 +13,11 @@ use Rattle.wb_automata.specs.declared.tables.Tables.{Tables}
 use Rattle.wb_automata.specs.Inner.PositionTrees.{PositionTree, Matches}
 use Rattle.wb_automata.specs.Rows.{row}
 use Rattle.wb_automata.specs.Inner.Transitions.{Ahead, Reads, holds_of, node_holds}
-use Rattle.wb_automata.specs.Inner.PositionSets.{Stands, Ranges, IsNext, IsStartOf, Filled}
+use Rattle.wb_automata.specs.Inner.PositionSets.{Stands, Ranges, IsNext, Filled}
 use Rattle.wb_automata.specs.Inner.Forests.{IsForest}
-use Rattle.wb_automata.specs.Inner.Found.{Found, AreFound, IsSetStart, IsChild, on}
+use Rattle.wb_automata.specs.Inner.Found.{Found, AreFound, on}
 use Rattle.wb_automata.specs.Inner.Exploring.{IsMove}
-use Rattle.wb_automata.specs.Automata.{AutomatonView, Path, IsConsidered, IsMatch, MatchesIn, GoesOn, AreAlike}
+use Rattle.wb_automata.specs.Automata.{Path, IsConsidered, IsMatch, MatchesIn, GoesOn, AreAlike}
 use Rattle.wb_automata.specs.Inner.Tables.{AreTables}
 use Rattle.wb_automata.specs.Inner.Concatenated.{bound_of}
 use Rattle.wb_automata.specs.Kept.{IsStepOf}

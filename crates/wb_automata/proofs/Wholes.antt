@@ -1,5 +1,5 @@
 -- The tables of the code are those of the expressions.
-use Rattle.std.proofs.Common.{◌≡◌, ℕ, ◌+◌, ◌<◌, Bool, List, sym, ◌∙◌, subst, arith, ◌⊎◌, inl, inr, Some, length, get_or}
+use Rattle.std.proofs.Common.{◌≡◌, ℕ, ◌+◌, ◌<◌, List, sym, subst, arith, ◌⊎◌, inl, inr, Some, length, get_or}
 use Rattle.std.specs.Prelude.{slice_get, ◌↔◌, Contains}
 use Rattle.std.proofs.lemmas.Option.{slice_get-get_or, slice_get_within}
 use Rattle.wb_automata.specs.Inner.PositionTrees.{PositionTree, Leaf}

@@ -8,6 +8,8 @@ pub mod Concatenated
 pub mod Ends
 -- where bytes lead from the states that were found
 pub mod Exploring
+-- lists in one list
+pub mod FlatRows
 -- which leaves may come after which
 pub mod Follows
 -- several expressions over one list of nodes

@@ -1,6 +1,5 @@
 -- What an automaton keeps: a start for each set, a table of moves by classes of bytes, and a list of terminals for each state.
-use Rattle.std.specs.Prelude.{◌≡◌, ◌+◌, ◌*◌, ◌^◌, ◌<◌, ◌≤◌, ◌↔◌, ◌⊎◌, ℕ, Option, Some, None, List, [], ◌∷◌, ◌++◌, Contains, length, slice_get, slice_index, slice_index_or}
-use Rattle.wb_regex.specs.Tree.{Tree}
+use Rattle.std.specs.Prelude.{◌≡◌, ◌+◌, ◌*◌, ◌<◌, ◌≤◌, ◌↔◌, ℕ, Option, Some, None, List, [], ◌∷◌, ◌++◌, Contains, length, slice_get, slice_index, slice_index_or}
 use Rattle.wb_automata.specs.Rows.{row}
 use Rattle.wb_automata.specs.Order.{AreRising}
 use Rattle.wb_automata.specs.Automata.{AutomatonView, Path, MatchesIn, GoesOn, AreAlike, IsOrdered, IsMatch, LeadsTo, most_states}
@@ -29,6 +28,7 @@ pub record IsAutomaton (automaton : AutomatonView) (starts classes : List ℕ) (
   pub accepts : (s k : ℕ) (path : Path) → slice_get automaton.paths s ≡ Some path → Contains (row accepted s) k ↔ MatchesIn automaton path.set k path.text
   pub rising : (s : ℕ) → AreRising (row accepted s)
   pub ordered : IsOrdered automaton
+  pub sets_below : (s : ℕ) (path : Path) → slice_get automaton.paths s ≡ Some path → path.set < length automaton.sets
   pub few : length automaton.paths ≤ most_states automaton.terminals
   pub not_empty : (terminal : ℕ) → ¬ IsMatch automaton.terminals terminal []
   pub filled : (terminal : ℕ) → terminal < length automaton.terminals → (text : List ℕ) × IsMatch automaton.terminals terminal text

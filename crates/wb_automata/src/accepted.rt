@@ -1,9 +1,12 @@
 //! Which terminals does each state accept?
 
-ghost use Rattle.std.specs.Prelude.{◌≡◌, ◌<◌, ℕ, Some, All, IfOk, List, length, slice_get};
+ghost use Rattle.std.specs.Prelude.{◌≡◌, ◌<◌, ◌↔◌, ◌∷◌, ◌++◌, [], ℕ, Some, All, Contains, IfOk, List, length, slice_get};
+ghost use Rattle.wb_automata.specs.Order.{AreRising};
 ghost use Rattle.wb_automata.specs.Inner.Follows.{AreBelow};
-ghost use Rattle.wb_automata.specs.Inner.Accepted.{AreAccepted};
+ghost use Rattle.wb_automata.specs.Inner.Transitions.{Ahead};
+ghost use Rattle.wb_automata.specs.Inner.Accepted.{AreAccepted, IsAccepted};
 
+use crate::flat_rows::FlatRows;
 use crate::rows::Rows;
 use crate::states::States;
 use crate::transition::successors;
@@ -15,15 +18,30 @@ pub(crate) fn accepted_of(
     count: usize,
     ends: &Rows,
     states: &States,
-) -> Result<Rows, AllocError>
+) -> Result<FlatRows, AllocError>
     requires below { AreBelow count ends.now }
     requires sets { (j : ℕ) (set : List ℕ) → slice_get states.now.sets j ≡ Some set → All (λ p. p < length ends.now) set }
     ensures { IfOk result (λ accepted. AreAccepted ends.now states.now.sets accepted (length states.now.sets)) }
 {
-    let mut accepted = Rows::new(alloc);
+    let mut accepted = FlatRows::new(alloc);
     for i in 0..states.len() {
-        let terminals = successors(alloc, count, ends, states.at(i))?;
-        accepted.push(terminals)?;
+        push_accepted(alloc, count, ends, states.at(i), &mut accepted)?;
     }
     Ok(accepted)
+}
+
+// The same for one set of leaves more.
+fn push_accepted(
+    alloc: Global,
+    count: usize,
+    ends: &Rows,
+    set: &[usize],
+    accepted: &mut FlatRows,
+) -> Result<(), AllocError>
+    requires below { AreBelow count ends.now }
+    requires set { All (λ p. p < length ends.now) set.now }
+    ensures { IfOk result (λ _. IsAccepted ends.now set.now accepted.old accepted.new) }
+{
+    let terminals = successors(alloc, count, ends, set)?;
+    accepted.push(terminals.as_slice())
 }

@@ -14,9 +14,9 @@ ghost use Rattle.wb_automata.specs.Inner.Transitions.{IsTable};
 use crate::accepted::accepted_of;
 use crate::classes::classes_of;
 use crate::explore::{Explored, explore};
+use crate::flat_rows::FlatRows;
 use crate::moves::state_from;
 use crate::predecessor::Predecessor;
-use crate::rows::Rows;
 use crate::tables::{Tables, tables_of};
 use crate::text::text_at;
 use std::alloc::{AllocError, Global};
@@ -39,7 +39,7 @@ pub struct Automaton {
     classes: Vec<u8>,
     width: usize,
     moves: Vec<u32>,
-    accepted: Rows,
+    accepted: FlatRows,
     predecessors: Vec<Predecessor>,
 }
 
@@ -142,7 +142,8 @@ impl Automaton {
     /// The set from whose start the state was found. Takes no memory.
     pub fn set(&self, state: usize) -> usize
         requires { state < length self.now.paths }
-        ensures { (path : Path) → slice_get self.now.paths state ≡ Some path → result ≡ path.set }
+        ensures path { (path : Path) → slice_get self.now.paths state ≡ Some path → result ≡ path.set }
+        ensures below { result < length self.now.sets }
     {
         self.predecessors[state].set
     }
@@ -187,7 +188,7 @@ fn from_tables(
 #[derive(Drop)]
 struct FoundStates {
     explored: Explored,
-    accepted: Rows,
+    accepted: FlatRows,
 }
 
 fn found_of(

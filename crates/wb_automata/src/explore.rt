@@ -59,7 +59,6 @@ fn explore_set(
     close(
         tables,
         bytes,
-        set,
         from,
         &mut explored.states,
         &mut explored.moves,
@@ -86,20 +85,19 @@ fn start_of(tables: &Tables, set: usize, states: &mut States) -> Result<usize, A
 fn close(
     tables: &Tables,
     bytes: &[u8],
-    set: usize,
     from: usize,
     states: &mut States,
     moves: &mut Moves,
 ) -> Result<(), AllocError>
     requires table { IsTable tables.now }
     requires rising { AreRising bytes.now }
-    requires before { RowsPass tables.now bytes.now (set + 1) states.old moves.old from }
+    requires before { RowsPass tables.now bytes.now states.old moves.old from }
     ensures few { IfOk result (λ _. length states.new.sets ≤ 2 ^ length tables.now.follow) }
-    ensures rows { IfOk result (λ _. RowsFrom tables.now bytes.now (set + 1) states.old states.new moves.new (length states.new.sets)) }
+    ensures rows { IfOk result (λ _. RowsFrom tables.now bytes.now states.old states.new moves.new (length states.new.sets)) }
 {
     let mut i = from;
     'states: while i < states.len() {
-        row_of(tables, bytes, set, i, states, moves)?;
+        row_of(tables, bytes, i, states, moves)?;
         i += 1;
     }
     Ok(())
@@ -109,7 +107,6 @@ fn close(
 fn row_of(
     tables: &Tables,
     bytes: &[u8],
-    set: usize,
     i: usize,
     states: &mut States,
     moves: &mut Moves,
@@ -117,8 +114,8 @@ fn row_of(
     requires table { IsTable tables.now }
     requires rising { AreRising bytes.now }
     requires within { i < length states.old.sets }
-    requires before { RowsPass tables.now bytes.now (set + 1) states.old moves.old i }
-    ensures { IfOk result (λ _. RowsFrom tables.now bytes.now (set + 1) states.old states.new moves.new (i + 1)) }
+    requires before { RowsPass tables.now bytes.now states.old moves.old i }
+    ensures { IfOk result (λ _. RowsFrom tables.now bytes.now states.old states.new moves.new (i + 1)) }
 {
     let ahead = states.ahead(tables, i)?;
     let leaves = ahead.as_slice();

@@ -3,6 +3,7 @@
 //! States are numbered by their paths, so the first state that accepts has the least text.
 
 ghost use Rattle.std.specs.Prelude.{◌≡◌, ◌<◌, ◌∷◌, ℕ, [], false, List, IfOk, IfSome, IsNone, IsTrue, length};
+ghost use Rattle.wb_regex.specs.Filled.{Filled};
 ghost use Rattle.wb_automata.specs.Automata.{LeadsTo, MatchesIn};
 ghost use Rattle.wb_automata.specs.Inner.SharedStates.{HasAll, IsLeastState};
 ghost use Rattle.wb_automata.specs.Overlaps.{IsLeastMatch, IsOverlap};
@@ -16,11 +17,12 @@ use wb_termset::TermSet;
 
 /// The least text that both expressions match, by length and then by bytes, or that there is none.
 ///
-/// The automaton of the two alone is built. The only error is want of memory.
+/// The automaton of the two alone is built, whole: it has a state for each two sets of positions that one text leads to. The only
+/// error is want of memory.
 pub fn overlap(alloc: Global, left: &Regex, right: &Regex) -> Result<Overlap, AllocError>
     ensures { IfOk result (IsOverlap left.now right.now) }
 {
-    let automaton = automaton_of(alloc, left, right)?;
+    let automaton = automaton_of_two(alloc, left, right)?;
     match first_shared(&automaton, 0, 1) {
         None => Ok(Overlap::Disjoint),
         Some(state) => Ok(Overlap::Both(automaton.text(alloc, state)?)),
@@ -31,16 +33,26 @@ pub fn overlap(alloc: Global, left: &Regex, right: &Regex) -> Result<Overlap, Al
 pub fn least_text(alloc: Global, regex: &Regex) -> Result<Bytes, AllocError>
     ensures { IfOk result (IsLeastMatch regex.now) }
 {
-    // Each set holds a byte, so some text matches.
-    let _nodes = regex.nodes();
-    match overlap(alloc, regex, regex)? {
-        Overlap::Disjoint => unreachable!(),
-        Overlap::Both(text) => Ok(text),
+    let automaton = automaton_of_one(alloc, regex)?;
+    match first_shared(&automaton, 0, 0) {
+        // Each set of bytes holds one, so some text matches.
+        None => unreachable!(),
+        Some(state) => automaton.text(alloc, state),
     }
 }
 
+// The automaton of one expression, in one set.
+fn automaton_of_one(alloc: Global, regex: &Regex) -> Result<Automaton, AllocError>
+    ensures terminals { IfOk result (λ automaton. automaton.terminals ≡ regex.now ∷ []) }
+    ensures sets { IfOk result (λ automaton. HasAll 1 automaton.sets) }
+    ensures filled { IfOk result (λ _. Filled regex.now) }
+{
+    let one = single(alloc, regex)?;
+    build_of(alloc, &one)
+}
+
 // The automaton of both, in one set.
-fn automaton_of(alloc: Global, left: &Regex, right: &Regex) -> Result<Automaton, AllocError>
+fn automaton_of_two(alloc: Global, left: &Regex, right: &Regex) -> Result<Automaton, AllocError>
     ensures terminals { IfOk result (λ automaton. automaton.terminals ≡ left.now ∷ right.now ∷ []) }
     ensures sets { IfOk result (λ automaton. HasAll 2 automaton.sets) }
 {
@@ -68,6 +80,15 @@ fn all_of(alloc: Global, count: usize) -> Result<Vec<TermSet>, AllocError>
     let mut sets = Vec::new(alloc);
     push(&mut sets, set)?;
     Ok(sets)
+}
+
+fn single(alloc: Global, regex: &Regex) -> Result<Vec<Regex>, AllocError>
+    ensures items { IfOk result (λ one. one.items ≡ regex.now ∷ []) }
+    ensures filled { IfOk result (λ _. Filled regex.now) }
+{
+    let mut one = Vec::new(alloc);
+    push(&mut one, regex.copy()?)?;
+    Ok(one)
 }
 
 fn pair(alloc: Global, left: &Regex, right: &Regex) -> Result<Vec<Regex>, AllocError>

@@ -11,6 +11,7 @@ mod classes;
 mod concatenated;
 mod ends;
 mod explore;
+mod flat_rows;
 mod least;
 mod moves;
 mod positions;

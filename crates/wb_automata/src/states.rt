@@ -2,7 +2,7 @@
 //!
 //! A map from sets to numbers makes it fast. Where bytes lead is in `transition`.
 
-ghost use Rattle.std.specs.Prelude.{◌≡◌, ◌<◌, ◌↔◌, [], ℕ, Contains, IfOk, Some, List, length, slice_get};
+ghost use Rattle.std.specs.Prelude.{◌≡◌, ◌<◌, ◌↔◌, [], ℕ, Contains, IfOk, IfSome, IsNone, Some, List, length, slice_get};
 ghost use Rattle.wb_base.specs.Different.{Differ};
 ghost use Rattle.wb_automata.specs.Automata.{Path};
 ghost use Rattle.wb_automata.specs.Inner.Found.{IsPlaced, IsMoved};
@@ -75,9 +75,25 @@ impl States {
     ) -> Result<usize, AllocError>
         ensures { IfOk result (λ i. IsPlaced self.old places.now (path_by self.old.paths predecessor) self.new i) }
     {
-        if let Some(state) = self.sets.get_index_of(places) {
+        if let Some(state) = self.find(places) {
             return Ok(state);
         }
+        self.add(places, predecessor)
+    }
+
+    // The number of the state with these places.
+    fn find(&self, places: &[usize]) -> Option<usize>
+        ensures some { IfSome result (λ i. slice_get self.now.sets i ≡ Some places.now) }
+        ensures none { IsNone result → ¬ Contains self.now.sets places.now }
+    {
+        self.sets.get_index_of(places)
+    }
+
+    // Adds a state with these places, which no other has.
+    fn add(&mut self, places: &[usize], predecessor: Predecessor) -> Result<usize, AllocError>
+        requires { ¬ Contains self.old.sets places.now }
+        ensures { IfOk result (λ i. IsPlaced self.old places.now (path_by self.old.paths predecessor) self.new i) }
+    {
         let state = self.sets.len();
         let set = Vec::from_slice(self.alloc, places)?;
         push(&mut self.predecessors, predecessor)?;

@@ -24,5 +24,5 @@ pub(crate) fn text_at(
         at = predecessors[at].from;
     }
     bytes.reverse();
-    Bytes::from_slice(alloc, &bytes)
+    Bytes::from_vec(bytes)
 }

@@ -249,20 +249,66 @@ fn terminals_of_no_common_set_do_not_multiply(rt: HostRuntime) -> Result<(), Reg
     Ok(())
 }
 
-// Whether the last state was found from the start of the first set by a text.
-fn last_is_found(alloc: Global) -> Result<bool, RegexRefusal> {
-    let automaton = automaton_of_twenty(alloc)?;
-    let count = automaton.states();
-    if count == 0 {
+// The automaton of `ab` and `c`, each in a set of its own.
+fn automaton_of_two(alloc: Global) -> Result<Automaton, RegexRefusal> {
+    let mut all = Vec::new(alloc);
+    push(&mut all, read_regex(alloc, b"ab")?)?;
+    push(&mut all, read_regex(alloc, b"c")?)?;
+    let mut sets = Vec::new(alloc);
+    for number in 0..2usize {
+        let mut set = TermSet::new(alloc, 2)?;
+        add(&mut set, number);
+        push(&mut sets, set)?;
+    }
+    Ok(Automaton::build(alloc, &all, &sets)?)
+}
+
+// Whether a state was found from the start of this set by this text.
+fn is_found_by(
+    alloc: Global,
+    automaton: &Automaton,
+    state: usize,
+    set: usize,
+    text: &[u8],
+) -> Result<bool, AllocError> {
+    if state >= automaton.states() {
         return Ok(false);
     }
-    let text = automaton.text(alloc, count - 1)?;
-    Ok(automaton.set(count - 1) < 2 && !text.as_slice().is_empty())
+    let found = automaton.text(alloc, state)?;
+    Ok(automaton.set(state) == set && found.as_slice() == text)
 }
 
 #[test]
-fn states_are_found_by_texts(rt: HostRuntime) -> Result<(), RegexRefusal> {
-    assert!(rt; last_is_found(rt.alloc())?);
+fn states_are_numbered_by_sets_and_texts(rt: HostRuntime) -> Result<(), RegexRefusal> {
+    let automaton = automaton_of_two(rt.alloc())?;
+    assert_eq!(rt; automaton.states(), 5);
+    assert!(rt; is_found_by(rt.alloc(), &automaton, 0, 0, b"")?);
+    assert!(rt; is_found_by(rt.alloc(), &automaton, 2, 0, b"ab")?);
+    assert!(rt; is_found_by(rt.alloc(), &automaton, 3, 1, b"")?);
+    assert!(rt; is_found_by(rt.alloc(), &automaton, 4, 1, b"c")?);
+    Ok(())
+}
+
+// The automaton of one expression, whose marks are nested.
+fn nested(alloc: Global) -> Result<Automaton, RegexRefusal> {
+    let mut all = Vec::new(alloc);
+    push(&mut all, read_regex(alloc, b"((((a|b*)*)+)?(a|(b+)*)*)*c")?)?;
+    let mut set = TermSet::new(alloc, 1)?;
+    add(&mut set, 0);
+    let mut sets = Vec::new(alloc);
+    push(&mut sets, set)?;
+    Ok(Automaton::build(alloc, &all, &sets)?)
+}
+
+#[test]
+fn nested_marks_match_what_one_does(rt: HostRuntime) -> Result<(), RegexRefusal> {
+    let automaton = nested(rt.alloc())?;
+    for text in [b"c".as_slice(), b"ac", b"bac", b"abbabc"] {
+        assert!(rt; matches_by_steps(&automaton, 0, text, 0), "{text:?}");
+    }
+    for text in [b"".as_slice(), b"ab", b"cc", b"aca"] {
+        assert!(rt; !matches_by_steps(&automaton, 0, text, 0), "{text:?}");
+    }
     Ok(())
 }
 

@@ -4,6 +4,7 @@ use Rattle.std.specs.Prelude.{slice_get}
 use Rattle.std.proofs.lemmas.List.{get_or_append_left}
 use Rattle.std.proofs.Math.Seq.{get_or-append_seam}
 use Rattle.std.proofs.lemmas.Bool.{cases_lt}
+use Rattle.wb_lemmas.proofs.Booleans.{and_parts, or_cases, or_right}
 use Rattle.wb_regex.specs.Tree.{Tree, Set, Sequence, Choice, Star, Plus, Maybe}
 use Rattle.wb_regex.specs.Matches.{Matches, byte, both, left, right, none, more, once, absent, present}
 use Rattle.wb_regex.specs.Covers.{Covers, set, sequence, choice, star, plus, maybe}
@@ -12,22 +13,10 @@ use Rattle.wb_regex.specs.declared.node.RegexNode.{RegexNode}
 use Rattle.wb_regex.specs.declared.node.RegexNode.TheVariants as n
 use Rattle.wb_regex.proofs.CoversLemmas.{covers_rises}
 
-and_parts : (a b : Bool) → (a && b) ≡ true → (a ≡ true) × (b ≡ true)
-and_parts true b h = (refl, h)
-and_parts false b h = cc
-
-or_parts : (a b : Bool) → (a || b) ≡ true → (a ≡ true) ⊎ (b ≡ true)
-or_parts true b h = inl refl
-or_parts false b h = inr h
-
-or_right : (a b : Bool) → b ≡ true → (a || b) ≡ true
-or_right true b h = refl
-or_right false b h = h
-
 pub empty_matches : (t : Tree) → nullable_of t ≡ true → Matches t []
 empty_matches (Set words) h = cc
 empty_matches (Sequence r s) h = let p = and_parts (nullable_of r) (nullable_of s) h in both (empty_matches r p.0) (empty_matches s p.1) refl
-empty_matches (Choice r s) h = ⊎_elim (λ a. left (empty_matches r a)) (λ b. right (empty_matches s b)) (or_parts (nullable_of r) (nullable_of s) h)
+empty_matches (Choice r s) h = ⊎_elim (λ a. left (empty_matches r a)) (λ b. right (empty_matches s b)) (or_cases (nullable_of r) (nullable_of s) h)
 empty_matches (Star r) h = none refl
 empty_matches (Plus r) h = once (empty_matches r h) (none refl) refl
 empty_matches (Maybe r) h = absent refl

@@ -5,6 +5,7 @@ use Rattle.std.specs.Int.{bit_at, bit_not}
 use Rattle.std.proofs.lemmas.Bool.{cases_eq}
 use Rattle.std.proofs.lemmas.Nat.{pow_pos, or_lt}
 use Rattle.std.proofs.lemmas.Nat.Bits.{bit_at-zero, bit_at-lt, bit_at_not, bit_at_set_same, bit_at_set_other}
+use Rattle.wb_lemmas.proofs.Booleans.{not_holds}
 use Rattle.wb_regex.specs.Matches.{HoldsByte}
 use Rattle.wb_regex.specs.Sets.{IsSetOf}
 use Rattle.wb_regex.specs.Inner.ClassSteps.{words_of}
@@ -115,10 +116,6 @@ not_true : (a : Bool) → not a ≡ true → a ≡ true → ⊥
 not_true true h k = cc
 not_true false h k = cc
 
-true_not : (a : Bool) → (a ≡ true → ⊥) → not a ≡ true
-true_not true h = absurd (h refl)
-true_not false h = refl
-
 not_small : (x : ℕ) → bit_not w64 x < 2 ^ 64
 not_small x = let e : bit_not w64 x ≡ 18446744073709551615 - x = refl in omega arith
 
@@ -137,7 +134,7 @@ others_are words made test e h = record {
     λ (k : HoldsByte made b).
         let f = flips b k.0 in
         let one : 1 - bit_at (get_or words (b / 64) 0) (b % 64) ≡ 1 = sym f ∙ k.1 in
-        (k.0, true_not (test b) (λ t. let g = ((h.each b).1 (k.0, t)).1 in omega arith)),
+        (k.0, not_holds (test b) (λ t. let g = ((h.each b).1 (k.0, t)).1 in omega arith)),
     λ (k : (b < 256) × (not (test b) ≡ true)).
         let f = flips b k.0 in
         let small' : bit_at (get_or words (b / 64) 0) (b % 64) < 2 = bit_at-lt _ _ in

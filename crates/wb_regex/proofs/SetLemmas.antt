@@ -8,6 +8,7 @@ use Rattle.std.proofs.lemmas.Nat.{pow_pos}
 use Rattle.std.proofs.lemmas.List.{get_or_past}
 use Rattle.std.proofs.lemmas.Grind.{same_number_lists}
 use Rattle.std.proofs.lemmas.Nat.Bits.{bit_at-zero, bit_at-lt, bit_at_cat_low, bit_at_cat_high, same_from_bits_below, bit_at-trailing_zeros}
+use Rattle.wb_lemmas.proofs.Booleans.{and_parts}
 use Rattle.wb_regex.specs.Matches.{HoldsByte}
 use Rattle.wb_regex.specs.Sets.{IsSetOf}
 use Rattle.wb_regex.specs.Inner.ClassSteps.{bits_below, word_of, words_of, are_zero}
@@ -112,15 +113,11 @@ pub words_are : (words : List ℕ) (test : ℕ → Bool) → IsSetOf words test 
 words_are words test h = same_words words (words_of test) test h (is_set_of test)
 
 -- four words that are all 0 hold no byte
-and_both : (a b : Bool) → (a && b) ≡ true → (a ≡ true) × (b ≡ true)
-and_both true b h = (refl, h)
-and_both false b h = cc
-
 pub zero_holds_none : (words : List ℕ) → are_zero words ≡ true → (b : ℕ) → ¬ HoldsByte words b
 zero_holds_none words h b has =
-    let g = and_both _ _ h in
-    let f = and_both _ _ g.0 in
-    let e = and_both _ _ f.0 in
+    let g = and_parts _ _ h in
+    let f = and_parts _ _ g.0 in
+    let e = and_parts _ _ f.0 in
     let z = all (b / 64) (omega (arith, has.0)) (eqb-true _ _ e.0) (eqb-true _ _ e.1) (eqb-true _ _ f.1) (eqb-true _ _ g.1) in
     let n = sym (bit_at-zero (b % 64)) ∙ sym (ap (λ w. bit_at w (b % 64)) z) ∙ has.1 in
     absurd (omega arith)

@@ -1,7 +1,8 @@
 -- The first symbol of some bytes is the one symbol that is spelled at their front.
 use Rattle.std.proofs.Common.{◌≡◌, ℕ, ◌+◌, ◌*◌, List, [], ◌∷◌, ◌++◌, Option, Some, None, true, false, cond, eqb, refl, sym, ap, ◌∙◌, subst, ⊎_elim, arith}
 use Rattle.std.proofs.lemmas.Bool.{cases_Bool}
-use Rattle.wb_regex.specs.Text.{byte_symbol, escape_byte, hex_digit, IsSymbol, alone, escaped, hexadecimal}
+use Rattle.wb_base.specs.Decimal.{hex_value}
+use Rattle.wb_regex.specs.Text.{byte_symbol, escape_byte, IsSymbol, alone, escaped, hexadecimal}
 use Rattle.wb_regex.specs.Inner.Scan.{with_rest, escape_of, hex_pair, hex_at, escape_at, symbol_at}
 use Rattle.wb_regex.specs.declared.symbol.Symbol.{Symbol}
 use Rattle.wb_regex.specs.declared.symbol.Symbol.TheVariants.{Escape}
@@ -22,7 +23,7 @@ only x r (alone {s} {b} h e) f =
 only x r (escaped {s} {b} {c} h g e) f =
     ap symbol_at (f ∙ ap (λ a. a ++ r) e) ∙ ap (λ t. cond t (hex_at r) (with_rest (escape_of (escape_byte c)) r)) (not_hex c b h) ∙ ap (λ o. with_rest (escape_of o) r) h ∙ ap (λ o. Some (o, r)) (sym g)
 only x r (hexadecimal {s} {h} {l} {m} {n} p q g e) f =
-    ap symbol_at (f ∙ ap (λ a. a ++ r) e) ∙ ap (λ o. with_rest (escape_of (hex_pair o (hex_digit l))) r) p ∙ ap (λ o. with_rest (escape_of (hex_pair (Some m) o)) r) q ∙ ap (λ o. Some (o, r)) (sym g)
+    ap symbol_at (f ∙ ap (λ a. a ++ r) e) ∙ ap (λ o. with_rest (escape_of (hex_pair o (hex_value l))) r) p ∙ ap (λ o. with_rest (escape_of (hex_pair (Some m) o)) r) q ∙ ap (λ o. Some (o, r)) (sym g)
 
 with_rest_some : (o : Option Symbol) (xs r : List ℕ) (s : Symbol) → with_rest o xs ≡ Some (s, r) → (o ≡ Some s) × (xs ≡ r)
 with_rest_some None xs r s h = cc
@@ -44,9 +45,9 @@ found_hex : (xs r : List ℕ) (s : Symbol) → hex_at xs ≡ Some (s, r) → Fou
 found_hex [] r s h = cc
 found_hex (a ∷ []) r s h = cc
 found_hex (a ∷ l ∷ xs) r s h =
-    let g = with_rest_some (escape_of (hex_pair (hex_digit a) (hex_digit l))) xs r s h in
-    let b = escape_of_some (hex_pair (hex_digit a) (hex_digit l)) s g.0 in
-    let m = hex_pair_some (hex_digit a) (hex_digit l) b.0 b.1 in
+    let g = with_rest_some (escape_of (hex_pair (hex_value a) (hex_value l))) xs r s h in
+    let b = escape_of_some (hex_pair (hex_value a) (hex_value l)) s g.0 in
+    let m = hex_pair_some (hex_value a) (hex_value l) b.0 b.1 in
     (92 ∷ 120 ∷ a ∷ l ∷ [], hexadecimal m.2 m.3 (b.2 ∙ ap Escape m.4) refl, ap (λ y. 92 ∷ 120 ∷ a ∷ l ∷ y) g.1)
 
 found_escape : (xs r : List ℕ) (s : Symbol) → escape_at xs ≡ Some (s, r) → Found s (92 ∷ xs) r

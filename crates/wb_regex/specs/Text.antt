@@ -1,5 +1,6 @@
 -- How symbols are spelled in bytes, which bytes are a regular expression, and where others go wrong.
 use Rattle.std.specs.Prelude.{◌≡◌, ◌≤◌, ◌+◌, ◌-◌, ◌*◌, ◌==◌, ◌&&◌, ◌||◌, ℕ, Bool, List, [], ◌∷◌, ◌++◌, length, take, drop, map, Option, Some, None, nat_le, if◌then◌else◌}
+use Rattle.wb_base.specs.Decimal.{hex_value}
 use Rattle.wb_regex.specs.Tree.{Tree}
 use Rattle.wb_regex.specs.Grammar.{Sign, Written, Reads, Regex}
 use Rattle.wb_regex.specs.declared.symbol.Symbol.{Symbol}
@@ -23,15 +24,11 @@ escape_byte c =
     if c == 110 then Some 10 else if c == 114 then Some 13 else if c == 116 then Some 9
     else if is_in 48 57 c || is_in 65 90 c || is_in 97 122 c then None else Some c
 
--- the value of a hexadecimal digit
-abbrev pub hex_digit : ℕ → Option ℕ
-hex_digit c = if is_in 48 57 c then Some (c - 48) else if is_in 97 102 c then Some (c - 87) else if is_in 65 70 c then Some (c - 55) else None
-
 -- the bytes are this one symbol: a byte alone, a backslash with a byte, or \x with two hexadecimal digits
 pub data IsSymbol : Symbol → List ℕ → Type 0 where
   alone : {s : Symbol} {b : ℕ} {x : List ℕ} → byte_symbol b ≡ Some s → x ≡ b ∷ [] → IsSymbol s x
   escaped : {s : Symbol} {b c : ℕ} {x : List ℕ} → escape_byte c ≡ Some b → s ≡ Escape b → x ≡ 92 ∷ c ∷ [] → IsSymbol s x
-  hexadecimal : {s : Symbol} {h l m n : ℕ} {x : List ℕ} → hex_digit h ≡ Some m → hex_digit l ≡ Some n → s ≡ Escape (16 * m + n) → x ≡ 92 ∷ 120 ∷ h ∷ l ∷ [] → IsSymbol s x
+  hexadecimal : {s : Symbol} {h l m n : ℕ} {x : List ℕ} → hex_value h ≡ Some m → hex_value l ≡ Some n → s ≡ Escape (16 * m + n) → x ≡ 92 ∷ 120 ∷ h ∷ l ∷ [] → IsSymbol s x
 
 -- the bytes are these symbols
 pub data IsText : List Symbol → List ℕ → Type 0 where

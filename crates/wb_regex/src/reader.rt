@@ -101,7 +101,7 @@ impl Reader {
         }
     }
 
-    // An atom is begin_atom.
+    // An atom begins.
     fn begin(&mut self, symbol: Symbol) -> Result<bool, AllocError>
         ensures { IfOk result (λ shifted. (l : Level) (ls : List Level) → Stands self.old (length self.old.nodes.items) l ls
             → Shifted shifted (begin_atom symbol l ls) self.new) }
@@ -223,11 +223,11 @@ impl Reader {
     }
 
     // A turn is made in a class.
-    fn turn(&mut self, after_piece: ClassStep) -> Result<bool, AllocError>
-        ensures { IfOk result (λ shifted. (o : Option ClassMove) (l : Level) (ls : List Level) → ShowsMove after_piece o → Stands self.old (length self.old.nodes.items) l ls
+    fn turn(&mut self, class_step: ClassStep) -> Result<bool, AllocError>
+        ensures { IfOk result (λ shifted. (o : Option ClassMove) (l : Level) (ls : List Level) → ShowsMove class_step o → Stands self.old (length self.old.nodes.items) l ls
             → Shifted shifted (after_class o l ls) self.new) }
     {
-        match after_piece {
+        match class_step {
             ClassStep::Stop => Ok(false),
             ClassStep::Stay(class) => {
                 self.place = Place::Within(class);

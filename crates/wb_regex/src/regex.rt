@@ -53,7 +53,8 @@ impl Regex {
 
     /// An equal expression. The only error is want of memory.
     pub fn copy(&self) -> Result<Regex, AllocError>
-        ensures { IfOk result (λ made. made ≡ self.now) }
+        ensures same { IfOk result (λ made. made ≡ self.now) }
+        ensures filled { Filled self.now }
     {
         Ok(Regex {
             nodes: self.nodes.clone()?,

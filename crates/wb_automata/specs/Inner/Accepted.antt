@@ -1,5 +1,5 @@
 -- The terminals that states accept, as lists.
-use Rattle.std.specs.Prelude.{◌≡◌, ◌<◌, ◌↔◌, ℕ, Some, List, Contains, length, slice_get}
+use Rattle.std.specs.Prelude.{◌≡◌, ◌<◌, ◌↔◌, ◌∷◌, ◌++◌, [], ℕ, Some, List, Contains, length, slice_get}
 use Rattle.wb_automata.specs.Rows.{row}
 use Rattle.wb_automata.specs.Order.{AreRising}
 use Rattle.wb_automata.specs.Inner.Transitions.{Ahead}
@@ -9,3 +9,10 @@ pub record AreAccepted (ends sets accepted : List (List ℕ)) (i : ℕ) : Type 0
   pub len : length accepted ≡ i
   pub rising : (j : ℕ) → AreRising (row accepted j)
   pub each : (j k : ℕ) (set : List ℕ) → j < i → slice_get sets j ≡ Some set → Contains (row accepted j) k ↔ Ahead ends set k
+
+-- the list of a set of leaves is put after the others
+pub record IsAccepted (ends : List (List ℕ)) (set : List ℕ) (old new : List (List ℕ)) : Type 0 where
+  pub all : List ℕ
+  pub last : new ≡ old ++ all ∷ []
+  pub rising : AreRising all
+  pub exact : (k : ℕ) → Contains all k ↔ Ahead ends set k

@@ -1,5 +1,5 @@
 -- Where bytes lead from the states that were found.
-use Rattle.std.specs.Prelude.{◌≡◌, ◌+◌, ◌*◌, ◌^◌, ◌<◌, ◌≤◌, ◌↔◌, ◌⊎◌, ℕ, Option, Some, None, List, [], ◌∷◌, ◌++◌, All, Contains, length, slice_get, slice_index, slice_index_or}
+use Rattle.std.specs.Prelude.{◌≡◌, ◌+◌, ◌*◌, ◌^◌, ◌<◌, ◌≤◌, ◌↔◌, ◌⊎◌, ℕ, Option, Some, None, List, [], Contains, length, slice_get, slice_index, slice_index_or}
 use Rattle.wb_automata.specs.declared.tables.Tables.{Tables}
 use Rattle.wb_automata.specs.Automata.{Path, IsEarlier}
 use Rattle.wb_automata.specs.Rows.{row}
@@ -38,8 +38,12 @@ pub record IsReady (found : Found) (i : ℕ) : Type 0 where
 abbrev pub SetsBelow : ℕ → Found → Type 0
 SetsBelow top found = (j : ℕ) (path : Path) → slice_get found.paths j ≡ Some path → path.set < top
 
+-- no path begins at a later set than those before
+abbrev pub KeepsSets : Found → Found → Type 0
+KeepsSets old found = (top : ℕ) → SetsBelow top old → SetsBelow top found
+
 -- within the state i: what may come after its places, and its moves by the first c of the bytes
-pub record RowPass (t : Tables) (bytes : List ℕ) (top : ℕ) (old found : Found) (i : ℕ) (ahead : List ℕ) (moves : List (Option ℕ)) (c : ℕ) : Type 0 where
+pub record RowPass (t : Tables) (bytes : List ℕ) (old found : Found) (i : ℕ) (ahead : List ℕ) (moves : List (Option ℕ)) (c : ℕ) : Type 0 where
   pub set : List ℕ
   pub path : Path
   pub at : slice_get found.sets i ≡ Some set
@@ -47,23 +51,23 @@ pub record RowPass (t : Tables) (bytes : List ℕ) (top : ℕ) (old found : Foun
   pub is : (q : ℕ) → Contains ahead q ↔ Ahead t.follow set q
   pub places : IsPlaceList (length t.nodes.items) ahead
   pub extends : Extends old found
+  pub sets_kept : KeepsSets old found
   pub found_ok : AreFound t found
-  pub sets_below : SetsBelow top found
   pub are_moves : AreMoves t bytes found moves i c
   pub edge : (b : ℕ) → ((k : ℕ) → k < c → slice_index bytes k < b) → AllBefore found.paths (on path b)
 
 -- the moves of the first i states
-pub record RowsPass (t : Tables) (bytes : List ℕ) (top : ℕ) (found : Found) (moves : List (Option ℕ)) (i : ℕ) : Type 0 where
+pub record RowsPass (t : Tables) (bytes : List ℕ) (found : Found) (moves : List (Option ℕ)) (i : ℕ) : Type 0 where
   pub within : i ≤ length found.sets
   pub found_ok : AreFound t found
-  pub sets_below : SetsBelow top found
   pub ready : i < length found.sets → IsReady found i
   pub are_moves : AreMoves t bytes found moves i 0
 
 -- the same, after states that were there before
-pub record RowsFrom (t : Tables) (bytes : List ℕ) (top : ℕ) (old found : Found) (moves : List (Option ℕ)) (i : ℕ) : Type 0 where
+pub record RowsFrom (t : Tables) (bytes : List ℕ) (old found : Found) (moves : List (Option ℕ)) (i : ℕ) : Type 0 where
   pub extends : Extends old found
-  pub rows : RowsPass t bytes top found moves i
+  pub sets_kept : KeepsSets old found
+  pub rows : RowsPass t bytes found moves i
 
 -- the state has the starts of the set, and no later path
 pub record StartsAt (t : Tables) (found : Found) (set state : ℕ) : Type 0 where
@@ -75,6 +79,7 @@ pub record StartsAt (t : Tables) (found : Found) (set state : ℕ) : Type 0 wher
 -- all states that are found from the starts of the first s sets, and all their moves
 pub record AreExplored (t : Tables) (bytes : List ℕ) (found : Found) (moves : List (Option ℕ)) (starts : List ℕ) (s : ℕ) : Type 0 where
   pub few : length found.sets ≤ 2 ^ length t.follow
-  pub rows : RowsPass t bytes s found moves (length found.sets)
+  pub rows : RowsPass t bytes found moves (length found.sets)
+  pub sets_below : SetsBelow s found
   pub starts_len : length starts ≡ s
   pub starts_at : (j : ℕ) → j < s → StartsAt t found j (slice_index starts j)

@@ -1,5 +1,5 @@
 -- Several expressions over one list of nodes, and the tables that are theirs.
-use Rattle.std.specs.Prelude.{◌≡◌, ℕ, ◌+◌, ◌<◌, ◌≤◌, List, true, ◌⊎◌, ◌↔◌, slice_get, slice_index_or, Some, length, Contains}
+use Rattle.std.specs.Prelude.{◌≡◌, ℕ, ◌+◌, ◌<◌, ◌≤◌, List, ◌↔◌, slice_get, slice_index_or, Some, length, Contains}
 use Rattle.wb_regex.specs.declared.node.RegexNode.{RegexNode}
 use Rattle.wb_automata.specs.Rows.{row}
 use Rattle.wb_automata.specs.Inner.Nodes.{Covers}

@@ -1,3 +1,5 @@
+use Rattle.std.proofs.Common.{◌+◌, sym, subst}
+use Rattle.wb_automata.specs.Inner.Accepted.{AreAccepted}
 use Rattle.wb_automata.proofs.AcceptedLemmas.{accepted_none, accepted_step}
 use Rattle.wb_automata.proofs.accepted.accepted_of.Goals as goal
 
@@ -5,4 +7,6 @@ pub loop-i-init : goal.loop-i-init
 loop-i-init c = rw (c.new-accepted.ensures) (accepted_none c.args.ends.now c.args.states.now.sets)
 
 pub loop-i-preserved : goal.loop-i-preserved
-loop-i-preserved c = rw (c.in_ok-push.ensures) (accepted_step c.args.ends.now c.args.states.now.sets c.loop-i.accepted c.at.result.now c.in_ok-terminals.terminals c.loop-i.i c.at.ensures c.in_ok-terminals.ensures.exact c.in_ok-terminals.ensures.places.rising c.loop-i.invariant)
+loop-i-preserved c =
+    let a = c.in_ok-push_accepted.ensures in
+    subst (λ z. AreAccepted c.args.ends.now c.args.states.now.sets z (c.loop-i.i + 1)) (sym a.last) (accepted_step c.args.ends.now c.args.states.now.sets c.loop-i.accepted c.at.result.now a.all c.loop-i.i c.at.ensures a.exact a.rising c.loop-i.invariant)

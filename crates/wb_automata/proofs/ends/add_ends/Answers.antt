@@ -1,9 +1,8 @@
-use Rattle.std.proofs.Common.{◌≡◌, ◌<◌, subst, sym, arith, length, get_or, [], Some, refl}
+use Rattle.std.proofs.Common.{◌≡◌, ◌<◌, arith, length, get_or, [], Some, refl}
 use Rattle.std.specs.Prelude.{slice_get}
 use Rattle.std.proofs.lemmas.Option.{slice_get-get_or}
 use Rattle.wb_regex.specs.declared.node.RegexNode.TheVariants as n
-use Rattle.wb_automata.specs.Inner.Nodes.{PartsBelow}
-use Rattle.wb_automata.specs.Inner.Ends.{rows_of, parts_of, AreBefore}
+use Rattle.wb_automata.specs.Inner.Ends.{rows_of, parts_of}
 use Rattle.wb_automata.proofs.EndLemmas.{walk_begin, walk_step, walk_smaller, walk_end, walk_within, row_is, parts_before}
 use Rattle.wb_automata.proofs.NodeLemmas.{parts_more}
 use Rattle.wb_automata.proofs.ends.add_ends.Goals as goal

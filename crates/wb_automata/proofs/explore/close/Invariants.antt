@@ -1,9 +1,9 @@
-use Rattle.std.proofs.Common.{◌-◌, ◌^◌, ◌+◌, length}
+use Rattle.std.proofs.Common.{◌-◌, ◌^◌, length}
 use Rattle.wb_automata.specs.Inner.Exploring.{RowsFrom}
 use Rattle.wb_automata.proofs.explore.close.Given as goal
 
 abbrev pub invariant-states : goal.invariant-states
-invariant-states l = RowsFrom l.tables l.bytes (l.set + 1) l.fn.states l.states l.moves l.i
+invariant-states l = RowsFrom l.tables l.bytes l.fn.states l.states l.moves l.i
 
 abbrev pub decreases-states : goal.decreases-states
 decreases-states l = 2 ^ length l.tables.follow - l.i

@@ -1,4 +1,4 @@
-use Rattle.std.proofs.Common.{◌≡◌, subst, sym, ◌∙◌, arith, length, [], None}
+use Rattle.std.proofs.Common.{◌≡◌, arith, None}
 use Rattle.std.specs.Prelude.{slice_get}
 use Rattle.std.proofs.lemmas.Option.{slice_get_past}
 use Rattle.wb_automata.proofs.explore.start_of.Goals as goal

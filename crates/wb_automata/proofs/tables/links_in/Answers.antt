@@ -1,4 +1,4 @@
-use Rattle.std.proofs.Common.{◌≡◌, length, List, Bool}
+use Rattle.std.proofs.Common.{List, Bool}
 use Rattle.wb_automata.specs.declared.ends.Side.TheVariants.{First, Last}
 use Rattle.wb_automata.specs.Inner.Ends.{rows_of}
 use Rattle.wb_automata.proofs.EndLemmas.{rows_are_firsts, rows_are_lasts}

@@ -18,7 +18,7 @@ none_exact : {E : Type 0} (P : Clash → Type 0) (N M : Type 0) → (N → M) �
 none_exact P N M f g (Ok found) some none = (λ e. f (none e), λ m. none_from found P some (λ x p. g x p m))
 none_exact P N M f g (Err e) some none = tt
 
-module _ (c : goal.After-drop-automaton-inside-7) where
+module _ (c : goal.After-drop-automaton-inside-8) where
   -- what the automaton found
   abbrev IsFound : Clash → Type 0
   IsFound clash = IsLeastClash c.in_ok-automaton.automaton c.args.preferences.now clash.set clash.left clash.right clash.text

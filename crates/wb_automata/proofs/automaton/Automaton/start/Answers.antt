@@ -1,4 +1,4 @@
-use Rattle.std.proofs.Common.{◌≡◌, ◌<◌, [], ap, sym, ◌∙◌, length, subst, arith}
+use Rattle.std.proofs.Common.{◌<◌, [], ap, length, subst, arith}
 use Rattle.std.proofs.lemmas.List.{get_or_read}
 use Rattle.std.proofs.lemmas.Option.{slice_get_within}
 use Rattle.wb_automata.specs.Automata.{AutomatonView, LeadsTo}

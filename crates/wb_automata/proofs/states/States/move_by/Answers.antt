@@ -1,6 +1,5 @@
-use Rattle.std.proofs.Common.{sym, ◌∙◌, subst}
+use Rattle.std.proofs.Common.{sym, ◌∙◌}
 use Rattle.std.proofs.lemmas.Bool.{true≢false}
-use Rattle.wb_automata.specs.Inner.Found.{IsPlaced}
 use Rattle.wb_automata.proofs.PlaceLemmas.{some_in}
 use Rattle.wb_automata.proofs.states.States.move_by.Goals as goal
 

@@ -2,7 +2,6 @@ use Rattle.std.proofs.Common.{◌≡◌, ◌<◌, ◌∙◌, sym, ap, subst, len
 use Rattle.std.specs.Prelude.{slice_get}
 use Rattle.std.proofs.lemmas.Option.{slice_get-get_or}
 use Rattle.wb_automata.specs.Inner.Found.{Found}
-use Rattle.wb_automata.specs.Paths.{paths_of}
 use Rattle.wb_automata.proofs.TextLemmas.{paths_len, set_at}
 use Rattle.wb_automata.proofs.states.States.set_of.Goals as goal
 
