@@ -4,6 +4,7 @@ use Rattle.std.specs.Prelude.{Contains, slice_get, slice_index}
 use Rattle.std.proofs.lemmas.Bool.{cases_eq, cases_lt}
 use Rattle.std.proofs.lemmas.List.{get_or-replicate, get_or_past, length-replicate}
 use Rattle.std.proofs.lemmas.Option.{slice_get_within, same_Some}
+use Rattle.wb_lemmas.proofs.Members.{place_of, contains_at}
 use Rattle.wb_base.specs.declared.symbol.Symbol.{Symbol}
 use Rattle.wb_base.specs.declared.symbol.Symbol.TheVariants.{Terminal, Nonterminal}
 use Rattle.wb_grammars.specs.declared.item.Item.{Item}
@@ -12,7 +13,6 @@ use Rattle.wb_grammars.specs.Items.{after_dot, HasItem, advance}
 use Rattle.wb_grammars.proofs.ValidLemmas.{before_last}
 use Rattle.wb_items.specs.declared.transitions.Move.{Move}
 use Rattle.wb_items.specs.Kernels.{KernelsView, AreKernels, HasNoneBefore, LeadsTo, count_of, prefix_of}
-use Rattle.wb_items.proofs.ListLemmas.{at_Contains, Contains-at}
 use Rattle.wb_lookahead.specs.Codes.{goto_at}
 use Rattle.wb_lookahead.specs.Tables.{IsGoto}
 use Rattle.wb_lookahead.specs.Inner.Rows.{AreGotos, GotosUpTo, PutsGoto}
@@ -49,7 +49,7 @@ gotos_more {kernels} h s moves codes new n move are at (inr (b, code, is, code_i
   where
     leads : LeadsTo kernels s (Nonterminal b) move.state
     leads = (are (Nonterminal b) move.state).0 (subst (λ x. Contains moves (record { symbol = x; state =
-        move.state })) is (Contains-at moves n move at))
+        move.state })) is (contains_at moves move n at))
 
     sound : (a next : ℕ) → goto_at (get_or (set codes b code) a 0) ≡ Some next → LeadsTo kernels s (Nonterminal a) next
     sound a next found = elim (cases_eq a b) [
@@ -69,8 +69,8 @@ gotos_more {kernels} h s moves codes new n move are at (inr (b, code, is, code_i
     complete : (i a next : ℕ) → i < n + 1 → slice_get moves i ≡ Some (record { symbol = Nonterminal a; state = next }) →
         a < kernels.grammar.nonterminals → (a ≡ b) ⊎ (a ≡ b → ⊥) → goto_at (get_or (set codes b code) a 0) ≡ Some next
     complete i a next lt there below (inl one) =
-        let to : LeadsTo kernels s (Nonterminal a) next = (are (Nonterminal a) next).0 (Contains-at moves i (record { symbol =
-            Nonterminal a; state = next }) there) in
+        let to : LeadsTo kernels s (Nonterminal a) next = (are (Nonterminal a) next).0 (contains_at moves (record { symbol =
+            Nonterminal a; state = next }) i there) in
         let e : move.state ≡ next = step_once h s (Nonterminal b) move.state next leads
             (subst (λ z. LeadsTo kernels s (Nonterminal z) next) one to) in
         let written : get_or (set codes b code) a 0 ≡ code = rw one
@@ -111,7 +111,7 @@ gotos_end {kernels} h s moves codes n lt are le all = record {
         let (next, next_lt, same) = h.states.all (prefix_of kernels s ++ Nonterminal b ∷ []) (advance item, t, moved) in
         let has : Contains moves (record { symbol = Nonterminal b; state = next }) = (are (Nonterminal b) next).1
             (lt, next_lt, (advance item, t, moved), same) in
-        let (i, at) = at_Contains moves (record { symbol = Nonterminal b; state = next }) has in
+        let (i, at) = place_of moves (record { symbol = Nonterminal b; state = next }) has in
         let found : goto_at (slice_index codes b) ≡ Some next = all.complete i b next
             (omega (arith, le, slice_get_within moves i (record { symbol = Nonterminal b; state = next }) at)) at below in
         some_none (goto_at (slice_index codes b)) next found none

@@ -2,6 +2,7 @@
 use Rattle.std.proofs.Common.{◌≡◌, ℕ, ◌+◌, ◌<◌, ◌≤◌, Bool, List, [], ◌∷◌, length, Some, refl, sym, ◌∙◌, ap, subst, arith}
 use Rattle.std.specs.Prelude.{All, Contains, slice_get}
 use Rattle.std.proofs.lemmas.List.Elements.{All-contains}
+use Rattle.wb_lemmas.proofs.Members.{contains_at}
 use Rattle.wb_base.specs.declared.symbol.Symbol.{Symbol}
 use Rattle.wb_base.specs.Grammar.{GrammarView}
 use Rattle.wb_termset.specs.Sets.{IsMember}
@@ -12,7 +13,6 @@ use Rattle.wb_items.specs.declared.item_lookahead.ItemLookahead.{ItemLookahead}
 use Rattle.wb_items.specs.Kernels.{KernelsView, AreKernels, closure_of, count_of, prefix_of}
 use Rattle.wb_items.specs.Lookaheads.{AreLookaheadsOf, IsSetOf, row_of}
 use Rattle.wb_items.specs.Table.{AreProductions, AreProductionsOf}
-use Rattle.wb_items.proofs.ListLemmas.{Contains-at}
 use Rattle.wb_lookahead.specs.declared.worklist.Place.{Place}
 use Rattle.wb_lookahead.specs.Inner.Spreading.{FlowsTo, IsPlace, Lists}
 use Rattle.wb_lookahead.proofs.PassLemmas.{set_at, set_once}
@@ -22,7 +22,7 @@ use Rattle.wb_lookahead.proofs.StepLemmas.{row_wide}
 pub place_has : {kernels : KernelsView} → AreKernels kernels → (place : Place) → IsPlace kernels place →
     HasItem kernels.grammar (prefix_of kernels place.state) place.item
 place_has {kernels} h place p = (h.closures place.state p.state place.item).0
-    (Contains-at (closure_of kernels place.state) place.at place.item p.here)
+    (contains_at (closure_of kernels place.state) place.item place.at p.here)
 
 -- what was read at a place is the set of its item
 pub held : {kernels : KernelsView} → AreKernels kernels → (lookaheads : List (List ItemLookahead)) → AreLookaheadsOf kernels lookaheads →

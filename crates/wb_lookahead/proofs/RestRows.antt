@@ -1,10 +1,10 @@
 -- Rests of right sides, one after another.
 use Rattle.std.proofs.Common.{◌≡◌, ℕ, ◌+◌, ◌<◌, List, [], ◌∷◌, ◌++◌, length, drop, Some, sym, ◌∙◌, ap, subst, inl, inr, arith, length-append}
 use Rattle.std.specs.Prelude.{slice_get}
+use Rattle.wb_lemmas.proofs.Places.{at_push}
 use Rattle.wb_base.specs.declared.symbol.Symbol.{Symbol}
 use Rattle.wb_base.specs.Grammar.{GrammarView}
 use Rattle.wb_grammars.specs.Productions.{IsProduction}
-use Rattle.wb_items.proofs.ListLemmas.{at_cases}
 use Rattle.wb_lookahead.specs.declared.first_of.Rest.{Rest}
 use Rattle.wb_lookahead.specs.Inner.Rests.{AreRestsOf, IsRest}
 
@@ -13,7 +13,7 @@ pub rests_more : (g : GrammarView) (right : List Symbol) (row new : List Rest) (
     new ≡ row ++ rest ∷ [] → IsRest g (drop (n + 1) right) rest →
     ((d : ℕ) (r : Rest) → slice_get row d ≡ Some r → IsRest g (drop (d + 1) right) r) → (d : ℕ) (r : Rest) → slice_get new d ≡ Some r →
         IsRest g (drop (d + 1) right) r
-rests_more g right row new n rest len is last each d r at = elim (at_cases row rest d r (subst (λ z. slice_get z d ≡ Some r) is at)) [
+rests_more g right row new n rest len is last each d r at = elim (at_push row rest r d (subst (λ z. slice_get z d ≡ Some r) is at)) [
   | inl old ↦ each d r old
   | inr (d_is, r_is) ↦ subst (IsRest g (drop (d + 1) right)) r_is (subst (λ k. IsRest g (drop (k + 1) right) rest) (sym (d_is ∙ len)) last)
 ]
@@ -27,7 +27,7 @@ pub rows_more : (g : GrammarView) (rows new : List (List Rest)) (n : ℕ) (row :
     ((a : ℕ) (right : List Symbol) → IsProduction g n a right → AreRestsOf g right row) →
     ((p a : ℕ) (right : List Symbol) (r : List Rest) → slice_get rows p ≡ Some r → IsProduction g p a right → AreRestsOf g right r) →
     (p a : ℕ) (right : List Symbol) (r : List Rest) → slice_get new p ≡ Some r → IsProduction g p a right → AreRestsOf g right r
-rows_more g rows new n row len is last each p a right r at rule = elim (at_cases rows row p r (subst (λ z. slice_get z p ≡ Some r) is at)) [
+rows_more g rows new n row len is last each p a right r at rule = elim (at_push rows row r p (subst (λ z. slice_get z p ≡ Some r) is at)) [
   | inl old ↦ each p a right r old rule
   | inr (p_is, r_is) ↦ subst (AreRestsOf g right) r_is (last a right (subst (λ k. IsProduction g k a right) (p_is ∙ len) rule))
 ]

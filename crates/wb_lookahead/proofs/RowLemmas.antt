@@ -6,6 +6,8 @@ use Rattle.std.proofs.Math.Seq.{take-append_seam, get_or-append_seam}
 use Rattle.std.proofs.lemmas.Bool.{cases_eq, cases_lt}
 use Rattle.std.proofs.lemmas.List.{get_or_append_left}
 use Rattle.std.proofs.lemmas.Option.{slice_get_within}
+use Rattle.wb_lemmas.proofs.Places.{at_once}
+use Rattle.wb_lemmas.proofs.Members.{place_of}
 use Rattle.wb_base.specs.declared.symbol.Symbol.{Symbol}
 use Rattle.wb_base.specs.declared.symbol.Symbol.TheVariants.{Terminal, Nonterminal}
 use Rattle.wb_termset.specs.Sets.{IsMember}
@@ -14,7 +16,6 @@ use Rattle.wb_grammars.specs.Productions.{top_of}
 use Rattle.wb_grammars.specs.Items.{after_dot, HasItem}
 use Rattle.wb_grammars.specs.Lookaheads.{IsLookahead}
 use Rattle.wb_items.specs.Kernels.{KernelsView, AreKernels, LeadsTo, closure_of, count_of, prefix_of}
-use Rattle.wb_items.proofs.ListLemmas.{at_Contains, at_once}
 use Rattle.wb_lookahead.specs.declared.action.Action.{Action}
 use Rattle.wb_lookahead.specs.declared.action.Action.TheVariants as act
 use Rattle.wb_lookahead.specs.declared.action.Action.TheVariants.{Shift, Reduce, Accept}
@@ -173,7 +174,7 @@ module _ {kernels : KernelsView} {s : ℕ} {row : List Action} where
       other ≡ action_in row t
   row_only h lt is t other stands =
       let (item, has, asks) = stands_asked kernels s t other stands in
-      let (j, at) = at_Contains (closure_of kernels s) item ((h.closures s lt item).1 has) in
+      let (j, at) = place_of (closure_of kernels s) item ((h.closures s lt item).1 has) in
       sym (is.complete j t item other (slice_get_within (closure_of kernels s) j item at) at asks)
 
   -- the row has the action on each terminal

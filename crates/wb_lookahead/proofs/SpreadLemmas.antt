@@ -119,6 +119,10 @@ pub is_place : {kernels : KernelsView} → AreKernels kernels → (lookaheads : 
     (item : Item) (at : ℕ) → slice_get (items_in (row_of lookaheads s)) at ≡ Some item → IsPlace kernels (place_of s item at)
 is_place k lookaheads shape s lt item at e = record { state = lt; here = closure_at k lookaheads shape s lt item at e }
 
+-- a place is put into an equal list
+pub adds_to : {u w v : List Place} {place : Place} → u ≡ w → Adds u place v → Adds w place v
+adds_to {v = v} {place} same adds = subst (λ z. Adds z place v) same adds
+
 -- a union that adds something, whose place then waits
 pub spread_sound : {kernels : KernelsView}
     (place : Place) {old new : List (List ItemLookahead)} {added : List Bool} {b : Bool} {w v : List Place} → AreKernels kernels →

@@ -1,6 +1,7 @@
 -- When nothing waits, the sets are the lookaheads.
 use Rattle.std.proofs.Common.{◌≡◌, ℕ, zero, suc, ◌<◌, ◌⊎◌, Bool, List, [], ◌∷◌, ◌++◌, length, Some, refl, sym, ◌∙◌, ap, subst, inl, inr, arith}
 use Rattle.std.specs.Prelude.{All, Contains, ◌↔◌, slice_get}
+use Rattle.wb_lemmas.proofs.Members.{place_of}
 use Rattle.wb_termset.specs.Sets.{IsMember}
 use Rattle.wb_grammars.specs.declared.item.Item.{Item}
 use Rattle.wb_grammars.specs.Items.{start_item}
@@ -14,7 +15,6 @@ use Rattle.wb_items.specs.Kernels.{KernelsView, AreKernels, LeadsTo, closure_of,
 use Rattle.wb_items.specs.Lookaheads.{AreEmpty, IsSetOf}
 use Rattle.wb_items.specs.LookaheadSets.{AreLookaheads}
 use Rattle.std.proofs.lemmas.Option.{slice_get_within}
-use Rattle.wb_items.proofs.ListLemmas.{at_Contains}
 use Rattle.wb_lookahead.specs.declared.worklist.Place.{Place}
 use Rattle.wb_lookahead.specs.Inner.Spreading.{AreSound, AreWaiting, ArePropagated, FlowsTo, IsFilled, IsPassedOn, IsPlace, Keeps, Lists, ListsFor, Spreads, StandsFor, itself, initial, Waits}
 use Rattle.wb_lookahead.proofs.MarkLemmas.{contains_cases}
@@ -115,7 +115,7 @@ all_filled {kernels} {lookaheads} h propagated filled = record { shape = propaga
               let f = laws.1 look in
               let (one, stands, lists) = propagated.complete s item t f in
               let has = flows_has (prefix_of kernels) h.live h.states f in
-              let (j, at) = at_Contains (closure_of kernels s) one ((h.closures s lt one).1 (stands_has h s lt one item stands has)) in
+              let (j, at) = place_of (closure_of kernels s) one ((h.closures s lt one).1 (stands_has h s lt one item stands has)) in
               let (b, other, has) = filled s lt j one (slice_get_within (closure_of kernels s) j one at) at item t stands f in
               subst (λ z. IsMember z t) (set_once h lookaheads propagated.shape s lt item b a other set_is) has,
         )

@@ -36,5 +36,6 @@ returns-then-kernel-items c =
 
 pub returns-else-kernel-items : goal.returns-else-kernel-items
 returns-else-kernel-items c =
-    same_here c.args.kernel.now c.args.items.now c.places.place (omega (arith, c.places-test.false)) (omega (arith, c.places-test.false, c.if-kernel-items.false))
+    same_here c.args.kernel.now c.args.items.now c.places.place (omega (arith, c.places-test.false))
+    (omega (arith, c.places-test.false, c.if-kernel-items.false))
     c.places.invariant

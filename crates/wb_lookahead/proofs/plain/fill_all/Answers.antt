@@ -12,8 +12,8 @@ use Rattle.wb_lookahead.proofs.StepLemmas.{row_has}
 use Rattle.wb_lookahead.proofs.UnionLemmas.{lists_added, lists_kept}
 use Rattle.wb_lookahead.proofs.plain.fill_all.Goals as goal
 
-pub place-at-requires-clause-item : goal.place-at-requires-clause-item
-place-at-requires-clause-item c =
+pub place_near-at-requires-clause-item : goal.place_near-at-requires-clause-item
+place_near-at-requires-clause-item c =
     let numbers = c.as_slice-numbers.result.now in
     let lt : c.args.nonterminal < length c.args.context.now.productions.now = (let e = c.requires.context.are_productions.len in let f =
         c.requires.nonterminal in omega (arith, e, f)) in
@@ -39,7 +39,7 @@ productions-preserved c =
     productions_here c.args.context.now.kernels.now c.requires.context.of_grammar c.args.context.now.productions.now c.requires.context.are_productions c.args.nonterminal numbers at in
     let q = get_or numbers c.productions.production-index 0 in
     let (right, rule) = are.sound q (Contains-get_or numbers c.productions.production-index 0 c.productions-test.true) in
-    let place = place_of c.args.state (initial_item q) c.place-at.result in
+    let place = place_of c.args.state (initial_item q) c.place_near-at.result in
     let within = state_within c.requires.context.are_kernels place c.requires.state c.productions.lookaheads c.productions.invariant.propagated.shape in
     record {
       propagated = union_propagated place within c.productions.invariant.propagated
