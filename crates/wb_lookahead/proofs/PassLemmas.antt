@@ -24,6 +24,7 @@ use Rattle.wb_items.specs.declared.item_lookahead.ItemLookahead.{ItemLookahead}
 use Rattle.wb_items.specs.Kernels.{KernelsView, AreKernels, LeadsTo, Precedes, closure_of, count_of, prefix_of}
 use Rattle.wb_items.specs.Lookaheads.{AreEmpty, AreLookaheadsOf, IsSetOf, items_in, row_of}
 use Rattle.wb_items.proofs.SymbolLemmas.{symbol_last, symbol_end, symbol_none}
+use Rattle.wb_lookahead.specs.Inner.Rests.{Repeats}
 use Rattle.wb_lookahead.specs.Inner.Spreading.{FlowsTo, IsFirstOf, IsItemPassed, IsPassedOn, IsSole, Keeps, Lists, StandsFor, itself, initial}
 use Rattle.wb_lookahead.proofs.StepLemmas.{initial_has, row_items}
 use Rattle.wb_lookahead.proofs.StandInLemmas.{item_flows}
@@ -123,6 +124,19 @@ open_flows {kernels} h same s lt item has b p rest is first u begins =
     let rule = subst (λ z. IsProduction z p b first.right) (sym same) first.production in
     close item t b rest p u first.right f here rule
     ((First-append kernels.grammar rest (Terminal t ∷ []) u).1 (inl (subst (λ z. IsFirst z rest u) (sym same) begins)))
+
+-- so does what the nonterminal repeats
+pub opening_flows : {kernels : KernelsView} {g : GrammarView} → AreKernels kernels → kernels.grammar ≡ g → (s : ℕ) → s < count_of kernels →
+    (item : Item) → HasItem kernels.grammar (prefix_of kernels s) item → (b p : ℕ) (rest : List Symbol) →
+    after_dot g item ≡ Nonterminal b ∷ rest → IsFirstOf g b p → (u : ℕ) →
+    IsFirst g rest u ⊎ ((a : ℕ) × (Nonterminal b ≡ Nonterminal a) × Repeats g a u) → FlowsTo kernels s (initial_item p) u
+opening_flows h same s lt item has b p rest is first u (inl begins) = open_flows h same s lt item has b p rest is first u begins
+opening_flows {kernels} {g} h same s lt item has b p rest is first u (inr (a, name, r)) =
+    let one : b ≡ a = (let e : Nonterminal b ≡ Nonterminal a = name in cc) in
+    let rule : IsProduction g r.q b (Nonterminal b ∷ r.rest) = subst (λ z. IsProduction g r.q z (Nonterminal z ∷ r.rest)) (sym one) r.production in
+    let there = initial_has h s b item rest r.q (Nonterminal b ∷ r.rest) has (ap (λ z. after_dot z item) same ∙ is)
+        (subst (λ z. IsProduction z r.q b (Nonterminal b ∷ r.rest)) (sym same) rule) in
+    open_flows h same s lt (initial_item r.q) there b p r.rest (after_initial g r.q b (Nonterminal b ∷ r.rest) rule) first u r.first
 
 -- and where these symbols derive the empty text, what flows to the item does
 pub open_flows_on : (kernels : KernelsView) {g : GrammarView} → kernels.grammar ≡ g → (s : ℕ) (item : Item) (b p : ℕ) (rest : List Symbol) →

@@ -15,7 +15,7 @@ use Rattle.wb_items.specs.declared.item_lookahead.ItemLookahead.{ItemLookahead}
 use Rattle.wb_items.specs.Kernels.{KernelsView, AreKernels, count_of, prefix_of}
 use Rattle.wb_items.specs.Table.{AreProductions, AreProductionsOf}
 use Rattle.wb_lookahead.specs.declared.first_of.Rest.{Rest}
-use Rattle.wb_lookahead.specs.Inner.Rests.{AreRests, AreRestsOf, IsRest}
+use Rattle.wb_lookahead.specs.Inner.Rests.{AreRests, AreRestsOf, IsOpening}
 use Rattle.wb_lookahead.specs.Inner.Spreading.{IsFirstOf, Keeps, Lists}
 use Rattle.wb_lookahead.proofs.PassLemmas.{first_then, rest_past}
 use Rattle.wb_lookahead.proofs.RestLemmas.{nothing_first}
@@ -34,10 +34,16 @@ not_past [] (suc d) x rest e = cc
 not_past (y ∷ right) zero x rest e = omega arith
 not_past (y ∷ right) (suc d) x rest e = (let lt = not_past right d x rest e in omega arith)
 
+first_left : (right : List Symbol) (d : ℕ) (x : Symbol) (rest : List Symbol) → drop d right ≡ x ∷ rest → slice_get right d ≡ Some x
+first_left [] zero x rest e = cc
+first_left [] (suc d) x rest e = cc
+first_left (y ∷ right) zero x rest e = cc
+first_left (y ∷ right) (suc d) x rest e = first_left right d x rest e
+
 -- the rest after the symbol after a dot, in the table of rests
 pub rest_there : (g : GrammarView) (rests : List (List Rest)) → AreRests g rests → (item : Item) → item.production < length g.productions →
     (x : Symbol) (rest : List Symbol) → after_dot g item ≡ x ∷ rest → (row : List Rest) → slice_get rests item.production ≡ Some row →
-    (item.dot < length row) × ((r : Rest) → slice_get row item.dot ≡ Some r → IsRest g rest r)
+    (item.dot < length row) × ((r : Rest) → slice_get row item.dot ≡ Some r → IsOpening g x rest r)
 rest_there g rests are item lt x rest is row at =
     let (a, right, rule) = production_there g item.production lt in
     let row_is = are.each item.production a right row at rule in
@@ -45,7 +51,7 @@ rest_there g rests are item lt x rest is row at =
     let here : drop item.dot right ≡ x ∷ rest = ap (drop item.dot) (sym right_is) ∙ is in
     let within = not_past right item.dot x rest here in
     let rest_is : drop (item.dot + 1) right ≡ rest = ap (drop (item.dot + 1)) (sym right_is) ∙ after_advance g item x rest is in
-    (omega (arith, row_is.len, within), λ r r_at. subst (λ z. IsRest g z r) rest_is (row_is.each item.dot r r_at))
+    (omega (arith, row_is.len, within), λ r r_at. subst (λ z. IsOpening g x z r) rest_is (row_is.each item.dot r x r_at (first_left right item.dot x rest here)))
 
 -- nothing is after the start in the added production
 pub nothing_after : (g : GrammarView) (item : Item) → length g.productions ≤ item.production → (x : Symbol) (rest : List Symbol) →

@@ -14,6 +14,7 @@ mod matrix;
 mod parser_tables;
 mod plain;
 mod propagate;
+mod repeats;
 mod rows;
 mod spread;
 mod worklist;

@@ -6,8 +6,8 @@ use Rattle.std.proofs.lemmas.Result.{on_ok_weaker}
 use Rattle.wb_base.specs.declared.symbol.Symbol.TheVariants.{Nonterminal}
 use Rattle.wb_base.specs.Grammar.{GrammarView}
 use Rattle.wb_grammars.specs.Items.{after_dot, initial_item}
-use Rattle.wb_lookahead.specs.Inner.Rests.{IsRest}
-use Rattle.wb_lookahead.proofs.PassLemmas.{open_flows, open_flows_on, open_has}
+use Rattle.wb_lookahead.specs.Inner.Rests.{IsOpening}
+use Rattle.wb_lookahead.proofs.PassLemmas.{open_flows_on, open_has, opening_flows}
 use Rattle.wb_lookahead.proofs.PropagateLemmas.{nothing_after, nothing_begins, open_lists, rest_there}
 use Rattle.wb_lookahead.proofs.SpreadLemmas.{spreads_then}
 use Rattle.wb_lookahead.proofs.propagate.open_after.Goals as goal
@@ -103,7 +103,7 @@ spread-requires-2-clause-len c =
     slice_get-get_or rests c.args.item.production c.index-context-item.result
         (let e = c.requires.context.are_rests.len in omega (arith, e, lt)) ∙ ap Some (sym c.as_slice.ensures) in
     let there = rest_there g rests c.requires.context.are_rests c.args.item lt (Nonterminal n) rest here c.as_slice.result.now row in
-    let is_rest : IsRest g rest c.index-as_slice-item.result =
+    let is_rest : IsOpening g (Nonterminal n) rest c.index-as_slice-item.result =
     there.1 c.index-as_slice-item.result
         (slice_get_read c.as_slice.result.now
         (length c.as_slice.result.now) c.args.item.dot c.index-as_slice-item.result refl there.0 c.index-as_slice-item.is) in
@@ -123,12 +123,12 @@ spread-requires-2-clause-flows c =
     slice_get-get_or rests c.args.item.production c.index-context-item.result
         (let e = c.requires.context.are_rests.len in omega (arith, e, lt)) ∙ ap Some (sym c.as_slice.ensures) in
     let there = rest_there g rests c.requires.context.are_rests c.args.item lt (Nonterminal n) rest here c.as_slice.result.now row in
-    let is_rest : IsRest g rest c.index-as_slice-item.result =
+    let is_rest : IsOpening g (Nonterminal n) rest c.index-as_slice-item.result =
     there.1 c.index-as_slice-item.result
         (slice_get_read c.as_slice.result.now
         (length c.as_slice.result.now) c.args.item.dot c.index-as_slice-item.result refl there.0 c.index-as_slice-item.is) in
-    λ u has. open_flows c.requires.context.are_kernels c.requires.context.of_grammar c.args.state c.requires.state c.args.item c.requires.has n p rest here c.in-Some.ensures u
-    ((is_rest.first u).0 has)
+    λ u has. opening_flows c.requires.context.are_kernels c.requires.context.of_grammar c.args.state c.requires.state c.args.item c.requires.has n p rest here c.in-Some.ensures u
+    (is_rest.sound u has)
 
 pub spread-requires-then-rest-clause-has : goal.spread-requires-then-rest-clause-has
 spread-requires-then-rest-clause-has c =
@@ -153,7 +153,7 @@ spread-requires-then-rest-clause-flows c =
     slice_get-get_or rests c.args.item.production c.index-context-item.result
         (let e = c.requires.context.are_rests.len in omega (arith, e, lt)) ∙ ap Some (sym c.as_slice.ensures) in
     let there = rest_there g rests c.requires.context.are_rests c.args.item lt (Nonterminal n) rest here c.as_slice.result.now row in
-    let is_rest : IsRest g rest c.index-as_slice-item.result =
+    let is_rest : IsOpening g (Nonterminal n) rest c.index-as_slice-item.result =
     there.1 c.index-as_slice-item.result
         (slice_get_read c.as_slice.result.now
         (length c.as_slice.result.now) c.args.item.dot c.index-as_slice-item.result refl there.0 c.index-as_slice-item.is) in
@@ -177,13 +177,13 @@ returns-in_ok-spread-2-clause-lists c =
     slice_get-get_or rests c.args.item.production c.index-context-item.result
         (let e = c.requires.context.are_rests.len in omega (arith, e, lt)) ∙ ap Some (sym c.as_slice.ensures) in
     let there = rest_there g rests c.requires.context.are_rests c.args.item lt (Nonterminal n) rest here c.as_slice.result.now row in
-    let is_rest : IsRest g rest c.index-as_slice-item.result =
+    let is_rest : IsOpening g (Nonterminal n) rest c.index-as_slice-item.result =
     there.1 c.index-as_slice-item.result
         (slice_get_read c.as_slice.result.now
         (length c.as_slice.result.now) c.args.item.dot c.index-as_slice-item.result refl there.0 c.index-as_slice-item.is) in
     open_lists g c.args.set.now c.spread-then-rest.new.lookaheads c.args.state c.args.item n p rest here c.in-Some.ensures
     (λ u begins. c.in_ok-spread-2.ensures.spreads.keeps c.args.state (initial_item p) u
-        (c.in_ok-spread.ensures.lists u ((is_rest.first u).1 begins))) (λ _. c.in_ok-spread-2.ensures.lists)
+        (c.in_ok-spread.ensures.lists u (is_rest.first u begins))) (λ _. c.in_ok-spread-2.ensures.lists)
 
 pub returns-else-rest-clause-lists : goal.returns-else-rest-clause-lists
 returns-else-rest-clause-lists c =
@@ -199,10 +199,10 @@ returns-else-rest-clause-lists c =
     slice_get-get_or rests c.args.item.production c.index-context-item.result
         (let e = c.requires.context.are_rests.len in omega (arith, e, lt)) ∙ ap Some (sym c.as_slice.ensures) in
     let there = rest_there g rests c.requires.context.are_rests c.args.item lt (Nonterminal n) rest here c.as_slice.result.now row in
-    let is_rest : IsRest g rest c.index-as_slice-item.result =
+    let is_rest : IsOpening g (Nonterminal n) rest c.index-as_slice-item.result =
     there.1 c.index-as_slice-item.result
         (slice_get_read c.as_slice.result.now
         (length c.as_slice.result.now) c.args.item.dot c.index-as_slice-item.result refl there.0 c.index-as_slice-item.is) in
     open_lists g c.args.set.now c.spread-2.new.lookaheads c.args.state c.args.item n p rest here c.in-Some.ensures
-    (λ u begins. c.in_ok-spread.ensures.lists u ((is_rest.first u).1 begins))
+    (λ u begins. c.in_ok-spread.ensures.lists u (is_rest.first u begins))
         (λ empty. absurd (true≢false (sym (is_rest.empty.1 empty) ∙ c.if-rest.false)))

@@ -2,7 +2,7 @@ use Rattle.std.proofs.Common.{◌≡◌, ◌∙◌, subst}
 use Rattle.std.specs.Prelude.{IfSome}
 use Rattle.wb_lookahead.specs.Inner.Rests.{AreRestsOf}
 use Rattle.wb_lookahead.proofs.RestRows.{length_more, rows_more}
-use Rattle.wb_lookahead.proofs.first_of.rests_of.Goals as goal
+use Rattle.wb_lookahead.proofs.first_of.rests_with.Goals as goal
 
 pub productions-preserved : goal.productions-preserved
 productions-preserved c = record {
