@@ -1,10 +1,8 @@
 -- Lists of items in order: how two of them are compared place by place.
-use Rattle.std.proofs.Common.{◌≡◌, ℕ, ◌+◌, ◌<◌, ◌≤◌, zero, suc, List, length, Some, refl, sym, ◌∙◌, ap, subst, inl, inr, arith}
-use Rattle.std.specs.Prelude.{slice_get, Contains, ◌↔◌}
-use Rattle.std.specs.Ordering.{MatchOrdering, is_lt, ordering_then, nat_cmp}
+use Rattle.std.proofs.Common.{◌≡◌, ℕ, ◌+◌, ◌<◌, ◌≤◌, zero, suc, List, length, Some, sym, ◌∙◌, ap, subst, inl, inr, arith}
+use Rattle.std.specs.Prelude.{slice_get}
+use Rattle.std.specs.Ordering.{ordering_then, nat_cmp}
 use Rattle.std.specs.declared.cmp.Ordering.{Ordering}
-use Rattle.std.specs.declared.cmp.Ordering.TheVariants.{Less, Equal, Greater}
-use Rattle.std.specs.Cmp.{nat_cmp_is}
 use Rattle.std.proofs.lemmas.Bool.{cases_eq, cases_lt}
 use Rattle.std.proofs.lemmas.Option.{slice_get_within}
 use Rattle.wb_lemmas.proofs.Places.{at_once, at_within}
@@ -13,7 +11,7 @@ use Rattle.wb_grammars.specs.declared.item.Item.{Item}
 use Rattle.wb_items.specs.Kernels.{Precedes, AreInOrder}
 use Rattle.wb_items.specs.Table.{SameItems}
 use Rattle.wb_items.specs.Inner.Searches.{ComesFirst, AgreeBelow}
-use Rattle.wb_items.proofs.OrderLemmas.{compared, ahead, alike, follows, precedes_then, not_itself}
+use Rattle.wb_items.proofs.OrderLemmas.{precedes_then, not_itself}
 
 -- the derived order of items
 abbrev pub item_cmp : Item → Item → Ordering

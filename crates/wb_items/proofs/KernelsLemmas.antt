@@ -1,5 +1,5 @@
 -- What a table of kernels shows to callers.
-use Rattle.std.proofs.Common.{◌≡◌, ℕ, ◌<◌, List, [], ◌∷◌, ◌++◌, length, Option, Some, None, refl, sym, ◌∙◌, subst, inl, inr, arith}
+use Rattle.std.proofs.Common.{◌≡◌, ℕ, ◌<◌, List, [], ◌∷◌, ◌++◌, length, Option, Some, None, refl, sym, subst, inl, inr, arith}
 use Rattle.std.specs.Prelude.{slice_get, slice_index_or, Contains, ◌↔◌, IfSome, IfNone, IsNone}
 use Rattle.std.proofs.lemmas.Option.{slice_get_within, slice_get-get_or}
 use Rattle.std.proofs.lemmas.Bool.{true≢false, cases_lt}
@@ -8,7 +8,7 @@ use Rattle.wb_lemmas.proofs.Places.{default_at}
 use Rattle.wb_base.specs.declared.symbol.Symbol.{Symbol}
 use Rattle.wb_base.specs.Grammar.{GrammarView}
 use Rattle.wb_grammars.specs.declared.item.Item.{Item}
-use Rattle.wb_grammars.specs.Items.{after_dot, IsValidItem, start, close, move, HasItem, IsViablePrefix, SameKernel}
+use Rattle.wb_grammars.specs.Items.{IsValidItem, start, close, move, IsViablePrefix, SameKernel}
 use Rattle.wb_grammars.specs.States.{IsNext}
 use Rattle.wb_grammars.proofs.KernelLemmas.{kernel_decides, same_move}
 use Rattle.wb_grammars.proofs.ValidLemmas.{before_last}

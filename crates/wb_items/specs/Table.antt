@@ -4,7 +4,7 @@ use Rattle.wb_base.specs.declared.symbol.Symbol.{Symbol}
 use Rattle.wb_base.specs.Grammar.{GrammarView}
 use Rattle.wb_grammars.specs.declared.item.Item.{Item}
 use Rattle.wb_grammars.specs.Productions.{IsProduction}
-use Rattle.wb_grammars.specs.Items.{after_dot, advance, IsViablePrefix, SameKernel}
+use Rattle.wb_grammars.specs.Items.{after_dot, IsViablePrefix, SameKernel}
 use Rattle.wb_grammars.specs.Shape.{IsLive}
 use Rattle.wb_items.specs.declared.transitions.Move.{Move}
 use Rattle.wb_items.specs.Index.{IndexView}

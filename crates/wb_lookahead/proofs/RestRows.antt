@@ -1,5 +1,5 @@
 -- Rests of right sides, one after another.
-use Rattle.std.proofs.Common.{◌≡◌, ℕ, ◌+◌, ◌<◌, ◌⊎◌, Bool, false, List, [], ◌∷◌, ◌++◌, length, drop, replicate, Some, refl, sym, ◌∙◌, ap, subst, inl, inr, arith, length-append, length-set}
+use Rattle.std.proofs.Common.{◌≡◌, ℕ, ◌+◌, ◌<◌, ◌⊎◌, Bool, false, List, [], ◌∷◌, ◌++◌, length, drop, replicate, Some, sym, ◌∙◌, ap, subst, inl, inr, arith, length-append, length-set}
 use Rattle.std.specs.Prelude.{◌↔◌, IsTrue, slice_get, slice_set}
 use Rattle.std.proofs.lemmas.Grind.{common_steps}
 use Rattle.std.proofs.lemmas.List.{get_or-replicate, length-replicate}
@@ -28,7 +28,8 @@ rests_more g right row new n rest y len is here last each d r x at sym_at =
       | inr (d_is, r_is) ↦
           let same : y ≡ x = at_once right n y x here (subst (λ k. slice_get right k ≡ Some x) (d_is ∙ len) sym_at) in
           subst (IsOpening g x (drop (d + 1) right)) r_is
-          (subst (λ z. IsOpening g z (drop (d + 1) right) rest) same (subst (λ k. IsOpening g y (drop (k + 1) right) rest) (sym (d_is ∙ len)) last))
+          (subst (λ z. IsOpening g z (drop (d + 1) right) rest) same
+              (subst (λ k. IsOpening g y (drop (k + 1) right) rest) (sym (d_is ∙ len)) last))
     ]
 
 pub rests_done : (g : GrammarView) (right : List Symbol) (row made : List Rest) → length row ≡ length right →
@@ -58,32 +59,36 @@ repeats_start g sets is = subst (AreRepeats g) (sym is) (record {
       (length-replicate (g.terminals + 1) false);
   sound = λ b u set at has.
       let lt : b < g.nonterminals = subst (λ n. b < n) (length-replicate {A = List Bool} g.nonterminals (replicate (g.terminals + 1) false))
-          (slice_get_within (replicate g.nonterminals (replicate (g.terminals + 1) false)) b set at) in
+      (slice_get_within (replicate g.nonterminals (replicate (g.terminals + 1) false)) b set at) in
       let e : set ≡ replicate (g.terminals + 1) false =
-          sym (default_at (replicate g.nonterminals (replicate (g.terminals + 1) false)) b [] set at) ∙
-          get_or-replicate {A = List Bool} g.nonterminals b (replicate (g.terminals + 1) false) [] lt in
+      sym (default_at (replicate g.nonterminals (replicate (g.terminals + 1) false)) b [] set at) ∙
+      get_or-replicate {A = List Bool} g.nonterminals b (replicate (g.terminals + 1) false) [] lt in
       absurd (IsEmpty-replicate (g.terminals + 1) u (subst (λ z. IsMember z u) e has));
 })
 
 -- what one production repeats, joined to the set of its left side
-pub repeats_more : (g : GrammarView) (sets : List (List Bool)) (q b : ℕ) (right : List Symbol) (old set union : List Bool) → AreRepeats g sets →
+pub repeats_more : (g : GrammarView) (sets : List (List Bool)) (q b : ℕ) (right : List Symbol) (old set union : List Bool) →
+    AreRepeats g sets →
     IsProduction g q b right → slice_get right 0 ≡ Some (Nonterminal b) → slice_get sets b ≡ Some old →
     ((u : ℕ) → IsMember set u → IsFirst g (drop 1 right) u) → IsUnion old set union → AreRepeats g (slice_set sets b union)
 repeats_more g sets q b right old set union are rule first at begins joined = record {
   len = length-set sets b union ∙ are.len;
   widths = All-set (λ (s : List Bool). length s ≡ g.terminals + 1) sets b union
-      (joined.len ∙ All-contains (λ (s : List Bool). length s ≡ g.terminals + 1) sets old are.widths (contains_at sets old b at)) are.widths;
+      (joined.len ∙ All-contains (λ (s : List Bool). length s ≡ g.terminals + 1) sets old are.widths
+          (contains_at sets old b at)) are.widths;
   sound = λ a u row row_at has. elim (row_cases a row row_at) [
     | inl (same, is) ↦ elim ((joined.each u).0 (subst (λ z. IsMember z u) is has)) [
       | inl before ↦ subst (λ z. Repeats g z u) (sym same) (are.sound b u old at before)
       | inr new ↦ subst (λ z. Repeats g z u) (sym same)
-          (record { q = q; rest = drop 1 right; production = subst (IsProduction g q b) (head_first right first) rule; first = begins u new })
+          (record { q = q; rest = drop 1 right; production = subst (IsProduction g q b) (head_first right first) rule; first =
+              begins u new })
     ]
     | inr before ↦ are.sound a u row before has
   ];
 }
   where
-    row_cases : (a : ℕ) (row : List Bool) → slice_get (slice_set sets b union) a ≡ Some row → ((a ≡ b) × (row ≡ union)) ⊎ (slice_get sets a ≡ Some row)
+    row_cases : (a : ℕ) (row : List Bool) → slice_get (slice_set sets b union) a ≡ Some row →
+        ((a ≡ b) × (row ≡ union)) ⊎ (slice_get sets a ≡ Some row)
     row_cases a row row_at = grind (arith, gets, common_steps)
 
     head_first : (w : List Symbol) → slice_get w 0 ≡ Some (Nonterminal b) → w ≡ Nonterminal b ∷ drop 1 w

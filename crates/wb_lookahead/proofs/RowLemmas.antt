@@ -1,5 +1,5 @@
 -- The actions of one kernel, item by item.
-use Rattle.std.proofs.Common.{◌≡◌, ◌≢◌, ◌↔◌, ℕ, ◌+◌, ◌<◌, ◌≤◌, ◌⊎◌, Bool, List, [], ◌∷◌, ◌++◌, Some, Option, length, get_or, take, drop, refl, sym, ◌∙◌, ap, subst, inl, inr, arith, length-append}
+use Rattle.std.proofs.Common.{◌≡◌, ◌≢◌, ◌↔◌, ℕ, ◌+◌, ◌<◌, ◌≤◌, ◌⊎◌, Bool, List, [], ◌∷◌, ◌++◌, Some, length, get_or, take, drop, refl, sym, ◌∙◌, ap, subst, inl, inr, arith}
 use Rattle.std.specs.Prelude.{slice_get}
 use Rattle.std.proofs.Math.ListN.{get_or-eq_default}
 use Rattle.std.proofs.Math.Seq.{take-append_seam, get_or-append_seam}
@@ -21,10 +21,9 @@ use Rattle.wb_lookahead.specs.declared.action.Action.TheVariants as act
 use Rattle.wb_lookahead.specs.declared.action.Action.TheVariants.{Shift, Reduce, Accept}
 use Rattle.wb_lookahead.specs.declared.action.TableRefusal.{TableRefusal}
 use Rattle.wb_lookahead.specs.declared.action.TableRefusal.TheVariants.{Conflict, NoMemory}
-use Rattle.wb_lookahead.specs.Codes.{goto_at}
 use Rattle.wb_lookahead.specs.Contents.{action_in}
-use Rattle.wb_lookahead.specs.Tables.{IsAction, IsConflict, IsGoto, IsTableRefusal, IsValidSet, Stands, ComesBefore}
-use Rattle.wb_lookahead.specs.Inner.Rows.{Asks, shift, reduce, accept, AddsItem, AreGotos, IsClash, IsReduction, IsRowOf, IsSoundRow, Puts, RowUpTo, ShowsBoth}
+use Rattle.wb_lookahead.specs.Tables.{IsAction, IsConflict, IsTableRefusal, IsValidSet, Stands, ComesBefore}
+use Rattle.wb_lookahead.specs.Inner.Rows.{Asks, shift, reduce, accept, AddsItem, IsClash, IsReduction, IsRowOf, IsSoundRow, Puts, RowUpTo, ShowsBoth}
 use Rattle.wb_lookahead.proofs.StepLemmas.{step_once}
 use Rattle.wb_lookahead.proofs.StandLemmas.{before_or, stands_asked, stands_valid, valid_stands}
 
@@ -216,4 +215,3 @@ each_more {A} P xs x d n len each here s lt = at (cases_eq s n)
     at (inr other) =
         let first : get_or (xs ++ x ∷ []) s d ≡ get_or xs s d = get_or_append_left xs (x ∷ []) d s (omega arith) in
         subst (P s) (sym first) (each s (omega arith))
-

@@ -20,6 +20,6 @@ mod spread;
 mod worklist;
 
 pub use action::{Action, TableRefusal};
-pub use parser_tables::Tables;
 pub use build_tables::tables;
+pub use parser_tables::Tables;
 pub use plain::plain_lookaheads;

@@ -1,4 +1,3 @@
-use Rattle.std.proofs.Common.{◌≡◌}
 use Rattle.wb_lookahead.proofs.SpreadLemmas.{adds_to, is_place, place_of, spread_sound, spread_spreads, state_within}
 use Rattle.wb_lookahead.proofs.StepLemmas.{row_has}
 use Rattle.wb_lookahead.proofs.UnionLemmas.{lists_added}
@@ -18,7 +17,7 @@ pub returns-in_ok-add-clause-spreads : goal.returns-in_ok-add-clause-spreads
 returns-in_ok-add-clause-spreads c =
     let place = place_of c.args.state c.args.item c.place_near-at.result in
     spread_spreads place
-        (state_within c.requires.kernels place c.requires.state c.args.lookaheads.now c.requires.sound.shape) c.unite.ensures c.if-unite.true
+    (state_within c.requires.kernels place c.requires.state c.args.lookaheads.now c.requires.sound.shape) c.unite.ensures c.if-unite.true
     c.requires.sound.places
     (is_place c.requires.kernels c.args.lookaheads.now c.requires.sound.shape c.args.state c.requires.state c.args.item c.place_near-at.result c.place_near-at.ensures)
     (adds_to c.note.ensures c.in_ok-add.ensures)
@@ -26,11 +25,11 @@ returns-in_ok-add-clause-spreads c =
 pub returns-in_ok-add-clause-lists : goal.returns-in_ok-add-clause-lists
 returns-in_ok-add-clause-lists c =
     lists_added c.unite.ensures
-        (state_within c.requires.kernels
-        (place_of c.args.state c.args.item c.place_near-at.result) c.requires.state c.args.lookaheads.now c.requires.sound.shape)
+    (state_within c.requires.kernels
+    (place_of c.args.state c.args.item c.place_near-at.result) c.requires.state c.args.lookaheads.now c.requires.sound.shape)
 
 pub returns-else-unite-clause-lists : goal.returns-else-unite-clause-lists
 returns-else-unite-clause-lists c =
     lists_added c.unite.ensures
-        (state_within c.requires.kernels
-        (place_of c.args.state c.args.item c.place_near-at.result) c.requires.state c.args.lookaheads.now c.requires.sound.shape)
+    (state_within c.requires.kernels
+    (place_of c.args.state c.args.item c.place_near-at.result) c.requires.state c.args.lookaheads.now c.requires.sound.shape)
