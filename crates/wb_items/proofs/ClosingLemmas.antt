@@ -4,6 +4,8 @@ use Rattle.std.specs.Prelude.{slice_get, Contains, ◌↔◌}
 use Rattle.std.proofs.lemmas.List.{length-replicate, length-set}
 use Rattle.std.proofs.lemmas.Option.{slice_get_within}
 use Rattle.std.proofs.lemmas.Bool.{cases_eq}
+use Rattle.wb_lemmas.proofs.Places.{at_once}
+use Rattle.wb_lemmas.proofs.Members.{contains_at, place_of}
 use Rattle.wb_base.specs.declared.symbol.Symbol.{Symbol}
 use Rattle.wb_base.specs.declared.symbol.Symbol.TheVariants.{Nonterminal}
 use Rattle.wb_base.specs.Grammar.{GrammarView}
@@ -15,11 +17,10 @@ use Rattle.wb_grammars.specs.Items.{after_dot, initial_item}
 use Rattle.wb_grammars.specs.Closure.{InClosure, kernel, opened}
 use Rattle.wb_items.specs.Inner.Closing.{IsClosing}
 use Rattle.wb_items.specs.Table.{AreProductionsOf}
-use Rattle.wb_items.proofs.ListLemmas.{at_once, Contains-at, at_Contains}
 
 -- an element of joined lists
 at_joined : {X : Type 0} (xs ys : List X) (j : ℕ) (z : X) → slice_get (xs ++ ys) j ≡ Some z → (slice_get xs j ≡ Some z) ⊎ Contains ys z
-at_joined [] ys j z e = inr (Contains-at ys j z e)
+at_joined [] ys j z e = inr (contains_at ys z j e)
 at_joined (x ∷ xs) ys zero z e = inl e
 at_joined (x ∷ xs) ys (suc j) z e = at_joined xs ys j z e
 
@@ -35,17 +36,18 @@ left_stays (x ∷ xs) ys (suc j) z e = left_stays xs ys j z e
 
 right_stays : {X : Type 0} (xs ys : List X) (z : X) → Contains ys z → Contains (xs ++ ys) z
 right_stays [] ys z k = k
-right_stays (x ∷ xs) ys z k = let (j, at) = at_Contains (xs ++ ys) z (right_stays xs ys z k) in Contains-at (x ∷ (xs ++ ys)) (suc j) z at
+right_stays (x ∷ xs) ys z k = let (j, at) = place_of (xs ++ ys) z (right_stays xs ys z k) in contains_at (x ∷ (xs ++ ys)) z (suc j) at
 
 Contains_left : {X : Type 0} (xs ys : List X) (z : X) → Contains xs z → Contains (xs ++ ys) z
-Contains_left xs ys z k = let (j, at) = at_Contains xs z k in Contains-at (xs ++ ys) j z (left_stays xs ys j z at)
+Contains_left xs ys z k = let (j, at) = place_of xs z k in contains_at (xs ++ ys) z j (left_stays xs ys j z at)
 
 opening_at : (numbers : List ℕ) (j q : ℕ) → slice_get numbers j ≡ Some q → slice_get (map initial_item numbers) j ≡ Some (initial_item q)
 opening_at [] j q e = cc
 opening_at (n ∷ numbers) zero q e = let f : n ≡ q = cc in ap (λ k. Some (initial_item k)) f
 opening_at (n ∷ numbers) (suc j) q e = opening_at numbers j q e
 
-opening_from : (numbers : List ℕ) (j : ℕ) (z : Item) → slice_get (map initial_item numbers) j ≡ Some z → (q : ℕ) × (slice_get numbers j ≡ Some q) × (z ≡ initial_item q)
+opening_from : (numbers : List ℕ) (j : ℕ) (z : Item) → slice_get (map initial_item numbers) j ≡ Some z →
+    (q : ℕ) × (slice_get numbers j ≡ Some q) × (z ≡ initial_item q)
 opening_from [] j z e = cc
 opening_from (n ∷ numbers) zero z e = (n, refl, let f : initial_item n ≡ z = cc in sym f)
 opening_from (n ∷ numbers) (suc j) z e = opening_from numbers j z e
@@ -56,12 +58,14 @@ closing_start g items = record {
   len = length-replicate g.nonterminals false;
   front = λ item k. k;
   complete = λ b q right has rule. absurd (IsEmpty-replicate g.nonterminals b has);
-  sound = λ p item at. kernel (Contains-at items p item at);
+  sound = λ p item at. kernel (contains_at items item p at);
   closed = λ p item b rest lt at is. absurd (omega arith);
 }
 
 -- nothing new is after the dot at the place
-pub closing_pass : (g : GrammarView) (items : List Item) (set : List Bool) (closure : List Item) (place : ℕ) → ((item : Item) (b : ℕ) (rest : List Symbol) → slice_get closure place ≡ Some item → after_dot g item ≡ Nonterminal b ∷ rest → IsMember set b) → IsClosing g items set closure place → IsClosing g items set closure (place + 1)
+pub closing_pass : (g : GrammarView) (items : List Item) (set : List Bool) (closure : List Item) (place : ℕ) →
+    ((item : Item) (b : ℕ) (rest : List Symbol) → slice_get closure place ≡ Some item → after_dot g item ≡ Nonterminal b ∷ rest →
+    IsMember set b) → IsClosing g items set closure place → IsClosing g items set closure (place + 1)
 closing_pass g items set closure place here h = record {
   len = h.len;
   front = h.front;
@@ -77,22 +81,26 @@ nonterminal_same : (b c : ℕ) (rest more : List Symbol) → Nonterminal b ∷ r
 nonterminal_same b c rest more e = cc
 
 -- the initial items of the nonterminal after the dot at the place go after the others
-pub closing_more : (g : GrammarView) (items : List Item) (flags : List Bool) (closure : List Item) (place : ℕ) (item : Item) (b : ℕ) (rest : List Symbol) (numbers : List ℕ) → slice_get closure place ≡ Some item → after_dot g item ≡ Nonterminal b ∷ rest → b < length flags → AreProductionsOf g b numbers → IsClosing g items flags closure place → IsClosing g items (set flags b true) (closure ++ map initial_item numbers) (place + 1)
+pub closing_more : (g : GrammarView) (items : List Item) (flags : List Bool) (closure : List Item) (place : ℕ) (item : Item) (b : ℕ)
+    (rest : List Symbol) (numbers : List ℕ) → slice_get closure place ≡ Some item → after_dot g item ≡ Nonterminal b ∷ rest →
+    b < length flags → AreProductionsOf g b numbers → IsClosing g items flags closure place →
+    IsClosing g items (set flags b true) (closure ++ map initial_item numbers) (place + 1)
 closing_more g items flags closure place item b rest numbers here before lt rules h = record {
   len = length-set flags b true ∙ h.len;
   front = λ z k. Contains_left closure (map initial_item numbers) z (h.front z k);
   complete = λ c q right has rule. elim (IsMember-insert flags b c has) [
     | inl old ↦ Contains_left closure (map initial_item numbers) (initial_item q) (h.complete c q right old rule)
     | inr same ↦
-        let (j, at) = at_Contains numbers q (rules.complete q right (subst (λ k. IsProduction g q k right) same rule)) in
-        right_stays closure (map initial_item numbers) (initial_item q) (Contains-at (map initial_item numbers) j (initial_item q) (opening_at numbers j q at))
+        let (j, at) = place_of numbers q (rules.complete q right (subst (λ k. IsProduction g q k right) same rule)) in
+        right_stays closure (map initial_item numbers) (initial_item q)
+        (contains_at (map initial_item numbers) (initial_item q) j (opening_at numbers j q at))
   ];
   sound = λ p z at. elim (at_joined closure (map initial_item numbers) p z at) [
     | inl old ↦ h.sound p z old
     | inr k ↦
-        let (j, at') = at_Contains (map initial_item numbers) z k in
+        let (j, at') = place_of (map initial_item numbers) z k in
         let (q, q_at, is) = opening_from numbers j z at' in
-        let (right, rule) = rules.sound q (Contains-at numbers j q q_at) in
+        let (right, rule) = rules.sound q (contains_at numbers q j q_at) in
         subst (InClosure g (Contains items)) (sym is) (opened item b rest q right (h.sound place item here) before rule)
   ];
   closed = λ p z c more lt' at is.
@@ -107,19 +115,26 @@ closing_more g items flags closure place item b rest numbers here before lt rule
       ];
 }
 
-closing_back : (g : GrammarView) (items : List Item) (flags : List Bool) (closure : List Item) (place : ℕ) → length closure ≤ place → IsClosing g items flags closure place → {item : Item} → InClosure g (Contains items) item → Contains closure item
+closing_back : (g : GrammarView) (items : List Item) (flags : List Bool) (closure : List Item) (place : ℕ) → length closure ≤ place →
+    IsClosing g items flags closure place → {item : Item} → InClosure g (Contains items) item → Contains closure item
 closing_back g items flags closure place past h (kernel k) = h.front _ k
 closing_back g items flags closure place past h (opened item b rest q right c is rule) =
-    let (p, at) = at_Contains closure item (closing_back g items flags closure place past h c) in
+    let (p, at) = place_of closure item (closing_back g items flags closure place past h c) in
     h.complete b q right (h.closed p item b rest (let w = slice_get_within closure p item at in omega (arith, w, past)) at is) rule
 
 -- each place was gone over, and a list has the same items
-pub closing_done : (g : GrammarView) (items : List Item) (flags : List Bool) (closure list : List Item) (place : ℕ) → length closure ≤ place → IsClosing g items flags closure place → ((item : Item) → Contains closure item → Contains list item) → ((item : Item) → Contains list item → Contains closure item) → (item : Item) → Contains list item ↔ InClosure g (Contains items) item
-closing_done g items flags closure list place past h there back item =
-    (λ k. (let (p, at) = at_Contains closure item (back item k) in h.sound p item at), λ c. there item (closing_back g items flags closure place past h c))
+pub closing_done : (g : GrammarView) (items : List Item) (flags : List Bool) (closure list : List Item) (place : ℕ) →
+    length closure ≤ place → IsClosing g items flags closure place → ((item : Item) → Contains closure item → Contains list item) →
+    ((item : Item) → Contains list item → Contains closure item) → (item : Item) → Contains list item ↔ InClosure g (Contains items) item
+closing_done g items flags closure list place past h there back item = (
+  λ k. (let (p, at) = place_of closure item (back item k) in h.sound p item at),
+  λ c. there item (closing_back g items flags closure place past h c),
+)
 
 -- the nonterminal after the dot at the place is known
-pub closing_known : (g : GrammarView) (items : List Item) (flags : List Bool) (closure : List Item) (place : ℕ) (item : Item) (b : ℕ) (rest : List Symbol) → slice_get closure place ≡ Some item → after_dot g item ≡ Nonterminal b ∷ rest → ((¬ IsMember flags b) → ⊥) → IsClosing g items flags closure place → IsClosing g items flags closure (place + 1)
+pub closing_known : (g : GrammarView) (items : List Item) (flags : List Bool) (closure : List Item) (place : ℕ) (item : Item) (b : ℕ)
+    (rest : List Symbol) → slice_get closure place ≡ Some item → after_dot g item ≡ Nonterminal b ∷ rest → ((¬ IsMember flags b) → ⊥) →
+    IsClosing g items flags closure place → IsClosing g items flags closure (place + 1)
 closing_known g items flags closure place item b rest here before known h = closing_pass g items flags closure place (λ z c more at is.
     let e : item ≡ z = at_once closure place item z here at in
     let f : b ≡ c = nonterminal_same b c rest more (sym before ∙ ap (after_dot g) e ∙ is) in

@@ -1,25 +1,25 @@
 -- Lists of items in order: how two of them are compared place by place.
-use Rattle.std.proofs.Common.{◌≡◌, ℕ, ◌+◌, ◌<◌, ◌≤◌, zero, suc, List, length, Some, refl, sym, ◌∙◌, ap, subst, inl, inr, arith}
-use Rattle.std.specs.Prelude.{slice_get, Contains, ◌↔◌}
-use Rattle.std.specs.Ordering.{MatchOrdering, is_lt, ordering_then, nat_cmp}
+use Rattle.std.proofs.Common.{◌≡◌, ℕ, ◌+◌, ◌<◌, ◌≤◌, zero, suc, List, length, Some, sym, ◌∙◌, ap, subst, inl, inr, arith}
+use Rattle.std.specs.Prelude.{slice_get}
+use Rattle.std.specs.Ordering.{ordering_then, nat_cmp}
 use Rattle.std.specs.declared.cmp.Ordering.{Ordering}
-use Rattle.std.specs.declared.cmp.Ordering.TheVariants.{Less, Equal, Greater}
-use Rattle.std.specs.Cmp.{nat_cmp_is}
 use Rattle.std.proofs.lemmas.Bool.{cases_eq, cases_lt}
 use Rattle.std.proofs.lemmas.Option.{slice_get_within}
+use Rattle.wb_lemmas.proofs.Places.{at_once, at_within}
+use Rattle.wb_lemmas.proofs.Members.{contains_at, place_of}
 use Rattle.wb_grammars.specs.declared.item.Item.{Item}
 use Rattle.wb_items.specs.Kernels.{Precedes, AreInOrder}
 use Rattle.wb_items.specs.Table.{SameItems}
 use Rattle.wb_items.specs.Inner.Searches.{ComesFirst, AgreeBelow}
-use Rattle.wb_items.proofs.ListLemmas.{at_once, at_some, Contains-at, at_Contains}
-use Rattle.wb_items.proofs.OrderLemmas.{compared, ahead, alike, follows, precedes_then, not_itself}
+use Rattle.wb_items.proofs.OrderLemmas.{precedes_then, not_itself}
 
 -- the derived order of items
 abbrev pub item_cmp : Item → Item → Ordering
 item_cmp a b = ordering_then (nat_cmp a.production b.production) (nat_cmp a.dot b.dot)
 
 -- lists that agree at the first places agree at one more
-pub agree_more : (one other : List Item) (n : ℕ) (a b : Item) → slice_get one n ≡ Some a → slice_get other n ≡ Some b → a ≡ b → AgreeBelow one other n →
+pub agree_more : (one other : List Item) (n : ℕ) (a b : Item) → slice_get one n ≡ Some a → slice_get other n ≡ Some b → a ≡ b →
+    AgreeBelow one other n →
     AgreeBelow one other (n + 1)
 agree_more one other n a b at at' is h k lt = elim (cases_eq k n) [
   | inl same ↦ subst (λ i. slice_get one i ≡ slice_get other i) (sym same) (at ∙ ap Some is ∙ sym at')
@@ -38,7 +38,8 @@ all_follow items n a b sorted at less z j le at' = elim (cases_eq j n) [
 ]
 
 -- nothing is past the end
-pub none_follow : (items : List Item) (n : ℕ) (a : Item) → length items ≤ n → (z : Item) (j : ℕ) → n ≤ j → slice_get items j ≡ Some z → Precedes a z
+pub none_follow : (items : List Item) (n : ℕ) (a : Item) → length items ≤ n → (z : Item) (j : ℕ) → n ≤ j → slice_get items j ≡ Some z →
+    Precedes a z
 none_follow items n a past z j le at = absurd (let w = slice_get_within items j z at in omega (arith, w))
 
 -- of two lists that agree before a place, the one whose item there precedes the other's items from there on comes first
@@ -46,27 +47,28 @@ pub first_here : (one other : List Item) (n : ℕ) (a : Item) → AreInOrder one
     ((z : Item) (j : ℕ) → n ≤ j → slice_get other j ≡ Some z → Precedes a z) → ComesFirst one other
 first_here one other n a sorted agree at follow = record {
   item = a;
-  has = Contains-at one n a at;
+  has = contains_at one a n at;
   lacks = λ k.
-      let (j, at') = at_Contains other a k in
+      let (j, at') = place_of other a k in
       elim (cases_lt j n) [
         | inl lt ↦ not_itself a (sorted j n a a lt (agree j lt ∙ at') at)
         | inr ge ↦ not_itself a (follow a j ge at')
       ];
   below = λ z less. (
     λ k.
-        let (j, at') = at_Contains one z k in
+        let (j, at') = place_of one z k in
         elim (cases_lt j n) [
-          | inl lt ↦ Contains-at other j z (sym (agree j lt) ∙ at')
+          | inl lt ↦ contains_at other z j (sym (agree j lt) ∙ at')
           | inr ge ↦ elim (cases_eq j n) [
-            | inl same ↦ absurd (not_itself a (subst (λ y. Precedes y a) (at_once one n z a (subst (λ i. slice_get one i ≡ Some z) same at') at) less))
+            | inl same ↦ absurd (not_itself a
+                (subst (λ y. Precedes y a) (at_once one n z a (subst (λ i. slice_get one i ≡ Some z) same at') at) less))
             | inr ne ↦ absurd (not_itself a (precedes_then a z a (sorted n j a z (omega arith) at at') less))
           ]
         ],
     λ k.
-        let (j, at') = at_Contains other z k in
+        let (j, at') = place_of other z k in
         elim (cases_lt j n) [
-          | inl lt ↦ Contains-at one j z (agree j lt ∙ at')
+          | inl lt ↦ contains_at one z j (agree j lt ∙ at')
           | inr ge ↦ absurd (not_itself a (precedes_then a z a (follow z j ge at') less))
         ],
   );
@@ -75,8 +77,9 @@ first_here one other n a sorted agree at follow = record {
 -- lists that agree at all places have the same items
 pub same_here : (one other : List Item) (n : ℕ) → length one ≤ n → length other ≤ n → AgreeBelow one other n → SameItems one other
 same_here one other n past past' agree z = (
-  λ k. (let (j, at) = at_Contains one z k in Contains-at other j z (sym (agree j (let w = slice_get_within one j z at in omega (arith, w))) ∙ at)),
-  λ k. (let (j, at) = at_Contains other z k in Contains-at one j z (agree j (let w = slice_get_within other j z at in omega (arith, w)) ∙ at)),
+  λ k. (let (j, at) = place_of one z k in contains_at other z j (sym (agree j (let w =
+      slice_get_within one j z at in omega (arith, w))) ∙ at)),
+  λ k. (let (j, at) = place_of other z k in contains_at one z j (agree j (let w = slice_get_within other j z at in omega (arith, w)) ∙ at)),
 )
 
 -- a list each item of which precedes the next is in order
@@ -96,6 +99,7 @@ adjacent_order items next i j a b lt at at' =
     far zero i a b at at' = next i a b at (subst (λ k. slice_get items k ≡ Some b) (let e : suc (0 + i) ≡ i + 1 = omega arith in e) at')
     far (suc d) i a b at at' =
         let lt : suc (d + i) < length items = (let w = slice_get_within items (suc (suc d + i)) b at' in omega (arith, w)) in
-        let (c, here) = at_some items (suc (d + i)) lt in
+        let (c, here) = at_within items (suc (d + i)) lt in
         precedes_then a c b (far d i a c at here)
-        (next (suc (d + i)) c b here (subst (λ k. slice_get items k ≡ Some b) (let e : suc (suc d + i) ≡ suc (d + i) + 1 = omega arith in e) at'))
+        (next (suc (d + i)) c b here (subst (λ k. slice_get items k ≡ Some b) (let e : suc (suc d + i) ≡ suc (d + i) + 1 =
+        omega arith in e) at'))

@@ -7,7 +7,6 @@ pub mod IndexLemmas
 pub mod IndexedLemmas
 pub mod ItemLookaheadLemmas
 pub mod KernelsLemmas
-pub mod ListLemmas
 pub mod MoveLemmas
 pub mod OrderLemmas
 pub mod ProductionRows

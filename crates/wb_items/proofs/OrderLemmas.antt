@@ -6,10 +6,11 @@ use Rattle.std.proofs.lemmas.Bool.{cases_eq, cases_lt, true≢false}
 use Rattle.std.specs.Ordering.{is_lt, ordering_then, nat_cmp}
 use Rattle.std.specs.declared.cmp.Ordering.TheVariants.{Less, Equal}
 use Rattle.std.specs.Cmp.{nat_cmp_is}
+use Rattle.wb_lemmas.proofs.Places.{default_at, at_push, at_once}
+use Rattle.wb_lemmas.proofs.Members.{contains_at, place_of, contains_push, push_contains, push_contains_last}
 use Rattle.wb_grammars.specs.declared.item.Item.{Item}
 use Rattle.wb_items.specs.Kernels.{Precedes, AreInOrder}
 use Rattle.wb_items.specs.Inner.Passes.{AreRising, StrictUpTo}
-use Rattle.wb_items.proofs.ListLemmas.{default_at, at_cases, at_stays, at_end, at_once, Contains-at, at_Contains}
 
 same_item : (a b : Item) → a.production ≡ b.production → a.dot ≡ b.dot → a ≡ b
 same_item a b p q i = record { production = p i; dot = q i }
@@ -43,32 +44,18 @@ pub order_nil : AreInOrder []
 order_nil i j a b lt p q = cc
 
 -- an item that all others precede goes after them
-pub order_push : (items : List Item) (item : Item) → AreInOrder items → ((z : Item) → Contains items z → Precedes z item) → AreInOrder (items ++ item ∷ [])
-order_push items item h all i j a b lt one two = elim (at_cases items item i a one) [
-  | inl old ↦ elim (at_cases items item j b two) [
+pub order_push : (items : List Item) (item : Item) → AreInOrder items → ((z : Item) → Contains items z → Precedes z item) →
+    AreInOrder (items ++ item ∷ [])
+order_push items item h all i j a b lt one two = elim (at_push items item a i one) [
+  | inl old ↦ elim (at_push items item b j two) [
     | inl old' ↦ h i j a b lt old old'
-    | inr last ↦ subst (Precedes a) last.1 (all a (Contains-at items i a old))
+    | inr last ↦ subst (Precedes a) last.1 (all a (contains_at items a i old))
   ]
-  | inr last ↦ elim (at_cases items item j b two) [
+  | inr last ↦ elim (at_push items item b j two) [
     | inl old' ↦ absurd (omega (arith, last.0, slice_get_within items j b old'))
     | inr last' ↦ absurd (omega (arith, last.0, last'.0))
   ]
 ]
-
--- an item of a list with one more
-pub Contains_cases : {X : Type 0} (xs : List X) (y z : X) → Contains (xs ++ y ∷ []) z → Contains xs z ⊎ (y ≡ z)
-Contains_cases xs y z k =
-    let (j, at) = at_Contains (xs ++ y ∷ []) z k in
-    elim (at_cases xs y j z at) [
-      | inl old ↦ inl (Contains-at xs j z old)
-      | inr last ↦ inr last.1
-    ]
-
-pub Contains_stays : {X : Type 0} (xs : List X) (y z : X) → Contains xs z → Contains (xs ++ y ∷ []) z
-Contains_stays xs y z k = let (j, at) = at_Contains xs z k in Contains-at (xs ++ y ∷ []) j z (at_stays xs y j z at)
-
-pub Contains_last : {X : Type 0} (xs : List X) (y : X) → Contains (xs ++ y ∷ []) y
-Contains_last xs y = Contains-at (xs ++ y ∷ []) (length xs) y (at_end xs y)
 
 pub strict_start : (items : List Item) → StrictUpTo items [] 0
 strict_start items = record {
@@ -79,11 +66,13 @@ strict_start items = record {
 }
 
 -- an item that is the same as the one before
-pub strict_pass : (items list : List Item) (m : ℕ) (a b : Item) → slice_get items m ≡ Some a → slice_get items (m + 1) ≡ Some b → b ≡ a → StrictUpTo items list (m + 1) → StrictUpTo items list (m + 1 + 1)
+pub strict_pass : (items list : List Item) (m : ℕ) (a b : Item) → slice_get items m ≡ Some a → slice_get items (m + 1) ≡ Some b → b ≡ a →
+    StrictUpTo items list (m + 1) → StrictUpTo items list (m + 1 + 1)
 strict_pass items list m a b at here is h = record {
   sound = λ z k. (let (j, lt, at') = h.sound z k in (j, omega (arith, lt), at'));
   complete = λ j z lt at'. elim (cases_eq j (m + 1)) [
-    | inl same ↦ (let e : z ≡ b = at_once items (m + 1) z b (subst (λ k. slice_get items k ≡ Some z) same at') here in subst (Contains list) (sym (e ∙ is)) (h.complete m a (omega arith) at))
+    | inl same ↦ (let e : z ≡ b = at_once items (m + 1) z b (subst (λ k. slice_get items k ≡ Some z) same at') here in subst (Contains list)
+        (sym (e ∙ is)) (h.complete m a (omega arith) at))
     | inr ne ↦ h.complete j z (omega arith) at'
   ];
   sorted = h.sorted;
@@ -94,43 +83,51 @@ strict_pass items list m a b at here is h = record {
 }
 
 -- an item that all others precede
-pub strict_take : (items list : List Item) (n : ℕ) (b : Item) → slice_get items n ≡ Some b → ((z : Item) → Contains list z → Precedes z b) → StrictUpTo items list n → StrictUpTo items (list ++ b ∷ []) (n + 1)
+pub strict_take : (items list : List Item) (n : ℕ) (b : Item) → slice_get items n ≡ Some b → ((z : Item) → Contains list z → Precedes z b) →
+    StrictUpTo items list n → StrictUpTo items (list ++ b ∷ []) (n + 1)
 strict_take items list n b here all h = record {
-  sound = λ z k. elim (Contains_cases list b z k) [
+  sound = λ z k. elim (contains_push list b z k) [
     | inl old ↦ (let (j, lt, at) = h.sound z old in (j, omega (arith, lt), at))
     | inr is ↦ (n, omega arith, here ∙ ap Some is)
   ];
   complete = λ j z lt at. elim (cases_eq j n) [
-    | inl same ↦ subst (Contains (list ++ b ∷ [])) (at_once items n b z here (subst (λ k. slice_get items k ≡ Some z) same at)) (Contains_last list b)
-    | inr ne ↦ Contains_stays list b z (h.complete j z (omega arith) at)
+    | inl same ↦ subst (Contains (list ++ b ∷ [])) (at_once items n b z here (subst (λ k. slice_get items k ≡ Some z) same at))
+        (push_contains_last list b)
+    | inr ne ↦ push_contains list b z (h.complete j z (omega arith) at)
   ];
   sorted = order_push list b h.sorted all;
   last = λ m a z e at k.
       let n' : m ≡ n = omega arith in
       let f : b ≡ a = at_once items n b a here (subst (λ k. slice_get items k ≡ Some a) n' at) in
-      elim (Contains_cases list b z k) [
+      elim (contains_push list b z k) [
         | inl old ↦ inl (subst (Precedes z) f (all z old))
         | inr is ↦ inr (sym is ∙ f)
       ];
 }
 
 -- it is preceded by all where it differs from the one before, which doesn't follow it
-pub all_precede : (items list : List Item) (m : ℕ) (a b : Item) → AreRising items → slice_get items m ≡ Some a → slice_get items (m + 1) ≡ Some b → (b ≡ a → ⊥) → StrictUpTo items list (m + 1) → (z : Item) → Contains list z → Precedes z b
+pub all_precede : (items list : List Item) (m : ℕ) (a b : Item) → AreRising items → slice_get items m ≡ Some a →
+    slice_get items (m + 1) ≡ Some b → (b ≡ a → ⊥) → StrictUpTo items list (m + 1) → (z : Item) → Contains list z → Precedes z b
 all_precede items list m a b rising at here ne h z k =
-    let first : Precedes a b = (elim (compared a b) [ ahead lt ↦ lt | alike is ↦ absurd (ne (sym is)) | follows gt ↦ absurd (rising m a b at here gt) ]) in
+    let first : Precedes a b =
+    (elim (compared a b) [ ahead lt ↦ lt | alike is ↦ absurd (ne (sym is)) | follows gt ↦ absurd (rising m a b at here gt) ]) in
     elim (h.last m a z refl at k) [
       | inl lt ↦ precedes_then z a b lt first
       | inr is ↦ subst (λ y. Precedes y b) (sym is) first
     ]
 
 -- the same by the place of the item
-pub strict_pass_at : (items list : List Item) (place : ℕ) (a b : Item) → 0 < place → slice_get items (place - 1) ≡ Some a → slice_get items place ≡ Some b → a ≡ b → StrictUpTo items list place → StrictUpTo items list (place + 1)
+pub strict_pass_at : (items list : List Item) (place : ℕ) (a b : Item) → 0 < place → slice_get items (place - 1) ≡ Some a →
+    slice_get items place ≡ Some b → a ≡ b → StrictUpTo items list place → StrictUpTo items list (place + 1)
 strict_pass_at items list place a b pos at here is h =
     let m = place - 1 in
     let e : place ≡ m + 1 = omega arith in
-    subst (λ n. StrictUpTo items list (n + 1)) (sym e) (strict_pass items list m a b at (subst (λ n. slice_get items n ≡ Some b) e here) (sym is) (subst (StrictUpTo items list) e h))
+    subst (λ n. StrictUpTo items list (n + 1)) (sym e) (strict_pass items list m a b at (subst (λ n. slice_get items n ≡ Some b) e here)
+    (sym is) (subst (StrictUpTo items list) e h))
 
-pub strict_take_at : (items list more : List Item) (place : ℕ) (b : Item) → AreRising items → slice_get items place ≡ Some b → more ≡ list ++ b ∷ [] → (0 < place → (a : Item) → slice_get items (place - 1) ≡ Some a → a ≡ b → ⊥) → StrictUpTo items list place → StrictUpTo items more (place + 1)
+pub strict_take_at : (items list more : List Item) (place : ℕ) (b : Item) → AreRising items → slice_get items place ≡ Some b →
+    more ≡ list ++ b ∷ [] → (0 < place → (a : Item) → slice_get items (place - 1) ≡ Some a → a ≡ b → ⊥) → StrictUpTo items list place →
+    StrictUpTo items more (place + 1)
 strict_take_at items list more place b rising here is ne h =
     subst (λ l. StrictUpTo items l (place + 1)) (sym is) (strict_take items list place b here all h)
   where
@@ -141,21 +138,29 @@ strict_take_at items list more place b rising here is ne h =
         let e : place ≡ m + 1 = omega (arith, lt) in
         let within : m < length items = (let w = slice_get_within items place b here in omega (arith, w, lt)) in
         let there = slice_get-get_or items m b within in
-        all_precede items list m (slice_index_or items m b) b rising there (subst (λ n. slice_get items n ≡ Some b) e here) (λ alike'. ne (omega (arith, lt)) (slice_index_or items m b) there (sym alike')) (subst (StrictUpTo items list) e h) z k
+        all_precede items list m (slice_index_or items m b) b rising there (subst (λ n. slice_get items n ≡ Some b) e here)
+        (λ alike'. ne (omega (arith, lt)) (slice_index_or items m b) there (sym alike')) (subst (StrictUpTo items list) e h) z k
 
-pub strict_done : (items list : List Item) (n : ℕ) → length items ≤ n → StrictUpTo items list n → (item : Item) → Contains list item ↔ Contains items item
+pub strict_done : (items list : List Item) (n : ℕ) → length items ≤ n → StrictUpTo items list n → (item : Item) →
+    Contains list item ↔ Contains items item
 strict_done items list n past h item = (
-  λ k. (let (j, lt, at) = h.sound item k in Contains-at items j item at),
-  λ k. (let (j, at) = at_Contains items item k in h.complete j item (let w = slice_get_within items j item at in omega (arith, w, past)) at),
+  λ k. (let (j, lt, at) = h.sound item k in contains_at items item j at),
+  λ k. (let (j, at) = place_of items item k in h.complete j item (let w = slice_get_within items j item at in omega (arith, w, past)) at),
 )
 
 pub less_by : (b a : Item) → Precedes b a → is_lt (ordering_then (nat_cmp b.production a.production) (nat_cmp b.dot a.dot)) ≡ true
 less_by b a (inl p) = ap (λ o. is_lt (ordering_then o (nat_cmp b.dot a.dot))) (sym (nat_cmp_is b.production a.production Less p))
-less_by b a (inr p) = ap (λ o. is_lt (ordering_then o (nat_cmp b.dot a.dot))) (sym (nat_cmp_is b.production a.production Equal p.0)) ∙ ap is_lt (sym (nat_cmp_is b.dot a.dot Less p.1))
+less_by b a (inr p) = ap (λ o. is_lt (ordering_then o (nat_cmp b.dot a.dot))) (sym (nat_cmp_is b.production a.production Equal p.0)) ∙
+    ap is_lt (sym (nat_cmp_is b.dot a.dot Less p.1))
 
 -- a sorted list rises
-pub sorted_rises : (items : List Item) → ((k : ℕ) (d : Item) → 0 ≤ k → k + 1 < length items → is_lt (ordering_then (nat_cmp (slice_index_or items (k + 1) d).production (slice_index_or items k d).production) (nat_cmp (slice_index_or items (k + 1) d).dot (slice_index_or items k d).dot)) ≡ false) → AreRising items
+pub sorted_rises : (items : List Item) →
+    ((k : ℕ) (d : Item) → 0 ≤ k → k + 1 < length items →
+    is_lt (ordering_then (nat_cmp (slice_index_or items (k + 1) d).production (slice_index_or items k d).production)
+    (nat_cmp (slice_index_or items (k + 1) d).dot (slice_index_or items k d).dot)) ≡ false) → AreRising items
 sorted_rises items sorted k a b at at' less =
     let here : slice_index_or items k a ≡ a = default_at items k a a at in
     let there : slice_index_or items (k + 1) a ≡ b = default_at items (k + 1) a b at' in
-    true≢false (sym (less_by (slice_index_or items (k + 1) a) (slice_index_or items k a) (subst (λ z. Precedes z (slice_index_or items k a)) (sym there) (subst (Precedes b) (sym here) less))) ∙ sorted k a (omega arith) (slice_get_within items (k + 1) b at'))
+    true≢false (sym (less_by (slice_index_or items (k + 1) a) (slice_index_or items k a)
+    (subst (λ z. Precedes z (slice_index_or items k a)) (sym there) (subst (Precedes b) (sym here) less))) ∙
+    sorted k a (omega arith) (slice_get_within items (k + 1) b at'))

@@ -4,14 +4,14 @@ use Rattle.std.specs.Prelude.{slice_get, slice_set, Contains}
 use Rattle.std.proofs.lemmas.Option.{slice_get_within, same_Some}
 use Rattle.std.proofs.lemmas.List.{length-replicate}
 use Rattle.std.proofs.lemmas.Bool.{cases_eq}
+use Rattle.wb_lemmas.proofs.Places.{at_push, push_last}
+use Rattle.wb_lemmas.proofs.Members.{contains_at, contains_push, push_contains}
 use Rattle.wb_base.specs.declared.symbol.Symbol.{Symbol}
 use Rattle.wb_base.specs.Grammar.{GrammarView}
 use Rattle.wb_grammars.specs.Productions.{IsProduction}
 use Rattle.wb_grammars.proofs.ProductionLemmas.{production_once, production_within}
 use Rattle.wb_items.specs.Table.{AreProductionsOf, AreProductions}
 use Rattle.wb_items.specs.Inner.Passes.{ProductionsUpTo, RowsUpTo}
-use Rattle.wb_items.proofs.OrderLemmas.{Contains_cases, Contains_stays}
-use Rattle.wb_items.proofs.ListLemmas.{at_cases, at_end, Contains-at}
 
 rules_start : (g : GrammarView) (b : ℕ) → ProductionsUpTo g b [] 0
 rules_start g b = record {
@@ -22,26 +22,27 @@ rules_start g b = record {
 }
 
 -- one more production, which is of the nonterminal
-rules_take : (g : GrammarView) (b : ℕ) (numbers : List ℕ) (n : ℕ) (right : List Symbol) → ProductionsUpTo g b numbers n → IsProduction g n b right → ProductionsUpTo g b (numbers ++ n ∷ []) (n + 1)
+rules_take : (g : GrammarView) (b : ℕ) (numbers : List ℕ) (n : ℕ) (right : List Symbol) → ProductionsUpTo g b numbers n →
+    IsProduction g n b right → ProductionsUpTo g b (numbers ++ n ∷ []) (n + 1)
 rules_take g b numbers n right h rule = record {
-  below = λ q k. elim (Contains_cases numbers n q k) [
+  below = λ q k. elim (contains_push numbers n q k) [
     | inl old ↦ (let lt = h.below q old in omega (arith, lt))
     | inr last ↦ omega (arith, last)
   ];
-  sound = λ q k. elim (Contains_cases numbers n q k) [
+  sound = λ q k. elim (contains_push numbers n q k) [
     | inl old ↦ h.sound q old
     | inr last ↦ subst (λ z. (right : List Symbol) × IsProduction g z b right) last (right, rule)
   ];
   complete = λ q other lt is. elim (cases_eq q n) [
-    | inl same ↦ subst (Contains (numbers ++ n ∷ [])) (sym same) (Contains-at (numbers ++ n ∷ []) (length numbers) n (at_end numbers n))
-    | inr differs ↦ Contains_stays numbers n q (h.complete q other (omega arith) is)
+    | inl same ↦ subst (Contains (numbers ++ n ∷ [])) (sym same) (contains_at (numbers ++ n ∷ []) n (length numbers) (push_last numbers n))
+    | inr differs ↦ push_contains numbers n q (h.complete q other (omega arith) is)
   ];
-  rising = λ i j p q lt one two. elim (at_cases numbers n i p one) [
-    | inl old ↦ elim (at_cases numbers n j q two) [
+  rising = λ i j p q lt one two. elim (at_push numbers n p i one) [
+    | inl old ↦ elim (at_push numbers n q j two) [
       | inl old' ↦ h.rising i j p q lt old old'
-      | inr last ↦ (let below = h.below p (Contains-at numbers i p old) in omega (arith, below, last.1))
+      | inr last ↦ (let below = h.below p (contains_at numbers p i old) in omega (arith, below, last.1))
     ]
-    | inr last ↦ elim (at_cases numbers n j q two) [
+    | inr last ↦ elim (at_push numbers n q j two) [
       | inl old' ↦ absurd (omega (arith, last.0, slice_get_within numbers j q old'))
       | inr last' ↦ absurd (omega (arith, last.0, last'.0))
     ]
@@ -49,7 +50,8 @@ rules_take g b numbers n right h rule = record {
 }
 
 -- one more production, which isn't
-rules_pass : (g : GrammarView) (a b : ℕ) (numbers : List ℕ) (n : ℕ) (right : List Symbol) → ProductionsUpTo g b numbers n → IsProduction g n a right → (a ≡ b → ⊥) → ProductionsUpTo g b numbers (n + 1)
+rules_pass : (g : GrammarView) (a b : ℕ) (numbers : List ℕ) (n : ℕ) (right : List Symbol) → ProductionsUpTo g b numbers n →
+    IsProduction g n a right → (a ≡ b → ⊥) → ProductionsUpTo g b numbers (n + 1)
 rules_pass g a b numbers n right h rule ne = record {
   below = λ q k. (let lt = h.below q k in omega (arith, lt));
   sound = h.sound;
@@ -60,7 +62,8 @@ rules_pass g a b numbers n right h rule ne = record {
   rising = h.rising;
 }
 
-rules_done : (g : GrammarView) (b : ℕ) (numbers : List ℕ) (n : ℕ) → length g.productions ≤ n → ProductionsUpTo g b numbers n → AreProductionsOf g b numbers
+rules_done : (g : GrammarView) (b : ℕ) (numbers : List ℕ) (n : ℕ) → length g.productions ≤ n → ProductionsUpTo g b numbers n →
+    AreProductionsOf g b numbers
 rules_done g b numbers n past h = record {
   sound = h.sound;
   complete = λ q right rule. h.complete q right (let lt = production_within g q b right rule in omega (arith, lt)) rule;
@@ -80,23 +83,31 @@ rows_start g = record {
 }
 
 -- one more production goes to the row of its left side
-pub rows_more : (g : GrammarView) (rows : List (List ℕ)) (n left : ℕ) (right : List Symbol) (numbers : List ℕ) → IsProduction g n left right → slice_get rows left ≡ Some numbers → RowsUpTo g rows n → RowsUpTo g (slice_set rows left (numbers ++ n ∷ [])) (n + 1)
+pub rows_more : (g : GrammarView) (rows : List (List ℕ)) (n left : ℕ) (right : List Symbol) (numbers : List ℕ) →
+    IsProduction g n left right → slice_get rows left ≡ Some numbers → RowsUpTo g rows n →
+    RowsUpTo g (slice_set rows left (numbers ++ n ∷ [])) (n + 1)
 rows_more g rows n left right numbers rule here h = record {
   len = length-set {A = List ℕ} rows left (numbers ++ n ∷ []) ∙ h.len;
   each = λ b other at. elim (cases_eq b left) [
     | inl same ↦
-        let e : numbers ++ n ∷ [] ≡ other = set_here rows left (numbers ++ n ∷ []) other (slice_get_within rows left numbers here) (subst (λ k. slice_get (slice_set rows left (numbers ++ n ∷ [])) k ≡ Some other) same at) in
-        subst (λ z. ProductionsUpTo g b z (n + 1)) e (subst (λ k. ProductionsUpTo g k (numbers ++ n ∷ []) (n + 1)) (sym same) (rules_take g left numbers n right (h.each left numbers here) rule))
-    | inr ne ↦ rules_pass g left b other n right (h.each b other (set_elsewhere rows left b (numbers ++ n ∷ []) other ne at)) rule (λ same. ne (sym same))
+        let e : numbers ++ n ∷ [] ≡ other = set_here rows left (numbers ++ n ∷ []) other (slice_get_within rows left numbers here)
+        (subst (λ k. slice_get (slice_set rows left (numbers ++ n ∷ [])) k ≡ Some other) same at) in
+        subst (λ z. ProductionsUpTo g b z (n + 1)) e
+        (subst (λ k. ProductionsUpTo g k (numbers ++ n ∷ []) (n + 1)) (sym same)
+        (rules_take g left numbers n right (h.each left numbers here) rule))
+    | inr ne ↦ rules_pass g left b other n right (h.each b other (set_elsewhere rows left b (numbers ++ n ∷ []) other ne at)) rule
+        (λ same. ne (sym same))
   ];
 }
   where
-    set_here : (rows : List (List ℕ)) (j : ℕ) (new other : List ℕ) → j < length rows → slice_get (slice_set rows j new) j ≡ Some other → new ≡ other
+    set_here : (rows : List (List ℕ)) (j : ℕ) (new other : List ℕ) → j < length rows → slice_get (slice_set rows j new) j ≡ Some other →
+        new ≡ other
     set_here [] j new other lt at = absurd (omega arith)
     set_here (row ∷ rows) zero new other lt at = same_Some new other at
     set_here (row ∷ rows) (suc j) new other lt at = set_here rows j new other (omega arith) at
 
-    set_elsewhere : (rows : List (List ℕ)) (j b : ℕ) (new other : List ℕ) → b ≢ j → slice_get (slice_set rows j new) b ≡ Some other → slice_get rows b ≡ Some other
+    set_elsewhere : (rows : List (List ℕ)) (j b : ℕ) (new other : List ℕ) → b ≢ j → slice_get (slice_set rows j new) b ≡ Some other →
+        slice_get rows b ≡ Some other
     set_elsewhere [] j b new other ne at = at
     set_elsewhere (row ∷ rows) zero zero new other ne at = absurd (ne refl)
     set_elsewhere (row ∷ rows) zero (suc b) new other ne at = at

@@ -1,9 +1,8 @@
 -- Prefixes as steps, each from an earlier one by a symbol.
-use Rattle.std.specs.Prelude.{◌≡◌, ◌≤◌, ◌+◌, ℕ, List, [], ◌∷◌, ◌++◌, length, Some, slice_get, slice_index_or}
+use Rattle.std.specs.Prelude.{List, [], ◌∷◌, ◌++◌, slice_index_or}
 use Rattle.wb_base.specs.declared.symbol.Symbol.{Symbol}
 use Rattle.wb_grammars.specs.declared.item.Item.{Item}
 use Rattle.wb_items.specs.declared.kernel_index.Step.{Step}
-use Rattle.wb_items.specs.Inner.Searches.{IsIndex}
 
 -- prefixes by numbers, and a list of items for each
 pub record IndexView : Type 0 where

@@ -10,4 +10,5 @@ use Rattle.wb_items.specs.Lookaheads.{AreLookaheadsOf, IsSetOf}
 -- each item of each kernel's prefix has a set, and the members of the set are exactly the item's lookaheads there
 pub record AreLookaheads (kernels : KernelsView) (lookaheads : List (List ItemLookahead)) : Type 0 where
   pub shape : AreLookaheadsOf kernels lookaheads
-  pub exact : (s : ℕ) (item : Item) (set : List Bool) (t : ℕ) → s < count_of kernels → IsSetOf lookaheads s item set → IsMember set t ↔ IsLookahead kernels.grammar (prefix_of kernels s) item t
+  pub exact : (s : ℕ) (item : Item) (set : List Bool) (t : ℕ) → s < count_of kernels → IsSetOf lookaheads s item set →
+      IsMember set t ↔ IsLookahead kernels.grammar (prefix_of kernels s) item t

@@ -20,10 +20,12 @@ IsSetOf lookaheads s item set = Contains (row_of lookaheads s) (record { item = 
 -- the set at a place of the kernel, and at no other, was changed by the function
 abbrev pub ChangesAt : List (List ItemLookahead) → ℕ → ℕ → (List Bool → List Bool) → List (List ItemLookahead) → Type 0
 ChangesAt old s place change new =
-    (looks : ItemLookahead) × (slice_get (row_of old s) place ≡ Some looks) × (new ≡ slice_set old s (slice_set (row_of old s) place (record looks { set = change looks.set })))
+    (looks : ItemLookahead) × (slice_get (row_of old s) place ≡ Some looks) ×
+    (new ≡ slice_set old s (slice_set (row_of old s) place (record looks { set = change looks.set })))
 
 -- the terminal goes into the set of the item at its place and nothing else changes, and the answer says whether it was new there
-pub record Inserts (old : List (List ItemLookahead)) (s : ℕ) (item : Item) (terminal : ℕ) (new : List (List ItemLookahead)) (answer : Bool) : Type 0 where
+pub record Inserts (old : List (List ItemLookahead)) (s : ℕ) (item : Item) (terminal : ℕ) (new : List (List ItemLookahead))
+    (answer : Bool) : Type 0 where
   pub place : ℕ
   pub looks : ItemLookahead
   pub at : slice_get (row_of old s) place ≡ Some looks

@@ -1,9 +1,7 @@
 -- Symbols in order, lists of items as sets in order, and the numbers of kernels by this order.
-use Rattle.std.specs.Prelude.{◌≡◌, ◌↔◌, ℕ, ◌+◌, ◌<◌, ◌≤◌, List, Option, Some, None, length, Contains, slice_get}
+use Rattle.std.specs.Prelude.{◌<◌}
 use Rattle.wb_base.specs.declared.symbol.Symbol.{Symbol}
 use Rattle.wb_base.specs.declared.symbol.Symbol.TheVariants.{Terminal, Nonterminal}
-use Rattle.wb_grammars.specs.declared.item.Item.{Item}
-use Rattle.wb_items.specs.Kernels.{AreInOrder, Precedes}
 
 -- the one symbol is before the other: terminals before nonterminals, and each by number
 abbrev pub SymbolPrecedes : Symbol → Symbol → Type 0

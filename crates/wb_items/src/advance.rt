@@ -1,4 +1,4 @@
-//! The items that move over symbols, by symbol.
+//! Which items move over which symbol? All that a closure has, by symbol and then by item.
 
 ghost use Rattle.std.specs.Prelude.{◌≡◌, ◌<◌, ◌+◌, ◌^◌, ◌↔◌, IfOk, OnOk, Some, length, slice_get};
 ghost use Rattle.wb_base.specs.declared.symbol.Symbol.{Symbol};
@@ -31,7 +31,7 @@ pub(crate) fn advances(
     ensures exact { IfOk result (λ list. (x : Symbol) (item : Item) → HasAdvance list.items x item ↔ IsMoved grammar.now closure.now x item) }
     ensures rising { IfOk result (λ list. AreAdvancesRising list.items) }
 {
-    let mut list = Vec::new(alloc);
+    let mut list = Vec::with_capacity(alloc, closure.len())?;
     'places: for place in 0..closure.len() {
         add_advance(grammar, closure, place, &mut list)?;
     }

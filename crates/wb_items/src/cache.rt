@@ -1,6 +1,6 @@
-//! The kernel that each symbol led to last, as it mostly leads there again.
+//! To which kernel did a symbol lead last? It mostly leads there again.
 //!
-//! Nothing is promised of a hint: who asks for one tests it.
+//! Nothing is promised of what is cached: who asks tests it.
 
 use std::alloc::{AllocError, Global};
 use wb_base::{Grammar, Symbol};

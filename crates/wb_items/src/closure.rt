@@ -1,4 +1,4 @@
-//! The closure of a kernel.
+//! Which items are in the closure of a kernel? The initial items of each nonterminal after a dot are added once.
 
 ghost use Rattle.std.specs.Prelude.{◌≡◌, ◌↔◌, ◌++◌, ℕ, List, IfOk, OnOk, Contains, map, ◌<◌, ◌+◌, vec_len, length, slice_get, Some};
 ghost use Rattle.wb_grammars.specs.declared.item.Item.{Item};
@@ -45,7 +45,7 @@ fn deduplicated(alloc: Global, items: &[Item]) -> Result<Sequence<Item>, AllocEr
     ensures same { IfOk result (λ list. (item : Item) → Contains list item ↔ Contains items.now item) }
     ensures in_order { IfOk result (λ list. AreInOrder list) }
 {
-    let mut list = Vec::new(alloc);
+    let mut list = Vec::with_capacity(alloc, items.len())?;
     'places: for place in 0..items.len() {
         add_item(items, place, &mut list)?;
     }

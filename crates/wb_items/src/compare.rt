@@ -1,4 +1,4 @@
-//! Lists of items as sets, in order: where two sets differ, the one that has the least item in which they differ comes first.
+//! Which of two sets of items comes first? Where they differ, the one that has the least item in which they differ.
 
 ghost use Rattle.std.specs.Prelude.{◌≡◌, ◌<◌, ◌≤◌, ◌+◌, ◌↔◌, IsTrue, length};
 ghost use Rattle.std.specs.Ordering.{MatchOrdering};

@@ -1,4 +1,4 @@
-//! What is after a dot.
+//! What is after the dot of an item?
 
 ghost use Rattle.std.specs.Prelude.{◌≡◌, ◌+◌, ◌<◌, ◌^◌, ◌∷◌, [], ℕ, List, MatchOption, IfSome, IsTrue, Some, ◌↔◌, length, slice_get};
 ghost use Rattle.wb_base.specs.declared.symbol.Symbol.{Symbol};

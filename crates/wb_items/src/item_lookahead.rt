@@ -1,4 +1,4 @@
-//! The items of one kernel, each with a set of terminals.
+//! Which set of terminals has each item of one kernel?
 
 ghost use Rattle.std.specs.Prelude.{◌≡◌, ◌<◌, ◌↔◌, List, Bool, IsTrue, true, false, IfOk, Some, length, All, Contains, slice_get, slice_set};
 ghost use Rattle.wb_termset.specs.Sets.{IsMember, IsEmpty, IsUnion, Grew};
@@ -8,6 +8,7 @@ ghost use Rattle.wb_items.specs.Kernels.{AreInOrder};
 ghost use Rattle.wb_items.specs.Lookaheads.{items_in};
 
 use crate::compare::precedes;
+use crate::dot::is_item;
 use std::alloc::{AllocError, Global};
 use std::marker::Model;
 use wb_base::push;
@@ -48,7 +49,7 @@ impl Row {
         ensures widths { IfOk result (λ row. All (λ looks. length looks.set ≡ count) row) }
         ensures empty { IfOk result (λ row. All (λ looks. IsEmpty looks.set) row) }
     {
-        let mut looks = Vec::new(alloc);
+        let mut looks = Vec::with_capacity(alloc, items.len())?;
         'items: for &item in items {
             let set = TermSet::new(alloc, count)?;
             push(&mut looks, ItemLookahead { item, set })?;
@@ -68,6 +69,17 @@ impl Row {
         requires { Contains (items_in self.now) item }
         ensures { slice_get (items_in self.now) result ≡ Some item }
     {
+        position(&self.looks, item)
+    }
+
+    // The same, where the item may be at this place.
+    pub(crate) fn place_near(&self, item: Item, near: usize) -> usize
+        requires { Contains (items_in self.now) item }
+        ensures { slice_get (items_in self.now) result ≡ Some item }
+    {
+        if near < self.looks.len() && is_item(item_in(&self.looks, near), item) {
+            return near;
+        }
         position(&self.looks, item)
     }
 

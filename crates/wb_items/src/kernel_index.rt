@@ -1,4 +1,6 @@
-//! Kernels as they are found, each with the step that leads to it.
+//! Which kernels were found, and by which steps? Each has a prefix that leads to it, and an order in which it is looked for.
+//!
+//! The search is in `search.rt`, and the kernel to which a symbol led last in `cache.rt`.
 
 ghost use Rattle.std.specs.List.{insert};
 ghost use Rattle.std.specs.Prelude.{◌≡◌, ◌<◌, ◌≤◌, ◌++◌, ◌∷◌, [], ℕ, List, IfOk, IfSome, IfNone, OnErr, OnOk, Some, length, slice_get, slice_index_or};

@@ -1,4 +1,4 @@
-//! The kernel that one symbol leads to, from a list that has its items one after another.
+//! To which kernel does a symbol lead? The items that move over it stand together in the list of `advance.rt`.
 
 ghost use Rattle.std.specs.Prelude.{◌≡◌, ◌<◌, ◌≤◌, ◌+◌, ◌-◌, ◌↔◌, IfOk, OnOk, Some, Contains, length, slice_get, take, drop};
 ghost use Rattle.wb_grammars.specs.declared.item.Item.{Item};

@@ -1,3 +1,5 @@
+//! What do callers ask of kernels? Their items, moves, numbers and prefixes; `table.rt` finds them.
+
 ghost use Rattle.std.specs.Prelude.{◌≡◌, ◌<◌, ◌↔◌, ℕ, List, IfOk, IfSome, IfNone, IsNone, Contains, length};
 ghost use Rattle.wb_base.specs.declared.symbol.Symbol.{Symbol};
 ghost use Rattle.wb_grammars.specs.Items.{IsViablePrefix};

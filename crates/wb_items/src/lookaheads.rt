@@ -1,4 +1,6 @@
-//! Sets of terminals for the items of each kernel.
+//! Which terminals belong to which item of which kernel? Sets that the crates above fill.
+//!
+//! One kernel's items and sets are in `item_lookahead.rt`.
 
 ghost use Rattle.std.specs.Prelude.{◌≡◌, ◌<◌, ◌↔◌, List, Bool, IsTrue, true, false, IfOk, Some, length, Contains, slice_get, slice_set};
 ghost use Rattle.wb_termset.specs.Sets.{IsMember, IsUnion, Grew};
@@ -68,6 +70,15 @@ impl Lookaheads {
         ensures { slice_get (items_in (row_of self.now state)) result ≡ Some item }
     {
         self.rows[state].place(item)
+    }
+
+    /// The place of an item, found at once where it is the place `near`. Takes no memory.
+    pub fn place_near(&self, state: usize, item: Item, near: usize) -> usize
+        requires state { state < length self.now }
+        requires item { Contains (items_in (row_of self.now state)) item }
+        ensures { slice_get (items_in (row_of self.now state)) result ≡ Some item }
+    {
+        self.rows[state].place_near(item, near)
     }
 
     /// The set at an item. Takes no memory.

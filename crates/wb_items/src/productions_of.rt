@@ -1,4 +1,4 @@
-//! The productions of each nonterminal.
+//! Which productions has each nonterminal?
 
 ghost use Rattle.std.specs.Prelude.{◌≡◌, ◌<◌, ◌+◌, ◌++◌, ◌∷◌, [], IfOk, OnOk, length, replicate};
 ghost use Rattle.wb_items.specs.Inner.Passes.{RowsUpTo};

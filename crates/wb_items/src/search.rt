@@ -1,4 +1,4 @@
-//! Looking for a kernel with the same items, by binary search in the order of kernels as sets.
+//! Is there a kernel with these items? Binary search in the order of kernels as sets, which `compare.rt` defines.
 
 ghost use Rattle.std.specs.Prelude.{◌≡◌, ◌<◌, List, IfOk, IfErr, IsTrue, Some, length, slice_get};
 ghost use Rattle.wb_grammars.specs.declared.item.Item.{Item};
@@ -11,7 +11,7 @@ use std::cmp::Ordering;
 use wb_base::Sequence;
 use wb_grammars::Item;
 
-// The number of the kernel with these items, or else the place in the order where such a kernel would stand.
+// The number of the kernel with these items, or else the place in the order where such a kernel would be.
 pub(crate) fn locate(
     kernels: &[Sequence<Item>],
     order: &[usize],

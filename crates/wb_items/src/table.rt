@@ -1,4 +1,6 @@
-//! All kernels of a grammar, found by following each symbol from each.
+//! Which kernels has a grammar? The LR(0) kernels are found by following each symbol from each, until none is new.
+//!
+//! Those found are kept in `kernel_index.rt`; one closure is made in `closure.rt`, and what moves over a symbol found in `advance.rt`.
 
 ghost use Rattle.std.specs.Prelude.{◌≡◌, ◌<◌, ◌≤◌, ◌+◌, ◌++◌, ◌∷◌, [], List, IfOk, OnOk, Some, length, slice_get, vec_len};
 ghost use Rattle.wb_base.specs.declared.symbol.Symbol.{Symbol};

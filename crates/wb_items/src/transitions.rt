@@ -1,4 +1,4 @@
-//! The moves from a kernel.
+//! To which kernel does a symbol lead from one? The row of its moves is in the order of symbols, and searched by binary search.
 
 ghost use Rattle.std.specs.Prelude.{◌≡◌, ◌<◌, ℕ, IfSome, IfNone, Contains, length, Some, slice_get};
 ghost use Rattle.std.specs.Ordering.{MatchOrdering};
@@ -44,7 +44,7 @@ fn move_at(row: &[Move], place: usize) -> Move
     row[place]
 }
 
-// Which of the symbols stands first.
+// Which of the symbols comes first.
 fn compare_symbols(one: Symbol, other: Symbol) -> Ordering
     ensures { MatchOrdering result (SymbolPrecedes one other) (one ≡ other) (SymbolPrecedes other one) }
 {

@@ -27,7 +27,7 @@ of_stands kernels {one = one} {item} same stands = subst (λ z. StandsFor z one 
 pub union_propagated : {kernels : KernelsView} {old new : List (List ItemLookahead)} {set : List Bool} {b : Bool} (place : Place) →
     place.state < length old → ArePropagated kernels old →
     ((t : ℕ) → IsMember set t → FlowsTo kernels place.state place.item t) → Unites old place.state place.item set b new →
-        ArePropagated kernels new
+    ArePropagated kernels new
 union_propagated {kernels} {old} {new} {set} place lt h flows u = record {
   shape = shape_kept u lt h.shape;
   sound = union_sound kernels place u lt h.sound flows;
@@ -64,14 +64,14 @@ filled_alone {kernels} {lookaheads} s one h alone item t stands f =
 pub filled_all : (kernels : KernelsView) (lookaheads : List (List ItemLookahead)) (s : ℕ) (one : Item) (b : ℕ) →
     IsFirstOf kernels.grammar b one.production → one ≡ initial_item one.production →
     ((q t : ℕ) (right : List Symbol) → IsProduction kernels.grammar q b right → FlowsTo kernels s (initial_item q) t →
-        Lists lookaheads s (initial_item q) t) →
+    Lists lookaheads s (initial_item q) t) →
     IsFilledFrom kernels lookaheads s one
 filled_all kernels lookaheads s one b first is filled item t (itself e sole) f = absurd
     (sole one.production b first.right first.production (sym e ∙ is))
 filled_all kernels lookaheads s one b first is filled item t (initial c p q right other rule one_is item_is) f =
     let same : p ≡ one.production = ap (λ (i : Item). i.production) (sym one_is) in
     let left : c ≡ b = (production_once kernels.grammar one.production c b other.right first.right
-        (subst (λ n. IsProduction kernels.grammar n c other.right) same other.production) first.production).0 in
+    (subst (λ n. IsProduction kernels.grammar n c other.right) same other.production) first.production).0 in
     subst (λ z. Lists lookaheads s z t) (sym item_is)
     (filled q t right (subst (λ n. IsProduction kernels.grammar q n right) left rule) (subst (λ z. FlowsTo kernels s z t) item_is f))
 
@@ -86,5 +86,5 @@ initial_exact {kernels} {lookaheads} s one b q t right h first is rule = (
   λ f.
       let (other, stands, lists) = h.complete s (initial_item q) t f in
       subst (λ z. Lists lookaheads s z t)
-          (stands_once kernels.grammar other one (initial_item q) stands (initial b one.production q right first rule is refl)) lists,
+      (stands_once kernels.grammar other one (initial_item q) stands (initial b one.production q right first rule is refl)) lists,
 )

@@ -7,9 +7,8 @@ use Rattle.std.proofs.Math.ListN.{get_or-append}
 use Rattle.std.proofs.Math.Seq.{get_or-append_seam}
 use Rattle.std.proofs.lemmas.List.Elements.{Contains-append_left, Contains-push}
 use Rattle.wb_termset.proofs.CallerLemmas.{IsEmpty-replicate}
-use Rattle.wb_grammars.specs.declared.item.Item.{Item}
 use Rattle.wb_lookahead.specs.declared.worklist.Place.{Place}
-use Rattle.wb_lookahead.specs.Inner.Waiting.{IsMarked, AreMarked, Adds, MarksChange}
+use Rattle.wb_lookahead.specs.Inner.Waiting.{IsMarked, AreMarked, MarksChange}
 
 -- a row of marks after one was put
 row_changes : (row : List Bool) (at j : ℕ) (mark : Bool) → get_or (set row at mark) j false ≡ true → ((j ≡ at) × (mark ≡ true)) ⊎
@@ -72,8 +71,11 @@ pub marked_before : (waiting : List Place) (marks new : List (List Bool)) (place
 marked_before waiting marks new place h change s at marked = elim (change s at marked) [
   | inl (old, _) ↦ (let (item, (k, lt, is)) = h s at old in (item, (suc k, omega arith, is)))
   | inr (s_is, at_is, _) ↦
-      let is : place ≡ record { state = s; item = place.item; at = at } = λ i. record { state = sym s_is i; item = place.item;
-          at = sym at_is i } in
+      let is : place ≡ record { state = s; item = place.item; at = at } = λ i. record {
+        state = sym s_is i;
+        item = place.item;
+        at = sym at_is i;
+      } in
       (place.item, subst (Contains (place ∷ waiting)) is (0, omega arith, refl))
 ]
 
@@ -104,7 +106,7 @@ none_marked marks count h s at marked = elim (cases_lt s (length marks)) [
   | inr ge ↦ elim (cases_eq s (length marks)) [
     | inl same ↦ IsEmpty-replicate count at (ap (λ z. get_or z at false)
         (sym (ap (λ z. get_or (marks ++ replicate count false ∷ []) z []) same ∙ get_or-append_seam marks (replicate count false) [] [])) ∙
-            marked)
+        marked)
     | inr ne ↦ absurd (true≢false (sym marked ∙ ap (λ z. get_or z at false)
         (get_or_past (marks ++ replicate count false ∷ []) s [] (omega (arith, length-append marks (replicate count false ∷ []))))))
   ]

@@ -36,7 +36,7 @@ parts_more {kernels} old new n codes gotos set actions_are gotos_are valid_is ro
           (each_more (λ s z. IsRowOf kernels s (map action_at z)) old.actions.rows codes [] n p.matrices.actions_len p.actions row);
       gotos = subst (λ (z : List (List ℕ)). (s : ℕ) → s < n + 1 → AreGotos kernels s (get_or z s []) kernels.grammar.nonterminals)
           (sym goto_rows) (each_more
-              (λ s z. AreGotos kernels s z kernels.grammar.nonterminals) old.gotos.rows gotos [] n p.matrices.gotos_len p.gotos goto_row);
+          (λ s z. AreGotos kernels s z kernels.grammar.nonterminals) old.gotos.rows gotos [] n p.matrices.gotos_len p.gotos goto_row);
       valid = subst (λ (z : List (List Bool)). (s : ℕ) → s < n + 1 → IsValidSet kernels s (get_or z s [])) (sym valid_is)
           (each_more (IsValidSet kernels) old.valid.items set [] n p.valid_len p.valid valid);
     }

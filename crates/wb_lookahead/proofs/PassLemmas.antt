@@ -19,12 +19,13 @@ use Rattle.wb_grammars.specs.Items.{after_dot, advance, initial_item, HasItem, s
 use Rattle.wb_grammars.specs.Items as valid
 use Rattle.wb_grammars.specs.States.{close}
 use Rattle.wb_grammars.proofs.DotLemmas.{after_initial, after_advance}
-use Rattle.wb_grammars.proofs.FlowLemmas.{flows_complete, same_itself, zero_state}
+use Rattle.wb_grammars.proofs.FlowLemmas.{zero_state}
 use Rattle.wb_items.specs.declared.item_lookahead.ItemLookahead.{ItemLookahead}
 use Rattle.wb_items.specs.Kernels.{KernelsView, AreKernels, LeadsTo, Precedes, closure_of, count_of, prefix_of}
 use Rattle.wb_items.specs.Lookaheads.{AreEmpty, AreLookaheadsOf, IsSetOf, items_in, row_of}
 use Rattle.wb_items.proofs.SymbolLemmas.{symbol_last, symbol_end, symbol_none}
-use Rattle.wb_lookahead.specs.Inner.Spreading.{FlowsTo, IsFirstOf, IsItemPassed, IsPassedOn, IsSole, Keeps, Lists, StandsFor, itself, initial}
+use Rattle.wb_lookahead.specs.Inner.Rests.{Repeats}
+use Rattle.wb_lookahead.specs.Inner.Spreading.{FlowsTo, IsFirstOf, IsItemPassed, IsPassedOn, IsSole, Keeps, Lists, itself, initial}
 use Rattle.wb_lookahead.proofs.StepLemmas.{initial_has, row_items}
 use Rattle.wb_lookahead.proofs.StandInLemmas.{item_flows}
 
@@ -115,7 +116,7 @@ empty_lists lookaheads empty s item t (a, there, has) = elim (cases_lt s (length
 pub open_flows : {kernels : KernelsView} {g : GrammarView} → AreKernels kernels → kernels.grammar ≡ g → (s : ℕ) → s < count_of kernels →
     (item : Item) →
     HasItem kernels.grammar (prefix_of kernels s) item → (b p : ℕ) (rest : List Symbol) → after_dot g item ≡ Nonterminal b ∷ rest →
-        IsFirstOf g b p →
+    IsFirstOf g b p →
     (u : ℕ) → IsFirst g rest u → FlowsTo kernels s (initial_item p) u
 open_flows {kernels} h same s lt item has b p rest is first u begins =
     let (t, f) = item_flows h s lt item has in
@@ -124,16 +125,30 @@ open_flows {kernels} h same s lt item has b p rest is first u begins =
     close item t b rest p u first.right f here rule
     ((First-append kernels.grammar rest (Terminal t ∷ []) u).1 (inl (subst (λ z. IsFirst z rest u) (sym same) begins)))
 
+-- so does what the nonterminal repeats
+pub opening_flows : {kernels : KernelsView} {g : GrammarView} → AreKernels kernels → kernels.grammar ≡ g → (s : ℕ) → s < count_of kernels →
+    (item : Item) → HasItem kernels.grammar (prefix_of kernels s) item → (b p : ℕ) (rest : List Symbol) →
+    after_dot g item ≡ Nonterminal b ∷ rest → IsFirstOf g b p → (u : ℕ) →
+    IsFirst g rest u ⊎ ((a : ℕ) × (Nonterminal b ≡ Nonterminal a) × Repeats g a u) → FlowsTo kernels s (initial_item p) u
+opening_flows h same s lt item has b p rest is first u (inl begins) = open_flows h same s lt item has b p rest is first u begins
+opening_flows {kernels} {g} h same s lt item has b p rest is first u (inr (a, name, r)) =
+    let one : b ≡ a = (let e : Nonterminal b ≡ Nonterminal a = name in cc) in
+    let rule : IsProduction g r.q b (Nonterminal b ∷ r.rest) = subst (λ z. IsProduction g r.q z (Nonterminal z ∷ r.rest))
+        (sym one) r.production in
+    let there = initial_has h s b item rest r.q (Nonterminal b ∷ r.rest) has (ap (λ z. after_dot z item) same ∙ is)
+    (subst (λ z. IsProduction z r.q b (Nonterminal b ∷ r.rest)) (sym same) rule) in
+    open_flows h same s lt (initial_item r.q) there b p r.rest (after_initial g r.q b (Nonterminal b ∷ r.rest) rule) first u r.first
+
 -- and where these symbols derive the empty text, what flows to the item does
 pub open_flows_on : (kernels : KernelsView) {g : GrammarView} → kernels.grammar ≡ g → (s : ℕ) (item : Item) (b p : ℕ) (rest : List Symbol) →
     after_dot g item ≡ Nonterminal b ∷ rest → IsFirstOf g b p → Derives g rest [] → (t : ℕ) → FlowsTo kernels s item t →
-        FlowsTo kernels s (initial_item p) t
+    FlowsTo kernels s (initial_item p) t
 open_flows_on kernels same s item b p rest is first empty t f =
     let here = ap (λ z. after_dot z item) same ∙ is in
     let rule = subst (λ z. IsProduction z p b first.right) (sym same) first.production in
     close item t b rest p t first.right f here rule
     ((First-append kernels.grammar rest (Terminal t ∷ []) t).1
-        (inr (subst (λ z. Derives z rest []) (sym same) empty, ([], Derives-same kernels.grammar (Terminal t ∷ [])))))
+    (inr (subst (λ z. Derives z rest []) (sym same) empty, ([], Derives-same kernels.grammar (Terminal t ∷ [])))))
 
 -- what begins these symbols with a terminal after them begins these, or is the terminal
 pub first_then : {g : GrammarView} (rest : List Symbol) (t u : ℕ) → IsFirst g (rest ++ Terminal t ∷ []) u →
@@ -149,11 +164,11 @@ first_then {g} rest t u f = elim ((First-append g rest (Terminal t ∷ []) u).0 
 -- the initial item is there
 pub open_has : {kernels : KernelsView} {g : GrammarView} → AreKernels kernels → kernels.grammar ≡ g → (s : ℕ) (item : Item) →
     HasItem kernels.grammar (prefix_of kernels s) item → (b p : ℕ) (rest : List Symbol) → after_dot g item ≡ Nonterminal b ∷ rest →
-        IsFirstOf g b p →
+    IsFirstOf g b p →
     HasItem kernels.grammar (prefix_of kernels s) (initial_item p)
 open_has {kernels} h same s item has b p rest is first =
     initial_has h s b item rest p first.right has (ap (λ z. after_dot z item) same ∙ is)
-        (subst (λ z. IsProduction z p b first.right) (sym same) first.production)
+    (subst (λ z. IsProduction z p b first.right) (sym same) first.production)
 
 -- what moved on and what was opened is all that is passed on
 pub item_passed : (kernels : KernelsView) {g : GrammarView} (old : List (List ItemLookahead)) {new : List (List ItemLookahead)} →
@@ -161,7 +176,7 @@ pub item_passed : (kernels : KernelsView) {g : GrammarView} (old : List (List It
     (x : Symbol) (rest : List Symbol) → after_dot g item ≡ x ∷ rest → (t : ℕ) → Keeps old new →
     ((next : ℕ) → LeadsTo kernels s x next → Lists old next (advance item) t) →
     ((u b p : ℕ) (more : List Symbol) → after_dot g item ≡ Nonterminal b ∷ more → IsFirstOf g b p → IsFirst g (more ++ Terminal t ∷ []) u →
-        Lists new s (initial_item p) u) →
+    Lists new s (initial_item p) u) →
     IsItemPassed kernels new s item t
 item_passed kernels {g} old same s item x rest is t keeps moves opens = record {
   moves = λ y more next here leads.
@@ -170,7 +185,7 @@ item_passed kernels {g} old same s item x rest is t keeps moves opens = record {
       keeps next (advance item) t (moves next (subst (λ z. LeadsTo kernels s z next) first leads));
   opens = λ b more p u here first begins.
       opens u b p more (sym (ap (λ z. after_dot z item) same) ∙ here) (subst (λ z. IsFirstOf z b p) same first)
-          (subst (λ z. IsFirst z (more ++ Terminal t ∷ []) u) same begins);
+      (subst (λ z. IsFirst z (more ++ Terminal t ∷ []) u) same begins);
 }
 
 -- nothing flows on from a complete item
@@ -203,29 +218,33 @@ sole_passed sole passed item (initial b p q right first rule is item_is) = absur
 pub initial_passed : {kernels : KernelsView} {new : List (List ItemLookahead)} {s : ℕ} {one : Item} {t : ℕ} (b p : ℕ) (w : List Symbol) →
     IsProduction kernels.grammar p b w → one ≡ initial_item p →
     ((q : ℕ) (right : List Symbol) → IsProduction kernels.grammar q b right → IsItemPassed kernels new s (initial_item q) t) →
-        IsPassedOn kernels new s one t
+    IsPassedOn kernels new s one t
 initial_passed b p w rule is passed item (itself e sole) = absurd (sole p b w rule (sym e ∙ is))
 initial_passed {kernels} {new} {s} {one} {t} b p w rule is passed item (initial c r q right first other one_is item_is) =
     let same : r ≡ p = ap (λ (i : Item). i.production) (sym one_is ∙ is) in
     let left : c ≡ b = (production_once kernels.grammar p c b first.right w
-        (subst (λ n. IsProduction kernels.grammar n c first.right) same first.production) rule).0 in
+    (subst (λ n. IsProduction kernels.grammar n c first.right) same first.production) rule).0 in
     subst (λ z. IsItemPassed kernels new s z t) (sym item_is)
-        (passed q right (subst (λ n. IsProduction kernels.grammar q n right) left other))
+    (passed q right (subst (λ n. IsProduction kernels.grammar q n right) left other))
 
 -- the set at a place is that of its item
 pub set_at : {kernels : KernelsView} → AreKernels kernels → (lookaheads : List (List ItemLookahead)) → AreLookaheadsOf kernels lookaheads →
     (s : ℕ) → s < count_of kernels →
     (item : Item) (at : ℕ) → slice_get (closure_of kernels s) at ≡ Some item → (looks : ItemLookahead) →
-        slice_get (row_of lookaheads s) at ≡ Some looks →
+    slice_get (row_of lookaheads s) at ≡ Some looks →
     IsSetOf lookaheads s item looks.set
 set_at {kernels} h lookaheads shape s lt item at here looks there =
     let items = row_items h lookaheads shape s lt in
     let listed : slice_get (closure_of kernels s) at ≡ Some looks.item =
     ap (λ z. slice_get z at) (sym items) ∙ slice_get-map (λ (z : ItemLookahead). z.item) (row_of lookaheads s) at ∙
-        ap (option_map (λ (z : ItemLookahead). z.item)) there in
+    ap (option_map (λ (z : ItemLookahead). z.item)) there in
     let is : looks.item ≡ item = same_Some looks.item item (sym listed ∙ here) in
-    subst (λ z. IsSetOf lookaheads s z looks.set) is (at, slice_get_within (row_of lookaheads s) at looks there, get_or_from_slice_get
-        (row_of lookaheads s) at looks looks there)
+    subst (λ z. IsSetOf lookaheads s z looks.set) is (
+      at,
+      slice_get_within (row_of lookaheads s) at looks there,
+      get_or_from_slice_get
+          (row_of lookaheads s) at looks looks there,
+    )
 
 -- a place of a closure is one of the row
 pub place_in_row : {kernels : KernelsView} → AreKernels kernels → (lookaheads : List (List ItemLookahead)) →

@@ -1,20 +1,18 @@
 -- The set at a place of a kernel.
-use Rattle.std.proofs.Common.{◌≡◌, ℕ, ◌+◌, ◌<◌, ◌≤◌, Bool, List, [], ◌∷◌, length, Some, refl, sym, ◌∙◌, ap, subst, arith}
-use Rattle.std.specs.Prelude.{All, Contains, slice_get}
+use Rattle.std.proofs.Common.{◌≡◌, ℕ, ◌+◌, ◌<◌, Bool, List, length, Some, sym, ◌∙◌, subst}
+use Rattle.std.specs.Prelude.{slice_get}
 use Rattle.std.proofs.lemmas.List.Elements.{All-contains}
-use Rattle.wb_base.specs.declared.symbol.Symbol.{Symbol}
+use Rattle.wb_lemmas.proofs.Members.{contains_at}
 use Rattle.wb_base.specs.Grammar.{GrammarView}
 use Rattle.wb_termset.specs.Sets.{IsMember}
 use Rattle.wb_grammars.specs.declared.item.Item.{Item}
-use Rattle.wb_grammars.specs.Productions.{IsProduction}
-use Rattle.wb_grammars.specs.Items.{initial_item, HasItem}
+use Rattle.wb_grammars.specs.Items.{HasItem}
 use Rattle.wb_items.specs.declared.item_lookahead.ItemLookahead.{ItemLookahead}
 use Rattle.wb_items.specs.Kernels.{KernelsView, AreKernels, closure_of, count_of, prefix_of}
 use Rattle.wb_items.specs.Lookaheads.{AreLookaheadsOf, IsSetOf, row_of}
 use Rattle.wb_items.specs.Table.{AreProductions, AreProductionsOf}
-use Rattle.wb_items.proofs.ListLemmas.{Contains-at}
 use Rattle.wb_lookahead.specs.declared.worklist.Place.{Place}
-use Rattle.wb_lookahead.specs.Inner.Spreading.{FlowsTo, IsPlace, Lists}
+use Rattle.wb_lookahead.specs.Inner.Spreading.{IsPlace, Lists}
 use Rattle.wb_lookahead.proofs.PassLemmas.{set_at, set_once}
 use Rattle.wb_lookahead.proofs.StepLemmas.{row_wide}
 
@@ -22,17 +20,17 @@ use Rattle.wb_lookahead.proofs.StepLemmas.{row_wide}
 pub place_has : {kernels : KernelsView} → AreKernels kernels → (place : Place) → IsPlace kernels place →
     HasItem kernels.grammar (prefix_of kernels place.state) place.item
 place_has {kernels} h place p = (h.closures place.state p.state place.item).0
-    (Contains-at (closure_of kernels place.state) place.at place.item p.here)
+    (contains_at (closure_of kernels place.state) place.item place.at p.here)
 
 -- what was read at a place is the set of its item
 pub held : {kernels : KernelsView} → AreKernels kernels → (lookaheads : List (List ItemLookahead)) → AreLookaheadsOf kernels lookaheads →
     (place : Place) → IsPlace kernels place →
     (r set : List Bool) → (looks : ItemLookahead) × (slice_get (row_of lookaheads place.state) place.at ≡ Some looks) × (r ≡ looks.set) →
-        set ≡ r →
+    set ≡ r →
     IsSetOf lookaheads place.state place.item set
 held h lookaheads shape place p r set (looks, there, is) set_is =
     subst (IsSetOf lookaheads place.state place.item) (sym (set_is ∙ is))
-        (set_at h lookaheads shape place.state p.state place.item place.at p.here looks there)
+    (set_at h lookaheads shape place.state p.state place.item place.at p.here looks there)
 
 -- a set of an item has room for the terminals and the end
 pub held_len : {kernels : KernelsView} → AreKernels kernels → (lookaheads : List (List ItemLookahead)) →
@@ -40,7 +38,7 @@ pub held_len : {kernels : KernelsView} → AreKernels kernels → (lookaheads : 
     (set : List Bool) → IsSetOf lookaheads s item set → length set ≡ kernels.grammar.terminals + 1
 held_len {kernels} h lookaheads shape s lt item set is =
     All-contains (λ (looks : ItemLookahead). length looks.set ≡ kernels.grammar.terminals + 1) (row_of lookaheads s)
-        (record { item = item; set = set }) (row_wide h lookaheads shape s lt) is
+    (record { item = item; set = set }) (row_wide h lookaheads shape s lt) is
 
 -- what is listed at an item is in its set
 pub listed_held : {kernels : KernelsView} → AreKernels kernels → (lookaheads : List (List ItemLookahead)) →

@@ -1,7 +1,7 @@
 -- What is passed on from an item by the rest after its nonterminal.
-use Rattle.std.proofs.Common.{◌≡◌, ℕ, ◌+◌, ◌-◌, ◌<◌, ◌≤◌, ◌⊎◌, zero, suc, Bool, true, false, List, [], ◌∷◌, ◌++◌, length, get_or, drop, take, Some, refl, sym, ◌∙◌, ap, subst, inl, inr, arith}
-use Rattle.std.specs.Prelude.{slice_get, Contains, IsTrue, ◌↔◌, IfSome}
-use Rattle.std.proofs.lemmas.Option.{slice_get-get_or, slice_get_within, same_Some}
+use Rattle.std.proofs.Common.{◌≡◌, ℕ, ◌+◌, ◌<◌, ◌≤◌, zero, suc, Bool, List, [], ◌∷◌, ◌++◌, length, get_or, drop, Some, sym, ◌∙◌, ap, subst, inl, inr, arith}
+use Rattle.std.specs.Prelude.{slice_get, IfSome}
+use Rattle.std.proofs.lemmas.Option.{slice_get-get_or}
 use Rattle.wb_base.specs.declared.symbol.Symbol.{Symbol}
 use Rattle.wb_base.specs.declared.symbol.Symbol.TheVariants.{Terminal, Nonterminal}
 use Rattle.wb_base.specs.Grammar.{GrammarView, Production}
@@ -9,17 +9,16 @@ use Rattle.wb_termset.specs.Sets.{IsMember}
 use Rattle.wb_grammars.specs.declared.item.Item.{Item}
 use Rattle.wb_grammars.specs.Productions.{IsProduction}
 use Rattle.wb_grammars.specs.Derives.{Derives, done, IsFirst}
-use Rattle.wb_grammars.specs.Items.{after_dot, advance, initial_item, HasItem}
+use Rattle.wb_grammars.specs.Items.{after_dot, initial_item}
 use Rattle.wb_grammars.proofs.DotLemmas.{after_advance, after_initial}
 use Rattle.wb_items.specs.declared.item_lookahead.ItemLookahead.{ItemLookahead}
-use Rattle.wb_items.specs.Kernels.{KernelsView, AreKernels, count_of, prefix_of}
-use Rattle.wb_items.specs.Table.{AreProductions, AreProductionsOf}
+use Rattle.wb_items.specs.Table.{AreProductionsOf}
 use Rattle.wb_lookahead.specs.declared.first_of.Rest.{Rest}
-use Rattle.wb_lookahead.specs.Inner.Rests.{AreRests, AreRestsOf, IsRest}
-use Rattle.wb_lookahead.specs.Inner.Spreading.{IsFirstOf, Keeps, Lists}
+use Rattle.wb_lookahead.specs.Inner.Rests.{AreRests, IsOpening}
+use Rattle.wb_lookahead.specs.Inner.Spreading.{IsFirstOf, Lists}
 use Rattle.wb_lookahead.proofs.PassLemmas.{first_then, rest_past}
 use Rattle.wb_lookahead.proofs.RestLemmas.{nothing_first}
-use Rattle.wb_lookahead.proofs.StandInLemmas.{first_listed, first_once}
+use Rattle.wb_lookahead.proofs.StandInLemmas.{first_once}
 
 -- the production of a number below the count
 pub production_there : (g : GrammarView) (p : ℕ) → p < length g.productions → (a : ℕ) × (right : List Symbol) × IsProduction g p a right
@@ -34,10 +33,16 @@ not_past [] (suc d) x rest e = cc
 not_past (y ∷ right) zero x rest e = omega arith
 not_past (y ∷ right) (suc d) x rest e = (let lt = not_past right d x rest e in omega arith)
 
+first_left : (right : List Symbol) (d : ℕ) (x : Symbol) (rest : List Symbol) → drop d right ≡ x ∷ rest → slice_get right d ≡ Some x
+first_left [] zero x rest e = cc
+first_left [] (suc d) x rest e = cc
+first_left (y ∷ right) zero x rest e = cc
+first_left (y ∷ right) (suc d) x rest e = first_left right d x rest e
+
 -- the rest after the symbol after a dot, in the table of rests
 pub rest_there : (g : GrammarView) (rests : List (List Rest)) → AreRests g rests → (item : Item) → item.production < length g.productions →
     (x : Symbol) (rest : List Symbol) → after_dot g item ≡ x ∷ rest → (row : List Rest) → slice_get rests item.production ≡ Some row →
-    (item.dot < length row) × ((r : Rest) → slice_get row item.dot ≡ Some r → IsRest g rest r)
+    (item.dot < length row) × ((r : Rest) → slice_get row item.dot ≡ Some r → IsOpening g x rest r)
 rest_there g rests are item lt x rest is row at =
     let (a, right, rule) = production_there g item.production lt in
     let row_is = are.each item.production a right row at rule in
@@ -45,7 +50,8 @@ rest_there g rests are item lt x rest is row at =
     let here : drop item.dot right ≡ x ∷ rest = ap (drop item.dot) (sym right_is) ∙ is in
     let within = not_past right item.dot x rest here in
     let rest_is : drop (item.dot + 1) right ≡ rest = ap (drop (item.dot + 1)) (sym right_is) ∙ after_advance g item x rest is in
-    (omega (arith, row_is.len, within), λ r r_at. subst (λ z. IsRest g z r) rest_is (row_is.each item.dot r r_at))
+    (omega (arith, row_is.len, within), λ r r_at. subst (λ z. IsOpening g x z r) rest_is
+        (row_is.each item.dot r x r_at (first_left right item.dot x rest here)))
 
 -- nothing is after the start in the added production
 pub nothing_after : (g : GrammarView) (item : Item) → length g.productions ≤ item.production → (x : Symbol) (rest : List Symbol) →
@@ -63,7 +69,7 @@ pub open_lists : (g : GrammarView) (set : List Bool) (lookaheads : List (List It
     ((u : ℕ) → IsFirst g rest0 u → Lists lookaheads s (initial_item p0) u) →
     (Derives g rest0 [] → (t : ℕ) → IsMember set t → Lists lookaheads s (initial_item p0) t) →
     (t u b p : ℕ) (rest : List Symbol) → after_dot g item ≡ Nonterminal b ∷ rest → IsFirstOf g b p → IsMember set t →
-        IsFirst g (rest ++ Terminal t ∷ []) u →
+    IsFirst g (rest ++ Terminal t ∷ []) u →
     Lists lookaheads s (initial_item p) u
 open_lists g set lookaheads s item n p0 rest0 here first0 of_rest of_set t u b p rest at first has begins =
     let heads : Nonterminal b ∷ rest ≡ Nonterminal n ∷ rest0 = sym at ∙ here in

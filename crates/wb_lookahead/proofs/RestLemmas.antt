@@ -1,5 +1,5 @@
 -- What symbols begin with, as it is found from left to right.
-use Rattle.std.proofs.Common.{◌≡◌, ℕ, ◌+◌, ◌<◌, ◌⊎◌, Bool, true, false, List, [], ◌∷◌, ◌++◌, length, refl, sym, ◌∙◌, ap, subst, inl, inr, length-set}
+use Rattle.std.proofs.Common.{◌≡◌, ℕ, ◌+◌, ◌<◌, ◌⊎◌, Bool, true, false, List, [], ◌∷◌, length, refl, sym, ◌∙◌, ap, subst, inl, inr, length-set}
 use Rattle.std.specs.Prelude.{◌↔◌, slice_set}
 use Rattle.std.proofs.lemmas.Bool.{true≢false}
 use Rattle.wb_base.specs.declared.symbol.Symbol.{Symbol}
@@ -7,9 +7,8 @@ use Rattle.wb_base.specs.declared.symbol.Symbol.TheVariants.{Terminal, Nontermin
 use Rattle.wb_base.specs.Grammar.{GrammarView}
 use Rattle.wb_termset.specs.Sets.{IsMember, IsUnion, IsEmpty}
 use Rattle.wb_termset.proofs.CallerLemmas.{IsMember-insert, IsMember-insert_same, IsSubset-insert}
-use Rattle.wb_grammars.specs.Derives.{Derives, done, keep, expand, IsFirst}
+use Rattle.wb_grammars.specs.Derives.{Derives, done, keep, IsFirst}
 use Rattle.wb_grammars.proofs.DerivesLemmas.{Derives-same, Derives-append, Derives-split, First-append, nil_parts}
-use Rattle.wb_lookahead.specs.declared.first_of.Rest.{Rest}
 use Rattle.wb_lookahead.specs.Inner.Rests.{IsRest, BeginsSoFar}
 
 -- a terminal begins what it derives alone
@@ -142,6 +141,9 @@ begins_insert g w left all set new v all_is lt h is =
     (λ u. (
       λ has. IsMember-insert set v u (subst (λ z. IsMember z u) is has),
       λ p. subst (λ z. IsMember z u) (sym is)
-          (elim p [ inl old ↦ IsSubset-insert set v u old | inr same ↦ subst (IsMember (slice_set set v true)) (sym same)
-          (IsMember-insert_same set v lt) ]),
+          (elim p [
+            | inl old ↦ IsSubset-insert set v u old
+            | inr same ↦ subst (IsMember (slice_set set v true)) (sym same)
+                (IsMember-insert_same set v lt)
+          ]),
     ))

@@ -1,11 +1,13 @@
 -- The actions of one kernel, item by item.
-use Rattle.std.proofs.Common.{◌≡◌, ◌≢◌, ◌↔◌, ℕ, ◌+◌, ◌<◌, ◌≤◌, ◌⊎◌, Bool, List, [], ◌∷◌, ◌++◌, Some, Option, length, get_or, take, drop, refl, sym, ◌∙◌, ap, subst, inl, inr, arith, length-append}
+use Rattle.std.proofs.Common.{◌≡◌, ◌≢◌, ◌↔◌, ℕ, ◌+◌, ◌<◌, ◌≤◌, ◌⊎◌, Bool, List, [], ◌∷◌, ◌++◌, Some, length, get_or, take, drop, refl, sym, ◌∙◌, ap, subst, inl, inr, arith}
 use Rattle.std.specs.Prelude.{slice_get}
 use Rattle.std.proofs.Math.ListN.{get_or-eq_default}
 use Rattle.std.proofs.Math.Seq.{take-append_seam, get_or-append_seam}
 use Rattle.std.proofs.lemmas.Bool.{cases_eq, cases_lt}
 use Rattle.std.proofs.lemmas.List.{get_or_append_left}
 use Rattle.std.proofs.lemmas.Option.{slice_get_within}
+use Rattle.wb_lemmas.proofs.Places.{at_once}
+use Rattle.wb_lemmas.proofs.Members.{place_of}
 use Rattle.wb_base.specs.declared.symbol.Symbol.{Symbol}
 use Rattle.wb_base.specs.declared.symbol.Symbol.TheVariants.{Terminal, Nonterminal}
 use Rattle.wb_termset.specs.Sets.{IsMember}
@@ -14,16 +16,14 @@ use Rattle.wb_grammars.specs.Productions.{top_of}
 use Rattle.wb_grammars.specs.Items.{after_dot, HasItem}
 use Rattle.wb_grammars.specs.Lookaheads.{IsLookahead}
 use Rattle.wb_items.specs.Kernels.{KernelsView, AreKernels, LeadsTo, closure_of, count_of, prefix_of}
-use Rattle.wb_items.proofs.ListLemmas.{at_Contains, at_once}
 use Rattle.wb_lookahead.specs.declared.action.Action.{Action}
 use Rattle.wb_lookahead.specs.declared.action.Action.TheVariants as act
 use Rattle.wb_lookahead.specs.declared.action.Action.TheVariants.{Shift, Reduce, Accept}
 use Rattle.wb_lookahead.specs.declared.action.TableRefusal.{TableRefusal}
 use Rattle.wb_lookahead.specs.declared.action.TableRefusal.TheVariants.{Conflict, NoMemory}
-use Rattle.wb_lookahead.specs.Codes.{goto_at}
 use Rattle.wb_lookahead.specs.Contents.{action_in}
-use Rattle.wb_lookahead.specs.Tables.{IsAction, IsConflict, IsGoto, IsTableRefusal, IsValidSet, Stands, ComesBefore}
-use Rattle.wb_lookahead.specs.Inner.Rows.{Asks, shift, reduce, accept, AddsItem, AreGotos, IsClash, IsReduction, IsRowOf, IsSoundRow, Puts, RowUpTo, ShowsBoth}
+use Rattle.wb_lookahead.specs.Tables.{IsAction, IsConflict, IsTableRefusal, IsValidSet, Stands, ComesBefore}
+use Rattle.wb_lookahead.specs.Inner.Rows.{Asks, shift, reduce, accept, AddsItem, IsClash, IsReduction, IsRowOf, IsSoundRow, Puts, RowUpTo, ShowsBoth}
 use Rattle.wb_lookahead.proofs.StepLemmas.{step_once}
 use Rattle.wb_lookahead.proofs.StandLemmas.{before_or, stands_asked, stands_valid, valid_stands}
 
@@ -173,7 +173,7 @@ module _ {kernels : KernelsView} {s : ℕ} {row : List Action} where
       other ≡ action_in row t
   row_only h lt is t other stands =
       let (item, has, asks) = stands_asked kernels s t other stands in
-      let (j, at) = at_Contains (closure_of kernels s) item ((h.closures s lt item).1 has) in
+      let (j, at) = place_of (closure_of kernels s) item ((h.closures s lt item).1 has) in
       sym (is.complete j t item other (slice_get_within (closure_of kernels s) j item at) at asks)
 
   -- the row has the action on each terminal
@@ -215,4 +215,3 @@ each_more {A} P xs x d n len each here s lt = at (cases_eq s n)
     at (inr other) =
         let first : get_or (xs ++ x ∷ []) s d ≡ get_or xs s d = get_or_append_left xs (x ∷ []) d s (omega arith) in
         subst (P s) (sym first) (each s (omega arith))
-

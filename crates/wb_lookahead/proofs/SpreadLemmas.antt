@@ -1,5 +1,5 @@
 -- How spreading goes on, one step after another.
-use Rattle.std.proofs.Common.{◌≡◌, ℕ, ◌+◌, ◌<◌, ◌≤◌, ◌⊎◌, zero, suc, Bool, true, false, List, [], ◌∷◌, ◌++◌, length, get_or, take, Some, refl, sym, ◌∙◌, ap, subst, inl, inr, arith, length-append}
+use Rattle.std.proofs.Common.{◌≡◌, ℕ, ◌+◌, ◌<◌, ◌≤◌, ◌⊎◌, suc, Bool, true, List, [], ◌∷◌, length, get_or, take, Some, refl, sym, ◌∙◌, ap, subst, inl, inr, arith, length-append}
 use Rattle.std.specs.Prelude.{All, Contains, slice_get}
 use Rattle.std.proofs.lemmas.List.{take_more, take_all}
 use Rattle.std.proofs.lemmas.List.Elements.{All-cons, All-push, All-contains, Contains-append_left, Contains-push, Contains-push_cases}
@@ -12,7 +12,7 @@ use Rattle.wb_items.specs.Kernels.{KernelsView, AreKernels, count_of}
 use Rattle.wb_items.specs.Lookaheads.{AreLookaheadsOf, items_in, row_of}
 use Rattle.wb_lookahead.specs.Inner.Unions.{Unites}
 use Rattle.wb_lookahead.specs.declared.worklist.Place.{Place}
-use Rattle.wb_lookahead.specs.Inner.Spreading.{AreSound, FlowsTo, IsPlace, Keeps, Lists, Spreads, Waits}
+use Rattle.wb_lookahead.specs.Inner.Spreading.{AreSound, FlowsTo, IsPlace, Lists, Spreads, Waits}
 use Rattle.wb_lookahead.specs.Inner.Waiting.{Adds, in_front, at_end, stays}
 use Rattle.wb_lookahead.proofs.UnionLemmas.{lists_kept, lists_new, shape_kept}
 use Rattle.wb_lookahead.proofs.RoomLemmas.{room_less}
@@ -101,12 +101,12 @@ adds_length {old} {new} place (stays item is there) = (let e : length new ≡ le
 pub union_sound : (kernels : KernelsView) (place : Place) {old new : List (List ItemLookahead)} {added : List Bool} {b : Bool} →
     Unites old place.state place.item added b new → place.state < length old →
     ((s : ℕ) (item : Item) (t : ℕ) → Lists old s item t → FlowsTo kernels s item t) →
-        ((t : ℕ) → IsMember added t → FlowsTo kernels place.state place.item t) →
+    ((t : ℕ) → IsMember added t → FlowsTo kernels place.state place.item t) →
     (s : ℕ) (item : Item) (t : ℕ) → Lists new s item t → FlowsTo kernels s item t
 union_sound kernels place u lt sound flows s item t lists = elim (lists_new u lt s item t lists) [
   | inl before ↦ sound s item t before
   | inr (s_is, item_is, has) ↦ subst (λ z. FlowsTo kernels z item t) (sym s_is)
-        (subst (λ z. FlowsTo kernels place.state z t) (sym item_is) (flows t has))
+      (subst (λ z. FlowsTo kernels place.state z t) (sym item_is) (flows t has))
 ]
 
 pub state_within : {kernels : KernelsView} → AreKernels kernels → (place : Place) → place.state < count_of kernels →
@@ -119,11 +119,15 @@ pub is_place : {kernels : KernelsView} → AreKernels kernels → (lookaheads : 
     (item : Item) (at : ℕ) → slice_get (items_in (row_of lookaheads s)) at ≡ Some item → IsPlace kernels (place_of s item at)
 is_place k lookaheads shape s lt item at e = record { state = lt; here = closure_at k lookaheads shape s lt item at e }
 
+-- a place is put into an equal list
+pub adds_to : {u w v : List Place} {place : Place} → u ≡ w → Adds u place v → Adds w place v
+adds_to {v = v} {place} same adds = subst (λ z. Adds z place v) same adds
+
 -- a union that adds something, whose place then waits
 pub spread_sound : {kernels : KernelsView}
     (place : Place) {old new : List (List ItemLookahead)} {added : List Bool} {b : Bool} {w v : List Place} → AreKernels kernels →
     IsPlace kernels place → Unites old place.state place.item added b new → AreSound kernels old w →
-        ((t : ℕ) → IsMember added t → FlowsTo kernels place.state place.item t) →
+    ((t : ℕ) → IsMember added t → FlowsTo kernels place.state place.item t) →
     Adds w place v → AreSound kernels new v
 spread_sound {kernels} place {old} k p u h flows adds =
     let lt = state_within k place p.state old h.shape in
@@ -133,7 +137,7 @@ spread_sound {kernels} place {old} k p u h flows adds =
 pub spread_spreads : {kernels : KernelsView}
     (place : Place) {old new : List (List ItemLookahead)} {added : List Bool} {b : Bool} {w v : List Place} → place.state < length old →
     Unites old place.state place.item added b new → b ≡ true → All (IsPlace kernels) w → IsPlace kernels place → Adds w place v →
-        Spreads old w new v
+    Spreads old w new v
 spread_spreads {kernels} place {old} {new} {added} {b} {w} {v} lt u grew places p adds = record {
   keeps = lists_kept u lt;
   waits = adds_waits place adds;

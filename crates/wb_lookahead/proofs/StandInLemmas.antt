@@ -1,19 +1,18 @@
 -- Items that stand for others of their kernel.
-use Rattle.std.proofs.Common.{◌≡◌, ◌≢◌, ℕ, ◌+◌, ◌<◌, ◌≤◌, zero, suc, List, [], ◌∷◌, ◌++◌, length, Some, refl, sym, ◌∙◌, ap, subst, inl, inr, arith}
+use Rattle.std.proofs.Common.{◌≡◌, ℕ, ◌+◌, ◌<◌, ◌≤◌, zero, suc, List, [], ◌∷◌, length, Some, refl, sym, ◌∙◌, ap, subst, inl, inr, arith}
 use Rattle.std.specs.Prelude.{slice_get, slice_index_or, Contains}
-use Rattle.std.proofs.lemmas.Bool.{cases_eq, cases_lt}
+use Rattle.std.proofs.lemmas.Bool.{cases_eq}
 use Rattle.std.proofs.lemmas.Option.{same_Some, slice_get_within, slice_get-get_or}
 use Rattle.wb_base.specs.declared.symbol.Symbol.{Symbol}
-use Rattle.wb_base.specs.declared.symbol.Symbol.TheVariants.{Nonterminal}
 use Rattle.wb_base.specs.Grammar.{GrammarView, Production}
 use Rattle.wb_grammars.specs.declared.item.Item.{Item}
-use Rattle.wb_grammars.specs.Productions.{IsProduction, top_of}
-use Rattle.wb_grammars.specs.Items.{after_dot, advance, initial_item, start_item, HasItem}
-use Rattle.wb_grammars.specs.States.{Flows, start, close, move}
+use Rattle.wb_grammars.specs.Productions.{IsProduction}
+use Rattle.wb_grammars.specs.Items.{advance, initial_item, HasItem}
+use Rattle.wb_grammars.specs.States.{start, close, move}
 use Rattle.wb_grammars.proofs.DotLemmas.{top_no_production}
 use Rattle.wb_grammars.proofs.FlowLemmas.{flows_complete, flows_has, same_itself}
 use Rattle.wb_grammars.proofs.ProductionLemmas.{production_once, production_within}
-use Rattle.wb_items.specs.Kernels.{KernelsView, AreKernels, LeadsTo, count_of, prefix_of}
+use Rattle.wb_items.specs.Kernels.{KernelsView, AreKernels, count_of, prefix_of}
 use Rattle.wb_items.specs.Table.{AreProductionsOf}
 use Rattle.wb_lookahead.specs.Inner.Spreading.{FlowsTo, IsFirstOf, IsSole, StandsFor, itself, initial}
 
@@ -97,7 +96,7 @@ initial_flows kernels start b p q w v one other e = absurd
 initial_flows kernels (close item t c rest r u right f is rule first) b p q w v one other e =
     let same : r ≡ p = same_initial r p e in
     let same_left : c ≡ b =
-        (production_once kernels.grammar p c b right w (subst (λ n. IsProduction kernels.grammar n c right) same rule) one).0 in
+    (production_once kernels.grammar p c b right w (subst (λ n. IsProduction kernels.grammar n c right) same rule) one).0 in
     close item t c rest q u v f is (subst (λ n. IsProduction kernels.grammar q n v) (sym same_left) other) first
 initial_flows kernels (move item x rest s f is next moved_is) b p q w v one other e = absurd (no_dot item p (sym moved_is ∙ e))
 
@@ -124,7 +123,7 @@ item_flows {kernels} h s lt item
 -- where an initial item is, all of its nonterminal are
 pub initial_all : {kernels : KernelsView} → AreKernels kernels → (s : ℕ) → s < count_of kernels → (b p q : ℕ) (w v : List Symbol) →
     IsProduction kernels.grammar p b w → IsProduction kernels.grammar q b v →
-        HasItem kernels.grammar (prefix_of kernels s) (initial_item p) → HasItem kernels.grammar (prefix_of kernels s) (initial_item q)
+    HasItem kernels.grammar (prefix_of kernels s) (initial_item p) → HasItem kernels.grammar (prefix_of kernels s) (initial_item q)
 initial_all {kernels} h s lt b p q w v one other has =
     let (t, f) = item_flows h s lt (initial_item p) has in
     flows_has (prefix_of kernels) h.live h.states (initial_flows_all kernels b p q w v one other f)
@@ -155,5 +154,5 @@ later_alone g one other b w rule is not (itself e sole) = absurd (sole one.produ
 later_alone g one other b w rule is not (initial c p q right first other_rule one_is other_is) =
     let same : p ≡ one.production = ap (λ (i : Item). i.production) (sym one_is) in
     let left : c ≡ b = (production_once g one.production c b first.right w
-        (subst (λ n. IsProduction g n c first.right) same first.production) rule).0 in
+    (subst (λ n. IsProduction g n c first.right) same first.production) rule).0 in
     absurd (not (subst (λ z. IsFirstOf g z one.production) left (subst (IsFirstOf g c) same first)))

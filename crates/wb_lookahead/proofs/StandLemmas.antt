@@ -1,14 +1,11 @@
 -- What is at a kernel, which items ask for it, and which terminals are valid.
-use Rattle.std.proofs.Common.{◌≡◌, ◌≢◌, ◌↔◌, ℕ, ◌<◌, ◌≤◌, List, [], ◌∷◌, ◌++◌, Some, None, Option, length, refl, sym, ◌∙◌, ap, subst, inl, inr, arith}
+use Rattle.std.proofs.Common.{◌≡◌, ◌≢◌, ◌↔◌, ℕ, ◌<◌, ◌≤◌, Some, None, Option, length, refl, ap, subst, inl, inr, arith}
 use Rattle.std.specs.Prelude.{IfSome, IsNone}
 use Rattle.std.proofs.lemmas.Bool.{cases_eq}
-use Rattle.std.proofs.lemmas.Option.{slice_get_within}
-use Rattle.wb_base.specs.declared.symbol.Symbol.{Symbol}
 use Rattle.wb_base.specs.declared.symbol.Symbol.TheVariants.{Terminal, Nonterminal}
-use Rattle.wb_base.specs.Grammar.{GrammarView}
 use Rattle.wb_grammars.specs.declared.item.Item.{Item}
 use Rattle.wb_grammars.specs.Productions.{top_of}
-use Rattle.wb_grammars.specs.Items.{after_dot, HasItem, IsValidItem, SameKernel, start, close, move}
+use Rattle.wb_grammars.specs.Items.{HasItem}
 use Rattle.wb_grammars.specs.Lookaheads.{CanShift, CanReduce, IsValidTerminal, HasConflict, HasNoConflict}
 use Rattle.wb_grammars.proofs.KernelLemmas.{kernel_decides}
 use Rattle.wb_grammars.proofs.FlowLemmas.{onward, same_back}

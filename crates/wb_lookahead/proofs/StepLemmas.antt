@@ -62,11 +62,11 @@ row_wide {kernels} h lookaheads shape s lt = All-get_or
 pub closure_at : {kernels : KernelsView} → AreKernels kernels → (lookaheads : List (List ItemLookahead)) →
     AreLookaheadsOf kernels lookaheads →
     (s : ℕ) → s < count_of kernels → (item : Item) (at : ℕ) → slice_get (items_in (row_of lookaheads s)) at ≡ Some item →
-        slice_get (closure_of kernels s) at ≡ Some item
+    slice_get (closure_of kernels s) at ≡ Some item
 closure_at h lookaheads shape s lt item at e = ap (λ z. slice_get z at) (sym (row_items h lookaheads shape s lt)) ∙ e
 
 -- and a place of the closure one of the row
 pub row_at : {kernels : KernelsView} → AreKernels kernels → (lookaheads : List (List ItemLookahead)) → AreLookaheadsOf kernels lookaheads →
     (s : ℕ) → s < count_of kernels → (item : Item) (at : ℕ) → slice_get (closure_of kernels s) at ≡ Some item →
-        slice_get (items_in (row_of lookaheads s)) at ≡ Some item
+    slice_get (items_in (row_of lookaheads s)) at ≡ Some item
 row_at h lookaheads shape s lt item at e = ap (λ z. slice_get z at) (row_items h lookaheads shape s lt) ∙ e

@@ -1,5 +1,5 @@
 -- What is shown as a conflict is one of the grammar, and where there are tables there is none.
-use Rattle.std.proofs.Common.{◌≢◌, ℕ, ◌<◌, refl, sym, ◌∙◌, inl, inr, arith}
+use Rattle.std.proofs.Common.{◌≢◌, ℕ, ◌<◌, sym, ◌∙◌, inl, inr, arith}
 use Rattle.wb_grammars.specs.Productions.{top_of}
 use Rattle.wb_grammars.specs.Lookaheads.{HasConflict}
 use Rattle.wb_items.specs.Kernels.{KernelsView, prefix_of}

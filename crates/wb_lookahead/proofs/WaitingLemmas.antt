@@ -1,12 +1,13 @@
 -- When nothing waits, the sets are the lookaheads.
-use Rattle.std.proofs.Common.{◌≡◌, ℕ, zero, suc, ◌<◌, ◌⊎◌, Bool, List, [], ◌∷◌, ◌++◌, length, Some, refl, sym, ◌∙◌, ap, subst, inl, inr, arith}
-use Rattle.std.specs.Prelude.{All, Contains, ◌↔◌, slice_get}
+use Rattle.std.proofs.Common.{◌≡◌, ℕ, suc, ◌<◌, ◌⊎◌, Bool, List, [], ◌∷◌, length, refl, sym, ap, subst, inl, inr, arith}
+use Rattle.std.specs.Prelude.{All, Contains, ◌↔◌}
+use Rattle.wb_lemmas.proofs.Members.{place_of}
 use Rattle.wb_termset.specs.Sets.{IsMember}
 use Rattle.wb_grammars.specs.declared.item.Item.{Item}
 use Rattle.wb_grammars.specs.Items.{start_item}
 use Rattle.wb_grammars.specs.Productions.{end_of}
 use Rattle.wb_grammars.specs.States.{start, close, move}
-use Rattle.wb_grammars.specs.Items.{advance, initial_item}
+use Rattle.wb_grammars.specs.Items.{initial_item}
 use Rattle.wb_grammars.specs.Lookaheads.{IsLookahead}
 use Rattle.wb_grammars.proofs.FlowLemmas.{flows_exact, flows_has}
 use Rattle.wb_items.specs.declared.item_lookahead.ItemLookahead.{ItemLookahead}
@@ -14,9 +15,8 @@ use Rattle.wb_items.specs.Kernels.{KernelsView, AreKernels, LeadsTo, closure_of,
 use Rattle.wb_items.specs.Lookaheads.{AreEmpty, IsSetOf}
 use Rattle.wb_items.specs.LookaheadSets.{AreLookaheads}
 use Rattle.std.proofs.lemmas.Option.{slice_get_within}
-use Rattle.wb_items.proofs.ListLemmas.{at_Contains}
 use Rattle.wb_lookahead.specs.declared.worklist.Place.{Place}
-use Rattle.wb_lookahead.specs.Inner.Spreading.{AreSound, AreWaiting, ArePropagated, FlowsTo, IsFilled, IsPassedOn, IsPlace, Keeps, Lists, ListsFor, Spreads, StandsFor, itself, initial, Waits}
+use Rattle.wb_lookahead.specs.Inner.Spreading.{AreSound, AreWaiting, ArePropagated, FlowsTo, IsFilled, IsPassedOn, IsPlace, Lists, ListsFor, Spreads, itself, initial, Waits}
 use Rattle.wb_lookahead.proofs.MarkLemmas.{contains_cases}
 use Rattle.wb_lookahead.proofs.PassLemmas.{empty_lists, passed_kept, set_once}
 use Rattle.wb_lookahead.proofs.StandInLemmas.{first_is, moved_sole, past_sole, stands_has}
@@ -36,7 +36,7 @@ begun_waiting {kernels} old {new} w {v} empty spreads listed = record { start = 
 pub passed_waiting : {kernels : KernelsView} {old new : List (List ItemLookahead)} {all v : List Place} (w : List Place) (place : Place) →
     all ≡ place ∷ w → AreWaiting kernels old all →
     Spreads old w new v → ((t : ℕ) → Lists old place.state place.item t → IsPassedOn kernels new place.state place.item t) →
-        AreWaiting kernels new v
+    AreWaiting kernels new v
 passed_waiting {kernels} {old} {new} {all} {v} w place is h spreads passed = record {
   start = spreads.keeps 0 (start_item kernels.grammar) (end_of kernels.grammar) h.start;
   each = λ s item. grown s item (spreads.grew s item);
@@ -48,14 +48,18 @@ passed_waiting {kernels} {old} {new} {all} {v} w place is h spreads passed = rec
     waited s item at before (inr later) = inl (spreads.waits s item (at, later))
     waited s item at before (inl same) = inr (λ t l.
         subst (λ (z : Place). IsPassedOn kernels new z.state z.item t) same
-            (passed t (subst (λ (z : Place). Lists old z.state z.item t) (sym same) (before t l))))
+        (passed t (subst (λ (z : Place). Lists old z.state z.item t) (sym same) (before t l))))
 
     kept : (s : ℕ) (item : Item) → ((t : ℕ) → Lists new s item t → Lists old s item t) →
         Waits all s item ⊎ ((t : ℕ) → Lists old s item t → IsPassedOn kernels old s item t) →
         Waits v s item ⊎ ((t : ℕ) → Lists new s item t → IsPassedOn kernels new s item t)
     kept s item before (inl (at, there)) =
-        waited s item at before (contains_cases place (record { state = s; item = item; at =
-            at }) w (subst (λ z. Contains z (record { state = s; item = item; at = at })) is there))
+        waited s item at before (contains_cases place (record {
+          state = s;
+          item = item;
+          at =
+              at;
+        }) w (subst (λ z. Contains z (record { state = s; item = item; at = at })) is there))
     kept s item before (inr closed) = inr (λ t l one stands. passed_kept old spreads.keeps (closed t (before t l) one stands))
 
     grown : (s : ℕ) (item : Item) → Waits v s item ⊎ ((t : ℕ) → Lists new s item t → Lists old s item t) →
@@ -67,7 +71,7 @@ passed_waiting {kernels} {old} {new} {all} {v} w place is h spreads passed = rec
 flows_listed : {kernels : KernelsView} {lookaheads : List (List ItemLookahead)} →
     Lists lookaheads 0 (start_item kernels.grammar) (end_of kernels.grammar) →
     ((s : ℕ) (item : Item) (t : ℕ) → Lists lookaheads s item t → IsPassedOn kernels lookaheads s item t) → {s : ℕ} {item : Item} {t : ℕ} →
-        FlowsTo kernels s item t →
+    FlowsTo kernels s item t →
     ListsFor kernels.grammar lookaheads s item t
 flows_listed {kernels} begins passed start =
     (start_item kernels.grammar, itself refl (past_sole kernels.grammar (start_item kernels.grammar) (omega arith)), begins)
@@ -78,7 +82,7 @@ flows_listed {kernels} begins passed {s} (close item t b rest q u right f is rul
 flows_listed {kernels} {lookaheads} begins passed (move item x rest s {t} {s'} {moved} f is next moved_is) =
     let (one, stands, lists) = flows_listed begins passed f in
     let listed : Lists lookaheads s' moved t = subst (λ z. Lists lookaheads s' z t) (sym moved_is)
-        ((passed s one t lists item stands).moves x rest s' is next) in
+    ((passed s one t lists item stands).moves x rest s' is next) in
     (moved, itself refl (moved_sole kernels.grammar moved (let e = ap (λ (i : Item). i.dot) moved_is in omega (arith, e))), listed)
 
 -- where nothing waits, all has been propagated
@@ -94,8 +98,12 @@ all_passed {kernels} {lookaheads} {waiting} sound waits none = record {
     at : (s : ℕ) (item : Item) → Waits waiting s item ⊎ ((t : ℕ) → Lists lookaheads s item t → IsPassedOn kernels lookaheads s item t) →
         (t : ℕ) → Lists lookaheads s item t → IsPassedOn kernels lookaheads s item t
     at s item (inl (k, there)) =
-        (let nothing : Contains [] (record { state = s; item = item; at = k }) = subst (λ z. Contains z (record { state = s; item =
-            item; at = k })) none there in absurd (omega (arith, nothing.1)))
+        (let nothing : Contains [] (record { state = s; item = item; at = k }) = subst (λ z. Contains z (record {
+          state = s;
+          item =
+              item;
+          at = k;
+        })) none there in absurd (omega (arith, nothing.1)))
     at s item (inr closed) = closed
 
     passed : (s : ℕ) (item : Item) (t : ℕ) → Lists lookaheads s item t → IsPassedOn kernels lookaheads s item t
@@ -115,7 +123,7 @@ all_filled {kernels} {lookaheads} h propagated filled = record { shape = propaga
               let f = laws.1 look in
               let (one, stands, lists) = propagated.complete s item t f in
               let has = flows_has (prefix_of kernels) h.live h.states f in
-              let (j, at) = at_Contains (closure_of kernels s) one ((h.closures s lt one).1 (stands_has h s lt one item stands has)) in
+              let (j, at) = place_of (closure_of kernels s) one ((h.closures s lt one).1 (stands_has h s lt one item stands has)) in
               let (b, other, has) = filled s lt j one (slice_get_within (closure_of kernels s) j one at) at item t stands f in
               subst (λ z. IsMember z t) (set_once h lookaheads propagated.shape s lt item b a other set_is) has,
         )

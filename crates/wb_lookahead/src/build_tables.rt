@@ -10,8 +10,8 @@ ghost use Rattle.wb_lookahead.specs.Tables.{AreTables, IsTableRefusal};
 
 use crate::action::TableRefusal;
 use crate::codes::codes_of;
-use crate::parser_tables::Tables;
 use crate::matrix::Matrix;
+use crate::parser_tables::Tables;
 use crate::rows::{actions_at, gotos_at, valid_in};
 use std::alloc::{AllocError, Global};
 use wb_base::{Grammar, push};

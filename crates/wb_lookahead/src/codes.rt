@@ -14,7 +14,7 @@ const LIMIT: usize = 1 << 30;
 pub(crate) fn codes_of(alloc: Global, actions: &[Action]) -> Result<Vec<u32>, AllocError>
     ensures { IfOk result (λ codes. map action_at codes.items ≡ actions.now) }
 {
-    let mut codes = Vec::new(alloc);
+    let mut codes = Vec::with_capacity(alloc, actions.len())?;
     'actions: for &action in actions {
         push(&mut codes, code_of(action)?)?;
     }

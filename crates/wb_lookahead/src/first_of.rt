@@ -1,12 +1,13 @@
-//! Which terminals begin what symbols derive? First of each rest of a right side, found once.
+//! Which terminals open a nonterminal in a right side? First of the rest after it, and what its own productions repeat, found once.
 //!
 //! What begins the nonterminals is in the facts of `wb_grammar`; `propagate.rt` asks for a rest at each item that it passes.
 
 ghost use Rattle.std.specs.Prelude.{◌≡◌, ◌+◌, ◌<◌, [], All, Some, IfOk, length, drop, slice_get};
 ghost use Rattle.wb_base.specs.Grammar.{IsSymbolBelow};
 ghost use Rattle.wb_grammar.specs.Facts.{AreFacts};
-ghost use Rattle.wb_lookahead.specs.Inner.Rests.{AreRests, AreRestsOf, IsRest};
+ghost use Rattle.wb_lookahead.specs.Inner.Rests.{AreRepeats, AreRests, AreRestsOf, IsRest};
 
+use crate::repeats::{join_repeats, repeats_of};
 use std::alloc::{AllocError, Global};
 use wb_base::{Grammar, Sequence, Symbol, push};
 use wb_grammar::Facts;
@@ -19,7 +20,7 @@ pub(crate) struct Rest {
     pub(crate) empty: bool,
 }
 
-// For each production and each place of its right side, what the symbols after that place begin with.
+// For each production and each place of its right side, what the symbols after that place begin with, and the symbol there repeats.
 pub(crate) fn rests_of(
     alloc: Global,
     grammar: &Grammar,
@@ -28,11 +29,26 @@ pub(crate) fn rests_of(
     requires { AreFacts grammar.now facts.now }
     ensures { IfOk result (λ rests. AreRests grammar.now rests.items) }
 {
+    let repeats = repeats_of(alloc, grammar, facts)?;
+    rests_with(alloc, grammar, facts, &repeats)
+}
+
+// The same with the terminals that come after each nonterminal in its own productions.
+fn rests_with(
+    alloc: Global,
+    grammar: &Grammar,
+    facts: &Facts,
+    repeats: &[TermSet],
+) -> Result<Vec<Sequence<Rest>>, AllocError>
+    requires facts { AreFacts grammar.now facts.now }
+    requires repeats { AreRepeats grammar.now repeats.now }
+    ensures { IfOk result (λ rests. AreRests grammar.now rests.items) }
+{
     let mut rests = Vec::new(alloc);
     'productions: for production in 0..grammar.productions() {
         push(
             &mut rests,
-            rests_in(alloc, grammar, facts, grammar.right(production))?,
+            rests_in(alloc, grammar, facts, repeats, grammar.right(production))?,
         )?;
     }
     Ok(rests)
@@ -43,18 +59,19 @@ fn rests_in(
     alloc: Global,
     grammar: &Grammar,
     facts: &Facts,
+    repeats: &[TermSet],
     right: &[Symbol],
 ) -> Result<Sequence<Rest>, AllocError>
     requires facts { AreFacts grammar.now facts.now }
+    requires repeats { AreRepeats grammar.now repeats.now }
     requires right { All (IsSymbolBelow grammar.now.terminals grammar.now.nonterminals) right.now }
     ensures { IfOk result (λ row. AreRestsOf grammar.now right.now row) }
 {
     let mut row = Vec::new(alloc);
     'places: for place in 0..right.len() {
-        push(
-            &mut row,
-            first_of(alloc, grammar, facts, &right[place + 1..])?,
-        )?;
+        let mut rest = first_of(alloc, grammar, facts, &right[place + 1..])?;
+        join_repeats(right[place], repeats, &mut rest);
+        push(&mut row, rest)?;
     }
     Ok(Sequence::from_vec(row))
 }

@@ -14,11 +14,12 @@ mod matrix;
 mod parser_tables;
 mod plain;
 mod propagate;
+mod repeats;
 mod rows;
 mod spread;
 mod worklist;
 
 pub use action::{Action, TableRefusal};
-pub use parser_tables::Tables;
 pub use build_tables::tables;
+pub use parser_tables::Tables;
 pub use plain::plain_lookaheads;

@@ -40,7 +40,12 @@ impl Model for Tables {
 
 impl Tables {
     // The tables of these parts.
-    pub(crate) fn of(terminals: usize, actions: Matrix, gotos: Matrix, valid: Vec<TermSet>) -> Tables
+    pub(crate) fn of(
+        terminals: usize,
+        actions: Matrix,
+        gotos: Matrix,
+        valid: Vec<TermSet>,
+    ) -> Tables
         requires { AreMatrices terminals actions gotos (length valid.items) }
         ensures { result ≡ record { terminals = terminals; nonterminals = gotos.width; actions = map (map action_at) actions.rows; gotos = map (map goto_at) gotos.rows; valid = valid.items } }
     {

@@ -206,9 +206,11 @@ fn fill_all(
     ensures filled { (q t : ℕ) (right : List Symbol) → IsProduction context.now.kernels.now.grammar q nonterminal right → FlowsTo context.now.kernels.now state (initial_item q) t → Lists lookaheads.new state (initial_item q) t }
 {
     let numbers = context.productions[nonterminal].as_slice();
+    let mut near = 0;
     'productions: for &production in numbers {
         let item = Item { production, dot: 0 };
-        let at = lookaheads.place(state, item);
+        let at = lookaheads.place_near(state, item, near);
         unite(Place { state, item, at }, set, lookaheads);
+        near = at.saturating_add(1);
     }
 }

@@ -32,7 +32,8 @@ pub(crate) fn spread(
     ensures spreads { OnOk result (Spreads lookaheads.old worklist.old lookaheads.new worklist.new) }
     ensures lists { OnOk result ((t : ℕ) → IsMember set.now t → Lists lookaheads.new state item t) }
 {
-    let at = lookaheads.place(state, item);
+    let at = lookaheads.place_near(state, item, worklist.near(item));
+    worklist.note(item, at);
     if unite(Place { state, item, at }, set, lookaheads) {
         worklist.add(Place { state, item, at })?;
     }

@@ -63,12 +63,14 @@ impl Marks {
     }
 }
 
-// The places that wait, and the kernel of the one that was taken last.
+// The places that wait, the kernel of the one that was taken last, and the places to which terminals spread last.
 #[derive(Drop)]
 pub(crate) struct Worklist {
     state: usize,
     queue: VecDeque<Place>,
     marks: Vec<Marks>,
+    initial: usize,
+    moved: usize,
 }
 
 impl Model for Worklist {
@@ -96,7 +98,29 @@ impl Worklist {
             state: 0,
             queue: VecDeque::new(alloc),
             marks,
+            initial: 0,
+            moved: 0,
         })
+    }
+
+    // Where an item may be: terminals mostly spread to one initial item again, and to items in turn that moved over one symbol.
+    pub(crate) fn near(&self, item: Item) -> usize {
+        if item.dot == 0 {
+            self.initial
+        } else {
+            self.moved
+        }
+    }
+
+    // Notes the place to which terminals spread.
+    pub(crate) fn note(&mut self, item: Item, at: usize)
+        ensures { self.new ≡ self.old }
+    {
+        if item.dot == 0 {
+            self.initial = at;
+        } else {
+            self.moved = at.saturating_add(1);
+        }
     }
 
     // Puts a place before the others or after them, unless one with its numbers waits.

@@ -1,15 +1,11 @@
 -- Kernels as they are added, and the moves that lead to them.
-use Rattle.std.specs.Prelude.{◌≡◌, ◌↔◌, ℕ, ◌<◌, List, [], ◌∷◌, ◌++◌, length, Some, Contains, slice_get}
+use Rattle.std.specs.Prelude.{◌≡◌, ℕ, List, ◌∷◌, Some, Contains, slice_get}
 use Rattle.wb_base.specs.declared.symbol.Symbol.{Symbol}
 use Rattle.wb_base.specs.Grammar.{GrammarView}
 use Rattle.wb_grammars.specs.declared.item.Item.{Item}
-use Rattle.wb_grammars.specs.Productions.{IsProduction}
-use Rattle.wb_grammars.specs.Items.{after_dot, advance, IsViablePrefix, SameKernel}
-use Rattle.wb_grammars.specs.Shape.{IsLive}
-use Rattle.wb_items.specs.declared.transitions.Move.{Move}
+use Rattle.wb_grammars.specs.Items.{after_dot, advance, IsViablePrefix}
 use Rattle.wb_items.specs.Index.{IndexView}
-use Rattle.wb_items.specs.Kernels.{AreInOrder, ListsKernel, ListsItems}
-use Rattle.wb_items.specs.Order.{SymbolPrecedes}
+use Rattle.wb_items.specs.Kernels.{AreInOrder, ListsKernel}
 
 -- the item moves over the symbol from an item of the list
 pub record IsMoved (g : GrammarView) (items : List Item) (x : Symbol) (moved : Item) : Type 0 where

@@ -27,8 +27,11 @@ pub record StrictUpTo (items list : List Item) (n : ℕ) : Type 0 where
 
 -- the items at the first places are listed with the symbols after their dots, each with its dot after the symbol
 pub record AdvancesUpTo (g : GrammarView) (closure : List Item) (list : List Advance) (n : ℕ) : Type 0 where
-  pub sound : (a : Advance) → Contains list a → (j : ℕ) × (item : Item) × (rest : List Symbol) × (j < n) × (slice_get closure j ≡ Some item) × (after_dot g item ≡ symbol_of a ∷ rest) × (a.item ≡ advance item)
-  pub complete : (j : ℕ) (item : Item) (x : Symbol) (rest : List Symbol) → j < n → slice_get closure j ≡ Some item → after_dot g item ≡ x ∷ rest → HasAdvance list x (advance item)
+  pub sound : (a : Advance) → Contains list a →
+      (j : ℕ) × (item : Item) × (rest : List Symbol) × (j < n) × (slice_get closure j ≡ Some item) ×
+      (after_dot g item ≡ symbol_of a ∷ rest) × (a.item ≡ advance item)
+  pub complete : (j : ℕ) (item : Item) (x : Symbol) (rest : List Symbol) → j < n → slice_get closure j ≡ Some item →
+      after_dot g item ≡ x ∷ rest → HasAdvance list x (advance item)
 
 -- the list has the productions of the nonterminal below a number, in order
 pub record ProductionsUpTo (g : GrammarView) (b : ℕ) (numbers : List ℕ) (n : ℕ) : Type 0 where
@@ -50,5 +53,7 @@ pub record MovesUpTo (g : GrammarView) (old now : IndexView) (list : List Advanc
   pub lists : (prefix : List Symbol) → slice_get now.prefixes s ≡ Some prefix → ListsAdvances g prefix list
   pub sound : AreMoves g now.prefixes s row
   pub ordered : AreMovesInOrder row
-  pub complete : (j : ℕ) (a : Advance) → j < n → slice_get list j ≡ Some a → (next : ℕ) × Contains row (record { symbol = symbol_of a; state = next })
-  pub apart : (move : Move) (j : ℕ) (a : Advance) → Contains row move → n ≤ j → slice_get list j ≡ Some a → SymbolPrecedes move.symbol (symbol_of a)
+  pub complete : (j : ℕ) (a : Advance) → j < n → slice_get list j ≡ Some a →
+      (next : ℕ) × Contains row (record { symbol = symbol_of a; state = next })
+  pub apart : (move : Move) (j : ℕ) (a : Advance) → Contains row move → n ≤ j → slice_get list j ≡ Some a →
+      SymbolPrecedes move.symbol (symbol_of a)

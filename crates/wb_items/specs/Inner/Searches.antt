@@ -1,7 +1,5 @@
 -- Sets of items in order, and the numbers of kernels by this order.
 use Rattle.std.specs.Prelude.{◌≡◌, ◌↔◌, ℕ, ◌+◌, ◌<◌, ◌≤◌, List, Option, Some, None, length, Contains, slice_get}
-use Rattle.wb_base.specs.declared.symbol.Symbol.{Symbol}
-use Rattle.wb_base.specs.declared.symbol.Symbol.TheVariants.{Terminal, Nonterminal}
 use Rattle.wb_grammars.specs.declared.item.Item.{Item}
 use Rattle.wb_items.specs.Kernels.{AreInOrder, Precedes}
 
@@ -19,7 +17,8 @@ IsAfter kernel place z = (m : ℕ) (a : Item) → place ≡ m + 1 → slice_get 
 -- of the items at the first n places that follow the kernel's items before the place, this is the least, or there is none
 abbrev pub IsLeastAfter : List Item → ℕ → List Item → ℕ → Option Item → Type 0
 IsLeastAfter kernel place items n None = (p : ℕ) (z : Item) → p < n → slice_get items p ≡ Some z → ¬ IsAfter kernel place z
-IsLeastAfter kernel place items n (Some least) = Contains items least × IsAfter kernel place least × ((p : ℕ) (z : Item) → p < n → slice_get items p ≡ Some z → IsAfter kernel place z → ¬ Precedes z least)
+IsLeastAfter kernel place items n (Some least) = Contains items least × IsAfter kernel place least × ((p : ℕ) (z : Item) → p < n →
+    slice_get items p ≡ Some z → IsAfter kernel place z → ¬ Precedes z least)
 
 -- the kernel and the set have the same items among those that don't follow the kernel's items before the place
 abbrev pub AgreeUpTo : List Item → List Item → ℕ → Type 0
@@ -34,11 +33,14 @@ pub record IsIndex (order : List ℕ) (kernels : List (List Item)) : Type 0 wher
   pub sorted : (s : ℕ) (kernel : List Item) → slice_get kernels s ≡ Some kernel → AreInOrder kernel
   pub below : (i s : ℕ) → slice_get order i ≡ Some s → s < length kernels
   pub all : (s : ℕ) → s < length kernels → Contains order s
-  pub rising : (i j s t : ℕ) (one other : List Item) → i < j → slice_get order i ≡ Some s → slice_get order j ≡ Some t → slice_get kernels s ≡ Some one → slice_get kernels t ≡ Some other → ComesFirst one other
+  pub rising : (i j s t : ℕ) (one other : List Item) → i < j → slice_get order i ≡ Some s → slice_get order j ≡ Some t →
+      slice_get kernels s ≡ Some one → slice_get kernels t ≡ Some other → ComesFirst one other
 
 -- the kernels before the low place come before the set, and those from the high place on after it
 pub record LiesWithin (kernels : List (List Item)) (order : List ℕ) (items : List Item) (low high : ℕ) : Type 0 where
   pub rises : low ≤ high
   pub ends : high ≤ length order
-  pub before : (i s : ℕ) (kernel : List Item) → i < low → slice_get order i ≡ Some s → slice_get kernels s ≡ Some kernel → ComesFirst kernel items
-  pub beyond : (i s : ℕ) (kernel : List Item) → high ≤ i → slice_get order i ≡ Some s → slice_get kernels s ≡ Some kernel → ComesFirst items kernel
+  pub before : (i s : ℕ) (kernel : List Item) → i < low → slice_get order i ≡ Some s → slice_get kernels s ≡ Some kernel →
+      ComesFirst kernel items
+  pub beyond : (i s : ℕ) (kernel : List Item) → high ≤ i → slice_get order i ≡ Some s → slice_get kernels s ≡ Some kernel →
+      ComesFirst items kernel

@@ -8,10 +8,10 @@ use Rattle.wb_termset.specs.Sets.{IsMember, members}
 use Rattle.wb_grammars.specs.declared.item.Item.{Item}
 use Rattle.wb_grammars.specs.Productions.{IsProduction, end_of}
 use Rattle.wb_grammars.specs.Derives.{IsFirst}
-use Rattle.wb_grammars.specs.Items.{after_dot, advance, initial_item, start_item, HasItem}
+use Rattle.wb_grammars.specs.Items.{after_dot, advance, initial_item, start_item}
 use Rattle.wb_grammars.specs.States.{Flows}
 use Rattle.wb_items.specs.declared.item_lookahead.ItemLookahead.{ItemLookahead}
-use Rattle.wb_items.specs.Kernels.{KernelsView, AreKernels, LeadsTo, closure_of, count_of, prefix_of}
+use Rattle.wb_items.specs.Kernels.{KernelsView, AreKernels, LeadsTo, closure_of, count_of}
 use Rattle.wb_items.specs.Lookaheads.{AreLookaheadsOf, IsSetOf}
 use Rattle.wb_items.specs.Table.{AreProductions}
 use Rattle.wb_lookahead.specs.declared.first_of.Rest.{Rest}

@@ -17,7 +17,8 @@ returns-in_ok-add_initial_items c =
     let below = c.in-Some.ensures.below in
     rw (c.in_ok-add_initial_items.ensures, c.insert.ensures.after)
     (closing_more g c.args.kernel.now c.args.opened.now c.args.closure.now.items c.args.place c.item_at-item.result c.in-Some.nonterminal rest c.numbers_at.result.now (subst (λ xs. slice_get xs c.args.place ≡ Some c.item_at-item.result) c.deref.ensures.value c.item_at-item.ensures) is
-    (omega (arith, c.requires.before.len, below)) (c.requires.rules.each c.in-Some.nonterminal c.numbers_at.result.now c.numbers_at.ensures) c.requires.before)
+    (omega (arith, c.requires.before.len, below))
+    (c.requires.rules.each c.in-Some.nonterminal c.numbers_at.result.now c.numbers_at.ensures) c.requires.before)
 
 pub returns-else-insert : goal.returns-else-insert
 returns-else-insert c =
@@ -29,7 +30,10 @@ returns-else-insert c =
 pub returns-in_default : goal.returns-in_default
 returns-in_default c =
     closing_pass c.args.grammar.now c.args.kernel.now c.args.opened.now c.args.closure.now.items c.args.place
-    (λ item b rest at is. absurd (c.in_default.ensures.nonterminal b rest (subst (λ z. after_dot c.args.grammar.now z ≡ Nonterminal b ∷ rest) (lemma c item at) is))) c.requires.before
+    (λ item b rest at is. absurd
+    (c.in_default.ensures.nonterminal b rest
+    (subst (λ z. after_dot c.args.grammar.now z ≡ Nonterminal b ∷ rest) (lemma c item at) is))) c.requires.before
   where
     lemma : (c : goal.In_default) (item : Item) → slice_get c.args.closure.now.items c.args.place ≡ Some item → item ≡ c.item_at-item.result
-    lemma c item at = let e : Some item ≡ Some c.item_at-item.result = sym at ∙ subst (λ xs. slice_get xs c.args.place ≡ Some c.item_at-item.result) c.deref.ensures.value c.item_at-item.ensures in cc
+    lemma c item at = let e : Some item ≡ Some c.item_at-item.result = sym at ∙
+        subst (λ xs. slice_get xs c.args.place ≡ Some c.item_at-item.result) c.deref.ensures.value c.item_at-item.ensures in cc

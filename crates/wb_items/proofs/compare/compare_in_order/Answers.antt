@@ -1,6 +1,5 @@
-use Rattle.std.proofs.Common.{◌≡◌, ◌<◌, Some, length, get_or, arith}
+use Rattle.std.proofs.Common.{length, get_or, arith}
 use Rattle.std.proofs.lemmas.Option.{slice_get-get_or}
-use Rattle.std.specs.Prelude.{slice_get}
 use Rattle.wb_grammars.specs.declared.item.Item.{Item}
 use Rattle.wb_items.proofs.InOrderLemmas.{first_here, same_here, all_follow, none_follow, agree_turned}
 use Rattle.wb_items.proofs.compare.compare_in_order.Goals as goal
@@ -36,5 +35,6 @@ returns-then-kernel-items c =
 
 pub returns-else-kernel-items : goal.returns-else-kernel-items
 returns-else-kernel-items c =
-    same_here c.args.kernel.now c.args.items.now c.places.place (omega (arith, c.places-test.false)) (omega (arith, c.places-test.false, c.if-kernel-items.false))
+    same_here c.args.kernel.now c.args.items.now c.places.place (omega (arith, c.places-test.false))
+    (omega (arith, c.places-test.false, c.if-kernel-items.false))
     c.places.invariant

@@ -1,7 +1,7 @@
 use Rattle.std.proofs.Common.{◌-◌, sym, ◌∙◌, arith}
 use Rattle.std.proofs.lemmas.Bool.{true≢false}
+use Rattle.wb_lemmas.proofs.Places.{at_once}
 use Rattle.wb_items.specs.Inner.Advances.{items_of}
-use Rattle.wb_items.proofs.ListLemmas.{at_once}
 use Rattle.wb_items.proofs.OrderLemmas.{strict_pass_at, strict_take_at}
 use Rattle.wb_items.proofs.kernel_of_symbol.add_to_kernel.Goals as goal
 use Rattle.wb_items.proofs.kernel_of_symbol.add_to_kernel.Goals.{then-place-gt0+else-is_item, else-place-gt0}
@@ -14,6 +14,9 @@ pub returns : goal.returns
 returns c =
     strict_take_at (items_of c.args.run.now) c.args.kernel.now.items c.push.new.list.items c.args.place c.advanced_at-item.result c.requires.rising c.advanced_at-item.ensures c.in_ok-push.ensures.ok
     (λ pos a at same. elim c.if-place-gt0.branch [
-      | then-place-gt0+else-is_item w ↦ true≢false (sym (w.is_item.ensures.1 (at_once (items_of c.args.run.now) (c.args.place - 1) w.advanced_at-before.result a w.advanced_at-before.ensures at ∙ same)) ∙ w.if-is_item.false)
+      | then-place-gt0+else-is_item w ↦ true≢false
+          (sym (w.is_item.ensures.1
+          (at_once (items_of c.args.run.now) (c.args.place - 1) w.advanced_at-before.result a w.advanced_at-before.ensures at ∙ same)) ∙
+          w.if-is_item.false)
       | else-place-gt0 w ↦ absurd (omega (arith, pos, w.if-place-gt0.false))
     ]) c.requires.before

@@ -9,4 +9,6 @@ pub places-init : goal.places-init
 places-init c = rw c.new-kernel.ensures.items (strict_start (items_of c.args.run.now))
 
 pub returns-clause-same : goal.returns-clause-same
-returns-clause-same c = rw c.from_vec.ensures (strict_done (items_of c.args.run.now) c.places.kernel.items c.places.place (omega (arith, length-map c.args.run.now (λ (a : Advance). a.item))) c.places.invariant)
+returns-clause-same c = rw c.from_vec.ensures
+    (strict_done (items_of c.args.run.now) c.places.kernel.items c.places.place
+    (omega (arith, length-map c.args.run.now (λ (a : Advance). a.item))) c.places.invariant)

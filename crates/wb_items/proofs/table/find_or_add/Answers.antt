@@ -13,7 +13,8 @@ returns-in-Some-clause-leads c =
 is_new : (c : goal.In_ok-add) → IsAdded c.args.grammar.now c.args.found.now c.add.new.self c.args.state c.args.symbol c.len-next.result
 is_new c =
     is_added c.args.grammar.now c.args.found.now c.add.new.self c.args.state c.args.symbol c.len-next.result c.args.kernel c.requires.kernels c.requires.state c.requires.kernel
-    (λ t other at same. c.in_default.ensures.none t other at (subst (SameItems other) (sym c.as_slice.ensures) same)) c.len-next.ensures.prefixes c.in_ok-add.ensures
+    (λ t other at same. c.in_default.ensures.none t other at
+    (subst (SameItems other) (sym c.as_slice.ensures) same)) c.len-next.ensures.prefixes c.in_ok-add.ensures
 
 pub returns-clause-kernels : goal.returns-clause-kernels
 returns-clause-kernels c = (is_new c).kernels

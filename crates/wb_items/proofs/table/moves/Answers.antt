@@ -8,8 +8,10 @@ use Rattle.wb_items.proofs.table.moves.Goals as goal
 
 pub runs-init : goal.runs-init
 runs-init c = record {
-  moves = rw c.new-row.ensures.items (moves_start c.args.grammar.now c.args.found.now c.in_ok-list.list.items c.args.state c.requires.kernels c.requires.state
-      (λ prefix at. advances_list c.args.grammar.now c.requires.live prefix c.args.closure.now c.in_ok-list.list.items (c.requires.exact prefix at) c.in_ok-list.ensures.exact));
+  moves = rw c.new-row.ensures.items
+      (moves_start c.args.grammar.now c.args.found.now c.in_ok-list.list.items c.args.state c.requires.kernels c.requires.state
+      (λ prefix at. advances_list c.args.grammar.now c.requires.live prefix c.args.closure.now c.in_ok-list.list.items
+      (c.requires.exact prefix at) c.in_ok-list.ensures.exact));
   within = omega arith;
 }
 
@@ -23,7 +25,8 @@ add_move-requires-clause-rising c = subst AreAdvancesRising (sym c.deref.ensures
 
 pub add_move-requires-clause-before : goal.add_move-requires-clause-before
 add_move-requires-clause-before c =
-    subst (λ list. MovesUpTo c.args.grammar.now c.runs.found c.runs.found list c.args.state c.runs.row.items c.runs.place) (sym c.deref.ensures.value)
+    subst (λ list. MovesUpTo c.args.grammar.now c.runs.found c.runs.found list c.args.state c.runs.row.items c.runs.place)
+    (sym c.deref.ensures.value)
     (moves_now c.args.grammar.now c.args.found.now c.runs.found c.in_ok-list.list.items c.args.state c.runs.row.items c.runs.place c.runs.invariant.moves)
 
 pub runs-preserved : goal.runs-preserved

@@ -13,10 +13,12 @@ returns-in-Some-clause-leads c =
     (c.requires.kernel prefix at) there (subst (SameItems kernel) c.as_slice.ensures same)
 
 pub returns-clause-kernels : goal.returns-clause-kernels
-returns-clause-kernels c = subst (λ (f : IndexView). AreKernelsOf c.args.grammar.now f.prefixes f.kernels) (sym c.put.ensures) c.in_ok-next.ensures.kernels
+returns-clause-kernels c = subst (λ (f : IndexView). AreKernelsOf c.args.grammar.now f.prefixes f.kernels)
+    (sym c.put.ensures) c.in_ok-next.ensures.kernels
 
 pub returns-clause-grows : goal.returns-clause-grows
 returns-clause-grows c = subst (Grows c.args.found.now) (sym c.put.ensures) c.in_ok-next.ensures.grows
 
 pub returns-clause-leads : goal.returns-clause-leads
-returns-clause-leads c = subst (λ (f : IndexView). Leads c.args.grammar.now f.prefixes c.args.state c.args.symbol c.in_ok-next.next) (sym c.put.ensures) c.in_ok-next.ensures.leads
+returns-clause-leads c = subst (λ (f : IndexView). Leads c.args.grammar.now f.prefixes c.args.state c.args.symbol c.in_ok-next.next)
+    (sym c.put.ensures) c.in_ok-next.ensures.leads

@@ -1,9 +1,9 @@
 use Rattle.std.proofs.Common.{◌+◌, ◌-◌, ◌/◌, arith, subst}
 use Rattle.std.specs.Prelude.{Contains}
+use Rattle.wb_lemmas.proofs.Members.{place_of, contains_at}
 use Rattle.wb_items.specs.declared.transitions.Move.{Move}
 use Rattle.wb_items.specs.Order.{SymbolPrecedes}
 use Rattle.wb_items.proofs.HalvesLemmas.{halves_above, halves_below, halves_none}
-use Rattle.wb_items.proofs.ListLemmas.{at_Contains, Contains-at}
 use Rattle.wb_items.proofs.SymbolOrder.{symbol_then, symbol_not_itself}
 use Rattle.wb_items.proofs.transitions.find_move.Goals as goal
 
@@ -12,26 +12,35 @@ halves-preserved-in-Less c =
     let x = c.args.symbol in
     let here = c.move_at-found.result in
     let middle = c.halves.low + (c.halves.high - c.halves.low) / 2 in
-    halves_above (λ (move : Move). SymbolPrecedes move.symbol x) (λ (move : Move). SymbolPrecedes x move.symbol) c.args.row.now c.halves.low c.halves.high middle here c.move_at-found.ensures (omega arith) c.in-Less.ensures
-    (λ i move lt at. symbol_then move.symbol here.symbol x (c.requires i middle move here lt at c.move_at-found.ensures) c.in-Less.ensures) c.halves.invariant
+    halves_above (λ (move : Move). SymbolPrecedes move.symbol x)
+    (λ (move : Move). SymbolPrecedes x move.symbol) c.args.row.now c.halves.low c.halves.high middle here c.move_at-found.ensures
+    (omega arith) c.in-Less.ensures
+    (λ i move lt at. symbol_then move.symbol here.symbol x
+    (c.requires i middle move here lt at c.move_at-found.ensures) c.in-Less.ensures) c.halves.invariant
 
 pub halves-preserved : goal.halves-preserved
 halves-preserved c =
     let x = c.args.symbol in
     let here = c.move_at-found.result in
     let middle = c.halves.low + (c.halves.high - c.halves.low) / 2 in
-    halves_below (λ (move : Move). SymbolPrecedes move.symbol x) (λ (move : Move). SymbolPrecedes x move.symbol) c.args.row.now c.halves.low c.halves.high middle here c.move_at-found.ensures (omega arith) (omega arith) c.in-Greater.ensures
-    (λ i move lt at. symbol_then x here.symbol move.symbol c.in-Greater.ensures (c.requires middle i here move lt c.move_at-found.ensures at)) c.halves.invariant
+    halves_below (λ (move : Move). SymbolPrecedes move.symbol x)
+    (λ (move : Move). SymbolPrecedes x move.symbol) c.args.row.now c.halves.low c.halves.high middle here c.move_at-found.ensures
+    (omega arith) (omega arith) c.in-Greater.ensures
+    (λ i move lt at. symbol_then x here.symbol move.symbol c.in-Greater.ensures
+    (c.requires middle i here move lt c.move_at-found.ensures at)) c.halves.invariant
 
 pub returns-in-Equal-clause-found : goal.returns-in-Equal-clause-found
 returns-in-Equal-clause-found c =
     let here = c.move_at-found.result in
-    subst (λ z. Contains c.args.row.now (record { symbol = z; state = here.state })) c.in-Equal.ensures (Contains-at c.args.row.now (c.halves.low + (c.halves.high - c.halves.low) / 2) here c.move_at-found.ensures)
+    subst (λ z. Contains c.args.row.now (record { symbol = z; state = here.state })) c.in-Equal.ensures
+    (contains_at c.args.row.now here (c.halves.low + (c.halves.high - c.halves.low) / 2) c.move_at-found.ensures)
 
 pub returns-clause-none : goal.returns-clause-none
 returns-clause-none c = λ state k.
     let x = c.args.symbol in
     let sought : Move = record { symbol = x; state = state } in
-    let (j, at) = at_Contains c.args.row.now sought k in
-    halves_none (λ (move : Move). SymbolPrecedes move.symbol x) (λ (move : Move). SymbolPrecedes x move.symbol) c.args.row.now c.halves.low c.halves.high (omega arith) c.halves.invariant ⊥ j sought at
+    let (j, at) = place_of c.args.row.now sought k in
+    halves_none (λ (move : Move). SymbolPrecedes move.symbol x)
+    (λ (move : Move). SymbolPrecedes x move.symbol) c.args.row.now c.halves.low c.halves.high
+    (omega arith) c.halves.invariant ⊥ j sought at
     (λ before. symbol_not_itself x before) (λ beyond. symbol_not_itself x beyond)

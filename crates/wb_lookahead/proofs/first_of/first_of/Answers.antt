@@ -1,7 +1,7 @@
-use Rattle.std.proofs.Common.{◌≡◌, ◌+◌, ◌<◌, ◌∷◌, drop, length, sym, ◌∙◌, ap, subst, arith}
+use Rattle.std.proofs.Common.{◌+◌, ◌∷◌, drop, sym, ◌∙◌, ap, subst, arith}
 use Rattle.std.proofs.lemmas.Bool.{true≢false}
 use Rattle.std.proofs.lemmas.List.{drop_more, drop_all}
-use Rattle.wb_base.specs.declared.symbol.Symbol.TheVariants.{Terminal, Nonterminal}
+use Rattle.wb_base.specs.declared.symbol.Symbol.TheVariants.{Terminal}
 use Rattle.wb_base.specs.Grammar.{IsSymbolBelow}
 use Rattle.wb_lookahead.specs.Inner.Rests.{BeginsSoFar}
 use Rattle.wb_lookahead.proofs.RestLemmas.{begins_end, begins_insert, begins_on, begins_stop}
@@ -13,7 +13,7 @@ returns-in-Terminal c =
     let w = c.args.symbols.now in
     let below : IsSymbolBelow c.args.grammar.now.terminals c.args.grammar.now.nonterminals (Terminal c.in-Terminal.terminal) =
     subst (IsSymbolBelow c.args.grammar.now.terminals c.args.grammar.now.nonterminals) c.in-Terminal.is
-        (c.requires.symbols i (Terminal 0) c.symbols-test.true) in
+    (c.requires.symbols i (Terminal 0) c.symbols-test.true) in
     begins_insert c.args.grammar.now w (drop (i + 1) w) (drop i w) c.symbols.set c.insert.new.self c.in-Terminal.terminal
     (drop_more w i (Terminal 0) c.symbols-test.true ∙ ap (λ z. z ∷ drop (i + 1) w) c.in-Terminal.is)
     (let len = c.symbols.invariant.len in omega (arith, len, below)) c.symbols.invariant c.insert.ensures.after
@@ -36,7 +36,7 @@ symbols-preserved c =
     begins_on c.args.grammar.now w (drop (i + 1) w) c.symbols.set c.first.result.now c.union_with.new.self c.in-Nonterminal.nonterminal
     (subst (BeginsSoFar c.args.grammar.now w c.symbols.set) all c.symbols.invariant) c.union_with.ensures.after
     (c.first.ensures.exact c.args.grammar.now c.requires.facts)
-        ((c.nullable.ensures.exact c.args.grammar.now c.requires.facts).0 c.if-not-nullable.false)
+    ((c.nullable.ensures.exact c.args.grammar.now c.requires.facts).0 c.if-not-nullable.false)
 
 pub returns : goal.returns
 returns c =

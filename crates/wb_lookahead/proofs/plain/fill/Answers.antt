@@ -1,4 +1,4 @@
-use Rattle.std.proofs.Common.{◌<◌, arith}
+use Rattle.std.proofs.Common.{arith}
 use Rattle.wb_lookahead.proofs.WaitingLemmas.{all_filled}
 use Rattle.wb_lookahead.proofs.plain.fill.Goals as goal
 

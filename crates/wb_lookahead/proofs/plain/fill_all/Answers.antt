@@ -12,34 +12,34 @@ use Rattle.wb_lookahead.proofs.StepLemmas.{row_has}
 use Rattle.wb_lookahead.proofs.UnionLemmas.{lists_added, lists_kept}
 use Rattle.wb_lookahead.proofs.plain.fill_all.Goals as goal
 
-pub place-at-requires-clause-item : goal.place-at-requires-clause-item
-place-at-requires-clause-item c =
+pub place_near-at-requires-clause-item : goal.place_near-at-requires-clause-item
+place_near-at-requires-clause-item c =
     let numbers = c.as_slice-numbers.result.now in
     let lt : c.args.nonterminal < length c.args.context.now.productions.now = (let e = c.requires.context.are_productions.len in let f =
-        c.requires.nonterminal in omega (arith, e, f)) in
+    c.requires.nonterminal in omega (arith, e, f)) in
     let at : slice_get c.args.context.now.productions.now c.args.nonterminal ≡ Some numbers =
     slice_get-get_or c.args.context.now.productions.now c.args.nonterminal c.index-context-nonterminal.result lt ∙
-        ap Some (sym c.as_slice-numbers.ensures) in
+    ap Some (sym c.as_slice-numbers.ensures) in
     let are : AreProductionsOf c.args.context.now.kernels.now.grammar c.args.nonterminal numbers =
     productions_here c.args.context.now.kernels.now c.requires.context.of_grammar c.args.context.now.productions.now c.requires.context.are_productions c.args.nonterminal numbers at in
     let q = get_or numbers c.productions.production-index 0 in
     let (right, rule) = are.sound q (Contains-get_or numbers c.productions.production-index 0 c.productions-test.true) in
     row_has c.requires.context.are_kernels c.productions.lookaheads c.productions.invariant.propagated.shape c.args.state
-        (initial_item q) c.requires.state (c.requires.has q right rule)
+    (initial_item q) c.requires.state (c.requires.has q right rule)
 
 pub productions-preserved : goal.productions-preserved
 productions-preserved c =
     let numbers = c.as_slice-numbers.result.now in
     let lt : c.args.nonterminal < length c.args.context.now.productions.now = (let e = c.requires.context.are_productions.len in let f =
-        c.requires.nonterminal in omega (arith, e, f)) in
+    c.requires.nonterminal in omega (arith, e, f)) in
     let at : slice_get c.args.context.now.productions.now c.args.nonterminal ≡ Some numbers =
     slice_get-get_or c.args.context.now.productions.now c.args.nonterminal c.index-context-nonterminal.result lt ∙
-        ap Some (sym c.as_slice-numbers.ensures) in
+    ap Some (sym c.as_slice-numbers.ensures) in
     let are : AreProductionsOf c.args.context.now.kernels.now.grammar c.args.nonterminal numbers =
     productions_here c.args.context.now.kernels.now c.requires.context.of_grammar c.args.context.now.productions.now c.requires.context.are_productions c.args.nonterminal numbers at in
     let q = get_or numbers c.productions.production-index 0 in
     let (right, rule) = are.sound q (Contains-get_or numbers c.productions.production-index 0 c.productions-test.true) in
-    let place = place_of c.args.state (initial_item q) c.place-at.result in
+    let place = place_of c.args.state (initial_item q) c.place_near-at.result in
     let within = state_within c.requires.context.are_kernels place c.requires.state c.productions.lookaheads c.productions.invariant.propagated.shape in
     record {
       propagated = union_propagated place within c.productions.invariant.propagated
@@ -49,8 +49,8 @@ productions-preserved c =
         | inl before ↦ lists_kept c.unite.ensures within c.args.state (initial_item r) t (c.productions.invariant.filled r t before f)
         | inr same ↦ subst (λ z. Lists c.unite.new.lookaheads c.args.state (initial_item z) t) same
             (lists_added c.unite.ensures within t
-                ((c.requires.exact q t right rule).1 (subst (λ z. FlowsTo c.args.context.now.kernels.now c.args.state (initial_item z) t)
-                (sym same) f)))
+            ((c.requires.exact q t right rule).1 (subst (λ z. FlowsTo c.args.context.now.kernels.now c.args.state (initial_item z) t)
+            (sym same) f)))
       ];
     }
 
@@ -58,11 +58,11 @@ pub returns-clause-filled : goal.returns-clause-filled
 returns-clause-filled c =
     let numbers = c.as_slice-numbers.result.now in
     let lt : c.args.nonterminal < length c.args.context.now.productions.now = (let e = c.requires.context.are_productions.len in let f =
-        c.requires.nonterminal in omega (arith, e, f)) in
+    c.requires.nonterminal in omega (arith, e, f)) in
     let at : slice_get c.args.context.now.productions.now c.args.nonterminal ≡ Some numbers =
     slice_get-get_or c.args.context.now.productions.now c.args.nonterminal c.index-context-nonterminal.result lt ∙
-        ap Some (sym c.as_slice-numbers.ensures) in
+    ap Some (sym c.as_slice-numbers.ensures) in
     let are : AreProductionsOf c.args.context.now.kernels.now.grammar c.args.nonterminal numbers =
     productions_here c.args.context.now.kernels.now c.requires.context.of_grammar c.args.context.now.productions.now c.requires.context.are_productions c.args.nonterminal numbers at in
     λ q t right rule f. c.productions.invariant.filled q t (contains_all numbers c.productions.production-index q c.productions-test.false
-        (are.complete q right rule)) f
+    (are.complete q right rule)) f

@@ -1,4 +1,3 @@
-use Rattle.std.proofs.Common.{◌≡◌}
 use Rattle.wb_lookahead.proofs.WaitingLemmas.{all_passed, first_place, passed_waiting, sound_popped}
 use Rattle.wb_lookahead.proofs.plain.propagate.Goals as goal
 

@@ -14,10 +14,10 @@ pub pass_item-requires-clause-has : goal.pass_item-requires-clause-has
 pass_item-requires-clause-has c =
     let numbers = c.as_slice-numbers.result.now in
     let lt : c.args.nonterminal < length c.args.context.now.productions.now = (let e = c.requires.context.are_productions.len in let f =
-        c.requires.nonterminal in omega (arith, e, f)) in
+    c.requires.nonterminal in omega (arith, e, f)) in
     let at : slice_get c.args.context.now.productions.now c.args.nonterminal ≡ Some numbers =
     slice_get-get_or c.args.context.now.productions.now c.args.nonterminal c.index-context-nonterminal.result lt ∙
-        ap Some (sym c.as_slice-numbers.ensures) in
+    ap Some (sym c.as_slice-numbers.ensures) in
     let are : AreProductionsOf c.args.context.now.kernels.now.grammar c.args.nonterminal numbers =
     productions_here c.args.context.now.kernels.now c.requires.context.of_grammar c.args.context.now.productions.now c.requires.context.are_productions c.args.nonterminal numbers at in
     let q = get_or numbers c.productions.production-index 0 in
@@ -28,10 +28,10 @@ pub pass_item-requires-clause-flows : goal.pass_item-requires-clause-flows
 pass_item-requires-clause-flows c =
     let numbers = c.as_slice-numbers.result.now in
     let lt : c.args.nonterminal < length c.args.context.now.productions.now = (let e = c.requires.context.are_productions.len in let f =
-        c.requires.nonterminal in omega (arith, e, f)) in
+    c.requires.nonterminal in omega (arith, e, f)) in
     let at : slice_get c.args.context.now.productions.now c.args.nonterminal ≡ Some numbers =
     slice_get-get_or c.args.context.now.productions.now c.args.nonterminal c.index-context-nonterminal.result lt ∙
-        ap Some (sym c.as_slice-numbers.ensures) in
+    ap Some (sym c.as_slice-numbers.ensures) in
     let are : AreProductionsOf c.args.context.now.kernels.now.grammar c.args.nonterminal numbers =
     productions_here c.args.context.now.kernels.now c.requires.context.of_grammar c.args.context.now.productions.now c.requires.context.are_productions c.args.nonterminal numbers at in
     let q = get_or numbers c.productions.production-index 0 in
@@ -44,22 +44,23 @@ productions-preserved c = record {
   spreads = spreads_then c.productions.invariant.spreads c.in_ok-pass_item.ensures.spreads;
   passed = λ q t there has. elim
       (contains_more c.as_slice-numbers.result.now c.productions.production-index 0 q c.productions-test.true there) [
-    | inl before ↦ passed_kept c.productions.lookaheads c.in_ok-pass_item.ensures.spreads.keeps
-          (c.productions.invariant.passed q t before has)
-    | inr same ↦ subst (λ z. IsItemPassed c.args.context.now.kernels.now c.pass_item.new.lookaheads c.args.state (initial_item z) t) same
-          (c.in_ok-pass_item.ensures.passed t has)
-  ];
+        | inl before ↦ passed_kept c.productions.lookaheads c.in_ok-pass_item.ensures.spreads.keeps
+            (c.productions.invariant.passed q t before has)
+        | inr same ↦ subst (λ z. IsItemPassed c.args.context.now.kernels.now c.pass_item.new.lookaheads c.args.state
+              (initial_item z) t) same
+            (c.in_ok-pass_item.ensures.passed t has)
+      ];
 }
 
 pub returns-clause-passed : goal.returns-clause-passed
 returns-clause-passed c =
     let numbers = c.as_slice-numbers.result.now in
     let lt : c.args.nonterminal < length c.args.context.now.productions.now = (let e = c.requires.context.are_productions.len in let f =
-        c.requires.nonterminal in omega (arith, e, f)) in
+    c.requires.nonterminal in omega (arith, e, f)) in
     let at : slice_get c.args.context.now.productions.now c.args.nonterminal ≡ Some numbers =
     slice_get-get_or c.args.context.now.productions.now c.args.nonterminal c.index-context-nonterminal.result lt ∙
-        ap Some (sym c.as_slice-numbers.ensures) in
+    ap Some (sym c.as_slice-numbers.ensures) in
     let are : AreProductionsOf c.args.context.now.kernels.now.grammar c.args.nonterminal numbers =
     productions_here c.args.context.now.kernels.now c.requires.context.of_grammar c.args.context.now.productions.now c.requires.context.are_productions c.args.nonterminal numbers at in
     λ q t right rule has. c.productions.invariant.passed q t (contains_all numbers c.productions.production-index q c.productions-test.false
-        (are.complete q right rule)) has
+    (are.complete q right rule)) has

@@ -1,6 +1,5 @@
-use Rattle.std.proofs.Common.{refl}
 use Rattle.std.proofs.lemmas.Result.{on_ok_weaker}
-use Rattle.wb_lookahead.proofs.PassLemmas.{complete_passed, item_passed, on_ok_two}
+use Rattle.wb_lookahead.proofs.PassLemmas.{item_passed, on_ok_two}
 use Rattle.wb_lookahead.proofs.SpreadLemmas.{spreads_then}
 use Rattle.wb_lookahead.proofs.propagate.pass_item.Goals as goal
 

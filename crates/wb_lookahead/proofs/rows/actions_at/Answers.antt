@@ -18,7 +18,7 @@ pub items-preserved : goal.items-preserved
 items-preserved c =
     let item : Item = get_or c.closure-item-items.result.now c.items.item-index (record { production = 0; dot = 0 }) in
     let at : slice_get c.closure-item-items.result.now c.items.item-index ≡ Some item =
-        slice_get-get_or c.closure-item-items.result.now c.items.item-index (record { production = 0; dot = 0 }) c.items-test.true in
+    slice_get-get_or c.closure-item-items.result.now c.items.item-index (record { production = 0; dot = 0 }) c.items-test.true in
     let here : slice_get (closure_of c.args.kernels.now c.args.state) c.items.item-index ≡ Some item = subst
     (λ z. slice_get z c.items.item-index ≡ Some item) c.closure-item-items.ensures.is at in
     let len : length c.add_item.new.row ≡ c.items.row.len = omega

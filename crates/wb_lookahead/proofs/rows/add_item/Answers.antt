@@ -31,7 +31,7 @@ returns-in_default-clause-ok c =
     (sym c.requires.grammar) c.reduction-action.ensures in
     let exact : (t : ℕ) → IsMember c.of.result.now t ↔ IsLookahead c.args.kernels.now.grammar
     (prefix_of c.args.kernels.now c.args.state) c.args.item t =
-        λ t. c.requires.lookaheads.exact c.args.state c.args.item c.of.result.now t c.requires.state c.of.ensures in
+    λ t. c.requires.lookaheads.exact c.args.state c.args.item c.of.result.now t c.requires.state c.of.ensures in
     on_ok_weaker c.put_all.result
     (puts_adds (IsMember c.of.result.now)
     (λ t has. complete_stands c.args.kernels.now c.args.state c.args.item c.reduction-action.result c.requires.item complete is t
@@ -49,7 +49,7 @@ returns-in_default-clause-refused c =
     (sym c.requires.grammar) c.reduction-action.ensures in
     let exact : (t : ℕ) → IsMember c.of.result.now t ↔ IsLookahead c.args.kernels.now.grammar
     (prefix_of c.args.kernels.now c.args.state) c.args.item t =
-        λ t. c.requires.lookaheads.exact c.args.state c.args.item c.of.result.now t c.requires.state c.of.ensures in
+    λ t. c.requires.lookaheads.exact c.args.state c.args.item c.of.result.now t c.requires.state c.of.ensures in
     IfErr-weaker c.put_all.result (IsClash c.args.state c.args.row.now (IsMember c.of.result.now) c.reduction-action.result)
     (IsTableRefusal c.args.kernels.now)
     (clash_refused (IsMember c.of.result.now) c.requires.kernels c.requires.state

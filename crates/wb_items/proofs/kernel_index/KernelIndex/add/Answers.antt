@@ -10,16 +10,23 @@ use Rattle.wb_items.proofs.kernel_index.KernelIndex.add.Goals as goal
 
 pub returns : goal.returns
 returns c =
-    rw (← c.self.view_is) (added c.self.inside.steps.items c.push_reserved.new.self.items c.self.inside.kernels.items c.push_reserved-2.new.self.items
+    rw (← c.self.view_is)
+    (added c.self.inside.steps.items c.push_reserved.new.self.items c.self.inside.kernels.items c.push_reserved-2.new.self.items
     (record { from = c.args.from; symbol = c.args.symbol }) c.args.kernel
-    (c.push_reserved.ensures.items ∙ ap (λ (s : List Step). s ++ record { from = c.args.from; symbol = c.args.symbol } ∷ []) (c.in_ok-reserve.ensures.items))
+    (c.push_reserved.ensures.items ∙ ap (λ (s : List Step). s ++ record {
+      from = c.args.from;
+      symbol =
+          c.args.symbol;
+    } ∷ []) (c.in_ok-reserve.ensures.items))
     (c.push_reserved-2.ensures.items ∙ ap (λ (k : List (List Item)). k ++ c.args.kernel ∷ []) (c.in_ok-reserve-2.ensures.items)))
 
 pub unreachable-requires : goal.unreachable-requires
 unreachable-requires c =
     let number = c.in_default.field-0 in
     let (other, at, same) = c.in_default.ensures.ok in
-    c.requires.new number other (subst (λ (f : IndexView). slice_get f.kernels number ≡ Some other) c.self.view_is (subst (λ kernels. slice_get kernels number ≡ Some other) c.deref.ensures.value at)) (subst (SameItems other) c.as_slice.ensures same)
+    c.requires.new number other (subst (λ (f : IndexView). slice_get f.kernels number ≡ Some other) c.self.view_is
+    (subst (λ kernels. slice_get kernels number ≡ Some other) c.deref.ensures.value at))
+    (subst (SameItems other) c.as_slice.ensures same)
 
 pub invariant_of-self-2 : goal.invariant_of-self-2
 invariant_of-self-2 c =
@@ -32,7 +39,12 @@ invariant_of-self-2 c =
     (subst (λ o. LiesWithin c.deref.result.now o c.args.kernel place place) c.deref-2.ensures.value
     (subst (λ i. LiesWithin c.deref.result.now c.deref-2.result.now i place place) c.as_slice.ensures c.in-Err.ensures.err)))
     c.requires.in_order
-    (c.push_reserved.ensures.items ∙ ap (λ (s : List Step). s ++ record { from = c.args.from; symbol = c.args.symbol } ∷ []) (c.in_ok-reserve.ensures.items))
+    (c.push_reserved.ensures.items ∙ ap (λ (s : List Step). s ++ record {
+      from = c.args.from;
+      symbol =
+          c.args.symbol;
+    } ∷ []) (c.in_ok-reserve.ensures.items))
     (c.push_reserved-2.ensures.items ∙ ap (λ (k : List (List Item)). k ++ c.args.kernel ∷ []) (c.in_ok-reserve-2.ensures.items))
     c.in_ok-insert.ensures.ok
-    (let same = ap (λ (k : List (List Item)). length k) c.in_ok-reserve-2.ensures.items in omega (arith, c.len.ensures, c.reserve-2.new.self.ok.0, same))
+    (let same = ap (λ (k : List (List Item)). length k) c.in_ok-reserve-2.ensures.items in omega
+    (arith, c.len.ensures, c.reserve-2.new.self.ok.0, same))

@@ -12,7 +12,9 @@ within c = subst (λ (k : KernelsView). c.args.state < count_of k) (sym c.self.v
 there : (c : goal.After-find_move) → slice_get c.self.inside.rows.items c.args.state ≡ Some c.as_slice.result.now
 there c =
     let lt = within c in
-    slice_get-get_or c.self.inside.rows.items c.args.state c.index.result.now (omega (arith, lt, c.self.invariant.followed.len, c.self.invariant.closures_len, c.self.invariant.kernels.len)) ∙ ap Some (sym (c.as_slice.ensures ∙ c.index.ensures))
+    slice_get-get_or c.self.inside.rows.items c.args.state c.index.result.now
+    (omega (arith, lt, c.self.invariant.followed.len, c.self.invariant.closures_len, c.self.invariant.kernels.len)) ∙
+    ap Some (sym (c.as_slice.ensures ∙ c.index.ensures))
 
 pub returns-clause-some : goal.returns-clause-some
 returns-clause-some c =
@@ -26,6 +28,9 @@ returns-clause-none c =
 
 pub find_move-requires : goal.find_move-requires
 find_move-requires c =
-    let lt : c.args.state < length c.self.inside.found.prefixes = subst (λ (k : KernelsView). c.args.state < count_of k) (sym c.self.view_is) c.requires in
+    let lt : c.args.state < length c.self.inside.found.prefixes = subst (λ (k : KernelsView). c.args.state < count_of k)
+    (sym c.self.view_is) c.requires in
     moves_ordered c.self.inside.grammar c.self.inside.found c.self.inside.closures.items c.self.inside.rows.items c.self.invariant c.args.state c.as_slice.result.now lt
-    (slice_get-get_or c.self.inside.rows.items c.args.state c.index.result.now (omega (arith, lt, c.self.invariant.followed.len, c.self.invariant.closures_len, c.self.invariant.kernels.len)) ∙ ap Some (sym (c.as_slice.ensures ∙ c.index.ensures)))
+    (slice_get-get_or c.self.inside.rows.items c.args.state c.index.result.now
+    (omega (arith, lt, c.self.invariant.followed.len, c.self.invariant.closures_len, c.self.invariant.kernels.len)) ∙
+    ap Some (sym (c.as_slice.ensures ∙ c.index.ensures)))

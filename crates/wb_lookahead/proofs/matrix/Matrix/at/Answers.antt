@@ -65,5 +65,5 @@ returns-clause-within c =
     let place : c.args.place < c.self.inside.width = subst (λ (g : MatrixView). c.args.place < g.width)
     (sym c.self.view_is) c.requires.place in
     rw (← c.self.view_is)
-        (let len = row_length c.self.inside.height c.self.inside.width c.self.inside.codes.items c.args.row c.self.invariant lt in omega
-        (arith, len))
+    (let len = row_length c.self.inside.height c.self.inside.width c.self.inside.codes.items c.args.row c.self.invariant lt in omega
+    (arith, len))

@@ -1,6 +1,5 @@
-use Rattle.std.proofs.Common.{◌≡◌, ◌∷◌, [], ◌++◌, refl, sym, ◌∙◌, ap, subst, inl, inr}
+use Rattle.std.proofs.Common.{◌∷◌, [], ◌++◌, refl, sym, ◌∙◌, ap, subst, inl, inr}
 use Rattle.std.specs.Prelude.{Contains}
-use Rattle.wb_lookahead.specs.declared.worklist.Place.{Place}
 use Rattle.wb_lookahead.specs.Inner.Waiting.{in_front, at_end, stays, AreMarked, IsMarked}
 use Rattle.wb_lookahead.proofs.MarkLemmas.{marked_before, marked_more}
 use Rattle.wb_lookahead.proofs.worklist.Worklist.add.Goals as goal
@@ -10,8 +9,12 @@ returns-then-is_marked c =
     let marked : IsMarked c.self.inside.marks.items c.args.place.state c.args.place.at =
     subst (λ z. IsMarked z c.args.place.state c.args.place.at) c.deref.ensures.value (c.is_marked.ensures.0 c.if-is_marked.true) in
     let (item, there) = c.self.invariant c.args.place.state c.args.place.at marked in
-    stays item refl (subst (λ z. Contains z (record { state = c.args.place.state; item = item; at =
-        c.args.place.at })) c.self.view_is there)
+    stays item refl (subst (λ z. Contains z (record {
+      state = c.args.place.state;
+      item = item;
+      at =
+          c.args.place.at;
+    })) c.self.view_is there)
 
 pub invariant_of-self-2 : goal.invariant_of-self-2
 invariant_of-self-2 c = elim c.in_ok-put_place.ensures.ok [

@@ -4,7 +4,7 @@ use Rattle.wb_base.specs.declared.symbol.Symbol.{Symbol}
 use Rattle.wb_grammars.specs.Productions.{IsProduction}
 use Rattle.wb_lookahead.specs.declared.first_of.Rest.{Rest}
 use Rattle.wb_lookahead.specs.Inner.Rests.{AreRestsOf}
-use Rattle.wb_lookahead.proofs.first_of.rests_of.Given as goal
+use Rattle.wb_lookahead.proofs.first_of.rests_with.Given as goal
 
 abbrev pub invariant-productions : goal.invariant-productions
 invariant-productions l = record {
