@@ -1,6 +1,6 @@
 //! A list that grows at its end, and can be taken out as a whole.
 
-ghost use Rattle.std.specs.Prelude.{◌≡◌, ◌++◌, ◌∷◌, [], OnOk, length};
+ghost use Rattle.std.specs.Prelude.{◌≡◌, ◌++◌, ◌∷◌, [], OnErr, OnOk, length};
 
 use std::alloc::{AllocError, Global};
 use std::marker::Model;
@@ -31,9 +31,10 @@ impl<T: Drop> List<T> {
         }
     }
 
-    /// One value more, which is last. The only error is want of memory.
+    /// One value more, which is last. The only error is want of memory, and then the values are as before.
     pub fn push(&mut self, value: T) -> Result<(), AllocError>
         ensures ok { OnOk result (self.new ≡ self.old ++ value ∷ []) }
+        ensures err { OnErr result (self.new ≡ self.old) }
     {
         self.items.push(value)?;
         Ok(())

@@ -1,6 +1,6 @@
 //! A stack, seen from its top.
 
-ghost use Rattle.std.specs.Prelude.{◌≡◌, ◌∷◌, [], OnOk, MatchOption};
+ghost use Rattle.std.specs.Prelude.{◌≡◌, ◌∷◌, [], MatchOption, OnErr, OnOk};
 
 use std::alloc::{AllocError, Global};
 use std::marker::Model;
@@ -29,9 +29,10 @@ impl<T: Drop> Stack<T> {
         }
     }
 
-    /// Puts a value on top. The only error is want of memory.
+    /// Puts a value on top. The only error is want of memory, and then the values are as before.
     pub fn push(&mut self, value: T) -> Result<(), AllocError>
         ensures ok { OnOk result (self.new ≡ value ∷ self.old) }
+        ensures err { OnErr result (self.new ≡ self.old) }
     {
         self.items.push(value)?;
         Ok(())
