@@ -2,7 +2,7 @@
 //!
 //! A builder hands its list on without memory and goes on with an empty one. Values that are taken one by one are in `stack`.
 
-ghost use Rattle.std.specs.Prelude.{◌≡◌, ◌++◌, ◌∷◌, [], OnOk, length};
+ghost use Rattle.std.specs.Prelude.{◌≡◌, ◌++◌, ◌∷◌, [], OnErr, OnOk, length};
 
 use std::alloc::{AllocError, Global};
 use std::marker::Model;
@@ -33,9 +33,10 @@ impl<T: Drop> List<T> {
         }
     }
 
-    /// One value more, which is last. The only error is want of memory.
+    /// One value more, which is last. The only error is want of memory, and then the values are as before.
     pub fn push(&mut self, value: T) -> Result<(), AllocError>
         ensures ok { OnOk result (self.new ≡ self.old ++ value ∷ []) }
+        ensures err { OnErr result (self.new ≡ self.old) }
     {
         self.items.push(value)?;
         Ok(())

@@ -2,7 +2,7 @@
 //!
 //! Contracts see the stack from its top, as an action of a table speaks of it. Values that are taken all at once are in `list`.
 
-ghost use Rattle.std.specs.Prelude.{◌≡◌, ◌∷◌, [], OnOk, MatchOption};
+ghost use Rattle.std.specs.Prelude.{◌≡◌, ◌∷◌, [], MatchOption, OnErr, OnOk};
 
 use std::alloc::{AllocError, Global};
 use std::marker::Model;
@@ -31,9 +31,10 @@ impl<T: Drop> Stack<T> {
         }
     }
 
-    /// Puts a value on top. The only error is want of memory.
+    /// Puts a value on top. The only error is want of memory, and then the values are as before.
     pub fn push(&mut self, value: T) -> Result<(), AllocError>
         ensures ok { OnOk result (self.new ≡ value ∷ self.old) }
+        ensures err { OnErr result (self.new ≡ self.old) }
     {
         self.items.push(value)?;
         Ok(())

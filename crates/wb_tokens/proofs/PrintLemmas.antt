@@ -87,3 +87,12 @@ text_more before out new text i within e f =
     ∙ (flat_map-append printed_byte (take i text) (get_or text i 0 ∷ []) ∙ ap (λ l. flat_map printed_byte (take i text) ++ l) one) in
     f ∙ (ap (λ l. l ++ printed_byte (get_or text i 0)) e
     ∙ (append_assoc before (flat_map printed_byte (take i text)) (printed_byte (get_or text i 0)) ∙ ap (λ l. before ++ l) (sym more)))
+
+-- what follows the opening quote comes after what was there, and so does the closing quote, where it is written
+pub grown_by : (old out new more last : List ℕ) (is_written : Bool) → out ≡ (old ++ 34 ∷ []) ++ more → new ≡ cond is_written (out ++ last) out
+    → (added : List ℕ) × (new ≡ old ++ added)
+grown_by old out new more last true e f = (
+  (34 ∷ more) ++ last,
+  f ∙ (ap (λ l. l ++ last) (e ∙ append_assoc old (34 ∷ []) more) ∙ append_assoc old (34 ∷ more) last),
+)
+grown_by old out new more last false e f = (34 ∷ more, f ∙ (e ∙ append_assoc old (34 ∷ []) more))
