@@ -19,19 +19,19 @@ use Rattle.wb_syntax.specs.ExpressionGrammar.{IsExpression, AreArguments, AreFur
 use Rattle.wb_syntax.specs.PartGrammar as part
 use Rattle.wb_syntax.specs.PartGrammar.{IsKind, AreFurtherNames, AreNames, AreNeeds, AreOptionalNeeds, AreChildren, IsTarget, AreEquations, IsBlock}
 use Rattle.wb_syntax.specs.ItemGrammar as item
-use Rattle.wb_syntax.specs.ItemGrammar.{IsProduction, IsPlain, IsItem, AreItems, IsHeader, IsSpecification}
+use Rattle.wb_syntax.specs.Fields.{Field, AreFields, no_field, then_word, then_mark, then_name, then_kind, then_needs, then_optional_needs}
+use Rattle.wb_syntax.specs.ItemGrammar.{IsProduction, IsItem, AreItems, IsHeader, IsSpecification}
 use Rattle.wb_syntax.specs.Tokens.{Lexeme, IsName}
 use Rattle.wb_syntax.specs.declared.expression.Equation.{Equation}
 use Rattle.wb_syntax.specs.declared.expression.Target.{Target}
 use Rattle.wb_syntax.specs.declared.header.Header.{Header}
 use Rattle.wb_syntax.specs.declared.item.Item.{Item}
-use Rattle.wb_syntax.specs.declared.item.PlainForm.{PlainForm}
 use Rattle.wb_syntax.specs.declared.pattern.WrittenPattern.{WrittenPattern}
 use Rattle.wb_syntax.specs.declared.production.Child.{Child}
 use Rattle.wb_syntax.specs.declared.production.NamedKind.{NamedKind}
 use Rattle.wb_syntax.specs.declared.production.Production.{Production}
 use Rattle.wb_syntax.specs.declared.written.WrittenSpec.{WrittenSpec}
-use Rattle.wb_syntax.specs.Names.{node_names, target_names, EquationHasNames, kind_names, child_names, ProductionHasNames, needs_names, plain_names, FormHasNames, header_names}
+use Rattle.wb_syntax.specs.Names.{node_names, target_names, EquationHasNames, kind_names, child_names, ProductionHasNames, needs_names, fields_names, FormHasNames, header_names}
 
 -- where the token is a name, it is one
 abbrev IsNameToken : Token → Type 0
@@ -220,36 +220,27 @@ production_listed xs q (item.whole {n = m} {c = c} {l = l} {b = b} {u = u} {v = 
       equations = block_listed v es o (right u v inner);
     }
 
--- an item of names alone
-plain_listed : (xs : List Lexeme) (form : PlainForm) → IsPlain xs form → AreNamed xs → All IsNamed (plain_names form)
-plain_listed xs form (item.prefer {x = x} {a = a} {o = o} {b = b} {s = s} {first = one} {second = two} h i j k l) all =
-    let rest = others x (a ∷ o ∷ b ∷ s ∷ []) all in
-    two_names one two (named a one i (first a (o ∷ b ∷ s ∷ []) rest)) (named b two k (first b (s ∷ []) (others o (b ∷ s ∷ []) (others a (o ∷ b ∷ s ∷ []) rest))))
-plain_listed xs form (item.nonterminal {x = x} {n = m} {s = s} {name = name} h i j) all = one_name name (named m name i (first m (s ∷ []) (others x (m ∷ s ∷ []) all)))
-plain_listed xs form (item.start {x = x} {n = m} {s = s} {name = name} h i j) all = one_name name (named m name i (first m (s ∷ []) (others x (m ∷ s ∷ []) all)))
-plain_listed xs form (item.extensible {x = x} {n = m} {s = s} {name = name} h i j) all = one_name name (named m name i (first m (s ∷ []) (others x (m ∷ s ∷ []) all)))
-plain_listed xs form (item.synthesized {x = x} {n = m} {c = c} s {u = u} {name = name} {kind = kind} h i j k l g) all =
-    let rest = others x (m ∷ c ∷ (u ++ s ∷ [])) (subst AreNamed g all) in
-    All-cons IsNamed name (kind_names kind) (named m name i (first m (c ∷ (u ++ s ∷ [])) rest))
-    (kind_of_names u kind k (left u (s ∷ []) (others c (u ++ s ∷ []) (others m (c ∷ (u ++ s ∷ [])) rest))))
-plain_listed xs form (item.inherited {x = x} {n = m} {c = c} s {u = u} {name = name} {kind = kind} h i j k l g) all =
-    let rest = others x (m ∷ c ∷ (u ++ s ∷ [])) (subst AreNamed g all) in
-    All-cons IsNamed name (kind_names kind) (named m name i (first m (c ∷ (u ++ s ∷ [])) rest))
-    (kind_of_names u kind k (left u (s ∷ []) (others c (u ++ s ∷ []) (others m (c ∷ (u ++ s ∷ [])) rest))))
-plain_listed xs form (item.occurs {x = x} {a = a} {o = o} {n = m} s {u = u} {attribute = attribute} {nonterminal = nonterminal} {needs = needs} h i j k l q g) all =
-    let rest = others x (a ∷ o ∷ m ∷ (u ++ s ∷ [])) (subst AreNamed g all) in
-    let behind = others o (m ∷ (u ++ s ∷ [])) (others a (o ∷ m ∷ (u ++ s ∷ [])) rest) in
-    All-cons IsNamed attribute (nonterminal ∷ needs_names needs) (named a attribute i (first a (o ∷ m ∷ (u ++ s ∷ [])) rest))
-    (All-cons IsNamed nonterminal (needs_names needs) (named m nonterminal k (first m (u ++ s ∷ []) behind))
-    (optional_listed u needs l (left u (s ∷ []) (others m (u ++ s ∷ []) behind))))
-plain_listed xs form (item.forward_on {x = x} {o = o} {n = m} s {u = u} {nonterminal = nonterminal} {needs = needs} h i j k l g) all =
-    let rest = others o (m ∷ (u ++ s ∷ [])) (others x (o ∷ m ∷ (u ++ s ∷ [])) (subst AreNamed g all)) in
-    All-cons IsNamed nonterminal needs (named m nonterminal j (first m (u ++ s ∷ []) rest)) (needs_listed u needs k (left u (s ∷ []) (others m (u ++ s ∷ []) rest)))
+-- fields
+fields_listed : (xs : List Lexeme) (fields : List Field) → AreFields xs fields → AreNamed xs → All IsNamed (fields_names fields)
+fields_listed xs fields no_field all = All-nil IsNamed
+fields_listed xs fields (then_word {x = x} {v = v} {rest = rest} h s) all = fields_listed v rest s (others x v all)
+fields_listed xs fields (then_mark {x = x} {v = v} {rest = rest} h s) all = fields_listed v rest s (others x v all)
+fields_listed xs fields (then_name {x = x} {v = v} {value = one} {rest = rest} h s) all =
+    All-cons IsNamed one (fields_names rest) (named x one h (first x v all)) (fields_listed v rest s (others x v all))
+fields_listed xs fields (then_kind {u = u} {v = v} {value = its} {rest = rest} h s e) all =
+    let whole = subst AreNamed e all in
+    All-append IsNamed (kind_names its) (fields_names rest) (kind_of_names u its h (left u v whole)) (fields_listed v rest s (right u v whole))
+fields_listed xs fields (then_needs {u = u} {v = v} {value = its} {rest = rest} h s e) all =
+    let whole = subst AreNamed e all in
+    All-append IsNamed its (fields_names rest) (needs_listed u its h (left u v whole)) (fields_listed v rest s (right u v whole))
+fields_listed xs fields (then_optional_needs {u = u} {v = v} {value = its} {rest = rest} h s e) all =
+    let whole = subst AreNamed e all in
+    All-append IsNamed (needs_names its) (fields_names rest) (optional_listed u its h (left u v whole)) (fields_listed v rest s (right u v whole))
 
 -- an item, and items
 item_listed : (xs : List Lexeme) (one : Item WrittenPattern) → IsItem xs one → AreNamed xs → FormHasNames one.form
 item_listed xs one (item.lexical {x = x} {n = m} {y = y} {s = s} {name = name} h i j k) all = named m name i (first m (y ∷ s ∷ []) (others x (m ∷ y ∷ s ∷ []) all))
-item_listed xs one (item.plain {form = form} h) all = plain_listed xs form h all
+item_listed xs one (item.plain {form = form} h) all = fields_listed xs (item.plain_fields form) h all
 item_listed xs one (item.production {x = x} {u = u} {production = q} h s) all = production_listed u q s (others x u all)
 item_listed xs one (item.aspect {x = x} {n = m} {u = u} {name = name} {equations = es} h i s) all =
     let rest = others x (m ∷ u) all in (named m name i (first m u rest), block_listed u es s (others m u rest))
