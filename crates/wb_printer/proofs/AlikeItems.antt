@@ -6,12 +6,12 @@ use Rattle.wb_syntax.specs.declared.production.ProductionRole.TheVariants as kin
 use Rattle.wb_syntax.specs.declared.item.Item.{Item}
 use Rattle.wb_syntax.specs.declared.item.ItemForm.{ItemForm}
 use Rattle.wb_syntax.specs.declared.item.ItemForm.TheVariants as forms
-use Rattle.wb_syntax.specs.declared.item.PlainForm.{PlainForm}
 use Rattle.wb_syntax.specs.declared.pattern.Pattern.{Pattern}
 use Rattle.wb_syntax.specs.declared.pattern.Role.{Role}
 use Rattle.wb_syntax.specs.declared.pattern.Role.TheVariants as r
 use Rattle.wb_syntax.specs.declared.pattern.WrittenPattern.{WrittenPattern}
 use Rattle.wb_syntax.specs.Tokens.{Lexeme}
+use Rattle.wb_syntax.specs.Fields.{Field, AreFields, no_field, then_word, then_mark, then_name, then_kind, then_needs, then_optional_needs}
 use Rattle.wb_syntax.specs.ItemGrammar as item
 use Rattle.wb_syntax.specs.ItemGrammar.{IsProduction, IsProductionRole, IsPlain, IsItem, IsRole}
 use Rattle.wb_syntax.specs.SpecText.{IsReadForm, IsReadAs}
@@ -41,42 +41,21 @@ production_alike xs q (item.whole {n = n} {c = c} {l = l} {b = m} {u = u} {v = v
       same = ap (λ y. record { name = name; left = left; children = cs; equations = y }) block.same;
     }
 
--- the same tokens are the same item of names alone
-plain_alike : (xs : List Lexeme) (one : PlainForm) → IsPlain xs one → (ys : List Lexeme) → Alike xs ys → IsPlain ys one
-plain_alike xs one (item.prefer {first = f} {second = g} h j k l m) ys (step {y = x} q (step r (step s (step u (step v done))))) =
-    item.prefer (q ∙ h) (r ∙ j) (s ∙ k) (u ∙ l) (v ∙ m)
-plain_alike xs one (item.nonterminal {name = name} h j k) ys (step {y = x} q (step r (step s done))) = item.nonterminal (q ∙ h) (r ∙ j) (s ∙ k)
-plain_alike xs one (item.start {name = name} h j k) ys (step {y = x} q (step r (step s done))) = item.start (q ∙ h) (r ∙ j) (s ∙ k)
-plain_alike xs one (item.extensible {name = name} h j k) ys (step {y = x} q (step r (step s done))) = item.extensible (q ∙ h) (r ∙ j) (s ∙ k)
-plain_alike xs one (item.synthesized {x = x} {n = n} {c = c} s {u = u} {name = name} {kind = kind} h j k l m g) ys a =
-    let b = headed x (n ∷ c ∷ (u ++ s ∷ [])) ys (alike_as xs _ ys g a) in
-    let d = headed n (c ∷ (u ++ s ∷ [])) b.tail b.others in
-    let e = headed c (u ++ s ∷ []) d.tail d.others in
-    let f = closed u s e.tail e.others in
-    item.synthesized f.last (b.same ∙ h) (d.same ∙ j) (e.same ∙ k) (kind_alike u kind l f.inner f.first) (f.same ∙ m)
-    (b.whole ∙ ap (λ y. b.head ∷ y) (d.whole ∙ ap (λ y. d.head ∷ y) (e.whole ∙ ap (λ y. e.head ∷ y) f.whole)))
-plain_alike xs one (item.inherited {x = x} {n = n} {c = c} s {u = u} {name = name} {kind = kind} h j k l m g) ys a =
-    let b = headed x (n ∷ c ∷ (u ++ s ∷ [])) ys (alike_as xs _ ys g a) in
-    let d = headed n (c ∷ (u ++ s ∷ [])) b.tail b.others in
-    let e = headed c (u ++ s ∷ []) d.tail d.others in
-    let f = closed u s e.tail e.others in
-    item.inherited f.last (b.same ∙ h) (d.same ∙ j) (e.same ∙ k) (kind_alike u kind l f.inner f.first) (f.same ∙ m)
-    (b.whole ∙ ap (λ y. b.head ∷ y) (d.whole ∙ ap (λ y. d.head ∷ y) (e.whole ∙ ap (λ y. e.head ∷ y) f.whole)))
-plain_alike xs one (item.occurs {x = x} {a = m} {o = o} {n = n} s {u = u} {attribute = attribute} {nonterminal = nonterminal} {needs = needs} h j k l w q g) ys a =
-    let b = headed x (m ∷ o ∷ n ∷ (u ++ s ∷ [])) ys (alike_as xs _ ys g a) in
-    let d = headed m (o ∷ n ∷ (u ++ s ∷ [])) b.tail b.others in
-    let e = headed o (n ∷ (u ++ s ∷ [])) d.tail d.others in
-    let z = headed n (u ++ s ∷ []) e.tail e.others in
-    let f = closed u s z.tail z.others in
-    item.occurs f.last (b.same ∙ h) (d.same ∙ j) (e.same ∙ k) (z.same ∙ l) (optional_alike u needs w f.inner f.first) (f.same ∙ q)
-    (b.whole ∙ ap (λ y. b.head ∷ y) (d.whole ∙ ap (λ y. d.head ∷ y) (e.whole ∙ ap (λ y. e.head ∷ y) (z.whole ∙ ap (λ y. z.head ∷ y) f.whole))))
-plain_alike xs one (item.forward_on {x = x} {o = o} {n = n} s {u = u} {nonterminal = nonterminal} {needs = needs} h j k l m g) ys a =
-    let b = headed x (o ∷ n ∷ (u ++ s ∷ [])) ys (alike_as xs _ ys g a) in
-    let d = headed o (n ∷ (u ++ s ∷ [])) b.tail b.others in
-    let e = headed n (u ++ s ∷ []) d.tail d.others in
-    let f = closed u s e.tail e.others in
-    item.forward_on f.last (b.same ∙ h) (d.same ∙ j) (e.same ∙ k) (needs_alike u needs l f.inner f.first) (f.same ∙ m)
-    (b.whole ∙ ap (λ y. b.head ∷ y) (d.whole ∙ ap (λ y. d.head ∷ y) (e.whole ∙ ap (λ y. e.head ∷ y) f.whole)))
+-- fields
+fields_alike : (xs : List Lexeme) (fields : List Field) → AreFields xs fields → (ys : List Lexeme) → Alike xs ys → AreFields ys fields
+fields_alike xs fields no_field ys done = no_field
+fields_alike xs fields (then_word {v = v} {rest = rest} h s) ys (step {ys = zs} q a) = then_word (q ∙ h) (fields_alike v rest s zs a)
+fields_alike xs fields (then_mark {v = v} {rest = rest} h s) ys (step {ys = zs} q a) = then_mark (q ∙ h) (fields_alike v rest s zs a)
+fields_alike xs fields (then_name {v = v} {rest = rest} h s) ys (step {ys = zs} q a) = then_name (q ∙ h) (fields_alike v rest s zs a)
+fields_alike xs fields (then_kind {u = u} {v = v} {value = its} {rest = rest} h s g) ys a =
+    let f = halves u v ys (alike_as xs _ ys g a) in
+    then_kind (kind_alike u its h f.left f.first) (fields_alike v rest s f.right f.second) f.whole
+fields_alike xs fields (then_needs {u = u} {v = v} {value = its} {rest = rest} h s g) ys a =
+    let f = halves u v ys (alike_as xs _ ys g a) in
+    then_needs (needs_alike u its h f.left f.first) (fields_alike v rest s f.right f.second) f.whole
+fields_alike xs fields (then_optional_needs {u = u} {v = v} {value = its} {rest = rest} h s g) ys a =
+    let f = halves u v ys (alike_as xs _ ys g a) in
+    then_optional_needs (optional_alike u its h f.left f.first) (fields_alike v rest s f.right f.second) f.whole
 
 -- the words of roles
 role_alike : (role : Role) (x y : Lexeme) → y.token ≡ x.token → IsRole role x → IsRole role y
@@ -110,7 +89,7 @@ form_alike xs written form (item.plain {x = x} {u = u} {form = one} h) read ys a
       written = record { offset = b.head.at; form = forms.Plain one };
       other = forms.Plain one;
       grammar = subst (λ z. IsItem z (record { offset = b.head.at; form = forms.Plain one })) (sym b.whole)
-          (item.plain (subst (λ z. IsPlain z one) b.whole (plain_alike (x ∷ u) one h ys a)));
+          (item.plain (subst (λ z. IsPlain z one) b.whole (fields_alike (x ∷ u) (item.plain_fields one) h ys a)));
       read = refl;
       same = ap unplaced_form (sym read);
     }

@@ -10,7 +10,6 @@ use Rattle.wb_syntax.specs.declared.header.Header.{Header}
 use Rattle.wb_syntax.specs.declared.item.Item.{Item}
 use Rattle.wb_syntax.specs.declared.item.ItemForm.{ItemForm}
 use Rattle.wb_syntax.specs.declared.item.ItemForm.TheVariants as f
-use Rattle.wb_syntax.specs.declared.item.PlainForm.{PlainForm}
 use Rattle.wb_syntax.specs.declared.pattern.Pattern.{Pattern}
 use Rattle.wb_syntax.specs.declared.pattern.Role.{Role}
 use Rattle.wb_syntax.specs.declared.pattern.Role.TheVariants as r
@@ -26,14 +25,15 @@ use Rattle.wb_syntax.specs.ExpressionGrammar as e
 use Rattle.wb_syntax.specs.ExpressionGrammar.{IsExpression, AreArguments, AreFurther}
 use Rattle.wb_syntax.specs.PartGrammar as part
 use Rattle.wb_syntax.specs.PartGrammar.{IsKind, AreFurtherNames, AreNames, AreNeeds, AreOptionalNeeds, AreChildren, IsTarget, AreEquations, IsBlock}
+use Rattle.wb_syntax.specs.Fields.{Field, AreFields, no_field, then_word, then_mark, then_name, then_kind, then_needs, then_optional_needs}
 use Rattle.wb_syntax.specs.ItemGrammar as item
-use Rattle.wb_syntax.specs.ItemGrammar.{IsProduction, IsProductionRole, IsPlain, IsItem, IsHeader, IsRole}
+use Rattle.wb_syntax.specs.ItemGrammar.{IsProduction, IsProductionRole, IsItem, IsHeader, IsRole}
 use Rattle.wb_syntax.specs.Equations.{equations_of}
 use Rattle.wb_syntax.proofs.CallerLemmas.{read_equations}
 use Rattle.wb_syntax.specs.SpecText.{IsReadForm, IsReadAs}
 use Rattle.wb_printer.specs.Inner.ExpressionTokens.{expression_tokens, arguments_tokens, further_tokens}
 use Rattle.wb_printer.specs.Inner.PartTokens as tokens_of
-use Rattle.wb_printer.specs.Inner.ItemTokens.{role_word, production_word, plain_tokens, production_tokens, form_tokens, AreItemTokens, header_tokens}
+use Rattle.wb_printer.specs.Inner.ItemTokens.{role_word, production_word, fields_tokens, production_tokens, form_tokens, AreItemTokens, header_tokens}
 use Rattle.wb_printer.specs.Inner.PartTokens.{kind_token, further_names, names_tokens, needs_tokens, optional_needs_tokens, children_tokens, target_tokens, AreEquationTokens, block_tokens}
 
 -- the tokens of lexemes
@@ -152,27 +152,26 @@ of_production xs q (item.whole {n = n} {c = c} {l = l} {b = b} {u = u} {v = v} {
     let whole : tokens xs ≡ n.token ∷ c.token ∷ l.token ∷ b.token ∷ (tokens u ++ tokens v) = ap tokens g ∙ ap (λ y. n.token ∷ c.token ∷ l.token ∷ b.token ∷ y) (tokens_append u v) in
     (d.0, d.1, cc)
 
--- an item of names alone
-plain_item : (xs : List Lexeme) (one : PlainForm) → IsPlain xs one → tokens xs ≡ plain_tokens one
-plain_item xs one (item.prefer h j k l m) = cc
-plain_item xs one (item.nonterminal h j k) = cc
-plain_item xs one (item.start h j k) = cc
-plain_item xs one (item.extensible h j k) = cc
-plain_item xs one (item.synthesized {x = x} {n = n} {c = c} s {u = u} {kind = kind} h j k l m g) =
-    let a = of_kind u kind l in
-    let whole : tokens xs ≡ x.token ∷ n.token ∷ c.token ∷ (tokens u ++ s.token ∷ []) = ap tokens g ∙ ap (λ y. x.token ∷ n.token ∷ c.token ∷ y) (tokens_append u (s ∷ [])) in
+-- fields
+of_fields : (xs : List Lexeme) (fields : List Field) → AreFields xs fields → tokens xs ≡ fields_tokens fields
+of_fields xs fields no_field = refl
+of_fields xs fields (then_word {v = v} {rest = rest} h s) = let a = of_fields v rest s in cc
+of_fields xs fields (then_mark {v = v} {rest = rest} h s) = let a = of_fields v rest s in cc
+of_fields xs fields (then_name {v = v} {rest = rest} h s) = let a = of_fields v rest s in cc
+of_fields xs fields (then_kind {u = u} {v = v} {value = its} {rest = rest} h s g) =
+    let a = of_kind u its h in
+    let b = of_fields v rest s in
+    let whole : tokens xs ≡ tokens u ++ tokens v = ap tokens g ∙ tokens_append u v in
     cc
-plain_item xs one (item.inherited {x = x} {n = n} {c = c} s {u = u} {kind = kind} h j k l m g) =
-    let a = of_kind u kind l in
-    let whole : tokens xs ≡ x.token ∷ n.token ∷ c.token ∷ (tokens u ++ s.token ∷ []) = ap tokens g ∙ ap (λ y. x.token ∷ n.token ∷ c.token ∷ y) (tokens_append u (s ∷ [])) in
+of_fields xs fields (then_needs {u = u} {v = v} {value = its} {rest = rest} h s g) =
+    let a = of_needs u its h in
+    let b = of_fields v rest s in
+    let whole : tokens xs ≡ tokens u ++ tokens v = ap tokens g ∙ tokens_append u v in
     cc
-plain_item xs one (item.occurs {x = x} {a = a} {o = o} {n = n} s {u = u} {needs = needs} h j k l m q g) =
-    let b = of_optional u needs m in
-    let whole : tokens xs ≡ x.token ∷ a.token ∷ o.token ∷ n.token ∷ (tokens u ++ s.token ∷ []) = ap tokens g ∙ ap (λ y. x.token ∷ a.token ∷ o.token ∷ n.token ∷ y) (tokens_append u (s ∷ [])) in
-    cc
-plain_item xs one (item.forward_on {x = x} {o = o} {n = n} s {u = u} {needs = needs} h j k l m g) =
-    let b = of_needs u needs l in
-    let whole : tokens xs ≡ x.token ∷ o.token ∷ n.token ∷ (tokens u ++ s.token ∷ []) = ap tokens g ∙ ap (λ y. x.token ∷ o.token ∷ n.token ∷ y) (tokens_append u (s ∷ [])) in
+of_fields xs fields (then_optional_needs {u = u} {v = v} {value = its} {rest = rest} h s g) =
+    let a = of_optional u its h in
+    let b = of_fields v rest s in
+    let whole : tokens xs ≡ tokens u ++ tokens v = ap tokens g ∙ tokens_append u v in
     cc
 
 -- the words of roles
@@ -200,7 +199,7 @@ form_of xs written (item.lexical {x = x} {n = n} {y = y} {s = s} {role = role} {
 form_of xs written (item.plain {form = one} h) = record {
   inner = [];
   equations = tokens_of.nothing;
-  whole = λ form e. plain_item xs one h ∙ ap (λ z. form_tokens z []) (sym e);
+  whole = λ form e. of_fields xs (item.plain_fields one) h ∙ ap (λ z. form_tokens z []) (sym e);
 }
 form_of xs written (item.production {x = x} {u = u} {role = role} {production = q} h s) =
     let d = of_production u q s in
