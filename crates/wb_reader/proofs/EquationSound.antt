@@ -17,11 +17,11 @@ use Rattle.wb_syntax.specs.PartGrammar.{IsTarget, AreEquations, IsBlock}
 use Rattle.wb_syntax.specs.ItemGrammar.{IsProduction, whole}
 use Rattle.wb_tokens.specs.declared.kind.TokenKind.TheVariants as kind
 use Rattle.wb_reader.specs.declared.part.Part.{Part}
-use Rattle.wb_reader.specs.declared.part.Action.{Action}
-use Rattle.wb_reader.specs.declared.part.ItemAction.{ItemAction}
-use Rattle.wb_reader.specs.declared.part.PartAction.{PartAction}
-use Rattle.wb_reader.specs.declared.builder.SpecBuilder.{SpecBuilder}
-use Rattle.wb_reader.specs.Inner.Rights.{spec_rights}
+use Rattle.wb_builder.specs.declared.actions.Action.{Action}
+use Rattle.wb_builder.specs.declared.items.ItemAction.{ItemAction}
+use Rattle.wb_builder.specs.declared.parts.PartAction.{PartAction}
+use Rattle.wb_builder.specs.declared.builder.SpecBuilder.{SpecBuilder}
+use Rattle.wb_reader.specs.Inner.RightSides.{right_sides}
 use Rattle.wb_reader.proofs.Taking.{Row, Makes, Split, OneOf, chosen, acted, word_taken, mark_taken, name_taken}
 use Rattle.wb_reader.proofs.Many.{Element, many}
 use Rattle.wb_reader.proofs.Joins.{joined_one, joined}
@@ -41,8 +41,8 @@ abbrev listed : SpecBuilder → List (List Equation) → List Equation → SpecB
 listed a others equations = record a { equations = equations ∷ others }
 
 -- an expression behind a target
-value_of_rows : (a : SpecBuilder) (others : List (List Equation)) (front : List Equation) (f : Row) (w : List Lexeme) (b : SpecBuilder) (target : Target) (at : ℕ) → OneOf (spec_rights Part.Value) f w (targeted (listed a others front) target at) b → Split (λ u e. (v : List Lexeme) × (s : Lexeme) × IsExpression v e × IsMark p.Semicolon s × (u ≡ v ++ s ∷ [])) (λ e. listed a others (front ++ record { offset = at; target = target; nodes = nodes_of e } ∷ [])) f w b
-unfolding spec_rights
+value_of_rows : (a : SpecBuilder) (others : List (List Equation)) (front : List Equation) (f : Row) (w : List Lexeme) (b : SpecBuilder) (target : Target) (at : ℕ) → OneOf (right_sides Part.Value) f w (targeted (listed a others front) target at) b → Split (λ u e. (v : List Lexeme) × (s : Lexeme) × IsExpression v e × IsMark p.Semicolon s × (u ≡ v ++ s ∷ [])) (λ e. listed a others (front ++ record { offset = at; target = target; nodes = nodes_of e } ∷ [])) f w b
+unfolding right_sides
 value_of_rows a others front f w b target at (inl d) =
     let s = expression_sound (targeted (listed a others front) target at) [] a.nodes (Token (kind.Mark p.Semicolon) ∷ Act (Action.Part PartAction.AddEquation) ∷ f) w b (acted d) in
     let c = mark_taken p.Semicolon s.5 in
@@ -58,8 +58,8 @@ equation_with a others front f w b x y v target i e d =
     let j : y ++ v ≡ (y ++ s.0) ++ s.1 = ap (λ z. y ++ z) s.4 ∙ sym (append_assoc y s.0 s.1) in
     (x ∷ (y ++ s.3.0 ++ s.3.1 ∷ []), s.1, record { offset = x.at; target = target; nodes = nodes_of s.2 }, (x, s.3.1, y, s.3.0, target, s.2, i, s.3.2, s.3.3, refl, refl), omega arith, e ∙ ap (λ z. x ∷ z) (j ∙ ap (λ z. z ++ s.1) k), s.5)
 
-equation_of_rows : (a : SpecBuilder) (others : List (List Equation)) (front : List Equation) (f : Row) (w : List Lexeme) (b : SpecBuilder) → OneOf (spec_rights Part.Equation) (Nonterminal Part.Equations ∷ f) w (listed a others front) b → Element IsEquation Part.Equations f (listed a others) front w b
-unfolding spec_rights
+equation_of_rows : (a : SpecBuilder) (others : List (List Equation)) (front : List Equation) (f : Row) (w : List Lexeme) (b : SpecBuilder) → OneOf (right_sides Part.Equation) (Nonterminal Part.Equations ∷ f) w (listed a others front) b → Element IsEquation Part.Equations f (listed a others) front w b
+unfolding right_sides
 equation_of_rows a others front f w b (inl d) =
     let x = word_taken word.Top d in
     let c = mark_taken p.Dot x.4 in
@@ -91,8 +91,8 @@ equation_of_rows a others front f w b (inr (inr (inr (inr (inl d))))) =
     equation_with a others front f w b x.0 (t.0 ∷ []) t.1 g.ForwardsTo (grammar.forwards_to x.2 t.2) (x.3 ∙ ap (λ z. x.0 ∷ z) t.3) (acted t.4)
 equation_of_rows a others front f w b (inr (inr (inr (inr (inr e))))) = absurd e
 
-one_equation : (a : SpecBuilder) (others : List (List Equation)) (front : List Equation) (f : Row) (w : List Lexeme) (b : SpecBuilder) → OneOf (spec_rights Part.Equations) f w (listed a others front) b → Makes f w (listed a others front) b ⊎ Element IsEquation Part.Equations f (listed a others) front w b
-unfolding spec_rights
+one_equation : (a : SpecBuilder) (others : List (List Equation)) (front : List Equation) (f : Row) (w : List Lexeme) (b : SpecBuilder) → OneOf (right_sides Part.Equations) f w (listed a others front) b → Makes f w (listed a others front) b ⊎ Element IsEquation Part.Equations f (listed a others) front w b
+unfolding right_sides
 one_equation a others front f w b (inl d) = inl d
 one_equation a others front f w b (inr (inl d)) = inr (equation_of_rows a others front f w b (chosen d))
 one_equation a others front f w b (inr (inr e)) = absurd e
@@ -107,8 +107,8 @@ equations_sound a others f w b d =
     many IsEquation AreEquations grammar.nothing next_equation Part.Equations f b (listed a others) (λ front w d. one_equation a others front f w b (chosen d)) (length w) [] w (omega arith) d
 
 -- a block
-block_of_rows : (a : SpecBuilder) (f : Row) (w : List Lexeme) (b : SpecBuilder) → OneOf (spec_rights Part.Block) f w a b → Split IsBlock (λ es. listed a a.equations es) f w b
-unfolding spec_rights
+block_of_rows : (a : SpecBuilder) (f : Row) (w : List Lexeme) (b : SpecBuilder) → OneOf (right_sides Part.Block) f w a b → Split IsBlock (λ es. listed a a.equations es) f w b
+unfolding right_sides
 block_of_rows a f w b (inl d) =
     let o = mark_taken p.OpenBrace d in
     let s = equations_sound a a.equations (Token (kind.Mark p.CloseBrace) ∷ f) o.1 b (acted o.4) in
@@ -120,8 +120,8 @@ pub block_sound : (a : SpecBuilder) (f : Row) (w : List Lexeme) (b : SpecBuilder
 block_sound a f w b d = block_of_rows a f w b (chosen d)
 
 -- a production
-production_of_rows : (a : SpecBuilder) (f : Row) (w : List Lexeme) (b : SpecBuilder) → OneOf (spec_rights Part.Production) f w a b → Split IsProduction (λ q. record a { productions = q ∷ a.productions }) f w b
-unfolding spec_rights
+production_of_rows : (a : SpecBuilder) (f : Row) (w : List Lexeme) (b : SpecBuilder) → OneOf (right_sides Part.Production) f w a b → Split IsProduction (λ q. record a { productions = q ∷ a.productions }) f w b
+unfolding right_sides
 production_of_rows a f w b (inl d) =
     let x = name_taken d in
     let c = mark_taken p.Colon x.5 in

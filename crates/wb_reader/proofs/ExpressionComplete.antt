@@ -15,11 +15,11 @@ use Rattle.wb_syntax.specs.ExpressionGrammar as grammar
 use Rattle.wb_syntax.specs.ExpressionGrammar.{IsExpression, AreArguments, AreFurther}
 use Rattle.wb_tokens.specs.declared.kind.TokenKind.TheVariants as kind
 use Rattle.wb_reader.specs.declared.part.Part.{Part}
-use Rattle.wb_reader.specs.declared.part.Action.{Action}
-use Rattle.wb_reader.specs.declared.part.ExpressionAction.{ExpressionAction}
-use Rattle.wb_reader.specs.declared.builder.SpecBuilder.{SpecBuilder}
-use Rattle.wb_reader.specs.Inner.Rights.{spec_rights}
-use Rattle.wb_reader.specs.Inner.Builder.{with_name, with_integer}
+use Rattle.wb_builder.specs.declared.actions.Action.{Action}
+use Rattle.wb_builder.specs.declared.expressions.ExpressionAction.{ExpressionAction}
+use Rattle.wb_builder.specs.declared.builder.SpecBuilder.{SpecBuilder}
+use Rattle.wb_reader.specs.Inner.RightSides.{right_sides}
+use Rattle.wb_builder.specs.Builder.{with_name, with_integer}
 use Rattle.wb_reader.proofs.Taking.{Row, Makes}
 use Rattle.wb_reader.proofs.Giving.{word_given, mark_given, name_given, integer_given, string_given}
 use Rattle.wb_expressions.proofs.AppendLemmas.{behind_len, all_behind_len, more_nodes, more_places, if_nodes, if_root}
@@ -27,12 +27,12 @@ use Rattle.wb_reader.proofs.ExpressionSound.{begun, grown, collecting, collected
 
 -- an integer of either kind
 number_given : (c : Bool) {f : Row} {w : List Lexeme} {a b : SpecBuilder} → Makes (Token (cond c kind.One kind.Number) ∷ f) w a b → Makes (Nonterminal Part.Integer ∷ f) w a b
-unfolding spec_rights
+unfolding right_sides
 number_given true d = expand 0 refl d
 number_given false d = expand 1 refl d
 
 whole_given : {x : Lexeme} (z : ℤ) {f : Row} {v : List Lexeme} {a b : SpecBuilder} → IsInt z x → Makes f v (with_integer z a) b → Makes (Nonterminal Part.Integer ∷ f) (x ∷ v) a b
-unfolding spec_rights
+unfolding right_sides
 whole_given (pos k) h d = number_given (k == 1) (integer_given h d)
 whole_given (negsuc k) h d = expand 1 refl (integer_given h d)
 
@@ -41,7 +41,7 @@ leaf : (a : SpecBuilder) (list : List Node) (rest : List (List Node)) (f : Row) 
 leaf a list rest f v b node d = rooted a f v b rest _ _ (length list + 1 - 1) (length list) refl (omega arith) d
 
 mutual
-  unfolding spec_rights
+  unfolding right_sides
 
   pub expression_given : (a : SpecBuilder) (list : List Node) (rest : List (List Node)) (f : Row) (u v : List Lexeme) (b : SpecBuilder) (e : Expression) → IsExpression u e → Makes f v (grown a list rest e) b → Makes (Nonterminal Part.Expression ∷ f) (u ++ v) (begun a list rest) b
   expression_given a list rest f u v b e (grammar.number {z = z} h) d = expand 0 refl (whole_given z h (acts (leaf a list rest f v b (n.Int z) d)))

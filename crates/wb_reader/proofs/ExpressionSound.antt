@@ -13,11 +13,11 @@ use Rattle.wb_syntax.specs.ExpressionGrammar as grammar
 use Rattle.wb_syntax.specs.ExpressionGrammar.{IsExpression, AreArguments, AreFurther}
 use Rattle.wb_tokens.specs.declared.kind.TokenKind.TheVariants as kind
 use Rattle.wb_reader.specs.declared.part.Part.{Part}
-use Rattle.wb_reader.specs.declared.part.Action.{Action}
-use Rattle.wb_reader.specs.declared.part.ExpressionAction.{ExpressionAction}
-use Rattle.wb_reader.specs.declared.builder.SpecBuilder.{SpecBuilder}
-use Rattle.wb_reader.specs.Inner.Rights.{spec_rights}
-use Rattle.wb_reader.specs.Inner.Builder.{with_name}
+use Rattle.wb_builder.specs.declared.actions.Action.{Action}
+use Rattle.wb_builder.specs.declared.expressions.ExpressionAction.{ExpressionAction}
+use Rattle.wb_builder.specs.declared.builder.SpecBuilder.{SpecBuilder}
+use Rattle.wb_reader.specs.Inner.RightSides.{right_sides}
+use Rattle.wb_builder.specs.Builder.{with_name}
 use Rattle.wb_reader.proofs.Taking.{Row, Makes, Split, OneOf, chosen, acted, word_taken, mark_taken, name_taken, string_taken}
 use Rattle.wb_reader.proofs.Joins.{joined_one, joined}
 use Rattle.wb_expressions.proofs.AppendLemmas.{behind_len, all_behind_len, more_nodes, more_places, if_nodes, if_root}
@@ -57,8 +57,8 @@ fewer_behind : (u v w : List Lexeme) (m : ℕ) → w ≡ u ++ v → length w < m
 fewer_behind u v w m e h = let l : length w ≡ length (u ++ v) = ap length e in let k = length-append u v in omega (arith, l, k, h)
 
 -- further arguments
-further_of_rows : (m : ℕ) (E : ExpressionBelow m) (o : ℕ) (again : (a : SpecBuilder) (list : List Node) (rest : List (List Node)) (front : List ℕ) (others : List (List ℕ)) (f : Row) (w : List Lexeme) (b : SpecBuilder) → length w < o → length w < m → Makes (Nonterminal Part.FurtherArguments ∷ f) w (collecting a list rest front others) b → Split AreFurther (collected a list rest front others) f w b) (a : SpecBuilder) (list : List Node) (rest : List (List Node)) (front : List ℕ) (others : List (List ℕ)) (f : Row) (w : List Lexeme) (b : SpecBuilder) → length w < suc o → length w < m → OneOf (spec_rights Part.FurtherArguments) f w (collecting a list rest front others) b → Split AreFurther (collected a list rest front others) f w b
-unfolding spec_rights
+further_of_rows : (m : ℕ) (E : ExpressionBelow m) (o : ℕ) (again : (a : SpecBuilder) (list : List Node) (rest : List (List Node)) (front : List ℕ) (others : List (List ℕ)) (f : Row) (w : List Lexeme) (b : SpecBuilder) → length w < o → length w < m → Makes (Nonterminal Part.FurtherArguments ∷ f) w (collecting a list rest front others) b → Split AreFurther (collected a list rest front others) f w b) (a : SpecBuilder) (list : List Node) (rest : List (List Node)) (front : List ℕ) (others : List (List ℕ)) (f : Row) (w : List Lexeme) (b : SpecBuilder) → length w < suc o → length w < m → OneOf (right_sides Part.FurtherArguments) f w (collecting a list rest front others) b → Split AreFurther (collected a list rest front others) f w b
+unfolding right_sides
 further_of_rows m E o again a list rest front others f w b h g (inl d) = ([], w, none, grammar.no_more, refl, recollect a f w b rest others list (list ++ []) front (front ++ []) (sym (append-nil list)) (sym (append-nil front)) d)
 further_of_rows m E o again a list rest front others f w b h g (inr (inl d)) =
     let r = mark_taken p.Comma d in
@@ -74,8 +74,8 @@ further_below m E zero a list rest front others f w b h g d = absurd (omega (ari
 further_below m E (suc o) a list rest front others f w b h g d = further_of_rows m E o (further_below m E o) a list rest front others f w b h g (chosen d)
 
 -- arguments
-pub arguments_of_rows : (m : ℕ) (E : ExpressionBelow m) (a : SpecBuilder) (list : List Node) (rest : List (List Node)) (others : List (List ℕ)) (f : Row) (w : List Lexeme) (b : SpecBuilder) → length w < m → OneOf (spec_rights Part.Arguments) f w (collecting a list rest [] others) b → Split AreArguments (collected a list rest [] others) f w b
-unfolding spec_rights
+pub arguments_of_rows : (m : ℕ) (E : ExpressionBelow m) (a : SpecBuilder) (list : List Node) (rest : List (List Node)) (others : List (List ℕ)) (f : Row) (w : List Lexeme) (b : SpecBuilder) → length w < m → OneOf (right_sides Part.Arguments) f w (collecting a list rest [] others) b → Split AreArguments (collected a list rest [] others) f w b
+unfolding right_sides
 arguments_of_rows m E a list rest others f w b g (inl d) = ([], w, none, grammar.nothing, refl, recollect a f w b rest others list (list ++ []) [] [] (sym (append-nil list)) refl d)
 arguments_of_rows m E a list rest others f w b g (inr (inl d)) =
     let s = E (record a { arguments = [] ∷ others }) list rest (Act (Action.Expression ExpressionAction.AddArgument) ∷ Nonterminal Part.FurtherArguments ∷ f) w b g d in
@@ -85,8 +85,8 @@ arguments_of_rows m E a list rest others f w b g (inr (inl d)) =
 arguments_of_rows m E a list rest others f w b g (inr (inr e)) = absurd e
 
 -- what stands behind a name and a dot
-read_of_rows : (a : SpecBuilder) (l : List ℕ) (at : ℕ) (list : List Node) (rest : List (List Node)) (x dot : Lexeme) (f : Row) (w : List Lexeme) (b : SpecBuilder) → IsName l x → IsMark p.Dot dot → OneOf (spec_rights Part.Read) f w (with_name l at (begun a list rest)) b → Split (λ u e. IsExpression (x ∷ dot ∷ u) e) (grown a list rest) f w b
-unfolding spec_rights
+read_of_rows : (a : SpecBuilder) (l : List ℕ) (at : ℕ) (list : List Node) (rest : List (List Node)) (x dot : Lexeme) (f : Row) (w : List Lexeme) (b : SpecBuilder) → IsName l x → IsMark p.Dot dot → OneOf (right_sides Part.Read) f w (with_name l at (begun a list rest)) b → Split (λ u e. IsExpression (x ∷ dot ∷ u) e) (grown a list rest) f w b
+unfolding right_sides
 read_of_rows a l at list rest x dot f w b i j (inl d) =
     let r = name_taken d in
     (r.0 ∷ [], r.1, Read l r.2, grammar.read i j r.3, r.4, rooted a f r.1 b rest _ _ (length list) (length list + 1 - 1) refl (omega arith) (acted r.5))
@@ -96,8 +96,8 @@ read_of_rows a l at list rest x dot f w b i j (inr (inl d)) =
 read_of_rows a l at list rest x dot f w b i j (inr (inr e)) = absurd e
 
 -- what stands behind a name
-pub tail_of_rows : (m : ℕ) (E : ExpressionBelow m) (a : SpecBuilder) (l : List ℕ) (at : ℕ) (list : List Node) (rest : List (List Node)) (x : Lexeme) (f : Row) (w : List Lexeme) (b : SpecBuilder) → length w < m → IsName l x → OneOf (spec_rights Part.Tail) f w (with_name l at (begun a list rest)) b → Split (λ u e. IsExpression (x ∷ u) e) (grown a list rest) f w b
-unfolding spec_rights
+pub tail_of_rows : (m : ℕ) (E : ExpressionBelow m) (a : SpecBuilder) (l : List ℕ) (at : ℕ) (list : List Node) (rest : List (List Node)) (x : Lexeme) (f : Row) (w : List Lexeme) (b : SpecBuilder) → length w < m → IsName l x → OneOf (right_sides Part.Tail) f w (with_name l at (begun a list rest)) b → Split (λ u e. IsExpression (x ∷ u) e) (grown a list rest) f w b
+unfolding right_sides
 tail_of_rows m E a l at list rest x f w b g i (inl d) = ([], w, Label l, grammar.label i, refl, rooted a f w b rest _ _ (length list) (length list + 1 - 1) refl (omega arith) (acted d))
 tail_of_rows m E a l at list rest x f w b g i (inr (inl d)) =
     let r = mark_taken p.Dot d in

@@ -6,10 +6,11 @@ use Rattle.wb_tokens.specs.declared.word.Word.{Word}
 use Rattle.wb_tokens.specs.declared.punctuation.Punctuation.{Punctuation}
 use Rattle.wb_syntax.specs.Tokens.{Lexeme, IsWord, IsMark, IsName, IsInt, IsString, IsRegex}
 use Rattle.wb_tokens.specs.declared.kind.TokenKind.TheVariants as kind
-use Rattle.wb_reader.specs.declared.builder.SpecBuilder.{SpecBuilder}
+use Rattle.wb_builder.specs.declared.builder.SpecBuilder.{SpecBuilder}
 use Rattle.wb_tokens.specs.Kinds.{kind_of, integer_kind}
-use Rattle.wb_reader.specs.Inner.Builder.{with_name, with_integer, with_text, with_pattern}
-use Rattle.wb_reader.specs.Inner.Table.{spec_grammar, shift, word_shift}
+use Rattle.wb_builder.specs.Builder.{with_name, with_integer, with_text, with_pattern}
+use Rattle.wb_builder.specs.Items.{word_shift}
+use Rattle.wb_reader.specs.Inner.Table.{spec_grammar, shift}
 use Rattle.wb_reader.proofs.Taking.{Row, Makes}
 
 pub word_given : {x : Lexeme} {f : Row} {v : List Lexeme} {a b : SpecBuilder} (y : Word) → IsWord y x → Makes f v (word_shift y x.at a) b → Makes (Token (kind.Word y) ∷ f) (x ∷ v) a b

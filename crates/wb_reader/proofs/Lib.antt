@@ -3,6 +3,7 @@ mod EquationSound
 pub mod Excluding
 mod ExpressionComplete
 mod ExpressionSound
+mod Fields
 pub mod FormatLemmas
 mod Giving
 mod ItemComplete
@@ -13,6 +14,7 @@ pub mod OneText
 mod PartComplete
 mod PartSound
 pub mod PatternLemmas
+mod PlainForms
 mod Taking
 pub mod TextLemmas
 mod WholeSound

@@ -12,10 +12,10 @@ use Rattle.wb_syntax.specs.SpecText.{SpecView, IsWrittenText, IsSpecText, IsRead
 use Rattle.wb_tokens.specs.declared.kind.TokenKind.TheVariants.{End}
 use Rattle.wb_tokens.specs.Inner.SameKind.{same_kind}
 use Rattle.wb_tokens.proofs.KindLaws.{kinds_same}
-use Rattle.wb_reader.specs.declared.builder.SpecBuilder.{SpecBuilder}
-use Rattle.wb_reader.specs.Inner.Entries.{spec_entries}
+use Rattle.wb_builder.specs.declared.builder.SpecBuilder.{SpecBuilder}
+use Rattle.wb_reader.specs.Inner.LookaheadTable.{lookahead_table}
 use Rattle.wb_reader.specs.Inner.Laws.{spec_decided, spec_ends}
-use Rattle.wb_reader.specs.Inner.Builder.{empty, written_of}
+use Rattle.wb_builder.specs.Builder.{empty, written_of}
 use Rattle.wb_reader.specs.Inner.Table.{spec_grammar}
 use Rattle.wb_reader.specs.Refusals.{IsSyntaxFault}
 use Rattle.wb_reader.proofs.ItemSound.{finished}
@@ -24,7 +24,7 @@ use Rattle.wb_reader.proofs.PatternLemmas.{one_spec}
 
 -- bytes have one outcome by the table
 same_outcome : (bytes : List ℕ) (o : Outcome SpecBuilder) → IsOutcome spec_grammar (IsNextIn WithComments bytes) empty o → (p : Outcome SpecBuilder) → IsOutcome spec_grammar (IsNextIn WithComments bytes) empty p → o ≡ p
-same_outcome bytes o r p s = one_outcome same_kind kinds_same End spec_entries spec_grammar spec_decided spec_ends (IsNextIn WithComments bytes) (one_next WithComments bytes) empty o r p s
+same_outcome bytes o r p s = one_outcome same_kind kinds_same End lookahead_table spec_grammar spec_decided spec_ends (IsNextIn WithComments bytes) (one_next WithComments bytes) empty o r p s
 
 -- bytes are written as one specification
 pub one_written : (bytes : List ℕ) (a b : WrittenSpec) → IsWrittenText bytes a → IsWrittenText bytes b → a ≡ b

@@ -11,16 +11,16 @@ use Rattle.wb_syntax.specs.PartGrammar as grammar
 use Rattle.wb_syntax.specs.PartGrammar.{IsKind, AreFurtherNames, AreNames, AreNeeds, AreOptionalNeeds, AreChildren}
 use Rattle.wb_tokens.specs.declared.kind.TokenKind.TheVariants as kind
 use Rattle.wb_reader.specs.declared.part.Part.{Part}
-use Rattle.wb_reader.specs.declared.builder.SpecBuilder.{SpecBuilder}
-use Rattle.wb_reader.specs.Inner.Rights.{spec_rights}
-use Rattle.wb_reader.specs.Inner.BuildParts.{with_kind}
+use Rattle.wb_builder.specs.declared.builder.SpecBuilder.{SpecBuilder}
+use Rattle.wb_reader.specs.Inner.RightSides.{right_sides}
+use Rattle.wb_builder.specs.Parts.{with_kind}
 use Rattle.wb_reader.proofs.Taking.{Row, Makes, Split, OneOf, chosen, acted, word_taken, mark_taken, name_taken}
 use Rattle.wb_reader.proofs.Many.{Element, many}
 use Rattle.wb_reader.proofs.Joins.{joined_one, joined}
 
 -- a kind
-kind_of_rows : {f : Row} {w : List Lexeme} {a b : SpecBuilder} → OneOf (spec_rights Part.Kind) f w a b → Split IsKind (λ kind. with_kind kind a) f w b
-unfolding spec_rights
+kind_of_rows : {f : Row} {w : List Lexeme} {a b : SpecBuilder} → OneOf (right_sides Part.Kind) f w a b → Split IsKind (λ kind. with_kind kind a) f w b
+unfolding right_sides
 kind_of_rows (inl d) = let r = word_taken word.Int d in (r.0 ∷ [], r.1, k.Int, grammar.int r.2, r.3, acted r.4)
 kind_of_rows (inr (inl d)) = let r = word_taken word.Bool d in (r.0 ∷ [], r.1, k.Bool, grammar.bool r.2, r.3, acted r.4)
 kind_of_rows (inr (inr (inl d))) = let r = word_taken word.Text d in (r.0 ∷ [], r.1, k.Text, grammar.text r.2, r.3, acted r.4)
@@ -34,8 +34,8 @@ kind_sound d = kind_of_rows (chosen d)
 abbrev IsFurtherName : List Lexeme → List ℕ → Type 0
 IsFurtherName u n = (c x : Lexeme) × IsMark p.Comma c × IsName n x × (u ≡ c ∷ x ∷ [])
 
-further_name : (a : SpecBuilder) (others : List (List (List ℕ))) (front : List (List ℕ)) (f : Row) (w : List Lexeme) (b : SpecBuilder) → OneOf (spec_rights Part.FurtherNames) f w (record a { lists = front ∷ others }) b → Makes f w (record a { lists = front ∷ others }) b ⊎ Element IsFurtherName Part.FurtherNames f (λ ns. record a { lists = ns ∷ others }) front w b
-unfolding spec_rights
+further_name : (a : SpecBuilder) (others : List (List (List ℕ))) (front : List (List ℕ)) (f : Row) (w : List Lexeme) (b : SpecBuilder) → OneOf (right_sides Part.FurtherNames) f w (record a { lists = front ∷ others }) b → Makes f w (record a { lists = front ∷ others }) b ⊎ Element IsFurtherName Part.FurtherNames f (λ ns. record a { lists = ns ∷ others }) front w b
+unfolding right_sides
 further_name a others front f w b (inl d) = inl d
 further_name a others front f w b (inr (inl d)) =
     let r = mark_taken p.Comma d in
@@ -51,8 +51,8 @@ further_names a others front f w b d =
     many IsFurtherName AreFurtherNames grammar.nothing next_name Part.FurtherNames f b (λ ns. record a { lists = ns ∷ others }) (λ front w d. further_name a others front f w b (chosen d)) (length w) front w (omega arith) d
 
 -- names that begin a list
-names_of_rows : (a : SpecBuilder) (others : List (List (List ℕ))) (f : Row) (w : List Lexeme) (b : SpecBuilder) → OneOf (spec_rights Part.Names) f w (record a { lists = [] ∷ others }) b → Split AreNames (λ ns. record a { lists = ns ∷ others }) f w b
-unfolding spec_rights
+names_of_rows : (a : SpecBuilder) (others : List (List (List ℕ))) (f : Row) (w : List Lexeme) (b : SpecBuilder) → OneOf (right_sides Part.Names) f w (record a { lists = [] ∷ others }) b → Split AreNames (λ ns. record a { lists = ns ∷ others }) f w b
+unfolding right_sides
 names_of_rows a others f w b (inl d) = ([], w, [], grammar.nothing, refl, d)
 names_of_rows a others f w b (inr (inl d)) =
     let r = name_taken d in
@@ -61,8 +61,8 @@ names_of_rows a others f w b (inr (inl d)) =
 names_of_rows a others f w b (inr (inr e)) = absurd e
 
 -- a flow type
-needs_of_rows : (a : SpecBuilder) (f : Row) (w : List Lexeme) (b : SpecBuilder) → OneOf (spec_rights Part.Needs) f w a b → Split AreNeeds (λ ns. record a { lists = ns ∷ a.lists }) f w b
-unfolding spec_rights
+needs_of_rows : (a : SpecBuilder) (f : Row) (w : List Lexeme) (b : SpecBuilder) → OneOf (right_sides Part.Needs) f w a b → Split AreNeeds (λ ns. record a { lists = ns ∷ a.lists }) f w b
+unfolding right_sides
 needs_of_rows a f w b (inl d) =
     let r = word_taken word.Needs d in
     let o = mark_taken p.OpenBrace r.4 in
@@ -76,8 +76,8 @@ pub needs_sound : (a : SpecBuilder) (f : Row) (w : List Lexeme) (b : SpecBuilder
 needs_sound a f w b d = needs_of_rows a f w b (chosen d)
 
 -- a flow type that may be absent
-optional_of_rows : (a : SpecBuilder) (f : Row) (w : List Lexeme) (b : SpecBuilder) → OneOf (spec_rights Part.OptionalNeeds) f w a b → Split AreOptionalNeeds (λ o. record a { needs = o ∷ a.needs }) f w b
-unfolding spec_rights
+optional_of_rows : (a : SpecBuilder) (f : Row) (w : List Lexeme) (b : SpecBuilder) → OneOf (right_sides Part.OptionalNeeds) f w a b → Split AreOptionalNeeds (λ o. record a { needs = o ∷ a.needs }) f w b
+unfolding right_sides
 optional_of_rows a f w b (inl d) = ([], w, None, grammar.absent, refl, acted d)
 optional_of_rows a f w b (inr (inl d)) =
     let s = needs_sound a _ w b d in
@@ -91,8 +91,8 @@ optional_sound a f w b d = optional_of_rows a f w b (chosen d)
 abbrev IsChild : List Lexeme → Child → Type 0
 IsChild u child = (x c : Lexeme) × (v : List Lexeme) × IsName child.label x × IsMark p.Colon c × IsKind v child.kind × (u ≡ x ∷ c ∷ v)
 
-one_child : (a : SpecBuilder) (others : List (List Child)) (front : List Child) (f : Row) (w : List Lexeme) (b : SpecBuilder) → OneOf (spec_rights Part.Children) f w (record a { children = front ∷ others }) b → Makes f w (record a { children = front ∷ others }) b ⊎ Element IsChild Part.Children f (λ cs. record a { children = cs ∷ others }) front w b
-unfolding spec_rights
+one_child : (a : SpecBuilder) (others : List (List Child)) (front : List Child) (f : Row) (w : List Lexeme) (b : SpecBuilder) → OneOf (right_sides Part.Children) f w (record a { children = front ∷ others }) b → Makes f w (record a { children = front ∷ others }) b ⊎ Element IsChild Part.Children f (λ cs. record a { children = cs ∷ others }) front w b
+unfolding right_sides
 one_child a others front f w b (inl d) = inl d
 one_child a others front f w b (inr (inl d)) =
     let r = name_taken d in

@@ -13,19 +13,19 @@ use Rattle.wb_syntax.specs.ExpressionGrammar as grammar
 use Rattle.wb_syntax.specs.ExpressionGrammar.{IsExpression}
 use Rattle.wb_tokens.specs.declared.kind.TokenKind.TheVariants as kind
 use Rattle.wb_reader.specs.declared.part.Part.{Part}
-use Rattle.wb_reader.specs.declared.part.Action.{Action}
-use Rattle.wb_reader.specs.declared.part.ExpressionAction.{ExpressionAction}
-use Rattle.wb_reader.specs.declared.builder.SpecBuilder.{SpecBuilder}
-use Rattle.wb_reader.specs.Inner.Rights.{spec_rights}
-use Rattle.wb_reader.specs.Inner.Builder.{with_name, with_integer}
+use Rattle.wb_builder.specs.declared.actions.Action.{Action}
+use Rattle.wb_builder.specs.declared.expressions.ExpressionAction.{ExpressionAction}
+use Rattle.wb_builder.specs.declared.builder.SpecBuilder.{SpecBuilder}
+use Rattle.wb_reader.specs.Inner.RightSides.{right_sides}
+use Rattle.wb_builder.specs.Builder.{with_name, with_integer}
 use Rattle.wb_reader.proofs.Taking.{Row, Makes, Split, OneOf, chosen, acted, word_taken, mark_taken, name_taken, number_taken, one_taken, string_taken}
 use Rattle.wb_reader.proofs.Joins.{joined_one, joined}
 use Rattle.wb_expressions.proofs.AppendLemmas.{behind_len, all_behind_len, if_nodes, if_root}
 use Rattle.wb_reader.proofs.ExpressionSound.{begun, grown, ExpressionBelow, rooted, arguments_of_rows, tail_of_rows}
 
 -- an integer
-integer_of_rows : {f : Row} {w : List Lexeme} {a b : SpecBuilder} → OneOf (spec_rights Part.Integer) f w a b → Split (λ u z. (x : Lexeme) × IsInt z x × (u ≡ x ∷ [])) (λ z. with_integer z a) f w b
-unfolding spec_rights
+integer_of_rows : {f : Row} {w : List Lexeme} {a b : SpecBuilder} → OneOf (right_sides Part.Integer) f w a b → Split (λ u z. (x : Lexeme) × IsInt z x × (u ≡ x ∷ [])) (λ z. with_integer z a) f w b
+unfolding right_sides
 integer_of_rows (inl d) = let r = one_taken d in (r.0 ∷ [], r.1, pos 1, (r.0, r.2, refl), r.3, r.4)
 integer_of_rows (inr (inl d)) = let r = number_taken d in (r.0 ∷ [], r.1, r.2, (r.0, r.3, refl), r.4, r.5)
 integer_of_rows (inr (inr e)) = absurd e
@@ -51,8 +51,8 @@ if_split m E a list rest f w v b x i e h d =
     (x ∷ (c.0 ++ r.0 ∷ (t.0 ++ s.0 ∷ z.0)), z.1, If c.2 t.2 z.2, grammar.if_then r.0 s.0 i c.3 r.2 t.3 s.2 z.3 refl, e ∙ ap (λ y. x ∷ y) all, rooted a f z.1 b rest _ _ _ (length list + size (If c.2 t.2 z.2) - 1) (if_nodes list c.2 t.2 z.2) (if_root list c.2 t.2 z.2) (acted z.5))
 
 -- an expression, where those over fewer tokens are known
-expression_of_rows : (m : ℕ) (E : ExpressionBelow m) (a : SpecBuilder) (list : List Node) (rest : List (List Node)) (f : Row) (w : List Lexeme) (b : SpecBuilder) → length w < suc m → OneOf (spec_rights Part.Expression) f w (begun a list rest) b → Split IsExpression (grown a list rest) f w b
-unfolding spec_rights
+expression_of_rows : (m : ℕ) (E : ExpressionBelow m) (a : SpecBuilder) (list : List Node) (rest : List (List Node)) (f : Row) (w : List Lexeme) (b : SpecBuilder) → length w < suc m → OneOf (right_sides Part.Expression) f w (begun a list rest) b → Split IsExpression (grown a list rest) f w b
+unfolding right_sides
 expression_of_rows m E a list rest f w b h (inl d) =
     let r = integer_of_rows (chosen d) in
     (r.0, r.1, Int r.2, subst (λ u. IsExpression u (Int r.2)) (sym r.3.2) (grammar.number r.3.1), r.4, rooted a f r.1 b rest _ _ (length list) (length list + 1 - 1) refl (omega arith) (acted r.5))

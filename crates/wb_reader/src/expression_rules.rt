@@ -9,7 +9,8 @@
 //! arguments  = [expression (',' expression)*]
 //! ```
 
-use crate::part::{Action, ExpressionAction, Part, SpecRule};
+use crate::part::{Part, SpecRule};
+use wb_builder::{Action, ExpressionAction};
 use wb_predictive::Rule;
 use wb_predictive::Symbol::{Act, Nonterminal, Token};
 use wb_tokens::{Punctuation, TokenKind, Word};

@@ -4,17 +4,18 @@
 //! file       = 'format' 1 ';' header item*
 //! header     = 'host' NAME ';' | 'extension' NAME 'for' NAME ';'
 //! item       = ('terminal' | 'ignore' | 'marking') NAME REGEX ';'
+//!            | ('concrete' | 'abstract') production
+//!            | 'aspect' NAME block
 //!            | 'prefer' NAME 'over' NAME ';'
 //!            | ('nonterminal' | 'start' | 'extensible') NAME ';'
 //!            | ('syn' | 'inh') NAME ':' kind ';'
 //!            | 'occurs' NAME 'on' NAME [needs] ';'
 //!            | 'forward' 'on' NAME needs ';'
-//!            | ('concrete' | 'abstract') production
-//!            | 'aspect' NAME block
 //! production = NAME ':' NAME '::=' child* block
 //! ```
 
-use crate::part::{Action, ItemAction, Part, SpecRule};
+use crate::part::{Part, SpecRule};
+use wb_builder::{Action, ItemAction};
 use wb_predictive::Rule;
 use wb_predictive::Symbol::{Act, Nonterminal, Token};
 use wb_syntax::{ProductionRole, Role};
@@ -62,20 +63,20 @@ pub static ITEMS: [SpecRule; 2] = [
     },
     Rule {
         kinds: &[
+            TokenKind::Word(Word::Terminal),
+            TokenKind::Word(Word::Ignore),
+            TokenKind::Word(Word::Marking),
+            TokenKind::Word(Word::Concrete),
             TokenKind::Word(Word::Abstract),
             TokenKind::Word(Word::Aspect),
-            TokenKind::Word(Word::Concrete),
-            TokenKind::Word(Word::Extensible),
-            TokenKind::Word(Word::Forward),
-            TokenKind::Word(Word::Ignore),
-            TokenKind::Word(Word::Inh),
-            TokenKind::Word(Word::Marking),
-            TokenKind::Word(Word::Nonterminal),
-            TokenKind::Word(Word::Occurs),
             TokenKind::Word(Word::Prefer),
+            TokenKind::Word(Word::Nonterminal),
             TokenKind::Word(Word::Start),
+            TokenKind::Word(Word::Extensible),
             TokenKind::Word(Word::Syn),
-            TokenKind::Word(Word::Terminal),
+            TokenKind::Word(Word::Inh),
+            TokenKind::Word(Word::Occurs),
+            TokenKind::Word(Word::Forward),
         ],
         right: &[Nonterminal(Part::Item), Nonterminal(Part::Items)],
     },
@@ -110,6 +111,31 @@ pub static ITEM: [SpecRule; 14] = [
             Token(TokenKind::Regex),
             Token(TokenKind::Mark(Punctuation::Semicolon)),
             Act(Action::Item(ItemAction::Lexical(Role::Marking))),
+        ],
+    },
+    Rule {
+        kinds: &[TokenKind::Word(Word::Concrete)],
+        right: &[
+            Token(TokenKind::Word(Word::Concrete)),
+            Nonterminal(Part::Production),
+            Act(Action::Item(ItemAction::ProductionItem(ProductionRole::Concrete))),
+        ],
+    },
+    Rule {
+        kinds: &[TokenKind::Word(Word::Abstract)],
+        right: &[
+            Token(TokenKind::Word(Word::Abstract)),
+            Nonterminal(Part::Production),
+            Act(Action::Item(ItemAction::ProductionItem(ProductionRole::Abstract))),
+        ],
+    },
+    Rule {
+        kinds: &[TokenKind::Word(Word::Aspect)],
+        right: &[
+            Token(TokenKind::Word(Word::Aspect)),
+            Token(TokenKind::Name),
+            Nonterminal(Part::Block),
+            Act(Action::Item(ItemAction::Aspect)),
         ],
     },
     Rule {
@@ -193,31 +219,6 @@ pub static ITEM: [SpecRule; 14] = [
             Nonterminal(Part::Needs),
             Token(TokenKind::Mark(Punctuation::Semicolon)),
             Act(Action::Item(ItemAction::ForwardOn)),
-        ],
-    },
-    Rule {
-        kinds: &[TokenKind::Word(Word::Concrete)],
-        right: &[
-            Token(TokenKind::Word(Word::Concrete)),
-            Nonterminal(Part::Production),
-            Act(Action::Item(ItemAction::ProductionItem(ProductionRole::Concrete))),
-        ],
-    },
-    Rule {
-        kinds: &[TokenKind::Word(Word::Abstract)],
-        right: &[
-            Token(TokenKind::Word(Word::Abstract)),
-            Nonterminal(Part::Production),
-            Act(Action::Item(ItemAction::ProductionItem(ProductionRole::Abstract))),
-        ],
-    },
-    Rule {
-        kinds: &[TokenKind::Word(Word::Aspect)],
-        right: &[
-            Token(TokenKind::Word(Word::Aspect)),
-            Token(TokenKind::Name),
-            Nonterminal(Part::Block),
-            Act(Action::Item(ItemAction::Aspect)),
         ],
     },
 ];

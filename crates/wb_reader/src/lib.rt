@@ -1,11 +1,6 @@
 //! Specifications, read exactly from bytes.
 #![tactic(auto)]
 
-mod acting;
-mod build_expressions;
-mod build_items;
-mod build_parts;
-mod builder;
 mod expression_rules;
 mod format;
 mod item_rules;

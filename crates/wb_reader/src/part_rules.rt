@@ -13,7 +13,8 @@
 //! value    = expression ';'
 //! ```
 
-use crate::part::{Action, Part, PartAction, SpecRule};
+use crate::part::{Part, SpecRule};
+use wb_builder::{Action, PartAction};
 use wb_predictive::Rule;
 use wb_predictive::Symbol::{Act, Nonterminal, Token};
 use wb_tokens::{Punctuation, TokenKind, Word};

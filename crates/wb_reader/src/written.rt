@@ -4,10 +4,10 @@ ghost use Rattle.std.specs.Prelude.{◌≡◌, IfOk, IfErr};
 ghost use Rattle.wb_syntax.specs.SpecText.{IsWrittenText};
 ghost use Rattle.wb_reader.specs.Inner.Patterns.{OnSyntax};
 
-use crate::builder::SpecBuilder;
 use crate::refusal::SpecRefusal;
 use crate::table::SpecTable;
 use std::alloc::Global;
+use wb_builder::SpecBuilder;
 use wb_predictive::{Outcome, read_all};
 use wb_syntax::WrittenSpec;
 

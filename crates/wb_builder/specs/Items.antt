@@ -1,5 +1,7 @@
--- What actions make of the parts of headers and items.
+-- What reserved words add to the parts, and what actions make of those of headers, items and productions.
 use Rattle.std.specs.Prelude.{ℕ, ◌==◌, ℤ, pos, negsuc, List, [], ◌∷◌, ◌++◌, if◌then◌else◌}
+use Rattle.wb_tokens.specs.declared.word.Word.{Word}
+use Rattle.wb_tokens.specs.declared.word.Word.TheVariants as w
 use Rattle.wb_syntax.specs.declared.header.Header.TheVariants as h
 use Rattle.wb_syntax.specs.declared.item.ItemForm.{ItemForm}
 use Rattle.wb_syntax.specs.declared.item.ItemForm.TheVariants as f
@@ -9,9 +11,30 @@ use Rattle.wb_syntax.specs.declared.pattern.Role.{Role}
 use Rattle.wb_syntax.specs.declared.pattern.WrittenPattern.{WrittenPattern}
 use Rattle.wb_syntax.specs.declared.production.NamedKind.{NamedKind}
 use Rattle.wb_syntax.specs.declared.production.ProductionRole.{ProductionRole}
-use Rattle.wb_reader.specs.declared.part.ItemAction.{ItemAction}
-use Rattle.wb_reader.specs.declared.builder.SpecBuilder.{SpecBuilder}
-use Rattle.wb_reader.specs.Inner.Builder.{on_top}
+use Rattle.wb_builder.specs.declared.items.ItemAction.{ItemAction}
+use Rattle.wb_builder.specs.declared.builder.SpecBuilder.{SpecBuilder}
+use Rattle.wb_builder.specs.Builder.{with_place, on_top}
+
+-- the place of a word is kept where it may begin an item, an equation or a read
+abbrev pub word_shift : Word → ℕ → SpecBuilder → SpecBuilder
+word_shift w.Abstract at v = with_place at v
+word_shift w.Aspect at v = with_place at v
+word_shift w.Concrete at v = with_place at v
+word_shift w.Extensible at v = with_place at v
+word_shift w.Forward at v = with_place at v
+word_shift w.Forwards at v = with_place at v
+word_shift w.Ignore at v = with_place at v
+word_shift w.Inh at v = with_place at v
+word_shift w.Local at v = with_place at v
+word_shift w.Marking at v = with_place at v
+word_shift w.Nonterminal at v = with_place at v
+word_shift w.Occurs at v = with_place at v
+word_shift w.Prefer at v = with_place at v
+word_shift w.Start at v = with_place at v
+word_shift w.Syn at v = with_place at v
+word_shift w.Terminal at v = with_place at v
+word_shift w.Top at v = with_place at v
+word_shift word at v = v
 
 -- the format of which this is the number, or 0 where it is of none that is known
 abbrev pub format_of : ℤ → ℕ

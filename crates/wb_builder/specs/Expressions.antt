@@ -2,9 +2,9 @@
 use Rattle.std.specs.Prelude.{ℕ, true, false, List, [], ◌∷◌, ◌++◌, length}
 use Rattle.wb_syntax.specs.Expression.{Node}
 use Rattle.wb_expressions.specs.declared.node.Node.TheVariants as n
-use Rattle.wb_reader.specs.declared.part.ExpressionAction.{ExpressionAction}
-use Rattle.wb_reader.specs.declared.builder.SpecBuilder.{SpecBuilder}
-use Rattle.wb_reader.specs.Inner.Builder.{on_top}
+use Rattle.wb_builder.specs.declared.expressions.ExpressionAction.{ExpressionAction}
+use Rattle.wb_builder.specs.declared.builder.SpecBuilder.{SpecBuilder}
+use Rattle.wb_builder.specs.Builder.{on_top}
 
 -- the node goes behind the last nodes, and is a part
 abbrev pub with_node : Node → SpecBuilder → SpecBuilder

@@ -1,11 +1,11 @@
-//! What do actions make of the parts of headers and items?
+//! What do actions make of the parts of headers, items and productions?
 //!
-//! Each does nothing more where a part is missing, which no reading meets. Parts of items are in `build_parts`.
+//! Each does nothing more where a part is missing, which no reading meets. Kinds, flow types, children and equations are in `parts`.
 
 ghost use Rattle.std.specs.Prelude.{◌≡◌, OnOk};
 ghost use Rattle.wb_syntax.specs.declared.item.ItemForm.TheVariants as f;
 ghost use Rattle.wb_syntax.specs.declared.item.PlainForm.TheVariants as i;
-ghost use Rattle.wb_reader.specs.Inner.BuildItems.{format_of, with_begin, with_host, with_extension, with_item, with_named, with_pair, with_role, with_attribute, with_occurs, with_forward_on, with_children, with_production, with_production_item, with_aspect};
+ghost use Rattle.wb_builder.specs.Items.{word_shift, item_act, format_of, with_begin, with_host, with_extension, with_item, with_named, with_pair, with_role, with_attribute, with_occurs, with_forward_on, with_children, with_production, with_production_item, with_aspect};
 
 use crate::builder::SpecBuilder;
 use std::alloc::{AllocError, Global};
@@ -13,6 +13,65 @@ use wb_lists::List;
 use wb_syntax::{
     Header, Item, ItemForm, PlainForm, Production, ProductionRole, Role, WrittenPattern,
 };
+use wb_tokens::Word;
+
+/// What is done where a part of a header, an item or a production is whole.
+#[derive(Clone, Copy)]
+pub enum ItemAction {
+    Begin,
+    Host,
+    Extension,
+    Lexical(Role),
+    Prefer,
+    Nonterminal,
+    Start,
+    Extensible,
+    Synthesized,
+    Inherited,
+    Occurs,
+    ForwardOn,
+    ProductionItem(ProductionRole),
+    Aspect,
+    BeginChildren,
+    Production,
+}
+
+// What an action on headers, items and productions does. The only error is want of memory.
+pub(crate) fn item_act(
+    alloc: Global,
+    action: ItemAction,
+    values: &mut SpecBuilder,
+) -> Result<(), AllocError>
+    ensures ok { OnOk result (values.new ≡ item_act action values.old) }
+{
+    match action {
+        ItemAction::Begin => {
+            values.begin();
+            Ok(())
+        },
+        ItemAction::Host => {
+            values.add_host();
+            Ok(())
+        }
+        ItemAction::Extension => {
+            values.add_extension();
+            Ok(())
+        }
+        ItemAction::Lexical(role) => values.add_lexical(role),
+        ItemAction::Prefer => values.add_prefer(),
+        ItemAction::Nonterminal => values.add_nonterminal(),
+        ItemAction::Start => values.add_start(),
+        ItemAction::Extensible => values.add_extensible(),
+        ItemAction::Synthesized => values.add_synthesized(),
+        ItemAction::Inherited => values.add_inherited(),
+        ItemAction::Occurs => values.add_occurs(),
+        ItemAction::ForwardOn => values.add_forward_on(),
+        ItemAction::ProductionItem(role) => values.add_production_item(role),
+        ItemAction::Aspect => values.add_aspect(),
+        ItemAction::BeginChildren => values.begin_children(alloc),
+        ItemAction::Production => values.add_production(),
+    }
+}
 
 // The format of this number.
 fn format_of(value: i64) -> u32
@@ -22,8 +81,35 @@ fn format_of(value: i64) -> u32
 }
 
 impl SpecBuilder {
+    /// A reserved word was read at this place, which is kept where it may begin an item, an equation or a read.
+    /// The only error is want of memory.
+    pub fn read_word(&mut self, word: Word, at: usize) -> Result<(), AllocError>
+        ensures ok { OnOk result (self.new ≡ word_shift word at self.old) }
+    {
+        match word {
+            Word::Abstract => self.read_place(at),
+            Word::Aspect => self.read_place(at),
+            Word::Concrete => self.read_place(at),
+            Word::Extensible => self.read_place(at),
+            Word::Forward => self.read_place(at),
+            Word::Forwards => self.read_place(at),
+            Word::Ignore => self.read_place(at),
+            Word::Inh => self.read_place(at),
+            Word::Local => self.read_place(at),
+            Word::Marking => self.read_place(at),
+            Word::Nonterminal => self.read_place(at),
+            Word::Occurs => self.read_place(at),
+            Word::Prefer => self.read_place(at),
+            Word::Start => self.read_place(at),
+            Word::Syn => self.read_place(at),
+            Word::Terminal => self.read_place(at),
+            Word::Top => self.read_place(at),
+            _ => Ok(()),
+        }
+    }
+
     // The number of the format was read. Takes no memory.
-    pub(crate) fn begin(&mut self)
+    fn begin(&mut self)
         ensures { self.new ≡ with_begin self.old }
     {
         let Some(value) = self.integers.pop() else {
@@ -33,7 +119,7 @@ impl SpecBuilder {
     }
 
     // A host's header is whole. Takes no memory.
-    pub(crate) fn add_host(&mut self)
+    fn add_host(&mut self)
         ensures { self.new ≡ with_host self.old }
     {
         let Some(name) = self.names.pop() else {
@@ -44,7 +130,7 @@ impl SpecBuilder {
     }
 
     // An extension's header is whole. Takes no memory.
-    pub(crate) fn add_extension(&mut self)
+    fn add_extension(&mut self)
         ensures { self.new ≡ with_extension self.old }
     {
         let Some(host) = self.names.pop() else {
@@ -68,7 +154,7 @@ impl SpecBuilder {
     }
 
     // An item with a regular expression is whole. The only error is want of memory.
-    pub(crate) fn add_lexical(&mut self, role: Role) -> Result<(), AllocError>
+    fn add_lexical(&mut self, role: Role) -> Result<(), AllocError>
         ensures ok { OnOk result (self.new ≡ with_role role self.old) }
     {
         let Some(pattern) = self.patterns.pop() else {
@@ -85,7 +171,7 @@ impl SpecBuilder {
     }
 
     // A preference is whole. The only error is want of memory.
-    pub(crate) fn add_prefer(&mut self) -> Result<(), AllocError>
+    fn add_prefer(&mut self) -> Result<(), AllocError>
         ensures ok { OnOk result (self.new ≡ with_pair (λ first second. f.Plain (i.Prefer first second)) self.old) }
     {
         let Some(second) = self.names.pop() else {
@@ -101,7 +187,7 @@ impl SpecBuilder {
     }
 
     // A nonterminal's declaration is whole. The only error is want of memory.
-    pub(crate) fn add_nonterminal(&mut self) -> Result<(), AllocError>
+    fn add_nonterminal(&mut self) -> Result<(), AllocError>
         ensures ok { OnOk result (self.new ≡ with_named (λ name. f.Plain (i.Nonterminal name)) self.old) }
     {
         let Some(name) = self.names.pop() else {
@@ -111,7 +197,7 @@ impl SpecBuilder {
     }
 
     // The start's declaration is whole. The only error is want of memory.
-    pub(crate) fn add_start(&mut self) -> Result<(), AllocError>
+    fn add_start(&mut self) -> Result<(), AllocError>
         ensures ok { OnOk result (self.new ≡ with_named (λ name. f.Plain (i.Start name)) self.old) }
     {
         let Some(name) = self.names.pop() else {
@@ -121,7 +207,7 @@ impl SpecBuilder {
     }
 
     // A permission to extend is whole. The only error is want of memory.
-    pub(crate) fn add_extensible(&mut self) -> Result<(), AllocError>
+    fn add_extensible(&mut self) -> Result<(), AllocError>
         ensures ok { OnOk result (self.new ≡ with_named (λ name. f.Plain (i.Extensible name)) self.old) }
     {
         let Some(name) = self.names.pop() else {
@@ -131,7 +217,7 @@ impl SpecBuilder {
     }
 
     // A synthesized attribute is whole. The only error is want of memory.
-    pub(crate) fn add_synthesized(&mut self) -> Result<(), AllocError>
+    fn add_synthesized(&mut self) -> Result<(), AllocError>
         ensures ok { OnOk result (self.new ≡ with_attribute (λ name kind. i.Synthesized name kind) self.old) }
     {
         let Some(kind) = self.kinds.pop() else {
@@ -147,7 +233,7 @@ impl SpecBuilder {
     }
 
     // An inherited attribute is whole. The only error is want of memory.
-    pub(crate) fn add_inherited(&mut self) -> Result<(), AllocError>
+    fn add_inherited(&mut self) -> Result<(), AllocError>
         ensures ok { OnOk result (self.new ≡ with_attribute (λ name kind. i.Inherited name kind) self.old) }
     {
         let Some(kind) = self.kinds.pop() else {
@@ -163,7 +249,7 @@ impl SpecBuilder {
     }
 
     // An occurrence is whole. The only error is want of memory.
-    pub(crate) fn add_occurs(&mut self) -> Result<(), AllocError>
+    fn add_occurs(&mut self) -> Result<(), AllocError>
         ensures ok { OnOk result (self.new ≡ with_occurs self.old) }
     {
         let Some(needs) = self.needs.pop() else {
@@ -183,7 +269,7 @@ impl SpecBuilder {
     }
 
     // A flow type of forwarded trees is whole. The only error is want of memory.
-    pub(crate) fn add_forward_on(&mut self) -> Result<(), AllocError>
+    fn add_forward_on(&mut self) -> Result<(), AllocError>
         ensures ok { OnOk result (self.new ≡ with_forward_on self.old) }
     {
         let Some(needs) = self.lists.pop() else {
@@ -199,7 +285,7 @@ impl SpecBuilder {
     }
 
     // An item with a production is whole. The only error is want of memory.
-    pub(crate) fn add_production_item(&mut self, role: ProductionRole) -> Result<(), AllocError>
+    fn add_production_item(&mut self, role: ProductionRole) -> Result<(), AllocError>
         ensures ok { OnOk result (self.new ≡ with_production_item role self.old) }
     {
         let Some(production) = self.productions.pop() else {
@@ -209,7 +295,7 @@ impl SpecBuilder {
     }
 
     // Further equations of a production are whole. The only error is want of memory.
-    pub(crate) fn add_aspect(&mut self) -> Result<(), AllocError>
+    fn add_aspect(&mut self) -> Result<(), AllocError>
         ensures ok { OnOk result (self.new ≡ with_aspect self.old) }
     {
         let Some(equations) = self.equations.pop() else {
@@ -225,14 +311,14 @@ impl SpecBuilder {
     }
 
     // Children begin. The only error is want of memory.
-    pub(crate) fn begin_children(&mut self, alloc: Global) -> Result<(), AllocError>
+    fn begin_children(&mut self, alloc: Global) -> Result<(), AllocError>
         ensures ok { OnOk result (self.new ≡ with_children self.old) }
     {
         self.children.push(List::new(alloc))
     }
 
     // A production is whole. The only error is want of memory.
-    pub(crate) fn add_production(&mut self) -> Result<(), AllocError>
+    fn add_production(&mut self) -> Result<(), AllocError>
         ensures ok { OnOk result (self.new ≡ with_production self.old) }
     {
         let Some(equations) = self.equations.pop() else {

@@ -2,7 +2,7 @@
 use Rattle.std.specs.Prelude.{ℕ, ℤ, List, [], ◌∷◌}
 use Rattle.wb_syntax.specs.declared.header.Header.TheVariants as h
 use Rattle.wb_syntax.specs.declared.written.WrittenSpec.{WrittenSpec}
-use Rattle.wb_reader.specs.declared.builder.SpecBuilder.{SpecBuilder}
+use Rattle.wb_builder.specs.declared.builder.SpecBuilder.{SpecBuilder}
 
 -- what is made of the value on top and of the others, or, where there is none, the first
 abbrev pub on_top : {X V : Type 0} → List X → V → (X → List X → V) → V
