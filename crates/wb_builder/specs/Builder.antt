@@ -13,7 +13,7 @@ on_top (x ∷ rest) otherwise made = made x rest
 abbrev pub empty : SpecBuilder
 empty = record {
   names = [];
-  places = [];
+  starts = [];
   integers = [];
   texts = [];
   patterns = [];
@@ -38,8 +38,8 @@ abbrev pub with_name : List ℕ → ℕ → SpecBuilder → SpecBuilder
 with_name name at v = record v { names = record { bytes = name; at = at } ∷ v.names }
 
 -- a word that may begin an item, an equation or a read was read at this place
-abbrev pub with_place : ℕ → SpecBuilder → SpecBuilder
-with_place at v = record v { places = at ∷ v.places }
+abbrev pub with_start : ℕ → SpecBuilder → SpecBuilder
+with_start at v = record v { starts = at ∷ v.starts }
 
 -- an integer was read
 abbrev pub with_integer : ℤ → SpecBuilder → SpecBuilder

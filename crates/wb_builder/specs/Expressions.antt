@@ -29,7 +29,7 @@ with_read v = on_top v.names v (λ attribute names. on_top names (record v { nam
 
 -- the attribute of the last name, of the top or of the forwarded tree: the last place is of no more use
 abbrev pub with_placed_read : (List ℕ → Node) → SpecBuilder → SpecBuilder
-with_placed_read node v = on_top v.places v (λ at rest. with_label node (record v { places = rest }))
+with_placed_read node v = on_top v.starts v (λ at rest. with_label node (record v { starts = rest }))
 
 -- arguments begin
 abbrev pub with_arguments : SpecBuilder → SpecBuilder

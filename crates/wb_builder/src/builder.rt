@@ -4,9 +4,10 @@
 //! those that begin one.
 
 ghost use Rattle.std.specs.Prelude.{◌≡◌, OnOk};
-ghost use Rattle.wb_builder.specs.Builder.{empty, written_of, with_name, with_place, with_integer, with_text, with_pattern};
+ghost use Rattle.wb_builder.specs.Builder.{empty, written_of, with_name, with_start, with_integer, with_text, with_pattern};
 
 use std::alloc::{AllocError, Global};
+use std::mem::replace;
 use wb_base::{Bytes, Sequence};
 use wb_lists::{List, Stack};
 use wb_syntax::{
@@ -37,7 +38,7 @@ pub struct SpecBuilder {
     /// Names.
     pub names: Stack<PlacedBytes>,
     /// The places of words with which items, equations and reads begin.
-    pub places: Stack<usize>,
+    pub starts: Stack<usize>,
     /// Integers.
     pub integers: Stack<i64>,
     /// Strings.
@@ -81,7 +82,7 @@ impl SpecBuilder {
     {
         SpecBuilder {
             names: Stack::new(alloc),
-            places: Stack::new(alloc),
+            starts: Stack::new(alloc),
             integers: Stack::new(alloc),
             texts: Stack::new(alloc),
             patterns: Stack::new(alloc),
@@ -110,10 +111,10 @@ impl SpecBuilder {
     }
 
     // A word that may begin an item, an equation or a read was read at this place. The only error is want of memory.
-    pub(crate) fn read_place(&mut self, at: usize) -> Result<(), AllocError>
-        ensures ok { OnOk result (self.new ≡ with_place at self.old) }
+    pub(crate) fn read_start(&mut self, at: usize) -> Result<(), AllocError>
+        ensures ok { OnOk result (self.new ≡ with_start at self.old) }
     {
-        self.places.push(at)
+        self.starts.push(at)
     }
 
     /// An integer was read. The only error is want of memory.
@@ -137,15 +138,18 @@ impl SpecBuilder {
         self.patterns.push(WrittenPattern { bytes, at })
     }
 
-    /// The specification of the whole parts. Takes no memory.
-    pub fn into_written(self) -> WrittenSpec
-        ensures { result ≡ written_of self }
+    /// The specification of the whole parts, which are taken out. Takes no memory.
+    pub fn take_written(&mut self, alloc: Global) -> WrittenSpec
+        ensures { result ≡ written_of self.old }
     {
+        let name = replace(&mut self.name, Bytes::empty());
+        let header = replace(&mut self.header, Header::Host);
+        let items = replace(&mut self.items, List::new(alloc));
         WrittenSpec {
             format: self.format,
-            name: self.name,
-            header: self.header,
-            items: self.items.into_sequence(),
+            name,
+            header,
+            items: items.into_sequence(),
         }
     }
 }

@@ -131,7 +131,7 @@ impl SpecBuilder {
     fn add_top(&mut self) -> Result<(), AllocError>
         ensures ok { OnOk result (self.new ≡ with_placed_read (λ a. n.Top a) self.old) }
     {
-        let Some(_) = self.places.pop() else {
+        let Some(_) = self.starts.pop() else {
             return Ok(());
         };
         let Some(name) = self.names.pop() else {
@@ -144,7 +144,7 @@ impl SpecBuilder {
     fn add_forward(&mut self) -> Result<(), AllocError>
         ensures ok { OnOk result (self.new ≡ with_placed_read (λ a. n.Forward a) self.old) }
     {
-        let Some(_) = self.places.pop() else {
+        let Some(_) = self.starts.pop() else {
             return Ok(());
         };
         let Some(name) = self.names.pop() else {

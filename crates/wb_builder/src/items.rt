@@ -5,10 +5,11 @@
 ghost use Rattle.std.specs.Prelude.{◌≡◌, OnOk};
 ghost use Rattle.wb_syntax.specs.declared.item.ItemForm.TheVariants as f;
 ghost use Rattle.wb_syntax.specs.declared.item.PlainForm.TheVariants as i;
-ghost use Rattle.wb_builder.specs.Items.{word_shift, item_act, format_of, with_begin, with_host, with_extension, with_item, with_named, with_pair, with_role, with_attribute, with_occurs, with_forward_on, with_children, with_production, with_production_item, with_aspect};
+ghost use Rattle.wb_builder.specs.Items.{word_shift, item_act, format_of, with_begin, with_header, with_host, with_extension, last_start, without_start, with_item, with_named, with_pair, with_role, with_attribute, with_occurs, with_forward_on, with_children, with_production, with_production_item, with_aspect};
 
 use crate::builder::SpecBuilder;
 use std::alloc::{AllocError, Global};
+use wb_base::Bytes;
 use wb_lists::List;
 use wb_syntax::{
     Header, Item, ItemForm, PlainForm, Production, ProductionRole, Role, WrittenPattern,
@@ -87,23 +88,23 @@ impl SpecBuilder {
         ensures ok { OnOk result (self.new ≡ word_shift word at self.old) }
     {
         match word {
-            Word::Abstract => self.read_place(at),
-            Word::Aspect => self.read_place(at),
-            Word::Concrete => self.read_place(at),
-            Word::Extensible => self.read_place(at),
-            Word::Forward => self.read_place(at),
-            Word::Forwards => self.read_place(at),
-            Word::Ignore => self.read_place(at),
-            Word::Inh => self.read_place(at),
-            Word::Local => self.read_place(at),
-            Word::Marking => self.read_place(at),
-            Word::Nonterminal => self.read_place(at),
-            Word::Occurs => self.read_place(at),
-            Word::Prefer => self.read_place(at),
-            Word::Start => self.read_place(at),
-            Word::Syn => self.read_place(at),
-            Word::Terminal => self.read_place(at),
-            Word::Top => self.read_place(at),
+            Word::Abstract => self.read_start(at),
+            Word::Aspect => self.read_start(at),
+            Word::Concrete => self.read_start(at),
+            Word::Extensible => self.read_start(at),
+            Word::Forward => self.read_start(at),
+            Word::Forwards => self.read_start(at),
+            Word::Ignore => self.read_start(at),
+            Word::Inh => self.read_start(at),
+            Word::Local => self.read_start(at),
+            Word::Marking => self.read_start(at),
+            Word::Nonterminal => self.read_start(at),
+            Word::Occurs => self.read_start(at),
+            Word::Prefer => self.read_start(at),
+            Word::Start => self.read_start(at),
+            Word::Syn => self.read_start(at),
+            Word::Terminal => self.read_start(at),
+            Word::Top => self.read_start(at),
             _ => Ok(()),
         }
     }
@@ -118,6 +119,14 @@ impl SpecBuilder {
         self.format = format_of(value);
     }
 
+    // The specification has this name and this header. Takes no memory.
+    fn set_header(&mut self, name: Bytes, header: Header)
+        ensures { self.new ≡ with_header name header self.old }
+    {
+        self.name = name;
+        self.header = header;
+    }
+
     // A host's header is whole. Takes no memory.
     fn add_host(&mut self)
         ensures { self.new ≡ with_host self.old }
@@ -125,8 +134,7 @@ impl SpecBuilder {
         let Some(name) = self.names.pop() else {
             return;
         };
-        self.name = name.bytes;
-        self.header = Header::Host;
+        self.set_header(name.bytes, Header::Host);
     }
 
     // An extension's header is whole. Takes no memory.
@@ -139,17 +147,25 @@ impl SpecBuilder {
         let Some(name) = self.names.pop() else {
             return;
         };
-        self.name = name.bytes;
-        self.header = Header::Extension { host: host.bytes };
+        self.set_header(name.bytes, Header::Extension { host: host.bytes });
+    }
+
+    // The last start, or 0 where there is none, which no reading meets. Takes no memory.
+    fn take_start(&mut self) -> usize
+        ensures start { result ≡ last_start self.old }
+        ensures rest { self.new ≡ without_start self.old }
+    {
+        let Some(at) = self.starts.pop() else {
+            return 0;
+        };
+        at
     }
 
     // An item is whole. The only error is want of memory.
     fn add_item(&mut self, form: ItemForm<WrittenPattern>) -> Result<(), AllocError>
         ensures ok { OnOk result (self.new ≡ with_item form self.old) }
     {
-        let Some(offset) = self.places.pop() else {
-            return Ok(());
-        };
+        let offset = self.take_start();
         self.items.push(Item { offset, form })
     }
 

@@ -152,7 +152,7 @@ impl SpecBuilder {
         let Some(name) = self.names.pop() else {
             return Ok(());
         };
-        let Some(at) = self.places.pop() else {
+        let Some(at) = self.starts.pop() else {
             return Ok(());
         };
         let target = Target::Top(name.bytes);
@@ -166,7 +166,7 @@ impl SpecBuilder {
         let Some(name) = self.names.pop() else {
             return Ok(());
         };
-        let Some(at) = self.places.pop() else {
+        let Some(at) = self.starts.pop() else {
             return Ok(());
         };
         let target = Target::Forward(name.bytes);
@@ -201,7 +201,7 @@ impl SpecBuilder {
         let Some(label) = self.names.pop() else {
             return Ok(());
         };
-        let Some(at) = self.places.pop() else {
+        let Some(at) = self.starts.pop() else {
             return Ok(());
         };
         let target = Target::Local {
@@ -215,7 +215,7 @@ impl SpecBuilder {
     fn begin_forwards_to(&mut self) -> Result<(), AllocError>
         ensures ok { OnOk result (self.new ≡ with_forwards_to self.old) }
     {
-        let Some(at) = self.places.pop() else {
+        let Some(at) = self.starts.pop() else {
             return Ok(());
         };
         let target = Target::ForwardsTo;

@@ -136,48 +136,100 @@ pub record Taken (sample : List Field) (f : Row) (w : List Lexeme) (a b : SpecBu
   pub rest : Makes f back (with_fields (fields_with sample values) (places_of front (fields_with sample values) are) a) b
 
 -- what a row of fields derives
-pub fields_taken : (sample : List Field) (f : Row) (w : List Lexeme) (a b : SpecBuilder) → Makes (row_of sample f) w a b → Taken sample f w a b
+pub fields_taken : (sample : List Field) (f : Row) (w : List Lexeme) (a b : SpecBuilder) → Makes (row_of sample f) w a b
+    → Taken sample f w a b
 fields_taken [] f w a b d = record { front = []; back = w; values = tt; are = no_field; whole = refl; rest = d }
 fields_taken (field.word value ∷ rest) f w a b d =
     let r = word_taken value d in
     let s = fields_taken rest f r.1 (word_shift value r.0.at a) b r.4 in
-    record { front = r.0 ∷ s.front; back = s.back; values = (tt, s.values); are = then_word r.2 s.are; whole = r.3 ∙ ap (λ z. r.0 ∷ z) s.whole; rest = s.rest }
+    record {
+      front = r.0 ∷ s.front;
+      back = s.back;
+      values = (tt, s.values);
+      are = then_word r.2 s.are;
+      whole = r.3 ∙ ap (λ z. r.0 ∷ z) s.whole;
+      rest =
+          s.rest;
+    }
 fields_taken (field.mark value ∷ rest) f w a b d =
     let r = mark_taken value d in
     let s = fields_taken rest f r.1 a b r.4 in
-    record { front = r.0 ∷ s.front; back = s.back; values = (tt, s.values); are = then_mark r.2 s.are; whole = r.3 ∙ ap (λ z. r.0 ∷ z) s.whole; rest = s.rest }
+    record {
+      front = r.0 ∷ s.front;
+      back = s.back;
+      values = (tt, s.values);
+      are = then_mark r.2 s.are;
+      whole = r.3 ∙ ap (λ z. r.0 ∷ z) s.whole;
+      rest =
+          s.rest;
+    }
 fields_taken (field.name value ∷ rest) f w a b d =
     let r = name_taken d in
     let s = fields_taken rest f r.1 (with_name r.2 r.0.at a) b r.5 in
-    record { front = r.0 ∷ s.front; back = s.back; values = (r.2, s.values); are = then_name r.3 s.are; whole = r.4 ∙ ap (λ z. r.0 ∷ z) s.whole; rest = s.rest }
+    record {
+      front = r.0 ∷ s.front;
+      back = s.back;
+      values = (r.2, s.values);
+      are = then_name r.3 s.are;
+      whole = r.4 ∙ ap (λ z. r.0 ∷ z) s.whole;
+      rest =
+          s.rest;
+    }
 fields_taken (field.kind value ∷ rest) f w a b d =
     let r = kind_sound d in
     let s = fields_taken rest f r.1 (with_kind r.2 a) b r.5 in
-    record { front = r.0 ++ s.front; back = s.back; values = (r.2, s.values); are = then_kind r.3 s.are refl; whole = joined r.0 r.1 s.front s.back w r.4 s.whole; rest = s.rest }
+    record {
+      front = r.0 ++ s.front;
+      back = s.back;
+      values = (r.2, s.values);
+      are = then_kind r.3 s.are refl;
+      whole =
+          joined r.0 r.1 s.front s.back w r.4 s.whole;
+      rest = s.rest;
+    }
 fields_taken (field.needs value ∷ rest) f w a b d =
     let r = needs_sound a (row_of rest f) w b d in
     let s = fields_taken rest f r.1 (record a { lists = r.2 ∷ a.lists }) b r.5 in
-    record { front = r.0 ++ s.front; back = s.back; values = (r.2, s.values); are = then_needs r.3 s.are refl; whole = joined r.0 r.1 s.front s.back w r.4 s.whole; rest = s.rest }
+    record {
+      front = r.0 ++ s.front;
+      back = s.back;
+      values = (r.2, s.values);
+      are = then_needs r.3 s.are refl;
+      whole =
+          joined r.0 r.1 s.front s.back w r.4 s.whole;
+      rest = s.rest;
+    }
 fields_taken (field.optional_needs value ∷ rest) f w a b d =
     let r = optional_sound a (row_of rest f) w b d in
     let s = fields_taken rest f r.1 (record a { needs = r.2 ∷ a.needs }) b r.5 in
-    record { front = r.0 ++ s.front; back = s.back; values = (r.2, s.values); are = then_optional_needs r.3 s.are refl; whole = joined r.0 r.1 s.front s.back w r.4 s.whole; rest = s.rest }
+    record {
+      front = r.0 ++ s.front;
+      back = s.back;
+      values = (r.2, s.values);
+      are = then_optional_needs r.3 s.are refl;
+      whole =
+          joined r.0 r.1 s.front s.back w r.4 s.whole;
+      rest = s.rest;
+    }
 
 -- two parts, and then the rest
 apart : (xs u v w : List Lexeme) → xs ≡ u ++ v → xs ++ w ≡ u ++ (v ++ w)
 apart xs u v w e = ap (λ y. y ++ w) e ∙ append_assoc u v w
 
 -- a row of fields derives their tokens
-pub fields_given : (f : Row) (w : List Lexeme) (b : SpecBuilder) (a : SpecBuilder) (xs : List Lexeme) (fields : List Field) (h : AreFields xs fields)
+pub fields_given : (f : Row) (w : List Lexeme) (b : SpecBuilder) (a : SpecBuilder) (xs : List Lexeme) (fields : List Field)
+    (h : AreFields xs fields)
     → Makes f w (with_fields fields (places_of xs fields h) a) b → Makes (row_of fields f) (xs ++ w) a b
 fields_given f w b a xs fields no_field d = d
 fields_given f w b a xs fields (then_word {x = x} {v = v} {value = value} {rest = rest} h s) d =
     word_given value h (fields_given f w b (word_shift value x.at a) v rest s d)
-fields_given f w b a xs fields (then_mark {v = v} {value = value} {rest = rest} h s) d = mark_given value h (fields_given f w b a v rest s d)
+fields_given f w b a xs fields (then_mark {v = v} {value = value} {rest = rest} h s) d =
+    mark_given value h (fields_given f w b a v rest s d)
 fields_given f w b a xs fields (then_name {x = x} {v = v} {value = value} {rest = rest} h s) d =
     name_given h (fields_given f w b (with_name value x.at a) v rest s d)
 fields_given f w b a xs fields (then_kind {u = u} {v = v} {value = value} {rest = rest} h s e) d =
-    subst (λ y. Makes (Nonterminal Part.Kind ∷ row_of rest f) y a b) (sym (apart xs u v w e)) (kind_given h (fields_given f w b (with_kind value a) v rest s d))
+    subst (λ y. Makes (Nonterminal Part.Kind ∷ row_of rest f) y a b) (sym (apart xs u v w e))
+    (kind_given h (fields_given f w b (with_kind value a) v rest s d))
 fields_given f w b a xs fields (then_needs {u = u} {v = v} {value = value} {rest = rest} h s e) d =
     subst (λ y. Makes (Nonterminal Part.Needs ∷ row_of rest f) y a b) (sym (apart xs u v w e))
     (needs_given a value (row_of rest f) u (v ++ w) b h (fields_given f w b (record a { lists = value ∷ a.lists }) v rest s d))

@@ -36,13 +36,15 @@ module _ (bytes : List ℕ) where
   pub no_token : (from at : ℕ) → IsNextIn WithComments bytes from (NoToken at) → NoneStands from
   no_token from at e x h = let i = one_next WithComments bytes from (NoToken at) (Found x) e h in absurd (cc)
 
-  parts : (a b c : Lexeme) (to : ℕ) → Spells (IsNextIn WithComments bytes) 0 (a ∷ b ∷ c ∷ []) to → Stands 0 a × Stands a.end b × Stands b.end c
+  parts : (a b c : Lexeme) (to : ℕ) → Spells (IsNextIn WithComments bytes) 0 (a ∷ b ∷ c ∷ []) to
+      → Stands 0 a × Stands a.end b × Stands b.end c
   parts a b c to (next i (next j (next k r))) = (i, j, k)
 
   one : (from : ℕ) (x y : Lexeme) → Stands from x → Stands from y → x ≡ y
   one from x y h i = let e = one_next WithComments bytes from (Found x) (Found y) h i in cc
 
-  first_number : (w : List Lexeme) (spec : WrittenSpec) → IsSpecification w spec → (a b : Lexeme) × (v : List Lexeme) × (w ≡ a ∷ b ∷ v) × (b.token ≡ t.Int (pos 1))
+  first_number : (w : List Lexeme) (spec : WrittenSpec) → IsSpecification w spec
+      → (a b : Lexeme) × (v : List Lexeme) × (w ≡ a ∷ b ∷ v) × (b.token ≡ t.Int (pos 1))
   first_number w spec (whole {f = a} {n = b} h known i j k l e) = (a, b, _, e, subst (λ m. b.token ≡ t.Int (pos m)) known i)
 
   two : (a b : Lexeme) (v : List Lexeme) (to : ℕ) → Spells (IsNextIn WithComments bytes) 0 (a ∷ b ∷ v) to → Stands 0 a × Stands a.end b
@@ -60,22 +62,28 @@ module _ (bytes : List ℕ) where
       o.is_other.2 (cc)
 
   -- where the next token is as wanted, from what is next
-  pub end_found : (one : Wanted) (from : ℕ) (n : Next Token) → IsNextIn WithComments bytes from n → (x : Lexeme) → n ≡ Found x → (found : Option ℕ)
+  pub end_found : (one : Wanted) (from : ℕ) (n : Next Token) → IsNextIn WithComments bytes from n → (x : Lexeme) → n ≡ Found x
+      → (found : Option ℕ)
       → IsEndWhere one x found → IsNextEnd bytes from one found
-  end_found wanted from n h x e None isnt = λ y k is. isnt (subst (λ (z : Lexeme). IsWanted wanted z.token) (one from y x k (subst (λ m. IsNextIn WithComments bytes from m) e h)) is)
+  end_found wanted from n h x e None isnt =
+      λ y k is. isnt (subst (λ (z : Lexeme). IsWanted wanted z.token) (one from y x k (subst
+      (λ m. IsNextIn WithComments bytes from m) e h)) is)
   end_found wanted from n h x e (Some end) is = (x, subst (λ m. IsNextIn WithComments bytes from m) e h, is.0, is.1)
 
-  pub end_ended : (one : Wanted) (from : ℕ) (n : Next Token) → IsNextIn WithComments bytes from n → (at : ℕ) → n ≡ End at → IsNextEnd bytes from one None
+  pub end_ended : (one : Wanted) (from : ℕ) (n : Next Token) → IsNextIn WithComments bytes from n → (at : ℕ) → n ≡ End at
+      → IsNextEnd bytes from one None
   end_ended one from n h at e = λ x k is. ended from at (subst (λ m. IsNextIn WithComments bytes from m) e h) x k
 
-  pub end_no_token : (one : Wanted) (from : ℕ) (n : Next Token) → IsNextIn WithComments bytes from n → (at : ℕ) → n ≡ NoToken at → IsNextEnd bytes from one None
+  pub end_no_token : (one : Wanted) (from : ℕ) (n : Next Token) → IsNextIn WithComments bytes from n → (at : ℕ) → n ≡ NoToken at
+      → IsNextEnd bytes from one None
   end_no_token one from n h at e = λ x k is. no_token from at (subst (λ m. IsNextIn WithComments bytes from m) e h) x k
 
   -- where one of the three is not as wanted the text says nothing
   pub no_word : (found : Option ℕ) → IsNextEnd bytes 0 w.Format found → found ≡ None → ¬ IsOtherFormat bytes
   no_word found h e r = let s = parts r.word r.number r.mark r.to r.spelled in subst (IsNextEnd bytes 0 w.Format) e h r.word s.0 r.is_format
 
-  pub no_number : (a : ℕ) (first found : Option ℕ) → IsNextEnd bytes 0 w.Format first → first ≡ Some a → IsNextEnd bytes a w.OtherNumber found → found ≡ None
+  pub no_number : (a : ℕ) (first found : Option ℕ) → IsNextEnd bytes 0 w.Format first → first ≡ Some a
+      → IsNextEnd bytes a w.OtherNumber found → found ≡ None
       → ¬ IsOtherFormat bytes
   no_number a first found h e k q r =
       let s = parts r.word r.number r.mark r.to r.spelled in
@@ -84,14 +92,16 @@ module _ (bytes : List ℕ) where
       subst (IsNextEnd bytes a w.OtherNumber) q k r.number (subst (λ from. Stands from r.number) at s.1) r.is_other
 
   -- where the first two are so the third decides
-  pub decides : (a b : ℕ) (first second found : Option ℕ) → IsNextEnd bytes 0 w.Format first → first ≡ Some a → IsNextEnd bytes a w.OtherNumber second
+  pub decides : (a b : ℕ) (first second found : Option ℕ) → IsNextEnd bytes 0 w.Format first → first ≡ Some a
+      → IsNextEnd bytes a w.OtherNumber second
       → second ≡ Some b → IsNextEnd bytes b w.Semicolon found → (o : Bool) → o ≡ is_some found → IsTrue o ↔ IsOtherFormat bytes
   decides a b first second found h e k q m o same =
       let x = subst (IsNextEnd bytes 0 w.Format) e h in
       let y = subst (IsNextEnd bytes a w.OtherNumber) q k in
       by_mark x.0 y.0 b x.1 x.2 (subst (λ from. Stands from y.0) (sym x.3) y.1) y.2 y.3 found m o same
     where
-      by_mark : (x y : Lexeme) (b : ℕ) → Stands 0 x → x.token ≡ t.Word word.Format → Stands x.end y → IsOtherNumber y.token → y.end ≡ b → (found : Option ℕ)
+      by_mark : (x y : Lexeme) (b : ℕ) → Stands 0 x → x.token ≡ t.Word word.Format → Stands x.end y → IsOtherNumber y.token → y.end ≡ b
+          → (found : Option ℕ)
           → IsNextEnd bytes b w.Semicolon found → (o : Bool) → o ≡ is_some found → IsTrue o ↔ IsOtherFormat bytes
       by_mark x y b i p j q at None isnt o same = (
         λ is. absurd (cc),

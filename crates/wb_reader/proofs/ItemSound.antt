@@ -23,7 +23,6 @@ use Rattle.wb_builder.specs.declared.actions.Action.{Action}
 use Rattle.wb_builder.specs.declared.items.ItemAction.{ItemAction}
 use Rattle.wb_builder.specs.declared.builder.SpecBuilder.{SpecBuilder}
 use Rattle.wb_reader.specs.Inner.RightSides.{right_sides}
-use Rattle.wb_builder.specs.Builder.{with_name, with_place}
 use Rattle.wb_reader.proofs.Taking.{Row, Makes, Split, OneOf, chosen, acted, word_taken, mark_taken, name_taken, regex_taken, one_taken}
 use Rattle.wb_reader.proofs.Many.{Element, many}
 use Rattle.wb_reader.proofs.Joins.{joined}
@@ -34,50 +33,97 @@ use Rattle.wb_reader.proofs.EquationSound.{block_sound, production_sound}
 abbrev lexical : ℕ → Role → List ℕ → List ℕ → ℕ → Item WrittenPattern
 lexical offset role name bytes at = record { offset = offset; form = form.Lexical role name (record { bytes = bytes; at = at }) }
 
-item_of_rows : (a : SpecBuilder) (front : List (Item WrittenPattern)) (f : Row) (w : List Lexeme) (b : SpecBuilder) → OneOf (right_sides Part.Item) (Nonterminal Part.Items ∷ f) w (itemized a front) b → Element IsItem Part.Items f (itemized a) front w b
+item_of_rows : (a : SpecBuilder) (front : List (Item WrittenPattern)) (f : Row) (w : List Lexeme) (b : SpecBuilder)
+    → OneOf (right_sides Part.Item) (Nonterminal Part.Items ∷ f) w (itemized a front) b → Element IsItem Part.Items f (itemized a) front w b
 unfolding right_sides
 item_of_rows a front f w b (inl d) =
     let x = word_taken word.Terminal d in
     let n = name_taken x.4 in
     let y = regex_taken n.5 in
-    let s = mark_taken p.Semicolon y.5 in
-    (x.0 ∷ n.0 ∷ y.0 ∷ s.0 ∷ [], s.1, lexical x.0.at r.Terminal n.2 y.2 y.0.at, grammar.lexical x.2 n.3 y.3 s.2, omega arith, x.3 ∙ ap (λ z. x.0 ∷ z) (n.4 ∙ ap (λ z. n.0 ∷ z) (y.4 ∙ ap (λ z. y.0 ∷ z) s.3)), acted s.4)
+    let s = mark_taken p.Semicolon y.5 in (
+      x.0 ∷ n.0 ∷ y.0 ∷ s.0 ∷ [],
+      s.1,
+      lexical x.0.at r.Terminal n.2 y.2 y.0.at,
+      grammar.lexical x.2 n.3 y.3 s.2,
+      omega arith,
+      x.3 ∙ ap (λ z. x.0 ∷ z) (n.4 ∙ ap (λ z. n.0 ∷ z) (y.4 ∙ ap (λ z. y.0 ∷ z) s.3)),
+      acted s.4,
+    )
 item_of_rows a front f w b (inr (inl d)) =
     let x = word_taken word.Ignore d in
     let n = name_taken x.4 in
     let y = regex_taken n.5 in
-    let s = mark_taken p.Semicolon y.5 in
-    (x.0 ∷ n.0 ∷ y.0 ∷ s.0 ∷ [], s.1, lexical x.0.at r.Ignore n.2 y.2 y.0.at, grammar.lexical x.2 n.3 y.3 s.2, omega arith, x.3 ∙ ap (λ z. x.0 ∷ z) (n.4 ∙ ap (λ z. n.0 ∷ z) (y.4 ∙ ap (λ z. y.0 ∷ z) s.3)), acted s.4)
+    let s = mark_taken p.Semicolon y.5 in (
+      x.0 ∷ n.0 ∷ y.0 ∷ s.0 ∷ [],
+      s.1,
+      lexical x.0.at r.Ignore n.2 y.2 y.0.at,
+      grammar.lexical x.2 n.3 y.3 s.2,
+      omega arith,
+      x.3 ∙ ap (λ z. x.0 ∷ z) (n.4 ∙ ap (λ z. n.0 ∷ z) (y.4 ∙ ap (λ z. y.0 ∷ z) s.3)),
+      acted s.4,
+    )
 item_of_rows a front f w b (inr (inr (inl d))) =
     let x = word_taken word.Marking d in
     let n = name_taken x.4 in
     let y = regex_taken n.5 in
-    let s = mark_taken p.Semicolon y.5 in
-    (x.0 ∷ n.0 ∷ y.0 ∷ s.0 ∷ [], s.1, lexical x.0.at r.Marking n.2 y.2 y.0.at, grammar.lexical x.2 n.3 y.3 s.2, omega arith, x.3 ∙ ap (λ z. x.0 ∷ z) (n.4 ∙ ap (λ z. n.0 ∷ z) (y.4 ∙ ap (λ z. y.0 ∷ z) s.3)), acted s.4)
+    let s = mark_taken p.Semicolon y.5 in (
+      x.0 ∷ n.0 ∷ y.0 ∷ s.0 ∷ [],
+      s.1,
+      lexical x.0.at r.Marking n.2 y.2 y.0.at,
+      grammar.lexical x.2 n.3 y.3 s.2,
+      omega arith,
+      x.3 ∙ ap (λ z. x.0 ∷ z) (n.4 ∙ ap (λ z. n.0 ∷ z) (y.4 ∙ ap (λ z. y.0 ∷ z) s.3)),
+      acted s.4,
+    )
 item_of_rows a front f w b (inr (inr (inr (inl d)))) =
     let x = word_taken word.Concrete d in
-    let q = production_sound _ _ x.1 b x.4 in
-    (x.0 ∷ q.0, q.1, record { offset = x.0.at; form = form.Production k.Concrete q.2 }, grammar.production x.2 q.3, omega arith, x.3 ∙ ap (λ z. x.0 ∷ z) q.4, acted q.5)
+    let q = production_sound _ _ x.1 b x.4 in (
+      x.0 ∷ q.0,
+      q.1,
+      record { offset = x.0.at; form = form.Production k.Concrete q.2 },
+      grammar.production x.2 q.3,
+      omega arith,
+      x.3 ∙ ap (λ z. x.0 ∷ z) q.4,
+      acted q.5,
+    )
 item_of_rows a front f w b (inr (inr (inr (inr (inl d))))) =
     let x = word_taken word.Abstract d in
-    let q = production_sound _ _ x.1 b x.4 in
-    (x.0 ∷ q.0, q.1, record { offset = x.0.at; form = form.Production k.Abstract q.2 }, grammar.production x.2 q.3, omega arith, x.3 ∙ ap (λ z. x.0 ∷ z) q.4, acted q.5)
+    let q = production_sound _ _ x.1 b x.4 in (
+      x.0 ∷ q.0,
+      q.1,
+      record { offset = x.0.at; form = form.Production k.Abstract q.2 },
+      grammar.production x.2 q.3,
+      omega arith,
+      x.3 ∙ ap (λ z. x.0 ∷ z) q.4,
+      acted q.5,
+    )
 item_of_rows a front f w b (inr (inr (inr (inr (inr (inl d)))))) =
     let x = word_taken word.Aspect d in
     let n = name_taken x.4 in
-    let k = block_sound _ _ n.1 b n.5 in
-    (x.0 ∷ n.0 ∷ k.0, k.1, record { offset = x.0.at; form = form.Aspect n.2 k.2 }, grammar.aspect x.2 n.3 k.3, omega arith, x.3 ∙ ap (λ z. x.0 ∷ z) (n.4 ∙ ap (λ z. n.0 ∷ z) k.4), acted k.5)
+    let k = block_sound _ _ n.1 b n.5 in (
+      x.0 ∷ n.0 ∷ k.0,
+      k.1,
+      record { offset = x.0.at; form = form.Aspect n.2 k.2 },
+      grammar.aspect x.2 n.3 k.3,
+      omega arith,
+      x.3 ∙ ap (λ z. x.0 ∷ z) (n.4 ∙ ap (λ z. n.0 ∷ z) k.4),
+      acted k.5,
+    )
 item_of_rows a front f w b (inr (inr (inr (inr (inr (inr e)))))) = plain_of_rows a front f w b e
 
-one_item : (a : SpecBuilder) (front : List (Item WrittenPattern)) (f : Row) (w : List Lexeme) (b : SpecBuilder) → OneOf (right_sides Part.Items) f w (itemized a front) b → Makes f w (itemized a front) b ⊎ Element IsItem Part.Items f (itemized a) front w b
+one_item : (a : SpecBuilder) (front : List (Item WrittenPattern)) (f : Row) (w : List Lexeme) (b : SpecBuilder)
+    → OneOf (right_sides Part.Items) f w (itemized a front) b → Makes f w (itemized a front) b ⊎ Element IsItem Part.Items f
+    (itemized a) front w b
 unfolding right_sides
 one_item a front f w b (inl d) = inl d
 one_item a front f w b (inr (inl d)) = inr (item_of_rows a front f w b (chosen d))
 one_item a front f w b (inr (inr e)) = absurd e
 
-items_sound : (a : SpecBuilder) (front : List (Item WrittenPattern)) (f : Row) (w : List Lexeme) (b : SpecBuilder) → Makes (Nonterminal Part.Items ∷ f) w (itemized a front) b → Split AreItems (λ items. itemized a (front ++ items)) f w b
+items_sound : (a : SpecBuilder) (front : List (Item WrittenPattern)) (f : Row) (w : List Lexeme) (b : SpecBuilder)
+    → Makes (Nonterminal Part.Items ∷ f) w (itemized a front) b → Split AreItems (λ items. itemized a (front ++ items)) f w b
 items_sound a front f w b d =
-    many IsItem AreItems grammar.nothing (λ u v item rest one others. grammar.next one others refl) Part.Items f b (itemized a) (λ front w d. one_item a front f w b (chosen d)) (length w) front w (omega arith) d
+    many IsItem AreItems grammar.nothing (λ u v item rest one others. grammar.next one others refl) Part.Items f b (itemized a)
+    (λ front w d. one_item a front f w b (chosen d)) (length w) front w (omega arith) d
 
 -- a specification's name with its header
 abbrev Head : Type 0
@@ -113,7 +159,8 @@ header_of_rows a f w b (inr (inr e)) = absurd e
 abbrev pub finished : SpecBuilder → WrittenSpec → SpecBuilder
 finished a spec = record a { format = spec.format; name = spec.name; header = spec.header; items = a.items ++ spec.items }
 
-file_of_rows : (a : SpecBuilder) (f : Row) (w : List Lexeme) (b : SpecBuilder) → OneOf (right_sides Part.File) f w a b → Split IsSpecification (finished a) f w b
+file_of_rows : (a : SpecBuilder) (f : Row) (w : List Lexeme) (b : SpecBuilder) → OneOf (right_sides Part.File) f w a b
+    → Split IsSpecification (finished a) f w b
 unfolding right_sides
 file_of_rows a f w b (inl d) =
     let x = word_taken word.Format d in
@@ -131,5 +178,6 @@ file_of_rows a f w b (inl d) =
     )
 file_of_rows a f w b (inr e) = absurd e
 
-pub file_sound : (a : SpecBuilder) (f : Row) (w : List Lexeme) (b : SpecBuilder) → Makes (Nonterminal Part.File ∷ f) w a b → Split IsSpecification (finished a) f w b
+pub file_sound : (a : SpecBuilder) (f : Row) (w : List Lexeme) (b : SpecBuilder) → Makes (Nonterminal Part.File ∷ f) w a b
+    → Split IsSpecification (finished a) f w b
 file_sound a f w b d = file_of_rows a f w b (chosen d)

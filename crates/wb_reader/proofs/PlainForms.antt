@@ -41,9 +41,22 @@ record Rule : Type 0 where
   made : Values (plain_fields sample) → PlainForm
   fields : (values : Values (plain_fields sample)) → fields_with (plain_fields sample) values ≡ plain_fields (made values)
   acts : (values : Values (plain_fields sample)) (places : List ℕ) (a : SpecBuilder)
-      → item_act action (with_fields (fields_with (plain_fields sample) values) places a) ≡ with_more a (plain (first_place places) (made values))
-  begins : (values : Values (plain_fields sample)) (xs : List Lexeme) (places : List ℕ) → Begins (fields_with (plain_fields sample) values) xs places
+      → item_act action (with_fields (fields_with (plain_fields sample) values) places a)
+      ≡ with_more a (plain (first_place places) (made values))
+  begins : (values : Values (plain_fields sample)) (xs : List Lexeme) (places : List ℕ)
+      → Begins (fields_with (plain_fields sample) values) xs places
       → BeginsAt xs places
+
+-- the same, part by part
+abbrev by_sample : (sample : PlainForm) (action : ItemAction) (made : Values (plain_fields sample) → PlainForm)
+    → ((values : Values (plain_fields sample)) → fields_with (plain_fields sample) values ≡ plain_fields (made values))
+    → ((values : Values (plain_fields sample)) (places : List ℕ) (a : SpecBuilder)
+    → item_act action (with_fields (fields_with (plain_fields sample) values) places a)
+    ≡ with_more a (plain (first_place places) (made values)))
+    → ((values : Values (plain_fields sample)) (xs : List Lexeme) (places : List ℕ)
+    → Begins (fields_with (plain_fields sample) values) xs places
+    → BeginsAt xs places) → Rule
+by_sample one does forms same like from = record { sample = one; action = does; made = forms; fields = same; acts = like; begins = from }
 
 -- what the right side of a form derives is such an item
 one_taken : (rule : Rule) (a : SpecBuilder) (front : List (Item WrittenPattern)) (f : Row) (w : List Lexeme) (b : SpecBuilder)
@@ -55,9 +68,11 @@ one_taken rule a front f w b d =
     let places = places_of r.front fields r.are in
     let first = rule.begins r.values r.front places (begins r.front fields r.are) in
     let are : IsPlain (first.0 ∷ first.1) (rule.made r.values) =
-    subst (λ xs. AreFields xs (plain_fields (rule.made r.values))) first.2 (subst (λ list. AreFields r.front list) (rule.fields r.values) r.are) in
+    subst (λ xs. AreFields xs (plain_fields (rule.made r.values))) first.2
+    (subst (λ list. AreFields r.front list) (rule.fields r.values) r.are) in
     let some : length r.front ≡ length (first.0 ∷ first.1) = ap length first.2 in
-    let same : item_act rule.action (with_fields fields places (itemized a front)) ≡ itemized a (front ++ plain first.0.at (rule.made r.values) ∷ []) =
+    let same : item_act rule.action (with_fields fields places (itemized a front))
+    ≡ itemized a (front ++ plain first.0.at (rule.made r.values) ∷ []) =
     rule.acts r.values places (itemized a front) ∙ ap (λ at. itemized a (front ++ plain at (rule.made r.values) ∷ [])) first.3 in (
       r.front,
       r.back,
@@ -71,21 +86,36 @@ one_taken rule a front f w b d =
 pub plain_of_rows : (a : SpecBuilder) (front : List (Item WrittenPattern)) (f : Row) (w : List Lexeme) (b : SpecBuilder)
     → OneOf plain_right_sides (Nonterminal Part.Items ∷ f) w (itemized a front) b → Element IsItem Part.Items f (itemized a) front w b
 plain_of_rows a front f w b (inl d) =
-    one_taken (record { sample = i.Prefer [] []; action = ItemAction.Prefer; made = λ v. i.Prefer v.1.0 v.1.1.1.0; fields = λ v. refl; acts = λ v places a. refl; begins = λ v xs places h. h }) a front f w b d
+    one_taken (by_sample (i.Prefer [] []) ItemAction.Prefer (λ v. i.Prefer v.1.0 v.1.1.1.0) (λ v. refl) (λ v places a. refl)
+    (λ v xs places h. h))
+    a front f w b d
 plain_of_rows a front f w b (inr (inl d)) =
-    one_taken (record { sample = i.Nonterminal []; action = ItemAction.Nonterminal; made = λ v. i.Nonterminal v.1.0; fields = λ v. refl; acts = λ v places a. refl; begins = λ v xs places h. h }) a front f w b d
+    one_taken (by_sample (i.Nonterminal []) ItemAction.Nonterminal (λ v. i.Nonterminal v.1.0) (λ v. refl) (λ v places a. refl)
+    (λ v xs places h. h))
+    a front f w b d
 plain_of_rows a front f w b (inr (inr (inl d))) =
-    one_taken (record { sample = i.Start []; action = ItemAction.Start; made = λ v. i.Start v.1.0; fields = λ v. refl; acts = λ v places a. refl; begins = λ v xs places h. h }) a front f w b d
+    one_taken (by_sample (i.Start []) ItemAction.Start (λ v. i.Start v.1.0) (λ v. refl) (λ v places a. refl) (λ v xs places h. h))
+    a front f w b d
 plain_of_rows a front f w b (inr (inr (inr (inl d)))) =
-    one_taken (record { sample = i.Extensible []; action = ItemAction.Extensible; made = λ v. i.Extensible v.1.0; fields = λ v. refl; acts = λ v places a. refl; begins = λ v xs places h. h }) a front f w b d
+    one_taken (by_sample (i.Extensible []) ItemAction.Extensible (λ v. i.Extensible v.1.0) (λ v. refl) (λ v places a. refl)
+    (λ v xs places h. h))
+    a front f w b d
 plain_of_rows a front f w b (inr (inr (inr (inr (inl d))))) =
-    one_taken (record { sample = i.Synthesized [] k.Int; action = ItemAction.Synthesized; made = λ v. i.Synthesized v.1.0 v.1.1.1.0; fields = λ v. refl; acts = λ v places a. refl; begins = λ v xs places h. h }) a front f w b d
+    one_taken (by_sample (i.Synthesized [] k.Int) ItemAction.Synthesized (λ v. i.Synthesized v.1.0 v.1.1.1.0) (λ v. refl)
+    (λ v places a. refl) (λ v xs places h. h))
+    a front f w b d
 plain_of_rows a front f w b (inr (inr (inr (inr (inr (inl d)))))) =
-    one_taken (record { sample = i.Inherited [] k.Int; action = ItemAction.Inherited; made = λ v. i.Inherited v.1.0 v.1.1.1.0; fields = λ v. refl; acts = λ v places a. refl; begins = λ v xs places h. h }) a front f w b d
+    one_taken (by_sample (i.Inherited [] k.Int) ItemAction.Inherited (λ v. i.Inherited v.1.0 v.1.1.1.0) (λ v. refl) (λ v places a. refl)
+    (λ v xs places h. h))
+    a front f w b d
 plain_of_rows a front f w b (inr (inr (inr (inr (inr (inr (inl d))))))) =
-    one_taken (record { sample = i.Occurs [] [] None; action = ItemAction.Occurs; made = λ v. i.Occurs v.1.0 v.1.1.1.0 v.1.1.1.1.0; fields = λ v. refl; acts = λ v places a. refl; begins = λ v xs places h. h }) a front f w b d
+    one_taken (by_sample (i.Occurs [] [] None) ItemAction.Occurs (λ v. i.Occurs v.1.0 v.1.1.1.0 v.1.1.1.1.0) (λ v. refl)
+    (λ v places a. refl) (λ v xs places h. h))
+    a front f w b d
 plain_of_rows a front f w b (inr (inr (inr (inr (inr (inr (inr (inl d)))))))) =
-    one_taken (record { sample = i.ForwardOn [] []; action = ItemAction.ForwardOn; made = λ v. i.ForwardOn v.1.1.0 v.1.1.1.0; fields = λ v. refl; acts = λ v places a. refl; begins = λ v xs places h. h }) a front f w b d
+    one_taken (by_sample (i.ForwardOn [] []) ItemAction.ForwardOn (λ v. i.ForwardOn v.1.1.0 v.1.1.1.0) (λ v. refl) (λ v places a. refl)
+    (λ v xs places h. h))
+    a front f w b d
 plain_of_rows a front f w b (inr (inr (inr (inr (inr (inr (inr (inr e)))))))) = absurd e
 
 -- the right side of a form
@@ -93,19 +123,28 @@ record HasRule (one : PlainForm) : Type 0 where
   number : ℕ
   action : ItemAction
   right : slice_get (right_sides Part.Item) number ≡ Some (row_of (plain_fields one) (Act (Action.Item action) ∷ []))
-  acts : (places : List ℕ) (a : SpecBuilder) → item_act action (with_fields (plain_fields one) places a) ≡ with_more a (plain (first_place places) one)
+  acts : (places : List ℕ) (a : SpecBuilder) → item_act action (with_fields (plain_fields one) places a)
+      ≡ with_more a (plain (first_place places) one)
   begins : (xs : List Lexeme) (places : List ℕ) → Begins (plain_fields one) xs places → BeginsAt xs places
 
 rule_of : (one : PlainForm) → HasRule one
 unfolding right_sides
-rule_of (i.Prefer first second) = record { number = 6; action = ItemAction.Prefer; right = refl; acts = λ places a. refl; begins = λ xs places h. h }
-rule_of (i.Nonterminal name) = record { number = 7; action = ItemAction.Nonterminal; right = refl; acts = λ places a. refl; begins = λ xs places h. h }
-rule_of (i.Start name) = record { number = 8; action = ItemAction.Start; right = refl; acts = λ places a. refl; begins = λ xs places h. h }
-rule_of (i.Extensible name) = record { number = 9; action = ItemAction.Extensible; right = refl; acts = λ places a. refl; begins = λ xs places h. h }
-rule_of (i.Synthesized name kind) = record { number = 10; action = ItemAction.Synthesized; right = refl; acts = λ places a. refl; begins = λ xs places h. h }
-rule_of (i.Inherited name kind) = record { number = 11; action = ItemAction.Inherited; right = refl; acts = λ places a. refl; begins = λ xs places h. h }
-rule_of (i.Occurs attribute nonterminal needs) = record { number = 12; action = ItemAction.Occurs; right = refl; acts = λ places a. refl; begins = λ xs places h. h }
-rule_of (i.ForwardOn nonterminal needs) = record { number = 13; action = ItemAction.ForwardOn; right = refl; acts = λ places a. refl; begins = λ xs places h. h }
+rule_of (i.Prefer first second) =
+    record { number = 6; action = ItemAction.Prefer; right = refl; acts = λ places a. refl; begins = λ xs places h. h }
+rule_of (i.Nonterminal name) =
+    record { number = 7; action = ItemAction.Nonterminal; right = refl; acts = λ places a. refl; begins = λ xs places h. h }
+rule_of (i.Start name) =
+    record { number = 8; action = ItemAction.Start; right = refl; acts = λ places a. refl; begins = λ xs places h. h }
+rule_of (i.Extensible name) =
+    record { number = 9; action = ItemAction.Extensible; right = refl; acts = λ places a. refl; begins = λ xs places h. h }
+rule_of (i.Synthesized name kind) =
+    record { number = 10; action = ItemAction.Synthesized; right = refl; acts = λ places a. refl; begins = λ xs places h. h }
+rule_of (i.Inherited name kind) =
+    record { number = 11; action = ItemAction.Inherited; right = refl; acts = λ places a. refl; begins = λ xs places h. h }
+rule_of (i.Occurs attribute nonterminal needs) =
+    record { number = 12; action = ItemAction.Occurs; right = refl; acts = λ places a. refl; begins = λ xs places h. h }
+rule_of (i.ForwardOn nonterminal needs) =
+    record { number = 13; action = ItemAction.ForwardOn; right = refl; acts = λ places a. refl; begins = λ xs places h. h }
 
 -- an item of names alone is derived
 pub plain_given : (a : SpecBuilder) (f : Row) (o : Lexeme) (u v : List Lexeme) (b : SpecBuilder) (one : PlainForm) → IsPlain (o ∷ u) one

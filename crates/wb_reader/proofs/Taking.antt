@@ -32,7 +32,8 @@ abbrev pub Split : {T : Type 0} → (List Lexeme → T → Type 0) → (T → Sp
 Split {T} Is made f w b = (u v : List Lexeme) × (value : T) × Is u value × (w ≡ u ++ v) × Makes f v (made value) b
 
 -- a token, and then the rest
-taken : {k : TokenKind} {f : Row} {w : List Lexeme} {a b : SpecBuilder} → Makes (Token k ∷ f) w a b → (x : Lexeme) × (v : List Lexeme) × (kind_of x.token ≡ k) × (w ≡ x ∷ v) × Makes f v (shift x.token x.at x.end a) b
+taken : {k : TokenKind} {f : Row} {w : List Lexeme} {a b : SpecBuilder} → Makes (Token k ∷ f) w a b
+    → (x : Lexeme) × (v : List Lexeme) × (kind_of x.token ≡ k) × (w ≡ x ∷ v) × Makes f v (shift x.token x.at x.end a) b
 taken (token {x = x} {v = v} h d e) = (x, v, h, e, d)
 
 pub word_taken : {f : Row} {w : List Lexeme} {a b : SpecBuilder} (y : Word) → Makes (Token (kind.Word y) ∷ f) w a b
@@ -93,7 +94,8 @@ abbrev pub OneOf : List Row → Row → List Lexeme → SpecBuilder → SpecBuil
 OneOf [] f w a b = ⊥
 OneOf (row ∷ rows) f w a b = Makes (row ++ f) w a b ⊎ OneOf rows f w a b
 
-chosen_of : (rows : List Row) (p : ℕ) (right f : Row) (w : List Lexeme) (a b : SpecBuilder) → slice_get rows p ≡ Some right → Makes (right ++ f) w a b → OneOf rows f w a b
+chosen_of : (rows : List Row) (p : ℕ) (right f : Row) (w : List Lexeme) (a b : SpecBuilder) → slice_get rows p ≡ Some right
+    → Makes (right ++ f) w a b → OneOf rows f w a b
 chosen_of [] p right f w a b e d = absurd (cc)
 chosen_of (row ∷ rows) zero right f w a b e d = inl (subst (λ r. Makes (r ++ f) w a b) (sym cc) d)
 chosen_of (row ∷ rows) (suc p) right f w a b e d = inr (chosen_of rows p right f w a b e d)

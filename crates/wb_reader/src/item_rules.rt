@@ -1,4 +1,4 @@
-//! The rules of headers, items and productions.
+//! Which rules have headers, items and productions?
 //!
 //! ```text
 //! file       = 'format' 1 ';' header item*
@@ -21,7 +21,7 @@ use wb_predictive::Symbol::{Act, Nonterminal, Token};
 use wb_syntax::{ProductionRole, Role};
 use wb_tokens::{Punctuation, TokenKind, Word};
 
-pub static FILE: [SpecRule; 1] = [Rule {
+pub(crate) static FILE: [SpecRule; 1] = [Rule {
     kinds: &[TokenKind::Word(Word::Format)],
     right: &[
         Token(TokenKind::Word(Word::Format)),
@@ -33,7 +33,7 @@ pub static FILE: [SpecRule; 1] = [Rule {
     ],
 }];
 
-pub static HEADER: [SpecRule; 2] = [
+pub(crate) static HEADER: [SpecRule; 2] = [
     Rule {
         kinds: &[TokenKind::Word(Word::Host)],
         right: &[
@@ -56,7 +56,7 @@ pub static HEADER: [SpecRule; 2] = [
     },
 ];
 
-pub static ITEMS: [SpecRule; 2] = [
+pub(crate) static ITEMS: [SpecRule; 2] = [
     Rule {
         kinds: &[TokenKind::End],
         right: &[],
@@ -82,7 +82,7 @@ pub static ITEMS: [SpecRule; 2] = [
     },
 ];
 
-pub static ITEM: [SpecRule; 14] = [
+pub(crate) static ITEM: [SpecRule; 14] = [
     Rule {
         kinds: &[TokenKind::Word(Word::Terminal)],
         right: &[
@@ -223,7 +223,7 @@ pub static ITEM: [SpecRule; 14] = [
     },
 ];
 
-pub static PRODUCTION: [SpecRule; 1] = [Rule {
+pub(crate) static PRODUCTION: [SpecRule; 1] = [Rule {
     kinds: &[TokenKind::Name],
     right: &[
         Token(TokenKind::Name),

@@ -1,4 +1,7 @@
-//! Specifications, read exactly from bytes.
+//! Which specification are these bytes, or why are they none?
+//!
+//! A table decides by one token of lookahead, so nothing recurses; regular expressions are read after all else. What is read so far is
+//! in `wb_builder`, what a specification is in `wb_syntax`.
 #![tactic(auto)]
 
 mod expression_rules;

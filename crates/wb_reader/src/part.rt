@@ -1,12 +1,14 @@
-//! The grammar of specifications, as a table: its nonterminals and actions.
+//! What are the nonterminals of the grammar of specifications?
+//!
+//! Their rules are in `item_rules`, `part_rules` and `expression_rules`, the actions in `wb_builder`.
 
 use wb_builder::Action;
 use wb_predictive::Rule;
 use wb_tokens::TokenKind;
 
-/// The parts of a text, the grammar's nonterminals.
+// The parts of a text, the grammar's nonterminals.
 #[derive(Clone, Copy)]
-pub enum Part {
+pub(crate) enum Part {
     File,
     Header,
     Items,
@@ -30,5 +32,5 @@ pub enum Part {
     Integer,
 }
 
-/// A rule of the table.
-pub type SpecRule = Rule<'static, TokenKind, Part, Action>;
+// A rule of the table.
+pub(crate) type SpecRule = Rule<'static, TokenKind, Part, Action>;

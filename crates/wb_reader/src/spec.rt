@@ -1,4 +1,6 @@
-//! Specifications, from their bytes.
+//! Which specification are these bytes?
+//!
+//! The steps come in the order of their refusals, and each is in a file of its own.
 
 ghost use Rattle.std.specs.Prelude.{◌≡◌, IfOk, IfErr};
 ghost use Rattle.wb_syntax.specs.SpecText.{SpecView};

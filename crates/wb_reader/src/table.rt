@@ -1,4 +1,6 @@
-//! How a specification is read: its tokens, its rules, and what each makes of its parts.
+//! How is a specification read?
+//!
+//! By a table of `wb_predictive`, of the rules of this crate and of what `wb_builder` makes of tokens and actions.
 
 ghost use Rattle.std.specs.Prelude.{◌≡◌, OnOk};
 ghost use Rattle.wb_reader.specs.Inner.LookaheadTable.{lookahead_table};
@@ -21,8 +23,8 @@ use wb_builder::{Action, SpecBuilder, act};
 use wb_predictive::{Next, Rule, Table};
 use wb_tokens::{Layout, Token, TokenKind, next_token};
 
-/// The table of specifications.
-pub struct SpecTable;
+// The table of specifications.
+pub(crate) struct SpecTable;
 
 impl Table for SpecTable {
     type Kind = TokenKind;

@@ -18,7 +18,8 @@ pub data Field : Type 0 where
 -- the tokens are these fields
 pub data AreFields : List Lexeme → List Field → Type 0 where
   no_field : AreFields [] []
-  then_word : {x : Lexeme} {v : List Lexeme} {value : Word} {rest : List Field} → IsWord value x → AreFields v rest → AreFields (x ∷ v) (word value ∷ rest)
+  then_word : {x : Lexeme} {v : List Lexeme} {value : Word} {rest : List Field} → IsWord value x → AreFields v rest
+      → AreFields (x ∷ v) (word value ∷ rest)
   then_mark : {x : Lexeme} {v : List Lexeme} {value : Punctuation} {rest : List Field} → IsMark value x → AreFields v rest
       → AreFields (x ∷ v) (mark value ∷ rest)
   then_name : {x : Lexeme} {v : List Lexeme} {value : List ℕ} {rest : List Field} → IsName value x → AreFields v rest
@@ -27,5 +28,6 @@ pub data AreFields : List Lexeme → List Field → Type 0 where
       → AreFields w (kind value ∷ rest)
   then_needs : {u v w : List Lexeme} {value : List (List ℕ)} {rest : List Field} → AreNeeds u value → AreFields v rest → w ≡ u ++ v
       → AreFields w (needs value ∷ rest)
-  then_optional_needs : {u v w : List Lexeme} {value : Option (List (List ℕ))} {rest : List Field} → AreOptionalNeeds u value → AreFields v rest
+  then_optional_needs : {u v w : List Lexeme} {value : Option (List (List ℕ))} {rest : List Field} → AreOptionalNeeds u value
+      → AreFields v rest
       → w ≡ u ++ v → AreFields w (optional_needs value ∷ rest)

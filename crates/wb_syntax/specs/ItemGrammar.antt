@@ -41,15 +41,18 @@ pub data IsProduction : List Lexeme → Production → Type 0 where
 
 -- the fields of an item of names alone, as they are written
 abbrev pub plain_fields : PlainForm → List Field
-plain_fields (i.Prefer first second) = field.word w.Prefer ∷ field.name first ∷ field.word w.Over ∷ field.name second ∷ field.mark p.Semicolon ∷ []
+plain_fields (i.Prefer first second) =
+    field.word w.Prefer ∷ field.name first ∷ field.word w.Over ∷ field.name second ∷ field.mark p.Semicolon ∷ []
 plain_fields (i.Nonterminal one) = field.word w.Nonterminal ∷ field.name one ∷ field.mark p.Semicolon ∷ []
 plain_fields (i.Start one) = field.word w.Start ∷ field.name one ∷ field.mark p.Semicolon ∷ []
 plain_fields (i.Extensible one) = field.word w.Extensible ∷ field.name one ∷ field.mark p.Semicolon ∷ []
 plain_fields (i.Synthesized one its) = field.word w.Syn ∷ field.name one ∷ field.mark p.Colon ∷ field.kind its ∷ field.mark p.Semicolon ∷ []
 plain_fields (i.Inherited one its) = field.word w.Inh ∷ field.name one ∷ field.mark p.Colon ∷ field.kind its ∷ field.mark p.Semicolon ∷ []
 plain_fields (i.Occurs attribute nonterminal its) =
-    field.word w.Occurs ∷ field.name attribute ∷ field.word w.On ∷ field.name nonterminal ∷ field.optional_needs its ∷ field.mark p.Semicolon ∷ []
-plain_fields (i.ForwardOn nonterminal its) = field.word w.Forward ∷ field.word w.On ∷ field.name nonterminal ∷ field.needs its ∷ field.mark p.Semicolon ∷ []
+    field.word w.Occurs ∷ field.name attribute ∷ field.word w.On ∷ field.name nonterminal ∷ field.optional_needs its
+    ∷ field.mark p.Semicolon ∷ []
+plain_fields (i.ForwardOn nonterminal its) =
+    field.word w.Forward ∷ field.word w.On ∷ field.name nonterminal ∷ field.needs its ∷ field.mark p.Semicolon ∷ []
 
 -- the tokens are this item of names alone
 abbrev pub IsPlain : List Lexeme → PlainForm → Type 0
@@ -61,18 +64,22 @@ pub data IsItem : List Lexeme → Item WrittenPattern → Type 0 where
   lexical : {x n y s : Lexeme} {role : Role} {name bytes : List ℕ} → IsRole role x → IsName name n → IsRegex bytes y → IsMark p.Semicolon s
       → IsItem (x ∷ n ∷ y ∷ s ∷ []) (record { offset = x.at; form = f.Lexical role name (record { bytes = bytes; at = y.at }) })
   -- names alone
-  plain : {x : Lexeme} {u : List Lexeme} {form : PlainForm} → IsPlain (x ∷ u) form → IsItem (x ∷ u) (record { offset = x.at; form = f.Plain form })
+  plain : {x : Lexeme} {u : List Lexeme} {form : PlainForm} → IsPlain (x ∷ u) form
+      → IsItem (x ∷ u) (record { offset = x.at; form = f.Plain form })
   -- 'concrete' NAME ':' NAME '::=' child* block | 'abstract' NAME ':' NAME '::=' child* block
-  production : {x : Lexeme} {u : List Lexeme} {role : ProductionRole} {production : Production} → IsProductionRole role x → IsProduction u production
+  production : {x : Lexeme} {u : List Lexeme} {role : ProductionRole} {production : Production} → IsProductionRole role x
+      → IsProduction u production
       → IsItem (x ∷ u) (record { offset = x.at; form = f.Production role production })
   -- 'aspect' NAME block
-  aspect : {x n : Lexeme} {u : List Lexeme} {name : List ℕ} {equations : List Equation} → IsWord w.Aspect x → IsName name n → IsBlock u equations
+  aspect : {x n : Lexeme} {u : List Lexeme} {name : List ℕ} {equations : List Equation} → IsWord w.Aspect x → IsName name n
+      → IsBlock u equations
       → IsItem (x ∷ n ∷ u) (record { offset = x.at; form = f.Aspect name equations })
 
 -- item*
 pub data AreItems : List Lexeme → List (Item WrittenPattern) → Type 0 where
   nothing : AreItems [] []
-  next : {u v x : List Lexeme} {item : Item WrittenPattern} {rest : List (Item WrittenPattern)} → IsItem u item → AreItems v rest → x ≡ u ++ v
+  next : {u v x : List Lexeme} {item : Item WrittenPattern} {rest : List (Item WrittenPattern)} → IsItem u item → AreItems v rest
+      → x ≡ u ++ v
       → AreItems x (item ∷ rest)
 
 -- header = 'host' NAME ';' | 'extension' NAME 'for' NAME ';': the specification's name, and whether it is a host or an extension of which
@@ -87,6 +94,7 @@ IsFormat format = format ≡ 1
 
 -- spec = 'format' INT ';' header item*, where the INT is the number of its format
 pub data IsSpecification : List Lexeme → WrittenSpec → Type 0 where
-  whole : {f n s : Lexeme} {u v x : List Lexeme} {format : ℕ} {name : List ℕ} {header : Header} {items : List (Item WrittenPattern)} → IsWord w.Format f
+  whole : {f n s : Lexeme} {u v x : List Lexeme} {format : ℕ} {name : List ℕ} {header : Header} {items : List (Item WrittenPattern)}
+      → IsWord w.Format f
       → IsFormat format → IsInt (pos format) n → IsMark p.Semicolon s → IsHeader u name header → AreItems v items → x ≡ f ∷ n ∷ s ∷ (u ++ v)
       → IsSpecification x (record { format = format; name = name; header = header; items = items })

@@ -60,7 +60,8 @@ right_sides Part.Equation =
     ∷ Act (Action.Part PartAction.ForwardTarget) ∷ Nonterminal Part.Value ∷ [])
     ∷ (Token (kind.Word w.Local) ∷ Token kind.Name ∷ Token (kind.Mark p.Colon) ∷ Token kind.Name ∷ Token (kind.Mark p.Equals)
     ∷ Act (Action.Part PartAction.LocalTarget) ∷ Nonterminal Part.Value ∷ [])
-    ∷ (Token (kind.Word w.Forwards) ∷ Token (kind.Word w.To) ∷ Act (Action.Part PartAction.ForwardsToTarget) ∷ Nonterminal Part.Value ∷ []) ∷ []
+    ∷ (Token (kind.Word w.Forwards) ∷ Token (kind.Word w.To) ∷ Act (Action.Part PartAction.ForwardsToTarget) ∷ Nonterminal Part.Value ∷ [])
+    ∷ []
 right_sides Part.Value =
     (Act (Action.Part PartAction.BeginNodes) ∷ Nonterminal Part.Expression ∷ Token (kind.Mark p.Semicolon)
     ∷ Act (Action.Part PartAction.AddEquation) ∷ []) ∷ []
