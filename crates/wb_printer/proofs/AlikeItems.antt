@@ -27,7 +27,8 @@ record HasProduction (ys : List Lexeme) (q : Production) : Type 0 where
 
 -- a production
 production_alike : (xs : List Lexeme) (q : Production) → IsProduction xs q → (ys : List Lexeme) → Alike xs ys → HasProduction ys q
-production_alike xs q (item.whole {n = n} {c = c} {l = l} {b = m} {u = u} {v = v} {name = name} {left = left} {children = cs} {equations = es} h j k o s f g) ys a =
+production_alike xs q (item.whole {n = n} {c = c} {l = l} {b = m} {u = u} {v = v} {name = name} {left = left} {children = cs}
+    {equations = es} h j k o s f g) ys a =
     let b = headed n (c ∷ l ∷ m ∷ (u ++ v)) ys (alike_as xs _ ys g a) in
     let d = headed c (l ∷ m ∷ (u ++ v)) b.tail b.others in
     let e = headed l (m ∷ (u ++ v)) d.tail d.others in
@@ -37,7 +38,8 @@ production_alike xs q (item.whole {n = n} {c = c} {l = l} {b = m} {u = u} {v = v
     record {
       other = record { name = name; left = left; children = cs; equations = block.others };
       is = item.whole (b.same ∙ h) (d.same ∙ j) (e.same ∙ k) (w.same ∙ o) (children_alike u cs s z.left z.first) block.is
-          (b.whole ∙ ap (λ y. b.head ∷ y) (d.whole ∙ ap (λ y. d.head ∷ y) (e.whole ∙ ap (λ y. e.head ∷ y) (w.whole ∙ ap (λ y. w.head ∷ y) z.whole))));
+          (b.whole ∙ ap (λ y. b.head ∷ y) (d.whole ∙ ap (λ y. d.head ∷ y) (e.whole ∙ ap (λ y. e.head ∷ y)
+          (w.whole ∙ ap (λ y. w.head ∷ y) z.whole))));
       same = ap (λ y. record { name = name; left = left; children = cs; equations = y }) block.same;
     }
 
@@ -77,13 +79,14 @@ record HasForm (ys : List Lexeme) (form : ItemForm Pattern) : Type 0 where
 
 form_alike : (xs : List Lexeme) (written : Item WrittenPattern) (form : ItemForm Pattern) → IsItem xs written → IsReadForm written.form form
     → (ys : List Lexeme) → Alike xs ys → HasForm ys form
-form_alike xs written form (item.lexical {x = x} {role = role} {name = name} {bytes = bytes} h j k l) read ys (step {y = a} q (step v (step {y = c} u (step o done)))) = record {
-  written = record { offset = a.at; form = forms.Lexical role name (record { bytes = bytes; at = c.at }) };
-  other = forms.Lexical role name (record { bytes = bytes; regex = read.0 });
-  grammar = item.lexical (role_alike role x a q h) (v ∙ j) (u ∙ k) (o ∙ l);
-  read = (read.0, read.1, refl);
-  same = ap unplaced_form (sym read.2);
-}
+form_alike xs written form (item.lexical {x = x} {role = role} {name = name} {bytes = bytes} h j k l) read ys
+    (step {y = a} q (step v (step {y = c} u (step o done)))) = record {
+      written = record { offset = a.at; form = forms.Lexical role name (record { bytes = bytes; at = c.at }) };
+      other = forms.Lexical role name (record { bytes = bytes; regex = read.0 });
+      grammar = item.lexical (role_alike role x a q h) (v ∙ j) (u ∙ k) (o ∙ l);
+      read = (read.0, read.1, refl);
+      same = ap unplaced_form (sym read.2);
+    }
 form_alike xs written form (item.plain {x = x} {u = u} {form = one} h) read ys a =
     let b = headed x u ys a in record {
       written = record { offset = b.head.at; form = forms.Plain one };
@@ -93,7 +96,8 @@ form_alike xs written form (item.plain {x = x} {u = u} {form = one} h) read ys a
       read = refl;
       same = ap unplaced_form (sym read);
     }
-form_alike xs written form (item.production {x = w} {u = u} {role = role} {production = production} h s) read ys (step {y = x} {ys = zs} q a) =
+form_alike xs written form (item.production {x = w} {u = u} {role = role} {production = production} h s) read ys
+    (step {y = x} {ys = zs} q a) =
     let m = production_alike u production s zs a in record {
       written = record { offset = x.at; form = forms.Production role m.other };
       other = forms.Production role m.other;
@@ -119,7 +123,8 @@ pub record HasItem (ys : List Lexeme) (one : Item Pattern) : Type 0 where
   pub same : unplaced other ≡ unplaced one
 
 -- the same tokens are the same item but for places
-pub item_alike : (xs : List Lexeme) (written : Item WrittenPattern) (one : Item Pattern) → IsItem xs written → IsReadAs written one → (ys : List Lexeme) → Alike xs ys → HasItem ys one
+pub item_alike : (xs : List Lexeme) (written : Item WrittenPattern) (one : Item Pattern) → IsItem xs written → IsReadAs written one
+    → (ys : List Lexeme) → Alike xs ys → HasItem ys one
 item_alike xs written one h read ys a =
     let m = form_alike xs written one.form h read.form ys a in record {
       written = m.written;

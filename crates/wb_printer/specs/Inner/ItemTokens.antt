@@ -90,7 +90,8 @@ pub record AreItemTokens (item : Item Pattern) (tokens : List Token) : Type 0 wh
 -- each line has the tokens of its item
 pub data AreLinesOf : List (Item Pattern) → List (List Token) → Type 0 where
   nothing : AreLinesOf [] []
-  next : {item : Item Pattern} {rest : List (Item Pattern)} {tokens : List Token} {lines : List (List Token)} → AreItemTokens item tokens → AreLinesOf rest lines
+  next : {item : Item Pattern} {rest : List (Item Pattern)} {tokens : List Token} {lines : List (List Token)} → AreItemTokens item tokens
+      → AreLinesOf rest lines
       → AreLinesOf (item ∷ rest) (tokens ∷ lines)
 
 -- the tokens of the header, where the specification has this name
