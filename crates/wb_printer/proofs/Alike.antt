@@ -60,7 +60,16 @@ pub parted : (u : List Lexeme) (c : Lexeme) (v ys : List Lexeme) → Alike (u ++
 parted u c v ys a =
     let h = halves u (c ∷ v) ys a in
     let m = headed c v h.right h.second in
-    record { left = h.left; middle = m.head; right = m.tail; first = h.first; same = m.same; second = m.others; whole = h.whole ∙ ap (λ l. h.left ++ l) m.whole }
+    record {
+      left = h.left;
+      middle = m.head;
+      right = m.tail;
+      first = h.first;
+      same = m.same;
+      second = m.others;
+      whole =
+          h.whole ∙ ap (λ l. h.left ++ l) m.whole;
+    }
 
 -- nothing is like nothing alone
 alike_nothing : (ys : List Lexeme) → Alike [] ys → ys ≡ []
@@ -78,7 +87,14 @@ pub record Closed (u : List Lexeme) (c : Lexeme) (ys : List Lexeme) : Type 0 whe
 pub closed : (u : List Lexeme) (c : Lexeme) (ys : List Lexeme) → Alike (u ++ c ∷ []) ys → Closed u c ys
 closed u c ys a =
     let h = parted u c [] ys a in
-    record { inner = h.left; last = h.middle; first = h.first; same = h.same; whole = h.whole ∙ ap (λ l. h.left ++ h.middle ∷ l) (alike_nothing h.right h.second) }
+    record {
+      inner = h.left;
+      last = h.middle;
+      first = h.first;
+      same = h.same;
+      whole = h.whole
+          ∙ ap (λ l. h.left ++ h.middle ∷ l) (alike_nothing h.right h.second);
+    }
 
 -- what is equal to something is like the same
 pub alike_as : (xs zs ys : List Lexeme) → xs ≡ zs → Alike xs ys → Alike zs ys

@@ -35,7 +35,8 @@ mutual
       let b = headed f (u ++ q ∷ (v ++ w ∷ x)) ys (alike_as xs _ ys g a) in
       let d = parted u q (v ++ w ∷ x) b.tail b.others in
       let p = parted v w x d.right d.second in
-      e.if_then d.middle p.middle (b.same ∙ h) (expression_alike u c s d.left d.first) (d.same ∙ j) (expression_alike v m k p.left p.first) (p.same ∙ l)
+      e.if_then d.middle p.middle (b.same ∙ h) (expression_alike u c s d.left d.first) (d.same ∙ j) (expression_alike v m k p.left p.first)
+      (p.same ∙ l)
       (expression_alike x o n p.right p.second) (b.whole ∙ ap (λ y. b.head ∷ y) (d.whole ∙ ap (λ y. d.left ++ d.middle ∷ y) p.whole))
 
   -- expressions with commas between them
@@ -51,4 +52,5 @@ mutual
   further_alike xs es (e.next {c = c} {u = u} {v = v} {e = z} {es = zs} j h s k) ys a =
       let b = headed c (u ++ v) ys (alike_as xs _ ys k a) in
       let d = halves u v b.tail b.others in
-      e.next (b.same ∙ j) (expression_alike u z h d.left d.first) (further_alike v zs s d.right d.second) (b.whole ∙ ap (λ l. b.head ∷ l) d.whole)
+      e.next (b.same ∙ j) (expression_alike u z h d.left d.first) (further_alike v zs s d.right d.second)
+      (b.whole ∙ ap (λ l. b.head ∷ l) d.whole)

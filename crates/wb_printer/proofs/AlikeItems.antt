@@ -6,12 +6,12 @@ use Rattle.wb_syntax.specs.declared.production.ProductionRole.TheVariants as kin
 use Rattle.wb_syntax.specs.declared.item.Item.{Item}
 use Rattle.wb_syntax.specs.declared.item.ItemForm.{ItemForm}
 use Rattle.wb_syntax.specs.declared.item.ItemForm.TheVariants as forms
-use Rattle.wb_syntax.specs.declared.item.PlainForm.{PlainForm}
 use Rattle.wb_syntax.specs.declared.pattern.Pattern.{Pattern}
 use Rattle.wb_syntax.specs.declared.pattern.Role.{Role}
 use Rattle.wb_syntax.specs.declared.pattern.Role.TheVariants as r
 use Rattle.wb_syntax.specs.declared.pattern.WrittenPattern.{WrittenPattern}
 use Rattle.wb_syntax.specs.Tokens.{Lexeme}
+use Rattle.wb_syntax.specs.Fields.{Field, AreFields, no_field, then_word, then_mark, then_name, then_kind, then_needs, then_optional_needs}
 use Rattle.wb_syntax.specs.ItemGrammar as item
 use Rattle.wb_syntax.specs.ItemGrammar.{IsProduction, IsProductionRole, IsPlain, IsItem, IsRole}
 use Rattle.wb_syntax.specs.SpecText.{IsReadForm, IsReadAs}
@@ -27,7 +27,8 @@ record HasProduction (ys : List Lexeme) (q : Production) : Type 0 where
 
 -- a production
 production_alike : (xs : List Lexeme) (q : Production) → IsProduction xs q → (ys : List Lexeme) → Alike xs ys → HasProduction ys q
-production_alike xs q (item.whole {n = n} {c = c} {l = l} {b = m} {u = u} {v = v} {name = name} {left = left} {children = cs} {equations = es} h j k o s f g) ys a =
+production_alike xs q (item.whole {n = n} {c = c} {l = l} {b = m} {u = u} {v = v} {name = name} {left = left} {children = cs}
+    {equations = es} h j k o s f g) ys a =
     let b = headed n (c ∷ l ∷ m ∷ (u ++ v)) ys (alike_as xs _ ys g a) in
     let d = headed c (l ∷ m ∷ (u ++ v)) b.tail b.others in
     let e = headed l (m ∷ (u ++ v)) d.tail d.others in
@@ -37,46 +38,26 @@ production_alike xs q (item.whole {n = n} {c = c} {l = l} {b = m} {u = u} {v = v
     record {
       other = record { name = name; left = left; children = cs; equations = block.others };
       is = item.whole (b.same ∙ h) (d.same ∙ j) (e.same ∙ k) (w.same ∙ o) (children_alike u cs s z.left z.first) block.is
-          (b.whole ∙ ap (λ y. b.head ∷ y) (d.whole ∙ ap (λ y. d.head ∷ y) (e.whole ∙ ap (λ y. e.head ∷ y) (w.whole ∙ ap (λ y. w.head ∷ y) z.whole))));
+          (b.whole ∙ ap (λ y. b.head ∷ y) (d.whole ∙ ap (λ y. d.head ∷ y) (e.whole ∙ ap (λ y. e.head ∷ y)
+          (w.whole ∙ ap (λ y. w.head ∷ y) z.whole))));
       same = ap (λ y. record { name = name; left = left; children = cs; equations = y }) block.same;
     }
 
--- the same tokens are the same item of names alone
-plain_alike : (xs : List Lexeme) (one : PlainForm) → IsPlain xs one → (ys : List Lexeme) → Alike xs ys → IsPlain ys one
-plain_alike xs one (item.prefer {first = f} {second = g} h j k l m) ys (step {y = x} q (step r (step s (step u (step v done))))) =
-    item.prefer (q ∙ h) (r ∙ j) (s ∙ k) (u ∙ l) (v ∙ m)
-plain_alike xs one (item.nonterminal {name = name} h j k) ys (step {y = x} q (step r (step s done))) = item.nonterminal (q ∙ h) (r ∙ j) (s ∙ k)
-plain_alike xs one (item.start {name = name} h j k) ys (step {y = x} q (step r (step s done))) = item.start (q ∙ h) (r ∙ j) (s ∙ k)
-plain_alike xs one (item.extensible {name = name} h j k) ys (step {y = x} q (step r (step s done))) = item.extensible (q ∙ h) (r ∙ j) (s ∙ k)
-plain_alike xs one (item.synthesized {x = x} {n = n} {c = c} s {u = u} {name = name} {kind = kind} h j k l m g) ys a =
-    let b = headed x (n ∷ c ∷ (u ++ s ∷ [])) ys (alike_as xs _ ys g a) in
-    let d = headed n (c ∷ (u ++ s ∷ [])) b.tail b.others in
-    let e = headed c (u ++ s ∷ []) d.tail d.others in
-    let f = closed u s e.tail e.others in
-    item.synthesized f.last (b.same ∙ h) (d.same ∙ j) (e.same ∙ k) (kind_alike u kind l f.inner f.first) (f.same ∙ m)
-    (b.whole ∙ ap (λ y. b.head ∷ y) (d.whole ∙ ap (λ y. d.head ∷ y) (e.whole ∙ ap (λ y. e.head ∷ y) f.whole)))
-plain_alike xs one (item.inherited {x = x} {n = n} {c = c} s {u = u} {name = name} {kind = kind} h j k l m g) ys a =
-    let b = headed x (n ∷ c ∷ (u ++ s ∷ [])) ys (alike_as xs _ ys g a) in
-    let d = headed n (c ∷ (u ++ s ∷ [])) b.tail b.others in
-    let e = headed c (u ++ s ∷ []) d.tail d.others in
-    let f = closed u s e.tail e.others in
-    item.inherited f.last (b.same ∙ h) (d.same ∙ j) (e.same ∙ k) (kind_alike u kind l f.inner f.first) (f.same ∙ m)
-    (b.whole ∙ ap (λ y. b.head ∷ y) (d.whole ∙ ap (λ y. d.head ∷ y) (e.whole ∙ ap (λ y. e.head ∷ y) f.whole)))
-plain_alike xs one (item.occurs {x = x} {a = m} {o = o} {n = n} s {u = u} {attribute = attribute} {nonterminal = nonterminal} {needs = needs} h j k l w q g) ys a =
-    let b = headed x (m ∷ o ∷ n ∷ (u ++ s ∷ [])) ys (alike_as xs _ ys g a) in
-    let d = headed m (o ∷ n ∷ (u ++ s ∷ [])) b.tail b.others in
-    let e = headed o (n ∷ (u ++ s ∷ [])) d.tail d.others in
-    let z = headed n (u ++ s ∷ []) e.tail e.others in
-    let f = closed u s z.tail z.others in
-    item.occurs f.last (b.same ∙ h) (d.same ∙ j) (e.same ∙ k) (z.same ∙ l) (optional_alike u needs w f.inner f.first) (f.same ∙ q)
-    (b.whole ∙ ap (λ y. b.head ∷ y) (d.whole ∙ ap (λ y. d.head ∷ y) (e.whole ∙ ap (λ y. e.head ∷ y) (z.whole ∙ ap (λ y. z.head ∷ y) f.whole))))
-plain_alike xs one (item.forward_on {x = x} {o = o} {n = n} s {u = u} {nonterminal = nonterminal} {needs = needs} h j k l m g) ys a =
-    let b = headed x (o ∷ n ∷ (u ++ s ∷ [])) ys (alike_as xs _ ys g a) in
-    let d = headed o (n ∷ (u ++ s ∷ [])) b.tail b.others in
-    let e = headed n (u ++ s ∷ []) d.tail d.others in
-    let f = closed u s e.tail e.others in
-    item.forward_on f.last (b.same ∙ h) (d.same ∙ j) (e.same ∙ k) (needs_alike u needs l f.inner f.first) (f.same ∙ m)
-    (b.whole ∙ ap (λ y. b.head ∷ y) (d.whole ∙ ap (λ y. d.head ∷ y) (e.whole ∙ ap (λ y. e.head ∷ y) f.whole)))
+-- fields
+fields_alike : (xs : List Lexeme) (fields : List Field) → AreFields xs fields → (ys : List Lexeme) → Alike xs ys → AreFields ys fields
+fields_alike xs fields no_field ys done = no_field
+fields_alike xs fields (then_word {v = v} {rest = rest} h s) ys (step {ys = zs} q a) = then_word (q ∙ h) (fields_alike v rest s zs a)
+fields_alike xs fields (then_mark {v = v} {rest = rest} h s) ys (step {ys = zs} q a) = then_mark (q ∙ h) (fields_alike v rest s zs a)
+fields_alike xs fields (then_name {v = v} {rest = rest} h s) ys (step {ys = zs} q a) = then_name (q ∙ h) (fields_alike v rest s zs a)
+fields_alike xs fields (then_kind {u = u} {v = v} {value = its} {rest = rest} h s g) ys a =
+    let f = halves u v ys (alike_as xs _ ys g a) in
+    then_kind (kind_alike u its h f.left f.first) (fields_alike v rest s f.right f.second) f.whole
+fields_alike xs fields (then_needs {u = u} {v = v} {value = its} {rest = rest} h s g) ys a =
+    let f = halves u v ys (alike_as xs _ ys g a) in
+    then_needs (needs_alike u its h f.left f.first) (fields_alike v rest s f.right f.second) f.whole
+fields_alike xs fields (then_optional_needs {u = u} {v = v} {value = its} {rest = rest} h s g) ys a =
+    let f = halves u v ys (alike_as xs _ ys g a) in
+    then_optional_needs (optional_alike u its h f.left f.first) (fields_alike v rest s f.right f.second) f.whole
 
 -- the words of roles
 role_alike : (role : Role) (x y : Lexeme) → y.token ≡ x.token → IsRole role x → IsRole role y
@@ -98,23 +79,25 @@ record HasForm (ys : List Lexeme) (form : ItemForm Pattern) : Type 0 where
 
 form_alike : (xs : List Lexeme) (written : Item WrittenPattern) (form : ItemForm Pattern) → IsItem xs written → IsReadForm written.form form
     → (ys : List Lexeme) → Alike xs ys → HasForm ys form
-form_alike xs written form (item.lexical {x = x} {role = role} {name = name} {bytes = bytes} h j k l) read ys (step {y = a} q (step v (step {y = c} u (step o done)))) = record {
-  written = record { offset = a.at; form = forms.Lexical role name (record { bytes = bytes; at = c.at }) };
-  other = forms.Lexical role name (record { bytes = bytes; regex = read.0 });
-  grammar = item.lexical (role_alike role x a q h) (v ∙ j) (u ∙ k) (o ∙ l);
-  read = (read.0, read.1, refl);
-  same = ap unplaced_form (sym read.2);
-}
+form_alike xs written form (item.lexical {x = x} {role = role} {name = name} {bytes = bytes} h j k l) read ys
+    (step {y = a} q (step v (step {y = c} u (step o done)))) = record {
+      written = record { offset = a.at; form = forms.Lexical role name (record { bytes = bytes; at = c.at }) };
+      other = forms.Lexical role name (record { bytes = bytes; regex = read.0 });
+      grammar = item.lexical (role_alike role x a q h) (v ∙ j) (u ∙ k) (o ∙ l);
+      read = (read.0, read.1, refl);
+      same = ap unplaced_form (sym read.2);
+    }
 form_alike xs written form (item.plain {x = x} {u = u} {form = one} h) read ys a =
     let b = headed x u ys a in record {
       written = record { offset = b.head.at; form = forms.Plain one };
       other = forms.Plain one;
       grammar = subst (λ z. IsItem z (record { offset = b.head.at; form = forms.Plain one })) (sym b.whole)
-          (item.plain (subst (λ z. IsPlain z one) b.whole (plain_alike (x ∷ u) one h ys a)));
+          (item.plain (subst (λ z. IsPlain z one) b.whole (fields_alike (x ∷ u) (item.plain_fields one) h ys a)));
       read = refl;
       same = ap unplaced_form (sym read);
     }
-form_alike xs written form (item.production {x = w} {u = u} {role = role} {production = production} h s) read ys (step {y = x} {ys = zs} q a) =
+form_alike xs written form (item.production {x = w} {u = u} {role = role} {production = production} h s) read ys
+    (step {y = x} {ys = zs} q a) =
     let m = production_alike u production s zs a in record {
       written = record { offset = x.at; form = forms.Production role m.other };
       other = forms.Production role m.other;
@@ -140,7 +123,8 @@ pub record HasItem (ys : List Lexeme) (one : Item Pattern) : Type 0 where
   pub same : unplaced other ≡ unplaced one
 
 -- the same tokens are the same item but for places
-pub item_alike : (xs : List Lexeme) (written : Item WrittenPattern) (one : Item Pattern) → IsItem xs written → IsReadAs written one → (ys : List Lexeme) → Alike xs ys → HasItem ys one
+pub item_alike : (xs : List Lexeme) (written : Item WrittenPattern) (one : Item Pattern) → IsItem xs written → IsReadAs written one
+    → (ys : List Lexeme) → Alike xs ys → HasItem ys one
 item_alike xs written one h read ys a =
     let m = form_alike xs written one.form h read.form ys a in record {
       written = m.written;

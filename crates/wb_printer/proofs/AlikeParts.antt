@@ -20,9 +20,11 @@ kind_alike xs kind (part.text h) ys (step q done) = part.text (q ∙ h)
 kind_alike xs kind (part.name h) ys (step q done) = part.name (q ∙ h)
 
 -- names with a comma before each
-further_names_alike : (xs : List Lexeme) (ns : List (List ℕ)) → AreFurtherNames xs ns → (ys : List Lexeme) → Alike xs ys → AreFurtherNames ys ns
+further_names_alike : (xs : List Lexeme) (ns : List (List ℕ)) → AreFurtherNames xs ns → (ys : List Lexeme) → Alike xs ys
+    → AreFurtherNames ys ns
 further_names_alike xs ns part.nothing ys done = part.nothing
-further_names_alike xs ns (part.next {v = v} {ns = rest} h j s) ys (step q (step {ys = zs} r a)) = part.next (q ∙ h) (r ∙ j) (further_names_alike v rest s zs a)
+further_names_alike xs ns (part.next {v = v} {ns = rest} h j s) ys (step q (step {ys = zs} r a)) =
+    part.next (q ∙ h) (r ∙ j) (further_names_alike v rest s zs a)
 
 -- names with commas between them
 names_alike : (xs : List Lexeme) (ns : List (List ℕ)) → AreNames xs ns → (ys : List Lexeme) → Alike xs ys → AreNames ys ns
@@ -48,7 +50,8 @@ needs_alike xs ns s ys a =
     }
 
 -- needs, or nothing
-pub optional_alike : (xs : List Lexeme) (o : Option (List (List ℕ))) → AreOptionalNeeds xs o → (ys : List Lexeme) → Alike xs ys → AreOptionalNeeds ys o
+pub optional_alike : (xs : List Lexeme) (o : Option (List (List ℕ))) → AreOptionalNeeds xs o → (ys : List Lexeme) → Alike xs ys
+    → AreOptionalNeeds ys o
 optional_alike xs o part.absent ys done = part.absent
 optional_alike xs o (part.written {names = ns} s) ys a = part.written (needs_alike xs ns s ys a)
 
@@ -67,7 +70,8 @@ target_alike : (xs : List Lexeme) (target : Target) → IsTarget xs target → (
 target_alike xs target (part.top h j k l) ys (step q (step r (step s (step u done)))) = part.top (q ∙ h) (r ∙ j) (s ∙ k) (u ∙ l)
 target_alike xs target (part.label h j k l) ys (step q (step r (step s (step u done)))) = part.label (q ∙ h) (r ∙ j) (s ∙ k) (u ∙ l)
 target_alike xs target (part.forward h j k l) ys (step q (step r (step s (step u done)))) = part.forward (q ∙ h) (r ∙ j) (s ∙ k) (u ∙ l)
-target_alike xs target (part.local h j k l m) ys (step q (step r (step s (step u (step v done))))) = part.local (q ∙ h) (r ∙ j) (s ∙ k) (u ∙ l) (v ∙ m)
+target_alike xs target (part.local h j k l m) ys (step q (step r (step s (step u (step v done))))) =
+    part.local (q ∙ h) (r ∙ j) (s ∙ k) (u ∙ l) (v ∙ m)
 target_alike xs target (part.forwards_to h j) ys (step q (step r done)) = part.forwards_to (q ∙ h) (r ∙ j)
 
 -- the lexemes are equations that are these but for places
@@ -86,7 +90,8 @@ equations_alike xs es (part.next {x = x} s {u = u} {v = v} {r = q} {target = tar
     let i = equations_alike q rest l d.right d.second in
     record {
       others = record { offset = b.head.at; target = target; nodes = nodes_of z } ∷ i.others;
-      are = part.next d.middle (target_alike (x ∷ u) target h (b.head ∷ f.left) (step b.same f.first)) (expression_alike v z j f.right f.second) (d.same ∙ k) i.are
+      are = part.next d.middle (target_alike (x ∷ u) target h (b.head ∷ f.left) (step b.same f.first))
+          (expression_alike v z j f.right f.second) (d.same ∙ k) i.are
           (b.whole ∙ ap (λ y. b.head ∷ y) (d.whole ∙ ap (λ y. y ++ d.middle ∷ d.right) f.whole));
       same = ap (λ y. record { offset = 0; target = target; nodes = nodes_of z } ∷ y) i.same;
     }

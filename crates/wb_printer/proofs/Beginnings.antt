@@ -48,16 +48,20 @@ integer_clear x (IsInteger.negative n e f) = subst IsClear (sym e) refl
 
 -- no reserved word begins so
 word_clear : (word : Word) → IsClear (word_text word)
-word_clear word = not_true (begins_layout (get_or (word_text word) 0 0)) (each_value words.enum (λ x. not (begins_layout (get_or (word_text x) 0 0))) refl word)
+word_clear word =
+    not_true (begins_layout (get_or (word_text word) 0 0))
+    (each_value words.enum (λ x. not (begins_layout (get_or (word_text x) 0 0))) refl word)
 
 -- no mark begins so
 mark_clear : (mark : Punctuation) → IsClear (punctuation_text mark)
 mark_clear mark =
-    not_true (begins_layout (get_or (punctuation_text mark) 0 0)) (each_value marks.enum (λ x. not (begins_layout (get_or (punctuation_text x) 0 0))) refl mark)
+    not_true (begins_layout (get_or (punctuation_text mark) 0 0))
+    (each_value marks.enum (λ x. not (begins_layout (get_or (punctuation_text x) 0 0))) refl mark)
 
 -- a slash is not plain
 plain_no_slash : (b : ℕ) → b ≡ 47 → (eqb b 47 || eqb b 92 || eqb b 10) ≡ false → ⊥
-plain_no_slash b e h = let k : (eqb 47 47 || eqb 47 92 || eqb 47 10) ≡ false = subst (λ c. (eqb c 47 || eqb c 92 || eqb c 10) ≡ false) e h in absurd (cc)
+plain_no_slash b e h =
+    let k : (eqb 47 47 || eqb 47 92 || eqb 47 10) ≡ false = subst (λ c. (eqb c 47 || eqb c 92 || eqb c 10) ≡ false) e h in absurd (cc)
 
 -- the body of a regular expression doesn't begin with a slash
 no_slash : (d : ℕ) (x : List ℕ) → IsRegexBody (d ∷ x) → d ≡ 47 → ⊥
@@ -72,12 +76,14 @@ no_slash d x (IsRegexBody.next {part = part} {x = y} (IsRegexPart.escaped {b = b
     omega (arith, same, q)
 
 -- no layout stands where the bytes from there on begin with one that begins none
-clear_piece : (text : List ℕ) (at : ℕ) → begins_layout (get_or text at 0) ≡ false → (behind : ℕ) → ¬ IsLayoutPiece WithComments text at behind
+clear_piece : (text : List ℕ) (at : ℕ) → begins_layout (get_or text at 0) ≡ false → (behind : ℕ)
+    → ¬ IsLayoutPiece WithComments text at behind
 clear_piece text at clear behind (blank within is after) = let e = sym clear ∙ ap (λ t. t || eqb (get_or text at 0) 47) is in absurd (cc)
 clear_piece text at clear behind (comment layout k) = let e = sym clear ∙ ap begins_layout k.first.is in absurd (cc)
 
 -- nor where a regular expression does
-regex_piece : (text : List ℕ) (at : ℕ) (body rest : List ℕ) → get_or text at 0 ≡ 47 → get_or text (at + 1) 0 ≡ get_or (body ++ rest) 0 0 → ¬ (body ≡ []) → IsRegexBody body
+regex_piece : (text : List ℕ) (at : ℕ) (body rest : List ℕ) → get_or text at 0 ≡ 47 → get_or text (at + 1) 0 ≡ get_or (body ++ rest) 0 0
+    → ¬ (body ≡ []) → IsRegexBody body
     → (behind : ℕ) → ¬ IsLayoutPiece WithComments text at behind
 regex_piece text at body rest first second some stands behind (blank within is after) = let e = sym is ∙ ap is_blank first in absurd (cc)
 regex_piece text at [] rest first second some stands behind (comment layout k) = some refl
@@ -106,11 +112,15 @@ pub no_piece : (text front rest : List ℕ) (at : ℕ) (token : Token) → 0 < l
     → text ≡ front ++ (printed token ++ rest) → at ≡ length front → (behind : ℕ) → ¬ IsLayoutPiece WithComments text at behind
 no_piece text front rest at (t.Name name) some s e f = front_piece text front name rest at e f some (name_clear name s.1)
 no_piece text front rest at (t.Word word) some s e f = front_piece text front (word_text word) rest at e f some (word_clear word)
-no_piece text front rest at (t.Int z) some s e f = front_piece text front (signed_decimal z) rest at e f some (integer_clear (signed_decimal z) s)
+no_piece text front rest at (t.Int z) some s e f =
+    front_piece text front (signed_decimal z) rest at e f some (integer_clear (signed_decimal z) s)
 no_piece text front rest at (t.Text string) some s e f = front_piece text front (printed_text string) rest at e f some refl
 no_piece text front rest at (t.Regex body) some s e f =
     let behind = (body ++ 47 ∷ []) ++ rest in
     let first = second_byte text front (47 ∷ behind) at e f in
-    let second = second_byte text (front ++ 47 ∷ []) behind (at + 1) (e ∙ sym (append_assoc front (47 ∷ []) behind)) (omega (arith, f, length-append front (47 ∷ []))) in
+    let second =
+    second_byte text (front ++ 47 ∷ []) behind (at + 1) (e ∙ sym (append_assoc front (47 ∷ []) behind))
+    (omega (arith, f, length-append front (47 ∷ []))) in
     regex_piece text at body (47 ∷ rest) first (second ∙ ap (λ l. get_or l 0 0) (append_assoc body (47 ∷ []) rest)) s.1 s.2
-no_piece text front rest at (t.Punctuation mark) some s e f = front_piece text front (punctuation_text mark) rest at e f some (mark_clear mark)
+no_piece text front rest at (t.Punctuation mark) some s e f =
+    front_piece text front (punctuation_text mark) rest at e f some (mark_clear mark)

@@ -21,11 +21,13 @@ use Rattle.wb_printer.specs.Inner.PartTokens.{AreEquationTokens, target_tokens}
 use Rattle.wb_printer.proofs.GrammarTokens.{tokens, of_item, of_header}
 
 -- equations that are the same but for places have the same tokens
-one_equations : (es fs : List Equation) (a b : List Token) → AreEquationTokens es a → AreEquationTokens fs b → map unplaced_equation es ≡ map unplaced_equation fs → a ≡ b
+one_equations : (es fs : List Equation) (a b : List Token) → AreEquationTokens es a → AreEquationTokens fs b
+    → map unplaced_equation es ≡ map unplaced_equation fs → a ≡ b
 one_equations es fs a b tokens_of.nothing tokens_of.nothing same = refl
 one_equations es fs a b tokens_of.nothing (tokens_of.next z k s w) same = absurd (cc)
 one_equations es fs a b (tokens_of.next e h r q) tokens_of.nothing same = absurd (cc)
-one_equations es fs a b (tokens_of.next {equation = x} e {rest = xs} {tokens = c} h r q) (tokens_of.next {equation = y} z {rest = ys} {tokens = d} k s w) same =
+one_equations es fs a b (tokens_of.next {equation = x} e {rest = xs} {tokens = c} h r q)
+    (tokens_of.next {equation = y} z {rest = ys} {tokens = d} k s w) same =
     let first : unplaced_equation x ≡ unplaced_equation y = cc in
     let others : map unplaced_equation xs ≡ map unplaced_equation ys = cc in
     let target : x.target ≡ y.target = ap (λ (v : Equation). v.target) first in
@@ -50,19 +52,22 @@ equations_unplaced (f.Production role production) = refl
 equations_unplaced (f.Aspect name equations) = refl
 
 -- items that are the same but for places have the same tokens
-one_tokens : (one other : Item Pattern) (a b : List Token) → AreItemTokens one a → AreItemTokens other b → unplaced one ≡ unplaced other → a ≡ b
+one_tokens : (one other : Item Pattern) (a b : List Token) → AreItemTokens one a → AreItemTokens other b → unplaced one ≡ unplaced other
+    → a ≡ b
 one_tokens one other a b r s same =
     let form : unplaced_form one.form ≡ unplaced_form other.form = ap (λ (x : Item Pattern). x.form) same in
     let es : map unplaced_equation (equations_of one.form) ≡ map unplaced_equation (equations_of other.form)
     = equations_unplaced one.form ∙ (ap equations_of form ∙ sym (equations_unplaced other.form)) in
-    let inner : r.inner ≡ s.inner = one_equations (equations_of one.form) (equations_of other.form) r.inner s.inner r.equations s.equations es in
+    let inner : r.inner ≡ s.inner =
+    one_equations (equations_of one.form) (equations_of other.form) r.inner s.inner r.equations s.equations es in
     r.whole ∙ (placeless one.form r.inner ∙ (ap (λ x. form_tokens x r.inner) form
     ∙ (ap (λ x. form_tokens (unplaced_form other.form) x) inner ∙ (sym (placeless other.form s.inner) ∙ sym s.whole))))
 
 -- an item has one line
 one_line : (one : Item Pattern) (a b : List ℕ) → IsItemLine one a → IsItemLine one b → a ≡ b
 one_line one a b r s =
-    let e = one_tokens r.other s.other _ _ (of_item r.lexemes r.written r.other r.grammar r.read) (of_item s.lexemes s.written s.other s.grammar s.read) (r.same ∙ sym s.same) in
+    let e = one_tokens r.other s.other _ _ (of_item r.lexemes r.written r.other r.grammar r.read)
+    (of_item s.lexemes s.written s.other s.grammar s.read) (r.same ∙ sym s.same) in
     r.line ∙ (ap line_of e ∙ sym s.line)
 
 one_lines : (items : List (Item Pattern)) (a b : List ℕ) → AreItemLines items a → AreItemLines items b → a ≡ b
@@ -73,7 +78,8 @@ one_lines items a b (canonical.next {item = one} {rest = rest} {line = x} {text 
 -- a specification has one canonical text
 pub one_canonical : (spec : SpecView) (a b : List ℕ) → IsCanonical spec a → IsCanonical spec b → a ≡ b
 one_canonical spec a b r s =
-    let h : tokens r.lexemes ≡ tokens s.lexemes = of_header r.lexemes spec.name spec.header r.is_header ∙ sym (of_header s.lexemes spec.name spec.header s.is_header) in
+    let h : tokens r.lexemes ≡ tokens s.lexemes =
+    of_header r.lexemes spec.name spec.header r.is_header ∙ sym (of_header s.lexemes spec.name spec.header s.is_header) in
     let header : r.header ≡ s.header = r.header_line ∙ (ap line_of h ∙ sym s.header_line) in
     let items : r.items ≡ s.items = one_lines spec.items r.items s.items r.item_lines s.item_lines in
     r.whole ∙ (ap (λ x. format_line spec.format ++ 10 ∷ (x ++ 10 ∷ r.items)) header

@@ -24,7 +24,8 @@ AreBlanks gap = list_all is_blank gap ≡ true
 -- the bytes are these tokens as they are printed, with blanks before each and at the end, and none is gone on by what follows it
 pub data Flows : List ℕ → List Token → Type 0 where
   at_end : {x : List ℕ} → AreBlanks x → Flows x []
-  flow : (gap rest : List ℕ) {x : List ℕ} {b : Token} {ts : List Token} → AreBlanks gap → IsToken b (printed b) → Ends b rest → Flows rest ts
+  flow : (gap rest : List ℕ) {x : List ℕ} {b : Token} {ts : List Token} → AreBlanks gap → IsToken b (printed b) → Ends b rest
+      → Flows rest ts
       → x ≡ gap ++ (printed b ++ rest) → Flows x (b ∷ ts)
 
 -- blanks, and further blanks
@@ -35,7 +36,8 @@ both_blanks a b h k = list_all-append is_blank a b ∙ (ap (λ t. t && list_all 
 pub more_blanks : (front x : List ℕ) (ts : List Token) → AreBlanks front → Flows x ts → Flows (front ++ x) ts
 more_blanks front x ts h (at_end b) = at_end (both_blanks front x h b)
 more_blanks front x ts h (flow gap rest {b = b} g s ends r e) =
-    flow (front ++ gap) rest (both_blanks front gap h g) s ends r (ap (λ l. front ++ l) e ∙ sym (append_assoc front gap (printed b ++ rest)))
+    flow (front ++ gap) rest (both_blanks front gap h g) s ends r
+    (ap (λ l. front ++ l) e ∙ sym (append_assoc front gap (printed b ++ rest)))
 
 -- both parts of a test
 both_true : (a b : Bool) → (a && b) ≡ true → (a ≡ true) × (b ≡ true)
@@ -43,7 +45,8 @@ both_true true b h = (refl, h)
 both_true false b h = absurd (cc)
 
 -- blanks are skipped where no layout stands behind them
-skips : (text before gap rest : List ℕ) (from at : ℕ) → text ≡ before ++ (gap ++ rest) → from ≡ length before → at ≡ from + length gap → AreBlanks gap
+skips : (text before gap rest : List ℕ) (from at : ℕ) → text ≡ before ++ (gap ++ rest) → from ≡ length before → at ≡ from + length gap
+    → AreBlanks gap
     → ((behind : ℕ) → ¬ IsLayoutPiece WithComments text at behind) → SkipsLayout WithComments text from at
 skips text before [] rest from at e f g h none_there =
     let same : from ≡ at = omega (arith, g) in
@@ -51,8 +54,10 @@ skips text before [] rest from at e f g h none_there =
 skips text before (b ∷ gap) rest from at e f g h none_there =
     let both = both_true (is_blank b) (list_all is_blank gap) h in
     let here : get_or text from 0 ≡ b = ap (λ l. get_or l from 0) e ∙ get_or_at before b (gap ++ rest) 0 from (sym f) in
-    skip {behind = from + 1} (blank (omega (arith, f, ap length e, length-append before (b ∷ (gap ++ rest)))) (ap is_blank here ∙ both.0) refl)
-    (skips text (before ++ b ∷ []) gap rest (from + 1) at (e ∙ sym (append_assoc before (b ∷ []) (gap ++ rest))) (omega (arith, f, length-append before (b ∷ []))) (omega (arith, g)) both.1 none_there)
+    skip {behind = from + 1} (blank (omega (arith, f, ap length e, length-append before (b ∷ (gap ++ rest))))
+    (ap is_blank here ∙ both.0) refl)
+    (skips text (before ++ b ∷ []) gap rest (from + 1) at (e ∙ sym (append_assoc before (b ∷ []) (gap ++ rest)))
+    (omega (arith, f, length-append before (b ∷ []))) (omega (arith, g)) both.1 none_there)
 
 -- at the end of a text is no layout
 end_piece : (text : List ℕ) (behind : ℕ) → ¬ IsLayoutPiece WithComments text (length text) behind
@@ -69,7 +74,8 @@ pub record AreRead (text : List ℕ) (from : ℕ) (ts : List Token) : Type 0 whe
   pub ended : IsNextIn WithComments text to (End at)
 
 -- what flows is read
-pub flows_read : (text before x : List ℕ) (from : ℕ) (ts : List Token) → text ≡ before ++ x → from ≡ length before → Flows x ts → AreRead text from ts
+pub flows_read : (text before x : List ℕ) (from : ℕ) (ts : List Token) → text ≡ before ++ x → from ≡ length before → Flows x ts
+    → AreRead text from ts
 flows_read text before x from ts e f (at_end b) = record {
   lexemes = [];
   to = from;
@@ -77,7 +83,9 @@ flows_read text before x from ts e f (at_end b) = record {
   same = refl;
   spelled = none refl;
   ended = record {
-    skipped = skips text before x [] from (length text) (e ∙ ap (λ l. before ++ l) (sym (append-nil x))) f (omega (arith, f, ap length e, length-append before x)) b (end_piece text);
+    skipped =
+        skips text before x [] from (length text) (e ∙ ap (λ l. before ++ l) (sym (append-nil x))) f
+        (omega (arith, f, ap length e, length-append before x)) b (end_piece text);
     last = refl;
   };
 }
@@ -88,9 +96,14 @@ flows_read text before x from ts e f (flow gap rest {b = b} {ts = more} g s ends
     let whole : text ≡ front ++ (printed b ++ rest) = e ∙ (ap (λ l. before ++ l) w ∙ sym (append_assoc before gap (printed b ++ rest))) in
     let place : at ≡ length front = omega (arith, f, length-append before gap) in
     let here : IsTokenAt text b at behind
-    = subst (λ l. IsTokenAt l b at behind) (sym whole) (subst (λ k. IsTokenAt (front ++ (printed b ++ rest)) b k (k + length (printed b))) (sym place) (stands front (printed b) rest b s ends)) in
-    let skipped = skips text before gap (printed b ++ rest) from at (e ∙ ap (λ l. before ++ l) w) f refl g (no_piece text front rest at b (omega (arith, here.ordered)) s.0 whole place) in
-    let i = flows_read text (front ++ printed b) rest behind more (whole ∙ sym (append_assoc front (printed b) rest)) (omega (arith, place, length-append front (printed b))) r in
+    = subst (λ l. IsTokenAt l b at behind) (sym whole)
+    (subst (λ k. IsTokenAt (front ++ (printed b ++ rest)) b k (k + length (printed b))) (sym place)
+    (stands front (printed b) rest b s ends)) in
+    let skipped =
+    skips text before gap (printed b ++ rest) from at (e ∙ ap (λ l. before ++ l) w) f refl g
+    (no_piece text front rest at b (omega (arith, here.ordered)) s.0 whole place) in
+    let i = flows_read text (front ++ printed b) rest behind more (whole ∙ sym (append_assoc front (printed b) rest))
+    (omega (arith, place, length-append front (printed b))) r in
     record {
       lexemes = record { token = b; at = at; end = behind } ∷ i.lexemes;
       to = i.to;

@@ -10,7 +10,6 @@ use Rattle.wb_syntax.specs.declared.header.Header.{Header}
 use Rattle.wb_syntax.specs.declared.item.Item.{Item}
 use Rattle.wb_syntax.specs.declared.item.ItemForm.{ItemForm}
 use Rattle.wb_syntax.specs.declared.item.ItemForm.TheVariants as f
-use Rattle.wb_syntax.specs.declared.item.PlainForm.{PlainForm}
 use Rattle.wb_syntax.specs.declared.pattern.Pattern.{Pattern}
 use Rattle.wb_syntax.specs.declared.pattern.Role.{Role}
 use Rattle.wb_syntax.specs.declared.pattern.Role.TheVariants as r
@@ -26,14 +25,15 @@ use Rattle.wb_syntax.specs.ExpressionGrammar as e
 use Rattle.wb_syntax.specs.ExpressionGrammar.{IsExpression, AreArguments, AreFurther}
 use Rattle.wb_syntax.specs.PartGrammar as part
 use Rattle.wb_syntax.specs.PartGrammar.{IsKind, AreFurtherNames, AreNames, AreNeeds, AreOptionalNeeds, AreChildren, IsTarget, AreEquations, IsBlock}
+use Rattle.wb_syntax.specs.Fields.{Field, AreFields, no_field, then_word, then_mark, then_name, then_kind, then_needs, then_optional_needs}
 use Rattle.wb_syntax.specs.ItemGrammar as item
-use Rattle.wb_syntax.specs.ItemGrammar.{IsProduction, IsProductionRole, IsPlain, IsItem, IsHeader, IsRole}
+use Rattle.wb_syntax.specs.ItemGrammar.{IsProduction, IsProductionRole, IsItem, IsHeader, IsRole}
 use Rattle.wb_syntax.specs.Equations.{equations_of}
 use Rattle.wb_syntax.proofs.CallerLemmas.{read_equations}
 use Rattle.wb_syntax.specs.SpecText.{IsReadForm, IsReadAs}
 use Rattle.wb_printer.specs.Inner.ExpressionTokens.{expression_tokens, arguments_tokens, further_tokens}
 use Rattle.wb_printer.specs.Inner.PartTokens as tokens_of
-use Rattle.wb_printer.specs.Inner.ItemTokens.{role_word, production_word, plain_tokens, production_tokens, form_tokens, AreItemTokens, header_tokens}
+use Rattle.wb_printer.specs.Inner.ItemTokens.{role_word, production_word, fields_tokens, production_tokens, form_tokens, AreItemTokens, header_tokens}
 use Rattle.wb_printer.specs.Inner.PartTokens.{kind_token, further_names, names_tokens, needs_tokens, optional_needs_tokens, children_tokens, target_tokens, AreEquationTokens, block_tokens}
 
 -- the tokens of lexemes
@@ -56,17 +56,21 @@ mutual
   of_expression xs z (e.forward h i j) = cc
   of_expression xs z (e.build {x = x} {o = o} c {u = u} {es = es} h i s j k) =
       let a = of_arguments u es s in
-      let b : tokens xs ≡ x.token ∷ o.token ∷ (tokens u ++ c.token ∷ []) = ap tokens k ∙ ap (λ y. x.token ∷ o.token ∷ y) (tokens_append u (c ∷ [])) in
+      let b : tokens xs ≡ x.token ∷ o.token ∷ (tokens u ++ c.token ∷ []) =
+      ap tokens k ∙ ap (λ y. x.token ∷ o.token ∷ y) (tokens_append u (c ∷ [])) in
       cc
   of_expression xs z (e.call {a = m} {x = x} {o = o} c {u = u} {es = es} q h i s j k) =
       let a = of_arguments u es s in
-      let b : tokens xs ≡ m.token ∷ x.token ∷ o.token ∷ (tokens u ++ c.token ∷ []) = ap tokens k ∙ ap (λ y. m.token ∷ x.token ∷ o.token ∷ y) (tokens_append u (c ∷ [])) in
+      let b : tokens xs ≡ m.token ∷ x.token ∷ o.token ∷ (tokens u ++ c.token ∷ []) =
+      ap tokens k ∙ ap (λ y. m.token ∷ x.token ∷ o.token ∷ y) (tokens_append u (c ∷ [])) in
       cc
   of_expression xs z (e.if_then {i = f} q w {u = x} {v = y} {x = v} {condition = c} {one = m} {other = o} h s j k l n g) =
       let a = of_expression x c s in
       let b = of_expression y m k in
       let d = of_expression v o n in
-      let whole : tokens xs ≡ f.token ∷ (tokens x ++ q.token ∷ (tokens y ++ w.token ∷ tokens v)) = ap tokens g ∙ ap (λ k. f.token ∷ k) (tokens_append x (q ∷ (y ++ w ∷ v)) ∙ ap (λ k. tokens x ++ q.token ∷ k) (tokens_append y (w ∷ v))) in
+      let whole : tokens xs ≡ f.token ∷ (tokens x ++ q.token ∷ (tokens y ++ w.token ∷ tokens v)) =
+      ap tokens g ∙ ap (λ k. f.token ∷ k)
+      (tokens_append x (q ∷ (y ++ w ∷ v)) ∙ ap (λ k. tokens x ++ q.token ∷ k) (tokens_append y (w ∷ v))) in
       cc
 
   of_arguments : (xs : List Lexeme) (es : Expressions) → AreArguments xs es → tokens xs ≡ arguments_tokens es
@@ -105,7 +109,8 @@ of_needs xs ns s =
     let h = s.is_needs in
     let j = s.is_open in
     let k = s.is_close in
-    let whole : tokens xs ≡ s.needs.token ∷ s.open_brace.token ∷ (tokens s.listed ++ s.close_brace.token ∷ []) = ap tokens s.whole ∙ ap (λ y. s.needs.token ∷ s.open_brace.token ∷ y) (tokens_append s.listed (s.close_brace ∷ [])) in
+    let whole : tokens xs ≡ s.needs.token ∷ s.open_brace.token ∷ (tokens s.listed ++ s.close_brace.token ∷ []) =
+    ap tokens s.whole ∙ ap (λ y. s.needs.token ∷ s.open_brace.token ∷ y) (tokens_append s.listed (s.close_brace ∷ [])) in
     cc
 
 of_optional : (xs : List Lexeme) (o : Option (List (List ℕ))) → AreOptionalNeeds xs o → tokens xs ≡ optional_needs_tokens o
@@ -117,7 +122,8 @@ of_children xs cs part.nothing = refl
 of_children xs cs (part.next {x = x} {c = c} {u = u} {v = v} {kind = kind} {rest = rest} h j k s g) =
     let a = of_kind u kind k in
     let b = of_children v rest s in
-    let whole : tokens xs ≡ x.token ∷ c.token ∷ (tokens u ++ tokens v) = ap tokens g ∙ ap (λ y. x.token ∷ c.token ∷ y) (tokens_append u v) in
+    let whole : tokens xs ≡ x.token ∷ c.token ∷ (tokens u ++ tokens v) =
+    ap tokens g ∙ ap (λ y. x.token ∷ c.token ∷ y) (tokens_append u v) in
     cc
 
 of_target : (xs : List Lexeme) (target : Target) → IsTarget xs target → tokens xs ≡ target_tokens target
@@ -134,45 +140,50 @@ of_equations xs es (part.next {x = x} s {u = u} {v = v} {r = q} {target = target
     let b = of_expression v z j in
     let c = of_equations q rest l in
     let whole : tokens xs ≡ tokens (x ∷ u) ++ (tokens v ++ s.token ∷ tokens q) =
-    ap tokens g ∙ ap (λ y. x.token ∷ y) (tokens_append (u ++ v) (s ∷ q) ∙ (ap (λ y. y ++ s.token ∷ tokens q) (tokens_append u v) ∙ append_assoc (tokens u) (tokens v) (s.token ∷ tokens q))) in
+    ap tokens g ∙ ap (λ y. x.token ∷ y)
+    (tokens_append (u ++ v) (s ∷ q) ∙
+    (ap (λ y. y ++ s.token ∷ tokens q) (tokens_append u v) ∙ append_assoc (tokens u) (tokens v) (s.token ∷ tokens q))) in
     tokens_of.next z refl c (cc)
 
-of_block : (xs : List Lexeme) (es : List Equation) → IsBlock xs es → (inner : List Token) × AreEquationTokens es inner × (tokens xs ≡ block_tokens inner)
+of_block : (xs : List Lexeme) (es : List Equation) → IsBlock xs es → (inner : List Token) × AreEquationTokens es inner
+    × (tokens xs ≡ block_tokens inner)
 of_block xs es s =
     let h = s.is_open in
     let k = s.is_close in
-    let whole : tokens xs ≡ s.open_brace.token ∷ (tokens s.inner ++ s.close_brace.token ∷ []) = ap tokens s.whole ∙ ap (λ y. s.open_brace.token ∷ y) (tokens_append s.inner (s.close_brace ∷ [])) in
+    let whole : tokens xs ≡ s.open_brace.token ∷ (tokens s.inner ++ s.close_brace.token ∷ []) =
+    ap tokens s.whole ∙ ap (λ y. s.open_brace.token ∷ y) (tokens_append s.inner (s.close_brace ∷ [])) in
     (tokens s.inner, of_equations s.inner es s.are_equations, cc)
 
-of_production : (xs : List Lexeme) (q : Production) → IsProduction xs q → (inner : List Token) × AreEquationTokens q.equations inner × (tokens xs ≡ production_tokens q inner)
+of_production : (xs : List Lexeme) (q : Production) → IsProduction xs q
+    → (inner : List Token) × AreEquationTokens q.equations inner × (tokens xs ≡ production_tokens q inner)
 of_production xs q (item.whole {n = n} {c = c} {l = l} {b = b} {u = u} {v = v} {children = cs} {equations = es} h j k m s o g) =
     let a = of_children u cs s in
     let d = of_block v es o in
     let f = d.2 in
-    let whole : tokens xs ≡ n.token ∷ c.token ∷ l.token ∷ b.token ∷ (tokens u ++ tokens v) = ap tokens g ∙ ap (λ y. n.token ∷ c.token ∷ l.token ∷ b.token ∷ y) (tokens_append u v) in
+    let whole : tokens xs ≡ n.token ∷ c.token ∷ l.token ∷ b.token ∷ (tokens u ++ tokens v) =
+    ap tokens g ∙ ap (λ y. n.token ∷ c.token ∷ l.token ∷ b.token ∷ y) (tokens_append u v) in
     (d.0, d.1, cc)
 
--- an item of names alone
-plain_item : (xs : List Lexeme) (one : PlainForm) → IsPlain xs one → tokens xs ≡ plain_tokens one
-plain_item xs one (item.prefer h j k l m) = cc
-plain_item xs one (item.nonterminal h j k) = cc
-plain_item xs one (item.start h j k) = cc
-plain_item xs one (item.extensible h j k) = cc
-plain_item xs one (item.synthesized {x = x} {n = n} {c = c} s {u = u} {kind = kind} h j k l m g) =
-    let a = of_kind u kind l in
-    let whole : tokens xs ≡ x.token ∷ n.token ∷ c.token ∷ (tokens u ++ s.token ∷ []) = ap tokens g ∙ ap (λ y. x.token ∷ n.token ∷ c.token ∷ y) (tokens_append u (s ∷ [])) in
+-- fields
+of_fields : (xs : List Lexeme) (fields : List Field) → AreFields xs fields → tokens xs ≡ fields_tokens fields
+of_fields xs fields no_field = refl
+of_fields xs fields (then_word {v = v} {rest = rest} h s) = let a = of_fields v rest s in cc
+of_fields xs fields (then_mark {v = v} {rest = rest} h s) = let a = of_fields v rest s in cc
+of_fields xs fields (then_name {v = v} {rest = rest} h s) = let a = of_fields v rest s in cc
+of_fields xs fields (then_kind {u = u} {v = v} {value = its} {rest = rest} h s g) =
+    let a = of_kind u its h in
+    let b = of_fields v rest s in
+    let whole : tokens xs ≡ tokens u ++ tokens v = ap tokens g ∙ tokens_append u v in
     cc
-plain_item xs one (item.inherited {x = x} {n = n} {c = c} s {u = u} {kind = kind} h j k l m g) =
-    let a = of_kind u kind l in
-    let whole : tokens xs ≡ x.token ∷ n.token ∷ c.token ∷ (tokens u ++ s.token ∷ []) = ap tokens g ∙ ap (λ y. x.token ∷ n.token ∷ c.token ∷ y) (tokens_append u (s ∷ [])) in
+of_fields xs fields (then_needs {u = u} {v = v} {value = its} {rest = rest} h s g) =
+    let a = of_needs u its h in
+    let b = of_fields v rest s in
+    let whole : tokens xs ≡ tokens u ++ tokens v = ap tokens g ∙ tokens_append u v in
     cc
-plain_item xs one (item.occurs {x = x} {a = a} {o = o} {n = n} s {u = u} {needs = needs} h j k l m q g) =
-    let b = of_optional u needs m in
-    let whole : tokens xs ≡ x.token ∷ a.token ∷ o.token ∷ n.token ∷ (tokens u ++ s.token ∷ []) = ap tokens g ∙ ap (λ y. x.token ∷ a.token ∷ o.token ∷ n.token ∷ y) (tokens_append u (s ∷ [])) in
-    cc
-plain_item xs one (item.forward_on {x = x} {o = o} {n = n} s {u = u} {needs = needs} h j k l m g) =
-    let b = of_needs u needs l in
-    let whole : tokens xs ≡ x.token ∷ o.token ∷ n.token ∷ (tokens u ++ s.token ∷ []) = ap tokens g ∙ ap (λ y. x.token ∷ o.token ∷ n.token ∷ y) (tokens_append u (s ∷ [])) in
+of_fields xs fields (then_optional_needs {u = u} {v = v} {value = its} {rest = rest} h s g) =
+    let a = of_optional u its h in
+    let b = of_fields v rest s in
+    let whole : tokens xs ≡ tokens u ++ tokens v = ap tokens g ∙ tokens_append u v in
     cc
 
 -- the words of roles
@@ -195,12 +206,14 @@ form_of : (xs : List Lexeme) (written : Item WrittenPattern) → IsItem xs writt
 form_of xs written (item.lexical {x = x} {n = n} {y = y} {s = s} {role = role} {name = name} {bytes = bytes} h j k l) = record {
   inner = [];
   equations = tokens_of.nothing;
-  whole = λ form e. let word = role_of role x h in let is = e.2 in let own : tokens xs ≡ form_tokens (f.Lexical role name (record { bytes = bytes; regex = e.0 })) [] = cc in own ∙ ap (λ z. form_tokens z []) (sym is);
+  whole = λ form e. let word =
+      role_of role x h in let is = e.2 in let own : tokens xs ≡ form_tokens
+      (f.Lexical role name (record { bytes = bytes; regex = e.0 })) [] = cc in own ∙ ap (λ z. form_tokens z []) (sym is);
 }
 form_of xs written (item.plain {form = one} h) = record {
   inner = [];
   equations = tokens_of.nothing;
-  whole = λ form e. plain_item xs one h ∙ ap (λ z. form_tokens z []) (sym e);
+  whole = λ form e. of_fields xs (item.plain_fields one) h ∙ ap (λ z. form_tokens z []) (sym e);
 }
 form_of xs written (item.production {x = x} {u = u} {role = role} {production = q} h s) =
     let d = of_production u q s in
@@ -215,7 +228,8 @@ form_of xs written (item.aspect {u = u} {name = name} {equations = es} h j s) =
     record { inner = d.0; equations = d.1; whole = λ form e. own ∙ ap (λ z. form_tokens z d.0) (sym e) }
 
 -- the lexemes of an item, once it is read, have its tokens
-pub of_item : (xs : List Lexeme) (written : Item WrittenPattern) (one : Item Pattern) → IsItem xs written → IsReadAs written one → AreItemTokens one (tokens xs)
+pub of_item : (xs : List Lexeme) (written : Item WrittenPattern) (one : Item Pattern) → IsItem xs written → IsReadAs written one
+    → AreItemTokens one (tokens xs)
 of_item xs written one s e =
     let r = form_of xs written s in
     record {

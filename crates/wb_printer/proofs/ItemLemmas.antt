@@ -34,7 +34,8 @@ none_from xs i h = empty (drop i xs) (omega (arith, length-drop i xs, h)) where
   empty (x ∷ l) e = absurd (omega (arith, e))
 
 -- the first equation and the others
-first_equation : (list : List Equation) (x : Equation) (others : List Equation) (tokens : List Token) → list ≡ x ∷ others → AreEquationTokens list tokens
+first_equation : (list : List Equation) (x : Equation) (others : List Equation) (tokens : List Token) → list ≡ x ∷ others
+    → AreEquationTokens list tokens
     → (e : Expression) × (rest : List Token) × (x.nodes ≡ nodes_of e) × AreEquationTokens others rest
     × (tokens ≡ target_tokens x.target ++ (expression_tokens e ++ t.Punctuation p.Semicolon ∷ rest))
 first_equation list x others tokens q AreEquationTokens.nothing = cc
@@ -48,7 +49,8 @@ first_equation list x others tokens q (AreEquationTokens.next {equation = y} e {
       whole ∙ ap (λ (z : Equation). target_tokens z.target ++ (expression_tokens e ++ t.Punctuation p.Semicolon ∷ rest)) here,
     )
 
-pub equation_at : (list : List Equation) (i : ℕ) (x : Equation) (tokens : List Token) → i < length list → x ≡ get_or list i x → AreEquationTokens (drop i list) tokens
+pub equation_at : (list : List Equation) (i : ℕ) (x : Equation) (tokens : List Token) → i < length list → x ≡ get_or list i x
+    → AreEquationTokens (drop i list) tokens
     → (e : Expression) × (rest : List Token) × (x.nodes ≡ nodes_of e) × AreEquationTokens (drop (i + 1) list) rest
     × (tokens ≡ target_tokens x.target ++ (expression_tokens e ++ t.Punctuation p.Semicolon ∷ rest))
 equation_at list i x tokens h q are = first_equation (drop i list) x (drop (i + 1) list) tokens (from_place list i x h q) are
@@ -57,30 +59,42 @@ equation_at list i x tokens h q are = first_equation (drop i list) x (drop (i + 
 pub equation_after : (o r : Output) (target e rest : List Token) → r ≡ put (after (after o target) e) (t.Punctuation p.Semicolon)
     → after r rest ≡ after o (target ++ (e ++ t.Punctuation p.Semicolon ∷ rest))
 equation_after o r target e rest k =
-    ap (λ (x : Output). after x rest) k ∙ (sym (after_both (after o target) e (t.Punctuation p.Semicolon ∷ rest)) ∙ sym (after_both o target (e ++ t.Punctuation p.Semicolon ∷ rest)))
+    ap (λ (x : Output). after x rest) k ∙
+    (sym (after_both (after o target) e (t.Punctuation p.Semicolon ∷ rest))
+    ∙ sym (after_both o target (e ++ t.Punctuation p.Semicolon ∷ rest)))
 
 -- no equation more
-pub no_equation : (list : List Equation) (i : ℕ) (tokens : List Token) → length list ≤ i → AreEquationTokens (drop i list) tokens → tokens ≡ []
+pub no_equation : (list : List Equation) (i : ℕ) (tokens : List Token) → length list ≤ i → AreEquationTokens (drop i list) tokens
+    → tokens ≡ []
 no_equation list i tokens h are = at (drop i list) tokens (none_from list i h) are where
   at : (l : List Equation) (tokens : List Token) → l ≡ [] → AreEquationTokens l tokens → tokens ≡ []
   at l tokens q AreEquationTokens.nothing = refl
   at l tokens q (AreEquationTokens.next e nodes are whole) = cc
 
 -- the first item and the others
-first_item : (list : List (Item Pattern)) (x : Item Pattern) (others : List (Item Pattern)) (lines : List (List Token)) → list ≡ x ∷ others → AreLinesOf list lines
+first_item : (list : List (Item Pattern)) (x : Item Pattern) (others : List (Item Pattern)) (lines : List (List Token)) → list ≡ x ∷ others
+    → AreLinesOf list lines
     → (tokens : List Token) × (rest : List (List Token)) × AreItemTokens x tokens × AreLinesOf others rest × (lines ≡ tokens ∷ rest)
 first_item list x others lines q AreLinesOf.nothing = cc
 first_item list x others lines q (AreLinesOf.next {item = y} {rest = ys} {tokens = tokens} {lines = rest} item are) =
     let here : y ≡ x = cc in
-    let further : ys ≡ others = cc in
-    (tokens, rest, subst (λ (z : Item Pattern). AreItemTokens z tokens) here item, subst (λ (l : List (Item Pattern)). AreLinesOf l rest) further are, refl)
+    let further : ys ≡ others = cc in (
+      tokens,
+      rest,
+      subst (λ (z : Item Pattern). AreItemTokens z tokens) here item,
+      subst (λ (l : List (Item Pattern)). AreLinesOf l rest) further are,
+      refl,
+    )
 
-pub item_at : (list : List (Item Pattern)) (i : ℕ) (x : Item Pattern) (lines : List (List Token)) → i < length list → x ≡ get_or list i x → AreLinesOf (drop i list) lines
-    → (tokens : List Token) × (rest : List (List Token)) × AreItemTokens x tokens × AreLinesOf (drop (i + 1) list) rest × (lines ≡ tokens ∷ rest)
+pub item_at : (list : List (Item Pattern)) (i : ℕ) (x : Item Pattern) (lines : List (List Token)) → i < length list → x ≡ get_or list i x
+    → AreLinesOf (drop i list) lines
+    → (tokens : List Token) × (rest : List (List Token)) × AreItemTokens x tokens × AreLinesOf (drop (i + 1) list) rest
+    × (lines ≡ tokens ∷ rest)
 item_at list i x lines h q are = first_item (drop i list) x (drop (i + 1) list) lines (from_place list i x h q) are
 
 -- no item more
-pub no_item : (list : List (Item Pattern)) (i : ℕ) (lines : List (List Token)) → length list ≤ i → AreLinesOf (drop i list) lines → lines ≡ []
+pub no_item : (list : List (Item Pattern)) (i : ℕ) (lines : List (List Token)) → length list ≤ i → AreLinesOf (drop i list) lines
+    → lines ≡ []
 no_item list i lines h are = at (drop i list) lines (none_from list i h) are where
   at : (l : List (Item Pattern)) (lines : List (List Token)) → l ≡ [] → AreLinesOf l lines → lines ≡ []
   at l lines q AreLinesOf.nothing = refl

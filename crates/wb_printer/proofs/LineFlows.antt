@@ -12,7 +12,8 @@ use Rattle.wb_printer.proofs.PrintedTokens.{ArePrinted, printed_front, printed_b
 use Rattle.wb_printer.proofs.Flows.{AreBlanks, Flows, at_end, flow, both_blanks, more_blanks}
 
 -- a mark that stands closely behind another token goes on none
-closely_stops : (test : ℕ → Bool) (b : Token) (rest : List ℕ) → test 59 ≡ false → test 44 ≡ false → test 46 ≡ false → test 40 ≡ false → test 41 ≡ false
+closely_stops : (test : ℕ → Bool) (b : Token) (rest : List ℕ) → test 59 ≡ false → test 44 ≡ false → test 46 ≡ false → test 40 ≡ false
+    → test 41 ≡ false
     → follows_closely b ≡ true → StopsAt test (printed b ++ rest)
 closely_stops test (t.Name name) rest h i j k l c = absurd (cc)
 closely_stops test (t.Word word) rest h i j k l c = absurd (cc)
@@ -95,10 +96,12 @@ ends_behind a [] rest = ends_before a 10 rest refl refl refl
 ends_behind a (b ∷ ts) rest = subst (Ends a) (sym (behind_parts a b ts (10 ∷ rest))) (ends_gap a b (behind b ts ++ 10 ∷ rest))
 
 -- the tokens behind one on its line
-behind_flows : (a : Token) (ts more : List Token) (rest : List ℕ) → ArePrinted ts → Flows (10 ∷ rest) more → Flows (behind a ts ++ 10 ∷ rest) (ts ++ more)
+behind_flows : (a : Token) (ts more : List Token) (rest : List ℕ) → ArePrinted ts → Flows (10 ∷ rest) more
+    → Flows (behind a ts ++ 10 ∷ rest) (ts ++ more)
 behind_flows a [] more rest h r = r
 behind_flows a (b ∷ ts) more rest h r =
-    flow (gap a b) (behind b ts ++ 10 ∷ rest) (gap_blanks a b) h.0 (ends_behind b ts rest) (behind_flows b ts more rest h.1 r) (behind_parts a b ts (10 ∷ rest))
+    flow (gap a b) (behind b ts ++ 10 ∷ rest) (gap_blanks a b) h.0 (ends_behind b ts rest) (behind_flows b ts more rest h.1 r)
+    (behind_parts a b ts (10 ∷ rest))
 
 -- a line
 line_flows : (front : List ℕ) (ts more : List Token) (rest : List ℕ) → AreBlanks front → ArePrinted ts → Flows (10 ∷ rest) more
@@ -114,7 +117,9 @@ joined [] = []
 joined (ts ∷ lines) = ts ++ joined lines
 
 -- lines
-pub lines_flow : (front : List ℕ) (lines : List (List Token)) → AreBlanks front → ArePrinted (joined lines) → Flows (front ++ text_of lines) (joined lines)
+pub lines_flow : (front : List ℕ) (lines : List (List Token)) → AreBlanks front → ArePrinted (joined lines)
+    → Flows (front ++ text_of lines) (joined lines)
 lines_flow front [] g h = at_end (both_blanks front [] g refl)
 lines_flow front (ts ∷ lines) g h =
-    line_flows front ts (joined lines) (text_of lines) g (printed_front ts (joined lines) h) (lines_flow (10 ∷ []) lines refl (printed_back ts (joined lines) h))
+    line_flows front ts (joined lines) (text_of lines) g (printed_front ts (joined lines) h)
+    (lines_flow (10 ∷ []) lines refl (printed_back ts (joined lines) h))

@@ -30,7 +30,8 @@ back_bytes : (x y : List ℕ) → AreBytes (x ++ y) → AreBytes y
 back_bytes x y h = subst AreBytes (drop-append_seam x y) (All-drop (λ b. b < 256) (length x) (x ++ y) h)
 
 -- one of two values, or another
-either_below : (t : Bool) (bound n b : ℕ) (other : Option ℕ) → cond t (Some n) other ≡ Some b → (t ≡ true → n < bound) → (other ≡ Some b → b < bound) → b < bound
+either_below : (t : Bool) (bound n b : ℕ) (other : Option ℕ) → cond t (Some n) other ≡ Some b → (t ≡ true → n < bound)
+    → (other ≡ Some b → b < bound) → b < bound
 either_below true bound n b other h l k = let e : n ≡ b = cc in omega (arith, e, l refl)
 either_below false bound n b other h l k = k h
 
@@ -80,7 +81,8 @@ body_bytes : (body text : List ℕ) → AreBytes body → IsStringBody body text
 body_bytes body text small (IsStringBody.none e f) = subst AreBytes (sym f) (All-nil (λ b. b < 256))
 body_bytes body text small (IsStringBody.next {part = part} {x = x} {text = rest} {b = b} p r e f) =
     let both = subst AreBytes e small in
-    subst AreBytes (sym f) (All-cons (λ b. b < 256) b rest (part_below part b (front_bytes part x both) p) (body_bytes x rest (back_bytes part x both) r))
+    subst AreBytes (sym f) (All-cons (λ b. b < 256) b rest (part_below part b (front_bytes part x both) p)
+    (body_bytes x rest (back_bytes part x both) r))
 
 -- a string of bytes has a text of bytes
 string_bytes : (x text : List ℕ) → AreBytes x → IsString x text → AreBytes text
@@ -89,14 +91,16 @@ string_bytes x text small s =
     body_bytes s.body text (front_bytes s.body (34 ∷ []) (back_bytes (34 ∷ []) (s.body ++ 34 ∷ []) quoted)) s.stands
 
 -- a token that stands in a text of bytes is printed as what it is
-token_printed : (text : List ℕ) (token : Token) (at behind : ℕ) → AreBytes text → IsTokenAt text token at behind → IsToken token (printed token)
+token_printed : (text : List ℕ) (token : Token) (at behind : ℕ) → AreBytes text → IsTokenAt text token at behind
+    → IsToken token (printed token)
 token_printed text (t.Name name) at behind small s =
     let h = s.spelled in
     ((refl, subst IsIdentifier h.0 h.1, λ r. h.2 (subst IsReserved (sym h.0) r)), tt)
 token_printed text (t.Word word) at behind small s = (refl, tt)
 token_printed text (t.Int z) at behind small s = printed_integer z s.in_range
 token_printed text (t.Text string) at behind small s =
-    let piece : AreBytes (take (behind - at) (drop at text)) = All-take (λ b. b < 256) (behind - at) (drop at text) (All-drop (λ b. b < 256) at text small) in
+    let piece : AreBytes (take (behind - at) (drop at text)) =
+    All-take (λ b. b < 256) (behind - at) (drop at text) (All-drop (λ b. b < 256) at text small) in
     let bytes = string_bytes (take (behind - at) (drop at text)) string piece s.spelled in
     printed_string string (λ k h. bytes k 0 h)
 token_printed text (t.Regex body) at behind small s = let h = s.spelled in ((refl, h.1, h.2), tt)
@@ -108,7 +112,8 @@ ArePrinted [] = Unit {0}
 ArePrinted (a ∷ ts) = IsToken a (printed a) × ArePrinted ts
 
 -- the tokens of a text of bytes are
-pub tokens_printed : (text : List ℕ) (from to : ℕ) (xs : List Lexeme) → AreBytes text → Spells (IsNextIn WithComments text) from xs to → ArePrinted (tokens xs)
+pub tokens_printed : (text : List ℕ) (from to : ℕ) (xs : List Lexeme) → AreBytes text → Spells (IsNextIn WithComments text) from xs to
+    → ArePrinted (tokens xs)
 tokens_printed text from to xs small (none e) = tt
 tokens_printed text from to xs small (next {x = x} {xs = rest} h r) =
     (token_printed text x.token x.at x.end small h.stands, tokens_printed text x.end to rest small r)

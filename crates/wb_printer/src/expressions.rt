@@ -1,4 +1,6 @@
-//! How an expression is written, with a stack of what is still to come.
+//! How is an expression written?
+//!
+//! From its last node down, with a stack of what is still to come, so that nothing recurses.
 
 ghost use Rattle.std.specs.Prelude.{◌≡◌, [], ◌∷◌, List, ℕ, IfOk, OnOk, MatchOption, true, false};
 ghost use Rattle.wb_syntax.specs.Expression.{Node};
@@ -19,7 +21,7 @@ use wb_lists::Stack;
 use wb_syntax::Node;
 use wb_tokens::{Punctuation, Word};
 
-/// What is still to come of an expression.
+// What is still to come of an expression.
 #[derive(Clone, Copy)]
 pub(crate) enum Waiting<'a> {
     /// All of the one at this place.
@@ -215,7 +217,7 @@ fn next_whole(line: &mut Line, stack: &mut Stack<Waiting<'_>>) -> Result<Option<
     Ok(None)
 }
 
-/// Writes the expression whose nodes these are.
+// Writes the expression whose nodes these are.
 pub(crate) fn write_expression(
     alloc: Global,
     line: &mut Line,

@@ -1,4 +1,6 @@
-//! How items are written.
+//! How are items written?
+//!
+//! Each form has its tokens in their order; kinds, flow types, children and equations are in `parts`.
 
 ghost use Rattle.std.specs.Prelude.{◌≡◌, [], ◌∷◌, ◌++◌, List, OnOk};
 ghost use Rattle.wb_tokens.specs.declared.token.Token.{Token};
@@ -18,7 +20,7 @@ use wb_syntax::{
 };
 use wb_tokens::{Punctuation, Word};
 
-/// Writes a word, a name and the end of an item.
+// Writes a word, a name and the end of an item.
 pub(crate) fn write_named(line: &mut Line, word: Word, name: &[u8]) -> Result<(), AllocError>
     ensures { OnOk result (line.new ≡ after line.old (named word name.now)) }
 {
@@ -27,7 +29,7 @@ pub(crate) fn write_named(line: &mut Line, word: Word, name: &[u8]) -> Result<()
     line.mark(Punctuation::Semicolon)
 }
 
-/// Writes two words with a name behind each, and the end of an item.
+// Writes two words with a name behind each, and the end of an item.
 pub(crate) fn write_pair(
     line: &mut Line,
     word: Word,
@@ -199,7 +201,7 @@ fn production_word(role: ProductionRole) -> Word
     }
 }
 
-/// Writes an item.
+// Writes an item.
 pub(crate) fn write_item(
     alloc: Global,
     line: &mut Line,

@@ -1,4 +1,6 @@
-//! A text that is written token by token, with the spaces that stand between them.
+//! Where do spaces stand between tokens?
+//!
+//! A text is written token by token, and knows whether the next token stands at its end without a space.
 
 ghost use Rattle.std.specs.Prelude.{◌≡◌, ◌||◌, [], ◌∷◌, ◌++◌, OnOk, if◌then◌else◌, true};
 ghost use Rattle.wb_tokens.specs.declared.token.Token.TheVariants as t;
@@ -11,7 +13,7 @@ use std::marker::Model;
 use wb_base::push;
 use wb_tokens::{Punctuation, Word, print_int, print_text};
 
-/// The text so far. Where a call ends with want of memory, what it holds is open.
+// The text so far. Where a call ends with want of memory, what it holds is open.
 #[derive(Drop)]
 pub(crate) struct Line {
     text: Vec<u8>,
@@ -40,8 +42,8 @@ fn is_close_before(mark: Punctuation) -> bool
     )
 }
 
-// Whether no space stands behind the mark.
-fn is_close_behind(mark: Punctuation) -> bool
+// Whether no space stands after the mark.
+fn is_close_after(mark: Punctuation) -> bool
     ensures { result ≡ leads_closely (t.Punctuation mark) }
 {
     matches!(
@@ -52,8 +54,8 @@ fn is_close_behind(mark: Punctuation) -> bool
 
 #[tactic(auto, unfolding(crate::specs::Inner::Output::put, crate::specs::Inner::Output::ended))]
 impl Line {
-    /// The first line of a text of these bytes, with nothing on it. Takes no memory.
-    pub fn new(text: Vec<u8>) -> Line
+    // The first line of a text of these bytes, with nothing on it. Takes no memory.
+    pub(crate) fn new(text: Vec<u8>) -> Line
         ensures { result ≡ record { text = text.items; closely = true } }
     {
         Line {
@@ -62,8 +64,8 @@ impl Line {
         }
     }
 
-    /// The bytes. Takes no memory.
-    pub fn into_text(self) -> Vec<u8>
+    // The bytes. Takes no memory.
+    pub(crate) fn into_text(self) -> Vec<u8>
         ensures { result.items ≡ self.text }
     {
         self.text
@@ -83,48 +85,48 @@ impl Line {
         Ok(())
     }
 
-    /// A name more.
-    pub fn name(&mut self, name: &[u8]) -> Result<(), AllocError>
+    // A name more.
+    pub(crate) fn name(&mut self, name: &[u8]) -> Result<(), AllocError>
         ensures { OnOk result (self.new ≡ put self.old (t.Name name.now)) }
     {
         self.gap(false, false)?;
         self.text.extend_from_slice(name)
     }
 
-    /// A reserved word more.
-    pub fn word(&mut self, word: Word) -> Result<(), AllocError>
+    // A reserved word more.
+    pub(crate) fn word(&mut self, word: Word) -> Result<(), AllocError>
         ensures { OnOk result (self.new ≡ put self.old (t.Word word)) }
     {
         self.gap(false, false)?;
         self.text.extend_from_slice(word.text())
     }
 
-    /// A punctuation mark more.
-    pub fn mark(&mut self, mark: Punctuation) -> Result<(), AllocError>
+    // A punctuation mark more.
+    pub(crate) fn mark(&mut self, mark: Punctuation) -> Result<(), AllocError>
         ensures { OnOk result (self.new ≡ put self.old (t.Punctuation mark)) }
     {
-        self.gap(is_close_before(mark), is_close_behind(mark))?;
+        self.gap(is_close_before(mark), is_close_after(mark))?;
         self.text.extend_from_slice(mark.text())
     }
 
-    /// An integer more.
-    pub fn int(&mut self, value: i64) -> Result<(), AllocError>
+    // An integer more.
+    pub(crate) fn int(&mut self, value: i64) -> Result<(), AllocError>
         ensures { OnOk result (self.new ≡ put self.old (t.Int value)) }
     {
         self.gap(false, false)?;
         print_int(&mut self.text, value)
     }
 
-    /// A string more.
-    pub fn string(&mut self, text: &[u8]) -> Result<(), AllocError>
+    // A string more.
+    pub(crate) fn string(&mut self, text: &[u8]) -> Result<(), AllocError>
         ensures { OnOk result (self.new ≡ put self.old (t.Text text.now)) }
     {
         self.gap(false, false)?;
         print_text(&mut self.text, text)
     }
 
-    /// A regular expression more, by the bytes between its slashes.
-    pub fn regex(&mut self, bytes: &[u8]) -> Result<(), AllocError>
+    // A regular expression more, by the bytes between its slashes.
+    pub(crate) fn regex(&mut self, bytes: &[u8]) -> Result<(), AllocError>
         ensures { OnOk result (self.new ≡ put self.old (t.Regex bytes.now)) }
     {
         self.gap(false, false)?;
@@ -133,8 +135,8 @@ impl Line {
         push(&mut self.text, b'/')
     }
 
-    /// The line ends.
-    pub fn end(&mut self) -> Result<(), AllocError>
+    // The line ends.
+    pub(crate) fn end(&mut self) -> Result<(), AllocError>
         ensures { OnOk result (self.new ≡ ended self.old) }
     {
         push(&mut self.text, b'\n')?;

@@ -1,4 +1,6 @@
-//! How kinds, names, children and equations are written.
+//! How are kinds, names, children and equations written?
+//!
+//! Each has its tokens in their order. Expressions are in `expressions`.
 
 ghost use Rattle.std.specs.Prelude.{◌≡◌, [], ◌∷◌, ◌++◌, List, OnOk};
 ghost use Rattle.wb_syntax.specs.Expression.{Expression};
@@ -17,7 +19,7 @@ use wb_base::Bytes;
 use wb_syntax::{Child, Equation, NamedKind, Target};
 use wb_tokens::{Punctuation, Word};
 
-/// Writes a kind.
+// Writes a kind.
 pub(crate) fn write_kind(line: &mut Line, kind: &NamedKind) -> Result<(), AllocError>
     ensures { OnOk result (line.new ≡ put line.old (kind_token kind.now)) }
 {
@@ -53,7 +55,7 @@ fn write_names(line: &mut Line, names: &[Bytes]) -> Result<(), AllocError>
     }
 }
 
-/// Writes the needs of these names.
+// Writes the needs of these names.
 pub(crate) fn write_needs(line: &mut Line, names: &[Bytes]) -> Result<(), AllocError>
     ensures { OnOk result (line.new ≡ after line.old (needs_tokens names.now)) }
 {
@@ -63,7 +65,7 @@ pub(crate) fn write_needs(line: &mut Line, names: &[Bytes]) -> Result<(), AllocE
     line.mark(Punctuation::CloseBrace)
 }
 
-/// Writes the children of a production.
+// Writes the children of a production.
 pub(crate) fn write_children(line: &mut Line, children: &[Child]) -> Result<(), AllocError>
     ensures { OnOk result (line.new ≡ after line.old (children_tokens children.now)) }
 {
@@ -137,7 +139,7 @@ fn write_equations(alloc: Global, line: &mut Line, equations: &[Equation]) -> Re
     Ok(())
 }
 
-/// Writes equations with their braces.
+// Writes equations with their braces.
 pub(crate) fn write_block(
     alloc: Global,
     line: &mut Line,

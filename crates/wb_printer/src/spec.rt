@@ -1,4 +1,6 @@
-//! The canonical text of a specification.
+//! What is the canonical text of a specification?
+//!
+//! Its format, its header and each item on a line of its own. Which text is canonical is in `wb_syntax/specs/Canonical.antt`.
 
 ghost use Rattle.std.specs.Prelude.{◌≡◌, List, OnOk, IfOk};
 ghost use Rattle.wb_tokens.specs.declared.token.Token.{Token};

@@ -24,28 +24,34 @@ use Rattle.wb_reader.proofs.PatternLemmas.{all_taken}
 use Rattle.wb_reader.proofs.OneText.{one_written, no_fault, one_fault}
 
 -- the first item that isn't taken is one
-one_split : (u v : List (Item WrittenPattern)) (p q : Item WrittenPattern) (x y : List (Item WrittenPattern)) → u ++ p ∷ x ≡ v ++ q ∷ y → All IsTaken u → All IsTaken v → ¬ IsTaken p → ¬ IsTaken q → p ≡ q
+one_split : (u v : List (Item WrittenPattern)) (p q : Item WrittenPattern) (x y : List (Item WrittenPattern)) → u ++ p ∷ x ≡ v ++ q ∷ y
+    → All IsTaken u → All IsTaken v → ¬ IsTaken p → ¬ IsTaken q → p ≡ q
 one_split [] [] p q x y e a b h k = cc
 one_split [] (j ∷ v) p q x y e a b h k = let i : p ≡ j = cc in absurd (h (subst IsTaken (sym i) (All-head IsTaken j v b)))
 one_split (i ∷ u) [] p q x y e a b h k = let j : i ≡ q = cc in absurd (k (subst IsTaken j (All-head IsTaken i u a)))
 one_split (i ∷ u) (j ∷ v) p q x y e a b h k = one_split u v p q x y (cc) (All-tail IsTaken i u a) (All-tail IsTaken j v b) h k
 
 -- an expression that goes wrong, or matches the empty text, isn't taken
-fault_untaken : (bytes : List ℕ) (offset o at : ℕ) (name : List ℕ) (role : Role) → IsFirstFault bytes o → ¬ IsTaken (lexical_item offset role name bytes at)
+fault_untaken : (bytes : List ℕ) (offset o at : ℕ) (name : List ℕ) (role : Role) → IsFirstFault bytes o
+    → ¬ IsTaken (lexical_item offset role name bytes at)
 fault_untaken bytes offset o at name role f t = sound bytes t.0 o t.1.text f
 
-empty_untaken : (bytes : List ℕ) (offset at : ℕ) (name : List ℕ) (role : Role) → IsEmptyRegex bytes → ¬ IsTaken (lexical_item offset role name bytes at)
+empty_untaken : (bytes : List ℕ) (offset at : ℕ) (name : List ℕ) (role : Role) → IsEmptyRegex bytes
+    → ¬ IsTaken (lexical_item offset role name bytes at)
 empty_untaken bytes offset at name role f t = t.1.some (subst (λ tree. Matches tree []) (one bytes f.tree t.0 f.reads t.1.text) f.empty)
 
 -- two patterns that come first are one
-same_pattern : (text : List ℕ) (n m b c : List ℕ) (at place : ℕ) (r : HasPattern text n b at) (s : HasPattern text m c place) → ¬ IsTaken (lexical_item r.offset r.role n b at) → ¬ IsTaken (lexical_item s.offset s.role m c place) → lexical_item r.offset r.role n b at ≡ lexical_item s.offset s.role m c place
+same_pattern : (text : List ℕ) (n m b c : List ℕ) (at place : ℕ) (r : HasPattern text n b at) (s : HasPattern text m c place)
+    → ¬ IsTaken (lexical_item r.offset r.role n b at) → ¬ IsTaken (lexical_item s.offset s.role m c place)
+    → lexical_item r.offset r.role n b at ≡ lexical_item s.offset s.role m c place
 same_pattern text n m b c at place r s h k =
     let e : r.spec ≡ s.spec = one_written text r.spec s.spec r.written s.written in
     let i : r.spec.items ≡ s.spec.items = ap (λ (w : WrittenSpec). w.items) e in
     one_split r.before s.before _ _ r.after s.after (sym r.items ∙ (i ∙ s.items)) r.taken s.taken h k
 
 -- and so are their names, their bytes and their places
-same_parts : (offset other : ℕ) (role kind : Role) (n m b c : List ℕ) (at place : ℕ) → lexical_item offset role n b at ≡ lexical_item other kind m c place
+same_parts : (offset other : ℕ) (role kind : Role) (n m b c : List ℕ) (at place : ℕ)
+    → lexical_item offset role n b at ≡ lexical_item other kind m c place
     → (n ≡ m) × (b ≡ c) × (at ≡ place)
 same_parts offset other role kind n m b c at place e =
     let one : WrittenPattern = record { bytes = b; at = at } in
@@ -58,14 +64,16 @@ same_parts offset other role kind n m b c at place e =
     (name, ap (λ (x : WrittenPattern). x.bytes) pattern, ap (λ (x : WrittenPattern). x.at) pattern)
 
 -- what is taken has no such pattern
-no_pattern : (text : List ℕ) (spec : SpecView) (n b : List ℕ) (at : ℕ) (r : HasPattern text n b at) → IsSpecText text spec → IsTaken (lexical_item r.offset r.role n b at)
+no_pattern : (text : List ℕ) (spec : SpecView) (n b : List ℕ) (at : ℕ) (r : HasPattern text n b at) → IsSpecText text spec
+    → IsTaken (lexical_item r.offset r.role n b at)
 no_pattern text spec n b at r s =
     let e : s.written ≡ r.spec = one_written text s.written r.spec s.text r.written in
     let z : AllZip IsReadAs r.spec.items spec.items = subst (λ (w : WrittenSpec). AllZip IsReadAs w.items spec.items) e s.read.items in
     let a = all_taken r.spec.items spec.items z in
     within r.before (lexical_item r.offset r.role n b at) r.after (subst (All IsTaken) r.items a)
   where
-    within : (u : List (Item WrittenPattern)) (p : Item WrittenPattern) (x : List (Item WrittenPattern)) → All IsTaken (u ++ p ∷ x) → IsTaken p
+    within : (u : List (Item WrittenPattern)) (p : Item WrittenPattern) (x : List (Item WrittenPattern)) → All IsTaken (u ++ p ∷ x)
+        → IsTaken p
     within [] p x a = All-head IsTaken p x a
     within (i ∷ u) p x a = within u p x (All-tail IsTaken i (u ++ p ∷ x) a)
 
@@ -74,14 +82,20 @@ pub none_refused : (bytes : List ℕ) (spec : SpecView) (e : SpecRefusal) → Is
 none_refused bytes spec TooLong a c = let s = a.0 in absurd (omega (arith, s, c))
 none_refused bytes spec WrongFormat a c = not_written bytes a.1.written a.1.text c.1
 none_refused bytes spec (Syntax at) a c = no_fault bytes a.1.written at a.1.text c.2
-none_refused bytes spec (BadRegex at) a c = fault_untaken c.1.bytes c.1.pattern.offset c.1.offset c.1.at c.1.name c.1.pattern.role c.1.fault (no_pattern bytes spec c.1.name c.1.bytes c.1.at c.1.pattern a.1)
-none_refused bytes spec (MatchesEmpty name) a c = empty_untaken c.1.bytes c.1.pattern.offset c.1.at name c.1.pattern.role c.1.empty (no_pattern bytes spec name c.1.bytes c.1.at c.1.pattern a.1)
+none_refused bytes spec (BadRegex at) a c =
+    fault_untaken c.1.bytes c.1.pattern.offset c.1.offset c.1.at c.1.name c.1.pattern.role c.1.fault
+    (no_pattern bytes spec c.1.name c.1.bytes c.1.at c.1.pattern a.1)
+none_refused bytes spec (MatchesEmpty name) a c =
+    empty_untaken c.1.bytes c.1.pattern.offset c.1.at name c.1.pattern.role c.1.empty
+    (no_pattern bytes spec name c.1.bytes c.1.at c.1.pattern a.1)
 none_refused bytes spec (NoMemory e) a c = tt
 
 -- two bad expressions are one, and go wrong at one place
 one_bad : (bytes : List ℕ) (at place : ℕ) → IsBadRegex bytes at → IsBadRegex bytes place → at ≡ place
 one_bad bytes at place r s =
-    let e = same_pattern bytes r.name s.name r.bytes s.bytes r.at s.at r.pattern s.pattern (fault_untaken r.bytes r.pattern.offset r.offset r.at r.name r.pattern.role r.fault) (fault_untaken s.bytes s.pattern.offset s.offset s.at s.name s.pattern.role s.fault) in
+    let e = same_pattern bytes r.name s.name r.bytes s.bytes r.at s.at r.pattern s.pattern
+    (fault_untaken r.bytes r.pattern.offset r.offset r.at r.name r.pattern.role r.fault)
+    (fault_untaken s.bytes s.pattern.offset s.offset s.at s.name s.pattern.role s.fault) in
     let parts = same_parts r.pattern.offset s.pattern.offset r.pattern.role s.pattern.role r.name s.name r.bytes s.bytes r.at s.at e in
     let b = parts.1 in
     let a = parts.2 in
@@ -92,13 +106,17 @@ one_bad bytes at place r s =
 
 not_both : (bytes : List ℕ) (at : ℕ) (name : List ℕ) → IsBadRegex bytes at → ¬ IsEmptyPattern bytes name
 not_both bytes at name r s =
-    let e = same_pattern bytes r.name name r.bytes s.bytes r.at s.at r.pattern s.pattern (fault_untaken r.bytes r.pattern.offset r.offset r.at r.name r.pattern.role r.fault) (empty_untaken s.bytes s.pattern.offset s.at name s.pattern.role s.empty) in
+    let e = same_pattern bytes r.name name r.bytes s.bytes r.at s.at r.pattern s.pattern
+    (fault_untaken r.bytes r.pattern.offset r.offset r.at r.name r.pattern.role r.fault)
+    (empty_untaken s.bytes s.pattern.offset s.at name s.pattern.role s.empty) in
     let b = (same_parts r.pattern.offset s.pattern.offset r.pattern.role s.pattern.role r.name name r.bytes s.bytes r.at s.at e).1 in
     sound s.bytes s.empty.tree r.offset s.empty.reads (subst (λ x. IsFirstFault x r.offset) b r.fault)
 
 one_empty : (bytes name other : List ℕ) → IsEmptyPattern bytes name → IsEmptyPattern bytes other → name ≡ other
 one_empty bytes name other r s =
-    let e = same_pattern bytes name other r.bytes s.bytes r.at s.at r.pattern s.pattern (empty_untaken r.bytes r.pattern.offset r.at name r.pattern.role r.empty) (empty_untaken s.bytes s.pattern.offset s.at other s.pattern.role s.empty) in
+    let e = same_pattern bytes name other r.bytes s.bytes r.at s.at r.pattern s.pattern
+    (empty_untaken r.bytes r.pattern.offset r.at name r.pattern.role r.empty)
+    (empty_untaken s.bytes s.pattern.offset s.at other s.pattern.role s.empty) in
     (same_parts r.pattern.offset s.pattern.offset r.pattern.role s.pattern.role name other r.bytes s.bytes r.at s.at e).0
 
 -- two refusals that both have a cause are one
@@ -144,8 +162,10 @@ only_memory text (BadRegex at) on = absurd on
 only_memory text (MatchesEmpty name) on = absurd on
 
 -- why a form isn't taken is why the bytes aren't
-caused : (text : List ℕ) (spec : WrittenSpec) (before after : List (Item WrittenPattern)) (offset : ℕ) (form : ItemForm WrittenPattern) (e : SpecRefusal)
-    → IsShort text → IsWrittenText text spec → spec.items ≡ before ++ record { offset = offset; form = form } ∷ after → All IsTaken before → OnForm form e
+caused : (text : List ℕ) (spec : WrittenSpec) (before after : List (Item WrittenPattern)) (offset : ℕ) (form : ItemForm WrittenPattern)
+    (e : SpecRefusal)
+    → IsShort text → IsWrittenText text spec → spec.items ≡ before ++ record { offset = offset; form = form } ∷ after → All IsTaken before
+    → OnForm form e
     → HasCause text e
 caused text spec before after offset (f.Lexical role name pattern) (BadRegex place) short written items taken on = (
   short,
@@ -153,21 +173,42 @@ caused text spec before after offset (f.Lexical role name pattern) (BadRegex pla
     name = name;
     bytes = pattern.bytes;
     at = pattern.at;
-    pattern = record { spec = spec; written = written; before = before; after = after; offset = offset; role = role; items = items; taken = taken };
+    pattern =
+        record {
+          spec = spec;
+          written = written;
+          before = before;
+          after = after;
+          offset = offset;
+          role = role;
+          items = items;
+          taken = taken;
+        };
     offset = on.0;
     fault = on.1;
     is = on.2;
   },
 )
-caused text spec before after offset (f.Lexical role name pattern) (MatchesEmpty other) short written items taken on = subst (λ x. HasCause text (MatchesEmpty x)) (sym on.1) (
-  short,
-  record {
-    bytes = pattern.bytes;
-    at = pattern.at;
-    pattern = record { spec = spec; written = written; before = before; after = after; offset = offset; role = role; items = items; taken = taken };
-    empty = on.0;
-  },
-)
+caused text spec before after offset (f.Lexical role name pattern) (MatchesEmpty other) short written items taken on =
+    subst (λ x. HasCause text (MatchesEmpty x)) (sym on.1) (
+      short,
+      record {
+        bytes = pattern.bytes;
+        at = pattern.at;
+        pattern =
+            record {
+              spec = spec;
+              written = written;
+              before = before;
+              after = after;
+              offset = offset;
+              role = role;
+              items = items;
+              taken = taken;
+            };
+        empty = on.0;
+      },
+    )
 caused text spec before after offset (f.Lexical role name pattern) (NoMemory error) short written items taken on = tt
 caused text spec before after offset (f.Lexical role name pattern) TooLong short written items taken on = absurd on
 caused text spec before after offset (f.Lexical role name pattern) WrongFormat short written items taken on = absurd on
@@ -177,9 +218,12 @@ caused text spec before after offset (f.Production role production) e short writ
 caused text spec before after offset (f.Aspect name equations) e short written items taken on = only_memory text e on
 
 -- and so is why the first of the items that isn't taken isn't
-pub items_caused : (text : List ℕ) (spec : WrittenSpec) (e : SpecRefusal) → IsShort text → IsWrittenText text spec → OnItems spec.items e → HasCause text e
-items_caused text spec (BadRegex place) short written on = caused text spec on.before on.after on.item.offset on.item.form (BadRegex place) short written on.split on.taken on.refused
-items_caused text spec (MatchesEmpty name) short written on = caused text spec on.before on.after on.item.offset on.item.form (MatchesEmpty name) short written on.split on.taken on.refused
+pub items_caused : (text : List ℕ) (spec : WrittenSpec) (e : SpecRefusal) → IsShort text → IsWrittenText text spec → OnItems spec.items e
+    → HasCause text e
+items_caused text spec (BadRegex place) short written on =
+    caused text spec on.before on.after on.item.offset on.item.form (BadRegex place) short written on.split on.taken on.refused
+items_caused text spec (MatchesEmpty name) short written on =
+    caused text spec on.before on.after on.item.offset on.item.form (MatchesEmpty name) short written on.split on.taken on.refused
 items_caused text spec (NoMemory error) short written on = tt
 items_caused text spec TooLong short written on = absurd on
 items_caused text spec WrongFormat short written on = absurd on

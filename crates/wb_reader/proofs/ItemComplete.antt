@@ -11,7 +11,6 @@ use Rattle.wb_syntax.specs.declared.header.Header.{Header}
 use Rattle.wb_syntax.specs.declared.item.Item.{Item}
 use Rattle.wb_syntax.specs.declared.item.ItemForm.{ItemForm}
 use Rattle.wb_syntax.specs.declared.item.ItemForm.TheVariants as form
-use Rattle.wb_syntax.specs.declared.item.PlainForm.{PlainForm}
 use Rattle.wb_syntax.specs.declared.pattern.WrittenPattern.{WrittenPattern}
 use Rattle.wb_syntax.specs.declared.production.Production.{Production}
 use Rattle.wb_syntax.specs.declared.production.ProductionRole.{ProductionRole}
@@ -19,103 +18,84 @@ use Rattle.wb_syntax.specs.declared.production.ProductionRole.TheVariants as rol
 use Rattle.wb_syntax.specs.declared.written.WrittenSpec.{WrittenSpec}
 use Rattle.wb_syntax.specs.Tokens.{Lexeme, IsName, IsRegex, IsMark, IsWord, IsInt}
 use Rattle.wb_syntax.specs.ItemGrammar as grammar
-use Rattle.wb_syntax.specs.ItemGrammar.{IsPlain, IsItem, AreItems, IsHeader, IsSpecification, IsRole, IsProduction, IsProductionRole}
+use Rattle.wb_syntax.specs.ItemGrammar.{IsItem, AreItems, IsHeader, IsSpecification, IsRole, IsProduction, IsProductionRole}
 use Rattle.wb_reader.specs.declared.part.Part.{Part}
-use Rattle.wb_reader.specs.declared.builder.SpecBuilder.{SpecBuilder}
-use Rattle.wb_reader.specs.Inner.Rights.{spec_rights}
+use Rattle.wb_builder.specs.declared.builder.SpecBuilder.{SpecBuilder}
+use Rattle.wb_reader.specs.Inner.RightSides.{right_sides}
 use Rattle.wb_reader.proofs.Taking.{Row, Makes}
 use Rattle.wb_reader.proofs.Giving.{word_given, mark_given, name_given, regex_given, integer_given}
-use Rattle.wb_reader.proofs.PartComplete.{kind_given, needs_given, optional_given}
+use Rattle.wb_reader.proofs.PlainForms.{with_more, plain_given}
 use Rattle.wb_reader.proofs.EquationComplete.{block_given, production_given}
 use Rattle.wb_reader.proofs.ItemSound.{finished}
 
--- the parts with one item more
-abbrev with_more : SpecBuilder → Item WrittenPattern → SpecBuilder
-with_more a item = record a { items = a.items ++ item ∷ [] }
+pattern_given : (a : SpecBuilder) (f : Row) (v : List Lexeme) (b : SpecBuilder) (role : Role) (x n y s : Lexeme) (name bytes : List ℕ)
+    → IsRole role x → IsName name n → IsRegex bytes y → IsMark p.Semicolon s
+    → Makes f v (with_more a (record { offset = x.at; form = form.Lexical role name (record { bytes = bytes; at = y.at }) })) b
+    → Makes (Nonterminal Part.Item ∷ f) (x ∷ n ∷ y ∷ s ∷ v) a b
+unfolding right_sides
+pattern_given a f v b r.Terminal x n y s name bytes h i j k d =
+    expand 0 refl (word_given word.Terminal h (name_given i (regex_given j (mark_given p.Semicolon k (acts d)))))
+pattern_given a f v b r.Ignore x n y s name bytes h i j k d =
+    expand 1 refl (word_given word.Ignore h (name_given i (regex_given j (mark_given p.Semicolon k (acts d)))))
+pattern_given a f v b r.Marking x n y s name bytes h i j k d =
+    expand 2 refl (word_given word.Marking h (name_given i (regex_given j (mark_given p.Semicolon k (acts d)))))
 
-pattern_given : (a : SpecBuilder) (f : Row) (v : List Lexeme) (b : SpecBuilder) (role : Role) (x n y s : Lexeme) (name bytes : List ℕ) → IsRole role x → IsName name n → IsRegex bytes y → IsMark p.Semicolon s → Makes f v (with_more a (record { offset = x.at; form = form.Lexical role name (record { bytes = bytes; at = y.at }) })) b → Makes (Nonterminal Part.Item ∷ f) (x ∷ n ∷ y ∷ s ∷ v) a b
-unfolding spec_rights
-pattern_given a f v b r.Terminal x n y s name bytes h i j k d = expand 0 refl (word_given word.Terminal h (name_given i (regex_given j (mark_given p.Semicolon k (acts d)))))
-pattern_given a f v b r.Ignore x n y s name bytes h i j k d = expand 1 refl (word_given word.Ignore h (name_given i (regex_given j (mark_given p.Semicolon k (acts d)))))
-pattern_given a f v b r.Marking x n y s name bytes h i j k d = expand 2 refl (word_given word.Marking h (name_given i (regex_given j (mark_given p.Semicolon k (acts d)))))
-
--- the place of an item's first token, whichever it is called
-moved : (a : SpecBuilder) (f : Row) (v : List Lexeme) (b : SpecBuilder) (one : PlainForm) (o x : Lexeme) → o ≡ x
-    → Makes f v (with_more a (record { offset = o.at; form = form.Plain one })) b → Makes f v (with_more a (record { offset = x.at; form = form.Plain one })) b
-moved a f v b one o x e d = subst (λ (z : Lexeme). Makes f v (with_more a (record { offset = z.at; form = form.Plain one })) b) e d
-
-plain_given : (a : SpecBuilder) (f : Row) (o : Lexeme) (u v : List Lexeme) (b : SpecBuilder) (one : PlainForm) → IsPlain (o ∷ u) one
-    → Makes f v (with_more a (record { offset = o.at; form = form.Plain one })) b → Makes (Nonterminal Part.Item ∷ f) ((o ∷ u) ++ v) a b
-unfolding spec_rights
-plain_given a f o u v b one (grammar.prefer h i j k l) d = expand 3 refl (word_given word.Prefer h (name_given i (word_given word.Over j (name_given k (mark_given p.Semicolon l (acts d))))))
-plain_given a f o u v b one (grammar.nonterminal h i j) d = expand 4 refl (word_given word.Nonterminal h (name_given i (mark_given p.Semicolon j (acts d))))
-plain_given a f o u v b one (grammar.start h i j) d = expand 5 refl (word_given word.Start h (name_given i (mark_given p.Semicolon j (acts d))))
-plain_given a f o u v b one (grammar.extensible h i j) d = expand 6 refl (word_given word.Extensible h (name_given i (mark_given p.Semicolon j (acts d))))
-plain_given a f o u v b one (grammar.synthesized {x = x} {n = n} {c = c} s {u = y} h i j k l e) d' =
-    let first : o ≡ x = cc in
-    let d = moved a f v b one o x first d' in
-    let g : (o ∷ u) ++ v ≡ x ∷ n ∷ c ∷ (y ++ s ∷ v) = ap (λ q. q ++ v) e ∙ ap (λ q. x ∷ n ∷ c ∷ q) (append_assoc y (s ∷ []) v) in
-    subst (λ q. Makes (Nonterminal Part.Item ∷ f) q a b) (sym g) (expand 7 refl (word_given word.Syn h (name_given i (mark_given p.Colon j (kind_given k (mark_given p.Semicolon l (acts d)))))))
-plain_given a f o u v b one (grammar.inherited {x = x} {n = n} {c = c} s {u = y} h i j k l e) d' =
-    let first : o ≡ x = cc in
-    let d = moved a f v b one o x first d' in
-    let g : (o ∷ u) ++ v ≡ x ∷ n ∷ c ∷ (y ++ s ∷ v) = ap (λ q. q ++ v) e ∙ ap (λ q. x ∷ n ∷ c ∷ q) (append_assoc y (s ∷ []) v) in
-    subst (λ q. Makes (Nonterminal Part.Item ∷ f) q a b) (sym g) (expand 8 refl (word_given word.Inh h (name_given i (mark_given p.Colon j (kind_given k (mark_given p.Semicolon l (acts d)))))))
-plain_given a f o u v b one (grammar.occurs {x = x} {a = t} {o = m} {n = n} s {u = y} {needs = needs} h i j k l r e) d' =
-    let first : o ≡ x = cc in
-    let d = moved a f v b one o x first d' in
-    let g : (o ∷ u) ++ v ≡ x ∷ t ∷ m ∷ n ∷ (y ++ s ∷ v) = ap (λ q. q ++ v) e ∙ ap (λ q. x ∷ t ∷ m ∷ n ∷ q) (append_assoc y (s ∷ []) v) in
-    subst (λ q. Makes (Nonterminal Part.Item ∷ f) q a b) (sym g) (expand 9 refl (word_given word.Occurs h (name_given i (word_given word.On j (name_given k (optional_given _ needs _ y (s ∷ v) b l (mark_given p.Semicolon r (acts d))))))))
-plain_given a f o u v b one (grammar.forward_on {x = x} {o = m} {n = n} s {u = y} {needs = needs} h i j k l e) d' =
-    let first : o ≡ x = cc in
-    let d = moved a f v b one o x first d' in
-    let g : (o ∷ u) ++ v ≡ x ∷ m ∷ n ∷ (y ++ s ∷ v) = ap (λ q. q ++ v) e ∙ ap (λ q. x ∷ m ∷ n ∷ q) (append_assoc y (s ∷ []) v) in
-    subst (λ q. Makes (Nonterminal Part.Item ∷ f) q a b) (sym g) (expand 10 refl (word_given word.Forward h (word_given word.On i (name_given j (needs_given _ needs _ y (s ∷ v) b k (mark_given p.Semicolon l (acts d)))))))
-
-production_item_given : (a : SpecBuilder) (f : Row) (x : Lexeme) (y v : List Lexeme) (b : SpecBuilder) (kind : ProductionRole) (q : Production)
+production_item_given : (a : SpecBuilder) (f : Row) (x : Lexeme) (y v : List Lexeme) (b : SpecBuilder) (kind : ProductionRole)
+    (q : Production)
     → IsProductionRole kind x → IsProduction y q → Makes f v (with_more a (record { offset = x.at; form = form.Production kind q })) b
     → Makes (Nonterminal Part.Item ∷ f) (x ∷ (y ++ v)) a b
-unfolding spec_rights
-production_item_given a f x y v b role.Concrete q h i d = expand 11 refl (word_given word.Concrete h (production_given _ q _ y v b i (acts d)))
-production_item_given a f x y v b role.Abstract q h i d = expand 12 refl (word_given word.Abstract h (production_given _ q _ y v b i (acts d)))
+unfolding right_sides
+production_item_given a f x y v b role.Concrete q h i d =
+    expand 3 refl (word_given word.Concrete h (production_given _ q _ y v b i (acts d)))
+production_item_given a f x y v b role.Abstract q h i d =
+    expand 4 refl (word_given word.Abstract h (production_given _ q _ y v b i (acts d)))
 
-item_given : (a : SpecBuilder) (f : Row) (u v : List Lexeme) (b : SpecBuilder) (item : Item WrittenPattern) → IsItem u item → Makes f v (with_more a item) b
+item_given : (a : SpecBuilder) (f : Row) (u v : List Lexeme) (b : SpecBuilder) (item : Item WrittenPattern) → IsItem u item
+    → Makes f v (with_more a item) b
     → Makes (Nonterminal Part.Item ∷ f) (u ++ v) a b
-unfolding spec_rights
+unfolding right_sides
 item_given a f u v b item (grammar.lexical {x = x} {n = n} {y = y} {s = s} {role = role} {name = name} {bytes = bytes} h i j k) d =
     pattern_given a f v b role x n y s name bytes h i j k d
 item_given a f u v b item (grammar.plain {x = x} {u = y} {form = one} h) d = plain_given a f x y v b one h d
-item_given a f u v b item (grammar.production {x = x} {u = y} {role = kind} {production = q} h i) d = production_item_given a f x y v b kind q h i d
-item_given a f u v b item (grammar.aspect {u = y} {equations = es} h i j) d = expand 13 refl (word_given word.Aspect h (name_given i (block_given _ es _ y v b j (acts d))))
+item_given a f u v b item (grammar.production {x = x} {u = y} {role = kind} {production = q} h i) d =
+    production_item_given a f x y v b kind q h i d
+item_given a f u v b item (grammar.aspect {u = y} {equations = es} h i j) d =
+    expand 5 refl (word_given word.Aspect h (name_given i (block_given _ es _ y v b j (acts d))))
 
-items_given : (a : SpecBuilder) (f : Row) (u v : List Lexeme) (b : SpecBuilder) (items : List (Item WrittenPattern)) → AreItems u items → Makes f v (record a { items = a.items ++ items }) b → Makes (Nonterminal Part.Items ∷ f) (u ++ v) a b
-unfolding spec_rights
+items_given : (a : SpecBuilder) (f : Row) (u v : List Lexeme) (b : SpecBuilder) (items : List (Item WrittenPattern)) → AreItems u items
+    → Makes f v (record a { items = a.items ++ items }) b → Makes (Nonterminal Part.Items ∷ f) (u ++ v) a b
+unfolding right_sides
 items_given a f u v b items grammar.nothing d = expand 0 refl (subst (λ l. Makes f v (record a { items = l }) b) (append-nil a.items) d)
 items_given a f u v b items (grammar.next {u = y} {v = z} {item = item} {rest = rest} h r e) d =
     let g : u ++ v ≡ y ++ (z ++ v) = ap (λ q. q ++ v) e ∙ append_assoc y z v in
     subst (λ q. Makes (Nonterminal Part.Items ∷ f) q a b) (sym g)
-    (expand 1 refl (item_given a _ y (z ++ v) b item h (items_given (with_more a item) f z v b rest r (subst (λ l. Makes f v (record a { items = l }) b) (sym (append_assoc a.items (item ∷ []) rest)) d))))
+    (expand 1 refl (item_given a _ y (z ++ v) b item h (items_given (with_more a item) f z v b rest r
+    (subst (λ l. Makes f v (record a { items = l }) b) (sym (append_assoc a.items (item ∷ []) rest)) d))))
 
 header_given : (a : SpecBuilder) (f : Row) (u v : List Lexeme) (b : SpecBuilder) (name : List ℕ) (header : Header) → IsHeader u name header
     → Makes f v (record a { name = name; header = header }) b → Makes (Nonterminal Part.Header ∷ f) (u ++ v) a b
-unfolding spec_rights
-header_given a f u v b name header (grammar.host h i j) d = expand 0 refl (word_given word.Host h (name_given i (mark_given p.Semicolon j (acts d))))
+unfolding right_sides
+header_given a f u v b name header (grammar.host h i j) d =
+    expand 0 refl (word_given word.Host h (name_given i (mark_given p.Semicolon j (acts d))))
 header_given a f u v b name header (grammar.extension h i j k l) d =
     expand 1 refl (word_given word.Extension h (name_given i (word_given word.For j (name_given k (mark_given p.Semicolon l (acts d))))))
 
 -- a specification of format 1
-one_given : (a : SpecBuilder) (fs : Row) (x n s : Lexeme) (y z v : List Lexeme) (b : SpecBuilder) (name : List ℕ) (header : Header) (items : List (Item WrittenPattern))
+one_given : (a : SpecBuilder) (fs : Row) (x n s : Lexeme) (y z v : List Lexeme) (b : SpecBuilder) (name : List ℕ) (header : Header)
+    (items : List (Item WrittenPattern))
     → IsWord word.Format x → IsInt (pos 1) n → IsMark p.Semicolon s → IsHeader y name header → AreItems z items
     → Makes fs v (record a { format = 1; name = name; header = header; items = a.items ++ items }) b
     → Makes (Nonterminal Part.File ∷ fs) (x ∷ n ∷ s ∷ (y ++ (z ++ v))) a b
-unfolding spec_rights
+unfolding right_sides
 one_given a fs x n s y z v b name header items h i j k r d =
     let one : SpecBuilder = record a { format = 1 } in
     expand 0 refl (word_given word.Format h (integer_given i (mark_given p.Semicolon j (acts (header_given one _ y (z ++ v) b name header k
     (items_given (record one { name = name; header = header }) fs z v b items r d))))))
 
-pub file_given : (a : SpecBuilder) (f : Row) (u v : List Lexeme) (b : SpecBuilder) (spec : WrittenSpec) → IsSpecification u spec → Makes f v (finished a spec) b → Makes (Nonterminal Part.File ∷ f) (u ++ v) a b
-file_given a fs u v b spec (grammar.whole {f = x} {n = n} {s = s} {u = y} {v = z} {format = format} {name = name} {header = header} {items = items} h l i j k r e) d =
+pub file_given : (a : SpecBuilder) (f : Row) (u v : List Lexeme) (b : SpecBuilder) (spec : WrittenSpec) → IsSpecification u spec
+    → Makes f v (finished a spec) b → Makes (Nonterminal Part.File ∷ f) (u ++ v) a b
+file_given a fs u v b spec (grammar.whole {f = x} {n = n} {s = s} {u = y} {v = z} {format = format} {name = name} {header = header}
+    {items = items} h l i j k r e) d =
     let g : u ++ v ≡ x ∷ n ∷ s ∷ (y ++ (z ++ v)) = ap (λ q. q ++ v) e ∙ ap (λ q. x ∷ n ∷ s ∷ q) (append_assoc y z v) in
     subst (λ w. Makes (Nonterminal Part.File ∷ fs) w a b) (sym g)
     (one_given a fs x n s y z v b name header items h (subst (λ m. IsInt (pos m) n) l i) j k r

@@ -9,8 +9,6 @@ use Rattle.wb_syntax.specs.declared.header.Header.TheVariants as h
 use Rattle.wb_syntax.specs.declared.item.Item.{Item}
 use Rattle.wb_syntax.specs.declared.item.ItemForm.{ItemForm}
 use Rattle.wb_syntax.specs.declared.item.ItemForm.TheVariants as form
-use Rattle.wb_syntax.specs.declared.item.PlainForm.{PlainForm}
-use Rattle.wb_syntax.specs.declared.item.PlainForm.TheVariants as i
 use Rattle.wb_syntax.specs.declared.pattern.Role.{Role}
 use Rattle.wb_syntax.specs.declared.pattern.Role.TheVariants as r
 use Rattle.wb_syntax.specs.declared.pattern.WrittenPattern.{WrittenPattern}
@@ -21,123 +19,111 @@ use Rattle.wb_syntax.specs.ItemGrammar as grammar
 use Rattle.wb_syntax.specs.ItemGrammar.{IsItem, AreItems, IsHeader, IsSpecification}
 use Rattle.wb_tokens.specs.declared.kind.TokenKind.TheVariants as kind
 use Rattle.wb_reader.specs.declared.part.Part.{Part}
-use Rattle.wb_reader.specs.declared.part.Action.{Action}
-use Rattle.wb_reader.specs.declared.part.ItemAction.{ItemAction}
-use Rattle.wb_reader.specs.declared.builder.SpecBuilder.{SpecBuilder}
-use Rattle.wb_reader.specs.Inner.Rights.{spec_rights}
-use Rattle.wb_reader.specs.Inner.Builder.{with_name, with_place}
+use Rattle.wb_builder.specs.declared.actions.Action.{Action}
+use Rattle.wb_builder.specs.declared.items.ItemAction.{ItemAction}
+use Rattle.wb_builder.specs.declared.builder.SpecBuilder.{SpecBuilder}
+use Rattle.wb_reader.specs.Inner.RightSides.{right_sides}
 use Rattle.wb_reader.proofs.Taking.{Row, Makes, Split, OneOf, chosen, acted, word_taken, mark_taken, name_taken, regex_taken, one_taken}
 use Rattle.wb_reader.proofs.Many.{Element, many}
-use Rattle.wb_reader.proofs.Joins.{joined_one, joined}
-use Rattle.wb_reader.proofs.PartSound.{kind_sound, needs_sound, optional_sound}
+use Rattle.wb_reader.proofs.Joins.{joined}
+use Rattle.wb_reader.proofs.PlainForms.{itemized, plain_of_rows}
 use Rattle.wb_reader.proofs.EquationSound.{block_sound, production_sound}
 
--- the parts with these items
-abbrev itemized : SpecBuilder → List (Item WrittenPattern) → SpecBuilder
-itemized a items = record a { items = items }
-
--- an item with a regular expression, and one of names alone
+-- an item with a regular expression
 abbrev lexical : ℕ → Role → List ℕ → List ℕ → ℕ → Item WrittenPattern
 lexical offset role name bytes at = record { offset = offset; form = form.Lexical role name (record { bytes = bytes; at = at }) }
 
-abbrev plain : ℕ → PlainForm → Item WrittenPattern
-plain offset one = record { offset = offset; form = form.Plain one }
-
-item_of_rows : (a : SpecBuilder) (front : List (Item WrittenPattern)) (f : Row) (w : List Lexeme) (b : SpecBuilder) → OneOf (spec_rights Part.Item) (Nonterminal Part.Items ∷ f) w (itemized a front) b → Element IsItem Part.Items f (itemized a) front w b
-unfolding spec_rights
+item_of_rows : (a : SpecBuilder) (front : List (Item WrittenPattern)) (f : Row) (w : List Lexeme) (b : SpecBuilder)
+    → OneOf (right_sides Part.Item) (Nonterminal Part.Items ∷ f) w (itemized a front) b → Element IsItem Part.Items f (itemized a) front w b
+unfolding right_sides
 item_of_rows a front f w b (inl d) =
     let x = word_taken word.Terminal d in
     let n = name_taken x.4 in
     let y = regex_taken n.5 in
-    let s = mark_taken p.Semicolon y.5 in
-    (x.0 ∷ n.0 ∷ y.0 ∷ s.0 ∷ [], s.1, lexical x.0.at r.Terminal n.2 y.2 y.0.at, grammar.lexical x.2 n.3 y.3 s.2, omega arith, x.3 ∙ ap (λ z. x.0 ∷ z) (n.4 ∙ ap (λ z. n.0 ∷ z) (y.4 ∙ ap (λ z. y.0 ∷ z) s.3)), acted s.4)
+    let s = mark_taken p.Semicolon y.5 in (
+      x.0 ∷ n.0 ∷ y.0 ∷ s.0 ∷ [],
+      s.1,
+      lexical x.0.at r.Terminal n.2 y.2 y.0.at,
+      grammar.lexical x.2 n.3 y.3 s.2,
+      omega arith,
+      x.3 ∙ ap (λ z. x.0 ∷ z) (n.4 ∙ ap (λ z. n.0 ∷ z) (y.4 ∙ ap (λ z. y.0 ∷ z) s.3)),
+      acted s.4,
+    )
 item_of_rows a front f w b (inr (inl d)) =
     let x = word_taken word.Ignore d in
     let n = name_taken x.4 in
     let y = regex_taken n.5 in
-    let s = mark_taken p.Semicolon y.5 in
-    (x.0 ∷ n.0 ∷ y.0 ∷ s.0 ∷ [], s.1, lexical x.0.at r.Ignore n.2 y.2 y.0.at, grammar.lexical x.2 n.3 y.3 s.2, omega arith, x.3 ∙ ap (λ z. x.0 ∷ z) (n.4 ∙ ap (λ z. n.0 ∷ z) (y.4 ∙ ap (λ z. y.0 ∷ z) s.3)), acted s.4)
+    let s = mark_taken p.Semicolon y.5 in (
+      x.0 ∷ n.0 ∷ y.0 ∷ s.0 ∷ [],
+      s.1,
+      lexical x.0.at r.Ignore n.2 y.2 y.0.at,
+      grammar.lexical x.2 n.3 y.3 s.2,
+      omega arith,
+      x.3 ∙ ap (λ z. x.0 ∷ z) (n.4 ∙ ap (λ z. n.0 ∷ z) (y.4 ∙ ap (λ z. y.0 ∷ z) s.3)),
+      acted s.4,
+    )
 item_of_rows a front f w b (inr (inr (inl d))) =
     let x = word_taken word.Marking d in
     let n = name_taken x.4 in
     let y = regex_taken n.5 in
-    let s = mark_taken p.Semicolon y.5 in
-    (x.0 ∷ n.0 ∷ y.0 ∷ s.0 ∷ [], s.1, lexical x.0.at r.Marking n.2 y.2 y.0.at, grammar.lexical x.2 n.3 y.3 s.2, omega arith, x.3 ∙ ap (λ z. x.0 ∷ z) (n.4 ∙ ap (λ z. n.0 ∷ z) (y.4 ∙ ap (λ z. y.0 ∷ z) s.3)), acted s.4)
+    let s = mark_taken p.Semicolon y.5 in (
+      x.0 ∷ n.0 ∷ y.0 ∷ s.0 ∷ [],
+      s.1,
+      lexical x.0.at r.Marking n.2 y.2 y.0.at,
+      grammar.lexical x.2 n.3 y.3 s.2,
+      omega arith,
+      x.3 ∙ ap (λ z. x.0 ∷ z) (n.4 ∙ ap (λ z. n.0 ∷ z) (y.4 ∙ ap (λ z. y.0 ∷ z) s.3)),
+      acted s.4,
+    )
 item_of_rows a front f w b (inr (inr (inr (inl d)))) =
-    let x = word_taken word.Prefer d in
-    let n = name_taken x.4 in
-    let o = word_taken word.Over n.5 in
-    let m = name_taken o.4 in
-    let s = mark_taken p.Semicolon m.5 in
-    (x.0 ∷ n.0 ∷ o.0 ∷ m.0 ∷ s.0 ∷ [], s.1, plain x.0.at (i.Prefer n.2 m.2), grammar.plain (grammar.prefer x.2 n.3 o.2 m.3 s.2), omega arith, x.3 ∙ ap (λ z. x.0 ∷ z) (n.4 ∙ ap (λ z. n.0 ∷ z) (o.3 ∙ ap (λ z. o.0 ∷ z) (m.4 ∙ ap (λ z. m.0 ∷ z) s.3))), acted s.4)
-item_of_rows a front f w b (inr (inr (inr (inr (inl d))))) =
-    let x = word_taken word.Nonterminal d in
-    let n = name_taken x.4 in
-    let s = mark_taken p.Semicolon n.5 in
-    (x.0 ∷ n.0 ∷ s.0 ∷ [], s.1, plain x.0.at (i.Nonterminal n.2), grammar.plain (grammar.nonterminal x.2 n.3 s.2), omega arith, x.3 ∙ ap (λ z. x.0 ∷ z) (n.4 ∙ ap (λ z. n.0 ∷ z) s.3), acted s.4)
-item_of_rows a front f w b (inr (inr (inr (inr (inr (inl d)))))) =
-    let x = word_taken word.Start d in
-    let n = name_taken x.4 in
-    let s = mark_taken p.Semicolon n.5 in
-    (x.0 ∷ n.0 ∷ s.0 ∷ [], s.1, plain x.0.at (i.Start n.2), grammar.plain (grammar.start x.2 n.3 s.2), omega arith, x.3 ∙ ap (λ z. x.0 ∷ z) (n.4 ∙ ap (λ z. n.0 ∷ z) s.3), acted s.4)
-item_of_rows a front f w b (inr (inr (inr (inr (inr (inr (inl d))))))) =
-    let x = word_taken word.Extensible d in
-    let n = name_taken x.4 in
-    let s = mark_taken p.Semicolon n.5 in
-    (x.0 ∷ n.0 ∷ s.0 ∷ [], s.1, plain x.0.at (i.Extensible n.2), grammar.plain (grammar.extensible x.2 n.3 s.2), omega arith, x.3 ∙ ap (λ z. x.0 ∷ z) (n.4 ∙ ap (λ z. n.0 ∷ z) s.3), acted s.4)
-item_of_rows a front f w b (inr (inr (inr (inr (inr (inr (inr (inl d)))))))) =
-    let x = word_taken word.Syn d in
-    let n = name_taken x.4 in
-    let c = mark_taken p.Colon n.5 in
-    let k = kind_sound c.4 in
-    let s = mark_taken p.Semicolon k.5 in
-    (x.0 ∷ n.0 ∷ c.0 ∷ (k.0 ++ s.0 ∷ []), s.1, plain x.0.at (i.Synthesized n.2 k.2), grammar.plain (grammar.synthesized s.0 x.2 n.3 c.2 k.3 s.2 refl), omega arith, x.3 ∙ ap (λ z. x.0 ∷ z) (n.4 ∙ ap (λ z. n.0 ∷ z) (c.3 ∙ ap (λ z. c.0 ∷ z) (joined_one k.0 k.1 s.1 s.0 c.1 k.4 s.3))), acted s.4)
-item_of_rows a front f w b (inr (inr (inr (inr (inr (inr (inr (inr (inl d))))))))) =
-    let x = word_taken word.Inh d in
-    let n = name_taken x.4 in
-    let c = mark_taken p.Colon n.5 in
-    let k = kind_sound c.4 in
-    let s = mark_taken p.Semicolon k.5 in
-    (x.0 ∷ n.0 ∷ c.0 ∷ (k.0 ++ s.0 ∷ []), s.1, plain x.0.at (i.Inherited n.2 k.2), grammar.plain (grammar.inherited s.0 x.2 n.3 c.2 k.3 s.2 refl), omega arith, x.3 ∙ ap (λ z. x.0 ∷ z) (n.4 ∙ ap (λ z. n.0 ∷ z) (c.3 ∙ ap (λ z. c.0 ∷ z) (joined_one k.0 k.1 s.1 s.0 c.1 k.4 s.3))), acted s.4)
-item_of_rows a front f w b (inr (inr (inr (inr (inr (inr (inr (inr (inr (inl d)))))))))) =
-    let x = word_taken word.Occurs d in
-    let n = name_taken x.4 in
-    let o = word_taken word.On n.5 in
-    let m = name_taken o.4 in
-    let k = optional_sound _ _ m.1 b m.5 in
-    let s = mark_taken p.Semicolon k.5 in
-    (x.0 ∷ n.0 ∷ o.0 ∷ m.0 ∷ (k.0 ++ s.0 ∷ []), s.1, plain x.0.at (i.Occurs n.2 m.2 k.2), grammar.plain (grammar.occurs s.0 x.2 n.3 o.2 m.3 k.3 s.2 refl), omega arith, x.3 ∙ ap (λ z. x.0 ∷ z) (n.4 ∙ ap (λ z. n.0 ∷ z) (o.3 ∙ ap (λ z. o.0 ∷ z) (m.4 ∙ ap (λ z. m.0 ∷ z) (joined_one k.0 k.1 s.1 s.0 m.1 k.4 s.3)))), acted s.4)
-item_of_rows a front f w b (inr (inr (inr (inr (inr (inr (inr (inr (inr (inr (inl d))))))))))) =
-    let x = word_taken word.Forward d in
-    let o = word_taken word.On x.4 in
-    let n = name_taken o.4 in
-    let k = needs_sound _ _ n.1 b n.5 in
-    let s = mark_taken p.Semicolon k.5 in
-    (x.0 ∷ o.0 ∷ n.0 ∷ (k.0 ++ s.0 ∷ []), s.1, plain x.0.at (i.ForwardOn n.2 k.2), grammar.plain (grammar.forward_on s.0 x.2 o.2 n.3 k.3 s.2 refl), omega arith, x.3 ∙ ap (λ z. x.0 ∷ z) (o.3 ∙ ap (λ z. o.0 ∷ z) (n.4 ∙ ap (λ z. n.0 ∷ z) (joined_one k.0 k.1 s.1 s.0 n.1 k.4 s.3))), acted s.4)
-item_of_rows a front f w b (inr (inr (inr (inr (inr (inr (inr (inr (inr (inr (inr (inl d)))))))))))) =
     let x = word_taken word.Concrete d in
-    let q = production_sound _ _ x.1 b x.4 in
-    (x.0 ∷ q.0, q.1, record { offset = x.0.at; form = form.Production k.Concrete q.2 }, grammar.production x.2 q.3, omega arith, x.3 ∙ ap (λ z. x.0 ∷ z) q.4, acted q.5)
-item_of_rows a front f w b (inr (inr (inr (inr (inr (inr (inr (inr (inr (inr (inr (inr (inl d))))))))))))) =
+    let q = production_sound _ _ x.1 b x.4 in (
+      x.0 ∷ q.0,
+      q.1,
+      record { offset = x.0.at; form = form.Production k.Concrete q.2 },
+      grammar.production x.2 q.3,
+      omega arith,
+      x.3 ∙ ap (λ z. x.0 ∷ z) q.4,
+      acted q.5,
+    )
+item_of_rows a front f w b (inr (inr (inr (inr (inl d))))) =
     let x = word_taken word.Abstract d in
-    let q = production_sound _ _ x.1 b x.4 in
-    (x.0 ∷ q.0, q.1, record { offset = x.0.at; form = form.Production k.Abstract q.2 }, grammar.production x.2 q.3, omega arith, x.3 ∙ ap (λ z. x.0 ∷ z) q.4, acted q.5)
-item_of_rows a front f w b (inr (inr (inr (inr (inr (inr (inr (inr (inr (inr (inr (inr (inr (inl d)))))))))))))) =
+    let q = production_sound _ _ x.1 b x.4 in (
+      x.0 ∷ q.0,
+      q.1,
+      record { offset = x.0.at; form = form.Production k.Abstract q.2 },
+      grammar.production x.2 q.3,
+      omega arith,
+      x.3 ∙ ap (λ z. x.0 ∷ z) q.4,
+      acted q.5,
+    )
+item_of_rows a front f w b (inr (inr (inr (inr (inr (inl d)))))) =
     let x = word_taken word.Aspect d in
     let n = name_taken x.4 in
-    let k = block_sound _ _ n.1 b n.5 in
-    (x.0 ∷ n.0 ∷ k.0, k.1, record { offset = x.0.at; form = form.Aspect n.2 k.2 }, grammar.aspect x.2 n.3 k.3, omega arith, x.3 ∙ ap (λ z. x.0 ∷ z) (n.4 ∙ ap (λ z. n.0 ∷ z) k.4), acted k.5)
-item_of_rows a front f w b (inr (inr (inr (inr (inr (inr (inr (inr (inr (inr (inr (inr (inr (inr e)))))))))))))) = absurd e
+    let k = block_sound _ _ n.1 b n.5 in (
+      x.0 ∷ n.0 ∷ k.0,
+      k.1,
+      record { offset = x.0.at; form = form.Aspect n.2 k.2 },
+      grammar.aspect x.2 n.3 k.3,
+      omega arith,
+      x.3 ∙ ap (λ z. x.0 ∷ z) (n.4 ∙ ap (λ z. n.0 ∷ z) k.4),
+      acted k.5,
+    )
+item_of_rows a front f w b (inr (inr (inr (inr (inr (inr e)))))) = plain_of_rows a front f w b e
 
-one_item : (a : SpecBuilder) (front : List (Item WrittenPattern)) (f : Row) (w : List Lexeme) (b : SpecBuilder) → OneOf (spec_rights Part.Items) f w (itemized a front) b → Makes f w (itemized a front) b ⊎ Element IsItem Part.Items f (itemized a) front w b
-unfolding spec_rights
+one_item : (a : SpecBuilder) (front : List (Item WrittenPattern)) (f : Row) (w : List Lexeme) (b : SpecBuilder)
+    → OneOf (right_sides Part.Items) f w (itemized a front) b → Makes f w (itemized a front) b ⊎ Element IsItem Part.Items f
+    (itemized a) front w b
+unfolding right_sides
 one_item a front f w b (inl d) = inl d
 one_item a front f w b (inr (inl d)) = inr (item_of_rows a front f w b (chosen d))
 one_item a front f w b (inr (inr e)) = absurd e
 
-items_sound : (a : SpecBuilder) (front : List (Item WrittenPattern)) (f : Row) (w : List Lexeme) (b : SpecBuilder) → Makes (Nonterminal Part.Items ∷ f) w (itemized a front) b → Split AreItems (λ items. itemized a (front ++ items)) f w b
+items_sound : (a : SpecBuilder) (front : List (Item WrittenPattern)) (f : Row) (w : List Lexeme) (b : SpecBuilder)
+    → Makes (Nonterminal Part.Items ∷ f) w (itemized a front) b → Split AreItems (λ items. itemized a (front ++ items)) f w b
 items_sound a front f w b d =
-    many IsItem AreItems grammar.nothing (λ u v item rest one others. grammar.next one others refl) Part.Items f b (itemized a) (λ front w d. one_item a front f w b (chosen d)) (length w) front w (omega arith) d
+    many IsItem AreItems grammar.nothing (λ u v item rest one others. grammar.next one others refl) Part.Items f b (itemized a)
+    (λ front w d. one_item a front f w b (chosen d)) (length w) front w (omega arith) d
 
 -- a specification's name with its header
 abbrev Head : Type 0
@@ -146,9 +132,9 @@ Head = List ℕ × Header
 abbrev headed : SpecBuilder → Head → SpecBuilder
 headed a head = record a { name = head.0; header = head.1 }
 
-header_of_rows : (a : SpecBuilder) (f : Row) (w : List Lexeme) (b : SpecBuilder) → OneOf (spec_rights Part.Header) f w a b
+header_of_rows : (a : SpecBuilder) (f : Row) (w : List Lexeme) (b : SpecBuilder) → OneOf (right_sides Part.Header) f w a b
     → Split (λ u (head : Head). IsHeader u head.0 head.1) (headed a) f w b
-unfolding spec_rights
+unfolding right_sides
 header_of_rows a f w b (inl d) =
     let x = word_taken word.Host d in
     let n = name_taken x.4 in
@@ -173,8 +159,9 @@ header_of_rows a f w b (inr (inr e)) = absurd e
 abbrev pub finished : SpecBuilder → WrittenSpec → SpecBuilder
 finished a spec = record a { format = spec.format; name = spec.name; header = spec.header; items = a.items ++ spec.items }
 
-file_of_rows : (a : SpecBuilder) (f : Row) (w : List Lexeme) (b : SpecBuilder) → OneOf (spec_rights Part.File) f w a b → Split IsSpecification (finished a) f w b
-unfolding spec_rights
+file_of_rows : (a : SpecBuilder) (f : Row) (w : List Lexeme) (b : SpecBuilder) → OneOf (right_sides Part.File) f w a b
+    → Split IsSpecification (finished a) f w b
+unfolding right_sides
 file_of_rows a f w b (inl d) =
     let x = word_taken word.Format d in
     let n = one_taken x.4 in
@@ -191,5 +178,6 @@ file_of_rows a f w b (inl d) =
     )
 file_of_rows a f w b (inr e) = absurd e
 
-pub file_sound : (a : SpecBuilder) (f : Row) (w : List Lexeme) (b : SpecBuilder) → Makes (Nonterminal Part.File ∷ f) w a b → Split IsSpecification (finished a) f w b
+pub file_sound : (a : SpecBuilder) (f : Row) (w : List Lexeme) (b : SpecBuilder) → Makes (Nonterminal Part.File ∷ f) w a b
+    → Split IsSpecification (finished a) f w b
 file_sound a f w b d = file_of_rows a f w b (chosen d)

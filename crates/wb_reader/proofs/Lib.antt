@@ -4,6 +4,7 @@ pub mod Excluding
 mod ExpressionComplete
 mod ExpressionSound
 mod FaultLemmas
+mod Fields
 pub mod FormatLemmas
 mod Giving
 mod ItemComplete
@@ -15,6 +16,7 @@ pub mod OneText
 mod PartComplete
 mod PartSound
 pub mod PatternLemmas
+mod PlainForms
 mod Taking
 pub mod TextLemmas
 mod WholeSound

@@ -12,10 +12,10 @@ use Rattle.wb_syntax.specs.SpecText.{SpecView, IsWrittenText, IsSpecText, IsRead
 use Rattle.wb_tokens.specs.declared.kind.TokenKind.TheVariants.{End}
 use Rattle.wb_tokens.specs.Inner.SameKind.{same_kind}
 use Rattle.wb_tokens.proofs.KindLaws.{kinds_same}
-use Rattle.wb_reader.specs.declared.builder.SpecBuilder.{SpecBuilder}
-use Rattle.wb_reader.specs.Inner.Entries.{spec_entries}
+use Rattle.wb_builder.specs.declared.builder.SpecBuilder.{SpecBuilder}
+use Rattle.wb_reader.specs.Inner.LookaheadTable.{lookahead_table}
 use Rattle.wb_reader.specs.Inner.Laws.{spec_decided, spec_ends}
-use Rattle.wb_reader.specs.Inner.Builder.{empty, written_of}
+use Rattle.wb_builder.specs.Builder.{empty, written_of}
 use Rattle.wb_reader.specs.Inner.Table.{spec_grammar}
 use Rattle.wb_reader.specs.Refusals.{IsSyntaxFault}
 use Rattle.wb_reader.proofs.ItemSound.{finished}
@@ -23,8 +23,11 @@ use Rattle.wb_reader.proofs.TextLemmas.{whole_written, table_fault, written_fini
 use Rattle.wb_reader.proofs.PatternLemmas.{one_spec}
 
 -- bytes have one outcome by the table
-same_outcome : (bytes : List ℕ) (o : Outcome SpecBuilder) → IsOutcome spec_grammar (IsNextIn WithComments bytes) empty o → (p : Outcome SpecBuilder) → IsOutcome spec_grammar (IsNextIn WithComments bytes) empty p → o ≡ p
-same_outcome bytes o r p s = one_outcome same_kind kinds_same End spec_entries spec_grammar spec_decided spec_ends (IsNextIn WithComments bytes) (one_next WithComments bytes) empty o r p s
+same_outcome : (bytes : List ℕ) (o : Outcome SpecBuilder) → IsOutcome spec_grammar (IsNextIn WithComments bytes) empty o
+    → (p : Outcome SpecBuilder) → IsOutcome spec_grammar (IsNextIn WithComments bytes) empty p → o ≡ p
+same_outcome bytes o r p s =
+    one_outcome same_kind kinds_same End lookahead_table spec_grammar spec_decided spec_ends (IsNextIn WithComments bytes)
+    (one_next WithComments bytes) empty o r p s
 
 -- bytes are written as one specification
 pub one_written : (bytes : List ℕ) (a b : WrittenSpec) → IsWrittenText bytes a → IsWrittenText bytes b → a ≡ b
@@ -35,12 +38,15 @@ one_written bytes a b r s =
 
 -- what is written goes wrong nowhere
 pub no_fault : (bytes : List ℕ) (a : WrittenSpec) (at : ℕ) → IsWrittenText bytes a → ¬ IsSyntaxFault bytes at
-no_fault bytes a at r s = let e = same_outcome bytes (Whole (finished empty a)) (whole_written bytes a r) (Stopped at) (table_fault bytes at s) in absurd (cc)
+no_fault bytes a at r s =
+    let e = same_outcome bytes (Whole (finished empty a)) (whole_written bytes a r) (Stopped at) (table_fault bytes at s) in absurd (cc)
 
 -- bytes go wrong first at one place
 pub one_fault : (bytes : List ℕ) (at place : ℕ) → IsSyntaxFault bytes at → IsSyntaxFault bytes place → at ≡ place
-one_fault bytes at place r s = let e = same_outcome bytes (Stopped at) (table_fault bytes at r) (Stopped place) (table_fault bytes place s) in cc
+one_fault bytes at place r s =
+    let e = same_outcome bytes (Stopped at) (table_fault bytes at r) (Stopped place) (table_fault bytes place s) in cc
 
 -- bytes are one specification
 pub one_text : (bytes : List ℕ) (a b : SpecView) → IsSpecText bytes a → IsSpecText bytes b → a ≡ b
-one_text bytes a b r s = one_spec r.written a b r.read (subst (λ w. IsReadSpec w b) (one_written bytes s.written r.written s.text r.text) s.read)
+one_text bytes a b r s =
+    one_spec r.written a b r.read (subst (λ w. IsReadSpec w b) (one_written bytes s.written r.written s.text r.text) s.read)

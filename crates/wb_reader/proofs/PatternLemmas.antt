@@ -67,12 +67,16 @@ syntax_no_form (f.Production role production) at r = r
 syntax_no_form (f.Aspect name equations) at r = r
 
 -- the item behind those that were read is the first that is refused
-pub first_refused : (items before : List (Item WrittenPattern)) (item : Item WrittenPattern) (after : List (Item WrittenPattern)) (read : List (Item Pattern)) (refusal : SpecRefusal) → items ≡ before ++ item ∷ after → AllZip IsReadAs before read → OnItem item refusal → OnItems items refusal
+pub first_refused : (items before : List (Item WrittenPattern)) (item : Item WrittenPattern) (after : List (Item WrittenPattern))
+    (read : List (Item Pattern)) (refusal : SpecRefusal) → items ≡ before ++ item ∷ after → AllZip IsReadAs before read
+    → OnItem item refusal → OnItems items refusal
 first_refused items before item after read TooLong e z r = absurd (too_long_no_form item.form r)
 first_refused items before item after read WrongFormat e z r = absurd (format_no_form item.form r)
 first_refused items before item after read (Syntax at) e z r = absurd (syntax_no_form item.form at r)
-first_refused items before item after read (BadRegex at) e z r = record { before = before; after = after; item = item; split = e; taken = all_taken before read z; refused = r }
-first_refused items before item after read (MatchesEmpty name) e z r = record { before = before; after = after; item = item; split = e; taken = all_taken before read z; refused = r }
+first_refused items before item after read (BadRegex at) e z r =
+    record { before = before; after = after; item = item; split = e; taken = all_taken before read z; refused = r }
+first_refused items before item after read (MatchesEmpty name) e z r =
+    record { before = before; after = after; item = item; split = e; taken = all_taken before read z; refused = r }
 first_refused items before item after read (NoMemory error) e z r = tt
 
 -- a list of lexemes that each fit
@@ -94,16 +98,19 @@ Fits x = (bytes : List ℕ) → IsRegex bytes x → x.at + length bytes + 2 ≤ 
 
 one_fits : (text : List ℕ) (from : ℕ) (x : Lexeme) → IsShort text → NextToken WithComments text from x.token x.at x.end → Fits x
 one_fits text from x short r bytes e =
-    let s : SpellsToken (t.Regex bytes) (slice_range text x.at x.end) = subst (λ y. SpellsToken y (slice_range text x.at x.end)) e r.stands.spelled in
+    let s : SpellsToken (t.Regex bytes) (slice_range text x.at x.end) =
+    subst (λ y. SpellsToken y (slice_range text x.at x.end)) e r.stands.spelled in
     let l : length (slice_range text x.at x.end) ≡ length (47 ∷ (bytes ++ 47 ∷ [])) = ap length s.0 in
     let k = length-append bytes (47 ∷ []) in
-    let m : length (slice_range text x.at x.end) ≡ min (x.end - x.at) (length (drop x.at text)) = length-take (x.end - x.at) (drop x.at text) in
+    let m : length (slice_range text x.at x.end) ≡ min (x.end - x.at) (length (drop x.at text)) =
+    length-take (x.end - x.at) (drop x.at text) in
     let d = length-drop x.at text in
     let o = r.stands.ordered in
     let w = r.stands.within in
     omega (arith, l, k, m, d, o, w, short)
 
-all_fit : (text : List ℕ) (from : ℕ) (xs : List Lexeme) (to : ℕ) → IsShort text → Spells (IsNextIn WithComments text) from xs to → AllFit Fits xs
+all_fit : (text : List ℕ) (from : ℕ) (xs : List Lexeme) (to : ℕ) → IsShort text → Spells (IsNextIn WithComments text) from xs to
+    → AllFit Fits xs
 all_fit text from [] to short s = tt
 all_fit text from (x ∷ xs) to short (next i r) = (one_fits text from x short i, all_fit text x.end xs to short r)
 
@@ -131,16 +138,19 @@ text_placed text spec short r = spec_placed r.tokens spec r.specification (all_f
 -- a written item is one item
 one_form : (form : ItemForm WrittenPattern) (x y : ItemForm Pattern) → IsReadForm form x → IsReadForm form y → x ≡ y
 one_form (f.Lexical role name pattern) x y r s =
-    r.2 ∙ (ap (λ tree. f.Lexical role name (record { bytes = pattern.bytes; regex = tree })) (one pattern.bytes r.0 s.0 r.1.text s.1.text) ∙ sym s.2)
+    r.2 ∙ (ap (λ tree. f.Lexical role name (record { bytes = pattern.bytes; regex = tree })) (one pattern.bytes r.0 s.0 r.1.text s.1.text)
+    ∙ sym s.2)
 one_form (f.Plain plain) x y r s = r ∙ sym s
 one_form (f.Production role production) x y r s = r ∙ sym s
 one_form (f.Aspect name equations) x y r s = r ∙ sym s
 
 one_read : (item : Item WrittenPattern) (x y : Item Pattern) → IsReadAs item x → IsReadAs item y → x ≡ y
 one_read item x y r s =
-    ap (λ offset. record x { offset = offset }) (r.offset ∙ sym s.offset) ∙ ap (λ form. record y { form = form }) (one_form item.form x.form y.form r.form s.form)
+    ap (λ offset. record x { offset = offset }) (r.offset ∙ sym s.offset)
+    ∙ ap (λ form. record y { form = form }) (one_form item.form x.form y.form r.form s.form)
 
-all_read : (items : List (Item WrittenPattern)) (xs ys : List (Item Pattern)) → AllZip IsReadAs items xs → AllZip IsReadAs items ys → xs ≡ ys
+all_read : (items : List (Item WrittenPattern)) (xs ys : List (Item Pattern)) → AllZip IsReadAs items xs → AllZip IsReadAs items ys
+    → xs ≡ ys
 all_read [] [] [] r s = refl
 all_read [] [] (y ∷ ys) r s = absurd s
 all_read [] (x ∷ xs) ys r s = absurd r
@@ -156,20 +166,27 @@ one_spec_of a b format name header items =
 
 pub one_spec : (written : WrittenSpec) (a b : SpecView) → IsReadSpec written a → IsReadSpec written b → a ≡ b
 one_spec written a b r s =
-    one_spec_of a b (r.format ∙ sym s.format) (r.name ∙ sym s.name) (r.header ∙ sym s.header) (all_read written.items a.items b.items r.items s.items)
+    one_spec_of a b (r.format ∙ sym s.format) (r.name ∙ sym s.name) (r.header ∙ sym s.header)
+    (all_read written.items a.items b.items r.items s.items)
 
 -- what was read of bytes is their one specification
-pub read_text : (bytes : List ℕ) (written : WrittenSpec) (items : List (Item Pattern)) → IsWrittenText bytes written → AllZip IsReadAs written.items items
+pub read_text : (bytes : List ℕ) (written : WrittenSpec) (items : List (Item Pattern)) → IsWrittenText bytes written
+    → AllZip IsReadAs written.items items
     → IsSpecText bytes (record { format = written.format; name = written.name; header = written.header; items = items })
-read_text bytes written items r z = record { written = written; text = r; read = record { format = refl; name = refl; header = refl; items = z } }
+read_text bytes written items r z =
+    record { written = written; text = r; read = record { format = refl; name = refl; header = refl; items = z } }
 
 -- a refusal of an item that is handed on
-pub item_handed_on : {X : Type 0} (items before : List (Item WrittenPattern)) (item : Item WrittenPattern) (after : List (Item WrittenPattern)) (read : List (Item Pattern)) (r : Result X SpecRefusal) (e : SpecRefusal) → IsErrAnd r (λ f. f ≡ e) → items ≡ before ++ item ∷ after → AllZip IsReadAs before read → OnItem item e → IfErr r (OnItems items)
+pub item_handed_on : {X : Type 0} (items before : List (Item WrittenPattern)) (item : Item WrittenPattern)
+    (after : List (Item WrittenPattern)) (read : List (Item Pattern)) (r : Result X SpecRefusal) (e : SpecRefusal)
+    → IsErrAnd r (λ f. f ≡ e) → items ≡ before ++ item ∷ after → AllZip IsReadAs before read → OnItem item e → IfErr r (OnItems items)
 item_handed_on items before item after read (Ok x) e is split z on = tt
-item_handed_on items before item after read (Err f) e is split z on = first_refused items before item after read f split z (subst (OnItem item) (sym is) on)
+item_handed_on items before item after read (Err f) e is split z on =
+    first_refused items before item after read f split z (subst (OnItem item) (sym is) on)
 
 -- one more item that is read
-pub one_more : (before : List (Item WrittenPattern)) (item : Item WrittenPattern) (read : List (Item Pattern)) (x : Item Pattern) → AllZip IsReadAs before read → IsReadAs item x → AllZip IsReadAs (before ++ item ∷ []) (read ++ x ∷ [])
+pub one_more : (before : List (Item WrittenPattern)) (item : Item WrittenPattern) (read : List (Item Pattern)) (x : Item Pattern)
+    → AllZip IsReadAs before read → IsReadAs item x → AllZip IsReadAs (before ++ item ∷ []) (read ++ x ∷ [])
 one_more [] item [] x z r = (r, tt)
 one_more [] item (y ∷ ys) x z r = absurd z
 one_more (i ∷ before) item [] x z r = absurd z

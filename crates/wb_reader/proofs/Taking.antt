@@ -9,13 +9,15 @@ use Rattle.wb_syntax.specs.Tokens.{Lexeme, IsWord, IsMark, IsName, IsInt, IsStri
 use Rattle.wb_tokens.specs.declared.kind.TokenKind.{TokenKind}
 use Rattle.wb_tokens.specs.declared.kind.TokenKind.TheVariants as kind
 use Rattle.wb_reader.specs.declared.part.Part.{Part}
-use Rattle.wb_reader.specs.declared.part.Action.{Action}
-use Rattle.wb_reader.specs.declared.builder.SpecBuilder.{SpecBuilder}
+use Rattle.wb_builder.specs.declared.actions.Action.{Action}
+use Rattle.wb_builder.specs.declared.builder.SpecBuilder.{SpecBuilder}
 use Rattle.wb_tokens.specs.Kinds.{kind_of}
 use Rattle.wb_tokens.proofs.KindLaws.{word_by_kind, mark_by_kind, name_by_kind, number_by_kind, one_by_kind, string_by_kind, regex_by_kind}
-use Rattle.wb_reader.specs.Inner.Rights.{spec_rights}
-use Rattle.wb_reader.specs.Inner.Builder.{with_name, with_integer, with_text, with_pattern}
-use Rattle.wb_reader.specs.Inner.Table.{spec_grammar, shift, word_shift, act}
+use Rattle.wb_reader.specs.Inner.RightSides.{right_sides}
+use Rattle.wb_builder.specs.Builder.{with_name, with_integer, with_text, with_pattern}
+use Rattle.wb_builder.specs.Items.{word_shift}
+use Rattle.wb_builder.specs.Actions.{act}
+use Rattle.wb_reader.specs.Inner.Table.{spec_grammar, shift}
 
 -- a row of symbols
 abbrev pub Row : Type 0
@@ -30,7 +32,8 @@ abbrev pub Split : {T : Type 0} → (List Lexeme → T → Type 0) → (T → Sp
 Split {T} Is made f w b = (u v : List Lexeme) × (value : T) × Is u value × (w ≡ u ++ v) × Makes f v (made value) b
 
 -- a token, and then the rest
-taken : {k : TokenKind} {f : Row} {w : List Lexeme} {a b : SpecBuilder} → Makes (Token k ∷ f) w a b → (x : Lexeme) × (v : List Lexeme) × (kind_of x.token ≡ k) × (w ≡ x ∷ v) × Makes f v (shift x.token x.at x.end a) b
+taken : {k : TokenKind} {f : Row} {w : List Lexeme} {a b : SpecBuilder} → Makes (Token k ∷ f) w a b
+    → (x : Lexeme) × (v : List Lexeme) × (kind_of x.token ≡ k) × (w ≡ x ∷ v) × Makes f v (shift x.token x.at x.end a) b
 taken (token {x = x} {v = v} h d e) = (x, v, h, e, d)
 
 pub word_taken : {f : Row} {w : List Lexeme} {a b : SpecBuilder} (y : Word) → Makes (Token (kind.Word y) ∷ f) w a b
@@ -91,11 +94,12 @@ abbrev pub OneOf : List Row → Row → List Lexeme → SpecBuilder → SpecBuil
 OneOf [] f w a b = ⊥
 OneOf (row ∷ rows) f w a b = Makes (row ++ f) w a b ⊎ OneOf rows f w a b
 
-chosen_of : (rows : List Row) (p : ℕ) (right f : Row) (w : List Lexeme) (a b : SpecBuilder) → slice_get rows p ≡ Some right → Makes (right ++ f) w a b → OneOf rows f w a b
+chosen_of : (rows : List Row) (p : ℕ) (right f : Row) (w : List Lexeme) (a b : SpecBuilder) → slice_get rows p ≡ Some right
+    → Makes (right ++ f) w a b → OneOf rows f w a b
 chosen_of [] p right f w a b e d = absurd (cc)
 chosen_of (row ∷ rows) zero right f w a b e d = inl (subst (λ r. Makes (r ++ f) w a b) (sym cc) d)
 chosen_of (row ∷ rows) (suc p) right f w a b e d = inr (chosen_of rows p right f w a b e d)
 
 -- a nonterminal by one of its right sides
-pub chosen : {n : Part} {f : Row} {w : List Lexeme} {a b : SpecBuilder} → Makes (Nonterminal n ∷ f) w a b → OneOf (spec_rights n) f w a b
-chosen {n = n} {f = f} {w = w} {a = a} {b = b} (expand {right = right} p e d) = chosen_of (spec_rights n) p right f w a b e d
+pub chosen : {n : Part} {f : Row} {w : List Lexeme} {a b : SpecBuilder} → Makes (Nonterminal n ∷ f) w a b → OneOf (right_sides n) f w a b
+chosen {n = n} {f = f} {w = w} {a = a} {b = b} (expand {right = right} p e d) = chosen_of (right_sides n) p right f w a b e d

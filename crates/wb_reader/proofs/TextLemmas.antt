@@ -16,8 +16,8 @@ use Rattle.wb_syntax.specs.Tokens.{Lexeme}
 use Rattle.wb_syntax.specs.ItemGrammar.{IsSpecification, whole}
 use Rattle.wb_syntax.specs.SpecText.{IsWrittenText}
 use Rattle.wb_reader.specs.declared.part.Part.{Part}
-use Rattle.wb_reader.specs.declared.builder.SpecBuilder.{SpecBuilder}
-use Rattle.wb_reader.specs.Inner.Builder.{empty, written_of}
+use Rattle.wb_builder.specs.declared.builder.SpecBuilder.{SpecBuilder}
+use Rattle.wb_builder.specs.Builder.{empty, written_of}
 use Rattle.wb_reader.specs.Inner.Table.{spec_grammar}
 use Rattle.wb_reader.specs.Refusals.{CanBegin, CannotFollow, IsSyntaxFault}
 use Rattle.wb_reader.proofs.Taking.{Makes, Row}
@@ -33,7 +33,8 @@ nothing_left : {w : List Lexeme} {a b : SpecBuilder} → Makes [] w a b → (w �
 nothing_left (done e h) = (e, h)
 
 -- tokens that the table's grammar derives are a specification, and it made the parts of it
-pub spec_of_text : (w : List Lexeme) (last : SpecBuilder) → Makes (start_row) w empty last → (spec : WrittenSpec) × IsSpecification w spec × (finished empty spec ≡ last)
+pub spec_of_text : (w : List Lexeme) (last : SpecBuilder) → Makes (start_row) w empty last
+    → (spec : WrittenSpec) × IsSpecification w spec × (finished empty spec ≡ last)
 spec_of_text w last d =
     let r = file_sound empty [] w last d in
     let n = nothing_left r.5 in
@@ -42,22 +43,42 @@ spec_of_text w last d =
 
 -- a specification's tokens are derived, with its parts
 pub text_of_spec : (w : List Lexeme) (spec : WrittenSpec) → IsSpecification w spec → Makes (start_row) w empty (finished empty spec)
-text_of_spec w spec r = subst (λ v. Makes start_row v empty (finished empty spec)) (append-nil w) (file_given empty [] w [] (finished empty spec) spec r (done refl refl))
+text_of_spec w spec r =
+    subst (λ v. Makes start_row v empty (finished empty spec)) (append-nil w)
+    (file_given empty [] w [] (finished empty spec) spec r (done refl refl))
 
 -- the specification of the whole parts is the one that they were made of
 written_finished : (w : List Lexeme) (spec : WrittenSpec) → IsSpecification w spec → written_of (finished empty spec) ≡ spec
 written_finished w spec (whole h known i j k l e) = refl
 
 -- a text that the table has read whole
-pub written_whole : (bytes : List ℕ) (last : SpecBuilder) → IsReading spec_grammar (IsNextIn WithComments bytes) empty last → IsWrittenText bytes (written_of last)
+pub written_whole : (bytes : List ℕ) (last : SpecBuilder) → IsReading spec_grammar (IsNextIn WithComments bytes) empty last
+    → IsWrittenText bytes (written_of last)
 written_whole bytes last r =
     let s = spec_of_text r.tokens last r.text in
     let e : written_of last ≡ s.0 = ap written_of (sym s.2) ∙ written_finished r.tokens s.0 s.1 in
-    record { tokens = r.tokens; to = r.to; at = r.at; spelled = r.spelled; ended = r.ended; specification = subst (λ x. IsSpecification r.tokens x) (sym e) s.1 }
+    record {
+      tokens = r.tokens;
+      to = r.to;
+      at = r.at;
+      spelled = r.spelled;
+      ended = r.ended;
+      specification =
+          subst (λ x. IsSpecification r.tokens x) (sym e) s.1;
+    }
 
 -- and one that stands in the grammar is read whole
-pub whole_written : (bytes : List ℕ) (spec : WrittenSpec) → IsWrittenText bytes spec → IsReading spec_grammar (IsNextIn WithComments bytes) empty (finished empty spec)
-whole_written bytes spec r = record { tokens = r.tokens; to = r.to; at = r.at; spelled = r.spelled; ended = r.ended; text = text_of_spec r.tokens spec r.specification }
+pub whole_written : (bytes : List ℕ) (spec : WrittenSpec) → IsWrittenText bytes spec
+    → IsReading spec_grammar (IsNextIn WithComments bytes) empty (finished empty spec)
+whole_written bytes spec r =
+    record {
+      tokens = r.tokens;
+      to = r.to;
+      at = r.at;
+      spelled = r.spelled;
+      ended = r.ended;
+      text = text_of_spec r.tokens spec r.specification;
+    }
 
 -- some specification begins with tokens exactly where the table's grammar goes on behind them
 begins : (front : List Lexeme) → CanStartTable spec_grammar empty front → CanBegin front
@@ -78,17 +99,44 @@ follows_table front (NoToken at) h = tt
 
 -- where the table goes wrong first the text does
 pub syntax_fault : (bytes : List ℕ) (at : ℕ) → IsTableFault spec_grammar (IsNextIn WithComments bytes) empty at → IsSyntaxFault bytes at
-syntax_fault bytes at r = record { front = r.front; from = r.from; next = r.next; spelled = r.spelled; before = begins r.front r.before; stands = r.stands; fault = follows r.front r.next r.fault; place = r.place }
+syntax_fault bytes at r =
+    record {
+      front = r.front;
+      from = r.from;
+      next = r.next;
+      spelled = r.spelled;
+      before = begins r.front r.before;
+      stands = r.stands;
+      fault = follows r.front r.next r.fault;
+      place = r.place;
+    }
 
 pub table_fault : (bytes : List ℕ) (at : ℕ) → IsSyntaxFault bytes at → IsTableFault spec_grammar (IsNextIn WithComments bytes) empty at
-table_fault bytes at r = record { front = r.front; from = r.from; next = r.next; spelled = r.spelled; before = starts r.front r.before; stands = r.stands; fault = follows_table r.front r.next r.fault; place = r.place }
+table_fault bytes at r =
+    record {
+      front = r.front;
+      from = r.from;
+      next = r.next;
+      spelled = r.spelled;
+      before = starts r.front r.before;
+      stands = r.stands;
+      fault = follows_table r.front r.next r.fault;
+      place = r.place;
+    }
 
 -- the same of an outcome that a reading from the empty parts has
-pub whole_outcome : (bytes : List ℕ) (first : SpecBuilder) → first ≡ empty → (o : Outcome SpecBuilder) → IsOutcome spec_grammar (IsNextIn WithComments bytes) first o → (last : SpecBuilder) → o ≡ Whole last → IsWrittenText bytes (written_of last)
-whole_outcome bytes first e o r last h = written_whole bytes last (subst (λ x. IsOutcome spec_grammar (IsNextIn WithComments bytes) x (Whole last)) e (subst (λ x. IsOutcome spec_grammar (IsNextIn WithComments bytes) first x) h r))
+pub whole_outcome : (bytes : List ℕ) (first : SpecBuilder) → first ≡ empty → (o : Outcome SpecBuilder)
+    → IsOutcome spec_grammar (IsNextIn WithComments bytes) first o → (last : SpecBuilder) → o ≡ Whole last
+    → IsWrittenText bytes (written_of last)
+whole_outcome bytes first e o r last h =
+    written_whole bytes last (subst (λ x. IsOutcome spec_grammar (IsNextIn WithComments bytes) x (Whole last)) e
+    (subst (λ x. IsOutcome spec_grammar (IsNextIn WithComments bytes) first x) h r))
 
-pub stopped_outcome : (bytes : List ℕ) (first : SpecBuilder) → first ≡ empty → (o : Outcome SpecBuilder) → IsOutcome spec_grammar (IsNextIn WithComments bytes) first o → (at : ℕ) → o ≡ Stopped at → IsSyntaxFault bytes at
-stopped_outcome bytes first e o r at h = syntax_fault bytes at (subst (λ x. IsOutcome spec_grammar (IsNextIn WithComments bytes) x (Stopped at)) e (subst (λ x. IsOutcome spec_grammar (IsNextIn WithComments bytes) first x) h r))
+pub stopped_outcome : (bytes : List ℕ) (first : SpecBuilder) → first ≡ empty → (o : Outcome SpecBuilder)
+    → IsOutcome spec_grammar (IsNextIn WithComments bytes) first o → (at : ℕ) → o ≡ Stopped at → IsSyntaxFault bytes at
+stopped_outcome bytes first e o r at h =
+    syntax_fault bytes at (subst (λ x. IsOutcome spec_grammar (IsNextIn WithComments bytes) x (Stopped at)) e
+    (subst (λ x. IsOutcome spec_grammar (IsNextIn WithComments bytes) first x) h r))
 
 -- the parts of a text's specification are that specification
 pub written_finished_of : (bytes : List ℕ) (spec : WrittenSpec) → IsWrittenText bytes spec → written_of (finished empty spec) ≡ spec

@@ -1,4 +1,4 @@
-//! The rules of expressions.
+//! Which rules have expressions?
 //!
 //! ```text
 //! expression = INT | STRING | 'true' | 'false'
@@ -9,12 +9,13 @@
 //! arguments  = [expression (',' expression)*]
 //! ```
 
-use crate::part::{Action, ExpressionAction, Part, SpecRule};
+use crate::part::{Part, SpecRule};
+use wb_builder::{Action, ExpressionAction};
 use wb_predictive::Rule;
 use wb_predictive::Symbol::{Act, Nonterminal, Token};
 use wb_tokens::{Punctuation, TokenKind, Word};
 
-pub static EXPRESSION: [SpecRule; 9] = [
+pub(crate) static EXPRESSION: [SpecRule; 9] = [
     Rule {
         kinds: &[TokenKind::One, TokenKind::Number],
         right: &[
@@ -91,7 +92,7 @@ pub static EXPRESSION: [SpecRule; 9] = [
     },
 ];
 
-pub static TAIL: [SpecRule; 3] = [
+pub(crate) static TAIL: [SpecRule; 3] = [
     Rule {
         kinds: &[
             TokenKind::Word(Word::Else),
@@ -121,7 +122,7 @@ pub static TAIL: [SpecRule; 3] = [
     },
 ];
 
-pub static READ: [SpecRule; 2] = [
+pub(crate) static READ: [SpecRule; 2] = [
     Rule {
         kinds: &[TokenKind::Name],
         right: &[
@@ -138,7 +139,7 @@ pub static READ: [SpecRule; 2] = [
     },
 ];
 
-pub static ARGUMENTS: [SpecRule; 2] = [
+pub(crate) static ARGUMENTS: [SpecRule; 2] = [
     Rule {
         kinds: &[TokenKind::Mark(Punctuation::CloseParenthesis)],
         right: &[],
@@ -164,7 +165,7 @@ pub static ARGUMENTS: [SpecRule; 2] = [
     },
 ];
 
-pub static FURTHER_ARGUMENTS: [SpecRule; 2] = [
+pub(crate) static FURTHER_ARGUMENTS: [SpecRule; 2] = [
     Rule {
         kinds: &[TokenKind::Mark(Punctuation::CloseParenthesis)],
         right: &[],
@@ -180,7 +181,7 @@ pub static FURTHER_ARGUMENTS: [SpecRule; 2] = [
     },
 ];
 
-pub static INTEGER: [SpecRule; 2] = [
+pub(crate) static INTEGER: [SpecRule; 2] = [
     Rule {
         kinds: &[TokenKind::One],
         right: &[Token(TokenKind::One)],

@@ -1,36 +1,80 @@
-//! Whether a text says that it is of another format.
+//! Does a text say that it is of another format?
+//!
+//! It does by its first three tokens, whatever comes after. Each is let go before the next is read.
 
-ghost use Rattle.std.specs.Prelude.{◌≡◌, ◌≤◌, ◌↔◌, IfOk, IsTrue, length, MatchOption, ℕ};
-ghost use Rattle.wb_predictive.specs.declared.table.Placed.{Placed};
-ghost use Rattle.wb_predictive.specs.declared.table.Next.TheVariants.{Found};
-ghost use Rattle.wb_tokens.specs.declared.token.Layout.TheVariants.{WithComments};
-ghost use Rattle.wb_tokens.specs.NextToken.{IsNextIn};
-ghost use Rattle.wb_syntax.specs.Tokens.{Lexeme};
+ghost use Rattle.std.specs.Prelude.{◌≡◌, ◌≤◌, ◌↔◌, IfOk, IsTrue, length, MatchOption};
 ghost use Rattle.wb_tokens.specs.declared.token.Token.TheVariants as t;
 ghost use Rattle.wb_tokens.specs.declared.word.Word.TheVariants as w;
 ghost use Rattle.wb_tokens.specs.declared.punctuation.Punctuation.TheVariants as p;
 ghost use Rattle.wb_reader.specs.Refusals.{IsOtherNumber, IsOtherFormat};
+ghost use Rattle.wb_reader.specs.Inner.Format.{IsWanted, IsEndWhere, IsNextEnd};
 
 use std::alloc::{AllocError, Global};
 use wb_predictive::{Next, Placed};
 use wb_tokens::{Layout, Punctuation, Token, Word, next_token};
 
-// The token that stands next behind a place, if one does.
-fn next_lexeme(
+// What the three tokens are, in their order.
+#[derive(Clone, Copy)]
+pub(crate) enum Wanted {
+    // The word `format`.
+    Format,
+    // An integer other than 1.
+    OtherNumber,
+    // A semicolon.
+    Semicolon,
+}
+
+// Whether a text begins with `format`, an integer other than 1, and `;`. The only error is want of memory.
+pub(crate) fn is_other_format(alloc: Global, bytes: &[u8]) -> Result<bool, AllocError>
+    ensures { IfOk result (λ other. IsTrue other ↔ IsOtherFormat bytes.now) }
+{
+    let Some(word) = next_end(alloc, bytes, 0, Wanted::Format)? else {
+        return Ok(false);
+    };
+    let Some(number) = next_end(alloc, bytes, word, Wanted::OtherNumber)? else {
+        return Ok(false);
+    };
+    let mark = next_end(alloc, bytes, number, Wanted::Semicolon)?;
+    Ok(mark.is_some())
+}
+
+// The end of the next token from a place on, where it is as wanted.
+fn next_end(
     alloc: Global,
     bytes: &[u8],
     from: usize,
-) -> Result<Option<Placed<Token>>, AllocError>
+    wanted: Wanted,
+) -> Result<Option<usize>, AllocError>
     requires { from ≤ length bytes.now }
-    ensures next { IfOk result (λ found. MatchOption found
-        ((x : Lexeme) → ¬ IsNextIn WithComments bytes.now from (Found x))
-        (λ x. IsNextIn WithComments bytes.now from (Found x))) }
-    ensures within { IfOk result (λ found. MatchOption found (Unit {0}) (λ x. x.end ≤ length bytes.now)) }
+    ensures next { IfOk result (IsNextEnd bytes.now from wanted) }
+    ensures within { IfOk result (λ found. MatchOption found (Unit {0}) (λ end. end ≤ length bytes.now)) }
 {
     match next_token(alloc, bytes, from, Layout::WithComments)? {
-        Next::Found(lexeme) => Ok(Some(lexeme)),
+        Next::Found(lexeme) => Ok(end_where(wanted, &lexeme)),
         Next::End { at: _ } => Ok(None),
         Next::NoToken { at: _ } => Ok(None),
+    }
+}
+
+// The end of a token, where it is as wanted.
+fn end_where(wanted: Wanted, lexeme: &Placed<Token>) -> Option<usize>
+    ensures { IsEndWhere wanted lexeme.now result }
+{
+    if is_wanted(wanted, &lexeme.token) {
+        Some(lexeme.end)
+    } else {
+        None
+    }
+}
+
+// Whether a token is as wanted.
+fn is_wanted(wanted: Wanted, token: &Token) -> bool
+    ensures { IsTrue result ↔ IsWanted wanted token.now }
+{
+    match wanted {
+        Wanted::Format => is_format(token),
+        Wanted::OtherNumber => is_other_number(token),
+        Wanted::Semicolon => is_semicolon(token),
     }
 }
 
@@ -62,27 +106,4 @@ fn is_semicolon(token: &Token) -> bool
         Token::Punctuation(mark) => *mark == Punctuation::Semicolon,
         _ => false,
     }
-}
-
-// Whether three tokens are `format`, an integer other than 1, and a semicolon.
-fn says_other_format(word: &Token, number: &Token, mark: &Token) -> bool
-    ensures { IsTrue result ↔ ((word.now ≡ t.Word w.Format) × IsOtherNumber number.now × (mark.now ≡ t.Punctuation p.Semicolon)) }
-{
-    is_format(word) && is_other_number(number) && is_semicolon(mark)
-}
-
-/// Whether a text begins with `format`, an integer other than 1, and `;`. The only error is want of memory.
-pub fn is_other_format(alloc: Global, bytes: &[u8]) -> Result<bool, AllocError>
-    ensures { IfOk result (λ other. IsTrue other ↔ IsOtherFormat bytes.now) }
-{
-    let Some(word) = next_lexeme(alloc, bytes, 0)? else {
-        return Ok(false);
-    };
-    let Some(number) = next_lexeme(alloc, bytes, word.end)? else {
-        return Ok(false);
-    };
-    let Some(mark) = next_lexeme(alloc, bytes, number.end)? else {
-        return Ok(false);
-    };
-    Ok(says_other_format(&word.token, &number.token, &mark.token))
 }

@@ -1,26 +1,27 @@
-//! The rules of headers, items and productions.
+//! Which rules have headers, items and productions?
 //!
 //! ```text
 //! file       = 'format' 1 ';' header item*
 //! header     = 'host' NAME ';' | 'extension' NAME 'for' NAME ';'
 //! item       = ('terminal' | 'ignore' | 'marking') NAME REGEX ';'
+//!            | ('concrete' | 'abstract') production
+//!            | 'aspect' NAME block
 //!            | 'prefer' NAME 'over' NAME ';'
 //!            | ('nonterminal' | 'start' | 'extensible') NAME ';'
 //!            | ('syn' | 'inh') NAME ':' kind ';'
 //!            | 'occurs' NAME 'on' NAME [needs] ';'
 //!            | 'forward' 'on' NAME needs ';'
-//!            | ('concrete' | 'abstract') production
-//!            | 'aspect' NAME block
 //! production = NAME ':' NAME '::=' child* block
 //! ```
 
-use crate::part::{Action, ItemAction, Part, SpecRule};
+use crate::part::{Part, SpecRule};
+use wb_builder::{Action, ItemAction};
 use wb_predictive::Rule;
 use wb_predictive::Symbol::{Act, Nonterminal, Token};
 use wb_syntax::{ProductionRole, Role};
 use wb_tokens::{Punctuation, TokenKind, Word};
 
-pub static FILE: [SpecRule; 1] = [Rule {
+pub(crate) static FILE: [SpecRule; 1] = [Rule {
     kinds: &[TokenKind::Word(Word::Format)],
     right: &[
         Token(TokenKind::Word(Word::Format)),
@@ -32,7 +33,7 @@ pub static FILE: [SpecRule; 1] = [Rule {
     ],
 }];
 
-pub static HEADER: [SpecRule; 2] = [
+pub(crate) static HEADER: [SpecRule; 2] = [
     Rule {
         kinds: &[TokenKind::Word(Word::Host)],
         right: &[
@@ -55,33 +56,33 @@ pub static HEADER: [SpecRule; 2] = [
     },
 ];
 
-pub static ITEMS: [SpecRule; 2] = [
+pub(crate) static ITEMS: [SpecRule; 2] = [
     Rule {
         kinds: &[TokenKind::End],
         right: &[],
     },
     Rule {
         kinds: &[
+            TokenKind::Word(Word::Terminal),
+            TokenKind::Word(Word::Ignore),
+            TokenKind::Word(Word::Marking),
+            TokenKind::Word(Word::Concrete),
             TokenKind::Word(Word::Abstract),
             TokenKind::Word(Word::Aspect),
-            TokenKind::Word(Word::Concrete),
-            TokenKind::Word(Word::Extensible),
-            TokenKind::Word(Word::Forward),
-            TokenKind::Word(Word::Ignore),
-            TokenKind::Word(Word::Inh),
-            TokenKind::Word(Word::Marking),
-            TokenKind::Word(Word::Nonterminal),
-            TokenKind::Word(Word::Occurs),
             TokenKind::Word(Word::Prefer),
+            TokenKind::Word(Word::Nonterminal),
             TokenKind::Word(Word::Start),
+            TokenKind::Word(Word::Extensible),
             TokenKind::Word(Word::Syn),
-            TokenKind::Word(Word::Terminal),
+            TokenKind::Word(Word::Inh),
+            TokenKind::Word(Word::Occurs),
+            TokenKind::Word(Word::Forward),
         ],
         right: &[Nonterminal(Part::Item), Nonterminal(Part::Items)],
     },
 ];
 
-pub static ITEM: [SpecRule; 14] = [
+pub(crate) static ITEM: [SpecRule; 14] = [
     Rule {
         kinds: &[TokenKind::Word(Word::Terminal)],
         right: &[
@@ -110,6 +111,31 @@ pub static ITEM: [SpecRule; 14] = [
             Token(TokenKind::Regex),
             Token(TokenKind::Mark(Punctuation::Semicolon)),
             Act(Action::Item(ItemAction::Lexical(Role::Marking))),
+        ],
+    },
+    Rule {
+        kinds: &[TokenKind::Word(Word::Concrete)],
+        right: &[
+            Token(TokenKind::Word(Word::Concrete)),
+            Nonterminal(Part::Production),
+            Act(Action::Item(ItemAction::ProductionItem(ProductionRole::Concrete))),
+        ],
+    },
+    Rule {
+        kinds: &[TokenKind::Word(Word::Abstract)],
+        right: &[
+            Token(TokenKind::Word(Word::Abstract)),
+            Nonterminal(Part::Production),
+            Act(Action::Item(ItemAction::ProductionItem(ProductionRole::Abstract))),
+        ],
+    },
+    Rule {
+        kinds: &[TokenKind::Word(Word::Aspect)],
+        right: &[
+            Token(TokenKind::Word(Word::Aspect)),
+            Token(TokenKind::Name),
+            Nonterminal(Part::Block),
+            Act(Action::Item(ItemAction::Aspect)),
         ],
     },
     Rule {
@@ -195,34 +221,9 @@ pub static ITEM: [SpecRule; 14] = [
             Act(Action::Item(ItemAction::ForwardOn)),
         ],
     },
-    Rule {
-        kinds: &[TokenKind::Word(Word::Concrete)],
-        right: &[
-            Token(TokenKind::Word(Word::Concrete)),
-            Nonterminal(Part::Production),
-            Act(Action::Item(ItemAction::ProductionItem(ProductionRole::Concrete))),
-        ],
-    },
-    Rule {
-        kinds: &[TokenKind::Word(Word::Abstract)],
-        right: &[
-            Token(TokenKind::Word(Word::Abstract)),
-            Nonterminal(Part::Production),
-            Act(Action::Item(ItemAction::ProductionItem(ProductionRole::Abstract))),
-        ],
-    },
-    Rule {
-        kinds: &[TokenKind::Word(Word::Aspect)],
-        right: &[
-            Token(TokenKind::Word(Word::Aspect)),
-            Token(TokenKind::Name),
-            Nonterminal(Part::Block),
-            Act(Action::Item(ItemAction::Aspect)),
-        ],
-    },
 ];
 
-pub static PRODUCTION: [SpecRule; 1] = [Rule {
+pub(crate) static PRODUCTION: [SpecRule; 1] = [Rule {
     kinds: &[TokenKind::Name],
     right: &[
         Token(TokenKind::Name),

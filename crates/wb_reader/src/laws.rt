@@ -1,4 +1,4 @@
-//! A law of readings.
+//! A law of the definitions: what it says is proved, and there is nothing to run.
 
 ghost use Rattle.wb_reader.specs.OneAnswer.{HasOneAnswer};
 

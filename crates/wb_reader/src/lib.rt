@@ -1,11 +1,9 @@
-//! Specifications, read exactly from bytes.
+//! Which specification are these bytes, or why are they none?
+//!
+//! A table decides by one token of lookahead, so nothing recurses; regular expressions are read after all else. What is read so far is
+//! in `wb_builder`, what a specification is in `wb_syntax`.
 #![tactic(auto)]
 
-mod acting;
-mod build_expressions;
-mod build_items;
-mod build_parts;
-mod builder;
 mod expression_rules;
 mod first_fault;
 mod format;

@@ -1,4 +1,4 @@
-//! The rules of kinds, flow types, children and equations.
+//! Which rules have kinds, flow types, children and equations?
 //!
 //! ```text
 //! kind     = 'int' | 'bool' | 'text' | NAME
@@ -13,12 +13,13 @@
 //! value    = expression ';'
 //! ```
 
-use crate::part::{Action, Part, PartAction, SpecRule};
+use crate::part::{Part, SpecRule};
+use wb_builder::{Action, PartAction};
 use wb_predictive::Rule;
 use wb_predictive::Symbol::{Act, Nonterminal, Token};
 use wb_tokens::{Punctuation, TokenKind, Word};
 
-pub static KIND: [SpecRule; 4] = [
+pub(crate) static KIND: [SpecRule; 4] = [
     Rule {
         kinds: &[TokenKind::Word(Word::Int)],
         right: &[
@@ -49,7 +50,7 @@ pub static KIND: [SpecRule; 4] = [
     },
 ];
 
-pub static OPTIONAL_NEEDS: [SpecRule; 2] = [
+pub(crate) static OPTIONAL_NEEDS: [SpecRule; 2] = [
     Rule {
         kinds: &[TokenKind::Mark(Punctuation::Semicolon)],
         right: &[Act(Action::Part(PartAction::NoNeeds))],
@@ -63,7 +64,7 @@ pub static OPTIONAL_NEEDS: [SpecRule; 2] = [
     },
 ];
 
-pub static NEEDS: [SpecRule; 1] = [Rule {
+pub(crate) static NEEDS: [SpecRule; 1] = [Rule {
     kinds: &[TokenKind::Word(Word::Needs)],
     right: &[
         Token(TokenKind::Word(Word::Needs)),
@@ -74,7 +75,7 @@ pub static NEEDS: [SpecRule; 1] = [Rule {
     ],
 }];
 
-pub static NAMES: [SpecRule; 2] = [
+pub(crate) static NAMES: [SpecRule; 2] = [
     Rule {
         kinds: &[TokenKind::Mark(Punctuation::CloseBrace)],
         right: &[],
@@ -89,7 +90,7 @@ pub static NAMES: [SpecRule; 2] = [
     },
 ];
 
-pub static FURTHER_NAMES: [SpecRule; 2] = [
+pub(crate) static FURTHER_NAMES: [SpecRule; 2] = [
     Rule {
         kinds: &[TokenKind::Mark(Punctuation::CloseBrace)],
         right: &[],
@@ -105,7 +106,7 @@ pub static FURTHER_NAMES: [SpecRule; 2] = [
     },
 ];
 
-pub static CHILDREN: [SpecRule; 2] = [
+pub(crate) static CHILDREN: [SpecRule; 2] = [
     Rule {
         kinds: &[TokenKind::Mark(Punctuation::OpenBrace)],
         right: &[],
@@ -122,7 +123,7 @@ pub static CHILDREN: [SpecRule; 2] = [
     },
 ];
 
-pub static BLOCK: [SpecRule; 1] = [Rule {
+pub(crate) static BLOCK: [SpecRule; 1] = [Rule {
     kinds: &[TokenKind::Mark(Punctuation::OpenBrace)],
     right: &[
         Token(TokenKind::Mark(Punctuation::OpenBrace)),
@@ -132,7 +133,7 @@ pub static BLOCK: [SpecRule; 1] = [Rule {
     ],
 }];
 
-pub static EQUATIONS: [SpecRule; 2] = [
+pub(crate) static EQUATIONS: [SpecRule; 2] = [
     Rule {
         kinds: &[TokenKind::Mark(Punctuation::CloseBrace)],
         right: &[],
@@ -149,7 +150,7 @@ pub static EQUATIONS: [SpecRule; 2] = [
     },
 ];
 
-pub static EQUATION: [SpecRule; 5] = [
+pub(crate) static EQUATION: [SpecRule; 5] = [
     Rule {
         kinds: &[TokenKind::Word(Word::Top)],
         right: &[
@@ -206,7 +207,7 @@ pub static EQUATION: [SpecRule; 5] = [
     },
 ];
 
-pub static VALUE: [SpecRule; 1] = [Rule {
+pub(crate) static VALUE: [SpecRule; 1] = [Rule {
     kinds: &[
         TokenKind::Word(Word::False),
         TokenKind::Word(Word::Forward),

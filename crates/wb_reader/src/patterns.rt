@@ -1,4 +1,6 @@
-//! How the regular expressions of a written specification are read.
+//! What do the regular expressions of a written specification say?
+//!
+//! They are read after all else, so that what isn't in the grammar is refused first.
 
 ghost use Rattle.std.specs.Prelude.{All, IfOk, IfErr};
 ghost use Rattle.std.specs.List.{AllZip};
@@ -55,8 +57,8 @@ fn read_item(alloc: Global, item: Item<WrittenPattern>) -> Result<Item<Pattern>,
     Ok(Item { offset, form })
 }
 
-/// The items with their regular expressions read, or the refusal of the first that isn't taken.
-pub fn read_items(
+// The items with their regular expressions read, or the refusal of the first that isn't taken.
+pub(crate) fn read_items(
     alloc: Global,
     items: Vec<Item<WrittenPattern>>,
 ) -> Result<Vec<Item<Pattern>>, SpecRefusal>

@@ -1,3 +1,7 @@
+//! Why are bytes no specification that is taken?
+//!
+//! The causes have one order, and the first that holds is the refusal. When each holds is in `specs/Refusals.antt`.
+
 use std::alloc::AllocError;
 use wb_base::Bytes;
 

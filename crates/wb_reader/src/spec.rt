@@ -1,4 +1,6 @@
-//! Specifications, from their bytes.
+//! Which specification are these bytes?
+//!
+//! The steps come in the order of their refusals, and each is in a file of its own.
 
 ghost use Rattle.std.specs.Prelude.{◌≡◌, IfOk, IfErr};
 ghost use Rattle.wb_syntax.specs.SpecText.{SpecView};
@@ -9,11 +11,8 @@ use crate::patterns::read_items;
 use crate::refusal::SpecRefusal;
 use crate::written::read_written;
 use std::alloc::Global;
-use wb_base::Sequence;
+use wb_base::{FILE_LIMIT, Sequence};
 use wb_syntax::Spec;
-
-/// The most bytes that a specification may have.
-const LIMIT: usize = 1_048_576;
 
 /// The specification that the bytes are.
 ///
@@ -25,7 +24,7 @@ pub fn read_spec(alloc: Global, bytes: &[u8]) -> Result<Spec, SpecRefusal>
     ensures only { IfOk result (λ spec. (other : SpecView) → IsAcceptedText bytes.now other → other ≡ spec) }
     ensures refused { IfErr result (HasCause bytes.now) }
 {
-    if bytes.len() > LIMIT {
+    if bytes.len() > FILE_LIMIT {
         return Err(SpecRefusal::TooLong);
     }
     if is_other_format(alloc, bytes)? {

@@ -1,27 +1,30 @@
-//! How a specification is read: its tokens, its rules, and what each makes of its parts.
+//! How is a specification read?
+//!
+//! By a table of `wb_predictive`, of the rules of this crate and of what `wb_builder` makes of tokens and actions.
 
 ghost use Rattle.std.specs.Prelude.{◌≡◌, OnOk};
-ghost use Rattle.wb_reader.specs.Inner.Entries.{spec_entries};
-ghost use Rattle.wb_reader.specs.Inner.Table.{spec_grammar, word_shift, act};
+ghost use Rattle.wb_reader.specs.Inner.LookaheadTable.{lookahead_table};
+ghost use Rattle.wb_builder.specs.Items.{word_shift};
+ghost use Rattle.wb_builder.specs.Actions.{act};
+ghost use Rattle.wb_reader.specs.Inner.Table.{spec_grammar};
 ghost use Rattle.wb_reader.specs.Inner.Laws.{spec_decided, spec_ends};
 ghost use Rattle.wb_tokens.proofs.KindLaws.{kinds_same, kinds_sampled};
 ghost use Rattle.wb_tokens.specs.NextToken.{IsNextIn};
 ghost use Rattle.wb_tokens.proofs.PlacedLaws.{one_next, advances};
 
-use crate::acting::{act, shift_word};
-use crate::builder::SpecBuilder;
 use crate::expression_rules::{ARGUMENTS, EXPRESSION, FURTHER_ARGUMENTS, INTEGER, READ, TAIL};
 use crate::item_rules::{FILE, HEADER, ITEM, ITEMS, PRODUCTION};
-use crate::part::{Action, Part};
+use crate::part::Part;
 use crate::part_rules::{
     BLOCK, CHILDREN, EQUATION, EQUATIONS, FURTHER_NAMES, KIND, NAMES, NEEDS, OPTIONAL_NEEDS, VALUE,
 };
 use std::alloc::{AllocError, Global};
+use wb_builder::{Action, SpecBuilder, act};
 use wb_predictive::{Next, Rule, Table};
 use wb_tokens::{Layout, Token, TokenKind, next_token};
 
-/// The table of specifications.
-pub struct SpecTable;
+// The table of specifications.
+pub(crate) struct SpecTable;
 
 impl Table for SpecTable {
     type Kind = TokenKind;
@@ -41,7 +44,7 @@ impl Table for SpecTable {
 
     ghost end_kind = { End };
 
-    ghost entries = { spec_entries };
+    ghost entries = { lookahead_table };
 
     ghost IsNext = { IsNextIn WithComments };
 
@@ -69,7 +72,7 @@ impl Table for SpecTable {
         token.kind()
     }
 
-    #[tactic(auto, unfolding(crate::specs::Inner::Rights::spec_rights, crate::specs::Inner::Entries::spec_entries))]
+    #[tactic(auto, unfolding(crate::specs::Inner::RightSides::right_sides, crate::specs::Inner::LookaheadTable::lookahead_table))]
     fn rules(&self, part: Part) -> &[Rule<'_, TokenKind, Part, Action>] {
         match part {
             Part::File => &FILE,
@@ -110,7 +113,7 @@ impl Table for SpecTable {
     ) -> Result<(), AllocError> {
         match token {
             Token::Name(name) => values.read_name(name, at),
-            Token::Word(word) => shift_word(word, at, values),
+            Token::Word(word) => values.read_word(word, at),
             Token::Int(value) => values.read_integer(value),
             Token::Text(text) => values.read_text(text),
             Token::Regex(body) => values.read_pattern(body, at),

@@ -1,24 +1,26 @@
-//! What bytes are written as, before their regular expressions are read.
+//! What are bytes written as, before their regular expressions are read?
+//!
+//! The table reads them, and what it leaves behind is the written specification.
 
 ghost use Rattle.std.specs.Prelude.{◌≡◌, IfOk, IfErr};
 ghost use Rattle.wb_syntax.specs.SpecText.{IsWrittenText};
 ghost use Rattle.wb_reader.specs.Inner.Patterns.{OnSyntax};
 
-use crate::builder::SpecBuilder;
 use crate::refusal::SpecRefusal;
 use crate::table::SpecTable;
 use std::alloc::Global;
+use wb_builder::SpecBuilder;
 use wb_predictive::{Outcome, read_all};
 use wb_syntax::WrittenSpec;
 
-/// The specification that bytes are written as. The refusals are `Syntax` and want of memory.
-pub fn read_written(alloc: Global, bytes: &[u8]) -> Result<WrittenSpec, SpecRefusal>
+// The specification that bytes are written as. The refusals are `Syntax` and want of memory.
+pub(crate) fn read_written(alloc: Global, bytes: &[u8]) -> Result<WrittenSpec, SpecRefusal>
     ensures ok { IfOk result (λ spec. IsWrittenText bytes.now spec) }
     ensures refused { IfErr result (OnSyntax bytes.now) }
 {
     let parts = SpecBuilder::new(alloc);
     match read_all(alloc, &SpecTable, bytes, parts)? {
-        Outcome::Whole(parts) => Ok(parts.into_written()),
+        Outcome::Whole(mut parts) => Ok(parts.take_written(alloc)),
         Outcome::Stopped { at } => Err(SpecRefusal::Syntax(at)),
     }
 }

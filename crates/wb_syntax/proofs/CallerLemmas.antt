@@ -44,19 +44,22 @@ item_whole xs one (item.aspect {u = u} {equations = es} h i s) = equations_whole
 
 items_whole : (xs : List Lexeme) (items : List (Item WrittenPattern)) → AreItems xs items → All HasWholeEquations items
 items_whole xs items item.nothing = All-nil HasWholeEquations
-items_whole xs items (item.next {u = u} {v = v} {item = one} {rest = rest} h s k) = All-cons HasWholeEquations one rest (item_whole u one h) (items_whole v rest s)
+items_whole xs items (item.next {u = u} {v = v} {item = one} {rest = rest} h s k) =
+    All-cons HasWholeEquations one rest (item_whole u one h) (items_whole v rest s)
 
 spec_whole : (xs : List Lexeme) (written : WrittenSpec) → IsSpecification xs written → All HasWholeEquations written.items
 spec_whole xs written (item.whole {v = v} {items = items} h i j k r q g) = items_whole v items q
 
 -- a form that is read has the equations and the names of the one that is written
-pub read_equations : (written : ItemForm WrittenPattern) (form : ItemForm Pattern) → IsReadForm written form → equations_of form ≡ equations_of written
+pub read_equations : (written : ItemForm WrittenPattern) (form : ItemForm Pattern) → IsReadForm written form
+    → equations_of form ≡ equations_of written
 read_equations (f.Lexical role name pattern) form e = ap equations_of e.2
 read_equations (f.Plain plain) form e = ap equations_of e
 read_equations (f.Production role production) form e = ap equations_of e
 read_equations (f.Aspect name equations) form e = ap equations_of e
 
-read_names : (written : ItemForm WrittenPattern) (form : ItemForm Pattern) → IsReadForm written form → FormHasNames written → FormHasNames form
+read_names : (written : ItemForm WrittenPattern) (form : ItemForm Pattern) → IsReadForm written form → FormHasNames written
+    → FormHasNames form
 read_names (f.Lexical role name pattern) form e h = subst FormHasNames (sym e.2) h
 read_names (f.Plain plain) form e h = subst FormHasNames (sym e) h
 read_names (f.Production role production) form e h = subst FormHasNames (sym e) h
@@ -68,13 +71,15 @@ carried : {A B : Type 0} (R : A → B → Type 0) (P : A → Type 0) (Q : B → 
 carried R P Q gives [] [] all each = All-nil Q
 carried R P Q gives [] (y ∷ ys) all each = absurd all
 carried R P Q gives (x ∷ xs) [] all each = absurd all
-carried R P Q gives (x ∷ xs) (y ∷ ys) all each = All-cons Q y ys (gives x y all.0 (All-head P x xs each)) (carried R P Q gives xs ys all.1 (All-tail P x xs each))
+carried R P Q gives (x ∷ xs) (y ∷ ys) all each =
+    All-cons Q y ys (gives x y all.0 (All-head P x xs each)) (carried R P Q gives xs ys all.1 (All-tail P x xs each))
 
 -- each name in a specification that some text has is a name
 pub text_names : (spec : SpecView) → HasText spec → HasNames spec
 text_names spec text =
     let r = text.2 in
-    let w = written_names r.text.tokens r.written r.text.specification (spelled WithComments text.0 0 r.text.tokens r.text.to r.text.spelled) in
+    let w = written_names r.text.tokens r.written r.text.specification
+    (spelled WithComments text.0 0 r.text.tokens r.text.to r.text.spelled) in
     record {
       name = subst IsNamed (sym r.read.name) w.name;
       header = subst (λ h. All IsNamed (header_names h)) (sym r.read.header) w.header;
@@ -86,5 +91,6 @@ text_names spec text =
 pub text_whole : (spec : SpecView) → HasText spec → All HasWholeEquations spec.items
 text_whole spec text =
     let r = text.2 in
-    carried IsReadAs HasWholeEquations HasWholeEquations (λ x y e h. subst (All IsWholeEquation) (sym (read_equations x.form y.form e.form)) h)
+    carried IsReadAs HasWholeEquations HasWholeEquations
+    (λ x y e h. subst (All IsWholeEquation) (sym (read_equations x.form y.form e.form)) h)
     r.written.items spec.items r.read.items (spec_whole r.text.tokens r.written r.text.specification)

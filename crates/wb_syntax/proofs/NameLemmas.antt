@@ -19,19 +19,19 @@ use Rattle.wb_syntax.specs.ExpressionGrammar.{IsExpression, AreArguments, AreFur
 use Rattle.wb_syntax.specs.PartGrammar as part
 use Rattle.wb_syntax.specs.PartGrammar.{IsKind, AreFurtherNames, AreNames, AreNeeds, AreOptionalNeeds, AreChildren, IsTarget, AreEquations, IsBlock}
 use Rattle.wb_syntax.specs.ItemGrammar as item
-use Rattle.wb_syntax.specs.ItemGrammar.{IsProduction, IsPlain, IsItem, AreItems, IsHeader, IsSpecification}
+use Rattle.wb_syntax.specs.Fields.{Field, AreFields, no_field, then_word, then_mark, then_name, then_kind, then_needs, then_optional_needs}
+use Rattle.wb_syntax.specs.ItemGrammar.{IsProduction, IsItem, AreItems, IsHeader, IsSpecification}
 use Rattle.wb_syntax.specs.Tokens.{Lexeme, IsName}
 use Rattle.wb_syntax.specs.declared.expression.Equation.{Equation}
 use Rattle.wb_syntax.specs.declared.expression.Target.{Target}
 use Rattle.wb_syntax.specs.declared.header.Header.{Header}
 use Rattle.wb_syntax.specs.declared.item.Item.{Item}
-use Rattle.wb_syntax.specs.declared.item.PlainForm.{PlainForm}
 use Rattle.wb_syntax.specs.declared.pattern.WrittenPattern.{WrittenPattern}
 use Rattle.wb_syntax.specs.declared.production.Child.{Child}
 use Rattle.wb_syntax.specs.declared.production.NamedKind.{NamedKind}
 use Rattle.wb_syntax.specs.declared.production.Production.{Production}
 use Rattle.wb_syntax.specs.declared.written.WrittenSpec.{WrittenSpec}
-use Rattle.wb_syntax.specs.Names.{node_names, target_names, EquationHasNames, kind_names, child_names, ProductionHasNames, needs_names, plain_names, FormHasNames, header_names}
+use Rattle.wb_syntax.specs.Names.{node_names, target_names, EquationHasNames, kind_names, child_names, ProductionHasNames, needs_names, fields_names, FormHasNames, header_names}
 
 -- where the token is a name, it is one
 abbrev IsNameToken : Token → Type 0
@@ -52,7 +52,8 @@ spelled_token (t.Regex body) bytes s = tt
 spelled_token (t.Punctuation mark) bytes s = tt
 
 -- the tokens that a text spells
-pub spelled : (layout : Layout) (bytes : List ℕ) (from : ℕ) (xs : List Lexeme) (to : ℕ) → Spells (IsNextIn layout bytes) from xs to → AreNamed xs
+pub spelled : (layout : Layout) (bytes : List ℕ) (from : ℕ) (xs : List Lexeme) (to : ℕ) → Spells (IsNextIn layout bytes) from xs to
+    → AreNamed xs
 spelled layout bytes from xs to (spells_none e) = All-nil (λ x. IsNameToken x.token)
 spelled layout bytes from xs to (spells_next {x = x} {xs = rest} h s) =
     All-cons (λ y. IsNameToken y.token) x rest (spelled_token x.token _ h.stands.spelled) (spelled layout bytes x.end rest to s)
@@ -100,8 +101,10 @@ mutual
   expression_names xs z at (e.fails h) all = one_node (n.Bool false) (All-nil IsNamed)
   expression_names xs z at (e.label {x = x} {l = l} h) all = one_node (n.Label l) (one_name l (named x l h (first x [] all)))
   expression_names xs z at (e.read {x = x} {d = d} {y = y} {l = l} {a = a} h i j) all =
-      one_node (n.Read l a) (two_names l a (named x l h (first x (d ∷ y ∷ []) all)) (named y a j (first y [] (others d (y ∷ []) (others x (d ∷ y ∷ []) all)))))
-  expression_names xs z at (e.lexeme {x = x} {d = d} {y = y} {l = l} h i j) all = one_node (n.Lexeme l) (one_name l (named x l h (first x (d ∷ y ∷ []) all)))
+      one_node (n.Read l a) (two_names l a (named x l h (first x (d ∷ y ∷ []) all)) (named y a j
+      (first y [] (others d (y ∷ []) (others x (d ∷ y ∷ []) all)))))
+  expression_names xs z at (e.lexeme {x = x} {d = d} {y = y} {l = l} h i j) all =
+      one_node (n.Lexeme l) (one_name l (named x l h (first x (d ∷ y ∷ []) all)))
   expression_names xs z at (e.top {x = x} {d = d} {y = y} {a = a} h i j) all =
       one_node (n.Top a) (one_name a (named y a j (first y [] (others d (y ∷ []) (others x (d ∷ y ∷ []) all)))))
   expression_names xs z at (e.forward {x = x} {d = d} {y = y} {a = a} h i j) all =
@@ -123,20 +126,24 @@ mutual
       let two = expression_names v m (at + size c) k (left v (w ∷ x) rest) in
       let three = expression_names x o (at + size c + size m) r (others w x (right v (w ∷ x) rest)) in
       both (nodes_from at c ++ nodes_from (at + size c) m ++ nodes_from (at + size c + size m) o) _
-      (both (nodes_from at c ++ nodes_from (at + size c) m) (nodes_from (at + size c + size m) o) (both (nodes_from at c) (nodes_from (at + size c) m) one two) three)
+      (both (nodes_from at c ++ nodes_from (at + size c) m) (nodes_from (at + size c + size m) o)
+      (both (nodes_from at c) (nodes_from (at + size c) m) one two) three)
       (one_node _ (All-nil IsNamed))
 
-  arguments_names : (xs : List Lexeme) (es : Expressions) (at : ℕ) → AreArguments xs es → AreNamed xs → NodesHaveNames (all_nodes_from at es)
+  arguments_names : (xs : List Lexeme) (es : Expressions) (at : ℕ) → AreArguments xs es → AreNamed xs
+      → NodesHaveNames (all_nodes_from at es)
   arguments_names xs es at e.nothing all = All-nil (λ x. All IsNamed (node_names x))
   arguments_names xs es at (e.some {u = u} {v = v} {e = z} {es = zs} h s k) all =
       let whole = subst AreNamed k all in
-      both (nodes_from at z) (all_nodes_from (at + size z) zs) (expression_names u z at h (left u v whole)) (further_names v zs (at + size z) s (right u v whole))
+      both (nodes_from at z) (all_nodes_from (at + size z) zs) (expression_names u z at h (left u v whole))
+      (further_names v zs (at + size z) s (right u v whole))
 
   further_names : (xs : List Lexeme) (es : Expressions) (at : ℕ) → AreFurther xs es → AreNamed xs → NodesHaveNames (all_nodes_from at es)
   further_names xs es at e.no_more all = All-nil (λ x. All IsNamed (node_names x))
   further_names xs es at (e.next {c = c} {u = y} {v = v} {e = z} {es = zs} j h s k) all =
       let whole = others c (y ++ v) (subst AreNamed k all) in
-      both (nodes_from at z) (all_nodes_from (at + size z) zs) (expression_names y z at h (left y v whole)) (further_names v zs (at + size z) s (right y v whole))
+      both (nodes_from at z) (all_nodes_from (at + size z) zs) (expression_names y z at h (left y v whole))
+      (further_names v zs (at + size z) s (right y v whole))
 
 -- a kind
 kind_of_names : (xs : List Lexeme) (kind : NamedKind) → IsKind xs kind → AreNamed xs → All IsNamed (kind_names kind)
@@ -164,7 +171,8 @@ needs_listed xs ns s all =
     listed s.listed ns s.are_names (left s.listed (s.close_brace ∷ [])
     (others s.open_brace (s.listed ++ s.close_brace ∷ []) (others s.needs (s.open_brace ∷ (s.listed ++ s.close_brace ∷ [])) whole)))
 
-optional_listed : (xs : List Lexeme) (needs : Option (List (List ℕ))) → AreOptionalNeeds xs needs → AreNamed xs → All IsNamed (needs_names needs)
+optional_listed : (xs : List Lexeme) (needs : Option (List (List ℕ))) → AreOptionalNeeds xs needs → AreNamed xs
+    → All IsNamed (needs_names needs)
 optional_listed xs needs part.absent all = All-nil IsNamed
 optional_listed xs needs (part.written {names = ns} s) all = needs_listed xs ns s all
 
@@ -183,7 +191,8 @@ target_listed : (xs : List Lexeme) (target : Target) → IsTarget xs target → 
 target_listed xs target (part.top {x = x} {d = d} {y = y} {e = q} {a = a} h i j k) all =
     one_name a (named y a j (first y (q ∷ []) (others d (y ∷ q ∷ []) (others x (d ∷ y ∷ q ∷ []) all))))
 target_listed xs target (part.label {x = x} {d = d} {y = y} {e = q} {l = l} {a = a} h i j k) all =
-    two_names l a (named x l h (first x (d ∷ y ∷ q ∷ []) all)) (named y a j (first y (q ∷ []) (others d (y ∷ q ∷ []) (others x (d ∷ y ∷ q ∷ []) all))))
+    two_names l a (named x l h (first x (d ∷ y ∷ q ∷ []) all))
+    (named y a j (first y (q ∷ []) (others d (y ∷ q ∷ []) (others x (d ∷ y ∷ q ∷ []) all))))
 target_listed xs target (part.forward {x = x} {d = d} {y = y} {e = q} {a = a} h i j k) all =
     one_name a (named y a j (first y (q ∷ []) (others d (y ∷ q ∷ []) (others x (d ∷ y ∷ q ∷ []) all))))
 target_listed xs target (part.local {x = x} {l = l} {c = c} {n = m} {e = q} {label = label} {nonterminal = nonterminal} h i j k r) all =
@@ -199,16 +208,21 @@ equations_listed xs es (part.next {x = x} s {u = u} {v = v} {r = r} {target = ta
     let whole : AreNamed ((x ∷ u) ++ (v ++ s ∷ r)) = subst AreNamed (k ∙ ap (λ (y : List Lexeme). x ∷ y) (append_assoc u v (s ∷ r))) all in
     let inner = right (x ∷ u) (v ++ s ∷ r) whole in
     All-cons EquationHasNames (record { offset = x.at; target = target; nodes = nodes_of z }) rest
-    (record { target = target_listed (x ∷ u) target h (left (x ∷ u) (v ++ s ∷ r) whole); nodes = expression_names v z 0 i (left v (s ∷ r) inner) })
+    (record {
+      target = target_listed (x ∷ u) target h (left (x ∷ u) (v ++ s ∷ r) whole);
+      nodes = expression_names v z 0 i (left v (s ∷ r) inner);
+    })
     (equations_listed r rest q (others s r (right v (s ∷ r) inner)))
 
 block_listed : (xs : List Lexeme) (es : List Equation) → IsBlock xs es → AreNamed xs → All EquationHasNames es
 block_listed xs es s all =
     let whole = subst AreNamed s.whole all in
-    equations_listed s.inner es s.are_equations (left s.inner (s.close_brace ∷ []) (others s.open_brace (s.inner ++ s.close_brace ∷ []) whole))
+    equations_listed s.inner es s.are_equations
+    (left s.inner (s.close_brace ∷ []) (others s.open_brace (s.inner ++ s.close_brace ∷ []) whole))
 
 production_listed : (xs : List Lexeme) (q : Production) → IsProduction xs q → AreNamed xs → ProductionHasNames q
-production_listed xs q (item.whole {n = m} {c = c} {l = l} {b = b} {u = u} {v = v} {name = name} {left = on_left} {children = cs} {equations = es} h i j k s o g) all =
+production_listed xs q (item.whole {n = m} {c = c} {l = l} {b = b} {u = u} {v = v} {name = name} {left = on_left} {children = cs}
+    {equations = es} h i j k s o g) all =
     let whole = subst AreNamed g all in
     let one = others m (c ∷ l ∷ b ∷ (u ++ v)) whole in
     let two = others c (l ∷ b ∷ (u ++ v)) one in
@@ -220,51 +234,52 @@ production_listed xs q (item.whole {n = m} {c = c} {l = l} {b = b} {u = u} {v = 
       equations = block_listed v es o (right u v inner);
     }
 
--- an item of names alone
-plain_listed : (xs : List Lexeme) (form : PlainForm) → IsPlain xs form → AreNamed xs → All IsNamed (plain_names form)
-plain_listed xs form (item.prefer {x = x} {a = a} {o = o} {b = b} {s = s} {first = one} {second = two} h i j k l) all =
-    let rest = others x (a ∷ o ∷ b ∷ s ∷ []) all in
-    two_names one two (named a one i (first a (o ∷ b ∷ s ∷ []) rest)) (named b two k (first b (s ∷ []) (others o (b ∷ s ∷ []) (others a (o ∷ b ∷ s ∷ []) rest))))
-plain_listed xs form (item.nonterminal {x = x} {n = m} {s = s} {name = name} h i j) all = one_name name (named m name i (first m (s ∷ []) (others x (m ∷ s ∷ []) all)))
-plain_listed xs form (item.start {x = x} {n = m} {s = s} {name = name} h i j) all = one_name name (named m name i (first m (s ∷ []) (others x (m ∷ s ∷ []) all)))
-plain_listed xs form (item.extensible {x = x} {n = m} {s = s} {name = name} h i j) all = one_name name (named m name i (first m (s ∷ []) (others x (m ∷ s ∷ []) all)))
-plain_listed xs form (item.synthesized {x = x} {n = m} {c = c} s {u = u} {name = name} {kind = kind} h i j k l g) all =
-    let rest = others x (m ∷ c ∷ (u ++ s ∷ [])) (subst AreNamed g all) in
-    All-cons IsNamed name (kind_names kind) (named m name i (first m (c ∷ (u ++ s ∷ [])) rest))
-    (kind_of_names u kind k (left u (s ∷ []) (others c (u ++ s ∷ []) (others m (c ∷ (u ++ s ∷ [])) rest))))
-plain_listed xs form (item.inherited {x = x} {n = m} {c = c} s {u = u} {name = name} {kind = kind} h i j k l g) all =
-    let rest = others x (m ∷ c ∷ (u ++ s ∷ [])) (subst AreNamed g all) in
-    All-cons IsNamed name (kind_names kind) (named m name i (first m (c ∷ (u ++ s ∷ [])) rest))
-    (kind_of_names u kind k (left u (s ∷ []) (others c (u ++ s ∷ []) (others m (c ∷ (u ++ s ∷ [])) rest))))
-plain_listed xs form (item.occurs {x = x} {a = a} {o = o} {n = m} s {u = u} {attribute = attribute} {nonterminal = nonterminal} {needs = needs} h i j k l q g) all =
-    let rest = others x (a ∷ o ∷ m ∷ (u ++ s ∷ [])) (subst AreNamed g all) in
-    let behind = others o (m ∷ (u ++ s ∷ [])) (others a (o ∷ m ∷ (u ++ s ∷ [])) rest) in
-    All-cons IsNamed attribute (nonterminal ∷ needs_names needs) (named a attribute i (first a (o ∷ m ∷ (u ++ s ∷ [])) rest))
-    (All-cons IsNamed nonterminal (needs_names needs) (named m nonterminal k (first m (u ++ s ∷ []) behind))
-    (optional_listed u needs l (left u (s ∷ []) (others m (u ++ s ∷ []) behind))))
-plain_listed xs form (item.forward_on {x = x} {o = o} {n = m} s {u = u} {nonterminal = nonterminal} {needs = needs} h i j k l g) all =
-    let rest = others o (m ∷ (u ++ s ∷ [])) (others x (o ∷ m ∷ (u ++ s ∷ [])) (subst AreNamed g all)) in
-    All-cons IsNamed nonterminal needs (named m nonterminal j (first m (u ++ s ∷ []) rest)) (needs_listed u needs k (left u (s ∷ []) (others m (u ++ s ∷ []) rest)))
+-- fields
+fields_listed : (xs : List Lexeme) (fields : List Field) → AreFields xs fields → AreNamed xs → All IsNamed (fields_names fields)
+fields_listed xs fields no_field all = All-nil IsNamed
+fields_listed xs fields (then_word {x = x} {v = v} {rest = rest} h s) all = fields_listed v rest s (others x v all)
+fields_listed xs fields (then_mark {x = x} {v = v} {rest = rest} h s) all = fields_listed v rest s (others x v all)
+fields_listed xs fields (then_name {x = x} {v = v} {value = one} {rest = rest} h s) all =
+    All-cons IsNamed one (fields_names rest) (named x one h (first x v all)) (fields_listed v rest s (others x v all))
+fields_listed xs fields (then_kind {u = u} {v = v} {value = its} {rest = rest} h s e) all =
+    let whole = subst AreNamed e all in
+    All-append IsNamed (kind_names its) (fields_names rest) (kind_of_names u its h (left u v whole))
+    (fields_listed v rest s (right u v whole))
+fields_listed xs fields (then_needs {u = u} {v = v} {value = its} {rest = rest} h s e) all =
+    let whole = subst AreNamed e all in
+    All-append IsNamed its (fields_names rest) (needs_listed u its h (left u v whole)) (fields_listed v rest s (right u v whole))
+fields_listed xs fields (then_optional_needs {u = u} {v = v} {value = its} {rest = rest} h s e) all =
+    let whole = subst AreNamed e all in
+    All-append IsNamed (needs_names its) (fields_names rest) (optional_listed u its h (left u v whole))
+    (fields_listed v rest s (right u v whole))
 
 -- an item, and items
 item_listed : (xs : List Lexeme) (one : Item WrittenPattern) → IsItem xs one → AreNamed xs → FormHasNames one.form
-item_listed xs one (item.lexical {x = x} {n = m} {y = y} {s = s} {name = name} h i j k) all = named m name i (first m (y ∷ s ∷ []) (others x (m ∷ y ∷ s ∷ []) all))
-item_listed xs one (item.plain {form = form} h) all = plain_listed xs form h all
+item_listed xs one (item.lexical {x = x} {n = m} {y = y} {s = s} {name = name} h i j k) all =
+    named m name i (first m (y ∷ s ∷ []) (others x (m ∷ y ∷ s ∷ []) all))
+item_listed xs one (item.plain {form = form} h) all = fields_listed xs (item.plain_fields form) h all
 item_listed xs one (item.production {x = x} {u = u} {production = q} h s) all = production_listed u q s (others x u all)
 item_listed xs one (item.aspect {x = x} {n = m} {u = u} {name = name} {equations = es} h i s) all =
     let rest = others x (m ∷ u) all in (named m name i (first m u rest), block_listed u es s (others m u rest))
 
-items_listed : (xs : List Lexeme) (items : List (Item WrittenPattern)) → AreItems xs items → AreNamed xs → All (λ (one : Item WrittenPattern). FormHasNames one.form) items
+items_listed : (xs : List Lexeme) (items : List (Item WrittenPattern)) → AreItems xs items → AreNamed xs
+    → All (λ (one : Item WrittenPattern). FormHasNames one.form) items
 items_listed xs items item.nothing all = All-nil (λ (one : Item WrittenPattern). FormHasNames one.form)
 items_listed xs items (item.next {u = u} {v = v} {item = one} {rest = rest} h s k) all =
     let whole = subst AreNamed k all in
-    All-cons (λ (x : Item WrittenPattern). FormHasNames x.form) one rest (item_listed u one h (left u v whole)) (items_listed v rest s (right u v whole))
+    All-cons (λ (x : Item WrittenPattern). FormHasNames x.form) one rest (item_listed u one h (left u v whole))
+    (items_listed v rest s (right u v whole))
 
-header_listed : (xs : List Lexeme) (name : List ℕ) (header : Header) → IsHeader xs name header → AreNamed xs → IsNamed name × All IsNamed (header_names header)
-header_listed xs name header (item.host {o = o} {x = x} {b = b} h i j) all = (named x name i (first x (b ∷ []) (others o (x ∷ b ∷ []) all)), All-nil IsNamed)
+header_listed : (xs : List Lexeme) (name : List ℕ) (header : Header) → IsHeader xs name header → AreNamed xs
+    → IsNamed name × All IsNamed (header_names header)
+header_listed xs name header (item.host {o = o} {x = x} {b = b} h i j) all =
+    (named x name i (first x (b ∷ []) (others o (x ∷ b ∷ []) all)), All-nil IsNamed)
 header_listed xs name header (item.extension {e = q} {x = x} {o = o} {y = y} {b = b} {host_name = host_name} h i j k l) all =
-    let rest = others q (x ∷ o ∷ y ∷ b ∷ []) all in
-    (named x name i (first x (o ∷ y ∷ b ∷ []) rest), one_name host_name (named y host_name k (first y (b ∷ []) (others o (y ∷ b ∷ []) (others x (o ∷ y ∷ b ∷ []) rest)))))
+    let rest = others q (x ∷ o ∷ y ∷ b ∷ []) all in (
+      named x name i (first x (o ∷ y ∷ b ∷ []) rest),
+      one_name host_name
+          (named y host_name k (first y (b ∷ []) (others o (y ∷ b ∷ []) (others x (o ∷ y ∷ b ∷ []) rest)))),
+    )
 
 -- what a specification's names are
 pub record WrittenHasNames (written : WrittenSpec) : Type 0 where
@@ -273,7 +288,8 @@ pub record WrittenHasNames (written : WrittenSpec) : Type 0 where
   pub items : All (λ (one : Item WrittenPattern). FormHasNames one.form) written.items
 
 pub written_names : (xs : List Lexeme) (written : WrittenSpec) → IsSpecification xs written → AreNamed xs → WrittenHasNames written
-written_names xs written (item.whole {f = f} {n = m} {s = s} {u = u} {v = v} {name = name} {header = header} {items = items} h i j k r q g) all =
+written_names xs written (item.whole {f = f} {n = m} {s = s} {u = u} {v = v} {name = name} {header = header}
+    {items = items} h i j k r q g) all =
     let inner = others s (u ++ v) (others m (s ∷ (u ++ v)) (others f (m ∷ s ∷ (u ++ v)) (subst AreNamed g all))) in
     let head = header_listed u name header r (left u v inner) in
     record { name = head.0; header = head.1; items = items_listed v items q (right u v inner) }

@@ -14,7 +14,7 @@ use Rattle.wb_syntax.specs.ItemGrammar.{IsItem, IsHeader}
 use Rattle.wb_syntax.specs.SpecText.{SpecView, IsReadAs}
 use Rattle.wb_syntax.specs.Offsets.{unplaced}
 
--- a token as it is printed: a regular expression keeps its bytes, an integer is decimal without leading zeros, and a string is as values are printed
+-- a token as it is printed: a regular expression keeps its bytes, an integer is decimal without leading zeros, a string is as values are printed
 abbrev pub printed : Token → List ℕ
 printed (t.Name text) = text
 printed (t.Word word) = word_text word
@@ -62,7 +62,8 @@ pub record IsItemLine (item : Item Pattern) (text : List ℕ) : Type 0 where
 -- the lines of items, each ended by LF
 pub data AreItemLines : List (Item Pattern) → List ℕ → Type 0 where
   nothing : AreItemLines [] []
-  next : {item : Item Pattern} {rest : List (Item Pattern)} {line text whole : List ℕ} → IsItemLine item line → AreItemLines rest text → whole ≡ line ++ 10 ∷ text
+  next : {item : Item Pattern} {rest : List (Item Pattern)} {line text whole : List ℕ} → IsItemLine item line → AreItemLines rest text
+      → whole ≡ line ++ 10 ∷ text
       → AreItemLines (item ∷ rest) whole
 
 -- the line that tells the format

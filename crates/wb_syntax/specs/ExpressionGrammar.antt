@@ -29,14 +29,16 @@ mutual
         → IsMark p.OpenParenthesis o → AreArguments u es → IsMark p.CloseParenthesis c → v ≡ a ∷ x ∷ o ∷ (u ++ c ∷ [])
         → IsExpression v (Call name es)
     -- 'if' expr 'then' expr 'else' expr
-    if_then : {i : Lexeme} (t e : Lexeme) {u v x y : List Lexeme} {condition one other : Expression} → IsWord w.If i → IsExpression u condition
+    if_then : {i : Lexeme} (t e : Lexeme) {u v x y : List Lexeme} {condition one other : Expression} → IsWord w.If i
+        → IsExpression u condition
         → IsWord w.Then t → IsExpression v one → IsWord w.Else e → IsExpression x other → y ≡ i ∷ (u ++ t ∷ (v ++ e ∷ x))
         → IsExpression y (If condition one other)
 
   -- the tokens are these expressions with commas between them, or nothing
   pub data AreArguments : List Lexeme → Expressions → Type 0 where
     nothing : AreArguments [] none
-    some : {u v x : List Lexeme} {e : Expression} {es : Expressions} → IsExpression u e → AreFurther v es → x ≡ u ++ v → AreArguments x (more e es)
+    some : {u v x : List Lexeme} {e : Expression} {es : Expressions} → IsExpression u e → AreFurther v es → x ≡ u ++ v
+        → AreArguments x (more e es)
 
   -- the tokens are these expressions with a comma before each
   pub data AreFurther : List Lexeme → Expressions → Type 0 where

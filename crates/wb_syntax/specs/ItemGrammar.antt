@@ -1,8 +1,7 @@
 -- Which tokens are which items, and which are a specification.
-use Rattle.std.specs.Prelude.{◌≡◌, ℕ, pos, List, [], ◌∷◌, ◌++◌, Option}
+use Rattle.std.specs.Prelude.{◌≡◌, ℕ, pos, List, [], ◌∷◌, ◌++◌}
 use Rattle.wb_tokens.specs.declared.word.Word.TheVariants as w
 use Rattle.wb_tokens.specs.declared.punctuation.Punctuation.TheVariants as p
-use Rattle.wb_syntax.specs.declared.production.NamedKind.{NamedKind}
 use Rattle.wb_syntax.specs.declared.production.Child.{Child}
 use Rattle.wb_syntax.specs.declared.production.Production.{Production}
 use Rattle.wb_syntax.specs.declared.production.ProductionRole.{ProductionRole}
@@ -19,7 +18,9 @@ use Rattle.wb_syntax.specs.declared.header.Header.{Header}
 use Rattle.wb_syntax.specs.declared.header.Header.TheVariants as h
 use Rattle.wb_syntax.specs.declared.written.WrittenSpec.{WrittenSpec}
 use Rattle.wb_syntax.specs.Tokens.{Lexeme, IsWord, IsMark, IsName, IsInt, IsRegex}
-use Rattle.wb_syntax.specs.PartGrammar.{IsKind, AreNeeds, AreOptionalNeeds, AreChildren, IsBlock}
+use Rattle.wb_syntax.specs.PartGrammar.{AreChildren, IsBlock}
+use Rattle.wb_syntax.specs.Fields.{Field, AreFields}
+use Rattle.wb_syntax.specs.Fields as field
 
 -- the word with which an item with a regular expression begins: 'terminal', 'ignore' or 'marking'
 abbrev pub IsRole : Role → Lexeme → Type 0
@@ -38,29 +39,24 @@ pub data IsProduction : List Lexeme → Production → Type 0 where
       → IsMark p.Colon c → IsName left l → IsMark p.Becomes b → AreChildren u children → IsBlock v equations → x ≡ n ∷ c ∷ l ∷ b ∷ (u ++ v)
       → IsProduction x (record { name = name; left = left; children = children; equations = equations })
 
+-- the fields of an item of names alone, as they are written
+abbrev pub plain_fields : PlainForm → List Field
+plain_fields (i.Prefer first second) =
+    field.word w.Prefer ∷ field.name first ∷ field.word w.Over ∷ field.name second ∷ field.mark p.Semicolon ∷ []
+plain_fields (i.Nonterminal one) = field.word w.Nonterminal ∷ field.name one ∷ field.mark p.Semicolon ∷ []
+plain_fields (i.Start one) = field.word w.Start ∷ field.name one ∷ field.mark p.Semicolon ∷ []
+plain_fields (i.Extensible one) = field.word w.Extensible ∷ field.name one ∷ field.mark p.Semicolon ∷ []
+plain_fields (i.Synthesized one its) = field.word w.Syn ∷ field.name one ∷ field.mark p.Colon ∷ field.kind its ∷ field.mark p.Semicolon ∷ []
+plain_fields (i.Inherited one its) = field.word w.Inh ∷ field.name one ∷ field.mark p.Colon ∷ field.kind its ∷ field.mark p.Semicolon ∷ []
+plain_fields (i.Occurs attribute nonterminal its) =
+    field.word w.Occurs ∷ field.name attribute ∷ field.word w.On ∷ field.name nonterminal ∷ field.optional_needs its
+    ∷ field.mark p.Semicolon ∷ []
+plain_fields (i.ForwardOn nonterminal its) =
+    field.word w.Forward ∷ field.word w.On ∷ field.name nonterminal ∷ field.needs its ∷ field.mark p.Semicolon ∷ []
+
 -- the tokens are this item of names alone
-pub data IsPlain : List Lexeme → PlainForm → Type 0 where
-  -- 'prefer' NAME 'over' NAME ';'
-  prefer : {x a o b s : Lexeme} {first second : List ℕ} → IsWord w.Prefer x → IsName first a → IsWord w.Over o → IsName second b
-      → IsMark p.Semicolon s → IsPlain (x ∷ a ∷ o ∷ b ∷ s ∷ []) (i.Prefer first second)
-  -- 'nonterminal' NAME ';' | 'start' NAME ';' | 'extensible' NAME ';'
-  nonterminal : {x n s : Lexeme} {name : List ℕ} → IsWord w.Nonterminal x → IsName name n → IsMark p.Semicolon s
-      → IsPlain (x ∷ n ∷ s ∷ []) (i.Nonterminal name)
-  start : {x n s : Lexeme} {name : List ℕ} → IsWord w.Start x → IsName name n → IsMark p.Semicolon s → IsPlain (x ∷ n ∷ s ∷ []) (i.Start name)
-  extensible : {x n s : Lexeme} {name : List ℕ} → IsWord w.Extensible x → IsName name n → IsMark p.Semicolon s
-      → IsPlain (x ∷ n ∷ s ∷ []) (i.Extensible name)
-  -- 'syn' NAME ':' kind ';' | 'inh' NAME ':' kind ';'
-  synthesized : {x n c : Lexeme} (s : Lexeme) {u v : List Lexeme} {name : List ℕ} {kind : NamedKind} → IsWord w.Syn x → IsName name n
-      → IsMark p.Colon c → IsKind u kind → IsMark p.Semicolon s → v ≡ x ∷ n ∷ c ∷ (u ++ s ∷ []) → IsPlain v (i.Synthesized name kind)
-  inherited : {x n c : Lexeme} (s : Lexeme) {u v : List Lexeme} {name : List ℕ} {kind : NamedKind} → IsWord w.Inh x → IsName name n
-      → IsMark p.Colon c → IsKind u kind → IsMark p.Semicolon s → v ≡ x ∷ n ∷ c ∷ (u ++ s ∷ []) → IsPlain v (i.Inherited name kind)
-  -- 'occurs' NAME 'on' NAME [needs] ';'
-  occurs : {x a o n : Lexeme} (s : Lexeme) {u v : List Lexeme} {attribute nonterminal : List ℕ} {needs : Option (List (List ℕ))} → IsWord w.Occurs x
-      → IsName attribute a → IsWord w.On o → IsName nonterminal n → AreOptionalNeeds u needs → IsMark p.Semicolon s
-      → v ≡ x ∷ a ∷ o ∷ n ∷ (u ++ s ∷ []) → IsPlain v (i.Occurs attribute nonterminal needs)
-  -- 'forward' 'on' NAME needs ';'
-  forward_on : {x o n : Lexeme} (s : Lexeme) {u v : List Lexeme} {nonterminal : List ℕ} {needs : List (List ℕ)} → IsWord w.Forward x → IsWord w.On o
-      → IsName nonterminal n → AreNeeds u needs → IsMark p.Semicolon s → v ≡ x ∷ o ∷ n ∷ (u ++ s ∷ []) → IsPlain v (i.ForwardOn nonterminal needs)
+abbrev pub IsPlain : List Lexeme → PlainForm → Type 0
+IsPlain tokens form = AreFields tokens (plain_fields form)
 
 -- the tokens are this item, which has the place of its first token
 pub data IsItem : List Lexeme → Item WrittenPattern → Type 0 where
@@ -68,18 +64,22 @@ pub data IsItem : List Lexeme → Item WrittenPattern → Type 0 where
   lexical : {x n y s : Lexeme} {role : Role} {name bytes : List ℕ} → IsRole role x → IsName name n → IsRegex bytes y → IsMark p.Semicolon s
       → IsItem (x ∷ n ∷ y ∷ s ∷ []) (record { offset = x.at; form = f.Lexical role name (record { bytes = bytes; at = y.at }) })
   -- names alone
-  plain : {x : Lexeme} {u : List Lexeme} {form : PlainForm} → IsPlain (x ∷ u) form → IsItem (x ∷ u) (record { offset = x.at; form = f.Plain form })
+  plain : {x : Lexeme} {u : List Lexeme} {form : PlainForm} → IsPlain (x ∷ u) form
+      → IsItem (x ∷ u) (record { offset = x.at; form = f.Plain form })
   -- 'concrete' NAME ':' NAME '::=' child* block | 'abstract' NAME ':' NAME '::=' child* block
-  production : {x : Lexeme} {u : List Lexeme} {role : ProductionRole} {production : Production} → IsProductionRole role x → IsProduction u production
+  production : {x : Lexeme} {u : List Lexeme} {role : ProductionRole} {production : Production} → IsProductionRole role x
+      → IsProduction u production
       → IsItem (x ∷ u) (record { offset = x.at; form = f.Production role production })
   -- 'aspect' NAME block
-  aspect : {x n : Lexeme} {u : List Lexeme} {name : List ℕ} {equations : List Equation} → IsWord w.Aspect x → IsName name n → IsBlock u equations
+  aspect : {x n : Lexeme} {u : List Lexeme} {name : List ℕ} {equations : List Equation} → IsWord w.Aspect x → IsName name n
+      → IsBlock u equations
       → IsItem (x ∷ n ∷ u) (record { offset = x.at; form = f.Aspect name equations })
 
 -- item*
 pub data AreItems : List Lexeme → List (Item WrittenPattern) → Type 0 where
   nothing : AreItems [] []
-  next : {u v x : List Lexeme} {item : Item WrittenPattern} {rest : List (Item WrittenPattern)} → IsItem u item → AreItems v rest → x ≡ u ++ v
+  next : {u v x : List Lexeme} {item : Item WrittenPattern} {rest : List (Item WrittenPattern)} → IsItem u item → AreItems v rest
+      → x ≡ u ++ v
       → AreItems x (item ∷ rest)
 
 -- header = 'host' NAME ';' | 'extension' NAME 'for' NAME ';': the specification's name, and whether it is a host or an extension of which
@@ -94,6 +94,7 @@ IsFormat format = format ≡ 1
 
 -- spec = 'format' INT ';' header item*, where the INT is the number of its format
 pub data IsSpecification : List Lexeme → WrittenSpec → Type 0 where
-  whole : {f n s : Lexeme} {u v x : List Lexeme} {format : ℕ} {name : List ℕ} {header : Header} {items : List (Item WrittenPattern)} → IsWord w.Format f
+  whole : {f n s : Lexeme} {u v x : List Lexeme} {format : ℕ} {name : List ℕ} {header : Header} {items : List (Item WrittenPattern)}
+      → IsWord w.Format f
       → IsFormat format → IsInt (pos format) n → IsMark p.Semicolon s → IsHeader u name header → AreItems v items → x ≡ f ∷ n ∷ s ∷ (u ++ v)
       → IsSpecification x (record { format = format; name = name; header = header; items = items })

@@ -6,6 +6,8 @@ pub mod Expression
 pub mod ExpressionGrammar
 -- which tokens are which kinds, needs, children and equations
 pub mod PartGrammar
+-- which tokens are which fields of an item
+pub mod Fields
 -- which tokens are which items, headers and specifications
 pub mod ItemGrammar
 -- which bytes are which specification

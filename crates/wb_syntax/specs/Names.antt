@@ -1,5 +1,5 @@
 -- That each name in a specification is a name: an identifier that isn't reserved.
-use Rattle.std.specs.Prelude.{ℕ, List, [], ◌∷◌, Option, Some, None, All}
+use Rattle.std.specs.Prelude.{ℕ, List, [], ◌∷◌, ◌++◌, Option, Some, None, All}
 use Rattle.wb_base.specs.Identifiers.{IsName}
 use Rattle.wb_expressions.specs.declared.node.Node.TheVariants as n
 use Rattle.wb_syntax.specs.Expression.{Node}
@@ -12,11 +12,13 @@ use Rattle.wb_syntax.specs.declared.item.Item.{Item}
 use Rattle.wb_syntax.specs.declared.item.ItemForm.{ItemForm}
 use Rattle.wb_syntax.specs.declared.item.ItemForm.TheVariants as f
 use Rattle.wb_syntax.specs.declared.item.PlainForm.{PlainForm}
-use Rattle.wb_syntax.specs.declared.item.PlainForm.TheVariants as i
 use Rattle.wb_syntax.specs.declared.production.Child.{Child}
 use Rattle.wb_syntax.specs.declared.production.NamedKind.{NamedKind}
 use Rattle.wb_syntax.specs.declared.production.NamedKind.TheVariants as k
 use Rattle.wb_syntax.specs.declared.production.Production.{Production}
+use Rattle.wb_syntax.specs.Fields.{Field}
+use Rattle.wb_syntax.specs.Fields as field
+use Rattle.wb_syntax.specs.ItemGrammar.{plain_fields}
 use Rattle.wb_syntax.specs.SpecText.{SpecView}
 
 -- the names in a node
@@ -69,16 +71,23 @@ abbrev pub needs_names : Option (List (List ℕ)) → List (List ℕ)
 needs_names None = []
 needs_names (Some names) = names
 
+-- the names in a field
+abbrev pub field_names : Field → List (List ℕ)
+field_names (field.word value) = []
+field_names (field.mark value) = []
+field_names (field.name value) = value ∷ []
+field_names (field.kind value) = kind_names value
+field_names (field.needs value) = value
+field_names (field.optional_needs value) = needs_names value
+
+-- the names in fields, in their order
+abbrev pub fields_names : List Field → List (List ℕ)
+fields_names [] = []
+fields_names (first ∷ rest) = field_names first ++ fields_names rest
+
 -- the names in an item of names alone
 abbrev pub plain_names : PlainForm → List (List ℕ)
-plain_names (i.Prefer first second) = first ∷ second ∷ []
-plain_names (i.Nonterminal name) = name ∷ []
-plain_names (i.Start name) = name ∷ []
-plain_names (i.Extensible name) = name ∷ []
-plain_names (i.Synthesized name kind) = name ∷ kind_names kind
-plain_names (i.Inherited name kind) = name ∷ kind_names kind
-plain_names (i.Occurs attribute nonterminal needs) = attribute ∷ nonterminal ∷ needs_names needs
-plain_names (i.ForwardOn nonterminal needs) = nonterminal ∷ needs
+plain_names form = fields_names (plain_fields form)
 
 -- the names in an item are names
 abbrev pub FormHasNames : {P : Type 0} → ItemForm P → Type 0

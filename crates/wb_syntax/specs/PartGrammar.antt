@@ -57,11 +57,14 @@ pub data AreChildren : List Lexeme → List Child → Type 0 where
 -- what stands before the expression of an equation
 pub data IsTarget : List Lexeme → Target → Type 0 where
   -- 'top' '.' NAME '='
-  top : {x d y e : Lexeme} {a : List ℕ} → IsWord word.Top x → IsMark p.Dot d → IsName a y → IsMark p.Equals e → IsTarget (x ∷ d ∷ y ∷ e ∷ []) (g.Top a)
+  top : {x d y e : Lexeme} {a : List ℕ} → IsWord word.Top x → IsMark p.Dot d → IsName a y → IsMark p.Equals e
+      → IsTarget (x ∷ d ∷ y ∷ e ∷ []) (g.Top a)
   -- NAME '.' NAME '='
-  label : {x d y e : Lexeme} {l a : List ℕ} → IsName l x → IsMark p.Dot d → IsName a y → IsMark p.Equals e → IsTarget (x ∷ d ∷ y ∷ e ∷ []) (g.Label l a)
+  label : {x d y e : Lexeme} {l a : List ℕ} → IsName l x → IsMark p.Dot d → IsName a y → IsMark p.Equals e
+      → IsTarget (x ∷ d ∷ y ∷ e ∷ []) (g.Label l a)
   -- 'forward' '.' NAME '='
-  forward : {x d y e : Lexeme} {a : List ℕ} → IsWord word.Forward x → IsMark p.Dot d → IsName a y → IsMark p.Equals e → IsTarget (x ∷ d ∷ y ∷ e ∷ []) (g.Forward a)
+  forward : {x d y e : Lexeme} {a : List ℕ} → IsWord word.Forward x → IsMark p.Dot d → IsName a y → IsMark p.Equals e
+      → IsTarget (x ∷ d ∷ y ∷ e ∷ []) (g.Forward a)
   -- 'local' NAME ':' NAME '='
   local : {x l c n e : Lexeme} {label nonterminal : List ℕ} → IsWord word.Local x → IsName label l → IsMark p.Colon c → IsName nonterminal n
       → IsMark p.Equals e → IsTarget (x ∷ l ∷ c ∷ n ∷ e ∷ []) (g.Local label nonterminal)
@@ -71,7 +74,8 @@ pub data IsTarget : List Lexeme → Target → Type 0 where
 -- equation*, where each is a target with an expression and ';'. An equation has the place of its first token
 pub data AreEquations : List Lexeme → List Equation → Type 0 where
   nothing : AreEquations [] []
-  next : {x : Lexeme} (s : Lexeme) {u v r y : List Lexeme} {target : Target} {e : Expression} {rest : List Equation} → IsTarget (x ∷ u) target
+  next : {x : Lexeme} (s : Lexeme) {u v r y : List Lexeme} {target : Target} {e : Expression} {rest : List Equation}
+      → IsTarget (x ∷ u) target
       → IsExpression v e → IsMark p.Semicolon s → AreEquations r rest → y ≡ x ∷ (u ++ v ++ s ∷ r)
       → AreEquations y (record { offset = x.at; target = target; nodes = nodes_of e } ∷ rest)
 

@@ -30,7 +30,8 @@ abbrev mutual
   expression_tokens (Build production parts) =
       t.Name production ∷ t.Punctuation p.OpenParenthesis ∷ (arguments_tokens parts ++ t.Punctuation p.CloseParenthesis ∷ [])
   expression_tokens (Call operation parts) =
-      t.Punctuation p.At ∷ t.Name operation ∷ t.Punctuation p.OpenParenthesis ∷ (arguments_tokens parts ++ t.Punctuation p.CloseParenthesis ∷ [])
+      t.Punctuation p.At ∷ t.Name operation ∷ t.Punctuation p.OpenParenthesis
+      ∷ (arguments_tokens parts ++ t.Punctuation p.CloseParenthesis ∷ [])
   expression_tokens (If condition holds fails) =
       t.Word w.If ∷ (expression_tokens condition ++ t.Word w.Then ∷ (expression_tokens holds ++ t.Word w.Else ∷ expression_tokens fails))
 

@@ -11,7 +11,6 @@ use Rattle.wb_syntax.specs.declared.item.Item.{Item}
 use Rattle.wb_syntax.specs.declared.item.ItemForm.{ItemForm}
 use Rattle.wb_syntax.specs.declared.item.ItemForm.TheVariants as f
 use Rattle.wb_syntax.specs.declared.item.PlainForm.{PlainForm}
-use Rattle.wb_syntax.specs.declared.item.PlainForm.TheVariants as i
 use Rattle.wb_syntax.specs.declared.pattern.Pattern.{Pattern}
 use Rattle.wb_syntax.specs.declared.pattern.Role.{Role}
 use Rattle.wb_syntax.specs.declared.pattern.Role.TheVariants as r
@@ -20,6 +19,9 @@ use Rattle.wb_syntax.specs.declared.production.Production.{Production}
 use Rattle.wb_syntax.specs.declared.production.ProductionRole.{ProductionRole}
 use Rattle.wb_syntax.specs.declared.production.ProductionRole.TheVariants as k
 use Rattle.wb_syntax.specs.Equations.{equations_of}
+use Rattle.wb_syntax.specs.Fields.{Field}
+use Rattle.wb_syntax.specs.Fields as field
+use Rattle.wb_syntax.specs.ItemGrammar.{plain_fields}
 use Rattle.wb_printer.specs.Inner.PartTokens.{AreEquationTokens, block_tokens, children_tokens, kind_token, needs_tokens, optional_needs_tokens}
 
 -- a production, whose equations have these tokens
@@ -54,18 +56,23 @@ abbrev pub production_word : ProductionRole → Word
 production_word k.Concrete = w.Concrete
 production_word k.Abstract = w.Abstract
 
+-- a field
+abbrev pub field_tokens : Field → List Token
+field_tokens (field.word value) = t.Word value ∷ []
+field_tokens (field.mark value) = t.Punctuation value ∷ []
+field_tokens (field.name value) = t.Name value ∷ []
+field_tokens (field.kind value) = kind_token value ∷ []
+field_tokens (field.needs value) = needs_tokens value
+field_tokens (field.optional_needs value) = optional_needs_tokens value
+
+-- fields, one after another
+abbrev pub fields_tokens : List Field → List Token
+fields_tokens [] = []
+fields_tokens (first ∷ rest) = field_tokens first ++ fields_tokens rest
+
 -- an item of names alone
 abbrev pub plain_tokens : PlainForm → List Token
-plain_tokens (i.Prefer first second) = pair_tokens w.Prefer first w.Over second
-plain_tokens (i.Nonterminal name) = named w.Nonterminal name
-plain_tokens (i.Start name) = named w.Start name
-plain_tokens (i.Extensible name) = named w.Extensible name
-plain_tokens (i.Synthesized name kind) = attribute_tokens w.Syn name kind
-plain_tokens (i.Inherited name kind) = attribute_tokens w.Inh name kind
-plain_tokens (i.Occurs attribute nonterminal needs) =
-    t.Word w.Occurs ∷ t.Name attribute ∷ t.Word w.On ∷ t.Name nonterminal ∷ (optional_needs_tokens needs ++ t.Punctuation p.Semicolon ∷ [])
-plain_tokens (i.ForwardOn nonterminal needs) =
-    t.Word w.Forward ∷ t.Word w.On ∷ t.Name nonterminal ∷ (needs_tokens needs ++ t.Punctuation p.Semicolon ∷ [])
+plain_tokens form = fields_tokens (plain_fields form)
 
 -- an item of this form, whose equations have these tokens
 abbrev pub form_tokens : ItemForm Pattern → List Token → List Token
@@ -83,7 +90,8 @@ pub record AreItemTokens (item : Item Pattern) (tokens : List Token) : Type 0 wh
 -- each line has the tokens of its item
 pub data AreLinesOf : List (Item Pattern) → List (List Token) → Type 0 where
   nothing : AreLinesOf [] []
-  next : {item : Item Pattern} {rest : List (Item Pattern)} {tokens : List Token} {lines : List (List Token)} → AreItemTokens item tokens → AreLinesOf rest lines
+  next : {item : Item Pattern} {rest : List (Item Pattern)} {tokens : List Token} {lines : List (List Token)} → AreItemTokens item tokens
+      → AreLinesOf rest lines
       → AreLinesOf (item ∷ rest) (tokens ∷ lines)
 
 -- the tokens of the header, where the specification has this name

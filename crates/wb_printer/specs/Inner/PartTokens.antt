@@ -57,8 +57,10 @@ target_tokens g.ForwardsTo = t.Word w.Forwards ∷ t.Word w.To ∷ []
 -- the tokens are these equations
 pub data AreEquationTokens : List Equation → List Token → Type 0 where
   nothing : AreEquationTokens [] []
-  next : {equation : Equation} (e : Expression) {rest : List Equation} {tokens whole : List Token} → equation.nodes ≡ nodes_of e → AreEquationTokens rest tokens
-      → whole ≡ target_tokens equation.target ++ (expression_tokens e ++ t.Punctuation p.Semicolon ∷ tokens) → AreEquationTokens (equation ∷ rest) whole
+  next : {equation : Equation} (e : Expression) {rest : List Equation} {tokens whole : List Token} → equation.nodes ≡ nodes_of e
+      → AreEquationTokens rest tokens
+      → whole ≡ target_tokens equation.target ++ (expression_tokens e ++ t.Punctuation p.Semicolon ∷ tokens)
+      → AreEquationTokens (equation ∷ rest) whole
 
 -- equations with their braces
 abbrev pub block_tokens : List Token → List Token

@@ -28,7 +28,8 @@ left_tokens false es = further_tokens es
 abbrev pub Comes : List Node → Waiting → List Token → ℕ → Type 0
 Comes nodes (Whole place) tokens count = (e : Expression) × Stands nodes place e × (tokens ≡ expression_tokens e) × (count ≡ size e)
 Comes nodes (Arguments first places) tokens count =
-    (es : Expressions) × AllStand nodes places.now es × (tokens ≡ left_tokens first es ++ t.Punctuation p.CloseParenthesis ∷ []) × (count ≡ size_of_all es)
+    (es : Expressions) × AllStand nodes places.now es × (tokens ≡ left_tokens first es ++ t.Punctuation p.CloseParenthesis ∷ [])
+    × (count ≡ size_of_all es)
 Comes nodes (Then holds fails) tokens count =
     (one : Expression) × (other : Expression) × Stands nodes holds one × Stands nodes fails other
     × (tokens ≡ t.Word w.Then ∷ (expression_tokens one ++ t.Word w.Else ∷ expression_tokens other)) × (count ≡ size one + size other)
@@ -39,13 +40,15 @@ Comes nodes (Else fails) tokens count =
 abbrev pub AreToCome : List Node → List Waiting → List Token → ℕ → Type 0
 AreToCome nodes [] tokens count = (tokens ≡ []) × (count ≡ 0)
 AreToCome nodes (first ∷ rest) tokens count =
-    (a : List Token) × (b : List Token) × (c : ℕ) × (d : ℕ) × Comes nodes first a c × AreToCome nodes rest b d × (tokens ≡ a ++ b) × (count ≡ c + d)
+    (a : List Token) × (b : List Token) × (c : ℕ) × (d : ℕ) × Comes nodes first a c × AreToCome nodes rest b d × (tokens ≡ a ++ b)
+    × (count ≡ c + d)
 
 -- what was to come then is what is put since and is to come now, but for this many nodes
 abbrev pub Continues : List Node → Output → List Waiting → Output → List Waiting → ℕ → Type 0
 Continues nodes before then_waiting behind waiting visited =
     (tokens : List Token) (count : ℕ) → AreToCome nodes then_waiting tokens count
-    → (more : List Token) × (left : ℕ) × AreToCome nodes waiting more left × (left + visited ≡ count) × (after behind more ≡ after before tokens)
+    → (more : List Token) × (left : ℕ) × AreToCome nodes waiting more left × (left + visited ≡ count)
+    × (after behind more ≡ after before tokens)
 
 -- the whole at this place and what is to come behind it are what is left of the expression, of which this many nodes were visited
 abbrev pub IsVisiting : List Node → Output → Output → ℕ → List Waiting → ℕ → Expression → Type 0

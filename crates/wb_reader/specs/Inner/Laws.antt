@@ -5,12 +5,12 @@ use Rattle.wb_predictive.specs.Kinds.{is_member}
 use Rattle.wb_tokens.specs.declared.kind.TokenKind.TheVariants.{End}
 use Rattle.wb_tokens.specs.Inner.SameKind.{same_kind}
 use Rattle.wb_reader.specs.declared.part.Part.{Part}
-use Rattle.wb_reader.specs.Inner.Entries.{spec_entries}
-use Rattle.wb_reader.specs.Inner.Rights.{spec_rights}
+use Rattle.wb_reader.specs.Inner.LookaheadTable.{lookahead_table}
+use Rattle.wb_reader.specs.Inner.RightSides.{right_sides}
 
 -- one token of lookahead decides
-pub spec_decided : (n : Part) → is_decided same_kind End spec_entries spec_rights n ≡ true
-unfolding spec_rights spec_entries
+pub spec_decided : (n : Part) → is_decided same_kind End lookahead_table right_sides n ≡ true
+unfolding right_sides lookahead_table
 spec_decided Part.File = refl
 spec_decided Part.Header = refl
 spec_decided Part.Items = refl
@@ -34,6 +34,6 @@ spec_decided Part.FurtherArguments = refl
 spec_decided Part.Integer = refl
 
 -- the end can follow a specification
-pub spec_ends : is_member same_kind End (spec_entries Part.File).follow ≡ true
-unfolding spec_entries
+pub spec_ends : is_member same_kind End (lookahead_table Part.File).follow ≡ true
+unfolding lookahead_table
 spec_ends = refl

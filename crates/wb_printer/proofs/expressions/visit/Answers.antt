@@ -32,44 +32,63 @@ returns-in-Bool c = on_ok_weaker c.write_truth.result
 
 pub returns-in-Label : goal.returns-in-Label
 returns-in-Label c = on_ok_weaker c.name.result
-    (λ puts nodes at h. leaf_of nodes at c.args.stack.now c.args.line.now _ (n.Label c.in-Label.label) (Label c.in-Label.label) (λ f q. q) refl
+    (λ puts nodes at h. leaf_of nodes at c.args.stack.now c.args.line.now _ (n.Label c.in-Label.label) (Label c.in-Label.label)
+    (λ f q. q) refl
     (puts ∙ ap (λ (l : List ℕ). put c.args.line.now (t.Name l)) c.as_slice-in-Label.ensures) c.args.node.now c.in-Label.is h) c.name.ensures
 
 pub returns-in-Read : goal.returns-in-Read
 returns-in-Read c = on_ok_weaker c.write_read.result
-    (λ puts nodes at h. leaf_of nodes at c.args.stack.now c.args.line.now _ (n.Read c.in-Read.label c.in-Read.attribute) (Read c.in-Read.label c.in-Read.attribute) (λ f q. q) refl
-    (puts ∙ (ap (λ (l : List ℕ). after c.args.line.now (dotted (t.Name l) (t.Name c.as_slice-in-Read-2.result.now))) c.as_slice-in-Read.ensures
-    ∙ ap (λ (l : List ℕ). after c.args.line.now (dotted (t.Name c.in-Read.label) (t.Name l))) c.as_slice-in-Read-2.ensures)) c.args.node.now c.in-Read.is h) c.write_read.ensures
+    (λ puts nodes at h. leaf_of nodes at c.args.stack.now c.args.line.now _ (n.Read c.in-Read.label c.in-Read.attribute)
+    (Read c.in-Read.label c.in-Read.attribute) (λ f q. q) refl
+    (puts ∙ (ap
+    (λ (l : List ℕ). after c.args.line.now (dotted (t.Name l) (t.Name c.as_slice-in-Read-2.result.now))) c.as_slice-in-Read.ensures
+    ∙ ap (λ (l : List ℕ). after c.args.line.now
+    (dotted (t.Name c.in-Read.label) (t.Name l))) c.as_slice-in-Read-2.ensures)) c.args.node.now c.in-Read.is h) c.write_read.ensures
 
 pub returns-in-Lexeme : goal.returns-in-Lexeme
 returns-in-Lexeme c = on_ok_weaker c.write_lexeme.result
-    (λ puts nodes at h. leaf_of nodes at c.args.stack.now c.args.line.now _ (n.Lexeme c.in-Lexeme.label) (Lexeme c.in-Lexeme.label) (λ f q. q) refl
-    (puts ∙ ap (λ (l : List ℕ). after c.args.line.now (dotted (t.Name l) (t.Word w.Lexeme))) c.as_slice-in-Lexeme.ensures) c.args.node.now c.in-Lexeme.is h) c.write_lexeme.ensures
+    (λ puts nodes at h. leaf_of nodes at c.args.stack.now c.args.line.now _ (n.Lexeme c.in-Lexeme.label) (Lexeme c.in-Lexeme.label)
+    (λ f q. q) refl
+    (puts ∙ ap
+    (λ (l : List ℕ). after c.args.line.now
+    (dotted (t.Name l) (t.Word w.Lexeme))) c.as_slice-in-Lexeme.ensures) c.args.node.now c.in-Lexeme.is h) c.write_lexeme.ensures
 
 pub returns-in-Top : goal.returns-in-Top
 returns-in-Top c = on_ok_weaker c.write_attribute.result
-    (λ puts nodes at h. leaf_of nodes at c.args.stack.now c.args.line.now _ (n.Top c.in-Top.attribute) (Top c.in-Top.attribute) (λ f q. q) refl
-    (puts ∙ ap (λ (l : List ℕ). after c.args.line.now (dotted (t.Word w.Top) (t.Name l))) c.as_slice-in-Top.ensures) c.args.node.now c.in-Top.is h) c.write_attribute.ensures
+    (λ puts nodes at h. leaf_of nodes at c.args.stack.now c.args.line.now _ (n.Top c.in-Top.attribute) (Top c.in-Top.attribute)
+    (λ f q. q) refl
+    (puts ∙ ap
+    (λ (l : List ℕ). after c.args.line.now
+    (dotted (t.Word w.Top) (t.Name l))) c.as_slice-in-Top.ensures) c.args.node.now c.in-Top.is h) c.write_attribute.ensures
 
 pub returns-in-Forward : goal.returns-in-Forward
 returns-in-Forward c = on_ok_weaker c.write_attribute-in-Forward.result
-    (λ puts nodes at h. leaf_of nodes at c.args.stack.now c.args.line.now _ (n.Forward c.in-Forward.attribute) (Forward c.in-Forward.attribute) (λ f q. q) refl
-    (puts ∙ ap (λ (l : List ℕ). after c.args.line.now (dotted (t.Word w.Forward) (t.Name l))) c.as_slice-in-Forward.ensures) c.args.node.now c.in-Forward.is h)
+    (λ puts nodes at h. leaf_of nodes at c.args.stack.now c.args.line.now _ (n.Forward c.in-Forward.attribute)
+    (Forward c.in-Forward.attribute) (λ f q. q) refl
+    (puts ∙ ap
+    (λ (l : List ℕ). after c.args.line.now
+    (dotted (t.Word w.Forward) (t.Name l))) c.as_slice-in-Forward.ensures) c.args.node.now c.in-Forward.is h)
     c.write_attribute-in-Forward.ensures
 
 pub returns-in-Build : goal.returns-in-Build
 returns-in-Build c = on_ok_weaker c.begin_arguments.result
-    (λ puts nodes at h. build_put nodes at c.in-Build.production c.in-Build.children _ c.args.stack.now _ c.args.line.now _ c.args.node.now c.in-Build.is puts.1
+    (λ puts nodes at h.
+    build_put nodes at c.in-Build.production c.in-Build.children _ c.args.stack.now _ c.args.line.now _ c.args.node.now c.in-Build.is puts.1
     (λ es all. (es, subst (λ (l : List ℕ). AllStand nodes l es) (sym c.as_slice-in-Build-2.ensures) all, refl, refl))
-    (puts.0 ∙ ap (λ (l : List ℕ). after c.args.line.now (t.Name l ∷ t.Punctuation p.OpenParenthesis ∷ [])) c.as_slice-in-Build.ensures) h) c.begin_arguments.ensures
+    (puts.0 ∙ ap (λ (l : List ℕ). after c.args.line.now (t.Name l ∷ t.Punctuation p.OpenParenthesis
+    ∷ [])) c.as_slice-in-Build.ensures) h) c.begin_arguments.ensures
 
 pub returns-in_ok-mark-in-Call : goal.returns-in_ok-mark-in-Call
 returns-in_ok-mark-in-Call c = on_ok_weaker c.begin_arguments-in-Call.result
-    (λ puts nodes at h. call_put nodes at c.in-Call.operation c.in-Call.arguments _ c.args.stack.now _ c.args.line.now _ c.args.node.now c.in-Call.is puts.1
+    (λ puts nodes at h.
+    call_put nodes at c.in-Call.operation c.in-Call.arguments _ c.args.stack.now _ c.args.line.now _ c.args.node.now c.in-Call.is puts.1
     (λ es all. (es, subst (λ (l : List ℕ). AllStand nodes l es) (sym c.as_slice-in-Call-2.ensures) all, refl, refl))
     (puts.0 ∙ (ap (λ (l : List ℕ). after c.mark.new.self (t.Name l ∷ t.Punctuation p.OpenParenthesis ∷ [])) c.as_slice-in-Call.ensures
-    ∙ ap (λ (o : Output). after o (t.Name c.in-Call.operation ∷ t.Punctuation p.OpenParenthesis ∷ [])) c.in_ok-mark-in-Call.ensures)) h) c.begin_arguments-in-Call.ensures
+    ∙ ap (λ (o : Output). after o (t.Name c.in-Call.operation ∷ t.Punctuation p.OpenParenthesis
+    ∷ [])) c.in_ok-mark-in-Call.ensures)) h) c.begin_arguments-in-Call.ensures
 
 pub returns-in-If : goal.returns-in-If
 returns-in-If c = on_ok_weaker c.begin_if.result
-    (λ puts nodes at h. if_put nodes at c.in-If.condition c.in-If.holds c.in-If.fails c.args.stack.now _ c.args.line.now _ c.args.node.now c.in-If.is puts.1 puts.0 h) c.begin_if.ensures
+    (λ puts nodes at h.
+    if_put nodes at c.in-If.condition c.in-If.holds c.in-If.fails c.args.stack.now _ c.args.line.now _ c.args.node.now c.in-If.is puts.1
+    puts.0 h) c.begin_if.ensures

@@ -12,20 +12,28 @@ overflow_sub-place c = omega (arith, (whole_stands c.args.nodes.now c.requires.0
 pub visits-init : goal.visits-init
 visits-init c = λ e q.
     let s = whole_stands c.args.nodes.now e q in
-    subst (λ (l : List Waiting). IsVisiting c.args.nodes.now c.args.line.now c.args.line.now (length c.args.nodes.now - 1) l 0 e) (sym c.new-stack.ensures)
+    subst (λ (l : List Waiting). IsVisiting c.args.nodes.now c.args.line.now c.args.line.now (length c.args.nodes.now - 1) l 0 e)
+    (sym c.new-stack.ensures)
     (visit_first c.args.nodes.now e c.args.line.now (length c.args.nodes.now - 1) s.0 s.1)
 
 pub returns-in_default : goal.returns-in_default
 returns-in_default c = λ e q.
-    let within = (visit_within c.args.nodes.now e c.args.line.now c.visits.line c.visits.place c.visits.stack c.visits._visited (c.visits.invariant e q)).0 in
+    let within =
+    (visit_within c.args.nodes.now e c.args.line.now c.visits.line c.visits.place c.visits.stack c.visits._visited
+    (c.visits.invariant e q)).0 in
     let k = rw c.in_default.is at (c.in_ok-next.ensures c.args.nodes.now) in
-    visit_last c.args.nodes.now e c.args.line.now c.visits.line c.visit.new.line c.next_whole.new.line c.visits.place c.visits.stack c.visit.new.stack c.visits._visited
-    (c.visits.invariant e q) (c.in_ok-visit.ensures c.args.nodes.now c.visits.place (has_node c.args.nodes.now c.visits.place _ within c.index-nodes-place.is)) k
+    visit_last c.args.nodes.now e c.args.line.now c.visits.line c.visit.new.line c.next_whole.new.line c.visits.place c.visits.stack
+    c.visit.new.stack c.visits._visited
+    (c.visits.invariant e q)
+    (c.in_ok-visit.ensures c.args.nodes.now c.visits.place (has_node c.args.nodes.now c.visits.place _ within c.index-nodes-place.is)) k
 
 pub visits-preserved : goal.visits-preserved
 visits-preserved c = λ e q.
-    let within = (visit_within c.args.nodes.now e c.args.line.now c.visits.line c.visits.place c.visits.stack c.visits._visited (c.visits.invariant e q)).0 in
+    let within =
+    (visit_within c.args.nodes.now e c.args.line.now c.visits.line c.visits.place c.visits.stack c.visits._visited
+    (c.visits.invariant e q)).0 in
     let k = rw c.in-Some.is at (c.in_ok-next.ensures c.args.nodes.now) in
-    visit_next c.args.nodes.now e c.args.line.now c.visits.line c.visit.new.line c.next_whole.new.line c.visits.place c.in-Some.next c.visits.stack c.visit.new.stack
+    visit_next c.args.nodes.now e c.args.line.now c.visits.line c.visit.new.line c.next_whole.new.line c.visits.place c.in-Some.next
+    c.visits.stack c.visit.new.stack
     c.next_whole.new.stack c.visits._visited (c.visits.invariant e q)
     (c.in_ok-visit.ensures c.args.nodes.now c.visits.place (has_node c.args.nodes.now c.visits.place _ within c.index-nodes-place.is)) k

@@ -10,7 +10,9 @@ use Rattle.wb_printer.proofs.items.write_forward_on.Goals as goal
 
 pub returns : goal.returns
 returns c = on_ok_weaker c.mark.result
-    (λ puts. in_turn c.args.line.now c.name.new.self c.write_needs.new.line c.mark.new.self (t.Word w.Forward ∷ t.Word w.On ∷ t.Name c.args.nonterminal.now ∷ [])
+    (λ puts. in_turn c.args.line.now c.name.new.self c.write_needs.new.line c.mark.new.self
+    (t.Word w.Forward ∷ t.Word w.On ∷ t.Name c.args.nonterminal.now ∷ [])
     (needs_tokens c.args.needs.now) (t.Punctuation p.Semicolon ∷ [])
-    (c.in_ok-name.ensures ∙ ap (λ (o : Output). put o (t.Name c.args.nonterminal.now)) (c.in_ok-word-2.ensures ∙ ap (λ (o : Output). put o (t.Word w.On)) c.in_ok-word.ensures))
+    (c.in_ok-name.ensures ∙ ap (λ (o : Output). put o (t.Name c.args.nonterminal.now))
+    (c.in_ok-word-2.ensures ∙ ap (λ (o : Output). put o (t.Word w.On)) c.in_ok-word.ensures))
     c.in_ok-write_needs.ensures puts) c.mark.ensures

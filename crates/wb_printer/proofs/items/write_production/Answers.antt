@@ -10,11 +10,13 @@ use Rattle.wb_printer.proofs.items.write_production.Goals as goal
 
 pub returns : goal.returns
 returns c =
-    let front : c.mark-2.new.self ≡ after c.args.line.now (t.Word c.args.word ∷ t.Name c.args.production.now.name ∷ t.Punctuation p.Colon ∷ t.Name c.args.production.now.left
+    let front : c.mark-2.new.self ≡ after c.args.line.now
+    (t.Word c.args.word ∷ t.Name c.args.production.now.name ∷ t.Punctuation p.Colon ∷ t.Name c.args.production.now.left
     ∷ t.Punctuation p.Becomes ∷ []) = search rules in
     let middle : c.write_children.new.line ≡ after c.mark-2.new.self (children_tokens c.args.production.now.children) = search rules in
     on_ok_weaker c.write_block.result
     (λ puts tokens h. in_turn c.args.line.now c.mark-2.new.self c.write_children.new.line c.write_block.new.line
-    (t.Word c.args.word ∷ t.Name c.args.production.now.name ∷ t.Punctuation p.Colon ∷ t.Name c.args.production.now.left ∷ t.Punctuation p.Becomes ∷ [])
+    (t.Word c.args.word ∷ t.Name c.args.production.now.name ∷ t.Punctuation p.Colon ∷ t.Name c.args.production.now.left
+    ∷ t.Punctuation p.Becomes ∷ [])
     (children_tokens c.args.production.now.children) (block_tokens tokens) front middle
     (puts tokens (subst (λ (l : List Equation). AreEquationTokens l tokens) (sym c.as_slice-4.ensures) h))) c.write_block.ensures

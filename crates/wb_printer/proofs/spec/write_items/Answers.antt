@@ -12,8 +12,12 @@ write_item-requires c =
 pub items-preserved : goal.items-preserved
 items-preserved c = λ lines h.
     let k = c.items.invariant lines h in
-    let f = item_at c.args.items.now c.items.item-index c.item-item.result k.0 c.items-test.true c.item-item.is k.1 in
-    (f.1, f.3, ap (λ (o : Output). after_lines o f.1) (c.in_ok-end.ensures ∙ ap ended (c.in_ok-write_item.ensures f.0 f.2)) ∙ (ap (after_lines c.items.line) (sym f.4) ∙ k.2))
+    let f = item_at c.args.items.now c.items.item-index c.item-item.result k.0 c.items-test.true c.item-item.is k.1 in (
+      f.1,
+      f.3,
+      ap (λ (o : Output). after_lines o f.1) (c.in_ok-end.ensures ∙ ap ended (c.in_ok-write_item.ensures f.0 f.2))
+          ∙ (ap (after_lines c.items.line) (sym f.4) ∙ k.2),
+    )
 
 pub returns : goal.returns
 returns c = λ lines h.

@@ -19,15 +19,24 @@ read_items-requires c =
 
 pub returns-clause-only : goal.returns-clause-only
 returns-clause-only c = λ other text.
-    let read : AllZip IsReadAs c.in_ok-written.written.items c.in_ok-items.items.items = subst (λ items. AllZip IsReadAs items c.in_ok-items.items.items) c.into_vec.ensures c.in_ok-items.ensures.ok in
+    let read : AllZip IsReadAs c.in_ok-written.written.items c.in_ok-items.items.items =
+    subst (λ items. AllZip IsReadAs items c.in_ok-items.items.items) c.into_vec.ensures c.in_ok-items.ensures.ok in
     let made = read_text c.args.bytes.now c.in_ok-written.written c.in_ok-items.items.items c.in_ok-written.ensures.ok read in
-    let same : c.in_ok-spec.spec ≡ record { format = c.in_ok-written.written.format; name = c.in_ok-written.written.name; header = c.in_ok-written.written.header; items = c.in_ok-items.items.items } = search rules in
+    let same : c.in_ok-spec.spec ≡ record {
+      format = c.in_ok-written.written.format;
+      name = c.in_ok-written.written.name;
+      header = c.in_ok-written.written.header;
+      items = c.in_ok-items.items.items;
+    } = search rules in
     one_text c.args.bytes.now other _ text.1 made ∙ sym same
 
 pub new-requires : goal.new-requires
 new-requires c =
-    let bytes : All (λ b. b < 256) c.args.bytes.now = λ k d within. subst (λ b. b < 256) (get_or_default c.args.bytes.now k 0 d within) (let fit = c.type_inv.bytes k in search (rules, fit)) in
-    let read : AllZip IsReadAs c.in_ok-written.written.items c.in_ok-items.items.items = subst (λ items. AllZip IsReadAs items c.in_ok-items.items.items) c.into_vec.ensures c.in_ok-items.ensures.ok in
+    let bytes : All (λ b. b < 256) c.args.bytes.now =
+    λ k d within. subst (λ b. b < 256) (get_or_default c.args.bytes.now k 0 d within)
+    (let fit = c.type_inv.bytes k in search (rules, fit)) in
+    let read : AllZip IsReadAs c.in_ok-written.written.items c.in_ok-items.items.items =
+    subst (λ items. AllZip IsReadAs items c.in_ok-items.items.items) c.into_vec.ensures c.in_ok-items.ensures.ok in
     let same : c.from_vec.result ≡ c.in_ok-items.items.items = c.from_vec.ensures in
     let made = subst (λ items. AllZip IsReadAs c.in_ok-written.written.items items) (sym same) read in
     (c.args.bytes.now, bytes, read_text c.args.bytes.now c.in_ok-written.written c.from_vec.result c.in_ok-written.ensures.ok made)
@@ -35,5 +44,7 @@ new-requires c =
 pub returns-in_err-items-clause-refused : goal.returns-in_err-items-clause-refused
 returns-in_err-items-clause-refused c =
     let short : IsShort c.args.bytes.now = search rules in
-    handed_on (OnItems c.into_vec.result.items) (HasCause c.args.bytes.now) c.from_residual-in_err-items.result c.in_err-items.field-0.0 c.from_residual-in_err-items.ensures.1
-    (λ e on. items_caused c.args.bytes.now c.in_ok-written.written e short c.in_ok-written.ensures.ok (subst (λ items. OnItems items e) c.into_vec.ensures on)) c.in_err-items.ensures.refused
+    handed_on (OnItems c.into_vec.result.items)
+    (HasCause c.args.bytes.now) c.from_residual-in_err-items.result c.in_err-items.field-0.0 c.from_residual-in_err-items.ensures.1
+    (λ e on. items_caused c.args.bytes.now c.in_ok-written.written e short c.in_ok-written.ensures.ok
+    (subst (λ items. OnItems items e) c.into_vec.ensures on)) c.in_err-items.ensures.refused

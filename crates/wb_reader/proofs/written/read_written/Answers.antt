@@ -4,13 +4,18 @@ use Rattle.wb_predictive.specs.declared.reading.Outcome.TheVariants.{Whole, Stop
 use Rattle.wb_tokens.specs.declared.token.Layout.TheVariants.{WithComments}
 use Rattle.wb_tokens.specs.NextToken.{IsNextIn}
 use Rattle.wb_syntax.specs.SpecText.{IsWrittenText}
-use Rattle.wb_reader.specs.Inner.Builder.{empty}
+use Rattle.wb_builder.specs.Builder.{empty}
 use Rattle.wb_reader.specs.Inner.Table.{spec_grammar}
 use Rattle.wb_reader.proofs.TextLemmas.{whole_outcome, stopped_outcome}
 use Rattle.wb_reader.proofs.written.read_written.Goals as goal
 
 pub returns-in-Whole-clause-ok : goal.returns-in-Whole-clause-ok
-returns-in-Whole-clause-ok c = subst (λ spec. IsWrittenText c.args.bytes.now spec) (sym c.into_written.ensures) (whole_outcome c.args.bytes.now c.new-parts.result c.new-parts.ensures c.in_ok-parts.field-0 c.in_ok-parts.ensures.ok c.in-Whole.parts c.in-Whole.is)
+returns-in-Whole-clause-ok c =
+    subst (λ spec. IsWrittenText c.args.bytes.now spec) (sym c.take_written.ensures)
+    (whole_outcome c.args.bytes.now c.new-parts.result c.new-parts.ensures
+    c.in_ok-parts.field-0 c.in_ok-parts.ensures.ok c.in-Whole.parts c.in-Whole.is)
 
 pub returns-in-Stopped-clause-refused : goal.returns-in-Stopped-clause-refused
-returns-in-Stopped-clause-refused c = stopped_outcome c.args.bytes.now c.new-parts.result c.new-parts.ensures c.in_ok-parts.field-0 c.in_ok-parts.ensures.ok c.in-Stopped.at c.in-Stopped.is
+returns-in-Stopped-clause-refused c =
+    stopped_outcome c.args.bytes.now c.new-parts.result c.new-parts.ensures c.in_ok-parts.field-0 c.in_ok-parts.ensures.ok c.in-Stopped.at
+    c.in-Stopped.is

@@ -1,9 +1,13 @@
-//! What is read of a specification so far: whole items, and on stacks what an action will put together.
+//! What is read of a specification so far?
+//!
+//! Whole items in a list, and on stacks what an action will put together. Reserved words are read in `items`, since a place is kept of
+//! those that begin one.
 
 ghost use Rattle.std.specs.Prelude.{◌≡◌, OnOk};
-ghost use Rattle.wb_reader.specs.Inner.Builder.{empty, written_of, with_name, with_place, with_integer, with_text, with_pattern};
+ghost use Rattle.wb_builder.specs.Builder.{empty, written_of, with_name, with_start, with_integer, with_text, with_pattern};
 
 use std::alloc::{AllocError, Global};
+use std::mem::replace;
 use wb_base::{Bytes, Sequence};
 use wb_lists::{List, Stack};
 use wb_syntax::{
@@ -13,14 +17,18 @@ use wb_syntax::{
 /// A name, with the place of its first byte.
 #[derive(Drop)]
 pub struct PlacedBytes {
+    /// The name.
     pub bytes: Bytes,
+    /// The place, in bytes from the beginning of the file.
     pub at: usize,
 }
 
 /// What an equation is for, with the place of its first token.
 #[derive(Drop)]
 pub struct PlacedTarget {
+    /// What the equation is for.
     pub target: Target,
+    /// The place, in bytes from the beginning of the file.
     pub at: usize,
 }
 
@@ -30,7 +38,7 @@ pub struct SpecBuilder {
     /// Names.
     pub names: Stack<PlacedBytes>,
     /// The places of words with which items, equations and reads begin.
-    pub places: Stack<usize>,
+    pub starts: Stack<usize>,
     /// Integers.
     pub integers: Stack<i64>,
     /// Strings.
@@ -68,13 +76,13 @@ pub struct SpecBuilder {
 }
 
 impl SpecBuilder {
-    // No parts. Takes no memory.
-    pub(crate) fn new(alloc: Global) -> SpecBuilder
+    /// No parts. Takes no memory.
+    pub fn new(alloc: Global) -> SpecBuilder
         ensures { result ≡ empty }
     {
         SpecBuilder {
             names: Stack::new(alloc),
-            places: Stack::new(alloc),
+            starts: Stack::new(alloc),
             integers: Stack::new(alloc),
             texts: Stack::new(alloc),
             patterns: Stack::new(alloc),
@@ -95,50 +103,53 @@ impl SpecBuilder {
         }
     }
 
-    // A name was read at this place. The only error is want of memory.
-    pub(crate) fn read_name(&mut self, bytes: Bytes, at: usize) -> Result<(), AllocError>
+    /// A name was read at this place. The only error is want of memory.
+    pub fn read_name(&mut self, bytes: Bytes, at: usize) -> Result<(), AllocError>
         ensures ok { OnOk result (self.new ≡ with_name bytes at self.old) }
     {
         self.names.push(PlacedBytes { bytes, at })
     }
 
     // A word that may begin an item, an equation or a read was read at this place. The only error is want of memory.
-    pub(crate) fn read_place(&mut self, at: usize) -> Result<(), AllocError>
-        ensures ok { OnOk result (self.new ≡ with_place at self.old) }
+    pub(crate) fn read_start(&mut self, at: usize) -> Result<(), AllocError>
+        ensures ok { OnOk result (self.new ≡ with_start at self.old) }
     {
-        self.places.push(at)
+        self.starts.push(at)
     }
 
-    // An integer was read. The only error is want of memory.
-    pub(crate) fn read_integer(&mut self, value: i64) -> Result<(), AllocError>
+    /// An integer was read. The only error is want of memory.
+    pub fn read_integer(&mut self, value: i64) -> Result<(), AllocError>
         ensures ok { OnOk result (self.new ≡ with_integer value self.old) }
     {
         self.integers.push(value)
     }
 
-    // A string was read. The only error is want of memory.
-    pub(crate) fn read_text(&mut self, text: Bytes) -> Result<(), AllocError>
+    /// A string was read. The only error is want of memory.
+    pub fn read_text(&mut self, text: Bytes) -> Result<(), AllocError>
         ensures ok { OnOk result (self.new ≡ with_text text self.old) }
     {
         self.texts.push(text)
     }
 
-    // A regular expression was read at this place. The only error is want of memory.
-    pub(crate) fn read_pattern(&mut self, bytes: Bytes, at: usize) -> Result<(), AllocError>
+    /// A regular expression was read at this place. The only error is want of memory.
+    pub fn read_pattern(&mut self, bytes: Bytes, at: usize) -> Result<(), AllocError>
         ensures ok { OnOk result (self.new ≡ with_pattern bytes at self.old) }
     {
         self.patterns.push(WrittenPattern { bytes, at })
     }
 
-    // The specification of the whole parts. Takes no memory.
-    pub(crate) fn into_written(self) -> WrittenSpec
-        ensures { result ≡ written_of self }
+    /// The specification of the whole parts, which are taken out. Takes no memory.
+    pub fn take_written(&mut self, alloc: Global) -> WrittenSpec
+        ensures { result ≡ written_of self.old }
     {
+        let name = replace(&mut self.name, Bytes::empty());
+        let header = replace(&mut self.header, Header::Host);
+        let items = replace(&mut self.items, List::new(alloc));
         WrittenSpec {
             format: self.format,
-            name: self.name,
-            header: self.header,
-            items: self.items.into_sequence(),
+            name,
+            header,
+            items: items.into_sequence(),
         }
     }
 }

@@ -1,25 +1,77 @@
-//! What actions make of kinds, flow types, children, productions and equations. Each does nothing more where a part is missing, which
-//! no reading meets.
+//! What do actions make of the parts of kinds, flow types, children and equations?
+//!
+//! Each does nothing more where a part is missing, which no reading meets. Expressions are in `expressions`, productions in `items`.
 
 ghost use Rattle.std.specs.Prelude.{◌≡◌, OnOk};
 ghost use Rattle.wb_syntax.specs.declared.expression.Target.TheVariants as g;
-ghost use Rattle.wb_reader.specs.Inner.BuildParts.{with_kind, with_named_kind, with_no_needs, with_needs, with_names, with_listed, with_child, with_equations, with_target, with_label_target, with_local_target, with_forwards_to, with_nodes, with_equation};
+ghost use Rattle.wb_builder.specs.Parts.{part_act, with_kind, with_named_kind, with_no_needs, with_needs, with_names, with_listed, with_child, with_equations, with_target, with_label_target, with_local_target, with_forwards_to, with_nodes, with_equation};
 
 use crate::builder::{PlacedTarget, SpecBuilder};
 use std::alloc::{AllocError, Global};
 use wb_lists::List;
 use wb_syntax::{Child, Equation, NamedKind, Target};
 
+/// What is done where a part of a kind, a flow type, a child or an equation is whole.
+#[derive(Clone, Copy)]
+pub enum PartAction {
+    IntKind,
+    BoolKind,
+    TextKind,
+    NameKind,
+    NoNeeds,
+    SomeNeeds,
+    BeginNames,
+    AddName,
+    AddChild,
+    BeginEquations,
+    TopTarget,
+    LabelTarget,
+    ForwardTarget,
+    LocalTarget,
+    ForwardsToTarget,
+    BeginNodes,
+    AddEquation,
+}
+
+// What an action on kinds, flow types, children and equations does. The only error is want of memory.
+pub(crate) fn part_act(
+    alloc: Global,
+    action: PartAction,
+    values: &mut SpecBuilder,
+) -> Result<(), AllocError>
+    ensures ok { OnOk result (values.new ≡ part_act action values.old) }
+{
+    match action {
+        PartAction::IntKind => values.add_kind(NamedKind::Int),
+        PartAction::BoolKind => values.add_kind(NamedKind::Bool),
+        PartAction::TextKind => values.add_kind(NamedKind::Text),
+        PartAction::NameKind => values.add_named_kind(),
+        PartAction::NoNeeds => values.add_no_needs(),
+        PartAction::SomeNeeds => values.add_needs(),
+        PartAction::BeginNames => values.begin_names(alloc),
+        PartAction::AddName => values.add_name(),
+        PartAction::AddChild => values.add_child(),
+        PartAction::BeginEquations => values.begin_equations(alloc),
+        PartAction::TopTarget => values.begin_top(),
+        PartAction::LabelTarget => values.begin_label(),
+        PartAction::ForwardTarget => values.begin_forward(),
+        PartAction::LocalTarget => values.begin_local(),
+        PartAction::ForwardsToTarget => values.begin_forwards_to(),
+        PartAction::BeginNodes => values.begin_nodes(alloc),
+        PartAction::AddEquation => values.add_equation(),
+    }
+}
+
 impl SpecBuilder {
-    /// A kind without a name was read. The only error is want of memory.
-    pub fn add_kind(&mut self, kind: NamedKind) -> Result<(), AllocError>
+    // A kind without a name was read. The only error is want of memory.
+    fn add_kind(&mut self, kind: NamedKind) -> Result<(), AllocError>
         ensures ok { OnOk result (self.new ≡ with_kind kind self.old) }
     {
         self.kinds.push(kind)
     }
 
-    /// The last name is a kind. The only error is want of memory.
-    pub fn add_named_kind(&mut self) -> Result<(), AllocError>
+    // The last name is a kind. The only error is want of memory.
+    fn add_named_kind(&mut self) -> Result<(), AllocError>
         ensures ok { OnOk result (self.new ≡ with_named_kind self.old) }
     {
         let Some(name) = self.names.pop() else {
@@ -28,15 +80,15 @@ impl SpecBuilder {
         self.kinds.push(NamedKind::Name(name.bytes))
     }
 
-    /// No flow type is written. The only error is want of memory.
-    pub fn add_no_needs(&mut self) -> Result<(), AllocError>
+    // No flow type is written. The only error is want of memory.
+    fn add_no_needs(&mut self) -> Result<(), AllocError>
         ensures ok { OnOk result (self.new ≡ with_no_needs self.old) }
     {
         self.needs.push(None)
     }
 
-    /// A flow type is whole. The only error is want of memory.
-    pub fn add_needs(&mut self) -> Result<(), AllocError>
+    // A flow type is whole. The only error is want of memory.
+    fn add_needs(&mut self) -> Result<(), AllocError>
         ensures ok { OnOk result (self.new ≡ with_needs self.old) }
     {
         let Some(names) = self.lists.pop() else {
@@ -45,15 +97,15 @@ impl SpecBuilder {
         self.needs.push(Some(names.into_sequence()))
     }
 
-    /// A list of names begins. The only error is want of memory.
-    pub fn begin_names(&mut self, alloc: Global) -> Result<(), AllocError>
+    // A list of names begins. The only error is want of memory.
+    fn begin_names(&mut self, alloc: Global) -> Result<(), AllocError>
         ensures ok { OnOk result (self.new ≡ with_names self.old) }
     {
         self.lists.push(List::new(alloc))
     }
 
-    /// The last name goes to the end of its list. The only error is want of memory.
-    pub fn add_name(&mut self) -> Result<(), AllocError>
+    // The last name goes to the end of its list. The only error is want of memory.
+    fn add_name(&mut self) -> Result<(), AllocError>
         ensures ok { OnOk result (self.new ≡ with_listed self.old) }
     {
         let Some(name) = self.names.pop() else {
@@ -66,8 +118,8 @@ impl SpecBuilder {
         self.lists.push(list)
     }
 
-    /// A child is whole. The only error is want of memory.
-    pub fn add_child(&mut self) -> Result<(), AllocError>
+    // A child is whole. The only error is want of memory.
+    fn add_child(&mut self) -> Result<(), AllocError>
         ensures ok { OnOk result (self.new ≡ with_child self.old) }
     {
         let Some(kind) = self.kinds.pop() else {
@@ -86,43 +138,43 @@ impl SpecBuilder {
         self.children.push(children)
     }
 
-    /// Equations begin. The only error is want of memory.
-    pub fn begin_equations(&mut self, alloc: Global) -> Result<(), AllocError>
+    // Equations begin. The only error is want of memory.
+    fn begin_equations(&mut self, alloc: Global) -> Result<(), AllocError>
         ensures ok { OnOk result (self.new ≡ with_equations self.old) }
     {
         self.equations.push(List::new(alloc))
     }
 
-    /// An equation for an attribute of the top begins. The only error is want of memory.
-    pub fn begin_top(&mut self) -> Result<(), AllocError>
+    // An equation for an attribute of the top begins. The only error is want of memory.
+    fn begin_top(&mut self) -> Result<(), AllocError>
         ensures ok { OnOk result (self.new ≡ with_target (λ a. g.Top a) self.old) }
     {
         let Some(name) = self.names.pop() else {
             return Ok(());
         };
-        let Some(at) = self.places.pop() else {
+        let Some(at) = self.starts.pop() else {
             return Ok(());
         };
         let target = Target::Top(name.bytes);
         self.targets.push(PlacedTarget { target, at })
     }
 
-    /// An equation for an attribute of the forwarded tree begins. The only error is want of memory.
-    pub fn begin_forward(&mut self) -> Result<(), AllocError>
+    // An equation for an attribute of the forwarded tree begins. The only error is want of memory.
+    fn begin_forward(&mut self) -> Result<(), AllocError>
         ensures ok { OnOk result (self.new ≡ with_target (λ a. g.Forward a) self.old) }
     {
         let Some(name) = self.names.pop() else {
             return Ok(());
         };
-        let Some(at) = self.places.pop() else {
+        let Some(at) = self.starts.pop() else {
             return Ok(());
         };
         let target = Target::Forward(name.bytes);
         self.targets.push(PlacedTarget { target, at })
     }
 
-    /// An equation for an attribute of a child or local begins. The only error is want of memory.
-    pub fn begin_label(&mut self) -> Result<(), AllocError>
+    // An equation for an attribute of a child or local begins. The only error is want of memory.
+    fn begin_label(&mut self) -> Result<(), AllocError>
         ensures ok { OnOk result (self.new ≡ with_label_target self.old) }
     {
         let Some(attribute) = self.names.pop() else {
@@ -139,8 +191,8 @@ impl SpecBuilder {
         self.targets.push(PlacedTarget { target, at })
     }
 
-    /// An equation for a local begins. The only error is want of memory.
-    pub fn begin_local(&mut self) -> Result<(), AllocError>
+    // An equation for a local begins. The only error is want of memory.
+    fn begin_local(&mut self) -> Result<(), AllocError>
         ensures ok { OnOk result (self.new ≡ with_local_target self.old) }
     {
         let Some(nonterminal) = self.names.pop() else {
@@ -149,7 +201,7 @@ impl SpecBuilder {
         let Some(label) = self.names.pop() else {
             return Ok(());
         };
-        let Some(at) = self.places.pop() else {
+        let Some(at) = self.starts.pop() else {
             return Ok(());
         };
         let target = Target::Local {
@@ -159,26 +211,26 @@ impl SpecBuilder {
         self.targets.push(PlacedTarget { target, at })
     }
 
-    /// An equation for the forwarded tree begins. The only error is want of memory.
-    pub fn begin_forwards_to(&mut self) -> Result<(), AllocError>
+    // An equation for the forwarded tree begins. The only error is want of memory.
+    fn begin_forwards_to(&mut self) -> Result<(), AllocError>
         ensures ok { OnOk result (self.new ≡ with_forwards_to self.old) }
     {
-        let Some(at) = self.places.pop() else {
+        let Some(at) = self.starts.pop() else {
             return Ok(());
         };
         let target = Target::ForwardsTo;
         self.targets.push(PlacedTarget { target, at })
     }
 
-    /// An expression begins. The only error is want of memory.
-    pub fn begin_nodes(&mut self, alloc: Global) -> Result<(), AllocError>
+    // An expression begins. The only error is want of memory.
+    fn begin_nodes(&mut self, alloc: Global) -> Result<(), AllocError>
         ensures ok { OnOk result (self.new ≡ with_nodes self.old) }
     {
         self.nodes.push(List::new(alloc))
     }
 
-    /// An equation is whole. The only error is want of memory.
-    pub fn add_equation(&mut self) -> Result<(), AllocError>
+    // An equation is whole. The only error is want of memory.
+    fn add_equation(&mut self) -> Result<(), AllocError>
         ensures ok { OnOk result (self.new ≡ with_equation self.old) }
     {
         let Some(_) = self.roots.pop() else {

@@ -1,17 +1,65 @@
-//! What actions make of the parts of expressions. Each does nothing more where a part is missing, which no reading meets.
+//! What do actions make of the parts of expressions?
+//!
+//! Each does nothing more where a part is missing, which no reading meets. The nodes of an expression are a list in which parts come
+//! before the whole.
 
 ghost use Rattle.std.specs.Prelude.{◌≡◌, OnOk};
 ghost use Rattle.wb_expressions.specs.declared.node.Node.TheVariants as n;
-ghost use Rattle.wb_reader.specs.Inner.BuildExpressions.{with_node, with_number, with_string, with_label, with_read, with_placed_read, with_arguments, with_argument, with_call, with_if};
+ghost use Rattle.wb_builder.specs.Expressions.{expression_act, with_node, with_number, with_string, with_label, with_read, with_placed_read, with_arguments, with_argument, with_call, with_if};
 
 use crate::builder::SpecBuilder;
 use std::alloc::{AllocError, Global};
 use wb_lists::List;
 use wb_syntax::Node;
 
+/// What is done where a part of an expression is whole.
+#[derive(Clone, Copy)]
+pub enum ExpressionAction {
+    Number,
+    String,
+    True,
+    False,
+    ReadTop,
+    ReadForward,
+    BeginArguments,
+    Call,
+    If,
+    Label,
+    Build,
+    Read,
+    Lexeme,
+    AddArgument,
+}
+
+// What an action on expressions does. The only error is want of memory.
+pub(crate) fn expression_act(
+    alloc: Global,
+    action: ExpressionAction,
+    values: &mut SpecBuilder,
+) -> Result<(), AllocError>
+    ensures ok { OnOk result (values.new ≡ expression_act action values.old) }
+{
+    match action {
+        ExpressionAction::Number => values.add_number(),
+        ExpressionAction::String => values.add_string(),
+        ExpressionAction::True => values.add_node(Node::Bool(true)),
+        ExpressionAction::False => values.add_node(Node::Bool(false)),
+        ExpressionAction::ReadTop => values.add_top(),
+        ExpressionAction::ReadForward => values.add_forward(),
+        ExpressionAction::BeginArguments => values.begin_arguments(alloc),
+        ExpressionAction::Call => values.add_call(),
+        ExpressionAction::If => values.add_if(),
+        ExpressionAction::Label => values.add_label(),
+        ExpressionAction::Build => values.add_build(),
+        ExpressionAction::Read => values.add_read(),
+        ExpressionAction::Lexeme => values.add_lexeme(),
+        ExpressionAction::AddArgument => values.add_argument(),
+    }
+}
+
 impl SpecBuilder {
-    /// The node goes behind the others of its expression. The only error is want of memory.
-    pub fn add_node(&mut self, node: Node) -> Result<(), AllocError>
+    // The node goes behind the others of its expression. The only error is want of memory.
+    fn add_node(&mut self, node: Node) -> Result<(), AllocError>
         ensures ok { OnOk result (self.new ≡ with_node node self.old) }
     {
         let Some(mut nodes) = self.nodes.pop() else {
@@ -23,8 +71,8 @@ impl SpecBuilder {
         self.roots.push(place)
     }
 
-    /// The last integer is a part. The only error is want of memory.
-    pub fn add_number(&mut self) -> Result<(), AllocError>
+    // The last integer is a part. The only error is want of memory.
+    fn add_number(&mut self) -> Result<(), AllocError>
         ensures ok { OnOk result (self.new ≡ with_number self.old) }
     {
         let Some(value) = self.integers.pop() else {
@@ -33,8 +81,8 @@ impl SpecBuilder {
         self.add_node(Node::Int(value))
     }
 
-    /// The last string is a part. The only error is want of memory.
-    pub fn add_string(&mut self) -> Result<(), AllocError>
+    // The last string is a part. The only error is want of memory.
+    fn add_string(&mut self) -> Result<(), AllocError>
         ensures ok { OnOk result (self.new ≡ with_string self.old) }
     {
         let Some(text) = self.texts.pop() else {
@@ -43,8 +91,8 @@ impl SpecBuilder {
         self.add_node(Node::Text(text))
     }
 
-    /// The last name is a part. The only error is want of memory.
-    pub fn add_label(&mut self) -> Result<(), AllocError>
+    // The last name is a part. The only error is want of memory.
+    fn add_label(&mut self) -> Result<(), AllocError>
         ensures ok { OnOk result (self.new ≡ with_label (λ l. n.Label l) self.old) }
     {
         let Some(name) = self.names.pop() else {
@@ -53,8 +101,8 @@ impl SpecBuilder {
         self.add_node(Node::Label(name.bytes))
     }
 
-    /// The text of the child of the last name is a part. The only error is want of memory.
-    pub fn add_lexeme(&mut self) -> Result<(), AllocError>
+    // The text of the child of the last name is a part. The only error is want of memory.
+    fn add_lexeme(&mut self) -> Result<(), AllocError>
         ensures ok { OnOk result (self.new ≡ with_label (λ l. n.Lexeme l) self.old) }
     {
         let Some(name) = self.names.pop() else {
@@ -63,8 +111,8 @@ impl SpecBuilder {
         self.add_node(Node::Lexeme(name.bytes))
     }
 
-    /// An attribute of a child or local is a part. The only error is want of memory.
-    pub fn add_read(&mut self) -> Result<(), AllocError>
+    // An attribute of a child or local is a part. The only error is want of memory.
+    fn add_read(&mut self) -> Result<(), AllocError>
         ensures ok { OnOk result (self.new ≡ with_read self.old) }
     {
         let Some(attribute) = self.names.pop() else {
@@ -79,11 +127,11 @@ impl SpecBuilder {
         })
     }
 
-    /// An attribute of the top is a part. The only error is want of memory.
-    pub fn add_top(&mut self) -> Result<(), AllocError>
+    // An attribute of the top is a part. The only error is want of memory.
+    fn add_top(&mut self) -> Result<(), AllocError>
         ensures ok { OnOk result (self.new ≡ with_placed_read (λ a. n.Top a) self.old) }
     {
-        let Some(_) = self.places.pop() else {
+        let Some(_) = self.starts.pop() else {
             return Ok(());
         };
         let Some(name) = self.names.pop() else {
@@ -92,11 +140,11 @@ impl SpecBuilder {
         self.add_node(Node::Top(name.bytes))
     }
 
-    /// An attribute of the forwarded tree is a part. The only error is want of memory.
-    pub fn add_forward(&mut self) -> Result<(), AllocError>
+    // An attribute of the forwarded tree is a part. The only error is want of memory.
+    fn add_forward(&mut self) -> Result<(), AllocError>
         ensures ok { OnOk result (self.new ≡ with_placed_read (λ a. n.Forward a) self.old) }
     {
-        let Some(_) = self.places.pop() else {
+        let Some(_) = self.starts.pop() else {
             return Ok(());
         };
         let Some(name) = self.names.pop() else {
@@ -105,15 +153,15 @@ impl SpecBuilder {
         self.add_node(Node::Forward(name.bytes))
     }
 
-    /// Arguments begin. The only error is want of memory.
-    pub fn begin_arguments(&mut self, alloc: Global) -> Result<(), AllocError>
+    // Arguments begin. The only error is want of memory.
+    fn begin_arguments(&mut self, alloc: Global) -> Result<(), AllocError>
         ensures ok { OnOk result (self.new ≡ with_arguments self.old) }
     {
         self.arguments.push(List::new(alloc))
     }
 
-    /// The last part is an argument. The only error is want of memory.
-    pub fn add_argument(&mut self) -> Result<(), AllocError>
+    // The last part is an argument. The only error is want of memory.
+    fn add_argument(&mut self) -> Result<(), AllocError>
         ensures ok { OnOk result (self.new ≡ with_argument self.old) }
     {
         let Some(root) = self.roots.pop() else {
@@ -126,8 +174,8 @@ impl SpecBuilder {
         self.arguments.push(arguments)
     }
 
-    /// A tree of a production is a part. The only error is want of memory.
-    pub fn add_build(&mut self) -> Result<(), AllocError>
+    // A tree of a production is a part. The only error is want of memory.
+    fn add_build(&mut self) -> Result<(), AllocError>
         ensures ok { OnOk result (self.new ≡ with_call (λ name list. n.Build name list) self.old) }
     {
         let Some(arguments) = self.arguments.pop() else {
@@ -142,8 +190,8 @@ impl SpecBuilder {
         })
     }
 
-    /// The result of an operation is a part. The only error is want of memory.
-    pub fn add_call(&mut self) -> Result<(), AllocError>
+    // The result of an operation is a part. The only error is want of memory.
+    fn add_call(&mut self) -> Result<(), AllocError>
         ensures ok { OnOk result (self.new ≡ with_call (λ name list. n.Call name list) self.old) }
     {
         let Some(arguments) = self.arguments.pop() else {
@@ -158,8 +206,8 @@ impl SpecBuilder {
         })
     }
 
-    /// A choice is a part. The only error is want of memory.
-    pub fn add_if(&mut self) -> Result<(), AllocError>
+    // A choice is a part. The only error is want of memory.
+    fn add_if(&mut self) -> Result<(), AllocError>
         ensures ok { OnOk result (self.new ≡ with_if self.old) }
     {
         let Some(fails) = self.roots.pop() else {

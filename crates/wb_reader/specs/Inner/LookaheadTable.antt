@@ -1,25 +1,16 @@
--- What is given of each nonterminal of the grammar of specifications beside its rules. It is only checked.
-use Rattle.std.specs.Prelude.{List, [], ◌∷◌, true, false}
+-- Which tokens decide for which right side, and what is given of each nonterminal beside it. It is only checked.
+use Rattle.std.specs.Prelude.{List, [], ◌∷◌, ◌++◌, map, true, false}
 use Rattle.wb_predictive.specs.Entries.{Entry}
 use Rattle.wb_tokens.specs.declared.kind.TokenKind.{TokenKind}
 use Rattle.wb_tokens.specs.declared.kind.TokenKind.TheVariants as kind
 use Rattle.wb_tokens.specs.declared.word.Word.TheVariants as w
 use Rattle.wb_tokens.specs.declared.punctuation.Punctuation.TheVariants as p
 use Rattle.wb_reader.specs.declared.part.Part.{Part}
-
--- the kinds with which an item begins
-abbrev pub item_first : List TokenKind
-item_first =
-    kind.Word w.Abstract ∷ kind.Word w.Aspect ∷ kind.Word w.Concrete ∷ kind.Word w.Extensible ∷ kind.Word w.Forward
-    ∷ kind.Word w.Ignore ∷ kind.Word w.Inh ∷ kind.Word w.Marking ∷ kind.Word w.Nonterminal ∷ kind.Word w.Occurs ∷ kind.Word w.Prefer
-    ∷ kind.Word w.Start ∷ kind.Word w.Syn ∷ kind.Word w.Terminal ∷ []
+use Rattle.wb_reader.specs.Inner.ItemRules.{item_first}
 
 -- what can follow an item
 abbrev pub after_item : List TokenKind
-after_item =
-    kind.Word w.Abstract ∷ kind.Word w.Aspect ∷ kind.Word w.Concrete ∷ kind.Word w.Extensible ∷ kind.Word w.Forward
-    ∷ kind.Word w.Ignore ∷ kind.Word w.Inh ∷ kind.Word w.Marking ∷ kind.Word w.Nonterminal ∷ kind.Word w.Occurs ∷ kind.Word w.Prefer
-    ∷ kind.Word w.Start ∷ kind.Word w.Syn ∷ kind.Word w.Terminal ∷ kind.End ∷ []
+after_item = item_first ++ kind.End ∷ []
 
 -- the kinds with which an equation begins
 abbrev pub equation_first : List TokenKind
@@ -43,8 +34,8 @@ after_expression =
     kind.Word w.Else ∷ kind.Word w.Then ∷ kind.Mark p.Semicolon ∷ kind.Mark p.Comma ∷ kind.Mark p.CloseParenthesis ∷ []
 
 -- what is given of each nonterminal
-unfoldable pub spec_entries : Part → Entry TokenKind
-spec_entries Part.File = record {
+unfoldable pub lookahead_table : Part → Entry TokenKind
+lookahead_table Part.File = record {
   kinds = (kind.Word w.Format ∷ []) ∷ [];
   nullable = false;
   first = kind.Word w.Format ∷ [];
@@ -52,7 +43,7 @@ spec_entries Part.File = record {
   rank = 1;
   weight = 1;
 }
-spec_entries Part.Header = record {
+lookahead_table Part.Header = record {
   kinds = (kind.Word w.Host ∷ []) ∷ (kind.Word w.Extension ∷ []) ∷ [];
   nullable = false;
   first = kind.Word w.Extension ∷ kind.Word w.Host ∷ [];
@@ -60,7 +51,7 @@ spec_entries Part.Header = record {
   rank = 0;
   weight = 1;
 }
-spec_entries Part.Items = record {
+lookahead_table Part.Items = record {
   kinds = (kind.End ∷ []) ∷ item_first ∷ [];
   nullable = true;
   first = item_first;
@@ -68,19 +59,15 @@ spec_entries Part.Items = record {
   rank = 0;
   weight = 2;
 }
-spec_entries Part.Item = record {
-  kinds =
-      (kind.Word w.Terminal ∷ []) ∷ (kind.Word w.Ignore ∷ []) ∷ (kind.Word w.Marking ∷ []) ∷ (kind.Word w.Prefer ∷ [])
-      ∷ (kind.Word w.Nonterminal ∷ []) ∷ (kind.Word w.Start ∷ []) ∷ (kind.Word w.Extensible ∷ []) ∷ (kind.Word w.Syn ∷ [])
-      ∷ (kind.Word w.Inh ∷ []) ∷ (kind.Word w.Occurs ∷ []) ∷ (kind.Word w.Forward ∷ []) ∷ (kind.Word w.Concrete ∷ [])
-      ∷ (kind.Word w.Abstract ∷ []) ∷ (kind.Word w.Aspect ∷ []) ∷ [];
+lookahead_table Part.Item = record {
+  kinds = map (λ first. first ∷ []) item_first;
   nullable = false;
   first = item_first;
   follow = after_item;
   rank = 0;
   weight = 1;
 }
-spec_entries Part.Production = record {
+lookahead_table Part.Production = record {
   kinds = (kind.Name ∷ []) ∷ [];
   nullable = false;
   first = kind.Name ∷ [];
@@ -88,7 +75,7 @@ spec_entries Part.Production = record {
   rank = 2;
   weight = 1;
 }
-spec_entries Part.Kind = record {
+lookahead_table Part.Kind = record {
   kinds = (kind.Word w.Int ∷ []) ∷ (kind.Word w.Bool ∷ []) ∷ (kind.Word w.Text ∷ []) ∷ (kind.Name ∷ []) ∷ [];
   nullable = false;
   first = kind.Word w.Bool ∷ kind.Word w.Int ∷ kind.Word w.Text ∷ kind.Name ∷ [];
@@ -96,7 +83,7 @@ spec_entries Part.Kind = record {
   rank = 0;
   weight = 1;
 }
-spec_entries Part.OptionalNeeds = record {
+lookahead_table Part.OptionalNeeds = record {
   kinds = (kind.Mark p.Semicolon ∷ []) ∷ (kind.Word w.Needs ∷ []) ∷ [];
   nullable = true;
   first = kind.Word w.Needs ∷ [];
@@ -104,7 +91,7 @@ spec_entries Part.OptionalNeeds = record {
   rank = 0;
   weight = 2;
 }
-spec_entries Part.Needs = record {
+lookahead_table Part.Needs = record {
   kinds = (kind.Word w.Needs ∷ []) ∷ [];
   nullable = false;
   first = kind.Word w.Needs ∷ [];
@@ -112,7 +99,7 @@ spec_entries Part.Needs = record {
   rank = 1;
   weight = 1;
 }
-spec_entries Part.Names = record {
+lookahead_table Part.Names = record {
   kinds = (kind.Mark p.CloseBrace ∷ []) ∷ (kind.Name ∷ []) ∷ [];
   nullable = true;
   first = kind.Name ∷ [];
@@ -120,7 +107,7 @@ spec_entries Part.Names = record {
   rank = 0;
   weight = 1;
 }
-spec_entries Part.FurtherNames = record {
+lookahead_table Part.FurtherNames = record {
   kinds = (kind.Mark p.CloseBrace ∷ []) ∷ (kind.Mark p.Comma ∷ []) ∷ [];
   nullable = true;
   first = kind.Mark p.Comma ∷ [];
@@ -128,7 +115,7 @@ spec_entries Part.FurtherNames = record {
   rank = 0;
   weight = 1;
 }
-spec_entries Part.Children = record {
+lookahead_table Part.Children = record {
   kinds = (kind.Mark p.OpenBrace ∷ []) ∷ (kind.Name ∷ []) ∷ [];
   nullable = true;
   first = kind.Name ∷ [];
@@ -136,7 +123,7 @@ spec_entries Part.Children = record {
   rank = 0;
   weight = 1;
 }
-spec_entries Part.Block = record {
+lookahead_table Part.Block = record {
   kinds = (kind.Mark p.OpenBrace ∷ []) ∷ [];
   nullable = false;
   first = kind.Mark p.OpenBrace ∷ [];
@@ -144,7 +131,7 @@ spec_entries Part.Block = record {
   rank = 1;
   weight = 1;
 }
-spec_entries Part.Equations = record {
+lookahead_table Part.Equations = record {
   kinds = (kind.Mark p.CloseBrace ∷ []) ∷ equation_first ∷ [];
   nullable = true;
   first = equation_first;
@@ -152,7 +139,7 @@ spec_entries Part.Equations = record {
   rank = 0;
   weight = 2;
 }
-spec_entries Part.Equation = record {
+lookahead_table Part.Equation = record {
   kinds =
       (kind.Word w.Top ∷ []) ∷ (kind.Name ∷ []) ∷ (kind.Word w.Forward ∷ []) ∷ (kind.Word w.Local ∷ []) ∷ (kind.Word w.Forwards ∷ [])
       ∷ [];
@@ -162,7 +149,7 @@ spec_entries Part.Equation = record {
   rank = 2;
   weight = 1;
 }
-spec_entries Part.Value = record {
+lookahead_table Part.Value = record {
   kinds = expression_first ∷ [];
   nullable = false;
   first = expression_first;
@@ -170,7 +157,7 @@ spec_entries Part.Value = record {
   rank = 1;
   weight = 4;
 }
-spec_entries Part.Expression = record {
+lookahead_table Part.Expression = record {
   kinds =
       (kind.One ∷ kind.Number ∷ []) ∷ (kind.String ∷ []) ∷ (kind.Word w.True ∷ []) ∷ (kind.Word w.False ∷ []) ∷ (kind.Name ∷ [])
       ∷ (kind.Word w.Top ∷ []) ∷ (kind.Word w.Forward ∷ []) ∷ (kind.Mark p.At ∷ []) ∷ (kind.Word w.If ∷ []) ∷ [];
@@ -180,7 +167,7 @@ spec_entries Part.Expression = record {
   rank = 0;
   weight = 2;
 }
-spec_entries Part.Tail = record {
+lookahead_table Part.Tail = record {
   kinds = after_expression ∷ (kind.Mark p.Dot ∷ []) ∷ (kind.Mark p.OpenParenthesis ∷ []) ∷ [];
   nullable = true;
   first = kind.Mark p.Dot ∷ kind.Mark p.OpenParenthesis ∷ [];
@@ -188,7 +175,7 @@ spec_entries Part.Tail = record {
   rank = 0;
   weight = 2;
 }
-spec_entries Part.Read = record {
+lookahead_table Part.Read = record {
   kinds = (kind.Name ∷ []) ∷ (kind.Word w.Lexeme ∷ []) ∷ [];
   nullable = false;
   first = kind.Word w.Lexeme ∷ kind.Name ∷ [];
@@ -196,7 +183,7 @@ spec_entries Part.Read = record {
   rank = 0;
   weight = 1;
 }
-spec_entries Part.Arguments = record {
+lookahead_table Part.Arguments = record {
   kinds = (kind.Mark p.CloseParenthesis ∷ []) ∷ expression_first ∷ [];
   nullable = true;
   first = expression_first;
@@ -204,7 +191,7 @@ spec_entries Part.Arguments = record {
   rank = 0;
   weight = 3;
 }
-spec_entries Part.FurtherArguments = record {
+lookahead_table Part.FurtherArguments = record {
   kinds = (kind.Mark p.CloseParenthesis ∷ []) ∷ (kind.Mark p.Comma ∷ []) ∷ [];
   nullable = true;
   first = kind.Mark p.Comma ∷ [];
@@ -212,7 +199,7 @@ spec_entries Part.FurtherArguments = record {
   rank = 0;
   weight = 1;
 }
-spec_entries Part.Integer = record {
+lookahead_table Part.Integer = record {
   kinds = (kind.One ∷ []) ∷ (kind.Number ∷ []) ∷ [];
   nullable = false;
   first = kind.One ∷ kind.Number ∷ [];

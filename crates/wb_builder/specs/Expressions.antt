@@ -2,9 +2,9 @@
 use Rattle.std.specs.Prelude.{ℕ, true, false, List, [], ◌∷◌, ◌++◌, length}
 use Rattle.wb_syntax.specs.Expression.{Node}
 use Rattle.wb_expressions.specs.declared.node.Node.TheVariants as n
-use Rattle.wb_reader.specs.declared.part.ExpressionAction.{ExpressionAction}
-use Rattle.wb_reader.specs.declared.builder.SpecBuilder.{SpecBuilder}
-use Rattle.wb_reader.specs.Inner.Builder.{on_top}
+use Rattle.wb_builder.specs.declared.expressions.ExpressionAction.{ExpressionAction}
+use Rattle.wb_builder.specs.declared.builder.SpecBuilder.{SpecBuilder}
+use Rattle.wb_builder.specs.Builder.{on_top}
 
 -- the node goes behind the last nodes, and is a part
 abbrev pub with_node : Node → SpecBuilder → SpecBuilder
@@ -29,7 +29,7 @@ with_read v = on_top v.names v (λ attribute names. on_top names (record v { nam
 
 -- the attribute of the last name, of the top or of the forwarded tree: the last place is of no more use
 abbrev pub with_placed_read : (List ℕ → Node) → SpecBuilder → SpecBuilder
-with_placed_read node v = on_top v.places v (λ at rest. with_label node (record v { places = rest }))
+with_placed_read node v = on_top v.starts v (λ at rest. with_label node (record v { starts = rest }))
 
 -- arguments begin
 abbrev pub with_arguments : SpecBuilder → SpecBuilder

@@ -1,5 +1,8 @@
--- What actions make of the parts of headers and items.
+-- What reserved words add to the parts, and what actions make of those of headers, items and productions.
 use Rattle.std.specs.Prelude.{ℕ, ◌==◌, ℤ, pos, negsuc, List, [], ◌∷◌, ◌++◌, if◌then◌else◌}
+use Rattle.wb_tokens.specs.declared.word.Word.{Word}
+use Rattle.wb_tokens.specs.declared.word.Word.TheVariants as w
+use Rattle.wb_syntax.specs.declared.header.Header.{Header}
 use Rattle.wb_syntax.specs.declared.header.Header.TheVariants as h
 use Rattle.wb_syntax.specs.declared.item.ItemForm.{ItemForm}
 use Rattle.wb_syntax.specs.declared.item.ItemForm.TheVariants as f
@@ -9,9 +12,30 @@ use Rattle.wb_syntax.specs.declared.pattern.Role.{Role}
 use Rattle.wb_syntax.specs.declared.pattern.WrittenPattern.{WrittenPattern}
 use Rattle.wb_syntax.specs.declared.production.NamedKind.{NamedKind}
 use Rattle.wb_syntax.specs.declared.production.ProductionRole.{ProductionRole}
-use Rattle.wb_reader.specs.declared.part.ItemAction.{ItemAction}
-use Rattle.wb_reader.specs.declared.builder.SpecBuilder.{SpecBuilder}
-use Rattle.wb_reader.specs.Inner.Builder.{on_top}
+use Rattle.wb_builder.specs.declared.items.ItemAction.{ItemAction}
+use Rattle.wb_builder.specs.declared.builder.SpecBuilder.{SpecBuilder}
+use Rattle.wb_builder.specs.Builder.{with_start, on_top}
+
+-- the place of a word is kept where it may begin an item, an equation or a read
+abbrev pub word_shift : Word → ℕ → SpecBuilder → SpecBuilder
+word_shift w.Abstract at v = with_start at v
+word_shift w.Aspect at v = with_start at v
+word_shift w.Concrete at v = with_start at v
+word_shift w.Extensible at v = with_start at v
+word_shift w.Forward at v = with_start at v
+word_shift w.Forwards at v = with_start at v
+word_shift w.Ignore at v = with_start at v
+word_shift w.Inh at v = with_start at v
+word_shift w.Local at v = with_start at v
+word_shift w.Marking at v = with_start at v
+word_shift w.Nonterminal at v = with_start at v
+word_shift w.Occurs at v = with_start at v
+word_shift w.Prefer at v = with_start at v
+word_shift w.Start at v = with_start at v
+word_shift w.Syn at v = with_start at v
+word_shift w.Terminal at v = with_start at v
+word_shift w.Top at v = with_start at v
+word_shift word at v = v
 
 -- the format of which this is the number, or 0 where it is of none that is known
 abbrev pub format_of : ℤ → ℕ
@@ -22,18 +46,31 @@ format_of (negsuc n) = 0
 abbrev pub with_begin : SpecBuilder → SpecBuilder
 with_begin v = on_top v.integers v (λ value rest. record v { integers = rest; format = format_of value })
 
+-- the specification has this name and this header
+abbrev pub with_header : List ℕ → Header → SpecBuilder → SpecBuilder
+with_header name header v = record v { name = name; header = header }
+
 -- a header: the last name is the host's
 abbrev pub with_host : SpecBuilder → SpecBuilder
-with_host v = on_top v.names v (λ name rest. record v { names = rest; name = name.bytes; header = h.Host })
+with_host v = on_top v.names v (λ name rest. with_header name.bytes h.Host (record v { names = rest }))
 
 -- a header: the name before the last is the extension's, and the last that of its host
 abbrev pub with_extension : SpecBuilder → SpecBuilder
 with_extension v = on_top v.names v (λ host names. on_top names (record v { names = names })
-    (λ name rest. record v { names = rest; name = name.bytes; header = h.Extension host.bytes }))
+    (λ name rest. with_header name.bytes (h.Extension host.bytes) (record v { names = rest })))
+
+-- the last place, and 0 where there is none
+abbrev pub last_start : SpecBuilder → ℕ
+last_start v = on_top v.starts 0 (λ at rest. at)
+
+-- the parts without it
+abbrev pub without_start : SpecBuilder → SpecBuilder
+without_start v = on_top v.starts v (λ at rest. record v { starts = rest })
 
 -- an item of this form, which began at the last place
 abbrev pub with_item : ItemForm WrittenPattern → SpecBuilder → SpecBuilder
-with_item form v = on_top v.places v (λ at rest. record v { places = rest; items = v.items ++ record { offset = at; form = form } ∷ [] })
+with_item form v =
+    record (without_start v) { items = (without_start v).items ++ record { offset = last_start v; form = form } ∷ [] }
 
 -- an item of the last name
 abbrev pub with_named : (List ℕ → ItemForm WrittenPattern) → SpecBuilder → SpecBuilder
@@ -70,11 +107,18 @@ abbrev pub with_production : SpecBuilder → SpecBuilder
 with_production v = on_top v.equations v (λ equations others. on_top v.children (record v { equations = others })
     (λ children rest. on_top v.names (record v { equations = others; children = rest })
     (λ left names. on_top names (record v { equations = others; children = rest; names = names })
-    (λ name behind. record v { equations = others; children = rest; names = behind; productions = record { name = name.bytes; left = left.bytes; children = children; equations = equations } ∷ v.productions }))))
+    (λ name behind. record v {
+      equations = others;
+      children = rest;
+      names = behind;
+      productions = record
+          { name = name.bytes; left = left.bytes; children = children; equations = equations } ∷ v.productions;
+    }))))
 
 -- an item with the last production
 abbrev pub with_production_item : ProductionRole → SpecBuilder → SpecBuilder
-with_production_item role v = on_top v.productions v (λ production rest. with_item (f.Production role production) (record v { productions = rest }))
+with_production_item role v =
+    on_top v.productions v (λ production rest. with_item (f.Production role production) (record v { productions = rest }))
 
 -- further equations of the production of the last name
 abbrev pub with_aspect : SpecBuilder → SpecBuilder

@@ -4,9 +4,9 @@ use Rattle.wb_syntax.specs.declared.production.NamedKind.{NamedKind}
 use Rattle.wb_syntax.specs.declared.production.NamedKind.TheVariants as k
 use Rattle.wb_syntax.specs.declared.expression.Target.{Target}
 use Rattle.wb_syntax.specs.declared.expression.Target.TheVariants as g
-use Rattle.wb_reader.specs.declared.part.PartAction.{PartAction}
-use Rattle.wb_reader.specs.declared.builder.SpecBuilder.{SpecBuilder}
-use Rattle.wb_reader.specs.Inner.Builder.{on_top}
+use Rattle.wb_builder.specs.declared.parts.PartAction.{PartAction}
+use Rattle.wb_builder.specs.declared.builder.SpecBuilder.{SpecBuilder}
+use Rattle.wb_builder.specs.Builder.{on_top}
 
 -- a kind without a name
 abbrev pub with_kind : NamedKind → SpecBuilder → SpecBuilder
@@ -37,7 +37,12 @@ with_listed v = on_top v.names v (λ name names. on_top v.lists (record v { name
 abbrev pub with_child : SpecBuilder → SpecBuilder
 with_child v = on_top v.kinds v (λ kind kinds. on_top v.names (record v { kinds = kinds })
     (λ name names. on_top v.children (record v { kinds = kinds; names = names })
-    (λ children rest. record v { kinds = kinds; names = names; children = (children ++ record { label = name.bytes; kind = kind } ∷ []) ∷ rest })))
+    (λ children rest. record v {
+      kinds = kinds;
+      names = names;
+      children = (children ++ record { label = name.bytes; kind = kind } ∷ [])
+          ∷ rest;
+    })))
 
 -- equations begin
 abbrev pub with_equations : SpecBuilder → SpecBuilder
@@ -45,8 +50,8 @@ with_equations v = record v { equations = [] ∷ v.equations }
 
 -- an equation for the last name begins at the last place
 abbrev pub with_target : (List ℕ → Target) → SpecBuilder → SpecBuilder
-with_target target v = on_top v.names v (λ name names. on_top v.places (record v { names = names })
-    (λ at places. record v { names = names; places = places; targets = record { target = target name.bytes; at = at } ∷ v.targets }))
+with_target target v = on_top v.names v (λ name names. on_top v.starts (record v { names = names })
+    (λ at starts. record v { names = names; starts = starts; targets = record { target = target name.bytes; at = at } ∷ v.targets }))
 
 -- an equation for the last name of the name before it begins there
 abbrev pub with_label_target : SpecBuilder → SpecBuilder
@@ -56,12 +61,18 @@ with_label_target v = on_top v.names v (λ attribute names. on_top names (record
 -- an equation for the local of the name before the last begins at the last place
 abbrev pub with_local_target : SpecBuilder → SpecBuilder
 with_local_target v = on_top v.names v (λ nonterminal names. on_top names (record v { names = names })
-    (λ label rest. on_top v.places (record v { names = rest })
-    (λ at places. record v { names = rest; places = places; targets = record { target = g.Local label.bytes nonterminal.bytes; at = at } ∷ v.targets })))
+    (λ label rest. on_top v.starts (record v { names = rest })
+    (λ at starts. record v {
+      names = rest;
+      starts = starts;
+      targets = record { target = g.Local label.bytes nonterminal.bytes; at = at }
+          ∷ v.targets;
+    })))
 
 -- an equation for the forwarded tree begins at the last place
 abbrev pub with_forwards_to : SpecBuilder → SpecBuilder
-with_forwards_to v = on_top v.places v (λ at places. record v { places = places; targets = record { target = g.ForwardsTo; at = at } ∷ v.targets })
+with_forwards_to v =
+    on_top v.starts v (λ at starts. record v { starts = starts; targets = record { target = g.ForwardsTo; at = at } ∷ v.targets })
 
 -- an expression begins
 abbrev pub with_nodes : SpecBuilder → SpecBuilder
@@ -72,7 +83,13 @@ abbrev pub with_equation : SpecBuilder → SpecBuilder
 with_equation v = on_top v.roots v (λ root roots. on_top v.nodes (record v { roots = roots })
     (λ nodes others. on_top v.targets (record v { roots = roots; nodes = others })
     (λ target targets. on_top v.equations (record v { roots = roots; nodes = others; targets = targets })
-    (λ equations rest. record v { roots = roots; nodes = others; targets = targets; equations = (equations ++ record { offset = target.at; target = target.target; nodes = nodes } ∷ []) ∷ rest }))))
+    (λ equations rest. record v {
+      roots = roots;
+      nodes = others;
+      targets = targets;
+      equations =
+          (equations ++ record { offset = target.at; target = target.target; nodes = nodes } ∷ []) ∷ rest;
+    }))))
 
 -- what an action on kinds, flow types, children and equations makes of the parts
 abbrev pub part_act : PartAction → SpecBuilder → SpecBuilder

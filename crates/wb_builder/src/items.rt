@@ -1,18 +1,78 @@
-//! What do actions make of the parts of headers and items?
+//! What do actions make of the parts of headers, items and productions?
 //!
-//! Each does nothing more where a part is missing, which no reading meets. Parts of items are in `build_parts`.
+//! Each does nothing more where a part is missing, which no reading meets. Kinds, flow types, children and equations are in `parts`.
 
 ghost use Rattle.std.specs.Prelude.{◌≡◌, OnOk};
 ghost use Rattle.wb_syntax.specs.declared.item.ItemForm.TheVariants as f;
 ghost use Rattle.wb_syntax.specs.declared.item.PlainForm.TheVariants as i;
-ghost use Rattle.wb_reader.specs.Inner.BuildItems.{format_of, with_begin, with_host, with_extension, with_item, with_named, with_pair, with_role, with_attribute, with_occurs, with_forward_on, with_children, with_production, with_production_item, with_aspect};
+ghost use Rattle.wb_builder.specs.Items.{word_shift, item_act, format_of, with_begin, with_header, with_host, with_extension, last_start, without_start, with_item, with_named, with_pair, with_role, with_attribute, with_occurs, with_forward_on, with_children, with_production, with_production_item, with_aspect};
 
 use crate::builder::SpecBuilder;
 use std::alloc::{AllocError, Global};
+use wb_base::Bytes;
 use wb_lists::List;
 use wb_syntax::{
     Header, Item, ItemForm, PlainForm, Production, ProductionRole, Role, WrittenPattern,
 };
+use wb_tokens::Word;
+
+/// What is done where a part of a header, an item or a production is whole.
+#[derive(Clone, Copy)]
+pub enum ItemAction {
+    Begin,
+    Host,
+    Extension,
+    Lexical(Role),
+    Prefer,
+    Nonterminal,
+    Start,
+    Extensible,
+    Synthesized,
+    Inherited,
+    Occurs,
+    ForwardOn,
+    ProductionItem(ProductionRole),
+    Aspect,
+    BeginChildren,
+    Production,
+}
+
+// What an action on headers, items and productions does. The only error is want of memory.
+pub(crate) fn item_act(
+    alloc: Global,
+    action: ItemAction,
+    values: &mut SpecBuilder,
+) -> Result<(), AllocError>
+    ensures ok { OnOk result (values.new ≡ item_act action values.old) }
+{
+    match action {
+        ItemAction::Begin => {
+            values.begin();
+            Ok(())
+        },
+        ItemAction::Host => {
+            values.add_host();
+            Ok(())
+        }
+        ItemAction::Extension => {
+            values.add_extension();
+            Ok(())
+        }
+        ItemAction::Lexical(role) => values.add_lexical(role),
+        ItemAction::Prefer => values.add_prefer(),
+        ItemAction::Nonterminal => values.add_nonterminal(),
+        ItemAction::Start => values.add_start(),
+        ItemAction::Extensible => values.add_extensible(),
+        ItemAction::Synthesized => values.add_synthesized(),
+        ItemAction::Inherited => values.add_inherited(),
+        ItemAction::Occurs => values.add_occurs(),
+        ItemAction::ForwardOn => values.add_forward_on(),
+        ItemAction::ProductionItem(role) => values.add_production_item(role),
+        ItemAction::Aspect => values.add_aspect(),
+        ItemAction::BeginChildren => values.begin_children(alloc),
+        ItemAction::Production => values.add_production(),
+    }
+}
 
 // The format of this number.
 fn format_of(value: i64) -> u32
@@ -22,8 +82,35 @@ fn format_of(value: i64) -> u32
 }
 
 impl SpecBuilder {
+    /// A reserved word was read at this place, which is kept where it may begin an item, an equation or a read.
+    /// The only error is want of memory.
+    pub fn read_word(&mut self, word: Word, at: usize) -> Result<(), AllocError>
+        ensures ok { OnOk result (self.new ≡ word_shift word at self.old) }
+    {
+        match word {
+            Word::Abstract => self.read_start(at),
+            Word::Aspect => self.read_start(at),
+            Word::Concrete => self.read_start(at),
+            Word::Extensible => self.read_start(at),
+            Word::Forward => self.read_start(at),
+            Word::Forwards => self.read_start(at),
+            Word::Ignore => self.read_start(at),
+            Word::Inh => self.read_start(at),
+            Word::Local => self.read_start(at),
+            Word::Marking => self.read_start(at),
+            Word::Nonterminal => self.read_start(at),
+            Word::Occurs => self.read_start(at),
+            Word::Prefer => self.read_start(at),
+            Word::Start => self.read_start(at),
+            Word::Syn => self.read_start(at),
+            Word::Terminal => self.read_start(at),
+            Word::Top => self.read_start(at),
+            _ => Ok(()),
+        }
+    }
+
     // The number of the format was read. Takes no memory.
-    pub(crate) fn begin(&mut self)
+    fn begin(&mut self)
         ensures { self.new ≡ with_begin self.old }
     {
         let Some(value) = self.integers.pop() else {
@@ -32,19 +119,26 @@ impl SpecBuilder {
         self.format = format_of(value);
     }
 
+    // The specification has this name and this header. Takes no memory.
+    fn set_header(&mut self, name: Bytes, header: Header)
+        ensures { self.new ≡ with_header name header self.old }
+    {
+        self.name = name;
+        self.header = header;
+    }
+
     // A host's header is whole. Takes no memory.
-    pub(crate) fn add_host(&mut self)
+    fn add_host(&mut self)
         ensures { self.new ≡ with_host self.old }
     {
         let Some(name) = self.names.pop() else {
             return;
         };
-        self.name = name.bytes;
-        self.header = Header::Host;
+        self.set_header(name.bytes, Header::Host);
     }
 
     // An extension's header is whole. Takes no memory.
-    pub(crate) fn add_extension(&mut self)
+    fn add_extension(&mut self)
         ensures { self.new ≡ with_extension self.old }
     {
         let Some(host) = self.names.pop() else {
@@ -53,22 +147,30 @@ impl SpecBuilder {
         let Some(name) = self.names.pop() else {
             return;
         };
-        self.name = name.bytes;
-        self.header = Header::Extension { host: host.bytes };
+        self.set_header(name.bytes, Header::Extension { host: host.bytes });
+    }
+
+    // The last start, or 0 where there is none, which no reading meets. Takes no memory.
+    fn take_start(&mut self) -> usize
+        ensures start { result ≡ last_start self.old }
+        ensures rest { self.new ≡ without_start self.old }
+    {
+        let Some(at) = self.starts.pop() else {
+            return 0;
+        };
+        at
     }
 
     // An item is whole. The only error is want of memory.
     fn add_item(&mut self, form: ItemForm<WrittenPattern>) -> Result<(), AllocError>
         ensures ok { OnOk result (self.new ≡ with_item form self.old) }
     {
-        let Some(offset) = self.places.pop() else {
-            return Ok(());
-        };
+        let offset = self.take_start();
         self.items.push(Item { offset, form })
     }
 
     // An item with a regular expression is whole. The only error is want of memory.
-    pub(crate) fn add_lexical(&mut self, role: Role) -> Result<(), AllocError>
+    fn add_lexical(&mut self, role: Role) -> Result<(), AllocError>
         ensures ok { OnOk result (self.new ≡ with_role role self.old) }
     {
         let Some(pattern) = self.patterns.pop() else {
@@ -85,7 +187,7 @@ impl SpecBuilder {
     }
 
     // A preference is whole. The only error is want of memory.
-    pub(crate) fn add_prefer(&mut self) -> Result<(), AllocError>
+    fn add_prefer(&mut self) -> Result<(), AllocError>
         ensures ok { OnOk result (self.new ≡ with_pair (λ first second. f.Plain (i.Prefer first second)) self.old) }
     {
         let Some(second) = self.names.pop() else {
@@ -101,7 +203,7 @@ impl SpecBuilder {
     }
 
     // A nonterminal's declaration is whole. The only error is want of memory.
-    pub(crate) fn add_nonterminal(&mut self) -> Result<(), AllocError>
+    fn add_nonterminal(&mut self) -> Result<(), AllocError>
         ensures ok { OnOk result (self.new ≡ with_named (λ name. f.Plain (i.Nonterminal name)) self.old) }
     {
         let Some(name) = self.names.pop() else {
@@ -111,7 +213,7 @@ impl SpecBuilder {
     }
 
     // The start's declaration is whole. The only error is want of memory.
-    pub(crate) fn add_start(&mut self) -> Result<(), AllocError>
+    fn add_start(&mut self) -> Result<(), AllocError>
         ensures ok { OnOk result (self.new ≡ with_named (λ name. f.Plain (i.Start name)) self.old) }
     {
         let Some(name) = self.names.pop() else {
@@ -121,7 +223,7 @@ impl SpecBuilder {
     }
 
     // A permission to extend is whole. The only error is want of memory.
-    pub(crate) fn add_extensible(&mut self) -> Result<(), AllocError>
+    fn add_extensible(&mut self) -> Result<(), AllocError>
         ensures ok { OnOk result (self.new ≡ with_named (λ name. f.Plain (i.Extensible name)) self.old) }
     {
         let Some(name) = self.names.pop() else {
@@ -131,7 +233,7 @@ impl SpecBuilder {
     }
 
     // A synthesized attribute is whole. The only error is want of memory.
-    pub(crate) fn add_synthesized(&mut self) -> Result<(), AllocError>
+    fn add_synthesized(&mut self) -> Result<(), AllocError>
         ensures ok { OnOk result (self.new ≡ with_attribute (λ name kind. i.Synthesized name kind) self.old) }
     {
         let Some(kind) = self.kinds.pop() else {
@@ -147,7 +249,7 @@ impl SpecBuilder {
     }
 
     // An inherited attribute is whole. The only error is want of memory.
-    pub(crate) fn add_inherited(&mut self) -> Result<(), AllocError>
+    fn add_inherited(&mut self) -> Result<(), AllocError>
         ensures ok { OnOk result (self.new ≡ with_attribute (λ name kind. i.Inherited name kind) self.old) }
     {
         let Some(kind) = self.kinds.pop() else {
@@ -163,7 +265,7 @@ impl SpecBuilder {
     }
 
     // An occurrence is whole. The only error is want of memory.
-    pub(crate) fn add_occurs(&mut self) -> Result<(), AllocError>
+    fn add_occurs(&mut self) -> Result<(), AllocError>
         ensures ok { OnOk result (self.new ≡ with_occurs self.old) }
     {
         let Some(needs) = self.needs.pop() else {
@@ -183,7 +285,7 @@ impl SpecBuilder {
     }
 
     // A flow type of forwarded trees is whole. The only error is want of memory.
-    pub(crate) fn add_forward_on(&mut self) -> Result<(), AllocError>
+    fn add_forward_on(&mut self) -> Result<(), AllocError>
         ensures ok { OnOk result (self.new ≡ with_forward_on self.old) }
     {
         let Some(needs) = self.lists.pop() else {
@@ -199,7 +301,7 @@ impl SpecBuilder {
     }
 
     // An item with a production is whole. The only error is want of memory.
-    pub(crate) fn add_production_item(&mut self, role: ProductionRole) -> Result<(), AllocError>
+    fn add_production_item(&mut self, role: ProductionRole) -> Result<(), AllocError>
         ensures ok { OnOk result (self.new ≡ with_production_item role self.old) }
     {
         let Some(production) = self.productions.pop() else {
@@ -209,7 +311,7 @@ impl SpecBuilder {
     }
 
     // Further equations of a production are whole. The only error is want of memory.
-    pub(crate) fn add_aspect(&mut self) -> Result<(), AllocError>
+    fn add_aspect(&mut self) -> Result<(), AllocError>
         ensures ok { OnOk result (self.new ≡ with_aspect self.old) }
     {
         let Some(equations) = self.equations.pop() else {
@@ -225,14 +327,14 @@ impl SpecBuilder {
     }
 
     // Children begin. The only error is want of memory.
-    pub(crate) fn begin_children(&mut self, alloc: Global) -> Result<(), AllocError>
+    fn begin_children(&mut self, alloc: Global) -> Result<(), AllocError>
         ensures ok { OnOk result (self.new ≡ with_children self.old) }
     {
         self.children.push(List::new(alloc))
     }
 
     // A production is whole. The only error is want of memory.
-    pub(crate) fn add_production(&mut self) -> Result<(), AllocError>
+    fn add_production(&mut self) -> Result<(), AllocError>
         ensures ok { OnOk result (self.new ≡ with_production self.old) }
     {
         let Some(equations) = self.equations.pop() else {

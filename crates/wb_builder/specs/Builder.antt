@@ -2,7 +2,7 @@
 use Rattle.std.specs.Prelude.{ℕ, ℤ, List, [], ◌∷◌}
 use Rattle.wb_syntax.specs.declared.header.Header.TheVariants as h
 use Rattle.wb_syntax.specs.declared.written.WrittenSpec.{WrittenSpec}
-use Rattle.wb_reader.specs.declared.builder.SpecBuilder.{SpecBuilder}
+use Rattle.wb_builder.specs.declared.builder.SpecBuilder.{SpecBuilder}
 
 -- what is made of the value on top and of the others, or, where there is none, the first
 abbrev pub on_top : {X V : Type 0} → List X → V → (X → List X → V) → V
@@ -13,7 +13,7 @@ on_top (x ∷ rest) otherwise made = made x rest
 abbrev pub empty : SpecBuilder
 empty = record {
   names = [];
-  places = [];
+  starts = [];
   integers = [];
   texts = [];
   patterns = [];
@@ -38,8 +38,8 @@ abbrev pub with_name : List ℕ → ℕ → SpecBuilder → SpecBuilder
 with_name name at v = record v { names = record { bytes = name; at = at } ∷ v.names }
 
 -- a word that may begin an item, an equation or a read was read at this place
-abbrev pub with_place : ℕ → SpecBuilder → SpecBuilder
-with_place at v = record v { places = at ∷ v.places }
+abbrev pub with_start : ℕ → SpecBuilder → SpecBuilder
+with_start at v = record v { starts = at ∷ v.starts }
 
 -- an integer was read
 abbrev pub with_integer : ℤ → SpecBuilder → SpecBuilder
