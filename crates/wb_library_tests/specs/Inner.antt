@@ -1,2 +1,3 @@
 -- What loops keep, and words of private functions.
+pub mod Empty
 pub mod Odd

@@ -23,4 +23,6 @@ mod regex;
 #[cfg(test)]
 mod termset;
 #[cfg(test)]
+mod types;
+#[cfg(test)]
 mod values;

@@ -1,3 +1,4 @@
+pub mod AnswerLemmas
 pub mod NodeLemmas
 pub mod OperationLemmas
 pub mod PassLemmas

@@ -63,7 +63,7 @@ module _ (a : AttributionParts) (operations : List OperationSignature) (producti
       × HaveKinds a operations production es s.takes × (is ≡ s.gives)
   KindFacts (x.If condition holds fails) is =
       HasKind a operations production condition kind.Bool × HasKind a operations production holds is
-          × HasKind a operations production fails is
+      × HasKind a operations production fails is
 
   facts : {e : Expression} {is : Kind} → HasKind a operations production e is → KindFacts e is
   facts k.int = refl
@@ -76,7 +76,7 @@ module _ (a : AttributionParts) (operations : List OperationSignature) (producti
   facts (k.forward at) = at
   facts (k.build s at have e) = (s, at, have, e)
   facts (k.call number s at named have e) = (number, s, at, named, have, e)
-  facts (k.choice condition holds fails) = (condition, holds, fails)
+  facts (k.if_then condition holds fails) = (condition, holds, fails)
 
   -- what several have, by their form
   abbrev KindsFacts : Expressions → List Kind → Type 0
@@ -118,23 +118,59 @@ module _ (a : AttributionParts) (operations : List OperationSignature) (producti
 
     form_of : {at : ℕ} {e : Expression} → Stands nodes at e → HasPartsBefore nodes → at ≡ count → FormOf at e
     form_of (p.int {z = z} h) before last =
-        record { form = n.Int z; has = h; exact = λ is. (λ e. let f : is ≡ kind.Int = e in subst
-            (HasKind a operations production (x.Int z)) (sym f) k.int, λ have. facts have) }
+        record {
+          form = n.Int z;
+          has = h;
+          exact = λ is. (
+            λ e. let f : is ≡ kind.Int = e in subst
+                (HasKind a operations production (x.Int z)) (sym f) k.int,
+            λ have. facts have,
+          );
+        }
     form_of (p.text {s = s} h) before last =
-        record { form = n.Text s; has = h; exact = λ is. (λ e. let f : is ≡ kind.Text = e in subst
-            (HasKind a operations production (x.Text s)) (sym f) k.text, λ have. facts have) }
+        record {
+          form = n.Text s;
+          has = h;
+          exact = λ is. (
+            λ e. let f : is ≡ kind.Text = e in subst
+                (HasKind a operations production (x.Text s)) (sym f) k.text,
+            λ have. facts have,
+          );
+        }
     form_of (p.truth {b = b} h) before last =
-        record { form = n.Bool b; has = h; exact = λ is. (λ e. let f : is ≡ kind.Bool = e in subst
-            (HasKind a operations production (x.Truth b)) (sym f) k.truth, λ have. facts have) }
+        record {
+          form = n.Bool b;
+          has = h;
+          exact = λ is. (
+            λ e. let f : is ≡ kind.Bool = e in subst
+                (HasKind a operations production (x.Truth b)) (sym f) k.truth,
+            λ have. facts have,
+          );
+        }
     form_of (p.label {l = l} h) before last = record { form = n.Label l; has = h; exact = λ is. (λ e. k.label e, λ have. facts have) }
-    form_of (p.read {l = l} {a = number} h) before last = record { form = n.Read l number; has = h; exact = λ is.
-        (λ e. k.read e, λ have. facts have) }
+    form_of (p.read {l = l} {a = number} h) before last = record {
+      form = n.Read l number;
+      has = h;
+      exact = λ is.
+          (λ e. k.read e, λ have. facts have);
+    }
     form_of (p.lexeme {l = l} h) before last =
-        record { form = n.Lexeme l; has = h; exact = λ is. (λ e. let f : is ≡ kind.Text = e in subst
-            (HasKind a operations production (x.Lexeme l)) (sym f) k.lexeme, λ have. facts have) }
+        record {
+          form = n.Lexeme l;
+          has = h;
+          exact = λ is. (
+            λ e. let f : is ≡ kind.Text = e in subst
+                (HasKind a operations production (x.Lexeme l)) (sym f) k.lexeme,
+            λ have. facts have,
+          );
+        }
     form_of (p.top {a = number} h) before last = record { form = n.Top number; has = h; exact = λ is. (λ e. k.top e, λ have. facts have) }
-    form_of (p.forward {a = number} h) before last = record { form = n.Forward number; has = h; exact = λ is.
-        (λ e. k.forward e, λ have. facts have) }
+    form_of (p.forward {a = number} h) before last = record {
+      form = n.Forward number;
+      has = h;
+      exact = λ is.
+          (λ e. k.forward e, λ have. facts have);
+    }
     form_of {at} (p.build {name = number} {places = places} {es = es} h parts) before last =
         let below = subst (λ (z : ℕ). All (λ part. part < z) places) last (before at (n.Build number places) h) in
         record {
@@ -154,8 +190,14 @@ module _ (a : AttributionParts) (operations : List OperationSignature) (producti
           exact = λ is. (
             λ b. k.call b.number b.signature b.listed b.named (parts_have parts b.signature.takes below b.parts) b.whole,
             λ have. let (number, s, there, named, arguments, whole) = facts have in
-                record { number = number; signature = s; listed = there; named = named; parts = have_parts parts s.takes below arguments;
-                    whole = whole },
+                record {
+                  number = number;
+                  signature = s;
+                  listed = there;
+                  named = named;
+                  parts = have_parts parts s.takes below arguments;
+                  whole = whole;
+                },
           );
         }
     form_of {at}
@@ -170,7 +212,7 @@ module _ (a : AttributionParts) (operations : List OperationSignature) (producti
           has = has;
           exact = λ is. (
             λ b. let (u, v, w) = b in
-                k.choice ((kept c condition kind.Bool b0 first).0 u) ((kept y holds is b1 second).0 v) ((kept z fails is b2 third).0 w),
+                k.if_then ((kept c condition kind.Bool b0 first).0 u) ((kept y holds is b1 second).0 v) ((kept z fails is b2 third).0 w),
             λ have. let (u, v, w) = facts have in
                 ((kept c condition kind.Bool b0 first).1 u, (kept y holds is b1 second).1 v, (kept z fails is b2 third).1 w),
           );
@@ -196,7 +238,7 @@ module _ (a : AttributionParts) (operations : List OperationSignature) (producti
     last above =
         let here : at ≡ count = omega (arith, above, lt) in
         let there : slice_get (kinds ++ found ∷ []) at ≡ Some found = ap (slice_get (kinds ++ found ∷ [])) (here ∙ sym len)
-            ∙ push_last kinds found in
+        ∙ push_last kinds found in
         let form = form_of nodes kinds count kept stands before here in
         let one : node ≡ form.form = one_node nodes count node form.form has (subst (λ z. HasNode nodes z form.form) here form.has) in (
           λ shown. let g : Some found ≡ Some (Some is) = sym there ∙ shown in let f : found ≡ Some is = cc in

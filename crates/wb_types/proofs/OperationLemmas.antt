@@ -58,7 +58,7 @@ pub calls_exact : (operations : List OperationSignature) (kinds : List (Option K
 calls_exact operations kinds name arguments number takes differ found takes_is is calls =
     let (s, at, named) = operation_at operations name number found in
     let one : calls.signature ≡ s = one_operation operations name calls.number number calls.signature s differ calls.listed calls.named at
-        named in
+    named in
     let kinds_is = fact_at (slice_get operations number) (λ (s : OperationSignature). takes ≡ s.takes) s takes_is at in
     subst (AreAt kinds arguments) (ap (λ (s : OperationSignature). s.takes) one ∙ sym kinds_is) calls.parts
 
@@ -69,7 +69,7 @@ pub calls_gives : (operations : List OperationSignature) (kinds : List (Option K
 calls_gives operations kinds name arguments number gives differ found gives_is is calls =
     let (s, at, named) = operation_at operations name number found in
     let one : calls.signature ≡ s = one_operation operations name calls.number number calls.signature s differ calls.listed calls.named at
-        named in
+    named in
     let kind_is = fact_at (slice_get operations number) (λ (s : OperationSignature). gives ≡ s.gives) s gives_is at in
     kind_is ∙ sym (calls.whole ∙ ap (λ (s : OperationSignature). s.gives) one)
 
@@ -83,8 +83,15 @@ gives_calls operations kinds name arguments number takes gives found takes_is gi
     let (s, at, named) = operation_at operations name number found in
     let kinds_is = fact_at (slice_get operations number) (λ (s : OperationSignature). takes ≡ s.takes) s takes_is at in
     let kind_is = fact_at (slice_get operations number) (λ (s : OperationSignature). gives ≡ s.gives) s gives_is at in
-    record { number = number; signature = s; listed = at; named = named; parts = subst
-        (AreAt kinds arguments) kinds_is parts; whole = kind_is }
+    record {
+      number = number;
+      signature = s;
+      listed = at;
+      named = named;
+      parts = subst
+          (AreAt kinds arguments) kinds_is parts;
+      whole = kind_is;
+    }
 
 -- a name that was found is known
 pub found_known : (operations : List OperationSignature) (name : List ℕ) (number : ℕ) → IsOperation operations name number

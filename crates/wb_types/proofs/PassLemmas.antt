@@ -22,8 +22,8 @@ use Rattle.wb_types.specs.declared.context.Rule.{Rule}
 use Rattle.wb_types.specs.declared.context.Rule.TheVariants as rule
 use Rattle.wb_types.specs.declared.refusal.TypeRefusal.{TypeRefusal}
 use Rattle.wb_types.specs.declared.refusal.TypeRefusal.TheVariants as r
-use Rattle.wb_types.specs.Asked.{IsAsked, attribute_of}
-use Rattle.wb_types.specs.Asked as s
+use Rattle.wb_types.specs.Expected.{IsExpected, attribute_of}
+use Rattle.wb_types.specs.Expected as s
 use Rattle.wb_types.specs.Kinds.{IsAttributeKind}
 use Rattle.wb_types.specs.Refusals.{IsTrueRefusal}
 use Rattle.wb_types.specs.Rules.{IsKnown, IsOfKind, AreKnown, HaveArities}
@@ -73,7 +73,7 @@ module _ (a : AttributionParts) (operations : List OperationSignature) (producti
 -- an expression that fails is one of its production's
 pub some_fails : (rule : Rule) (a : AttributionParts) (operations : List OperationSignature) (production : Production) (nodes : List Node)
     (is : Kind)
-    (offset : ℕ) → IsAsked a production nodes is offset → (refusal : TypeRefusal)
+    (offset : ℕ) → IsExpected a production nodes is offset → (refusal : TypeRefusal)
     → Fails rule a operations production nodes is offset refusal → SomeFails rule a operations production refusal
 some_fails rule a operations production nodes is offset asked refusal fails =
     record { nodes = nodes; is = is; offset = offset; asked = asked; fails = fails }
@@ -89,16 +89,16 @@ pub all_pass : (rule : Rule) (a : AttributionParts) (operations : List Operation
     → ((l : Local) → Contains production.locals l → Passes rule a operations production l.nodes (kind.Tree l.nonterminal))
     → ((f : Forward) → production.forward ≡ Some f → Passes rule a operations production f.nodes (kind.Tree production.left))
     → ((e : Equation) (is : Kind) → Contains production.equations e → IsAttributeKind a (attribute_of e.target) is
-        → Passes rule a operations production e.nodes is)
+    → Passes rule a operations production e.nodes is)
     → AllPass rule a operations production
 all_pass rule a operations production locals forward equations nodes is offset asked = at asked where
-  at : IsAsked a production nodes is offset → Passes rule a operations production nodes is
+  at : IsExpected a production nodes is offset → Passes rule a operations production nodes is
   at (s.local l listed e f g) =
       subst (λ z. Passes rule a operations production z is) (sym e)
-          (subst (Passes rule a operations production l.nodes) (sym f) (locals l listed))
+      (subst (Passes rule a operations production l.nodes) (sym f) (locals l listed))
   at (s.forward y there e f g) =
       subst (λ z. Passes rule a operations production z is) (sym e)
-          (subst (Passes rule a operations production y.nodes) (sym f) (forward y there))
+      (subst (Passes rule a operations production y.nodes) (sym f) (forward y there))
   at (s.equation y listed e f g) = subst (λ z. Passes rule a operations production z is) (sym e) (equations y is listed f)
 
 -- an expression that fails the first rule calls what isn't there
@@ -107,7 +107,8 @@ pub known_refused : (a : AttributionParts) (operations : List OperationSignature
 known_refused a operations (r.UnknownOperation name) any = let found = any.fails in let calls = found.fails in
     record {
       offset = found.offset;
-      expression = record { production = any.production; listed = any.listed; nodes = found.nodes; is = found.is; asked = found.asked };
+      expression = record { production = any.production; listed = any.listed; nodes = found.nodes; expected = found.is;
+          is_expected = found.asked };
       arguments = calls.arguments;
       calls = calls.calls;
       unknown = calls.unknown;
@@ -123,7 +124,8 @@ arity_refused a operations known refusal any =
     let found = any.fails in
     subst (IsTrueRefusal a operations) (sym found.fails.0) (record {
       known = known;
-      expression = record { production = any.production; listed = any.listed; nodes = found.nodes; is = found.is; asked = found.asked };
+      expression = record { production = any.production; listed = any.listed; nodes = found.nodes; expected = found.is;
+          is_expected = found.asked };
       wrong = found.fails.1;
     })
 
@@ -141,8 +143,8 @@ kind_refused a operations known arities (r.TypeMismatch at) any =
         production = any.production;
         listed = any.listed;
         nodes = found.nodes;
-        is = found.is;
-        asked = subst (IsAsked a any.production found.nodes found.is) (sym found.fails.0) found.asked;
+        expected = found.is;
+        is_expected = subst (IsExpected a any.production found.nodes found.is) (sym found.fails.0) found.asked;
       };
       wrong = found.fails.1;
     }

@@ -6,39 +6,40 @@ use Rattle.wb_operations.specs.Operations.{OperationSignature, HasOperation}
 use Rattle.wb_resolved.specs.declared.attribution.AttributionParts.{AttributionParts}
 use Rattle.wb_resolved.specs.declared.production.Production.{Production}
 use Rattle.wb_resolved.specs.Expression.{Node}
-use Rattle.wb_types.specs.Asked.{IsAsked}
+use Rattle.wb_types.specs.Expected.{IsExpected}
 use Rattle.wb_types.specs.Rules.{HasArity, IsOfKind, AreKnown, HaveArities}
 use Rattle.wb_types.specs.declared.refusal.TypeRefusal.{TypeRefusal}
 use Rattle.wb_types.specs.declared.refusal.TypeRefusal.TheVariants as r
 
 -- an expression in the attribution, with the kind that it has to be of; its equation begins at this offset
-pub record AnExpression (a : AttributionParts) (offset : ℕ) : Type 0 where
+pub record ExpressionAt (a : AttributionParts) (offset : ℕ) : Type 0 where
   pub production : Production
   pub listed : Contains a.productions production
   pub nodes : List Node
-  pub is : Kind
-  pub asked : IsAsked a production nodes is offset
+  pub expected : Kind
+  pub is_expected : IsExpected a production nodes expected offset
 
 -- an expression calls an operation of this name, and there is none
 pub record CallsUnknown (a : AttributionParts) (operations : List OperationSignature) (name : List ℕ) : Type 0 where
   pub offset : ℕ
-  pub expression : AnExpression a offset
+  pub expression : ExpressionAt a offset
   pub arguments : List ℕ
   pub calls : Contains expression.nodes (n.Call name arguments)
   pub unknown : ¬ HasOperation operations name
 
--- each operation is in the table, and an expression whose equation begins at this offset has another number of arguments than it has to
+-- each operation is in the table, and in an expression whose equation begins at this offset a production or operation has another number
+-- of arguments than it takes
 pub record HasWrongArity (a : AttributionParts) (operations : List OperationSignature) (offset : ℕ) : Type 0 where
   pub known : AreKnown a operations
-  pub expression : AnExpression a offset
+  pub expression : ExpressionAt a offset
   pub wrong : ¬ All (HasArity a operations) expression.nodes
 
 -- operations and arguments are right, and an expression whose equation begins at this offset isn't of the kind that its place asks for
 pub record HasWrongKind (a : AttributionParts) (operations : List OperationSignature) (offset : ℕ) : Type 0 where
   pub known : AreKnown a operations
   pub arities : HaveArities a operations
-  pub expression : AnExpression a offset
-  pub wrong : ¬ IsOfKind a operations expression.production expression.nodes expression.is
+  pub expression : ExpressionAt a offset
+  pub wrong : ¬ IsOfKind a operations expression.production expression.nodes expression.expected
 
 -- the refusal is true
 abbrev pub IsTrueRefusal : AttributionParts → List OperationSignature → TypeRefusal → Type 0

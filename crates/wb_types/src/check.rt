@@ -12,14 +12,14 @@ ghost use Rattle.wb_resolved.specs.declared.production.Local.{Local};
 ghost use Rattle.wb_resolved.specs.declared.production.Production.{Production};
 ghost use Rattle.wb_resolved.specs.Attribution.{IsAttribution};
 ghost use Rattle.wb_resolved.specs.Named.{IsNamedProduction};
-ghost use Rattle.wb_types.specs.Asked.{attribute_of};
+ghost use Rattle.wb_types.specs.Expected.{attribute_of};
 ghost use Rattle.wb_types.specs.Kinds.{IsAttributeKind};
 ghost use Rattle.wb_types.specs.Refusals.{IsTrueRefusal};
-ghost use Rattle.wb_types.specs.Rules.{AreKinds, IsKnown, HasArity};
+ghost use Rattle.wb_types.specs.Rules.{KindsOk, IsKnown, HasArity};
 ghost use Rattle.wb_types.specs.Inner.Passes.{Passes, FailsKnown, Fails, AllPass, SomeFails, AnyFails};
 
 use crate::TypeRefusal;
-use crate::context::{Asked, Context, Rule};
+use crate::context::{Context, Expected, Rule};
 use crate::kinds::{attribute_kind, is_at, kinds_of};
 use std::alloc::Global;
 use wb_base::Kind;
@@ -29,14 +29,16 @@ use wb_resolved::{AttributionParts, Node, Resolved, Target};
 /// Whether each expression of a resolved specification is of the kind that its place asks for, over a table of operations.
 ///
 /// A literal has its kind; a plain child, a local, an attribute and an operation have their declared kinds; a lexeme is a text; a call of
-/// a production has the kind of its left side, and its arguments have the kinds of the children. The condition of an `if` is a truth
-/// value, and both branches have the kind of the whole. Takes time about linear in the specification.
+/// a production has the kind of its left side, and its arguments have the kinds of the children, where a terminal child wants a text. The
+/// condition of an `if` is a truth value, and both branches have the kind of the whole. An equation's expression has the kind of its
+/// attribute or local, and what is forwarded to is a tree of the left side. Rules are tested one after the other, each on all
+/// expressions. No clause bounds the time; it is about linear in the specification.
 pub fn check_types<M: Meaning>(
     alloc: Global,
     resolved: &Resolved,
     operations: &OperationTable<M>,
 ) -> Result<(), TypeRefusal>
-    ensures ok { IfOk result (λ done. AreKinds resolved.now.attributes operations.now.signatures) }
+    ensures ok { IfOk result (λ done. KindsOk resolved.now.attributes operations.now.signatures) }
     ensures refused { IfErr result (IsTrueRefusal resolved.now.attributes operations.now.signatures) }
 {
     check_kinds(
@@ -53,7 +55,7 @@ fn check_kinds(
     operations: &OperationSignatures,
 ) -> Result<(), TypeRefusal>
     requires { IsAttribution attributes.now }
-    ensures ok { IfOk result (λ done. AreKinds attributes.now operations.now) }
+    ensures ok { IfOk result (λ done. KindsOk attributes.now operations.now) }
     ensures refused { IfErr result (IsTrueRefusal attributes.now operations.now) }
 {
     check_rule(alloc, Rule::Known, attributes, operations)?;
@@ -101,12 +103,12 @@ fn check_locals(alloc: Global, rule: Rule, context: &Context) -> Result<(), Type
     ensures refused { IfErr result (SomeFails rule context.now.attributes.now context.now.operations.now context.now.production.now) }
 {
     'locals: for local in context.production.locals.as_slice() {
-        let asked = Asked {
+        let expected = Expected {
             nodes: local.nodes.as_slice(),
             kind: Kind::Tree(local.nonterminal),
             offset: local.offset,
         };
-        check_expression(alloc, rule, context, &asked)?;
+        check_expression(alloc, rule, context, &expected)?;
     }
     Ok(())
 }
@@ -120,12 +122,12 @@ fn check_forward(alloc: Global, rule: Rule, context: &Context) -> Result<(), Typ
     let Some(forward) = &context.production.forward else {
         return Ok(());
     };
-    let asked = Asked {
+    let expected = Expected {
         nodes: forward.nodes.as_slice(),
         kind: Kind::Tree(context.production.left),
         offset: forward.offset,
     };
-    check_expression(alloc, rule, context, &asked)
+    check_expression(alloc, rule, context, &expected)
 }
 
 // Whether the expressions of its equations do.
@@ -139,12 +141,12 @@ fn check_equations(alloc: Global, rule: Rule, context: &Context) -> Result<(), T
         else {
             continue;
         };
-        let asked = Asked {
+        let expected = Expected {
             nodes: equation.nodes.as_slice(),
             kind,
             offset: equation.offset,
         };
-        check_expression(alloc, rule, context, &asked)?;
+        check_expression(alloc, rule, context, &expected)?;
     }
     Ok(())
 }
@@ -165,24 +167,24 @@ fn check_expression(
     alloc: Global,
     rule: Rule,
     context: &Context,
-    asked: &Asked,
+    expected: &Expected,
 ) -> Result<(), TypeRefusal>
-    requires { IsWhole asked.now.nodes.now }
-    ensures ok { IfOk result (λ done. Passes rule context.now.attributes.now context.now.operations.now context.now.production.now asked.now.nodes.now asked.now.kind) }
-    ensures refused { IfErr result (Fails rule context.now.attributes.now context.now.operations.now context.now.production.now asked.now.nodes.now asked.now.kind asked.now.offset) }
+    requires { IsWhole expected.now.nodes.now }
+    ensures ok { IfOk result (λ done. Passes rule context.now.attributes.now context.now.operations.now context.now.production.now expected.now.nodes.now expected.now.kind) }
+    ensures refused { IfErr result (Fails rule context.now.attributes.now context.now.operations.now context.now.production.now expected.now.nodes.now expected.now.kind expected.now.offset) }
 {
     match rule {
-        Rule::Known => check_known(context.operations, asked.nodes),
+        Rule::Known => check_known(context.operations, expected.nodes),
         Rule::Arity => {
-            if !have_arities(context, asked.nodes) {
-                return Err(TypeRefusal::WrongArity(asked.offset));
+            if !have_arities(context, expected.nodes) {
+                return Err(TypeRefusal::WrongArity(expected.offset));
             }
             Ok(())
         }
         Rule::Kind => {
-            let kinds = kinds_of(alloc, context, asked.nodes)?;
-            if !is_at(&kinds, asked.nodes.len() - 1, asked.kind) {
-                return Err(TypeRefusal::TypeMismatch(asked.offset));
+            let kinds = kinds_of(alloc, context, expected.nodes)?;
+            if !is_at(&kinds, expected.nodes.len() - 1, expected.kind) {
+                return Err(TypeRefusal::TypeMismatch(expected.offset));
             }
             Ok(())
         }

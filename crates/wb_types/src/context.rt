@@ -1,4 +1,6 @@
-//! What are the rules about an expression read from?
+//! In which production is an expression, and of which kind has it to be?
+//!
+//! All rules read the same few things, so they are handed on together. The rules themselves are in `check`.
 
 use wb_base::Kind;
 use wb_operations::OperationSignatures;
@@ -14,7 +16,7 @@ pub(crate) struct Context<'a> {
 
 // An expression, the kind that it has to be of, and where its equation begins.
 #[derive(Clone, Copy)]
-pub(crate) struct Asked<'a> {
+pub(crate) struct Expected<'a> {
     pub(crate) nodes: &'a [Node],
     pub(crate) kind: Kind,
     pub(crate) offset: usize,

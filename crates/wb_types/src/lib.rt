@@ -7,7 +7,9 @@
 mod check;
 mod context;
 mod kinds;
+mod laws;
 mod refusal;
 
 pub use check::check_types;
+pub use laws::one_answer_law;
 pub use refusal::TypeRefusal;

@@ -10,10 +10,11 @@ use wb_base::Bytes;
 pub enum TypeRefusal {
     /// N1: an expression calls an operation of this name, and there is none.
     UnknownOperation(Bytes),
-    /// Y2: a production or operation has another number of arguments than it has to, in the expression whose equation begins at this
-    /// position, in bytes from the beginning of the file.
+    /// Y2: in the expression of an equation a production or operation has another number of arguments than it takes. The position is that
+    /// of the equation's first token, in bytes from the beginning of its owner's file; that of `forwards to` is in the file of the
+    /// production's owner.
     WrongArity(usize),
-    /// Y1: the expression whose equation begins at this position isn't of the kind that its place asks for.
+    /// Y1: an equation's expression isn't of the kind that its place asks for. The position is as for Y2.
     TypeMismatch(usize),
     /// There was no memory to tell.
     NoMemory(AllocError),

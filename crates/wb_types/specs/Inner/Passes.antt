@@ -10,7 +10,7 @@ use Rattle.wb_types.specs.declared.context.Rule.{Rule}
 use Rattle.wb_types.specs.declared.context.Rule.TheVariants as rule
 use Rattle.wb_types.specs.declared.refusal.TypeRefusal.{TypeRefusal}
 use Rattle.wb_types.specs.declared.refusal.TypeRefusal.TheVariants as r
-use Rattle.wb_types.specs.Asked.{IsAsked}
+use Rattle.wb_types.specs.Expected.{IsExpected}
 use Rattle.wb_types.specs.Rules.{IsKnown, HasArity, IsOfKind}
 
 -- the expression of these nodes passes the rule, where this kind is asked for
@@ -45,7 +45,7 @@ Fails rule.Kind a operations production nodes is offset refusal = FailsKind a op
 
 -- each expression of the production passes the rule
 abbrev pub AllPass : Rule → AttributionParts → List OperationSignature → Production → Type 0
-AllPass tested a operations production = (nodes : List Node) (is : Kind) (offset : ℕ) → IsAsked a production nodes is offset
+AllPass tested a operations production = (nodes : List Node) (is : Kind) (offset : ℕ) → IsExpected a production nodes is offset
     → Passes tested a operations production nodes is
 
 -- the refusal tells that an expression of the production fails the rule
@@ -54,7 +54,7 @@ pub record SomeFails (tested : Rule) (a : AttributionParts) (operations : List O
   pub nodes : List Node
   pub is : Kind
   pub offset : ℕ
-  pub asked : IsAsked a production nodes is offset
+  pub asked : IsExpected a production nodes is offset
   pub fails : Fails tested a operations production nodes is offset refusal
 
 -- the refusal tells that an expression of some production fails the rule

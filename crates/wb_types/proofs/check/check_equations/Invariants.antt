@@ -1,7 +1,7 @@
 use Rattle.std.proofs.Common.{All, take}
 use Rattle.wb_base.specs.declared.symbol.Kind.{Kind}
 use Rattle.wb_resolved.specs.declared.equation.Equation.{Equation}
-use Rattle.wb_types.specs.Asked.{attribute_of}
+use Rattle.wb_types.specs.Expected.{attribute_of}
 use Rattle.wb_types.specs.Kinds.{IsAttributeKind}
 use Rattle.wb_types.specs.Inner.Passes.{Passes}
 use Rattle.wb_types.proofs.check.check_equations.Given as goal

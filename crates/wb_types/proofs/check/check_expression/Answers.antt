@@ -9,19 +9,19 @@ use Rattle.wb_types.proofs.PassLemmas.{last_whole, whole_last}
 use Rattle.wb_types.proofs.check.check_expression.Goals as goal
 
 pub kinds_of-requires : goal.kinds_of-requires
-kinds_of-requires c = whole_has_parts_before c.args.asked.now.nodes.now c.requires
+kinds_of-requires c = whole_has_parts_before c.args.expected.now.nodes.now c.requires
 
-pub overflow_sub-asked : goal.overflow_sub-asked
-overflow_sub-asked c = whole_some c.args.asked.now.nodes.now c.requires
+pub overflow_sub-expected : goal.overflow_sub-expected
+overflow_sub-expected c = whole_some c.args.expected.now.nodes.now c.requires
 
 pub returns-then-not-is_at-clause-refused : goal.returns-then-not-is_at-clause-refused
 returns-then-not-is_at-clause-refused c =
     let a = c.args.context.now.attributes.now in
     let operations = c.args.context.now.operations.now in
     let production = c.args.context.now.production.now in
-    let nodes = c.args.asked.now.nodes.now in
-    let is = c.args.asked.now.kind in
-    let offset = c.args.asked.now.offset in
+    let nodes = c.args.expected.now.nodes.now in
+    let is = c.args.expected.now.kind in
+    let offset = c.args.expected.now.offset in
     let kept = subst (λ (ks : List (Option Kind)). AreKept a operations production nodes ks (length nodes)) (sym c.deref.ensures.value)
     c.in_ok-kinds-in-Kind.ensures.kept in
     subst (λ (rule : Rule). Fails rule a operations production nodes is offset (TypeMismatch offset)) (sym c.in-Kind.is) (
@@ -37,8 +37,8 @@ returns-else-not-is_at-clause-ok c =
     let a = c.args.context.now.attributes.now in
     let operations = c.args.context.now.operations.now in
     let production = c.args.context.now.production.now in
-    let nodes = c.args.asked.now.nodes.now in
-    let is = c.args.asked.now.kind in
+    let nodes = c.args.expected.now.nodes.now in
+    let is = c.args.expected.now.kind in
     let kept = subst (λ (ks : List (Option Kind)). AreKept a operations production nodes ks (length nodes)) (sym c.deref.ensures.value)
     c.in_ok-kinds-in-Kind.ensures.kept in
     subst (λ (rule : Rule). Passes rule a operations production nodes is) (sym c.in-Kind.is)

@@ -1,7 +1,7 @@
 use Rattle.std.proofs.Common.{refl}
 use Rattle.std.proofs.lemmas.Result.{IfErr-weaker}
 use Rattle.wb_base.specs.declared.symbol.Kind.TheVariants.{Tree}
-use Rattle.wb_types.specs.Asked as s
+use Rattle.wb_types.specs.Expected as s
 use Rattle.wb_types.specs.Inner.Passes.{Fails, SomeFails}
 use Rattle.wb_types.proofs.PassLemmas.{some_fails}
 use Rattle.wb_types.proofs.check.check_forward.Goals as goal

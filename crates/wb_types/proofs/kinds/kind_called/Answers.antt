@@ -21,7 +21,7 @@ pub returns : goal.returns
 returns c = λ is. (
   λ e. subst (CallsKind c.args.operations.now c.args.kinds.now c.args.name.now c.args.arguments.now) (cc e)
       (gives_calls c.args.operations.now c.args.kinds.now c.args.name.now c.args.arguments.now c.in_ok-number.number c.takes.result.now
-          c.gives.result
+      c.gives.result
       c.in_ok-number.ensures.found c.takes.ensures c.gives.ensures (c.are_at.ensures.0 c.if-not-are_at.false)),
   λ calls. ap Some
       (calls_gives c.args.operations.now c.args.kinds.now c.args.name.now c.args.arguments.now c.in_ok-number.number c.gives.result

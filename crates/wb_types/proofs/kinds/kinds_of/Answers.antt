@@ -21,9 +21,9 @@ nodes-preserved c =
       is = λ default. get_or_default nodes place default node c.nodes-test.true ∙ sym c.index-nodes-place.is;
     } in
     let exact = λ (is : Kind). subst (λ (ks : List (Option Kind)).
-        (c.kind_of-kind.result ≡ Some is) ↔ NodeHasKind a operations production ks node is)
+    (c.kind_of-kind.result ≡ Some is) ↔ NodeHasKind a operations production ks node is)
     c.deref.ensures.value (c.kind_of-kind.ensures is) in
     let more = kept_more a operations production nodes kinds place node c.kind_of-kind.result c.requires len kept has exact in
     subst (λ (ks : List (Option Kind)). (length ks ≡ place + 1) × AreKept a operations production nodes ks (place + 1))
-        (sym c.in_ok-push.ensures.ok)
+    (sym c.in_ok-push.ensures.ok)
     (omega (arith, length-append kinds (c.kind_of-kind.result ∷ []), len), more)

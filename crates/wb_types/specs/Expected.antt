@@ -19,13 +19,13 @@ attribute_of (target.Place at attribute) = attribute
 attribute_of (target.Forward attribute) = attribute
 
 -- the production has an expression of these nodes, which has to be of this kind, and whose equation begins at this offset
-pub data IsAsked (a : AttributionParts) (production : Production) (nodes : List Node) (is : Kind) (offset : ℕ) : Type 0 where
+pub data IsExpected (a : AttributionParts) (production : Production) (nodes : List Node) (is : Kind) (offset : ℕ) : Type 0 where
   -- a local's is a tree of its nonterminal
   local : (l : Local) → Contains production.locals l → nodes ≡ l.nodes → is ≡ kind.Tree l.nonterminal → offset ≡ l.offset
-      → IsAsked a production nodes is offset
+      → IsExpected a production nodes is offset
   -- what the production forwards to is a tree of its left side
   forward : (f : Forward) → production.forward ≡ Some f → nodes ≡ f.nodes → is ≡ kind.Tree production.left → offset ≡ f.offset
-      → IsAsked a production nodes is offset
+      → IsExpected a production nodes is offset
   -- an equation's has the kind of its attribute
   equation : (e : Equation) → Contains production.equations e → nodes ≡ e.nodes → IsAttributeKind a (attribute_of e.target) is
-      → offset ≡ e.offset → IsAsked a production nodes is offset
+      → offset ≡ e.offset → IsExpected a production nodes is offset
