@@ -1,8 +1,8 @@
 -- Rows in one list: the row of a place lies between two ends, and a push adds a row.
 use Rattle.std.proofs.Common.{◌≡◌, ℕ, zero, suc, ◌+◌, ◌-◌, ◌≤◌, ◌<◌, List, [], ◌∷◌, ◌++◌, refl, sym, ◌∙◌, ap, arith, length, get_or, take, drop}
 use Rattle.std.proofs.lemmas.List.{length-drop, take_all, get_or_default}
-use Rattle.wb_automata.specs.Rows.{row, rows_between, AreEnds}
-use Rattle.wb_automata.specs.Inner.FlatRows.{start_at}
+use Rattle.wb_automata.specs.Rows.{row, rows_between}
+use Rattle.wb_automata.specs.Inner.FlatRows.{start_at, AreEnds}
 
 -- all rows have their ends
 pub rows_len : (numbers : List ℕ) (from : ℕ) (ends : List ℕ) → length (rows_between numbers from ends) ≡ length ends

@@ -1,5 +1,5 @@
 -- Lists of lists, and how they lie in one list.
-use Rattle.std.specs.Prelude.{◌≡◌, ◌-◌, ◌≤◌, ℕ, List, [], ◌∷◌, slice_index_or, take, drop}
+use Rattle.std.specs.Prelude.{◌-◌, ℕ, List, [], ◌∷◌, slice_index_or, take, drop}
 
 -- the list at a place, and the empty one where there is none
 abbrev pub row : List (List ℕ) → ℕ → List ℕ
@@ -9,8 +9,3 @@ row rows a = slice_index_or rows a []
 abbrev pub rows_between : List ℕ → ℕ → List ℕ → List (List ℕ)
 rows_between numbers from [] = []
 rows_between numbers from (end ∷ ends) = take (end - from) (drop from numbers) ∷ rows_between numbers end ends
-
--- the ends rise from a place to the length
-abbrev pub AreEnds : ℕ → ℕ → List ℕ → Type 0
-AreEnds len from [] = from ≡ len
-AreEnds len from (end ∷ ends) = (from ≤ end) × AreEnds len end ends

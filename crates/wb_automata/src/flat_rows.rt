@@ -17,7 +17,8 @@ pub(crate) struct FlatRows {
 
 impl Model for FlatRows {
     ghost use Rattle.std.specs.Prelude.{List, ℕ, length};
-    ghost use Rattle.wb_automata.specs.Rows.{rows_between, AreEnds};
+    ghost use Rattle.wb_automata.specs.Rows.{rows_between};
+    ghost use Rattle.wb_automata.specs.Inner.FlatRows.{AreEnds};
 
     ghost Value = { List (List ℕ) };
 

@@ -1,5 +1,5 @@
 -- Four words are a byte set in one way, and a set has a byte where a word has a bit.
-use Rattle.std.proofs.Common.{◌≡◌, ℕ, zero, suc, ◌+◌, ◌-◌, ◌*◌, ◌/◌, ◌%◌, ◌^◌, ◌<◌, Bool, true, false, cond, ◌&&◌, List, length, get_or, refl, sym, ◌∙◌, ap, arith, inl, inr, eq-eqb, w64}
+use Rattle.std.proofs.Common.{◌≡◌, ℕ, zero, suc, ◌+◌, ◌-◌, ◌*◌, ◌/◌, ◌%◌, ◌^◌, ◌<◌, Bool, true, false, cond, List, length, get_or, refl, sym, ◌∙◌, ap, arith, inl, inr, eq-eqb, w64}
 use Rattle.std.specs.Prelude.{slice_index}
 use Rattle.std.specs.Int.{bit_at, trailing_zeros}
 use Rattle.std.proofs.Math.Nat.{pow-succ'}

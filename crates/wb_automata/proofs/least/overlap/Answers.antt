@@ -1,4 +1,4 @@
-use Rattle.std.proofs.Common.{◌≡◌, [], ◌∷◌, Some, ap, refl, arith}
+use Rattle.std.proofs.Common.{◌≡◌, Some, ap, refl, arith}
 use Rattle.std.specs.Prelude.{slice_get}
 use Rattle.wb_automata.proofs.LeastLemmas.{in_all, least_of}
 use Rattle.wb_automata.proofs.least.overlap.Goals as goal

@@ -1,4 +1,4 @@
-use Rattle.std.proofs.Common.{length, refl, ap, arith}
+use Rattle.std.proofs.Common.{length, ap, arith}
 use Rattle.std.proofs.lemmas.Grind.{common_steps}
 use Rattle.wb_regex.proofs.ReadLemmas.{begun_read, more_read, fault, stopped}
 use Rattle.wb_regex.proofs.read.read_symbols.Goals as goal

@@ -1,8 +1,9 @@
-use Rattle.std.proofs.Common.{ap, refl, sym, subst, ◌∙◌, ◌∷◌}
+use Rattle.std.proofs.Common.{ap, refl, sym, subst, ◌∙◌, ◌∷◌, Bool, List, length}
+use Rattle.std.proofs.lemmas.Result.{IfOk-weaker}
 use Rattle.wb_regex.specs.Tree.{Set}
-use Rattle.wb_regex.specs.Inner.ReaderSteps.{Before, After, Within, no_level, dot_words, literal_state, begin_atom}
+use Rattle.wb_regex.specs.Inner.ReaderSteps.{Before, After, Within, no_level, dot_words, literal_state, begin_atom, Level}
 use Rattle.wb_regex.specs.Inner.ClassSteps.{Begin}
-use Rattle.wb_regex.specs.Inner.Reader.{Keeps}
+use Rattle.wb_regex.specs.Inner.Reader.{Keeps, Stands, Shifted}
 use Rattle.wb_regex.proofs.ReaderSteps.{open_keeps, within_keeps, other_begun, took_by}
 use Rattle.wb_regex.proofs.reader.Reader.begin.Goals as goal
 
@@ -19,7 +20,11 @@ returns-in_ok-set-in-Dot c = λ l ls h. (
   subst (λ w. Keeps c.set.new.self (After (Set w) l ls)) c.dot_set.ensures.words (c.in_ok-set-in-Dot.ensures 0 l ls c.dot_set.ensures.some h),
 )
 
-pub returns-in_ok-shifted-in_default : goal.returns-in_ok-shifted-in_default
-returns-in_ok-shifted-in_default c = λ l ls h.
+pub returns-in_default : goal.returns-in_default
+returns-in_default c =
+    let new = c.literal-in_default.new.self in
+    let begun : (shifted : Bool) → ((l : Level) (ls : List Level) → Stands c.args.self.now (length c.args.self.now.nodes.items) l ls → Shifted shifted (literal_state c.literal.result l ls) new) → (l : Level) (ls : List Level) → Stands c.args.self.now (length c.args.self.now.nodes.items) l ls → Shifted shifted (begin_atom c.args.symbol l ls) new = λ shifted k l ls h. (
     let e = other_begun c.args.symbol l ls c.in_default.not-OpenParenthesis c.in_default.not-OpenClass c.in_default.not-Dot in
-    took_by _ _ _ _ (e ∙ ap (λ o. literal_state o l ls) (sym c.literal.ensures)) (c.in_ok-shifted-in_default.ensures l ls h)
+    took_by _ _ _ _ (e ∙ ap (λ o. literal_state o l ls) (sym c.literal.ensures)) (k l ls h)
+    ) in
+    IfOk-weaker c.literal-in_default.result _ _ begun c.literal-in_default.ensures
