@@ -1,6 +1,6 @@
 //! Which items are in the closure of a kernel? The initial items of each nonterminal after a dot are added once.
 
-ghost use Rattle.std.specs.Prelude.{◌≡◌, ◌↔◌, ◌++◌, ℕ, List, IfOk, OnOk, Contains, map, ◌<◌, ◌+◌, vec_len, length, slice_get, Some};
+ghost use Rattle.std.specs.Prelude.{◌≡◌, ◌↔◌, ◌++◌, IfOk, OnOk, Contains, map, ◌<◌, ◌+◌, vec_len, length, Some};
 ghost use Rattle.wb_grammars.specs.declared.item.Item.{Item};
 ghost use Rattle.wb_grammars.specs.Items.{initial_item};
 ghost use Rattle.wb_grammars.specs.Closure.{InClosure};
@@ -87,18 +87,10 @@ fn open(
     let item = item_at(closure, place);
     if let Some(nonterminal) = nonterminal_after(grammar, item) {
         if opened.insert(nonterminal) {
-            add_initial_items(numbers_at(rules, nonterminal), closure)?;
+            add_initial_items(rules[nonterminal].as_slice(), closure)?;
         }
     }
     Ok(())
-}
-
-// The productions of a nonterminal.
-fn numbers_at(rules: &[Numbers], nonterminal: usize) -> &[usize]
-    requires { nonterminal < length rules.now }
-    ensures { slice_get rules.now nonterminal ≡ Some result.now }
-{
-    rules[nonterminal].as_slice()
 }
 
 // Adds the items of these productions with the dot at the left end.

@@ -1,6 +1,6 @@
 //! To which kernel does a symbol lead? The items that move over it stand together in the list of `advance.rt`.
 
-ghost use Rattle.std.specs.Prelude.{◌≡◌, ◌<◌, ◌≤◌, ◌+◌, ◌-◌, ◌↔◌, IfOk, OnOk, Some, Contains, length, slice_get, take, drop};
+ghost use Rattle.std.specs.Prelude.{◌≡◌, ◌<◌, ◌+◌, ◌-◌, ◌↔◌, IfOk, OnOk, Some, Contains, length, slice_get};
 ghost use Rattle.wb_grammars.specs.declared.item.Item.{Item};
 ghost use Rattle.wb_items.specs.declared.advance.Advance.{Advance};
 ghost use Rattle.wb_items.specs.Inner.Advances.{AreAdvancesRising, IsRun, items_of, symbol_of};
@@ -26,14 +26,6 @@ pub(crate) fn run_end(list: &[Advance], place: usize, symbol: Symbol) -> usize
         }
     }
     list.len()
-}
-
-// The list from one place to below another.
-pub(crate) fn run_of(list: &[Advance], place: usize, end: usize) -> &[Advance]
-    requires { (place ≤ end) × (end ≤ length list.now) }
-    ensures { result.now ≡ take (end - place) (drop place list.now) }
-{
-    &list[place..end]
 }
 
 // The items, each once.

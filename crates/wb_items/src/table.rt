@@ -18,7 +18,7 @@ ghost use Rattle.wb_items.specs.Inner.Growing.{Grows, IsKernelFor};
 use crate::advance::{Advance, advances, symbol_at};
 use crate::closure::close;
 use crate::kernel_index::KernelIndex;
-use crate::kernel_of_symbol::{kernel_after, run_end, run_of};
+use crate::kernel_of_symbol::{kernel_after, run_end};
 use crate::productions_of::{Numbers, production_numbers};
 use crate::transitions::Move;
 use std::alloc::{AllocError, Global};
@@ -134,7 +134,7 @@ fn add_move(
 {
     let symbol = symbol_at(list, place);
     let end = run_end(list, place, symbol);
-    let kernel = kernel_after(alloc, run_of(list, place, end))?;
+    let kernel = kernel_after(alloc, &list[place..end])?;
     let next = number_of(grammar, state, symbol, kernel, found)?;
     push(
         row,

@@ -1,6 +1,6 @@
 //! To which kernel does a symbol lead from one? The row of its moves is in the order of symbols, and searched by binary search.
 
-ghost use Rattle.std.specs.Prelude.{◌≡◌, ◌<◌, ℕ, IfSome, IfNone, Contains, length, Some, slice_get};
+ghost use Rattle.std.specs.Prelude.{◌≡◌, ◌<◌, ℕ, IfSome, IfNone, Contains, Some};
 ghost use Rattle.std.specs.Ordering.{MatchOrdering};
 ghost use Rattle.wb_base.specs.declared.symbol.Symbol.{Symbol};
 ghost use Rattle.wb_items.specs.Order.{SymbolPrecedes};
@@ -26,7 +26,7 @@ pub(crate) fn find_move(row: &[Move], symbol: Symbol) -> Option<usize>
     let mut high = row.len();
     'halves: while low < high {
         let middle = low + (high - low) / 2;
-        let found = move_at(row, middle);
+        let found = row[middle];
         match compare_symbols(found.symbol, symbol) {
             Ordering::Less => low = middle + 1,
             Ordering::Equal => return Some(found.state),
@@ -34,14 +34,6 @@ pub(crate) fn find_move(row: &[Move], symbol: Symbol) -> Option<usize>
         }
     }
     None
-}
-
-// The move at a place.
-fn move_at(row: &[Move], place: usize) -> Move
-    requires { place < length row.now }
-    ensures { slice_get row.now place ≡ Some result }
-{
-    row[place]
 }
 
 // Which of the symbols comes first.

@@ -15,7 +15,8 @@ places-preserved c =
     let is_rest : IsRest g (drop (n + 1) right) c.in_ok-rest.rest = subst (λ z. IsRest g z c.in_ok-rest.rest) all c.in_ok-rest.ensures in
     record {
       len = length_more c.places.row.items c.push.new.list.items c.join_repeats.new.rest n c.places.invariant.len c.in_ok-push.ensures.ok;
-      each = rests_more g right c.places.row.items c.push.new.list.items n c.join_repeats.new.rest _ c.places.invariant.len c.in_ok-push.ensures.ok
+      each = rests_more g right c.places.row.items c.push.new.list.items n c.join_repeats.new.rest _ c.places.invariant.len
+          c.in_ok-push.ensures.ok
           (slice_get-get_or right n _ c.places-test.true)
           (joined_opening g _ (drop
               (n + 1) right) c.args.repeats.now c.in_ok-rest.rest c.join_repeats.new.rest is_rest c.requires.repeats c.join_repeats.ensures)

@@ -6,8 +6,10 @@ use Rattle.wb_lookahead.proofs.first_of.rests_with.Goals as goal
 
 pub productions-preserved : goal.productions-preserved
 productions-preserved c = record {
-  len = length_more c.productions.rests.items c.push.new.list.items c.in_ok-rests_in.field-0 c.productions.production c.productions.invariant.len c.in_ok-push.ensures.ok;
-  each = rows_more c.args.grammar.now c.productions.rests.items c.push.new.list.items c.productions.production c.in_ok-rests_in.field-0 c.productions.invariant.len c.in_ok-push.ensures.ok
+  len = length_more c.productions.rests.items c.push.new.list.items c.in_ok-rests_in.field-0 c.productions.production
+      c.productions.invariant.len c.in_ok-push.ensures.ok;
+  each = rows_more c.args.grammar.now c.productions.rests.items c.push.new.list.items c.productions.production c.in_ok-rests_in.field-0
+      c.productions.invariant.len c.in_ok-push.ensures.ok
       (λ a right rule. subst (λ z. AreRestsOf c.args.grammar.now z c.in_ok-rests_in.field-0)
       (subst (λ o. IfSome o (λ p. c.right.result.now ≡ p.1)) rule c.right.ensures.right) c.in_ok-rests_in.ensures)
       c.productions.invariant.each;

@@ -21,7 +21,8 @@ place_near-at-requires-clause-item c =
     slice_get-get_or c.args.context.now.productions.now c.args.nonterminal c.index-context-nonterminal.result lt ∙
     ap Some (sym c.as_slice-numbers.ensures) in
     let are : AreProductionsOf c.args.context.now.kernels.now.grammar c.args.nonterminal numbers =
-    productions_here c.args.context.now.kernels.now c.requires.context.of_grammar c.args.context.now.productions.now c.requires.context.are_productions c.args.nonterminal numbers at in
+    productions_here c.args.context.now.kernels.now c.requires.context.of_grammar c.args.context.now.productions.now
+        c.requires.context.are_productions c.args.nonterminal numbers at in
     let q = get_or numbers c.productions.production-index 0 in
     let (right, rule) = are.sound q (Contains-get_or numbers c.productions.production-index 0 c.productions-test.true) in
     row_has c.requires.context.are_kernels c.productions.lookaheads c.productions.invariant.propagated.shape c.args.state
@@ -36,11 +37,13 @@ productions-preserved c =
     slice_get-get_or c.args.context.now.productions.now c.args.nonterminal c.index-context-nonterminal.result lt ∙
     ap Some (sym c.as_slice-numbers.ensures) in
     let are : AreProductionsOf c.args.context.now.kernels.now.grammar c.args.nonterminal numbers =
-    productions_here c.args.context.now.kernels.now c.requires.context.of_grammar c.args.context.now.productions.now c.requires.context.are_productions c.args.nonterminal numbers at in
+    productions_here c.args.context.now.kernels.now c.requires.context.of_grammar c.args.context.now.productions.now
+        c.requires.context.are_productions c.args.nonterminal numbers at in
     let q = get_or numbers c.productions.production-index 0 in
     let (right, rule) = are.sound q (Contains-get_or numbers c.productions.production-index 0 c.productions-test.true) in
     let place = place_of c.args.state (initial_item q) c.place_near-at.result in
-    let within = state_within c.requires.context.are_kernels place c.requires.state c.productions.lookaheads c.productions.invariant.propagated.shape in
+    let within = state_within c.requires.context.are_kernels place c.requires.state c.productions.lookaheads
+        c.productions.invariant.propagated.shape in
     record {
       propagated = union_propagated place within c.productions.invariant.propagated
           (λ t has. (c.requires.exact q t right rule).0 has) c.unite.ensures;
@@ -63,6 +66,7 @@ returns-clause-filled c =
     slice_get-get_or c.args.context.now.productions.now c.args.nonterminal c.index-context-nonterminal.result lt ∙
     ap Some (sym c.as_slice-numbers.ensures) in
     let are : AreProductionsOf c.args.context.now.kernels.now.grammar c.args.nonterminal numbers =
-    productions_here c.args.context.now.kernels.now c.requires.context.of_grammar c.args.context.now.productions.now c.requires.context.are_productions c.args.nonterminal numbers at in
+    productions_here c.args.context.now.kernels.now c.requires.context.of_grammar c.args.context.now.productions.now
+        c.requires.context.are_productions c.args.nonterminal numbers at in
     λ q t right rule f. c.productions.invariant.filled q t (contains_all numbers c.productions.production-index q c.productions-test.false
     (are.complete q right rule)) f

@@ -17,14 +17,16 @@ fill_all-requires-clause-has c =
     (λ z. IsFirstOf z c.in-Some.nonterminal place.item.production) (sym c.requires.context.of_grammar) c.in-Some.ensures.is.0 in
     let has : HasItem K.grammar (prefix_of K place.state) (initial_item place.item.production) = subst
     (HasItem K.grammar (prefix_of K place.state)) c.in-Some.ensures.is.1 (place_has h place c.requires.place) in
-    λ q right rule. initial_all h place.state c.requires.place.state c.in-Some.nonterminal place.item.production q first.right right first.production rule has
+    λ q right rule. initial_all h place.state c.requires.place.state c.in-Some.nonterminal place.item.production q first.right right
+        first.production rule has
 
 pub fill_all-requires-clause-len : goal.fill_all-requires-clause-len
 fill_all-requires-clause-len c =
     let h = c.requires.context.are_kernels in
     let place = c.args.place in
     held_len h c.args.lookaheads.now c.requires.propagated.shape place.state c.requires.place.state place.item c.in_ok-set.set
-    (held h c.args.lookaheads.now c.requires.propagated.shape place c.requires.place c.at.result.now c.in_ok-set.set c.at.ensures c.in_ok-set.ensures)
+    (held h c.args.lookaheads.now c.requires.propagated.shape place c.requires.place c.at.result.now c.in_ok-set.set c.at.ensures
+        c.in_ok-set.ensures)
 
 pub fill_all-requires-clause-exact : goal.fill_all-requires-clause-exact
 fill_all-requires-clause-exact c =
@@ -34,11 +36,14 @@ fill_all-requires-clause-exact c =
     let first : IsFirstOf K.grammar c.in-Some.nonterminal place.item.production = subst
     (λ z. IsFirstOf z c.in-Some.nonterminal place.item.production) (sym c.requires.context.of_grammar) c.in-Some.ensures.is.0 in
     let set_is : IsSetOf c.args.lookaheads.now place.state place.item c.in_ok-set.set =
-    held h c.args.lookaheads.now c.requires.propagated.shape place c.requires.place c.at.result.now c.in_ok-set.set c.at.ensures c.in_ok-set.ensures in
+    held h c.args.lookaheads.now c.requires.propagated.shape place c.requires.place c.at.result.now c.in_ok-set.set c.at.ensures
+        c.in_ok-set.ensures in
     λ q t right rule.
-    let both = initial_exact place.state place.item c.in-Some.nonterminal q t right c.requires.propagated first c.in-Some.ensures.is.1 rule in (
+    let both = initial_exact place.state place.item c.in-Some.nonterminal q t right c.requires.propagated first c.in-Some.ensures.is.1
+        rule in (
       λ has. both.0 (c.in_ok-set.set, set_is, has),
-      λ f. listed_held h c.args.lookaheads.now c.requires.propagated.shape place.state c.requires.place.state place.item c.in_ok-set.set set_is t (both.1 f),
+      λ f. listed_held h c.args.lookaheads.now c.requires.propagated.shape place.state c.requires.place.state place.item c.in_ok-set.set
+          set_is t (both.1 f),
     )
 
 pub returns-in_default-clause-filled : goal.returns-in_default-clause-filled
@@ -52,4 +57,5 @@ returns-clause-filled c =
     let place = c.args.place in
     let first : IsFirstOf K.grammar c.in-Some.nonterminal place.item.production = subst
     (λ z. IsFirstOf z c.in-Some.nonterminal place.item.production) (sym c.requires.context.of_grammar) c.in-Some.ensures.is.0 in
-    filled_all K c.fill_all.new.lookaheads place.state place.item c.in-Some.nonterminal first c.in-Some.ensures.is.1 c.fill_all.ensures.filled
+    filled_all K c.fill_all.new.lookaheads place.state place.item c.in-Some.nonterminal first c.in-Some.ensures.is.1
+        c.fill_all.ensures.filled

@@ -15,5 +15,6 @@ places-preserved c = record {
   filled = filled_more c.args.context.now.kernels.now c.places.lookaheads c.fill_from.new.lookaheads c.args.state c.places.at
       (get_or c.closure-item-items.result.now c.places.at start)
       (ap (λ z. slice_get z c.places.at) (sym c.closure-item-items.ensures.is) ∙
-      slice_get-get_or c.closure-item-items.result.now c.places.at start c.places-test.true) c.in_ok-fill_from.ensures.keeps c.places.invariant.filled c.in_ok-fill_from.ensures.filled;
+      slice_get-get_or c.closure-item-items.result.now c.places.at start c.places-test.true) c.in_ok-fill_from.ensures.keeps
+          c.places.invariant.filled c.in_ok-fill_from.ensures.filled;
 }

@@ -10,7 +10,8 @@ pass_on-requires-clause-place c = first_place c.in-Some.place c.waiting.invarian
 pub waiting-preserved : goal.waiting-preserved
 waiting-preserved c = record {
   sound = c.in_ok-pass_on.ensures.sound;
-  waiting = passed_waiting c.pop.new.self c.in-Some.place c.in-Some.ensures c.waiting.invariant.waiting c.in_ok-pass_on.ensures.spreads c.in_ok-pass_on.ensures.passed;
+  waiting = passed_waiting c.pop.new.self c.in-Some.place c.in-Some.ensures c.waiting.invariant.waiting c.in_ok-pass_on.ensures.spreads
+      c.in_ok-pass_on.ensures.passed;
 }
 
 pub returns : goal.returns

@@ -19,7 +19,8 @@ pass_item-requires-clause-has c =
     slice_get-get_or c.args.context.now.productions.now c.args.nonterminal c.index-context-nonterminal.result lt ∙
     ap Some (sym c.as_slice-numbers.ensures) in
     let are : AreProductionsOf c.args.context.now.kernels.now.grammar c.args.nonterminal numbers =
-    productions_here c.args.context.now.kernels.now c.requires.context.of_grammar c.args.context.now.productions.now c.requires.context.are_productions c.args.nonterminal numbers at in
+    productions_here c.args.context.now.kernels.now c.requires.context.of_grammar c.args.context.now.productions.now
+        c.requires.context.are_productions c.args.nonterminal numbers at in
     let q = get_or numbers c.productions.production-index 0 in
     let (right, rule) = are.sound q (Contains-get_or numbers c.productions.production-index 0 c.productions-test.true) in
     c.requires.has q right rule
@@ -33,7 +34,8 @@ pass_item-requires-clause-flows c =
     slice_get-get_or c.args.context.now.productions.now c.args.nonterminal c.index-context-nonterminal.result lt ∙
     ap Some (sym c.as_slice-numbers.ensures) in
     let are : AreProductionsOf c.args.context.now.kernels.now.grammar c.args.nonterminal numbers =
-    productions_here c.args.context.now.kernels.now c.requires.context.of_grammar c.args.context.now.productions.now c.requires.context.are_productions c.args.nonterminal numbers at in
+    productions_here c.args.context.now.kernels.now c.requires.context.of_grammar c.args.context.now.productions.now
+        c.requires.context.are_productions c.args.nonterminal numbers at in
     let q = get_or numbers c.productions.production-index 0 in
     let (right, rule) = are.sound q (Contains-get_or numbers c.productions.production-index 0 c.productions-test.true) in
     λ t has. c.requires.flows q t right rule has
@@ -61,6 +63,7 @@ returns-clause-passed c =
     slice_get-get_or c.args.context.now.productions.now c.args.nonterminal c.index-context-nonterminal.result lt ∙
     ap Some (sym c.as_slice-numbers.ensures) in
     let are : AreProductionsOf c.args.context.now.kernels.now.grammar c.args.nonterminal numbers =
-    productions_here c.args.context.now.kernels.now c.requires.context.of_grammar c.args.context.now.productions.now c.requires.context.are_productions c.args.nonterminal numbers at in
+    productions_here c.args.context.now.kernels.now c.requires.context.of_grammar c.args.context.now.productions.now
+        c.requires.context.are_productions c.args.nonterminal numbers at in
     λ q t right rule has. c.productions.invariant.passed q t (contains_all numbers c.productions.production-index q c.productions-test.false
     (are.complete q right rule)) has

@@ -22,7 +22,8 @@ pass_item-requires-clause-len c =
     let h = c.requires.context.are_kernels in
     let place = c.args.place in
     let set_is : IsSetOf c.args.lookaheads.now place.state place.item c.in_ok-set.set =
-    held h c.args.lookaheads.now c.requires.sound.shape place c.requires.place c.at.result.now c.in_ok-set.set c.at.ensures c.in_ok-set.ensures in
+    held h c.args.lookaheads.now c.requires.sound.shape place c.requires.place c.at.result.now c.in_ok-set.set c.at.ensures
+        c.in_ok-set.ensures in
     held_len h c.args.lookaheads.now c.requires.sound.shape place.state c.requires.place.state place.item c.in_ok-set.set set_is
 
 pub pass_item-requires-clause-flows : goal.pass_item-requires-clause-flows
@@ -31,7 +32,8 @@ pass_item-requires-clause-flows c =
     let h = c.requires.context.are_kernels in
     let place = c.args.place in
     let set_is : IsSetOf c.args.lookaheads.now place.state place.item c.in_ok-set.set =
-    held h c.args.lookaheads.now c.requires.sound.shape place c.requires.place c.at.result.now c.in_ok-set.set c.at.ensures c.in_ok-set.ensures in
+    held h c.args.lookaheads.now c.requires.sound.shape place c.requires.place c.at.result.now c.in_ok-set.set c.at.ensures
+        c.in_ok-set.ensures in
     λ t has. c.requires.sound.sound place.state place.item t (c.in_ok-set.set, set_is, has)
 
 pub returns-then-place-gt0-clause-passed : goal.returns-then-place-gt0-clause-passed
@@ -40,7 +42,8 @@ returns-then-place-gt0-clause-passed c =
     let h = c.requires.context.are_kernels in
     let place = c.args.place in
     let set_is : IsSetOf c.args.lookaheads.now place.state place.item c.in_ok-set.set =
-    held h c.args.lookaheads.now c.requires.sound.shape place c.requires.place c.at.result.now c.in_ok-set.set c.at.ensures c.in_ok-set.ensures in
+    held h c.args.lookaheads.now c.requires.sound.shape place c.requires.place c.at.result.now c.in_ok-set.set c.at.ensures
+        c.in_ok-set.ensures in
     let sole : IsSole K.grammar place.item = elim c.then-place-gt0.branch [
       | then-place-gt0-via-then-place-gt0 w ↦ moved_sole K.grammar place.item w.if-place-gt0.true
       | then-place-gt0-via-else-place-gt0+then-place-productions w ↦
@@ -50,7 +53,8 @@ returns-then-place-gt0-clause-passed c =
     ] in
     on_ok_weaker c.pass_item.result
     (λ passed t lists. sole_passed sole
-    (passed t (listed_held h c.args.lookaheads.now c.requires.sound.shape place.state c.requires.place.state place.item c.in_ok-set.set set_is t lists)))
+    (passed t (listed_held h c.args.lookaheads.now c.requires.sound.shape place.state c.requires.place.state place.item c.in_ok-set.set
+        set_is t lists)))
     c.pass_item.ensures.passed
 
 pub pass_all-requires-clause-has : goal.pass_all-requires-clause-has
@@ -75,7 +79,8 @@ pass_all-requires-clause-len c =
     let h = c.requires.context.are_kernels in
     let place = c.args.place in
     let set_is : IsSetOf c.args.lookaheads.now place.state place.item c.in_ok-set.set =
-    held h c.args.lookaheads.now c.requires.sound.shape place c.requires.place c.at.result.now c.in_ok-set.set c.at.ensures c.in_ok-set.ensures in
+    held h c.args.lookaheads.now c.requires.sound.shape place c.requires.place c.at.result.now c.in_ok-set.set c.at.ensures
+        c.in_ok-set.ensures in
     held_len h c.args.lookaheads.now c.requires.sound.shape place.state c.requires.place.state place.item c.in_ok-set.set set_is
 
 pub pass_all-requires-clause-flows : goal.pass_all-requires-clause-flows
@@ -84,7 +89,8 @@ pass_all-requires-clause-flows c =
     let h = c.requires.context.are_kernels in
     let place = c.args.place in
     let set_is : IsSetOf c.args.lookaheads.now place.state place.item c.in_ok-set.set =
-    held h c.args.lookaheads.now c.requires.sound.shape place c.requires.place c.at.result.now c.in_ok-set.set c.at.ensures c.in_ok-set.ensures in
+    held h c.args.lookaheads.now c.requires.sound.shape place c.requires.place c.at.result.now c.in_ok-set.set c.at.ensures
+        c.in_ok-set.ensures in
     let same = c.requires.context.of_grammar in
     let lt : place.item.production < length c.args.context.now.grammar.now.productions = (let e = c.productions.ensures.count in let f =
     c.if-place-productions.false in omega (arith, e, f)) in
@@ -101,7 +107,8 @@ returns-clause-passed c =
     let h = c.requires.context.are_kernels in
     let place = c.args.place in
     let set_is : IsSetOf c.args.lookaheads.now place.state place.item c.in_ok-set.set =
-    held h c.args.lookaheads.now c.requires.sound.shape place c.requires.place c.at.result.now c.in_ok-set.set c.at.ensures c.in_ok-set.ensures in
+    held h c.args.lookaheads.now c.requires.sound.shape place c.requires.place c.at.result.now c.in_ok-set.set c.at.ensures
+        c.in_ok-set.ensures in
     let same = c.requires.context.of_grammar in
     let lt : place.item.production < length c.args.context.now.grammar.now.productions = (let e = c.productions.ensures.count in let f =
     c.if-place-productions.false in omega (arith, e, f)) in
@@ -112,5 +119,6 @@ returns-clause-passed c =
     on_ok_weaker c.pass_all.result
     (λ passed t lists. initial_passed c.left-left.result place.item.production w rule is
     (λ q right other. passed q t right other
-    (listed_held h c.args.lookaheads.now c.requires.sound.shape place.state c.requires.place.state place.item c.in_ok-set.set set_is t lists)))
+    (listed_held h c.args.lookaheads.now c.requires.sound.shape place.state c.requires.place.state place.item c.in_ok-set.set set_is t
+        lists)))
     c.pass_all.ensures.passed

@@ -11,4 +11,5 @@ returns-clause-exact c =
       closures =
           c.in_ok-table.table.closures.items;
     })) (sym c.in_ok-copy.ensures)
-    (whole c.args.grammar.now c.in_ok-table.table.found c.in_ok-table.table.closures.items c.in_ok-table.table.rows.items c.in_ok-table.ensures)
+    (whole c.args.grammar.now c.in_ok-table.table.found c.in_ok-table.table.closures.items c.in_ok-table.table.rows.items
+        c.in_ok-table.ensures)
