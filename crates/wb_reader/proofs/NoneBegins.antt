@@ -1,15 +1,16 @@
 -- With what is at the place of a first error, no specification's text begins.
-use Rattle.std.proofs.Common.{◌≡◌, ℕ, ◌<◌, ◌≤◌, List, [], ◌∷◌, ◌++◌, length, take, drop, sym, ap, ◌∙◌, subst, arith, length-take, length-append, append_assoc, ⊎_elim}
+use Rattle.std.proofs.Common.{◌≡◌, ℕ, ◌<◌, ◌≤◌, List, [], ◌∷◌, ◌++◌, length, take, drop, sym, ap, ◌∙◌, subst, arith, length-take, length-append, append_assoc, get_or, refl, inl, inr, ⊎_elim, ◌+◌}
 use Rattle.std.proofs.lemmas.Bool.{cases_lt}
-use Rattle.std.proofs.lemmas.List.{take-append-drop}
+use Rattle.std.proofs.lemmas.List.{take-append-drop, get_or_at}
 use Rattle.wb_predictive.specs.declared.table.Next.{Next}
 use Rattle.wb_predictive.specs.declared.table.Next.TheVariants.{Found, End, NoToken}
 use Rattle.wb_predictive.specs.Reading.{Spells, none, next, place_of}
 use Rattle.wb_tokens.specs.NextToken.{IsTokenAt, NextToken, IsNoToken, IsNextIn, GoesOver}
+use Rattle.wb_tokens.specs.Skipping.{IsLayoutPiece, blank, comment, SkipsLayout, stop, skip}
 use Rattle.wb_tokens.specs.declared.token.Layout.TheVariants.{WithComments}
 use Rattle.wb_tokens.specs.declared.token.Token.{Token}
-use Rattle.wb_tokens.proofs.AgreementLemmas.{EndsLine, kept_none}
-use Rattle.wb_tokens.proofs.CallerLemmas.{token_only, next_only}
+use Rattle.wb_tokens.proofs.AgreementLemmas.{EndsLine, kept_piece, kept_token, stops, passed}
+use Rattle.wb_tokens.proofs.CallerLemmas.{token_only}
 use Rattle.wb_tokens.proofs.LineFeedLemmas.{crosses_none}
 use Rattle.wb_tokens.proofs.OverLemmas.{same_or_over, no_end, GoesOn, begun_before, same_tokens, none_over}
 use Rattle.wb_tokens.proofs.PlacedLaws.{layout_forward}
@@ -18,7 +19,7 @@ use Rattle.wb_syntax.specs.Tokens.{Lexeme}
 use Rattle.wb_syntax.specs.ItemGrammar.{IsSpecification}
 use Rattle.wb_syntax.specs.SpecText.{IsWrittenText}
 use Rattle.wb_reader.specs.Refusals.{CanBegin, CannotFollow, IsSyntaxFault}
-use Rattle.wb_reader.specs.FirstFault.{IsFaultOfBytes, FaultsAreFirst}
+use Rattle.wb_reader.specs.FirstFault.{SomethingGoesOver, IsLineEnd, IsFaultOfBytes, FaultsAreFirst}
 use Rattle.wb_reader.proofs.FaultLemmas.{begins_before}
 use Rattle.wb_reader.proofs.OneText.{no_fault}
 
@@ -76,44 +77,76 @@ token_over p u v at f token here written t = by_next f.next f.stands f.fault f.p
     by_next (NoToken k) h fault place =
         absurd (h.none_stands token (length p) (subst (λ i. IsTokenAt (p ++ u) token i (length p)) (sym place) here))
 
--- where layout goes up to a place and no token is there, nothing else is next
-nothing_next : (text : List ℕ) (from at : ℕ) (written : WrittenSpec) (t : IsWrittenText text written) → IsNoToken WithComments text from at
-    → (rest : List Lexeme) → Spells (IsNextIn WithComments text) from rest t.to → ⊥
-nothing_next text from at written t none_there rest (none i) =
-    let e = next_only WithComments text from (End t.at) (NoToken at)
-    (subst (λ m. IsNextIn WithComments text m (End t.at)) (sym i) t.ended) none_there in
-    absurd (cc)
-nothing_next text from at written t none_there rest (next {x = y} n s) =
-    let e = next_only WithComments text from (Found y) (NoToken at) n none_there in absurd (cc)
+-- a token ends before the end of a line that comes after it
+in_line : (text : List ℕ) (x : Lexeme) (at end : ℕ) → IsTokenAt text x.token x.at x.end
+    → x.at ≡ at → at < end → EndsLine text end → x.end ≤ end
+in_line text x at end h place lt line = ⊎_elim
+    (λ over. absurd (crosses_none text x.token x.at x.end end h.spelled h.within (omega (arith, place)) over
+    (line (omega (arith, over, h.within)))))
+    (λ le. le) (cases_lt end x.end)
 
--- up to the end of a line after the place, and a line feed, none begins
-line_begins_none : (p u w : List ℕ) (at : ℕ) (f : IsSyntaxFault (p ++ u) at) → at < length p → EndsLine (p ++ u) (length p)
-    → (written : WrittenSpec) → ¬ IsWrittenText (p ++ 10 ∷ w) written
-line_begins_none p u w at f lt line written t = by_next f.next f.stands f.fault f.place
+-- where no token is at a place of the first text, a token or a comment of the second goes over the end of their common beginning
+over_here : (p u v : List ℕ) (from at end : ℕ) → SkipsLayout WithComments (p ++ u) from at → at < length p → EndsLine (p ++ u) (length p)
+    → SkipsLayout WithComments (p ++ v) at end → (end ≡ at → SomethingGoesOver (p ++ v) at (length p))
+    → SomethingGoesOver (p ++ v) at (length p)
+over_here p u v from at end skipped lt line (stop n e) same = same (sym e)
+over_here p u v from at end skipped lt line (skip {behind = behind} piece s) same =
+    by_piece behind piece (λ inside. stops WithComments (p ++ u) from at skipped behind
+    (kept_piece WithComments p v u at behind piece inside (λ e. subst (λ k. EndsLine (p ++ u) k) (sym e) line)))
   where
-    by_next : (what : Next Token) → IsNextIn WithComments (p ++ u) f.from what → CannotFollow f.front what → place_of what ≡ at → ⊥
+    by_piece : (behind : ℕ) → IsLayoutPiece WithComments (p ++ v) at behind → (behind ≤ length p → ⊥)
+        → SomethingGoesOver (p ++ v) at (length p)
+    by_piece behind (blank w b e) not_inside = absurd (not_inside (omega (arith, e)))
+    by_piece behind (comment l c) not_inside =
+        ⊎_elim (λ over. inr (behind, c, over)) (λ inside. absurd (not_inside inside)) (cases_lt (length p) behind)
+
+-- the same, where the second text is a specification's
+over_where_none : (p u v : List ℕ) (from at : ℕ) (written : WrittenSpec) (t : IsWrittenText (p ++ v) written)
+    → IsNoToken WithComments (p ++ u) from at
+    → at < length p → EndsLine (p ++ u) (length p) → (rest : List Lexeme) → Spells (IsNextIn WithComments (p ++ v)) from rest t.to
+    → SomethingGoesOver (p ++ v) at (length p)
+over_where_none p u v from at written t h lt line rest (none i) =
+    let ended = subst (λ m. IsNextIn WithComments (p ++ v) m (End t.at)) (sym i) t.ended in
+    over_here p u v from at t.at h.skipped lt line (passed WithComments p u v from at t.at h.skipped lt ended.skipped)
+    (λ e. absurd (omega (arith, e, ended.last, lt, length-append p v)))
+over_where_none p u v from at written t h lt line rest (next {x = y} n s) =
+    over_here p u v from at y.at h.skipped lt line (passed WithComments p u v from at y.at h.skipped lt n.skipped)
+    (λ e. ⊎_elim
+    (λ over. inl (record { token = y.token; from = y.at; to = y.end; begins = omega (arith, e); over = over; stands = n.stands }))
+    (λ inside. absurd (h.none_stands y.token y.end
+    (kept_token p v u y.token at y.end (subst (λ k. IsTokenAt (p ++ v) y.token k y.end) e n.stands) inside line)))
+    (cases_lt (length p) y.end))
+
+-- up to the end of a line after the place, only a text in which something goes over that end begins
+line_over : (p u v : List ℕ) (at : ℕ) (f : IsSyntaxFault (p ++ u) at) → at < length p → EndsLine (p ++ u) (length p)
+    → (written : WrittenSpec) → IsWrittenText (p ++ v) written → SomethingGoesOver (p ++ v) at (length p)
+line_over p u v at f lt line written t = by_next f.next f.stands f.fault f.place
+  where
+    by_next : (what : Next Token) → IsNextIn WithComments (p ++ u) f.from what → CannotFollow f.front what → place_of what ≡ at
+        → SomethingGoesOver (p ++ v) at (length p)
     by_next (Found x) h fault place =
-        let inside : x.end ≤ length p = ⊎_elim
-        (λ over. absurd (crosses_none (p ++ u) x.token x.at x.end (length p) h.stands.spelled h.stands.within
-        (omega (arith, place)) over
-        (line (omega (arith, over, h.stands.within)))))
-        (λ le. le) (cases_lt (length p) x.end) in
-        none_over p w at (omega arith) (over_end p u (10 ∷ w) at f x written t h inside place fault)
-    by_next (End k) h fault place = omega (arith, place, h.last, lt, length-append p u)
+        inl (over_end p u v at f x written t h (in_line (p ++ u) x at (length p) h.stands place lt line) place fault)
+    by_next (End k) h fault place = absurd (omega (arith, place, h.last, lt, length-append p u))
     by_next (NoToken k) h fault place =
-        let here = kept_none WithComments p u w f.from k h.skipped (omega (arith, place)) line h.none_stands in
         let low = layout_forward WithComments (p ++ u) f.from k h.skipped in
         ⊎_elim
-        (λ on. nothing_next (p ++ 10 ∷ w) f.from k written t
-        (record {
-          skipped = here.0;
-          within = omega (arith, place, lt, length-append p (10 ∷ w));
-          none_stands = here.1;
-        }) on.rest on.spelled)
-        (none_over p w at (omega arith))
-        (same_tokens WithComments p u (10 ∷ w) 0 f.from t.to t.at at f.front t.tokens f.spelled
+        (λ on. subst (λ m. SomethingGoesOver (p ++ v) m (length p)) place
+        (over_where_none p u v f.from k written t h (omega (arith, place)) line on.rest on.spelled))
+        inl
+        (same_tokens WithComments p u v 0 f.from t.to t.at at f.front t.tokens f.spelled
         (omega (arith, low, place)) (omega (arith, low, place))
         t.spelled t.ended)
+
+-- nothing goes over a line feed
+nothing_over : (p w : List ℕ) (at : ℕ) → at < length p → SomethingGoesOver (p ++ 10 ∷ w) at (length p) → ⊥
+nothing_over p w at lt (inl o) = none_over p w at (omega arith) o
+nothing_over p w at lt (inr (behind, c, over)) =
+    let feed : get_or (p ++ 10 ∷ w) (length p) 0 ≡ 10 = get_or_at p 10 w 0 (length p) refl in
+    ⊎_elim
+    (λ low. let second : at + 1 ≡ length p = omega (arith, low, lt) in
+    let e = sym c.second.is ∙ (ap (λ k. get_or (p ++ 10 ∷ w) k 0) second ∙ feed) in absurd (cc))
+    (λ high. c.one_line (length p) high over feed)
+    (cases_lt (length p) (at + 2))
 
 -- what is before a place of a text, and what is from there on
 record IsCut (bytes : List ℕ) (at end : ℕ) : Type 0 where
@@ -137,6 +170,14 @@ over_token bytes at f token end h v written t =
     (subst (λ k. IsTokenAt (take end bytes ++ drop end bytes) token at k) (sym c.place)
     (subst (λ l. IsTokenAt l token at end) (sym c.whole) h)) written t
 
+-- up to the end of a line after the place
+over_line : (bytes : List ℕ) (at : ℕ) → IsSyntaxFault bytes at → (end : ℕ) → IsLineEnd bytes at end → (v : List ℕ) (written : WrittenSpec)
+    → IsWrittenText (take end bytes ++ v) written → SomethingGoesOver (take end bytes ++ v) at (length (take end bytes))
+over_line bytes at f end h v written t =
+    let c = cut bytes at end f h.within in
+    line_over (take end bytes) (drop end bytes) v at c.fault (omega (arith, c.place, h.after))
+    (subst (λ k. EndsLine (take end bytes ++ drop end bytes) k) (sym c.place) (subst (λ l. EndsLine l end) (sym c.whole) h.ended)) written t
+
 -- the error in bytes
 pub fault_of_bytes : (bytes : List ℕ) (at : ℕ) → IsSyntaxFault bytes at → IsFaultOfBytes bytes at
 fault_of_bytes bytes at f = record {
@@ -151,9 +192,11 @@ fault_of_bytes bytes at f = record {
       subst (λ k. GoesOver (take end bytes ++ rest) at k) c.place (over_token bytes at f token end h rest written t);
   line = λ end h rest written t.
       let c = cut bytes at end f h.within in
-      line_begins_none (take end bytes) (drop end bytes) rest at c.fault (omega (arith, c.place, h.after))
-      (subst (λ k. EndsLine (take end bytes ++ drop end bytes) k) (sym c.place) (subst (λ l. EndsLine l end) (sym c.whole) h.ended)) written
-      (subst (λ l. IsWrittenText l written) (append_assoc (take end bytes) (10 ∷ []) rest) t);
+      nothing_over (take end bytes) rest at (omega (arith, c.place, h.after)) (over_line bytes at f end h (10 ∷ rest) written
+      (subst (λ l. IsWrittenText l written) (append_assoc (take end bytes) (10 ∷ []) rest) t));
+  over_line = λ end h rest written t.
+      let c = cut bytes at end f h.within in
+      subst (λ k. SomethingGoesOver (take end bytes ++ rest) at k) c.place (over_line bytes at f end h rest written t);
 }
 
 -- it is so of each refusal

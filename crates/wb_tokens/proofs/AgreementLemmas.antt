@@ -1,7 +1,7 @@
 -- Of two texts with the same beginning: what is read in the one, as long as it ends there, is read in the other.
-use Rattle.std.proofs.Common.{◌≡◌, ℕ, ◌+◌, ◌-◌, ◌<◌, ◌≤◌, List, ◌∷◌, ◌++◌, length, get_or, take, drop, refl, sym, ap, ◌∙◌, subst, arith, length-append, length-drop, ⊎_elim}
+use Rattle.std.proofs.Common.{◌≡◌, ℕ, ◌+◌, ◌-◌, ◌<◌, ◌≤◌, List, ◌++◌, length, get_or, take, drop, refl, sym, ap, ◌∙◌, subst, arith, length-append, length-drop, ⊎_elim}
 use Rattle.std.proofs.lemmas.Bool.{cases_lt}
-use Rattle.std.proofs.lemmas.List.{get_or_append_left, get_or_at, take-append-le, drop-append-le}
+use Rattle.std.proofs.lemmas.List.{get_or_append_left, take-append-le, drop-append-le}
 use Rattle.std.specs.Prelude.{slice_range}
 use Rattle.wb_predictive.specs.declared.table.Placed.{Placed}
 use Rattle.wb_predictive.specs.Reading as reading
@@ -14,6 +14,7 @@ use Rattle.wb_tokens.specs.declared.token.Token.{Token}
 use Rattle.wb_tokens.proofs.LineFeedLemmas.{crosses_none}
 use Rattle.wb_tokens.proofs.NoPieceLemmas.{no_piece}
 use Rattle.wb_tokens.proofs.PlacedLaws.{layout_forward}
+use Rattle.wb_tokens.proofs.SkippingLemmas.{piece_only}
 
 -- a piece of the common beginning
 piece_of_first : (p u : List ℕ) (from to : ℕ) → from ≤ to → to ≤ length p → slice_range (p ++ u) from to ≡ slice_range p from to
@@ -38,7 +39,7 @@ abbrev pub EndsLine : List ℕ → ℕ → Type 0
 EndsLine text place = place < length text → get_or text place 0 ≡ 10
 
 -- a piece of layout
-kept_piece : (layout : Layout) (p u v : List ℕ) (from behind : ℕ) → IsLayoutPiece layout (p ++ u) from behind → behind ≤ length p
+pub kept_piece : (layout : Layout) (p u v : List ℕ) (from behind : ℕ) → IsLayoutPiece layout (p ++ u) from behind → behind ≤ length p
     → (behind ≡ length p → EndsLine (p ++ v) behind) → IsLayoutPiece layout (p ++ v) from behind
 kept_piece layout p u v from behind (blank w is e) le line =
     let lt : from < length p = omega (arith, e, le) in
@@ -83,7 +84,8 @@ kept_skip layout p u v from x h le =
     (subst (λ y. Spells x.token y) (same_piece p u v x.at x.end (omega arith) le) h.stands.spelled)) refl)
 
 -- a token, where the second text has a line feed next, or ends
-kept_token : (p u v : List ℕ) (token : Token) (at end : ℕ) → IsTokenAt (p ++ u) token at end → end ≤ length p → EndsLine (p ++ v) (length p)
+pub kept_token : (p u v : List ℕ) (token : Token) (at end : ℕ) → IsTokenAt (p ++ u) token at end
+    → end ≤ length p → EndsLine (p ++ v) (length p)
     → IsTokenAt (p ++ v) token at end
 kept_token p u v token at end h le line = record {
   ordered = h.ordered;
@@ -118,39 +120,19 @@ kept_tokens layout p u v from to xs (next {x = x} {xs = rest} h r) le line =
     (kept_tokens layout p u v x.end to rest r le line)
 
 -- where layout stops, none begins
-stops : (layout : Layout) (text : List ℕ) (from at : ℕ) → SkipsLayout layout text from at
+pub stops : (layout : Layout) (text : List ℕ) (from at : ℕ) → SkipsLayout layout text from at
     → (behind : ℕ) → ¬ IsLayoutPiece layout text at behind
 stops layout text from at (stop n e) behind = subst (λ k. ¬ IsLayoutPiece layout text k behind) e (n behind)
 stops layout text from at (skip {behind = after} piece s) behind = stops layout text after at s behind
 
--- a piece of layout that begins before a line feed doesn't go over it
-piece_in_line : (layout : Layout) (p w : List ℕ) (from behind : ℕ) → IsLayoutPiece layout (p ++ 10 ∷ w) from behind → from < length p
-    → behind ≤ length p
-piece_in_line layout p w from behind (blank here is e) lt = omega (arith, e, lt)
-piece_in_line layout p w from behind (comment l c) lt =
-    let feed : get_or (p ++ 10 ∷ w) (length p) 0 ≡ 10 = get_or_at p 10 w 0 (length p) refl in
-    let more : from + 2 ≤ length p = ⊎_elim
-    (λ inside. omega (arith, inside))
-    (λ over. let same : from + 1 ≡ length p = omega (arith, over, lt) in
-    let e = sym c.second.is ∙ (ap (λ k. get_or (p ++ 10 ∷ w) k 0) same ∙ feed) in absurd (cc))
-    (cases_lt (from + 1) (length p)) in
-    ⊎_elim (λ over. absurd (c.one_line (length p) more over feed)) (λ inside. inside) (cases_lt (length p) behind)
-
--- no token is at a place, and none is there where a line feed comes before the texts differ, or where the first text ends there
-pub kept_none : (layout : Layout) (p u w : List ℕ) (from at : ℕ) → SkipsLayout layout (p ++ u) from at
-    → at < length p → EndsLine (p ++ u) (length p)
-    → ((token : Token) (end : ℕ) → ¬ IsTokenAt (p ++ u) token at end)
-    → SkipsLayout layout (p ++ 10 ∷ w) from at × ((token : Token) (end : ℕ) → ¬ IsTokenAt (p ++ 10 ∷ w) token at end)
-kept_none layout p u w from at skipped lt line no_token = (
-  kept_layout layout p u (10 ∷ w) from at at skipped (omega arith) (λ e. absurd (omega (arith, e)))
-      (stop (λ behind piece.
-      let inside = piece_in_line layout p w at behind piece lt in
-      stops layout (p ++ u) from at skipped behind (kept_piece layout p (10 ∷ w) u at behind piece inside
-      (λ e. subst (λ k. EndsLine (p ++ u) k) (sym e) line))) refl),
-  (λ token end h.
-      let feed : get_or (p ++ 10 ∷ w) (length p) 0 ≡ 10 = get_or_at p 10 w 0 (length p) refl in
-      ⊎_elim
-      (λ over. crosses_none (p ++ 10 ∷ w) token at end (length p) h.spelled h.within (omega arith) over feed)
-      (λ inside. no_token token end (kept_token p (10 ∷ w) u token at end h inside line))
-      (cases_lt (length p) end)),
-)
+-- layout that is skipped in the second text goes as far as in the first, and from there on
+pub passed : (layout : Layout) (p u v : List ℕ) (from at end : ℕ) → SkipsLayout layout (p ++ u) from at → at < length p
+    → SkipsLayout layout (p ++ v) from end → SkipsLayout layout (p ++ v) at end
+passed layout p u v from at end (stop n e) lt s = subst (λ k. SkipsLayout layout (p ++ v) k end) e s
+passed layout p u v from at end (skip {behind = behind} piece r) lt (stop n e) =
+    let forward = layout_forward layout (p ++ u) behind at r in
+    absurd (n behind (kept_piece layout p u v from behind piece (omega arith) (λ i. absurd (omega (arith, i)))))
+passed layout p u v from at end (skip {behind = behind} piece r) lt (skip {behind = other} more s) =
+    let forward = layout_forward layout (p ++ u) behind at r in
+    let kept = kept_piece layout p u v from behind piece (omega arith) (λ i. absurd (omega (arith, i))) in
+    passed layout p u v behind at end r lt (subst (λ k. SkipsLayout layout (p ++ v) k end) (piece_only more kept) s)
