@@ -17,7 +17,8 @@ use Rattle.wb_syntax.specs.Canonical as canonical
 use Rattle.wb_syntax.specs.Canonical.{line_of, format_line, IsItemLine, AreItemLines, IsCanonical}
 use Rattle.wb_printer.proofs.GrammarTokens.{tokens, tokens_append}
 use Rattle.wb_printer.proofs.CanonicalLemmas.{text_of}
-use Rattle.wb_printer.proofs.SpecLemmas.{format_tokens, format_printed}
+use Rattle.wb_printer.specs.Inner.ItemTokens.{format_tokens}
+use Rattle.wb_printer.proofs.SpecLemmas.{format_printed}
 use Rattle.wb_printer.proofs.CallerLemmas.{one_canonical}
 use Rattle.wb_printer.proofs.PrintedTokens.{ArePrinted, tokens_printed}
 use Rattle.wb_printer.proofs.Flows.{flows_read}

@@ -15,7 +15,7 @@ use Rattle.wb_syntax.specs.ItemGrammar.{IsHeader, IsSpecification}
 use Rattle.wb_syntax.specs.SpecText.{SpecView, HasText}
 use Rattle.wb_syntax.specs.Canonical.{line_of, format_line, IsCanonical}
 use Rattle.wb_printer.specs.Inner.Output.{Output, after, ended, after_lines}
-use Rattle.wb_printer.specs.Inner.ItemTokens.{header_tokens}
+use Rattle.wb_printer.specs.Inner.ItemTokens.{format_tokens, header_tokens, headed}
 use Rattle.wb_printer.proofs.GrammarTokens.{tokens, of_header}
 use Rattle.wb_printer.proofs.CanonicalLemmas.{text_lines, text_of, ended_line, ended_closely, after_all}
 
@@ -32,10 +32,7 @@ spec_header spec (bytes, small, r) =
           (subst (λ (x : Header). IsHeader h.0 r.written.name x) (sym r.read.header) h.1),
     )
 
--- the tokens of the first line
-abbrev pub format_tokens : ℕ → List Token
-format_tokens format = t.Word w.Format ∷ t.Int (pos format) ∷ t.Punctuation p.Semicolon ∷ []
-
+-- the first line
 pub format_printed : (format : ℕ) → line_of (format_tokens format) ≡ format_line format
 format_printed format =
     ap (λ x. codes "format " ++ (x ++ codes ";")) (append-nil (signed_decimal (pos format)))
@@ -46,25 +43,22 @@ three_parts : (a b c : List ℕ) → (([] ++ a ++ 10 ∷ []) ++ b ++ 10 ∷ []) 
 three_parts a b c = simp append_assoc
 
 -- what is written so is the canonical text
-pub canonical_text : (spec : SpecView) (h : HasText spec) (o a b c : Output) (lines : List (List Token))
-    → lines ≡ (text_lines spec h).lines → o ≡ record { text = []; closely = true }
-    → a ≡ ended (after o (format_tokens spec.format)) → b ≡ ended (after a (header_tokens spec.name spec.header)) → c ≡ after_lines b lines
-    → IsCanonical spec c.text
-canonical_text spec h o a b c lines here begun first second third =
+pub canonical_text : (spec : SpecView) (h : HasText spec) (o c : Output) (lines : List (List Token)) → lines ≡ (text_lines spec h).lines
+    → o ≡ record { text = []; closely = true } → c ≡ after_lines (headed spec o) lines → IsCanonical spec c.text
+canonical_text spec h o c lines here begun third =
     let u = spec_header spec h in
     let l = text_lines spec h in
+    let a = ended (after o (format_tokens spec.format)) in
+    let b = headed spec o in
     let closely : o.closely ≡ true = ap (λ (x : Output). x.closely) begun in
     let front : a.text ≡ [] ++ line_of (format_tokens spec.format) ++ 10 ∷ []
-    = ap (λ (x : Output). x.text) first ∙
-    (ended_line o (format_tokens spec.format) closely ∙ ap
-    (λ (x : Output). x.text ++ line_of (format_tokens spec.format) ++ 10 ∷ []) begun) in
-    let begins : a.closely ≡ true = ap (λ (x : Output). x.closely) first ∙ ended_closely (after o (format_tokens spec.format)) in
+    = ended_line o (format_tokens spec.format) closely ∙ ap (λ (x : Output). x.text ++ line_of (format_tokens spec.format) ++ 10 ∷ []) begun in
+    let begins : a.closely ≡ true = ended_closely (after o (format_tokens spec.format)) in
     let same : line_of (header_tokens spec.name spec.header) ≡ line_of (tokens u.0) =
     ap line_of (sym (of_header u.0 spec.name spec.header u.1)) in
     let middle : b.text ≡ a.text ++ line_of (tokens u.0) ++ 10 ∷ []
-    = ap (λ (x : Output). x.text) second ∙
-    (ended_line a (header_tokens spec.name spec.header) begins ∙ ap (λ (x : List ℕ). a.text ++ x ++ 10 ∷ []) same) in
-    let stands : b.closely ≡ true = ap (λ (x : Output). x.closely) second ∙ ended_closely (after a (header_tokens spec.name spec.header)) in
+    = ended_line a (header_tokens spec.name spec.header) begins ∙ ap (λ (x : List ℕ). a.text ++ x ++ 10 ∷ []) same in
+    let stands : b.closely ≡ true = ended_closely (after a (header_tokens spec.name spec.header)) in
     let last : c.text ≡ b.text ++ text_of l.lines
     = ap (λ (x : Output). x.text) third ∙ (after_all b lines stands ∙ ap (λ (x : List (List Token)). b.text ++ text_of x) here) in
     record {

@@ -3,6 +3,7 @@
 //! Each has its tokens in their order. Expressions are in `expressions`.
 
 ghost use Rattle.std.specs.Prelude.{◌≡◌, [], ◌∷◌, ◌++◌, List, OnOk};
+ghost use Rattle.wb_syntax.specs.declared.expression.Target.TheVariants as g;
 ghost use Rattle.wb_syntax.specs.Expression.{Expression};
 ghost use Rattle.wb_expressions.specs.Expression.{nodes_of};
 ghost use Rattle.wb_tokens.specs.declared.token.Token.{Token};
@@ -104,17 +105,24 @@ fn write_target(line: &mut Line, target: &Target) -> Result<(), AllocError>
             write_assigned(line, attribute.as_slice())
         }
         Target::Local { label, nonterminal } => {
-            line.word(Word::Local)?;
-            line.name(label.as_slice())?;
-            line.mark(Punctuation::Colon)?;
-            line.name(nonterminal.as_slice())?;
-            line.mark(Punctuation::Equals)
+            write_local(line, label.as_slice(), nonterminal.as_slice())
         }
         Target::ForwardsTo => {
             line.word(Word::Forwards)?;
             line.word(Word::To)
         }
     }
+}
+
+// Writes what stands before the tree of a local.
+fn write_local(line: &mut Line, label: &[u8], nonterminal: &[u8]) -> Result<(), AllocError>
+    ensures { OnOk result (line.new ≡ after line.old (target_tokens (g.Local label.now nonterminal.now))) }
+{
+    line.word(Word::Local)?;
+    line.name(label)?;
+    line.mark(Punctuation::Colon)?;
+    line.name(nonterminal)?;
+    line.mark(Punctuation::Equals)
 }
 
 // Writes an equation.

@@ -1,5 +1,5 @@
 -- The tokens of items.
-use Rattle.std.specs.Prelude.{◌≡◌, ℕ, List, [], ◌∷◌, ◌++◌}
+use Rattle.std.specs.Prelude.{◌≡◌, ℕ, pos, List, [], ◌∷◌, ◌++◌}
 use Rattle.wb_tokens.specs.declared.token.Token.{Token}
 use Rattle.wb_tokens.specs.declared.token.Token.TheVariants as t
 use Rattle.wb_tokens.specs.declared.word.Word.{Word}
@@ -22,6 +22,8 @@ use Rattle.wb_syntax.specs.Equations.{equations_of}
 use Rattle.wb_syntax.specs.Fields.{Field}
 use Rattle.wb_syntax.specs.Fields as field
 use Rattle.wb_syntax.specs.ItemGrammar.{plain_fields}
+use Rattle.wb_syntax.specs.SpecText.{SpecView}
+use Rattle.wb_printer.specs.Inner.Output.{Output, after, ended}
 use Rattle.wb_printer.specs.Inner.PartTokens.{AreEquationTokens, block_tokens, children_tokens, kind_token, needs_tokens, optional_needs_tokens}
 
 -- a production, whose equations have these tokens
@@ -94,7 +96,15 @@ pub data AreLinesOf : List (Item Pattern) → List (List Token) → Type 0 where
       → AreLinesOf rest lines
       → AreLinesOf (item ∷ rest) (tokens ∷ lines)
 
+-- the tokens of the first line
+abbrev pub format_tokens : ℕ → List Token
+format_tokens format = t.Word w.Format ∷ t.Int (pos format) ∷ t.Punctuation p.Semicolon ∷ []
+
 -- the tokens of the header, where the specification has this name
 abbrev pub header_tokens : List ℕ → Header → List Token
 header_tokens name h.Host = named w.Host name
 header_tokens name (h.Extension host) = pair_tokens w.Extension name w.For host
+
+-- the text with the lines of the format and the header more
+abbrev pub headed : SpecView → Output → Output
+headed spec output = ended (after (ended (after output (format_tokens spec.format))) (header_tokens spec.name spec.header))
