@@ -3,7 +3,8 @@ use Rattle.std.proofs.Common.{◌≡◌, ◌+◌, ◌-◌, ℕ, List, [], ◌∷
 use Rattle.std.proofs.lemmas.List.{length-append}
 use Rattle.wb_expressions.specs.declared.node.Node.{Node}
 use Rattle.wb_expressions.specs.declared.node.Node.TheVariants as n
-use Rattle.wb_expressions.specs.Expression.{Expression, Expressions, Int, Text, Truth, Label, Read, Lexeme, Top, Forward, Build, Call, If, none, more, size, size_of_all, nodes_from, all_nodes_from, places_from}
+use Rattle.wb_expressions.specs.Expression.{Expression, Expressions, Int, Text, Truth, Label, Read, Lexeme, Top, Forward, Build, Call, If}
+use Rattle.wb_expressions.specs.Expression.{none, more, size, size_of_all, nodes_from, all_nodes_from, places_from}
 
 module _ {L A P O : Type 0} where
   mutual
@@ -16,8 +17,10 @@ module _ {L A P O : Type 0} where
     nodes_len at (Lexeme l) = refl
     nodes_len at (Top a) = refl
     nodes_len at (Forward a) = refl
-    nodes_len at (Build name es) = let l = length-append (all_nodes_from at es) (n.Build name (places_from at es) ∷ []) in let k = all_nodes_len at es in omega (arith, l, k)
-    nodes_len at (Call name es) = let l = length-append (all_nodes_from at es) (n.Call name (places_from at es) ∷ []) in let k = all_nodes_len at es in omega (arith, l, k)
+    nodes_len at (Build name es) = let l = length-append (all_nodes_from at es)
+        (n.Build name (places_from at es) ∷ []) in let k = all_nodes_len at es in omega (arith, l, k)
+    nodes_len at (Call name es) = let l = length-append (all_nodes_from at es)
+        (n.Call name (places_from at es) ∷ []) in let k = all_nodes_len at es in omega (arith, l, k)
     nodes_len at (If c t e) =
         let x = nodes_from at c in
         let y = nodes_from (at + size c) t in
@@ -32,4 +35,5 @@ module _ {L A P O : Type 0} where
 
     pub all_nodes_len : (at : ℕ) (es : Expressions L A P O) → length (all_nodes_from at es) ≡ size_of_all es
     all_nodes_len at none = refl
-    all_nodes_len at (more e es) = let l = length-append (nodes_from at e) (all_nodes_from (at + size e) es) in let i = nodes_len at e in let j = all_nodes_len (at + size e) es in omega (arith, l, i, j)
+    all_nodes_len at (more e es) = let l = length-append (nodes_from at e)
+        (all_nodes_from (at + size e) es) in let i = nodes_len at e in let j = all_nodes_len (at + size e) es in omega (arith, l, i, j)

@@ -2,7 +2,8 @@
 use Rattle.std.proofs.Common.{◌≡◌, ◌≤◌, ◌+◌, ℕ, pos, zero, suc, List, [], ◌∷◌, refl, sym, ap, ◌∙◌, arith, get_or}
 use Rattle.wb_expressions.specs.declared.node.Node.{Node}
 use Rattle.wb_expressions.specs.declared.node.Node.TheVariants as n
-use Rattle.wb_expressions.specs.Expression.{Expression, Expressions, Int, Text, Truth, Label, Read, Lexeme, Top, Forward, Build, Call, If, none, more, size, size_of_all, nodes_of}
+use Rattle.wb_expressions.specs.Expression.{Expression, Expressions, Int, Text, Truth, Label, Read, Lexeme, Top, Forward, Build, Call, If}
+use Rattle.wb_expressions.specs.Expression.{none, more, size, size_of_all, nodes_of}
 use Rattle.wb_expressions.specs.Places as p
 use Rattle.wb_expressions.specs.Places.{HasNode, Stands, AllStand}
 use Rattle.wb_expressions.proofs.PlaceLemmas.{whole_stands, size_some}
@@ -34,7 +35,8 @@ module _ {L A P O : Type 0} where
 
   module _ (nodes : List (Node L A P O)) where
     -- a node that stands at a place
-    at_place : (m at : ℕ) (node : Node L A P O) → HasNode nodes at node → expression_at nodes (suc m) at ≡ at_node (expression_at nodes m) node
+    at_place : (m at : ℕ) (node : Node L A P O) → HasNode nodes at node → expression_at nodes (suc m) at ≡ at_node
+        (expression_at nodes m) node
     at_place m at node h = ap (at_node (expression_at nodes m)) (h.is (n.Int (pos 0)))
 
     mutual
@@ -48,17 +50,22 @@ module _ {L A P O : Type 0} where
       at_stands (suc m) at e (p.lexeme {l = x} h) l = at_place m at (n.Lexeme x) h
       at_stands (suc m) at e (p.top {a = a} h) l = at_place m at (n.Top a) h
       at_stands (suc m) at e (p.forward {a = a} h) l = at_place m at (n.Forward a) h
-      at_stands (suc m) at e (p.build {name = name} {places = places} {es = es} h all) l = at_place m at (n.Build name places) h ∙ ap (λ x. Build name x) (all_stand m places es all (omega (arith, l)))
-      at_stands (suc m) at e (p.call {name = name} {places = places} {es = es} h all) l = at_place m at (n.Call name places) h ∙ ap (λ x. Call name x) (all_stand m places es all (omega (arith, l)))
+      at_stands (suc m) at e (p.build {name = name} {places = places} {es = es} h all) l =
+          at_place m at (n.Build name places) h ∙ ap (λ x. Build name x) (all_stand m places es all (omega (arith, l)))
+      at_stands (suc m) at e (p.call {name = name} {places = places} {es = es} h all) l =
+          at_place m at (n.Call name places) h ∙ ap (λ x. Call name x) (all_stand m places es all (omega (arith, l)))
       at_stands (suc m) at e (p.if_then {c = c} {h = x} {f = f} {condition = q} {holds = y} {fails = z} h i j k) l =
           at_place m at (n.If c x f) h
           ∙ (ap (λ a. If a (expression_at nodes m x) (expression_at nodes m f)) (at_stands m c q i (omega (arith, l)))
-          ∙ (ap (λ a. If q a (expression_at nodes m f)) (at_stands m x y j (omega (arith, l))) ∙ ap (λ a. If q y a) (at_stands m f z k (omega (arith, l)))))
+          ∙ (ap (λ a. If q a (expression_at nodes m f)) (at_stands m x y j (omega (arith, l))) ∙ ap (λ a. If q y a)
+              (at_stands m f z k (omega (arith, l)))))
 
-      all_stand : (m : ℕ) (places : List ℕ) (es : Expressions L A P O) → AllStand nodes places es → size_of_all es ≤ m → all_at (expression_at nodes m) places ≡ es
+      all_stand : (m : ℕ) (places : List ℕ) (es : Expressions L A P O) → AllStand nodes places es → size_of_all es ≤ m → all_at
+          (expression_at nodes m) places ≡ es
       all_stand m places es p.nothing l = refl
       all_stand m places es (p.next {at = at} {places = ps} {e = e} {es = rest} s all) l =
-          ap (λ x. more x (all_at (expression_at nodes m) ps)) (at_stands m at e s (omega (arith, l))) ∙ ap (λ x. more e x) (all_stand m ps rest all (omega (arith, l)))
+          ap (λ x. more x (all_at (expression_at nodes m) ps)) (at_stands m at e s (omega (arith, l))) ∙ ap (λ x. more e x)
+              (all_stand m ps rest all (omega (arith, l)))
 
   -- nodes are those of one expression
   pub one_expression : (nodes : List (Node L A P O)) (e f : Expression L A P O) → nodes ≡ nodes_of e → nodes ≡ nodes_of f → e ≡ f

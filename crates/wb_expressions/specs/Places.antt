@@ -2,7 +2,8 @@
 use Rattle.std.specs.Prelude.{◌≡◌, ℕ, ◌<◌, ℤ, Bool, List, [], ◌∷◌, All, length, slice_index_or}
 use Rattle.wb_expressions.specs.declared.node.Node.{Node}
 use Rattle.wb_expressions.specs.declared.node.Node.TheVariants as n
-use Rattle.wb_expressions.specs.Expression.{Expression, Expressions, Int, Text, Truth, Label, Read, Lexeme, Top, Forward, Build, Call, If, none, more}
+use Rattle.wb_expressions.specs.Expression.{Expression, Expressions, Int, Text, Truth, Label, Read, Lexeme, Top, Forward, Build, Call, If}
+use Rattle.wb_expressions.specs.Expression.{none, more}
 
 -- the node is at this place
 pub record HasNode {L A P O : Type 0} (nodes : List (Node L A P O)) (at : ℕ) (node : Node L A P O) : Type 0 where
@@ -31,9 +32,11 @@ mutual
     lexeme : {at : ℕ} {l : L} → HasNode nodes at (n.Lexeme l) → Stands nodes at (Lexeme l)
     top : {at : ℕ} {a : A} → HasNode nodes at (n.Top a) → Stands nodes at (Top a)
     forward : {at : ℕ} {a : A} → HasNode nodes at (n.Forward a) → Stands nodes at (Forward a)
-    build : {at : ℕ} {name : P} {places : List ℕ} {es : Expressions L A P O} → HasNode nodes at (n.Build name places) → AllStand nodes places es
+    build : {at : ℕ} {name : P} {places : List ℕ} {es : Expressions L A P O} → HasNode nodes at (n.Build name places)
+        → AllStand nodes places es
         → Stands nodes at (Build name es)
-    call : {at : ℕ} {name : O} {places : List ℕ} {es : Expressions L A P O} → HasNode nodes at (n.Call name places) → AllStand nodes places es
+    call : {at : ℕ} {name : O} {places : List ℕ} {es : Expressions L A P O} → HasNode nodes at (n.Call name places)
+        → AllStand nodes places es
         → Stands nodes at (Call name es)
     if_then : {at c h f : ℕ} {condition holds fails : Expression L A P O} → HasNode nodes at (n.If c h f) → Stands nodes c condition
         → Stands nodes h holds → Stands nodes f fails → Stands nodes at (If condition holds fails)

@@ -1,5 +1,6 @@
 -- What a list has at a place, also after a push, a join, a take or a drop.
-use Rattle.std.proofs.Common.{◌≡◌, ◌<◌, ◌≤◌, ◌+◌, ◌-◌, ◌++◌, ◌∷◌, ◌⊎◌, [], ℕ, zero, suc, List, Some, length, take, drop, slice_get, get_or, inl, inr, refl, sym, ◌∙◌, ap, subst, arith}
+use Rattle.std.proofs.Common.{◌≡◌, ◌<◌, ◌≤◌, ◌+◌, ◌-◌, ◌++◌, ◌∷◌, ◌⊎◌, [], ℕ, zero, suc, List, Some, length, take, drop, slice_get, get_or}
+use Rattle.std.proofs.Common.{inl, inr, refl, sym, ◌∙◌, ap, subst, arith}
 use Rattle.std.specs.Prelude.{slice_index_or}
 use Rattle.std.proofs.lemmas.Grind.{common_steps}
 use Rattle.std.proofs.lemmas.Option.{gets, slice_get_within, slice_get_read, slice_get-get_or, get_or_from_slice_get, same_Some}
@@ -30,11 +31,13 @@ default_at xs i d x at = same_Some (slice_index_or xs i d) x (sym (slice_get-get
 -- what a reader of an equal list found at a place
 pub read_at : {X : Type 0} (xs ys : List X) (i : ℕ) (x : X) → ys ≡ xs → i < length xs → x ≡ get_or ys i x → slice_get xs i ≡ Some x
 read_at {X} xs ys i x same within is =
-    let at : slice_get ys i ≡ Some x = slice_get_read ys (length ys) i x refl (subst (λ (zs : List X). i < length zs) (sym same) within) is in
+    let at : slice_get ys i ≡ Some x = slice_get_read ys (length ys) i x refl
+        (subst (λ (zs : List X). i < length zs) (sym same) within) is in
     subst (λ (zs : List X). slice_get zs i ≡ Some x) same at
 
 -- what a reader of an equal list found at its last place
-pub read_last : {X : Type 0} (xs ys : List X) (x : X) → ys ≡ xs → 0 < length xs → x ≡ get_or ys (length ys - 1) x → slice_get xs (length xs - 1) ≡ Some x
+pub read_last : {X : Type 0} (xs ys : List X) (x : X) → ys ≡ xs → 0 < length xs → x ≡ get_or ys (length ys - 1) x → slice_get xs
+    (length xs - 1) ≡ Some x
 read_last {X} xs ys x same within is =
     let some : 0 < length ys = subst (λ (zs : List X). 0 < length zs) (sym same) within in
     let at : slice_get ys (length ys - 1) ≡ Some x = slice_get_read ys (length ys) (length ys - 1) x refl (omega (arith, some)) is in
@@ -50,7 +53,8 @@ at_one x y zero at = (refl, same_Some x y at)
 at_one x y (suc i) at = cc
 
 -- an element of a list with one more is an old one, or is the new one and last
-pub at_push : {X : Type 0} (xs : List X) (x y : X) (i : ℕ) → slice_get (xs ++ x ∷ []) i ≡ Some y → (slice_get xs i ≡ Some y) ⊎ ((i ≡ length xs) × (x ≡ y))
+pub at_push : {X : Type 0} (xs : List X) (x y : X) (i : ℕ) → slice_get (xs ++ x ∷ []) i ≡ Some y → (slice_get xs i ≡ Some y) ⊎
+    ((i ≡ length xs) × (x ≡ y))
 at_push xs x y i at = grind (arith, gets, common_steps)
 
 -- a push keeps what is at a place within
@@ -80,7 +84,8 @@ append_before (x ∷ xs) ys (suc i) within = append_before xs ys i (omega (arith
 -- a place after the first of two joined lists
 pub append_after : {X : Type 0} (xs ys : List X) (i : ℕ) → slice_get (xs ++ ys) (length xs + i) ≡ slice_get ys i
 append_after [] ys i = ap (slice_get ys) (let e : 0 + i ≡ i = omega arith in e)
-append_after (x ∷ xs) ys i = ap (slice_get (x ∷ (xs ++ ys))) (let e : length (x ∷ xs) + i ≡ suc (length xs + i) = omega arith in e) ∙ append_after xs ys i
+append_after (x ∷ xs) ys i =
+    ap (slice_get (x ∷ (xs ++ ys))) (let e : length (x ∷ xs) + i ≡ suc (length xs + i) = omega arith in e) ∙ append_after xs ys i
 
 -- the first element of the second of two joined lists
 pub append_seam : {X : Type 0} (xs : List X) (x : X) (ys : List X) → slice_get (xs ++ x ∷ ys) (length xs) ≡ Some x

@@ -15,6 +15,8 @@ pub numeral_digits : (ds : List ℕ) → is_numeral ds ≡ true → AllDigits 10
 numeral_digits ds is = digits_pass ds (and_right (nat_lt 0 (length ds)) (list_all is_ascii_digit ds) is)
 
 -- what a numeral writes
-pub written_numeral : (negative : Bool) (ds : List ℕ) (size : ℕ) → is_numeral ds ≡ true → size ≡ digits_value 10 ds → written negative ds ≡ inside_or_none (signed negative size)
+pub written_numeral : (negative : Bool) (ds : List ℕ) (size : ℕ) → is_numeral ds ≡ true → size ≡ digits_value 10 ds
+    → written negative ds ≡ inside_or_none (signed negative size)
 written_numeral negative ds size is e =
-    ap (λ (b : Bool). cond b (inside_or_none (signed negative (digits_value 10 ds))) (fails 3)) is ∙ ap (λ (n : ℕ). inside_or_none (signed negative n)) (sym e)
+    ap (λ (b : Bool). cond b (inside_or_none (signed negative (digits_value 10 ds))) (fails 3)) is ∙ ap
+        (λ (n : ℕ). inside_or_none (signed negative n)) (sym e)

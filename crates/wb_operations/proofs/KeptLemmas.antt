@@ -1,5 +1,6 @@
 -- The standard table keeps its meaning, and a table that keeps it keeps it with one operation more.
-use Rattle.std.proofs.Common.{◌≡◌, ◌+◌, ◌-◌, ◌<◌, ◌≤◌, get_or, ◌⊎◌, inl, inr, ℕ, zero, suc, List, [], ◌∷◌, ◌++◌, Some, length, refl, sym, ap, subst, ◌∙◌, arith, length-append}
+use Rattle.std.proofs.Common.{◌≡◌, ◌+◌, ◌-◌, ◌<◌, ◌≤◌, get_or, ◌⊎◌, inl, inr, ℕ, zero, suc, List, [], ◌∷◌, ◌++◌, Some, length, refl, sym}
+use Rattle.std.proofs.Common.{ap, subst, ◌∙◌, arith, length-append}
 use Rattle.std.specs.Prelude.{slice_get, Result}
 use Rattle.std.proofs.lemmas.Option.{slice_get_within, same_Some}
 use Rattle.std.proofs.lemmas.List.{length-map}
@@ -12,7 +13,8 @@ use Rattle.wb_values.specs.Tree.{Plain}
 use Rattle.wb_values.specs.Kinds.{AreOfKinds}
 use Rattle.wb_operations.specs.Given.{Given, GivesKind, FitKinds, IsGiven, plains_of}
 use Rattle.wb_operations.specs.Operations.{OperationSignature, KeepsKinds}
-use Rattle.wb_operations.specs.Standard.{StandardOperation, standard_operations, standard_at, standard, standard_signature, standard_signatures}
+use Rattle.wb_operations.specs.Standard.{StandardOperation, standard_operations, standard_at, standard, standard_signature}
+use Rattle.wb_operations.specs.Standard.{standard_signatures}
 use Rattle.wb_operations.specs.Kept.{Pre, Post, KeepsOne, IsBuiltIn, IsKept}
 use Rattle.wb_operations.proofs.KindLemmas.{sound_at, signature_at, standard_count}
 
@@ -20,8 +22,10 @@ use Rattle.wb_operations.proofs.KindLemmas.{sound_at, signature_at, standard_cou
 pub kept-standard : {R : Type 0} (signatures : List OperationSignature) (runs : List R) (pre : R → Pre) (post : R → Post)
     → signatures ≡ standard_signatures → runs ≡ [] → IsKept signatures 16 runs standard pre post
 kept-standard {R} signatures runs pre post is none =
-    let count : length standard_signatures ≡ 16 = length-map standard_operations (λ (o : StandardOperation). o.signature) ∙ standard_count in
-    let below : (k : ℕ) (s : OperationSignature) → slice_get standard_signatures k ≡ Some s → k < 16 = λ k s at. subst (λ (n : ℕ). k < n) count (slice_get_within standard_signatures k s at) in
+    let count : length standard_signatures ≡ 16 = length-map standard_operations (λ (o : StandardOperation). o.signature)
+        ∙ standard_count in
+    let below : (k : ℕ) (s : OperationSignature) → slice_get standard_signatures k ≡ Some s → k < 16 = λ k s at. subst
+        (λ (n : ℕ). k < n) count (slice_get_within standard_signatures k s at) in
     subst (λ (ss : List OperationSignature). IsKept ss 16 runs standard pre post) (sym is)
     (subst (λ (rs : List R). IsKept standard_signatures 16 rs standard pre post) (sym none)
     (record {
@@ -36,9 +40,12 @@ kept-standard {R} signatures runs pre post is none =
     }))
 
 -- one operation more
-pub kept-push : {R : Type 0} (signatures more : List OperationSignature) (s : OperationSignature) (built_in : ℕ) (runs reserved new_runs : List R) (run : R)
-    (meaning : ℕ → List Plain → Given) (pre : R → Pre) (post : R → Post) → IsKept signatures built_in runs meaning pre post → more ≡ signatures ++ s ∷ [] → new_runs ≡ reserved ++ run ∷ [] → reserved ≡ runs
-    → KeepsOne s (meaning (length signatures)) (pre run) (post run) → ((values : List Plain) → AreOfKinds s.takes values → GivesKind s.gives (meaning (length signatures) values))
+pub kept-push : {R : Type 0} (signatures more : List OperationSignature) (s : OperationSignature) (built_in : ℕ)
+    (runs reserved new_runs : List R) (run : R)
+    (meaning : ℕ → List Plain → Given) (pre : R → Pre) (post : R → Post) → IsKept signatures built_in runs meaning pre post
+        → more ≡ signatures ++ s ∷ [] → new_runs ≡ reserved ++ run ∷ [] → reserved ≡ runs
+    → KeepsOne s (meaning (length signatures)) (pre run) (post run) →
+        ((values : List Plain) → AreOfKinds s.takes values → GivesKind s.gives (meaning (length signatures) values))
     → IsKept more built_in new_runs meaning pre post
 kept-push {R} signatures more s built_in runs reserved new_runs run meaning pre post kept pushed last same one kind =
     let runs_are : new_runs ≡ runs ++ run ∷ [] = last ∙ ap (λ (rs : List R). rs ++ run ∷ []) same in
@@ -53,7 +60,8 @@ kept-push {R} signatures more s built_in runs reserved new_runs run meaning pre 
       kinds = λ number t at values are. of_place number t values are (at_push signatures s t number at);
     }))
   where
-    by_place : (k : ℕ) (t : OperationSignature) (r : R) → (slice_get signatures (built_in + k) ≡ Some t) ⊎ ((built_in + k ≡ length signatures) × (s ≡ t))
+    by_place : (k : ℕ) (t : OperationSignature) (r : R) → (slice_get signatures (built_in + k) ≡ Some t) ⊎
+        ((built_in + k ≡ length signatures) × (s ≡ t))
         → (slice_get runs k ≡ Some r) ⊎ ((k ≡ length runs) × (run ≡ r)) → KeepsOne t (meaning (built_in + k)) (pre r) (post r)
     by_place k t r (inl at) (inl there) = kept.each k t r at there
     by_place k t r (inl at) (inr there) = absurd (omega (arith, slice_get_within signatures (built_in + k) t at, there.0, kept.counted))
@@ -63,12 +71,14 @@ kept-push {R} signatures more s built_in runs reserved new_runs run meaning pre 
         (subst (λ (u : OperationSignature). KeepsOne u (meaning (built_in + k)) (pre run) (post run)) at.1
         (subst (λ (n : ℕ). KeepsOne s (meaning n) (pre run) (post run)) (sym at.0) one))
 
-    of_place : (number : ℕ) (t : OperationSignature) (values : List Plain) → AreOfKinds t.takes values → (slice_get signatures number ≡ Some t) ⊎ ((number ≡ length signatures) × (s ≡ t))
+    of_place : (number : ℕ) (t : OperationSignature) (values : List Plain) → AreOfKinds t.takes values →
+        (slice_get signatures number ≡ Some t) ⊎ ((number ≡ length signatures) × (s ≡ t))
         → GivesKind t.gives (meaning number values)
     of_place number t values are (inl at) = kept.kinds number t at values are
     of_place number t values are (inr at) =
         subst (λ (u : OperationSignature). GivesKind u.gives (meaning number values)) at.1
-        (subst (λ (n : ℕ). GivesKind s.gives (meaning n values)) (sym at.0) (kind values (subst (λ (u : OperationSignature). AreOfKinds u.takes values) (sym at.1) are)))
+        (subst (λ (n : ℕ). GivesKind s.gives (meaning n values)) (sym at.0)
+            (kind values (subst (λ (u : OperationSignature). AreOfKinds u.takes values) (sym at.1) are)))
 
 -- what is known of the closure of an operation, on values that fit
 pub record Kept (given : List Plain → Given) (pre : Pre) (post : Post) (vs : Bor (List Value)) : Type 0 where
@@ -76,9 +86,12 @@ pub record Kept (given : List Plain → Given) (pre : Pre) (post : Post) (vs : B
   pub answers : (r : Result Value OperationRefusal) → post vs r → IsGiven (given (plains_of vs.now)) r
 
 -- it is known of each operation that isn't a standard one
-pub kept-at : {R : Type 0} (signatures : List OperationSignature) (built_in : ℕ) (runs : List R) (meaning : ℕ → List Plain → Given) (pre : R → Pre) (post : R → Post) (operation : ℕ) (run : R)
-    (vs : Bor (List Value)) → IsKept signatures built_in runs meaning pre post → operation < length signatures → built_in ≤ operation → run ≡ get_or runs (operation - built_in) run
-    → ((s : OperationSignature) → slice_get signatures operation ≡ Some s → FitKinds s.takes vs.now) → Kept (meaning operation) (pre run) (post run) vs
+pub kept-at : {R : Type 0} (signatures : List OperationSignature) (built_in : ℕ) (runs : List R) (meaning : ℕ → List Plain → Given)
+    (pre : R → Pre) (post : R → Post) (operation : ℕ) (run : R)
+    (vs : Bor (List Value)) → IsKept signatures built_in runs meaning pre post → operation < length signatures → built_in ≤ operation
+        → run ≡ get_or runs (operation - built_in) run
+    → ((s : OperationSignature) → slice_get signatures operation ≡ Some s → FitKinds s.takes vs.now) → Kept (meaning operation) (pre run)
+        (post run) vs
 kept-at {R} signatures built_in runs meaning pre post operation run vs kept there after is fits =
     let k = operation - built_in in
     let e : built_in + k ≡ operation = omega arith in

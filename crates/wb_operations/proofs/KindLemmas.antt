@@ -1,5 +1,6 @@
 -- The standard operations take and give plain kinds, and each gives values of its kind.
-use Rattle.std.proofs.Common.{◌≡◌, ◌<◌, ℕ, zero, suc, ℤ, Bool, true, false, List, [], ◌∷◌, Some, All, map, length, slice_get, get_or, refl, sym, ap, subst, ◌∙◌, arith}
+use Rattle.std.proofs.Common.{◌≡◌, ◌<◌, ℕ, zero, suc, ℤ, Bool, true, false, List, [], ◌∷◌, Some, All, map, length, slice_get, get_or, refl}
+use Rattle.std.proofs.Common.{sym, ap, subst, ◌∙◌, arith}
 use Rattle.std.specs.Prelude.{◌+ℤ◌, ◌-ℤ◌, ◌*ℤ◌, ◌++◌, if◌then◌else◌, pos, negsuc, neg_ℤ, int_div, int_rem, nat_le, drop}
 use Rattle.std.specs.Char.{is_ascii_digit}
 use Rattle.std.specs.Str.Parse.{starts_with_minus, digits_value}
@@ -15,9 +16,12 @@ use Rattle.wb_values.specs.declared.value.Value.{Value}
 use Rattle.wb_values.specs.declared.value.Value.TheVariants.{Int, Bool as Truth, Text, Tree}
 use Rattle.wb_operations.specs.Given.{Given, gives, fails, FitKinds, IsPlainKind, GivesKind, plains_of}
 use Rattle.wb_operations.specs.Operations.{OperationSignature, IsPlainSignature, KeepsKinds}
-use Rattle.wb_operations.specs.Takes.{one_int, two_ints, one_bool, two_bools, one_text, two_texts, of_int, of_ints, of_bool, of_bools, of_text, of_texts}
-use Rattle.wb_operations.specs.Rows.{is_inside, inside, divided, quotient, remainder, joined, is_numeral, inside_or_none, written, number_of}
-use Rattle.wb_operations.specs.Standard.{StandardOperation, row, standard_operations, standard_at, standard_signature, standard, standard_signatures}
+use Rattle.wb_operations.specs.Takes.{one_int, two_ints, one_bool, two_bools, one_text, two_texts, of_int, of_ints, of_bool, of_bools}
+use Rattle.wb_operations.specs.Takes.{of_text, of_texts}
+use Rattle.wb_operations.specs.Rows.{is_inside, inside, divided, quotient, remainder, joined, is_numeral, inside_or_none, written}
+use Rattle.wb_operations.specs.Rows.{number_of}
+use Rattle.wb_operations.specs.Standard.{StandardOperation, row, standard_operations, standard_at, standard_signature, standard}
+use Rattle.wb_operations.specs.Standard.{standard_signatures}
 
 -- stored values of plain kinds are plain values of them
 pub plains_fit : (kinds : List Kind) (vs : List Value) → FitKinds kinds vs → AreOfKinds kinds (plains_of vs)
@@ -42,7 +46,8 @@ plains_fit (kind.Tree n ∷ kinds) (Text s ∷ vs) fits = absurd fits.0
 plains_fit (kind.Tree n ∷ kinds) (Tree t ∷ vs) fits = absurd fits.0
 
 -- an int gives what it gives for each int
-int_gives : (k : Kind) (given : ℤ → Given) → ((x : ℤ) → GivesKind k (given x)) → (ps : List Plain) → AreOfKinds one_int ps → GivesKind k (of_int given ps)
+int_gives : (k : Kind) (given : ℤ → Given) → ((x : ℤ) → GivesKind k (given x)) → (ps : List Plain) → AreOfKinds one_int ps → GivesKind k
+    (of_int given ps)
 int_gives k given all [] are = cc
 int_gives k given all (int x ∷ []) are = all x
 int_gives k given all (bool x ∷ ps) are = cc
@@ -50,7 +55,8 @@ int_gives k given all (text x ∷ ps) are = cc
 int_gives k given all (int x ∷ p ∷ ps) are = cc
 
 -- two ints
-pub ints_give : (k : Kind) (given : ℤ → ℤ → Given) → ((x y : ℤ) → GivesKind k (given x y)) → (ps : List Plain) → AreOfKinds two_ints ps → GivesKind k (of_ints given ps)
+pub ints_give : (k : Kind) (given : ℤ → ℤ → Given) → ((x y : ℤ) → GivesKind k (given x y)) → (ps : List Plain) → AreOfKinds two_ints ps
+    → GivesKind k (of_ints given ps)
 ints_give k given all [] are = cc
 ints_give k given all (bool x ∷ ps) are = cc
 ints_give k given all (text x ∷ ps) are = cc
@@ -61,7 +67,8 @@ ints_give k given all (int x ∷ text y ∷ ps) are = cc
 ints_give k given all (int x ∷ int y ∷ p ∷ ps) are = cc
 
 -- a truth value
-bool_gives : (k : Kind) (given : Bool → Given) → ((x : Bool) → GivesKind k (given x)) → (ps : List Plain) → AreOfKinds one_bool ps → GivesKind k (of_bool given ps)
+bool_gives : (k : Kind) (given : Bool → Given) → ((x : Bool) → GivesKind k (given x)) → (ps : List Plain) → AreOfKinds one_bool ps
+    → GivesKind k (of_bool given ps)
 bool_gives k given all [] are = cc
 bool_gives k given all (bool x ∷ []) are = all x
 bool_gives k given all (int x ∷ ps) are = cc
@@ -69,7 +76,8 @@ bool_gives k given all (text x ∷ ps) are = cc
 bool_gives k given all (bool x ∷ p ∷ ps) are = cc
 
 -- two truth values
-bools_give : (k : Kind) (given : Bool → Bool → Given) → ((x y : Bool) → GivesKind k (given x y)) → (ps : List Plain) → AreOfKinds two_bools ps → GivesKind k (of_bools given ps)
+bools_give : (k : Kind) (given : Bool → Bool → Given) → ((x y : Bool) → GivesKind k (given x y)) → (ps : List Plain)
+    → AreOfKinds two_bools ps → GivesKind k (of_bools given ps)
 bools_give k given all [] are = cc
 bools_give k given all (int x ∷ ps) are = cc
 bools_give k given all (text x ∷ ps) are = cc
@@ -80,7 +88,8 @@ bools_give k given all (bool x ∷ text y ∷ ps) are = cc
 bools_give k given all (bool x ∷ bool y ∷ p ∷ ps) are = cc
 
 -- a text
-pub text_gives : (k : Kind) (given : List ℕ → Given) → ((x : List ℕ) → GivesKind k (given x)) → (ps : List Plain) → AreOfKinds one_text ps → GivesKind k (of_text given ps)
+pub text_gives : (k : Kind) (given : List ℕ → Given) → ((x : List ℕ) → GivesKind k (given x)) → (ps : List Plain) → AreOfKinds one_text ps
+    → GivesKind k (of_text given ps)
 text_gives k given all [] are = cc
 text_gives k given all (text x ∷ []) are = all x
 text_gives k given all (int x ∷ ps) are = cc
@@ -88,7 +97,8 @@ text_gives k given all (bool x ∷ ps) are = cc
 text_gives k given all (text x ∷ p ∷ ps) are = cc
 
 -- two texts
-texts_give : (k : Kind) (given : List ℕ → List ℕ → Given) → ((x y : List ℕ) → GivesKind k (given x y)) → (ps : List Plain) → AreOfKinds two_texts ps → GivesKind k (of_texts given ps)
+texts_give : (k : Kind) (given : List ℕ → List ℕ → Given) → ((x y : List ℕ) → GivesKind k (given x y)) → (ps : List Plain)
+    → AreOfKinds two_texts ps → GivesKind k (of_texts given ps)
 texts_give k given all [] are = cc
 texts_give k given all (int x ∷ ps) are = cc
 texts_give k given all (bool x ∷ ps) are = cc
@@ -116,7 +126,8 @@ divided_gives (negsuc n) g is = is
 -- what is left is an int
 remainder_gives : (x y : ℤ) → GivesKind kind.Int (remainder x y)
 remainder_gives x y =
-    divided_gives y (if is_inside (int_div x y) then gives (int (int_rem x y)) else fails 1) (chosen kind.Int (is_inside (int_div x y)) (gives (int (int_rem x y))) (fails 1) tt tt)
+    divided_gives y (if is_inside (int_div x y) then gives (int (int_rem x y)) else fails 1)
+        (chosen kind.Int (is_inside (int_div x y)) (gives (int (int_rem x y))) (fails 1) tt tt)
 
 -- two texts joined are a text
 joined_gives : (x y : List ℕ) → GivesKind kind.Text (joined x y)
@@ -126,7 +137,8 @@ joined_gives x y = chosen kind.Text (nat_le (length (x ++ y)) 16777216) (gives (
 number_gives : (x : List ℕ) → GivesKind kind.Int (number_of x)
 number_gives x =
     let one = λ (z : ℤ). chosen kind.Int (is_inside z) (gives (int z)) (fails 3) tt tt in
-    let sign = λ (negative : Bool) (ds : List ℕ). chosen kind.Int (is_numeral ds) (inside_or_none (signed negative (digits_value 10 ds))) (fails 3) (one (signed negative (digits_value 10 ds))) tt in
+    let sign = λ (negative : Bool) (ds : List ℕ). chosen kind.Int (is_numeral ds) (inside_or_none (signed negative (digits_value 10 ds)))
+        (fails 3) (one (signed negative (digits_value 10 ds))) tt in
     chosen kind.Int (starts_with_minus x) (written true (drop 1 x)) (written false x) (sign true (drop 1 x)) (sign false x)
 
 -- the signature is of plain kinds, and what is given is of the kind
@@ -147,13 +159,16 @@ AllSound [] = Unit {0}
 AllSound (o ∷ os) = IsSound o × AllSound os
 
 -- an operation of one kind, and of two
-one_sound : (name : List ℕ) (k l : Kind) (given : List Plain → Given) → IsPlainKind k → IsPlainKind l → ((ps : List Plain) → AreOfKinds (k ∷ []) ps → GivesKind l (given ps))
+one_sound : (name : List ℕ) (k l : Kind) (given : List Plain → Given) → IsPlainKind k → IsPlainKind l →
+    ((ps : List Plain) → AreOfKinds (k ∷ []) ps → GivesKind l (given ps))
     → IsSound (row name (k ∷ []) l given)
 one_sound name k l given taken made kind = record { plain = record { takes_plain = one_plain k taken; gives_plain = made }; kind = kind }
 
-two_sound : (name : List ℕ) (k l : Kind) (given : List Plain → Given) → IsPlainKind k → IsPlainKind l → ((ps : List Plain) → AreOfKinds (k ∷ k ∷ []) ps → GivesKind l (given ps))
+two_sound : (name : List ℕ) (k l : Kind) (given : List Plain → Given) → IsPlainKind k → IsPlainKind l →
+    ((ps : List Plain) → AreOfKinds (k ∷ k ∷ []) ps → GivesKind l (given ps))
     → IsSound (row name (k ∷ k ∷ []) l given)
-two_sound name k l given taken made kind = record { plain = record { takes_plain = two_plain k k taken taken; gives_plain = made }; kind = kind }
+two_sound name k l given taken made kind =
+    record { plain = record { takes_plain = two_plain k k taken taken; gives_plain = made }; kind = kind }
 
 -- each standard operation is sound
 all_sound : AllSound standard_operations
@@ -165,7 +180,8 @@ all_sound = (
     (
       two_sound _ kind.Int kind.Int _ tt tt (ints_give kind.Int (λ x y. inside (x *ℤ y)) (λ x y. inside_gives (x *ℤ y))),
       (
-        two_sound _ kind.Int kind.Int _ tt tt (ints_give kind.Int quotient (λ x y. divided_gives y (inside (int_div x y)) (inside_gives (int_div x y)))),
+        two_sound _ kind.Int kind.Int _ tt tt (ints_give kind.Int quotient
+            (λ x y. divided_gives y (inside (int_div x y)) (inside_gives (int_div x y)))),
         (
           two_sound _ kind.Int kind.Int _ tt tt (ints_give kind.Int remainder remainder_gives),
           (

@@ -1,5 +1,6 @@
 -- Membership in lists of kinds, where kinds are compared as values.
-use Rattle.std.proofs.Common.{◌≡◌, ℕ, zero, suc, List, [], ◌∷◌, ◌++◌, Bool, true, false, ◌&&◌, not, cond, Option, Some, ◌⊎◌, inl, inr, ⊎_elim, sym, ap, ◌∙◌, subst}
+use Rattle.std.proofs.Common.{◌≡◌, ℕ, zero, suc, List, [], ◌∷◌, ◌++◌, Bool, true, false, ◌&&◌, not, cond, Option, Some, ◌⊎◌, inl, inr}
+use Rattle.std.proofs.Common.{⊎_elim, sym, ap, ◌∙◌, subst}
 use Rattle.std.specs.Prelude.{slice_get, ◌↔◌}
 use Rattle.wb_predictive.specs.Kinds.{is_member, is_subset, is_apart, is_apart_from_all, are_apart}
 use Rattle.wb_predictive.specs.Inner.Choice.{choose}

@@ -2,7 +2,8 @@
 use Rattle.std.proofs.Common.{◌≡◌, ℕ, zero, suc, List, [], ◌∷◌, Bool, true, ◌&&◌, Some, ⊎_elim, refl, subst}
 use Rattle.std.specs.Prelude.{slice_get, nat_lt}
 use Rattle.wb_predictive.specs.declared.symbol.Symbol.{Symbol}
-use Rattle.wb_predictive.specs.Entries.{Entry, all_nullable, firsts, is_below, is_some_below, weight_of, is_foreseen, is_followed, is_right, are_rights, is_decided}
+use Rattle.wb_predictive.specs.Entries.{Entry, all_nullable, firsts, is_below, is_some_below, weight_of, is_foreseen, is_followed, is_right}
+use Rattle.wb_predictive.specs.Entries.{are_rights, is_decided}
 use Rattle.wb_predictive.specs.Kinds.{implies, is_subset, are_apart}
 use Rattle.wb_predictive.proofs.Booleans.{and_left, and_right, or_cases}
 

@@ -1,5 +1,6 @@
 -- A run that stops at a later file has its cause: the files before it pass, and the count of this one rose since the run began.
-use Rattle.std.proofs.Common.{◌≡◌, ◌≤◌, inl, inr, ℕ, List, [], ◌∷◌, Option, Some, None, Result, Ok, Err, IfOk, IfErr, arith, subst, ◌∙◌, refl}
+use Rattle.std.proofs.Common.{◌≡◌, ◌≤◌, inl, inr, ℕ, List, [], ◌∷◌, Option, Some, None, Result, Ok, Err, IfOk, IfErr, arith, subst, ◌∙◌}
+use Rattle.std.proofs.Common.{refl}
 use Rattle.wb_world.specs.Cause.{Rose}
 use Rattle.wb_world.specs.Shelf.{Files}
 use Rattle.wb_small.specs.declared.numbered.SmallSpec.{SmallSpec}

@@ -1,5 +1,6 @@
 -- Words ask one thing at most: they split in one way, and a verb with its options and words says one thing.
-use Rattle.std.proofs.Common.{◌≡◌, ◌≢◌, inl, inr, ℕ, ◌+◌, ◌*◌, ◌-◌, ◌^◌, List, [], ◌∷◌, ◌++◌, All, Some, map, slice_get, refl, ap, sym, ◌∙◌, subst}
+use Rattle.std.proofs.Common.{◌≡◌, ◌≢◌, inl, inr, ℕ, ◌+◌, ◌*◌, ◌-◌, ◌^◌, List, [], ◌∷◌, ◌++◌, All, Some, map, slice_get, refl, ap, sym, ◌∙◌}
+use Rattle.std.proofs.Common.{subst}
 use Rattle.std.specs.Prelude.{◌==◌, if◌then◌else◌}
 use Rattle.std.proofs.lemmas.List.Elements.{All-head, All-tail}
 use Rattle.std.proofs.lemmas.Option.{slice_get-map, same_Some}
@@ -10,7 +11,9 @@ use Rattle.wb_lemmas.proofs.Members.{contains_at}
 use Rattle.wb_base.specs.Different.{Differ}
 use Rattle.wb_program.specs.Asked.{Asked}
 use Rattle.wb_program.specs.Laws.{AskOneThing}
-use Rattle.wb_program.specs.Words.{IsPositional, Given, Splits, HasOption, HasNumber, HasSteps, Verb, verb_text, Says, Value, Show, Check, Certify, Compose, Tree, Run, Generate, no_option, apart, joined, says_value, says_show, says_check, says_certify, says_compose, says_tree, says_run, says_generate}
+use Rattle.wb_program.specs.Words.{IsPositional, Given, Splits, HasOption, HasNumber, HasSteps, Verb, verb_text, Says, Value, Show, Check}
+use Rattle.wb_program.specs.Words.{Certify, Compose, Tree, Run, Generate, no_option, apart, joined, says_value, says_show, says_check}
+use Rattle.wb_program.specs.Words.{says_certify, says_compose, says_tree, says_run, says_generate}
 
 -- what no verbs have in common, from their first and third byte
 key : List ℕ → ℕ
@@ -22,7 +25,8 @@ key (x ∷ y ∷ z ∷ rest) = 2 * x + z
 -- the verb of a key
 verb_of : ℕ → Verb
 verb_of k =
-    if k == 344 then Value else if k == 341 then Show else if k == 299 then Check else if k == 312 then Certify else if k == 307 then Compose
+    if k == 344 then Value else if k == 341 then Show else if k == 299 then Check else if k == 312 then Certify else if k == 307 then
+        Compose
     else if k == 333 then Tree else if k == 338 then Run else Generate
 
 -- the verb of a verb's text is itself

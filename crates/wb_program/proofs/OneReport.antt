@@ -25,7 +25,8 @@ use Rattle.wb_program.specs.Laws.{HaveOneStatus, HaveOneText}
 use Rattle.wb_program.specs.Lines.{fault_line, value_line, spec_refused_line}
 use Rattle.wb_program.specs.Report.{IsReportOf, IsAnswered, IsReport, value_report, show_report}
 use Rattle.wb_program.specs.ShowReport.{RefusesSpec, ShowReport}
-use Rattle.wb_program.specs.ValueReport.{RefusesHost, RefusesTerm, LacksAttribute, HasFault, NumberReport, AnswerReport, TermReport, ValueReport}
+use Rattle.wb_program.specs.ValueReport.{RefusesHost, RefusesTerm, LacksAttribute, HasFault, NumberReport, AnswerReport, TermReport}
+use Rattle.wb_program.specs.ValueReport.{ValueReport}
 use Rattle.wb_program.specs.Words.{InCommandSet}
 use Rattle.wb_program.specs.declared.status.Status.{Status}
 use Rattle.wb_program.specs.declared.status.Status.TheVariants.{Done, SpecRefused, OperationFault, UnknownAttribute}
@@ -161,23 +162,30 @@ module _ (files : Files) (file : List ℕ) (s t : Status) (bytes others : List �
       (λ spec read. one_end Done s t bytes others (IsCanonical spec) (λ p q. one_canonical spec bytes others p q))
 
 -- two reports of what is asked are one
-one_report_of : (operations : Operations) (files : Files) (s t : Status) (bytes others : List ℕ) (asked : Asked) → IsReportOf operations (Some files) s bytes asked →
+one_report_of : (operations : Operations) (files : Files) (s t : Status) (bytes others : List ℕ) (asked : Asked) → IsReportOf operations
+    (Some files) s bytes asked →
     IsReportOf operations (Some files) t others asked → AreOne s t bytes others
-one_report_of operations files s t bytes others asked (value_report {host = host} {term = term} {attribute = attribute} x) (value_report y) =
+one_report_of operations files s t bytes others asked (value_report {host = host} {term = term} {attribute = attribute} x)
+    (value_report y) =
     one_value_report files host term attribute s t bytes others x y
-one_report_of operations files s t bytes others asked (show_report {file = file} x) (show_report y) = one_show_report files file s t bytes others x y
+one_report_of operations files s t bytes others asked (show_report {file = file} x) (show_report y) =
+    one_show_report files file s t bytes others x y
 
 -- what has a report is built
-is_built : (operations : Operations) (known : Option Files) (s : Status) (bytes : List ℕ) (asked : Asked) → IsReportOf operations known s bytes asked → IsBuilt asked
+is_built : (operations : Operations) (known : Option Files) (s : Status) (bytes : List ℕ) (asked : Asked)
+    → IsReportOf operations known s bytes asked → IsBuilt asked
 is_built operations known s bytes asked (value_report x) = value_is_built
 is_built operations known s bytes asked (show_report x) = show_is_built
 
 -- words with a report are in the command set
-in_set : (operations : Operations) (known : Option Files) (s : Status) (bytes : List ℕ) (words : List (List ℕ)) → IsAnswered operations words known s bytes → InCommandSet words
-in_set operations known s bytes words x = record { asked = x.asked; asks = x.asks; built = is_built operations known s bytes x.asked x.report }
+in_set : (operations : Operations) (known : Option Files) (s : Status) (bytes : List ℕ) (words : List (List ℕ))
+    → IsAnswered operations words known s bytes → InCommandSet words
+in_set operations known s bytes words x =
+    record { asked = x.asked; asks = x.asks; built = is_built operations known s bytes x.asked x.report }
 
 -- two reports of words and files are one
-one_report : (operations : Operations) (words : List (List ℕ)) (files : Files) (s t : Status) (bytes others : List ℕ) → IsReport operations words (Some files) s bytes →
+one_report : (operations : Operations) (words : List (List ℕ)) (files : Files) (s t : Status) (bytes others : List ℕ)
+    → IsReport operations words (Some files) s bytes →
     IsReport operations words (Some files) t others → AreOne s t bytes others
 one_report operations words files s t bytes others (inl x) (inl y) = (x.usage ∙ sym y.usage, x.line ∙ sym y.line)
 one_report operations words files s t bytes others (inl x) (inr y) = absurd (x.none_asked (in_set operations (Some files) t others words y))

@@ -11,7 +11,8 @@ use Rattle.wb_program.specs.Files.{KnownFile}
 use Rattle.wb_program.specs.HostsAndTerms.{IsHost, IsTerm}
 use Rattle.wb_program.specs.Lines.{value_line}
 use Rattle.wb_program.specs.ShowReport.{RefusesSpec, ShowReport}
-use Rattle.wb_program.specs.ValueReport.{RefusesHost, RefusesTerm, LacksAttribute, HasFault, NumberReport, AnswerReport, TermReport, ValueReport}
+use Rattle.wb_program.specs.ValueReport.{RefusesHost, RefusesTerm, LacksAttribute, HasFault, NumberReport, AnswerReport, TermReport}
+use Rattle.wb_program.specs.ValueReport.{ValueReport}
 use Rattle.wb_program.specs.Written.{WritesNothing}
 use Rattle.wb_program.specs.declared.status.Status.{Status}
 use Rattle.wb_program.specs.declared.status.Status.TheVariants.{Done, SpecRefused, OperationFault, UnknownAttribute}

@@ -2,7 +2,8 @@
 use Rattle.std.proofs.Common.{◌≡◌, ℕ, List, [], ◌∷◌, All, Option, Some, None, IfNone, subst, sym, ap, refl, ◌∙◌}
 use Rattle.std.proofs.lemmas.List.Elements.{All-head, All-tail}
 use Rattle.wb_program.specs.Asked.{Asked, IsBuilt, value_is_built, show_is_built}
-use Rattle.wb_program.specs.Words.{IsPositional, Given, Splits, Verb, verb_text, Value, Show, Says, InCommandSet, no_option, says_value, says_show}
+use Rattle.wb_program.specs.Words.{IsPositional, Given, Splits, Verb, verb_text, Value, Show, Says, InCommandSet, no_option, says_value}
+use Rattle.wb_program.specs.Words.{says_show}
 use Rattle.wb_program.specs.Inner.Commands.{AreValue, AreShow}
 
 -- without options all words are positional
@@ -33,7 +34,8 @@ said words verb options rest later asked show_is_built (says_show {file = file})
 -- words that are none of the commands ask for none
 pub none_asked : (words : List (List ℕ)) → ¬ AreValue words → ¬ AreShow words → ¬ InCommandSet words
 none_asked words no_value no_show is =
-    said words is.asks.verb is.asks.options is.asks.rest is.asks.positional is.asked is.built is.asks.says is.asks.splits is.asks.line no_value no_show
+    said words is.asks.verb is.asks.options is.asks.rest is.asks.positional is.asked is.built is.asks.says is.asks.splits is.asks.line
+        no_value no_show
 
 -- no answer is one with what holds of none
 pub if_none : {X : Type 0} (o : Option X) (P Q : Type 0) → (P → Q) → IfNone o P → IfNone o Q

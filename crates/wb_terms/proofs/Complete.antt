@@ -17,7 +17,8 @@ use Rattle.wb_tokens.specs.Kinds.{kind_of}
 use Rattle.wb_terms.specs.declared.rules.Part.{Part}
 use Rattle.wb_terms.specs.declared.rules.Action.{Action}
 use Rattle.wb_terms.specs.Term.{Term, Argument, Arguments}
-use Rattle.wb_terms.specs.TermGrammar.{Tokens, Is, IsHead, IsTerm, AreArguments, AreMore, IsArgument, simple, owned, whole, nothing, some, ended, next, number, string, truth, untruth, below}
+use Rattle.wb_terms.specs.TermGrammar.{Tokens, Is, IsHead, IsTerm, AreArguments, AreMore, IsArgument, simple, owned, whole, nothing, some}
+use Rattle.wb_terms.specs.TermGrammar.{ended, next, number, string, truth, untruth, below}
 use Rattle.wb_terms.specs.Inner.Events.{shift, qualified_name, term_onto, argument_onto, arguments_onto}
 use Rattle.wb_terms.specs.Inner.TermTable.{term_rights, term_grammar}
 
@@ -79,7 +80,9 @@ mutual
   -- a term
   pub complete_term : {t : Term} {w rest : Tokens} (f : Row) (a b : List Event) → IsTerm t w rest → Gives f rest (term_onto t a) b
       → Gives (Nonterminal Part.Term ∷ f) w a b
-  complete_term {w = w} f a b (whole {name = name} {place = place} {arguments = arguments} {inner = inner} {rest = rest} {opening = opening} {closing = closing} head opens inside closes) d =
+  complete_term {w = w} f a b
+      (whole {name = name} {place = place} {arguments = arguments} {inner = inner} {rest = rest} {opening = opening} {closing = closing}
+          head opens inside closes) d =
       expand 0 refl (complete_head name place w (opening ∷ inner) _ a b head
       (take_token (k.Mark p.OpenParenthesis) _ opening _ inner _ _ b opens refl refl
       (complete_arguments _ (Begin name place ∷ a) b inside

@@ -6,7 +6,8 @@ use Rattle.wb_terms.specs.declared.event.Event.TheVariants.{Begin}
 use Rattle.wb_terms.specs.Term.{Term, Argument, Arguments, named, plain, term, empty, more, list_of}
 use Rattle.wb_terms.specs.Nodes.{SomeNode, SomeInArgument, SomeInArguments, EachNode, EachInArgument, EachInArguments}
 use Rattle.wb_terms.specs.Inner.Events.{term_onto, argument_onto, arguments_onto}
-use Rattle.wb_terms.specs.Inner.Zipper.{Zipper, outside, inside, with_argument, arguments_of, closed, zipper, OfInnermost, SomeEnded, EachEnded}
+use Rattle.wb_terms.specs.Inner.Zipper.{Zipper, outside, inside, with_argument, arguments_of, closed, zipper, OfInnermost, SomeEnded}
+use Rattle.wb_terms.specs.Inner.Zipper.{EachEnded}
 use Rattle.wb_terms.proofs.LeastLemmas.{either}
 
 -- arguments, one after another
@@ -30,7 +31,8 @@ mutual
   -- a term is met
   pub term_met : (t : Term) (v : List Event) → zipper (term_onto t v) ≡ with_argument (term t) (zipper v)
   term_met (named name place arguments) v =
-      ap closed (arguments_met arguments (Begin name place ∷ v) ∙ with_all_inside (list_of arguments) [] name place (zipper v)) ∙ ap (λ (a : Arguments). with_argument (term (named name place a)) (zipper v)) (arguments_back arguments)
+      ap closed (arguments_met arguments (Begin name place ∷ v) ∙ with_all_inside (list_of arguments) [] name place (zipper v)) ∙ ap
+          (λ (a : Arguments). with_argument (term (named name place a)) (zipper v)) (arguments_back arguments)
 
   argument_met : (a : Argument) (v : List Event) → zipper (argument_onto a v) ≡ with_argument a (zipper v)
   argument_met (plain (int z) place) v = refl
@@ -66,7 +68,8 @@ module _ (Holds : List ℕ → ℕ → List Argument → Type 0) where
         → SomeInArguments Holds arguments ⊎ SomeEnded Holds v
     some_in_arguments empty v h = inr h
     some_in_arguments (more a others) v h =
-        either (λ s. inl (inr s)) (λ e. either (λ s. inl (inl s)) (λ f. inr f) (some_in_argument a v e)) (some_in_arguments others (argument_onto a v) h)
+        either (λ s. inl (inr s)) (λ e. either (λ s. inl (inl s)) (λ f. inr f) (some_in_argument a v e))
+            (some_in_arguments others (argument_onto a v) h)
 
   mutual
     -- and the other way round

@@ -1,5 +1,6 @@
 -- How a term is read: one event after another, and what is found.
-use Rattle.std.proofs.Common.{◌≡◌, ◌<◌, ◌+◌, ℕ, List, [], ◌∷◌, ◌++◌, Result, Ok, Err, Option, Some, None, IfOk, IfErr, IfSome, length, take, reverse, get_or, sym, ap, ◌∙◌, subst, append_assoc}
+use Rattle.std.proofs.Common.{◌≡◌, ◌<◌, ◌+◌, ℕ, List, [], ◌∷◌, ◌++◌, Result, Ok, Err, Option, Some, None, IfOk, IfErr, IfSome, length, take}
+use Rattle.std.proofs.Common.{reverse, get_or, sym, ap, ◌∙◌, subst, append_assoc}
 use Rattle.std.proofs.lemmas.List.{take_more, reverse-append}
 use Rattle.wb_values.specs.Signature.{Signature}
 use Rattle.wb_values.specs.Tree.{Tree}

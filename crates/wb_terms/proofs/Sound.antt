@@ -18,7 +18,8 @@ use Rattle.wb_tokens.proofs.KindLaws.{name_by_kind, mark_by_kind, word_by_kind, 
 use Rattle.wb_terms.specs.declared.rules.Part.{Part}
 use Rattle.wb_terms.specs.declared.rules.Action.{Action}
 use Rattle.wb_terms.specs.Term.{Term, Argument, Arguments}
-use Rattle.wb_terms.specs.TermGrammar.{Tokens, Is, IsHead, IsTerm, AreArguments, AreMore, IsArgument, simple, owned, whole, nothing, some, ended, next, number, string, truth, untruth, below}
+use Rattle.wb_terms.specs.TermGrammar.{Tokens, Is, IsHead, IsTerm, AreArguments, AreMore, IsArgument, simple, owned, whole, nothing, some}
+use Rattle.wb_terms.specs.TermGrammar.{ended, next, number, string, truth, untruth, below}
 use Rattle.wb_terms.specs.Inner.Events.{qualified_name}
 use Rattle.wb_terms.specs.Inner.TermTable.{term_rights}
 use Rattle.wb_terms.proofs.Complete.{Row, Gives}
@@ -27,7 +28,8 @@ use Rattle.wb_terms.proofs.Complete.{Row, Gives}
 abbrev IsPart : Part → Tokens → Tokens → Type 0
 IsPart Part.Term w rest = (t : Term) × IsTerm t w rest
 IsPart Part.Owner w rest =
-    (w ≡ rest) ⊎ ((second : List ℕ) × (colon : Placed Lexeme) × (y : Placed Lexeme) × Is (t.Punctuation p.Colon) colon × Is (t.Name second) y × (w ≡ colon ∷ y ∷ rest))
+    (w ≡ rest) ⊎ ((second : List ℕ) × (colon : Placed Lexeme) × (y : Placed Lexeme) × Is (t.Punctuation p.Colon) colon × Is
+        (t.Name second) y × (w ≡ colon ∷ y ∷ rest))
 IsPart Part.Arguments w rest = (arguments : Arguments) × AreArguments arguments w rest
 IsPart Part.More w rest = (arguments : Arguments) × AreMore arguments w rest
 IsPart Part.Argument w rest = (a : Argument) × IsArgument a w rest
@@ -51,7 +53,8 @@ the_right f w a b e m = let same : b ≡ a = cc in subst (λ (r : Row). Means (r
 
 -- a term by its rule
 term_by : (f : Row) (w : Tokens)
-    → Means ((Token k.Name ∷ Nonterminal Part.Owner ∷ Token (k.Mark p.OpenParenthesis) ∷ Nonterminal Part.Arguments ∷ Token (k.Mark p.CloseParenthesis) ∷ Act Action.Close ∷ []) ++ f) w
+    → Means ((Token k.Name ∷ Nonterminal Part.Owner ∷ Token (k.Mark p.OpenParenthesis) ∷ Nonterminal Part.Arguments ∷ Token
+        (k.Mark p.CloseParenthesis) ∷ Act Action.Close ∷ []) ++ f) w
     → Means (Nonterminal Part.Term ∷ f) w
 term_by f w m =
     let name = name_by_kind m.0.token m.2 in
@@ -60,7 +63,9 @@ term_by f w m =
     let opening = rest.2 in
     let inside = opening.4 in
     let closing = inside.2 in
-    (closing.1, (_, whole (subst (λ v. IsHead head.0 m.0.at w v) opening.3 head.1) (mark_by_kind opening.0.token p.OpenParenthesis opening.2) (subst (λ v. AreArguments inside.1.0 opening.1 v) closing.3 inside.1.1) (mark_by_kind closing.0.token p.CloseParenthesis closing.2)), closing.4)
+    (closing.1, (_, whole (subst (λ v. IsHead head.0 m.0.at w v) opening.3 head.1)
+        (mark_by_kind opening.0.token p.OpenParenthesis opening.2) (subst (λ v. AreArguments inside.1.0 opening.1 v) closing.3 inside.1.1)
+            (mark_by_kind closing.0.token p.CloseParenthesis closing.2)), closing.4)
 
 -- an argument that is a token of this kind
 token_by : (kind : TokenKind) (f : Row) (w : Tokens)
@@ -101,9 +106,11 @@ expanded Part.Argument (suc zero) right f w e m =
 expanded Part.Argument (suc (suc zero)) right f w e m =
     token_by k.String f w (λ x v is whole. let i = string_by_kind x.token is in (_, string i.1 refl whole)) (the_right f w _ right e m)
 expanded Part.Argument (suc (suc (suc zero))) right f w e m =
-    token_by (k.Word words.True) f w (λ x v is whole. (_, truth (word_by_kind x.token words.True is) refl whole)) (the_right f w _ right e m)
+    token_by (k.Word words.True) f w (λ x v is whole. (_, truth (word_by_kind x.token words.True is) refl whole))
+        (the_right f w _ right e m)
 expanded Part.Argument (suc (suc (suc (suc zero)))) right f w e m =
-    token_by (k.Word words.False) f w (λ x v is whole. (_, untruth (word_by_kind x.token words.False is) refl whole)) (the_right f w _ right e m)
+    token_by (k.Word words.False) f w (λ x v is whole. (_, untruth (word_by_kind x.token words.False is) refl whole))
+        (the_right f w _ right e m)
 expanded Part.Argument (suc (suc (suc (suc (suc zero))))) right f w e m =
     let m' : Means (Nonterminal Part.Term ∷ f) w = the_right f w _ right e m in
     (m'.0, (_, below m'.1.1), m'.2)

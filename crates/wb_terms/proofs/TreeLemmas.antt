@@ -12,7 +12,8 @@ use Rattle.wb_terms.specs.Inner.Built.{IsNumberOf, IsBuilt, IsBuiltValue, AreBui
 use Rattle.wb_lemmas.proofs.Zips.{zip_both_at}
 use Rattle.wb_terms.proofs.KindLemmas.{one_first, one_signature, first_or_none}
 
-module _ (P Q : List ℕ → ℕ → List Argument → Type 0) (apart : (name : List ℕ) (place : ℕ) (arguments : List Argument) → P name place arguments → Q name place arguments → ⊥) where
+module _ (P Q : List ℕ → ℕ → List Argument → Type 0) (apart : (name : List ℕ) (place : ℕ) (arguments : List Argument)
+    → P name place arguments → Q name place arguments → ⊥) where
   -- what holds of each node excludes what contradicts it
   mutual
     pub each_some : (t : Term) → EachNode P t → SomeNode Q t → ⊥
@@ -28,7 +29,8 @@ module _ (P Q : List ℕ → ℕ → List Argument → Type 0) (apart : (name : 
     each_some_arguments (more a others) e (inl s) = each_some_argument a e.0 s
     each_some_arguments (more a others) e (inr s) = each_some_arguments others e.1 s
 
-module _ (P Q R : List ℕ → ℕ → List Argument → Type 0) (both : (name : List ℕ) (place : ℕ) (arguments : List Argument) → P name place arguments → Q name place arguments → R name place arguments) where
+module _ (P Q R : List ℕ → ℕ → List Argument → Type 0) (both : (name : List ℕ) (place : ℕ) (arguments : List Argument)
+    → P name place arguments → Q name place arguments → R name place arguments) where
   -- what follows from two facts of each node
   mutual
     pub each_both : (t : Term) → EachNode P t → EachNode Q t → EachNode R t

@@ -1,5 +1,7 @@
 -- The number behind an optional sign, as far as digits go, is the longest integer.
-use Rattle.std.proofs.Common.{◌≡◌, ◌≢◌, ℕ, zero, suc, ◌+◌, ◌<◌, ◌≤◌, ◌⊎◌, List, [], ◌∷◌, ◌++◌, Some, None, Bool, true, false, cond, length, get_or, take, drop, refl, sym, ap, ◌∙◌, subst, arith, length-take, length-append, pos, neg_ℤ, ℤ, ⊎_elim, FitsSigned, w64}
+use Rattle.std.proofs.Common.{◌≡◌, ◌≢◌, ℕ, zero, suc, ◌+◌, ◌<◌, ◌≤◌, ◌⊎◌, List, [], ◌∷◌, ◌++◌, Some, None, Bool, true, false, cond, length}
+use Rattle.std.proofs.Common.{get_or, take, drop, refl, sym, ap, ◌∙◌, subst, arith, length-take, length-append, pos, neg_ℤ, ℤ, ⊎_elim}
+use Rattle.std.proofs.Common.{FitsSigned, w64}
 use Rattle.std.proofs.Math.Seq.{take-append-add}
 use Rattle.std.proofs.lemmas.Bool.{cases_lt}
 use Rattle.std.proofs.lemmas.List.{get_or-take}

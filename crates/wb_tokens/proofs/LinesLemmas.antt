@@ -1,5 +1,6 @@
 -- Tokens on lines of their own are read back as those tokens.
-use Rattle.std.proofs.Common.{◌≡◌, ℕ, ◌+◌, List, [], ◌∷◌, ◌++◌, map, length, get_or, refl, sym, ap, ◌∙◌, subst, arith, length-append, append_assoc}
+use Rattle.std.proofs.Common.{◌≡◌, ℕ, ◌+◌, List, [], ◌∷◌, ◌++◌, map, length, get_or, refl, sym, ap, ◌∙◌, subst, arith, length-append}
+use Rattle.std.proofs.Common.{append_assoc}
 use Rattle.std.proofs.lemmas.List.{get_or_at}
 use Rattle.wb_predictive.specs.declared.table.Placed.{Placed}
 use Rattle.wb_predictive.specs.declared.table.Next.TheVariants.{End}

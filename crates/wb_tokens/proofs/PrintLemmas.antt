@@ -1,5 +1,6 @@
 -- What is printed is the spelling of its token.
-use Rattle.std.proofs.Common.{◌≡◌, ℕ, suc, ◌+◌, ◌/◌, ◌%◌, ◌<◌, List, [], ◌∷◌, ◌++◌, Some, Bool, true, false, ◌&&◌, cond, eqb, leb, length, get_or, take, refl, sym, ap, ◌∙◌, append_assoc, arith, pos, negsuc, neg_ℤ, ℤ, FitsSigned, w64}
+use Rattle.std.proofs.Common.{◌≡◌, ℕ, suc, ◌+◌, ◌/◌, ◌%◌, ◌<◌, List, [], ◌∷◌, ◌++◌, Some, Bool, true, false, ◌&&◌, cond, eqb, leb, length}
+use Rattle.std.proofs.Common.{get_or, take, refl, sym, ap, ◌∙◌, append_assoc, arith, pos, negsuc, neg_ℤ, ℤ, FitsSigned, w64}
 use Rattle.std.proofs.lemmas.Bool.{eqb-true}
 use Rattle.std.proofs.lemmas.Fmt.{decimal_is_IsNumeral}
 use Rattle.std.proofs.lemmas.Grind.{flat_map-append}
@@ -89,7 +90,8 @@ text_more before out new text i within e f =
     ∙ (append_assoc before (flat_map printed_byte (take i text)) (printed_byte (get_or text i 0)) ∙ ap (λ l. before ++ l) (sym more)))
 
 -- what follows the opening quote comes after what was there, and so does the closing quote, where it is written
-pub grown_by : (old out new more last : List ℕ) (is_written : Bool) → out ≡ (old ++ 34 ∷ []) ++ more → new ≡ cond is_written (out ++ last) out
+pub grown_by : (old out new more last : List ℕ) (is_written : Bool) → out ≡ (old ++ 34 ∷ []) ++ more → new ≡ cond is_written
+    (out ++ last) out
     → (added : List ℕ) × (new ≡ old ++ added)
 grown_by old out new more last true e f = (
   (34 ∷ more) ++ last,

@@ -15,7 +15,8 @@ same_comment {text = text} {from = from} {a = a} {b = b} c d = ⊎_elim (λ e. e
     (λ lt. absurd (c.one_line b d.ordered lt (d.ended (omega (arith, lt, c.within))))) o) (cases_order a b)
 
 -- a piece of layout ends at one place
-pub piece_only : {layout : Layout} {text : List ℕ} {from a b : ℕ} → IsLayoutPiece layout text from a → IsLayoutPiece layout text from b → a ≡ b
+pub piece_only : {layout : Layout} {text : List ℕ} {from a b : ℕ} → IsLayoutPiece layout text from a → IsLayoutPiece layout text from b
+    → a ≡ b
 piece_only (IsLayoutPiece.blank w b e) (IsLayoutPiece.blank w' b' e') = e ∙ sym e'
 piece_only (IsLayoutPiece.blank w b e) (IsLayoutPiece.comment l c) = absurd (no_blank_comment b c)
 piece_only (IsLayoutPiece.comment l c) (IsLayoutPiece.blank w b e) = absurd (no_blank_comment b c)

@@ -1,5 +1,6 @@
 -- For whoever builds trees: values among more trees, at a place, and at a push.
-use Rattle.std.proofs.Common.{◌≡◌, ℕ, zero, suc, ◌+◌, ◌-◌, ◌<◌, ◌≤◌, List, [], ◌∷◌, ◌++◌, Option, Some, None, length, drop, All, get_or, refl, sym, ap, subst, ◌∙◌, arith, length-append}
+use Rattle.std.proofs.Common.{◌≡◌, ℕ, zero, suc, ◌+◌, ◌-◌, ◌<◌, ◌≤◌, List, [], ◌∷◌, ◌++◌, Option, Some, None, length, drop, All, get_or}
+use Rattle.std.proofs.Common.{refl, sym, ap, subst, ◌∙◌, arith, length-append}
 use Rattle.std.specs.Prelude.{slice_get}
 use Rattle.std.specs.Option.{option_map}
 use Rattle.std.proofs.lemmas.List.{drop-append-le}
@@ -46,11 +47,13 @@ pub value_in_more : (trees more : List Tree) (x : Value) → IsIn (length trees)
 value_in_more trees more x is = value-stable trees more x is
 
 -- values stand for the same among more trees
-pub values_in_more : (trees more : List Tree) (xs : List Value) → All (IsIn (length trees)) xs → values_in (trees ++ more) xs ≡ values_in trees xs
+pub values_in_more : (trees more : List Tree) (xs : List Value) → All (IsIn (length trees)) xs → values_in
+    (trees ++ more) xs ≡ values_in trees xs
 values_in_more trees more xs all = values-stable trees more xs all
 
 -- what the value at a place stands for
-pub value_at-values_in : (trees : List Tree) (xs : List Value) (k : ℕ) → value_at (values_in trees xs) k ≡ option_map (value_in trees) (slice_get xs k)
+pub value_at-values_in : (trees : List Tree) (xs : List Value) (k : ℕ) → value_at (values_in trees xs) k ≡ option_map (value_in trees)
+    (slice_get xs k)
 value_at-values_in trees [] k = refl
 value_at-values_in trees (x ∷ xs) zero = refl
 value_at-values_in trees (x ∷ xs) (suc k) = value_at-values_in trees xs k

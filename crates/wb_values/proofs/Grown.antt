@@ -1,5 +1,6 @@
 -- The trees of a list of nodes: one more node is one more tree, fewer nodes are fewer trees, and each tree is that of its node.
-use Rattle.std.proofs.Common.{◌≡◌, ℕ, zero, suc, ◌+◌, ◌<◌, List, [], ◌∷◌, ◌++◌, length, take, All, get_or, refl, sym, subst, ap, ◌∙◌, arith, append_assoc, append-nil, length-append, add-zero}
+use Rattle.std.proofs.Common.{◌≡◌, ℕ, zero, suc, ◌+◌, ◌<◌, List, [], ◌∷◌, ◌++◌, length, take, All, get_or, refl, sym, subst, ap, ◌∙◌, arith}
+use Rattle.std.proofs.Common.{append_assoc, append-nil, length-append, add-zero}
 use Rattle.wb_values.specs.Tree.{Tree, node, empty, tree}
 use Rattle.wb_values.specs.declared.value.Value.{Value}
 use Rattle.wb_values.specs.declared.value.Value.TheVariants.{Int, Bool, Text, Tree as Stored}
@@ -25,7 +26,8 @@ length-grown ts (y ∷ ys) = let h = length-grown (ts ++ tree_of ts y ∷ []) ys
 pub grown-begins : (ts : List Tree) (xs : List Built) → (r : List Tree) × (grown ts xs ≡ ts ++ r)
 unfolding grown
 grown-begins ts [] = ([], sym (append-nil ts))
-grown-begins ts (y ∷ ys) = let h = grown-begins (ts ++ tree_of ts y ∷ []) ys in (tree_of ts y ∷ h.0, h.1 ∙ append_assoc ts (tree_of ts y ∷ []) h.0)
+grown-begins ts (y ∷ ys) =
+    let h = grown-begins (ts ++ tree_of ts y ∷ []) ys in (tree_of ts y ∷ h.0, h.1 ∙ append_assoc ts (tree_of ts y ∷ []) h.0)
 
 -- a value stands for the same among more trees
 pub value-stable : (ts r : List Tree) (v : Value) → IsIn (length ts) v → value_in (ts ++ r) v ≡ value_in ts v
@@ -43,7 +45,8 @@ values-stable ts r (v ∷ vs) h =
     cc
 
 -- the tree at a place is that of the node there, among all the trees
-pub grown-at : (ts : List Tree) (xs : List Built) (i : ℕ) (x : Built) (d : Tree) → i < length xs → IsOrdered (length ts) xs → get_or xs i x ≡ x → get_or (grown ts xs) (length ts + i) d ≡ tree_of (grown ts xs) x
+pub grown-at : (ts : List Tree) (xs : List Built) (i : ℕ) (x : Built) (d : Tree) → i < length xs → IsOrdered (length ts) xs
+    → get_or xs i x ≡ x → get_or (grown ts xs) (length ts + i) d ≡ tree_of (grown ts xs) x
 unfolding grown
 grown-at ts [] i x d lt ord is = absurd (omega arith)
 grown-at ts (y ∷ ys) zero x d lt ord is =
@@ -53,7 +56,8 @@ grown-at ts (y ∷ ys) zero x d lt ord is =
     let same : y ≡ x = is in
     let ord' = subst (λ (z : Built). All (IsIn (length ts)) z.1) same ord.0 in
     let st = values-stable ts (tree_of ts y ∷ b.0) x.1 ord' in
-    let here : get_or (ts ++ tree_of ts y ∷ b.0) (length ts + 0) d ≡ tree_of ts y = rw add-zero (get_or-append_seam ts (tree_of ts y) b.0 d) in
+    let here : get_or (ts ++ tree_of ts y ∷ b.0) (length ts + 0) d ≡ tree_of ts y = rw add-zero
+        (get_or-append_seam ts (tree_of ts y) b.0 d) in
     let there = ap (tree_of ts) same ∙ sym (ap (node x.0) st) in
     subst (λ (l : List Tree). get_or l (length ts + 0) d ≡ tree_of l x) (sym whole) (here ∙ there)
 grown-at ts (y ∷ ys) (suc i) x d lt ord is =

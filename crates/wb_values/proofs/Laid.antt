@@ -1,5 +1,6 @@
 -- A store's nodes and values: how trees and invariant follow when a node is added, when nodes are cut off, and at a place.
-use Rattle.std.proofs.Common.{◌≡◌, ℕ, zero, suc, ◌+◌, ◌-◌, ◌<◌, ◌≤◌, List, [], ◌∷◌, ◌++◌, length, take, drop, All, get_or, refl, sym, subst, ap, ◌∙◌, arith, length-append, length-drop}
+use Rattle.std.proofs.Common.{◌≡◌, ℕ, zero, suc, ◌+◌, ◌-◌, ◌<◌, ◌≤◌, List, [], ◌∷◌, ◌++◌, length, take, drop, All, get_or, refl, sym, subst}
+use Rattle.std.proofs.Common.{ap, ◌∙◌, arith, length-append, length-drop}
 use Rattle.std.proofs.lemmas.List.{take-append-le, drop-append-le, take-append-drop, drop_at, take_all, length-take-le}
 use Rattle.wb_values.specs.Tree.{Tree, node, empty}
 use Rattle.wb_values.specs.ValuesIn.{tree_in, values_in, IsIn}
@@ -32,7 +33,8 @@ begin-le start [] end (suc k) h = laid-le start [] end h
 begin-le start (m ∷ ms) end (suc k) h = begin-le m.end ms end k h.1
 
 -- the children of a node end after their begin, and inside
-pub laid-at : (start : ℕ) (ns : List Node) (end k : ℕ) (n : Node) → IsLaid start ns end → k < length ns → get_or ns k n ≡ n → (begin start ns k ≤ n.end) × (n.end ≤ end)
+pub laid-at : (start : ℕ) (ns : List Node) (end k : ℕ) (n : Node) → IsLaid start ns end → k < length ns → get_or ns k n ≡ n →
+    (begin start ns k ≤ n.end) × (n.end ≤ end)
 laid-at start [] end k n h lt is = absurd (omega (arith, lt))
 laid-at start (m ∷ ms) end zero n h lt is =
     subst (λ (x : Node). (start ≤ x.end) × (x.end ≤ end)) is (h.0, laid-le m.end ms end h.1)
@@ -45,14 +47,17 @@ begin-after start (m ∷ ms) zero d lt = refl
 begin-after start (m ∷ ms) (suc k) d lt = begin-after m.end ms k d (omega (arith, lt))
 
 -- more values after a slice don't change it
-slice-stable : (first count : ℕ) (vs more : List Value) → first + count ≤ length vs → take count (drop first (vs ++ more)) ≡ take count (drop first vs)
+slice-stable : (first count : ℕ) (vs more : List Value) → first + count ≤ length vs → take count (drop first (vs ++ more)) ≡ take count
+    (drop first vs)
 slice-stable first count vs more h =
     let a : drop first (vs ++ more) ≡ drop first vs ++ more = drop-append-le first vs more (omega (arith, h)) in
-    let b : take count (drop first vs ++ more) ≡ take count (drop first vs) = take-append-le count (drop first vs) more (omega (arith, length-drop first vs, h)) in
+    let b : take count (drop first vs ++ more) ≡ take count (drop first vs) = take-append-le count (drop first vs) more
+        (omega (arith, length-drop first vs, h)) in
     ap (take count) a ∙ b
 
 -- nor any of the nodes
-built-stable : (start : ℕ) (ns : List Node) (end : ℕ) (vs more : List Value) → IsLaid start ns end → end ≤ length vs → built_from start (vs ++ more) ns ≡ built_from start vs ns
+built-stable : (start : ℕ) (ns : List Node) (end : ℕ) (vs more : List Value) → IsLaid start ns end → end ≤ length vs → built_from start
+    (vs ++ more) ns ≡ built_from start vs ns
 built-stable start [] end vs more h le = refl
 built-stable start (n ∷ ns) end vs more h le =
     let k = laid-le n.end ns end h.1 in
@@ -61,7 +66,8 @@ built-stable start (n ∷ ns) end vs more h le =
     cc (a, b)
 
 -- the nodes with their children, with one node more whose children are the values after the others
-built-snoc : (start : ℕ) (ns : List Node) (vs cs : List Value) (n : Node) → IsLaid start ns (length vs) → n.end ≡ length vs + length cs → built_from start (vs ++ cs) (ns ++ n ∷ []) ≡ built_from start vs ns ++ (n.production, cs) ∷ []
+built-snoc : (start : ℕ) (ns : List Node) (vs cs : List Value) (n : Node) → IsLaid start ns (length vs) → n.end ≡ length vs + length cs
+    → built_from start (vs ++ cs) (ns ++ n ∷ []) ≡ built_from start vs ns ++ (n.production, cs) ∷ []
 built-snoc start [] vs cs n h e =
     let d : drop start (vs ++ cs) ≡ cs = drop_at vs cs start (sym h) in
     let a : take (n.end - start) cs ≡ cs = take_all (n.end - start) cs (omega (arith, h, e)) in
@@ -76,7 +82,8 @@ built-snoc start (m ∷ ms) vs cs n h e =
 built-first : (start k : ℕ) (vs : List Value) (ns : List Node) → built_from start vs (take k ns) ≡ take k (built_from start vs ns)
 built-first start zero vs ns = refl
 built-first start (suc k) vs [] = refl
-built-first start (suc k) vs (n ∷ ns) = ap (λ (bs : List Built). (n.production, take (n.end - start) (drop start vs)) ∷ bs) (built-first n.end k vs ns)
+built-first start (suc k) vs (n ∷ ns) =
+    ap (λ (bs : List Built). (n.production, take (n.end - start) (drop start vs)) ∷ bs) (built-first n.end k vs ns)
 
 -- as many as nodes
 length-built : (start : ℕ) (vs : List Value) (ns : List Node) → length (built_from start vs ns) ≡ length ns
@@ -91,7 +98,8 @@ built-at start (m ∷ ms) vs zero n d lt is = ap (λ (x : Node). (x.production, 
 built-at start (m ∷ ms) vs (suc k) n d lt is = built-at m.end ms vs k n d (omega (arith, lt)) is
 
 -- one node more is one tree more
-pub trees-snoc : (ns : List Node) (vs cs : List Value) (n : Node) → IsStore ns vs → n.end ≡ length vs + length cs → trees_of (ns ++ n ∷ []) (vs ++ cs) ≡ trees_of ns vs ++ node n.production (values_in (trees_of ns vs) cs) ∷ []
+pub trees-snoc : (ns : List Node) (vs cs : List Value) (n : Node) → IsStore ns vs → n.end ≡ length vs + length cs → trees_of (ns ++ n ∷ [])
+    (vs ++ cs) ≡ trees_of ns vs ++ node n.production (values_in (trees_of ns vs) cs) ∷ []
 unfolding trees_of
 trees-snoc ns vs cs n s e = ap (grown []) (built-snoc 0 ns vs cs n s.laid e) ∙ grown-snoc [] (built_from 0 vs ns) (n.production, cs)
 
@@ -101,7 +109,8 @@ unfolding trees_of
 length-trees ns vs = length-grown [] (built_from 0 vs ns) ∙ omega (arith, length-built 0 vs ns)
 
 -- a node more keeps the invariant
-pub store-snoc : (ns : List Node) (vs cs : List Value) (n : Node) → IsStore ns vs → n.end ≡ length vs + length cs → All (IsIn (length ns)) cs → IsStore (ns ++ n ∷ []) (vs ++ cs)
+pub store-snoc : (ns : List Node) (vs cs : List Value) (n : Node) → IsStore ns vs → n.end ≡ length vs + length cs → All
+    (IsIn (length ns)) cs → IsStore (ns ++ n ∷ []) (vs ++ cs)
 store-snoc ns vs cs n s e below =
     let len : n.end ≡ length (vs ++ cs) = omega (arith, length-append vs cs, e) in
     let at : length ns ≡ 0 + length (built_from 0 vs ns) = omega (arith, length-built 0 vs ns) in
@@ -112,17 +121,20 @@ store-snoc ns vs cs n s e below =
     }
 
 -- the first nodes with the first values
-built-take : (ns : List Node) (vs : List Value) (k : ℕ) → IsStore ns vs → k ≤ length ns → built_from 0 (take (begin 0 ns k) vs) (take k ns) ≡ take k (built_from 0 vs ns)
+built-take : (ns : List Node) (vs : List Value) (k : ℕ) → IsStore ns vs → k ≤ length ns → built_from 0 (take (begin 0 ns k) vs)
+    (take k ns) ≡ take k (built_from 0 vs ns)
 built-take ns vs k s le =
     let first = begin 0 ns k in
     let within = begin-le 0 ns (length vs) k s.laid in
     let len : length (take first vs) ≡ first = length-take-le first vs within in
-    let a = built-stable 0 (take k ns) first (take first vs) (drop first vs) (laid-take 0 ns (length vs) k s.laid le) (omega (arith, len)) in
+    let a = built-stable 0 (take k ns) first (take first vs) (drop first vs) (laid-take 0 ns (length vs) k s.laid le)
+        (omega (arith, len)) in
     let b = take-append-drop first vs in
     sym (subst (λ (xs : List Value). built_from 0 xs (take k ns) ≡ built_from 0 (take first vs) (take k ns)) b a) ∙ built-first 0 k vs ns
 
 -- the first nodes are the first trees
-pub trees-take : (ns : List Node) (vs : List Value) (k : ℕ) → IsStore ns vs → k ≤ length ns → trees_of (take k ns) (take (begin 0 ns k) vs) ≡ take k (trees_of ns vs)
+pub trees-take : (ns : List Node) (vs : List Value) (k : ℕ) → IsStore ns vs → k ≤ length ns → trees_of (take k ns)
+    (take (begin 0 ns k) vs) ≡ take k (trees_of ns vs)
 unfolding trees_of
 trees-take ns vs k s le =
     let e : 0 + k ≡ k = omega arith in
@@ -132,7 +144,8 @@ trees-take ns vs k s le =
 -- the first nodes keep the invariant
 pub store-take : (ns : List Node) (vs : List Value) (k : ℕ) → IsStore ns vs → k ≤ length ns → IsStore (take k ns) (take (begin 0 ns k) vs)
 store-take ns vs k s le =
-    let len : begin 0 ns k ≡ length (take (begin 0 ns k) vs) = sym (length-take-le (begin 0 ns k) vs (begin-le 0 ns (length vs) k s.laid)) in
+    let len : begin 0 ns k ≡ length (take (begin 0 ns k) vs) = sym
+        (length-take-le (begin 0 ns k) vs (begin-le 0 ns (length vs) k s.laid)) in
     record {
       laid = subst (λ (m : ℕ). IsLaid 0 (take k ns) m) len (laid-take 0 ns (length vs) k s.laid le);
       ordered = subst (IsOrdered 0) (sym (built-take ns vs k s le)) (ordered-take 0 k (built_from 0 vs ns) s.ordered);
@@ -151,10 +164,12 @@ trees-at ns vs k n s lt is =
     let b : Built = (n.production, children_at ns vs k n) in
     let e : 0 + k ≡ k = omega arith in
     let below : k < length bs = omega (arith, length-built 0 vs ns, lt) in
-    subst (λ (m : ℕ). get_or (grown [] bs) m (node 0 empty) ≡ tree_of (grown [] bs) b) e (grown-at [] bs k b (node 0 empty) below s.ordered (built-at 0 ns vs k n b lt is))
+    subst (λ (m : ℕ). get_or (grown [] bs) m (node 0 empty) ≡ tree_of (grown [] bs) b) e
+        (grown-at [] bs k b (node 0 empty) below s.ordered (built-at 0 ns vs k n b lt is))
 
 -- the children of the node at a place name lower trees alone
-below-at : (ns : List Node) (vs : List Value) (k : ℕ) (n : Node) → IsStore ns vs → k < length ns → get_or ns k n ≡ n → All (IsIn k) (children_at ns vs k n)
+below-at : (ns : List Node) (vs : List Value) (k : ℕ) (n : Node) → IsStore ns vs → k < length ns → get_or ns k n ≡ n → All (IsIn k)
+    (children_at ns vs k n)
 below-at ns vs k n s lt is =
     let bs = built_from 0 vs ns in
     let b : Built = (n.production, children_at ns vs k n) in
@@ -170,7 +185,8 @@ pub record NodeAt (trees : List Tree) (ns : List Node) (vs : List Value) (k : �
   pub below : All (IsIn k) (children_at ns vs k n)
 
 -- it is known of each
-pub node-at : (trees : List Tree) (ns : List Node) (vs : List Value) (k : ℕ) (n : Node) → IsStore ns vs → trees_of ns vs ≡ trees → k < length trees → n ≡ get_or ns k n
+pub node-at : (trees : List Tree) (ns : List Node) (vs : List Value) (k : ℕ) (n : Node) → IsStore ns vs → trees_of ns vs ≡ trees
+    → k < length trees → n ≡ get_or ns k n
     → NodeAt trees ns vs k n
 node-at trees ns vs k n s shown within is =
     let lt : k < length ns = omega (arith, ap length shown, length-trees ns vs, within) in
@@ -178,6 +194,7 @@ node-at trees ns vs k n s shown within is =
     record {
       begins = laid.0;
       ends = laid.1;
-      tree = subst (λ (ts : List Tree). node n.production (values_in ts (children_at ns vs k n)) ≡ tree_in ts k) shown (sym (trees-at ns vs k n s lt (sym is)));
+      tree = subst (λ (ts : List Tree). node n.production (values_in ts (children_at ns vs k n)) ≡ tree_in ts k) shown
+          (sym (trees-at ns vs k n s lt (sym is)));
       below = below-at ns vs k n s lt (sym is);
     }

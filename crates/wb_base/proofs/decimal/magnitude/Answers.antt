@@ -4,7 +4,8 @@ use Rattle.wb_lemmas.proofs.Digits.{one_more}
 use Rattle.wb_base.proofs.decimal.magnitude.Goals as goal
 
 pub overflow_sub-digit : goal.overflow_sub-digit
-overflow_sub-digit c = (one_more c.args.digits.now c.loop-digit.digit-index c.loop-digit.value c.requires (omega arith) c.loop-digit.invariant).low
+overflow_sub-digit c =
+    (one_more c.args.digits.now c.loop-digit.digit-index c.loop-digit.value c.requires (omega arith) c.loop-digit.invariant).low
 
 pub returns-in_err-checked_mul : goal.returns-in_err-checked_mul
 returns-in_err-checked_mul c =
@@ -15,7 +16,8 @@ returns-in_err-checked_mul c =
 pub returns-in_err-value : goal.returns-in_err-value
 returns-in_err-value c =
     let m = one_more c.args.digits.now c.loop-digit.digit-index c.loop-digit.value c.requires (omega arith) c.loop-digit.invariant in
-    let above : 2 ^ 64 ≤ digits_value 10 c.args.digits.now = omega (arith, m.step, m.below, c.in_err-value.ensures, c.in_ok-checked_mul.ensures.1, c.from.ensures) in
+    let above : 2 ^ 64 ≤ digits_value 10 c.args.digits.now = omega
+        (arith, m.step, m.below, c.in_err-value.ensures, c.in_ok-checked_mul.ensures.1, c.from.ensures) in
     rw c.from_residual-in_err-value.ensures above
 
 pub loop-digit-preserved : goal.loop-digit-preserved

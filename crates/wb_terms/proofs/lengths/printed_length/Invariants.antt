@@ -8,7 +8,8 @@ use Rattle.wb_terms.proofs.lengths.printed_length.Given as goal
 abbrev pub invariant-count : goal.invariant-count
 invariant-count l =
     (l.length ≤ 16777217)
-    × (capped (l.length + length (pending_text l.signatures l.store (reverse l.stack.items))) ≡ capped (length (printed_value l.signatures (value_in l.store l.value))))
+    × (capped (l.length + length (pending_text l.signatures l.store (reverse l.stack.items))) ≡ capped
+        (length (printed_value l.signatures (value_in l.store l.value))))
     × ArePendingIn (length l.store) (reverse l.stack.items)
 
 abbrev pub decreases-count : goal.decreases-count
