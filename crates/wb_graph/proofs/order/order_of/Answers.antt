@@ -6,6 +6,14 @@ use Rattle.wb_graph.proofs.CallerLemmas.{order_excludes_cycle}
 use Rattle.wb_graph.proofs.OrderLemmas.{closed_cycle, simple_cycle, searched_order}
 use Rattle.wb_graph.proofs.order.order_of.Goals as goal
 
+pub roots-init : goal.roots-init
+roots-init c = record {
+  search = c.in_ok-search.ensures.search;
+  path = c.in_ok-search.ensures.path;
+  len = c.in_ok-search.ensures.len;
+  met = λ v less. absurd (omega arith);
+}
+
 pub roots-preserved : goal.roots-preserved
 roots-preserved c =
     let h = c.roots.invariant in
