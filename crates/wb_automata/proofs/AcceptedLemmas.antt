@@ -13,7 +13,8 @@ pub rising_none : AreRising []
 rising_none i j lt below = absurd (omega arith)
 
 -- rows rise where each that is added does
-pub rising_more : (rows : List (List ℕ)) (all : List ℕ) → AreRising all → ((j : ℕ) → AreRising (row rows j)) → (j : ℕ) → AreRising (row (rows ++ all ∷ []) j)
+pub rising_more : (rows : List (List ℕ)) (all : List ℕ) → AreRising all → ((j : ℕ) → AreRising (row rows j)) → (j : ℕ) → AreRising
+    (row (rows ++ all ∷ []) j)
 rising_more rows all rise before j = elim (cases_lt j (length rows)) [
   | inl less ↦ rw (get_or_append_left rows (all ∷ []) [] j less) (before j)
   | inr past ↦ elim (cases_eq j (length rows)) [
@@ -25,7 +26,9 @@ rising_more rows all rise before j = elim (cases_lt j (length rows)) [
 pub accepted_none : (ends sets : List (List ℕ)) → AreAccepted ends sets [] 0
 accepted_none ends sets = record { len = refl; rising = λ j. rising_none; each = λ j k set lt. absurd (omega arith) }
 
-pub accepted_step : (ends sets accepted : List (List ℕ)) (set all : List ℕ) (i : ℕ) → slice_get sets i ≡ Some set → ((k : ℕ) → Contains all k ↔ Ahead ends set k) → AreRising all → AreAccepted ends sets accepted i → AreAccepted ends sets (accepted ++ all ∷ []) (i + 1)
+pub accepted_step : (ends sets accepted : List (List ℕ)) (set all : List ℕ) (i : ℕ) → slice_get sets i ≡ Some set →
+    ((k : ℕ) → Contains all k ↔ Ahead ends set k) → AreRising all → AreAccepted ends sets accepted i → AreAccepted ends sets
+    (accepted ++ all ∷ []) (i + 1)
 accepted_step ends sets accepted set all i at exact rise h = record {
   len = omega (arith, h.len, length-append accepted (all ∷ []));
   rising = rising_more accepted all rise h.rising;
@@ -34,11 +37,13 @@ accepted_step ends sets accepted set all i at exact rise h = record {
     | inr past ↦
         let same : j ≡ i = omega arith in
         let is : set ≡ own = same_Some set own (sym at ∙ ap (slice_get sets) (sym same) ∙ here) in
-        subst (λ z. Contains (row (accepted ++ all ∷ []) z) k ↔ Ahead ends own k) (sym same) (rw (get_or_push accepted all [] i h.len) (subst (λ z. Contains all k ↔ Ahead ends z k) is (exact k)))
+        subst (λ z. Contains (row (accepted ++ all ∷ []) z) k ↔ Ahead ends own k) (sym same)
+        (rw (get_or_push accepted all [] i h.len) (subst (λ z. Contains all k ↔ Ahead ends z k) is (exact k)))
   ];
 }
 
 -- the list of one set more
-pub accepted_push : {E : Type 0} (ends : List (List ℕ)) (set all : List ℕ) (old new : List (List ℕ)) (r : Result (Unit {0}) E) → IfOk r (λ _. new ≡ old ++ all ∷ []) → AreRising all → ((k : ℕ) → Contains all k ↔ Ahead ends set k) → IfOk r (λ _. IsAccepted ends set old new)
+pub accepted_push : {E : Type 0} (ends : List (List ℕ)) (set all : List ℕ) (old new : List (List ℕ)) (r : Result (Unit {0}) E) → IfOk r
+    (λ _. new ≡ old ++ all ∷ []) → AreRising all → ((k : ℕ) → Contains all k ↔ Ahead ends set k) → IfOk r (λ _. IsAccepted ends set old new)
 accepted_push ends set all old new (Ok _) last rise exact = record { all = all; last = last; rising = rise; exact = exact }
 accepted_push ends set all old new (Err e) last rise exact = tt

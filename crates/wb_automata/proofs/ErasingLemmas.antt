@@ -25,7 +25,8 @@ has_byte_holds words b h =
 pub holds_has_byte : (words : List ℕ) (b : ℕ) → w.HoldsByte words b → has_byte words b ≡ true
 holds_has_byte words b (lt, h) = let e : b / 256 ≡ 0 = omega arith in and_both _ _ (eq-eqb (b / 256) 0 e) (eq-eqb _ 1 h)
 
-leaf_holds : (nodes : List RegexNode) (p : ℕ) (words : List ℕ) (b : ℕ) → slice_get nodes p ≡ Some (n.Set words) → holds_of nodes p b ≡ has_byte words b
+leaf_holds : (nodes : List RegexNode) (p : ℕ) (words : List ℕ) (b : ℕ) → slice_get nodes p ≡ Some (n.Set words)
+    → holds_of nodes p b ≡ has_byte words b
 leaf_holds nodes p words b at = ap (λ z. node_holds z b) (get_or_from_slice_get nodes p (n.Set words) (n.Set []) at)
 
 module _ (nodes : List RegexNode) where
@@ -72,7 +73,8 @@ of_bytes (w.absent e) = subst (All (λ c. c < 256)) (sym e) (All-nil (λ c. c < 
 of_bytes (w.present m) = of_bytes m
 
 pub byte_within : {t : Tree} (u v : List ℕ) (b : ℕ) → w.Matches t (u ++ b ∷ v) → b < 256
-byte_within u v b m = All-contains (λ c. c < 256) (u ++ b ∷ v) b (of_bytes m) (Contains-append_right u (b ∷ v) b (0, omega (arith, head_in b v), refl))
+byte_within u v b m = All-contains (λ c. c < 256) (u ++ b ∷ v) b (of_bytes m)
+    (Contains-append_right u (b ∷ v) b (0, omega (arith, head_in b v), refl))
   where
     head_in : (b : ℕ) (v : List ℕ) → 0 < length (b ∷ v)
     head_in b v = omega arith

@@ -1,5 +1,6 @@
 -- Rows in one list: the row of a place lies between two ends, and a push adds a row.
-use Rattle.std.proofs.Common.{◌≡◌, ℕ, zero, suc, ◌+◌, ◌-◌, ◌≤◌, ◌<◌, List, [], ◌∷◌, ◌++◌, refl, sym, ◌∙◌, ap, arith, length, get_or, take, drop}
+use Rattle.std.proofs.Common.{◌≡◌, ℕ, zero, suc, ◌+◌, ◌-◌, ◌≤◌, ◌<◌, List, [], ◌∷◌, ◌++◌, refl, sym, ◌∙◌, ap, arith, length, get_or, take}
+use Rattle.std.proofs.Common.{drop}
 use Rattle.std.proofs.lemmas.List.{length-drop, take_all, get_or_default}
 use Rattle.wb_automata.specs.Rows.{row, rows_between}
 use Rattle.wb_automata.specs.Inner.FlatRows.{start_at, AreEnds}
@@ -15,14 +16,16 @@ ends_low len from [] h = omega arith
 ends_low len from (end ∷ ends) (le, h) = omega (arith, ends_low len end ends h)
 
 -- the row of a place
-pub row_between : (numbers : List ℕ) (from : ℕ) (ends : List ℕ) (a : ℕ) → a < length ends → row (rows_between numbers from ends) a ≡ take (get_or ends a 0 - start_at from ends a) (drop (start_at from ends a) numbers)
+pub row_between : (numbers : List ℕ) (from : ℕ) (ends : List ℕ) (a : ℕ) → a < length ends → row (rows_between numbers from ends) a ≡ take
+    (get_or ends a 0 - start_at from ends a) (drop (start_at from ends a) numbers)
 row_between numbers from [] a lt = absurd (omega arith)
 row_between numbers from (end ∷ ends) zero lt = refl
 row_between numbers from (end ∷ ends) (suc zero) lt = row_between numbers end ends zero (omega arith)
 row_between numbers from (end ∷ ends) (suc (suc a)) lt = row_between numbers end ends (suc a) (omega arith)
 
 -- a place lies within
-pub start_within : (len from : ℕ) (ends : List ℕ) (a : ℕ) → AreEnds len from ends → a < length ends → (start_at from ends a ≤ get_or ends a 0) × (get_or ends a 0 ≤ len)
+pub start_within : (len from : ℕ) (ends : List ℕ) (a : ℕ) → AreEnds len from ends → a < length ends →
+    (start_at from ends a ≤ get_or ends a 0) × (get_or ends a 0 ≤ len)
 start_within len from [] a h lt = absurd (omega arith)
 start_within len from (end ∷ ends) zero (le, h) lt = (le, ends_low len end ends h)
 start_within len from (end ∷ ends) (suc zero) (le, h) lt = start_within len end ends zero h (omega arith)
@@ -48,14 +51,20 @@ drop_all [] = refl
 drop_all (x ∷ xs) = drop_all xs
 
 -- a row more, after the numbers of the others
-pub rows_push : (numbers more : List ℕ) (from : ℕ) (ends : List ℕ) → AreEnds (length numbers) from ends → rows_between (numbers ++ more) from (ends ++ (length numbers + length more) ∷ []) ≡ rows_between numbers from ends ++ more ∷ []
+pub rows_push : (numbers more : List ℕ) (from : ℕ) (ends : List ℕ) → AreEnds (length numbers) from ends → rows_between
+    (numbers ++ more) from (ends ++ (length numbers + length more) ∷ []) ≡ rows_between numbers from ends ++ more ∷ []
 rows_push numbers more from [] h =
-    let e : drop from (numbers ++ more) ≡ more = drop_before from numbers more (omega arith) ∙ ap (λ z. drop z numbers ++ more) h ∙ ap (λ zs. zs ++ more) (drop_all numbers) in
-    ap (λ zs. zs ∷ []) (ap (take (length numbers + length more - from)) e ∙ take_all (length numbers + length more - from) more (omega arith))
+    let e : drop from (numbers ++ more) ≡ more = drop_before from numbers more (omega arith) ∙ ap (λ z. drop z numbers ++ more) h ∙ ap
+    (λ zs. zs ++ more) (drop_all numbers) in
+    ap (λ zs. zs ∷ []) (ap (take (length numbers + length more - from)) e ∙ take_all (length numbers + length more - from) more
+    (omega arith))
 rows_push numbers more from (end ∷ ends) (le, h) =
     let high = ends_low (length numbers) end ends h in
-    let e : take (end - from) (drop from (numbers ++ more)) ≡ take (end - from) (drop from numbers) = ap (take (end - from)) (drop_before from numbers more (omega arith)) ∙ take_before (end - from) (drop from numbers) more (omega (arith, length-drop from numbers)) in
-    ap (λ z. z ∷ rows_between (numbers ++ more) end (ends ++ (length numbers + length more) ∷ [])) e ∙ ap (λ zs. take (end - from) (drop from numbers) ∷ zs) (rows_push numbers more end ends h)
+    let e : take (end - from) (drop from (numbers ++ more)) ≡ take (end - from) (drop from numbers) = ap (take (end - from))
+    (drop_before from numbers more (omega arith)) ∙ take_before (end - from) (drop from numbers) more
+    (omega (arith, length-drop from numbers)) in
+    ap (λ z. z ∷ rows_between (numbers ++ more) end (ends ++ (length numbers + length more) ∷ [])) e ∙ ap
+    (λ zs. take (end - from) (drop from numbers) ∷ zs) (rows_push numbers more end ends h)
 
 -- what is read of the row of a place: it begins at or before its end, which is within the numbers
 pub record IsRow (rows : List (List ℕ)) (numbers ends : List ℕ) (a start end : ℕ) : Type 0 where
@@ -64,7 +73,8 @@ pub record IsRow (rows : List (List ℕ)) (numbers ends : List ℕ) (a start end
   pub within : end ≤ length numbers
   pub is : take (end - start) (drop start numbers) ≡ row rows a
 
-pub is_row : (rows : List (List ℕ)) (numbers ends : List ℕ) (a start end : ℕ) → rows_between numbers 0 ends ≡ rows → AreEnds (length numbers) 0 ends → a < length rows → start ≡ start_at 0 ends a → end ≡ get_or ends a end → IsRow rows numbers ends a start end
+pub is_row : (rows : List (List ℕ)) (numbers ends : List ℕ) (a start end : ℕ) → rows_between numbers 0 ends ≡ rows → AreEnds
+    (length numbers) 0 ends → a < length rows → start ≡ start_at 0 ends a → end ≡ get_or ends a end → IsRow rows numbers ends a start end
 is_row rows numbers ends a start end view h lt starts is =
     let place : a < length ends = omega (arith, ap length view, rows_len numbers 0 ends) in
     let ends_at : end ≡ get_or ends a 0 = is ∙ get_or_default ends a end 0 place in
@@ -73,9 +83,12 @@ is_row rows numbers ends a start end view h lt starts is =
       place = place;
       order = omega arith;
       within = omega arith;
-      is = ap (λ z. take (end - z) (drop z numbers)) starts ∙ ap (λ z. take (z - start_at 0 ends a) (drop (start_at 0 ends a) numbers)) ends_at ∙ sym (row_between numbers 0 ends a place) ∙ ap (λ z. row z a) view;
+      is = ap (λ z. take (end - z) (drop z numbers)) starts ∙ ap
+          (λ z. take (z - start_at 0 ends a) (drop (start_at 0 ends a) numbers)) ends_at ∙ sym (row_between numbers 0 ends a place) ∙ ap
+          (λ z. row z a) view;
     }
 
 -- a place of the rows has an end
-pub place_within : (rows : List (List ℕ)) (numbers ends : List ℕ) (a : ℕ) → rows_between numbers 0 ends ≡ rows → a < length rows → a < length ends
+pub place_within : (rows : List (List ℕ)) (numbers ends : List ℕ) (a : ℕ) → rows_between numbers 0 ends ≡ rows → a < length rows
+    → a < length ends
 place_within rows numbers ends a view lt = omega (arith, ap length view, rows_len numbers 0 ends)

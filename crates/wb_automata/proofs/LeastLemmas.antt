@@ -1,5 +1,6 @@
 -- The first state that accepts has the least text.
-use Rattle.std.proofs.Common.{◌≡◌, ℕ, ◌+◌, ◌≤◌, ◌<◌, Bool, List, [], ◌∷◌, ◌++◌, refl, sym, ◌∙◌, ap, subst, arith, inl, inr, Some, length, get_or, append-nil}
+use Rattle.std.proofs.Common.{◌≡◌, ℕ, ◌+◌, ◌≤◌, ◌<◌, Bool, List, [], ◌∷◌, ◌++◌, refl, sym, ◌∙◌, ap, subst, arith, inl, inr, Some, length}
+use Rattle.std.proofs.Common.{get_or, append-nil}
 use Rattle.std.specs.Prelude.{slice_get}
 use Rattle.std.proofs.lemmas.Bool.{cases_eq, cases_lt}
 use Rattle.std.proofs.lemmas.Option.{slice_get-get_or, slice_get_within, same_Some}
@@ -27,23 +28,30 @@ pub match_goes : (automaton : AutomatonView) (s k : ℕ) (x : List ℕ) → Matc
 match_goes automaton s k x m = record { terminal = k; rest = []; is = subst (MatchesIn automaton s k) (sym (append-nil x)) m }
 
 -- the path of a state leads to it
-pub path_leads : (automaton : AutomatonView) (state : ℕ) (path : Path) → slice_get automaton.paths state ≡ Some path → LeadsTo automaton path.set path.text state
+pub path_leads : (automaton : AutomatonView) (state : ℕ) (path : Path) → slice_get automaton.paths state ≡ Some path
+    → LeadsTo automaton path.set path.text state
 path_leads automaton state path at = record { path = path; at = at; alike = alike_same automaton path }
 
 -- a text that leads to none of the first states isn't earlier than the path of the next
-pub late_path : (automaton : AutomatonView) (state s : ℕ) (path : Path) (text : List ℕ) → IsOrdered automaton → slice_get automaton.paths state ≡ Some path → GoesOn automaton s text → ((early : ℕ) → early < state → LeadsTo automaton s text early → ⊥) → IsLatest (record { set = s; text = text }) path
+pub late_path : (automaton : AutomatonView) (state s : ℕ) (path : Path) (text : List ℕ) → IsOrdered automaton
+    → slice_get automaton.paths state ≡ Some path → GoesOn automaton s text →
+    ((early : ℕ) → early < state → LeadsTo automaton s text early → ⊥) → IsLatest (record { set = s; text = text }) path
 late_path automaton state s path text ordered at g apart =
     let f = ordered.every s text g in
     elim (cases_lt f.state state) [
       | inl early ↦ absurd (apart f.state early f.leads)
       | inr late ↦ elim (cases_eq f.state state) [
-        | inl same ↦ subst (IsLatest (record { set = s; text = text })) (same_Some f.leads.path path (sym f.leads.at ∙ ap (slice_get automaton.paths) same ∙ at)) f.least
-        | inr after ↦ latest_next path f.leads.path (record { set = s; text = text }) (inr (ordered.sorted state f.state path f.leads.path (omega arith) at f.leads.at)) f.least
+        | inl same ↦ subst (IsLatest (record { set = s; text = text }))
+            (same_Some f.leads.path path (sym f.leads.at ∙ ap (slice_get automaton.paths) same ∙ at)) f.least
+        | inr after ↦ latest_next path f.leads.path (record { set = s; text = text })
+            (inr (ordered.sorted state f.state path f.leads.path (omega arith) at f.leads.at)) f.least
       ]
     ]
 
 -- the first state that accepts both
-pub least_state : (automaton : AutomatonView) (one other state : ℕ) → IsOrdered automaton → state < length automaton.paths → AreApartBelow automaton one other state → ((s : ℕ) (text : List ℕ) → LeadsTo automaton s text state → MatchesIn automaton s one text × MatchesIn automaton s other text) → IsLeastState automaton one other state
+pub least_state : (automaton : AutomatonView) (one other state : ℕ) → IsOrdered automaton → state < length automaton.paths
+    → AreApartBelow automaton one other state → ((s : ℕ) (text : List ℕ) → LeadsTo automaton s text state → MatchesIn automaton s one text
+    × MatchesIn automaton s other text) → IsLeastState automaton one other state
 least_state automaton one other state ordered lt apart both =
     let path : Path = get_or automaton.paths state (record { set = 0; text = [] }) in
     let at : slice_get automaton.paths state ≡ Some path = slice_get-get_or automaton.paths state (record { set = 0; text = [] }) lt in
@@ -53,28 +61,34 @@ least_state automaton one other state ordered lt apart both =
       at = at;
       first = m;
       second = k;
-      least = λ s shared p q. late_path automaton state s path shared ordered at (match_goes automaton s one shared p) (λ early less leads. apart early s shared less leads p q);
+      least = λ s shared p q. late_path automaton state s path shared ordered at (match_goes automaton s one shared p)
+          (λ early less leads. apart early s shared less leads p q);
     }
 
 -- no state accepts both
-pub none_shared : (automaton : AutomatonView) (one other n : ℕ) → IsOrdered automaton → length automaton.paths ≤ n → AreApartBelow automaton one other n → (s : ℕ) (text : List ℕ) → MatchesIn automaton s one text → MatchesIn automaton s other text → ⊥
+pub none_shared : (automaton : AutomatonView) (one other n : ℕ) → IsOrdered automaton → length automaton.paths ≤ n
+    → AreApartBelow automaton one other n → (s : ℕ) (text : List ℕ) → MatchesIn automaton s one text → MatchesIn automaton s other text → ⊥
 none_shared automaton one other n ordered le apart s text p q =
     let f = ordered.every s text (match_goes automaton s one text p) in
     apart f.state s text (omega (arith, slice_get_within automaton.paths f.state f.leads.path f.leads.at)) f.leads p q
 
 -- one state more
-pub apart_more : (automaton : AutomatonView) (one other n : ℕ) → AreApartBelow automaton one other n → ((s : ℕ) (text : List ℕ) → LeadsTo automaton s text n → MatchesIn automaton s one text → MatchesIn automaton s other text → ⊥) → AreApartBelow automaton one other (n + 1)
+pub apart_more : (automaton : AutomatonView) (one other n : ℕ) → AreApartBelow automaton one other n →
+    ((s : ℕ) (text : List ℕ) → LeadsTo automaton s text n → MatchesIn automaton s one text → MatchesIn automaton s other text → ⊥)
+    → AreApartBelow automaton one other (n + 1)
 apart_more automaton one other n before here state s text lt l p q = elim (cases_lt state n) [
   | inl early ↦ before state s text early l p q
   | inr late ↦ here s text (subst (LeadsTo automaton s text) (let e : state ≡ n = omega arith in e) l) p q
 ]
 
 -- what a terminal matches
-pub tree_matches : (terminals : List Tree) (k : ℕ) (r : Tree) (x : List ℕ) → slice_get terminals k ≡ Some r → IsMatch terminals k x → w.Matches r x
+pub tree_matches : (terminals : List Tree) (k : ℕ) (r : Tree) (x : List ℕ) → slice_get terminals k ≡ Some r → IsMatch terminals k x
+    → w.Matches r x
 tree_matches terminals k r x at m = subst (λ z. w.Matches z x) (same_Some m.tree r (sym m.at ∙ at)) m.matches
 
 -- all terminals are in the one set
-pub in_all : (automaton : AutomatonView) (n k : ℕ) (r : Tree) (x : List ℕ) → HasAll n automaton.sets → k < n → slice_get automaton.terminals k ≡ Some r → w.Matches r x → MatchesIn automaton 0 k x
+pub in_all : (automaton : AutomatonView) (n k : ℕ) (r : Tree) (x : List ℕ) → HasAll n automaton.sets → k < n
+    → slice_get automaton.terminals k ≡ Some r → w.Matches r x → MatchesIn automaton 0 k x
 in_all automaton n k r x h lt at m = record {
   considered = record { flags = h.set; at = ap (λ z. slice_get z 0) h.one; has = h.all k lt };
   is = record { tree = r; at = at; matches = m };
@@ -87,12 +101,16 @@ at_most path shared (inr (inl lt)) = absurd (omega arith)
 at_most path shared (inr (inr (same, before))) = inr before
 
 -- the text of the first state that accepts two terminals is the least that both match
-pub least_of : (automaton : AutomatonView) (n j k : ℕ) (r s : Tree) (state : ℕ) (text : List ℕ) → HasAll n automaton.sets → j < n → k < n → slice_get automaton.terminals j ≡ Some r → slice_get automaton.terminals k ≡ Some s → ((path : Path) → slice_get automaton.paths state ≡ Some path → text ≡ path.text) → IsLeastState automaton j k state → IsLeastShared r s text
+pub least_of : (automaton : AutomatonView) (n j k : ℕ) (r s : Tree) (state : ℕ) (text : List ℕ) → HasAll n automaton.sets → j < n → k < n
+    → slice_get automaton.terminals j ≡ Some r → slice_get automaton.terminals k ≡ Some s →
+    ((path : Path) → slice_get automaton.paths state ≡ Some path → text ≡ path.text) → IsLeastState automaton j k state
+    → IsLeastShared r s text
 least_of automaton n j k r s state text all lt less at_j at_k at l =
     subst (IsLeastShared r s) (sym (at l.path l.at)) (record {
       one = tree_matches automaton.terminals j r l.path.text at_j l.first.is;
       other = tree_matches automaton.terminals k s l.path.text at_k l.second.is;
-      least = λ shared p q. at_most l.path shared (l.least 0 shared (in_all automaton n j r shared all lt at_j p) (in_all automaton n k s shared all less at_k q));
+      least = λ shared p q. at_most l.path shared (l.least 0 shared (in_all automaton n j r shared all lt at_j p)
+          (in_all automaton n k s shared all less at_k q));
     })
 
 -- one set of all numbers below the count, as far as it is made

@@ -44,10 +44,14 @@ last_within (Maybe r) a b p h f = last_within r a b p h f
 
 pub follow_within : (t : PositionTree) (a b p q : ℕ) → Spans t a b → Follow t p q → Within a b p × Within a b q
 follow_within (Leaf o) a b p q h f = elim f [ ]
-follow_within (Sequence r s) a b p q (m, x, y) (inl (inl f)) = let (u, v) = follow_within r a m p q x f in (early s a m b p y u, early s a m b q y v)
-follow_within (Sequence r s) a b p q (m, x, y) (inl (inr f)) = let (u, v) = follow_within s m b p q y f in (late r a m b p x u, late r a m b q x v)
-follow_within (Sequence r s) a b p q (m, x, y) (inr (l, f)) = (early s a m b p y (last_within r a m p x l), late r a m b q x (first_within s m b q y f))
-follow_within (Choice r s) a b p q (m, x, y) (inl f) = let (u, v) = follow_within r a m p q x f in (early s a m b p y u, early s a m b q y v)
+follow_within (Sequence r s) a b p q (m, x, y) (inl (inl f)) =
+    let (u, v) = follow_within r a m p q x f in (early s a m b p y u, early s a m b q y v)
+follow_within (Sequence r s) a b p q (m, x, y) (inl (inr f)) =
+    let (u, v) = follow_within s m b p q y f in (late r a m b p x u, late r a m b q x v)
+follow_within (Sequence r s) a b p q (m, x, y) (inr (l, f)) =
+    (early s a m b p y (last_within r a m p x l), late r a m b q x (first_within s m b q y f))
+follow_within (Choice r s) a b p q (m, x, y) (inl f) =
+    let (u, v) = follow_within r a m p q x f in (early s a m b p y u, early s a m b q y v)
 follow_within (Choice r s) a b p q (m, x, y) (inr f) = let (u, v) = follow_within s m b p q y f in (late r a m b p x u, late r a m b q x v)
 follow_within (Star r) a b p q h (inl f) = follow_within r a b p q h f
 follow_within (Star r) a b p q h (inr (l, f)) = (last_within r a b p h l, first_within r a b q h f)

@@ -1,5 +1,6 @@
 -- Nodes that are marked as repeated are, and with the links left out that are those of what repeats them the table is the same.
-use Rattle.std.proofs.Common.{◌≡◌, ℕ, ◌+◌, ◌≤◌, ◌<◌, ◌⊎◌, Bool, true, false, ◌&&◌, cond, List, Some, length, replicate, refl, sym, ◌∙◌, ap, subst, arith, inl, inr}
+use Rattle.std.proofs.Common.{◌≡◌, ℕ, ◌+◌, ◌≤◌, ◌<◌, ◌⊎◌, Bool, true, false, ◌&&◌, cond, List, Some, length, replicate, refl, sym, ◌∙◌, ap}
+use Rattle.std.proofs.Common.{subst, arith, inl, inr}
 use Rattle.std.specs.Prelude.{slice_get, ◌↔◌, Contains}
 use Rattle.std.proofs.lemmas.Bool.{cases_lt, cases_Bool, true≢false}
 use Rattle.std.proofs.lemmas.List.{length-replicate}
@@ -29,29 +30,40 @@ far rows k i j true e p has = Contains-append_right (row rows i) (row rows j) p 
 far rows k i j false e p has = cc
 
 -- the first leaves of a part that is repeated are among those of the node
-first_among : (es : List Bool) (rows : List (List ℕ)) (k : ℕ) (repeated : Bool) (node : RegexNode) (x : ℕ) → RepeatsPart es repeated node x → AreAmong (row rows x) (leaves_at rows k (parts_of es First node))
+first_among : (es : List Bool) (rows : List (List ℕ)) (k : ℕ) (repeated : Bool) (node : RegexNode) (x : ℕ) → RepeatsPart es repeated node x
+    → AreAmong (row rows x) (leaves_at rows k (parts_of es First node))
 first_among es rows k repeated (n.Set words) x h p has = absurd h
-first_among es rows k repeated (n.Sequence i j) x (_, inl (is, e)) p has = near rows k i j (flag es i) p (subst (λ z. Contains (row rows z) p) is has)
-first_among es rows k repeated (n.Sequence i j) x (_, inr (is, e)) p has = far rows k i j (flag es i) e p (subst (λ z. Contains (row rows z) p) is has)
-first_among es rows k repeated (n.Choice i j) x (_, inl is) p has = Contains-append_left (row rows i) (row rows j) p (subst (λ z. Contains (row rows z) p) is has)
-first_among es rows k repeated (n.Choice i j) x (_, inr is) p has = Contains-append_right (row rows i) (row rows j) p (subst (λ z. Contains (row rows z) p) is has)
+first_among es rows k repeated (n.Sequence i j) x (_, inl (is, e)) p has =
+    near rows k i j (flag es i) p (subst (λ z. Contains (row rows z) p) is has)
+first_among es rows k repeated (n.Sequence i j) x (_, inr (is, e)) p has =
+    far rows k i j (flag es i) e p (subst (λ z. Contains (row rows z) p) is has)
+first_among es rows k repeated (n.Choice i j) x (_, inl is) p has =
+    Contains-append_left (row rows i) (row rows j) p (subst (λ z. Contains (row rows z) p) is has)
+first_among es rows k repeated (n.Choice i j) x (_, inr is) p has =
+    Contains-append_right (row rows i) (row rows j) p (subst (λ z. Contains (row rows z) p) is has)
 first_among es rows k repeated (n.Star i) x is p has = subst (λ z. Contains (row rows z) p) is has
 first_among es rows k repeated (n.Plus i) x is p has = subst (λ z. Contains (row rows z) p) is has
 first_among es rows k repeated (n.Maybe i) x (_, is) p has = subst (λ z. Contains (row rows z) p) is has
 
 -- and so are the last leaves
-last_among : (es : List Bool) (rows : List (List ℕ)) (k : ℕ) (repeated : Bool) (node : RegexNode) (x : ℕ) → RepeatsPart es repeated node x → AreAmong (row rows x) (leaves_at rows k (parts_of es Last node))
+last_among : (es : List Bool) (rows : List (List ℕ)) (k : ℕ) (repeated : Bool) (node : RegexNode) (x : ℕ) → RepeatsPart es repeated node x
+    → AreAmong (row rows x) (leaves_at rows k (parts_of es Last node))
 last_among es rows k repeated (n.Set words) x h p has = absurd h
-last_among es rows k repeated (n.Sequence i j) x (_, inl (is, e)) p has = far rows k j i (flag es j) e p (subst (λ z. Contains (row rows z) p) is has)
-last_among es rows k repeated (n.Sequence i j) x (_, inr (is, e)) p has = near rows k j i (flag es j) p (subst (λ z. Contains (row rows z) p) is has)
-last_among es rows k repeated (n.Choice i j) x (_, inl is) p has = Contains-append_left (row rows i) (row rows j) p (subst (λ z. Contains (row rows z) p) is has)
-last_among es rows k repeated (n.Choice i j) x (_, inr is) p has = Contains-append_right (row rows i) (row rows j) p (subst (λ z. Contains (row rows z) p) is has)
+last_among es rows k repeated (n.Sequence i j) x (_, inl (is, e)) p has =
+    far rows k j i (flag es j) e p (subst (λ z. Contains (row rows z) p) is has)
+last_among es rows k repeated (n.Sequence i j) x (_, inr (is, e)) p has =
+    near rows k j i (flag es j) p (subst (λ z. Contains (row rows z) p) is has)
+last_among es rows k repeated (n.Choice i j) x (_, inl is) p has =
+    Contains-append_left (row rows i) (row rows j) p (subst (λ z. Contains (row rows z) p) is has)
+last_among es rows k repeated (n.Choice i j) x (_, inr is) p has =
+    Contains-append_right (row rows i) (row rows j) p (subst (λ z. Contains (row rows z) p) is has)
 last_among es rows k repeated (n.Star i) x is p has = subst (λ z. Contains (row rows z) p) is has
 last_among es rows k repeated (n.Plus i) x is p has = subst (λ z. Contains (row rows z) p) is has
 last_among es rows k repeated (n.Maybe i) x (_, is) p has = subst (λ z. Contains (row rows z) p) is has
 
 -- a part that is repeated is before the node
-part_before : (es : List Bool) (k : ℕ) (repeated : Bool) (node : RegexNode) (x : ℕ) → PartsBelow k node → RepeatsPart es repeated node x → x < k
+part_before : (es : List Bool) (k : ℕ) (repeated : Bool) (node : RegexNode) (x : ℕ) → PartsBelow k node → RepeatsPart es repeated node x
+    → x < k
 part_before es k repeated (n.Set words) x below h = absurd h
 part_before es k repeated (n.Sequence i j) x (a, b) (_, inl (is, _)) = omega arith
 part_before es k repeated (n.Sequence i j) x (a, b) (_, inr (is, _)) = omega arith
@@ -62,7 +74,8 @@ part_before es k repeated (n.Plus i) x below is = omega arith
 part_before es k repeated (n.Maybe i) x below (_, is) = omega arith
 
 -- what a node repeats that isn't repeated itself
-repetition_is : (es : List Bool) (repeated : Bool) (node : RegexNode) (x : ℕ) → repeated ≡ false → RepeatsPart es repeated node x → IsRepetition node x
+repetition_is : (es : List Bool) (repeated : Bool) (node : RegexNode) (x : ℕ) → repeated ≡ false → RepeatsPart es repeated node x
+    → IsRepetition node x
 repetition_is es repeated (n.Set words) x off h = absurd h
 repetition_is es repeated (n.Sequence i j) x off (on, _) = absurd (true≢false (sym on ∙ off))
 repetition_is es repeated (n.Choice i j) x off (on, _) = absurd (true≢false (sym on ∙ off))
@@ -71,16 +84,20 @@ repetition_is es repeated (n.Plus i) x off is = is
 repetition_is es repeated (n.Maybe i) x off (on, _) = absurd (true≢false (sym on ∙ off))
 
 -- a repetition links all last leaves of its part with all first ones
-repetition_links : (first last : List (List ℕ)) (node : RegexNode) (part p q : ℕ) → IsRepetition node part → Contains (row last part) p → Contains (row first part) q → LinkAt first last node p q
+repetition_links : (first last : List (List ℕ)) (node : RegexNode) (part p q : ℕ) → IsRepetition node part → Contains (row last part) p
+    → Contains (row first part) q → LinkAt first last node p q
 repetition_links first last (n.Set words) part p q is a b = is
 repetition_links first last (n.Sequence i j) part p q is a b = absurd is
 repetition_links first last (n.Choice i j) part p q is a b = is
-repetition_links first last (n.Star i) part p q is a b = (subst (λ z. Contains (row last z) p) is a, subst (λ z. Contains (row first z) q) is b)
-repetition_links first last (n.Plus i) part p q is a b = (subst (λ z. Contains (row last z) p) is a, subst (λ z. Contains (row first z) q) is b)
+repetition_links first last (n.Star i) part p q is a b =
+    (subst (λ z. Contains (row last z) p) is a, subst (λ z. Contains (row first z) q) is b)
+repetition_links first last (n.Plus i) part p q is a b =
+    (subst (λ z. Contains (row last z) p) is a, subst (λ z. Contains (row first z) q) is b)
 repetition_links first last (n.Maybe i) part p q is a b = is
 
 -- one that isn't repeated adds something
-repetition_adds : (es : List Bool) (repeated : Bool) (node : RegexNode) (part : ℕ) → IsRepetition node part → repeated ≡ false → adds_nothing es repeated node ≡ false
+repetition_adds : (es : List Bool) (repeated : Bool) (node : RegexNode) (part : ℕ) → IsRepetition node part → repeated ≡ false
+    → adds_nothing es repeated node ≡ false
 repetition_adds es repeated (n.Set words) part is off = off
 repetition_adds es repeated (n.Sequence i j) part is off = absurd is
 repetition_adds es repeated (n.Choice i j) part is off = off
@@ -94,7 +111,8 @@ record IsLinked (es : List Bool) (first last : List (List ℕ)) (k : ℕ) (repea
   pub ends : Contains (leaves_at last k (parts_of es Last node)) p
   pub begins : Contains (leaves_at first k (parts_of es First node)) q
 
-linked_is : (es : List Bool) (first last : List (List ℕ)) (k : ℕ) (repeated : Bool) (node : RegexNode) (p q : ℕ) → adds_nothing es repeated node ≡ true → LinkAt first last node p q → IsLinked es first last k repeated node p q
+linked_is : (es : List Bool) (first last : List (List ℕ)) (k : ℕ) (repeated : Bool) (node : RegexNode) (p q : ℕ)
+    → adds_nothing es repeated node ≡ true → LinkAt first last node p q → IsLinked es first last k repeated node p q
 linked_is es first last k repeated (n.Set words) p q on link = absurd link
 linked_is es first last k repeated (n.Sequence i j) p q on (a, b) =
     let both : (repeated && flag es i) ≡ true = and_left (repeated && flag es i) (flag es j) on in
@@ -109,14 +127,17 @@ linked_is es first last k repeated (n.Plus i) p q on (a, b) = record { repeats =
 linked_is es first last k repeated (n.Maybe i) p q on link = absurd link
 
 -- no node is marked so far
-pub repeated_none : (nodes : List RegexNode) (first last : List (List ℕ)) (m : ℕ) → m ≡ length nodes → AreRepeated nodes first last (replicate m false) m
+pub repeated_none : (nodes : List RegexNode) (first last : List (List ℕ)) (m : ℕ) → m ≡ length nodes → AreRepeated nodes first last
+    (replicate m false) m
 repeated_none nodes first last m len = record { len = length-replicate m false ∙ len; each = λ x on. absurd (IsEmpty-replicate m x on) }
 
 -- the links of those of the first i nodes that add something
 pub record AreLinked (es : List Bool) (nodes : List RegexNode) (flags : List Bool) (follow : List (List ℕ)) (m i : ℕ) : Type 0 where
   pub len : length follow ≡ m
   pub sound : (p q : ℕ) → Contains (row follow p) q → LinkIn nodes (rows_of es First nodes) (rows_of es Last nodes) 0 i p q
-  pub complete : (place : ℕ) (node : RegexNode) → place < i → slice_get nodes place ≡ Some node → adds_nothing es (flag flags place) node ≡ false → (p q : ℕ) → LinkAt (rows_of es First nodes) (rows_of es Last nodes) node p q → Contains (row follow p) q
+  pub complete : (place : ℕ) (node : RegexNode) → place < i → slice_get nodes place ≡ Some node → adds_nothing es
+      (flag flags place) node ≡ false → (p q : ℕ) → LinkAt (rows_of es First nodes) (rows_of es Last nodes) node p q → Contains
+      (row follow p) q
 
 module _ (es : List Bool) (nodes : List RegexNode) (order : IsPostOrder nodes es) where
   abbrev first : List (List ℕ)
@@ -126,7 +147,9 @@ module _ (es : List Bool) (nodes : List RegexNode) (order : IsPostOrder nodes es
   last = rows_of es Last nodes
 
   -- the parts of one node more are marked
-  pub repeated_more : (flags new : List Bool) (k : ℕ) (node : RegexNode) → slice_get nodes k ≡ Some node → length new ≡ length flags → ((x : ℕ) → flag new x ≡ true → (flag flags x ≡ true) ⊎ RepeatsPart es (flag flags k) node x) → AreRepeated nodes first last flags (k + 1) → AreRepeated nodes first last new k
+  pub repeated_more : (flags new : List Bool) (k : ℕ) (node : RegexNode) → slice_get nodes k ≡ Some node → length new ≡ length flags →
+      ((x : ℕ) → flag new x ≡ true → (flag flags x ≡ true) ⊎ RepeatsPart es (flag flags k) node x) → AreRepeated nodes first last flags
+      (k + 1) → AreRepeated nodes first last new k
   repeated_more flags new k node at len marked h = record {
     len = len ∙ h.len;
     each = λ x on. elim (marked x on) [ inl old ↦ kept x (h.each x old) | inr part ↦ added x part ];
@@ -143,7 +166,17 @@ module _ (es : List Bool) (nodes : List RegexNode) (order : IsPostOrder nodes es
       ]
 
       kept : (x : ℕ) → IsRepeated nodes first last flags (k + 1) x → IsRepeated nodes first last new k x
-      kept x r = (let le = r.from_on in record { place = r.place; node = r.node; part = r.part; from_on = omega arith; at = r.at; is = r.is; unmarked = stays r.place (omega arith) r.unmarked; firsts = r.firsts; lasts = r.lasts })
+      kept x r = (let le = r.from_on in record {
+        place = r.place;
+        node = r.node;
+        part = r.part;
+        from_on = omega arith;
+        at = r.at;
+        is = r.is;
+        unmarked = stays r.place (omega arith) r.unmarked;
+        firsts = r.firsts;
+        lasts = r.lasts;
+      })
 
       added : (x : ℕ) → RepeatsPart es (flag flags k) node x → IsRepeated nodes first last new k x
       added x part = elim (cases_Bool (flag flags k)) [
@@ -157,22 +190,47 @@ module _ (es : List Bool) (nodes : List RegexNode) (order : IsPostOrder nodes es
               at = r.at;
               is = r.is;
               unmarked = r.unmarked;
-              firsts = λ p has. r.firsts p (subst (λ zs. Contains zs p) (sym (row_is es First nodes order.parts k node at)) (first_among es first k (flag flags k) node x part p has));
-              lasts = λ p has. r.lasts p (subst (λ zs. Contains zs p) (sym (row_is es Last nodes order.parts k node at)) (last_among es last k (flag flags k) node x part p has));
+              firsts = λ p has. r.firsts p (subst (λ zs. Contains zs p) (sym (row_is es First nodes order.parts k node at))
+                  (first_among es first k (flag flags k) node x part p has));
+              lasts = λ p has. r.lasts p (subst (λ zs. Contains zs p) (sym (row_is es Last nodes order.parts k node at))
+                  (last_among es last k (flag flags k) node x part p has));
             }
-        | inr off ↦ record { place = k; node = node; part = x; from_on = omega arith; at = at; is = repetition_is es (flag flags k) node x off part; unmarked = stays k (omega arith) off; firsts = λ p has. has; lasts = λ p has. has }
+        | inr off ↦ record {
+          place = k;
+          node = node;
+          part = x;
+          from_on = omega arith;
+          at = at;
+          is = repetition_is es
+              (flag flags k) node x off part;
+          unmarked = stays k (omega arith) off;
+          firsts = λ p has. has;
+          lasts = λ p has. has;
+        }
       ]
 
   -- no node so far
-  pub linked_none : (flags : List Bool) (follow : List (List ℕ)) → ((p q : ℕ) → Contains (row follow p) q → ⊥) → AreLinked es nodes flags follow (length follow) 0
-  linked_none flags follow none = record { len = refl; sound = λ p q has. absurd (none p q has); complete = λ place node lt. absurd (omega arith) }
+  pub linked_none : (flags : List Bool) (follow : List (List ℕ)) → ((p q : ℕ) → Contains (row follow p) q → ⊥)
+      → AreLinked es nodes flags follow (length follow) 0
+  linked_none flags follow none =
+      record { len = refl; sound = λ p q has. absurd (none p q has); complete = λ place node lt. absurd (omega arith) }
 
   -- one node more, which adds something
-  pub linked_more : (flags : List Bool) (follow new : List (List ℕ)) (m i : ℕ) (node : RegexNode) → slice_get nodes i ≡ Some node → length new ≡ length follow → ((p q : ℕ) → Contains (row new p) q ↔ (Contains (row follow p) q ⊎ LinkAt first last node p q)) → AreLinked es nodes flags follow m i → AreLinked es nodes flags new m (i + 1)
+  pub linked_more : (flags : List Bool) (follow new : List (List ℕ)) (m i : ℕ) (node : RegexNode) → slice_get nodes i ≡ Some node
+      → length new ≡ length follow → ((p q : ℕ) → Contains (row new p) q ↔ (Contains (row follow p) q ⊎ LinkAt first last node p q))
+      → AreLinked es nodes flags follow m i → AreLinked es nodes flags new m (i + 1)
   linked_more flags follow new m i node at len exact h = record {
     len = len ∙ h.len;
     sound = λ p q has. elim ((exact p q).0 has) [
-      | inl old ↦ let l = h.sound p q old in record { place = l.place; node = l.node; least = l.least; below = (let lt = l.below in omega arith); at = l.at; link = l.link }
+      | inl old ↦ let l = h.sound p q old in record {
+        place = l.place;
+        node = l.node;
+        least = l.least;
+        below =
+            (let lt = l.below in omega arith);
+        at = l.at;
+        link = l.link;
+      }
       | inr link ↦ record { place = i; node = node; least = omega arith; below = omega arith; at = at; link = link }
     ];
     complete = λ place other lt here adds p q link. elim (cases_lt place i) [
@@ -184,21 +242,32 @@ module _ (es : List Bool) (nodes : List RegexNode) (order : IsPostOrder nodes es
   }
 
   -- one node more, which adds nothing
-  pub linked_skip : (flags : List Bool) (follow : List (List ℕ)) (m i : ℕ) (node : RegexNode) → slice_get nodes i ≡ Some node → adds_nothing es (flag flags i) node ≡ true → AreLinked es nodes flags follow m i → AreLinked es nodes flags follow m (i + 1)
+  pub linked_skip : (flags : List Bool) (follow : List (List ℕ)) (m i : ℕ) (node : RegexNode) → slice_get nodes i ≡ Some node
+      → adds_nothing es (flag flags i) node ≡ true → AreLinked es nodes flags follow m i → AreLinked es nodes flags follow m (i + 1)
   linked_skip flags follow m i node at nothing h = record {
     len = h.len;
-    sound = λ p q has. (let l = h.sound p q has in record { place = l.place; node = l.node; least = l.least; below = (let lt = l.below in omega arith); at = l.at; link = l.link });
+    sound = λ p q has. (let l = h.sound p q has in record {
+      place = l.place;
+      node = l.node;
+      least = l.least;
+      below =
+          (let lt = l.below in omega arith);
+      at = l.at;
+      link = l.link;
+    });
     complete = λ place other lt here adds p q link. elim (cases_lt place i) [
       | inl early ↦ h.complete place other early here adds p q link
       | inr late ↦
           let e : place ≡ i = omega arith in
           let same : node ≡ other = same_Some node other (sym at ∙ ap (slice_get nodes) (sym e) ∙ here) in
-          absurd (true≢false (sym nothing ∙ ap (adds_nothing es (flag flags i)) same ∙ ap (λ z. adds_nothing es (flag flags z) other) (sym e) ∙ adds))
+          absurd (true≢false (sym nothing ∙ ap (adds_nothing es (flag flags i)) same ∙ ap (λ z. adds_nothing es (flag flags z) other)
+          (sym e) ∙ adds))
     ];
   }
 
   -- with all nodes the table has every link
-  pub linked_all : (flags : List Bool) (follow : List (List ℕ)) (m i : ℕ) → i ≡ length nodes → AreRepeated nodes first last flags 0 → AreLinked es nodes flags follow m i → AreFollows nodes first last follow m (length nodes)
+  pub linked_all : (flags : List Bool) (follow : List (List ℕ)) (m i : ℕ) → i ≡ length nodes → AreRepeated nodes first last flags 0
+      → AreLinked es nodes flags follow m i → AreFollows nodes first last follow m (length nodes)
   linked_all flags follow m i whole repeated h = record {
     len = h.len;
     each = λ p q. (λ has. subst (λ z. LinkIn nodes first last 0 z p q) whole (h.sound p q has), λ l. has_link p q l);
@@ -209,7 +278,9 @@ module _ (es : List Bool) (nodes : List RegexNode) (order : IsPostOrder nodes es
         | inl nothing ↦
             let k = linked_is es first last l.place (flag flags l.place) l.node p q nothing l.link in
             let r = repeated.each l.place k.repeats in
-            h.complete r.place r.node (omega (arith, slice_get_within nodes r.place r.node r.at)) r.at (repetition_adds es (flag flags r.place) r.node r.part r.is r.unmarked) p q (repetition_links first last r.node r.part p q r.is
+            h.complete r.place r.node (omega (arith, slice_get_within nodes r.place r.node r.at)) r.at
+            (repetition_adds es (flag flags r.place) r.node r.part r.is r.unmarked) p q
+            (repetition_links first last r.node r.part p q r.is
             (r.lasts p (subst (λ zs. Contains zs p) (sym (row_is es Last nodes order.parts l.place l.node l.at)) k.ends))
             (r.firsts q (subst (λ zs. Contains zs q) (sym (row_is es First nodes order.parts l.place l.node l.at)) k.begins)))
         | inr adds ↦ (let lt = l.below in h.complete l.place l.node (omega arith) l.at adds p q l.link)

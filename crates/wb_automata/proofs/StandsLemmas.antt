@@ -1,16 +1,19 @@
 -- Sets of leaves read exactly the texts that match.
-use Rattle.std.proofs.Common.{◌≡◌, ℕ, ◌+◌, ◌≤◌, Bool, true, List, [], ◌∷◌, ◌++◌, refl, sym, ◌∙◌, ap, subst, arith, inl, inr, append_assoc, append-nil, Some, length}
+use Rattle.std.proofs.Common.{◌≡◌, ℕ, ◌+◌, ◌≤◌, Bool, true, List, [], ◌∷◌, ◌++◌, refl, sym, ◌∙◌, ap, subst, arith, inl, inr, append_assoc}
+use Rattle.std.proofs.Common.{append-nil, Some, length}
 use Rattle.std.specs.Prelude.{slice_get, ◌↔◌, Contains}
 use Rattle.std.proofs.lemmas.Bool.{cases_eq, cases_lt}
 use Rattle.std.proofs.lemmas.Option.{same_Some, slice_get_within}
-use Rattle.wb_automata.specs.Inner.PositionTrees.{PositionTree, Leaf, Sequence, Choice, Star, Plus, Maybe, Matches, one, seq, left, none, once, absent}
+use Rattle.wb_automata.specs.Inner.PositionTrees.{PositionTree, Leaf, Sequence, Choice, Star, Plus, Maybe, Matches, one, seq, left, none}
+use Rattle.wb_automata.specs.Inner.PositionTrees.{once, absent}
 use Rattle.wb_automata.specs.Inner.Positions.{First, Follow, After}
 use Rattle.wb_automata.specs.Inner.PositionSets.{Ranges, Filled, Rest, IsNext, IsStartOf, Stands, Ends}
 use Rattle.wb_automata.proofs.Ranges.{Within, first_within, follow_within, after_within}
 use Rattle.wb_automata.proofs.Paths.{begun, begins, goes, comes, last_after, after_last}
 
 -- a leaf has one expression
-same_number : (trees : List PositionTree) (bound : ℕ → ℕ) (k l p : ℕ) → Ranges trees bound → Within (bound k) (bound (k + 1)) p → Within (bound l) (bound (l + 1)) p → k ≡ l
+same_number : (trees : List PositionTree) (bound : ℕ → ℕ) (k l p : ℕ) → Ranges trees bound → Within (bound k) (bound (k + 1)) p → Within
+    (bound l) (bound (l + 1)) p → k ≡ l
 same_number trees bound k l p h u v =
     elim (cases_eq k l) [
       | inl same ↦ same
@@ -20,11 +23,14 @@ same_number trees bound k l p h u v =
       ]
     ]
 
-same_tree : (trees : List PositionTree) (bound : ℕ → ℕ) (k l p : ℕ) (s t : PositionTree) → Ranges trees bound → slice_get trees k ≡ Some s → slice_get trees l ≡ Some t → Within (bound k) (bound (k + 1)) p → Within (bound l) (bound (l + 1)) p → s ≡ t
+same_tree : (trees : List PositionTree) (bound : ℕ → ℕ) (k l p : ℕ) (s t : PositionTree) → Ranges trees bound → slice_get trees k ≡ Some s
+    → slice_get trees l ≡ Some t → Within (bound k) (bound (k + 1)) p → Within (bound l) (bound (l + 1)) p → s ≡ t
 same_tree trees bound k l p s t h e f u v = same_Some s t (sym e ∙ ap (slice_get trees) (same_number trees bound k l p h u v) ∙ f)
 
-module _ (holds : ℕ → ℕ → Bool) (trees : List PositionTree) (bound : ℕ → ℕ) (n : ℕ) (considered : ℕ → Type 0) (h : Ranges trees bound) (outside : (k b : ℕ) → holds (n + k) b ≡ true → ⊥) where
-  forth : (set next : List ℕ) (b k : ℕ) (t : PositionTree) (w : List ℕ) → IsNext holds trees n set b next → slice_get trees k ≡ Some t → Rest holds n next k t w → Rest holds n set k t (b ∷ w)
+module _ (holds : ℕ → ℕ → Bool) (trees : List PositionTree) (bound : ℕ → ℕ) (n : ℕ) (considered : ℕ → Type 0) (h : Ranges trees bound)
+    (outside : (k b : ℕ) → holds (n + k) b ≡ true → ⊥) where
+  forth : (set next : List ℕ) (b k : ℕ) (t : PositionTree) (w : List ℕ) → IsNext holds trees n set b next → slice_get trees k ≡ Some t
+      → Rest holds n next k t w → Rest holds n set k t (b ∷ w)
   forth set next b k t w is at r =
       let target = (is r.leaf).0 r.has in
       let l = target.links in
@@ -38,53 +44,93 @@ module _ (holds : ℕ → ℕ → Bool) (trees : List PositionTree) (bound : ℕ
               let here : Within (bound k) (bound (k + 1)) r.leaf = after_within holds t (bound k) (bound (k + 1)) r.leaf w spans after in
               elim l.link [
                 | inl f ↦
-                    let (u, v) = follow_within l.tree (bound l.number) (bound (l.number + 1)) target.from r.leaf (h.spans l.number l.tree l.at) f in
+                    let (u, v) = follow_within l.tree (bound l.number) (bound (l.number + 1)) target.from r.leaf
+                    (h.spans l.number l.tree l.at) f in
                     let same : l.tree ≡ t = same_tree trees bound l.number k r.leaf l.tree t h l.at at v here in
-                    inl (comes holds t (bound k) (bound (k + 1)) target.from r.leaf b w spans (subst (λ s. Follow s target.from r.leaf) same f) target.byte after)
+                    inl (comes holds t (bound k) (bound (k + 1)) target.from r.leaf b w spans
+                    (subst (λ s. Follow s target.from r.leaf) same f) target.byte after)
                 | inr (e, f) ↦
                     let v = first_within l.tree (bound l.number) (bound (l.number + 1)) r.leaf (h.spans l.number l.tree l.at) f in
                     let number : l.number ≡ k = same_number trees bound l.number k r.leaf h v here in
                     let same : l.tree ≡ t = same_tree trees bound l.number k r.leaf l.tree t h l.at at v here in
-                    inr (e ∙ ap (λ z. n + z) number, begins holds t (bound k) (bound (k + 1)) b r.leaf w spans (subst (λ s. First s r.leaf) same f) target.byte after)
+                    inr (
+                      e ∙ ap (λ z. n + z) number,
+                      begins holds t (bound k) (bound (k + 1)) b r.leaf w spans
+                          (subst (λ s. First s r.leaf) same f) target.byte after,
+                    )
               ]
         ];
       }
 
-  back : (set next : List ℕ) (b k : ℕ) (t : PositionTree) (w : List ℕ) → IsNext holds trees n set b next → slice_get trees k ≡ Some t → Rest holds n set k t (b ∷ w) → Rest holds n next k t w
+  back : (set next : List ℕ) (b k : ℕ) (t : PositionTree) (w : List ℕ) → IsNext holds trees n set b next → slice_get trees k ≡ Some t
+      → Rest holds n set k t (b ∷ w) → Rest holds n next k t w
   back set next b k t w is at r = elim r.is [
     | inl after ↦
         let d = goes holds t r.leaf b (b ∷ w) w after refl in
-        record { leaf = d.at; has = (is d.at).1 (record { byte = d.byte; from = r.leaf; has = r.has; links = record { number = k; tree = t; at = at; link = inl d.follow } }); is = inl d.after }
+        record {
+          leaf = d.at;
+          has = (is d.at).1
+              (record { byte = d.byte; from = r.leaf; has = r.has; links = record { number = k; tree = t; at = at; link = inl d.follow } });
+          is = inl d.after;
+        }
     | inr (e, m) ↦
         let d = begun holds b w m refl in
-        record { leaf = d.at; has = (is d.at).1 (record { byte = d.byte; from = r.leaf; has = r.has; links = record { number = k; tree = t; at = at; link = inr (e, d.first) } }); is = inl d.after }
+        record {
+          leaf = d.at;
+          has = (is d.at).1
+              (record { byte = d.byte; from = r.leaf; has = r.has; links = record { number = k; tree = t; at = at; link = inr (e, d.first) } });
+          is = inl d.after;
+        }
   ]
 
   -- the starts of the considered expressions
-  pub stands_first : (set : List ℕ) → ((p : ℕ) → Contains set p ↔ IsStartOf n (length trees) considered p) → ((k : ℕ) (t : PositionTree) → slice_get trees k ≡ Some t → bound (k + 1) ≤ n) → Stands holds trees n considered set []
+  pub stands_first : (set : List ℕ) → ((p : ℕ) → Contains set p ↔ IsStartOf n (length trees) considered p) →
+      ((k : ℕ) (t : PositionTree) → slice_get trees k ≡ Some t → bound (k + 1) ≤ n) → Stands holds trees n considered set []
   stands_first set is below k t at w = (
     λ r.
         let s = (is r.leaf).0 r.has in
         let place : r.leaf ≡ n + s.number = s.place in
         elim r.is [
-          | inl after ↦ let v = after_within holds t (bound k) (bound (k + 1)) r.leaf w (h.spans k t at) after in let u = below k t at in absurd (omega arith)
+          | inl after ↦ let v = after_within holds t (bound k) (bound (k + 1)) r.leaf w
+              (h.spans k t at) after in let u = below k t at in absurd (omega arith)
           | inr (e, m) ↦ (subst considered (let f : s.number ≡ k = omega arith in f) s.is, m)
         ],
-    λ (c, m). record { leaf = n + k; has = (is (n + k)).1 (record { number = k; below = slice_get_within trees k t at; is = c; place = refl }); is = inr (refl, m) },
+    λ (c, m). record {
+      leaf = n + k;
+      has = (is (n + k)).1
+          (record { number = k; below = slice_get_within trees k t at; is = c; place = refl });
+      is = inr (refl, m);
+    },
   )
 
   -- a step
-  pub stands_next : (set next : List ℕ) (b : ℕ) (x : List ℕ) → Stands holds trees n considered set x → IsNext holds trees n set b next → Stands holds trees n considered next (x ++ b ∷ [])
+  pub stands_next : (set next : List ℕ) (b : ℕ) (x : List ℕ) → Stands holds trees n considered set x → IsNext holds trees n set b next
+      → Stands holds trees n considered next (x ++ b ∷ [])
   stands_next set next b x stands is k t at w = (
-    λ r. let (c, m) = (stands k t at (b ∷ w)).0 (forth set next b k t w is at r) in (c, subst (Matches holds t) (sym (append_assoc x (b ∷ []) w)) m),
+    λ r. let (c, m) = (stands k t at (b ∷ w)).0 (forth set next b k t w is at r) in
+        (c, subst (Matches holds t) (sym (append_assoc x (b ∷ []) w)) m),
     λ (c, m). back set next b k t w is at ((stands k t at (b ∷ w)).1 (c, subst (Matches holds t) (append_assoc x (b ∷ []) w) m)),
   )
 
   -- it accepts exactly the considered expressions that match, of which none matches the empty text
-  pub accepts : (set : List ℕ) (x : List ℕ) → Stands holds trees n considered set x → (k : ℕ) (t : PositionTree) → slice_get trees k ≡ Some t → (Matches holds t [] → ⊥) → Ends set t ↔ (considered k × Matches holds t x)
+  pub accepts : (set : List ℕ) (x : List ℕ) → Stands holds trees n considered set x → (k : ℕ) (t : PositionTree)
+      → slice_get trees k ≡ Some t → (Matches holds t [] → ⊥) → Ends set t ↔ (considered k × Matches holds t x)
   accepts set x stands k t at some = (
-    λ e. let (c, m) = (stands k t at []).0 (record { leaf = e.leaf; has = e.has; is = inl (last_after holds t e.leaf e.is) }) in (c, subst (Matches holds t) (append-nil x) m),
-    λ (c, m). let r = (stands k t at []).1 (c, subst (Matches holds t) (sym (append-nil x)) m) in record { leaf = r.leaf; has = r.has; is = elim r.is [ inl after ↦ after_last holds t r.leaf [] after refl | inr (same, m') ↦ absurd (some m') ] },
+    λ e. let (c, m) = (stands k t at []).0 (record { leaf = e.leaf; has = e.has; is = inl (last_after holds t e.leaf e.is) }) in
+        (c, subst (Matches holds t) (append-nil x) m),
+    λ (c, m). let r = (stands k t at []).1 (
+      c,
+      subst (Matches holds t)
+          (sym (append-nil x)) m,
+    ) in record {
+      leaf = r.leaf;
+      has = r.has;
+      is = elim r.is [
+        | inl after ↦ after_last holds t r.leaf [] after
+            refl
+        | inr (same, m') ↦ absurd (some m')
+      ];
+    },
   )
 
 -- every other set can go on
@@ -94,7 +140,8 @@ pub record SomeText (holds : ℕ → ℕ → Bool) (t : PositionTree) : Type 0 w
 
 pub some_text : (holds : ℕ → ℕ → Bool) (t : PositionTree) → Filled holds t → SomeText holds t
 some_text holds (Leaf p) (b, h) = record { text = b ∷ []; matches = one {b = b} h refl }
-some_text holds (Sequence r s) (f, g) = let u = some_text holds r f in let v = some_text holds s g in record { text = u.text ++ v.text; matches = seq u.matches v.matches refl }
+some_text holds (Sequence r s) (f, g) = let u = some_text holds r f in let v = some_text holds s g in record
+    { text = u.text ++ v.text; matches = seq u.matches v.matches refl }
 some_text holds (Choice r s) (f, g) = let u = some_text holds r f in record { text = u.text; matches = left u.matches }
 some_text holds (Star r) f = record { text = []; matches = none refl }
 some_text holds (Plus r) f = let u = some_text holds r f in record { text = u.text ++ []; matches = once u.matches (none refl) refl }
@@ -105,10 +152,18 @@ pub record Completed (holds : ℕ → ℕ → Bool) (t : PositionTree) (p : ℕ)
   pub after : After holds t p text
 
 around_text : (holds : ℕ → ℕ → Bool) (r : PositionTree) (p : ℕ) → Completed holds r p → Completed holds (Star r) p
-around_text holds r p c = record { text = c.text ++ []; after = record { front = c.text; rest = []; before = c.after; behind = none refl; joins = refl } }
+around_text holds r p c = record {
+  text = c.text ++ [];
+  after = record
+      { front = c.text; rest = []; before = c.after; behind = none refl; joins = refl };
+}
 
 seq_left : (holds : ℕ → ℕ → Bool) (r s : PositionTree) (p : ℕ) → SomeText holds s → Completed holds r p → Completed holds (Sequence r s) p
-seq_left holds r s p m c = record { text = c.text ++ m.text; after = inl (record { front = c.text; rest = m.text; before = c.after; behind = m.matches; joins = refl }) }
+seq_left holds r s p m c = record {
+  text = c.text ++ m.text;
+  after = inl
+      (record { front = c.text; rest = m.text; before = c.after; behind = m.matches; joins = refl });
+}
 
 seq_right : (holds : ℕ → ℕ → Bool) (r s : PositionTree) (p : ℕ) → Completed holds s p → Completed holds (Sequence r s) p
 seq_right holds r s p c = record { text = c.text; after = inr c.after }
@@ -132,8 +187,10 @@ follow_goes holds (Choice r s) p q (f, g) (inl i) = let c = follow_goes holds r 
 follow_goes holds (Choice r s) p q (f, g) (inr i) = let c = follow_goes holds s p q g i in record { text = c.text; after = inr c.after }
 follow_goes holds (Star r) p q f (inl i) = around_text holds r q (follow_goes holds r p q f i)
 follow_goes holds (Star r) p q f (inr (l, i)) = around_text holds r q (first_goes holds r q f i)
-follow_goes holds (Plus r) p q f (inl i) = let c = around_text holds r q (follow_goes holds r p q f i) in record { text = c.text; after = c.after }
-follow_goes holds (Plus r) p q f (inr (l, i)) = let c = around_text holds r q (first_goes holds r q f i) in record { text = c.text; after = c.after }
+follow_goes holds (Plus r) p q f (inl i) =
+    let c = around_text holds r q (follow_goes holds r p q f i) in record { text = c.text; after = c.after }
+follow_goes holds (Plus r) p q f (inr (l, i)) =
+    let c = around_text holds r q (first_goes holds r q f i) in record { text = c.text; after = c.after }
 follow_goes holds (Maybe r) p q f i = let c = follow_goes holds r p q f i in record { text = c.text; after = c.after }
 
 -- an expression that is left by some text
@@ -144,9 +201,15 @@ pub record Alive (holds : ℕ → ℕ → Bool) (trees : List PositionTree) (n :
   pub text : List ℕ
   pub rest : Rest holds n set number tree text
 
-pub alive : (holds : ℕ → ℕ → Bool) (trees : List PositionTree) (n : ℕ) (set next : List ℕ) (b q : ℕ) → ((k : ℕ) (t : PositionTree) → slice_get trees k ≡ Some t → Filled holds t) → IsNext holds trees n set b next → Contains next q → Alive holds trees n next
+pub alive : (holds : ℕ → ℕ → Bool) (trees : List PositionTree) (n : ℕ) (set next : List ℕ) (b q : ℕ) →
+    ((k : ℕ) (t : PositionTree) → slice_get trees k ≡ Some t → Filled holds t) → IsNext holds trees n set b next → Contains next q
+    → Alive holds trees n next
 alive holds trees n set next b q filled is has =
     let target = (is q).0 has in
     let l = target.links in
-    let c : Completed holds l.tree q = elim l.link [ inl f ↦ follow_goes holds l.tree target.from q (filled l.number l.tree l.at) f | inr (e, f) ↦ first_goes holds l.tree q (filled l.number l.tree l.at) f ] in
+    let c : Completed holds l.tree q = elim l.link [
+      | inl f ↦ follow_goes holds l.tree target.from q (filled l.number l.tree l.at) f
+      | inr
+          (e, f) ↦ first_goes holds l.tree q (filled l.number l.tree l.at) f
+    ] in
     record { number = l.number; tree = l.tree; at = l.at; text = c.text; rest = record { leaf = q; has = has; is = inl c.after } }

@@ -1,5 +1,6 @@
 -- The moves as states are found.
-use Rattle.std.proofs.Common.{◌≡◌, ℕ, ◌+◌, ◌*◌, ◌^◌, ◌≤◌, ◌<◌, ◌⊎◌, List, [], ◌∷◌, ◌++◌, refl, sym, ◌∙◌, ap, subst, arith, inl, inr, Option, Some, None, length, get_or, length-append, suc-mul, add-one}
+use Rattle.std.proofs.Common.{◌≡◌, ℕ, ◌+◌, ◌*◌, ◌^◌, ◌≤◌, ◌<◌, ◌⊎◌, List, [], ◌∷◌, ◌++◌, refl, sym, ◌∙◌, ap, subst, arith, inl, inr, Option}
+use Rattle.std.proofs.Common.{Some, None, length, get_or, length-append, suc-mul, add-one}
 use Rattle.std.specs.Prelude.{slice_get, ◌↔◌, Contains}
 use Rattle.std.proofs.lemmas.List.{get_or_append_left, get_or_push}
 use Rattle.std.proofs.lemmas.Option.{slice_get-get_or, slice_get_within, same_Some}
@@ -14,34 +15,52 @@ use Rattle.wb_automata.specs.Order.{AreRising}
 use Rattle.wb_automata.specs.Inner.Found.{Found, on, IsPlaced, IsMoved, AllBefore, AreFound, Extends}
 use Rattle.wb_automata.specs.Inner.Exploring.{IsMove, AreMoves, SetsBelow, RowPass, RowsPass, RowsFrom, StartsAt, AreExplored}
 use Rattle.wb_automata.proofs.OrderLemmas.{earlier_more, earlier_last, earlier_next}
-use Rattle.wb_automata.proofs.PlaceLemmas.{extends_same, extends_more, place_extends, place_found, place_target, place_before, pushed_at, NewState}
+use Rattle.wb_automata.proofs.PlaceLemmas.{extends_same, extends_more, place_extends, place_found, place_target, place_before, pushed_at}
+use Rattle.wb_automata.proofs.PlaceLemmas.{NewState}
 
 -- a state that was there is as it was
-back_set : (old new : Found) (j : ℕ) (set : List ℕ) → Extends old new → j < length old.sets → slice_get new.sets j ≡ Some set → slice_get old.sets j ≡ Some set
+back_set : (old new : Found) (j : ℕ) (set : List ℕ) → Extends old new → j < length old.sets → slice_get new.sets j ≡ Some set
+    → slice_get old.sets j ≡ Some set
 back_set old new j set g lt at =
     let s : slice_get old.sets j ≡ Some (get_or old.sets j []) = slice_get-get_or old.sets j [] lt in
     s ∙ ap Some (same_Some (get_or old.sets j []) set (sym (g.sets j (get_or old.sets j []) s) ∙ at))
 
-back_path : (old new : Found) (j : ℕ) (path : Path) → Extends old new → j < length old.paths → slice_get new.paths j ≡ Some path → slice_get old.paths j ≡ Some path
+back_path : (old new : Found) (j : ℕ) (path : Path) → Extends old new → j < length old.paths → slice_get new.paths j ≡ Some path
+    → slice_get old.paths j ≡ Some path
 back_path old new j path g lt at =
     let s : slice_get old.paths j ≡ Some (get_or old.paths j path) = slice_get-get_or old.paths j path lt in
     s ∙ ap Some (same_Some (get_or old.paths j path) path (sym (g.paths j (get_or old.paths j path) s) ∙ at))
 
-pub move_extends : (t : Tables) (old new : Found) (set : List ℕ) (path : Path) (b : ℕ) (o : Option ℕ) → Extends old new → IsMove t old set path b o → IsMove t new set path b o
+pub move_extends : (t : Tables) (old new : Found) (set : List ℕ) (path : Path) (b : ℕ) (o : Option ℕ) → Extends old new
+    → IsMove t old set path b o → IsMove t new set path b o
 move_extends t old new set path b None g h = h
-move_extends t old new set path b (Some j) g h = record { next = h.next; own = h.own; at = g.sets j h.next h.at; at_path = g.paths j h.own h.at_path; exact = h.exact; some = h.some; least = h.least }
+move_extends t old new set path b (Some j) g h = record {
+  next = h.next;
+  own = h.own;
+  at = g.sets j h.next h.at;
+  at_path = g.paths j h.own
+      h.at_path;
+  exact = h.exact;
+  some = h.some;
+  least = h.least;
+}
 
 -- moves stay where states are added
-moves_extend : (t : Tables) (bytes : List ℕ) (old new : Found) (moves : List (Option ℕ)) (i c : ℕ) → length old.paths ≡ length old.sets → Extends old new → ((j k : ℕ) → (j < i) ⊎ ((j ≡ i) × (k < c)) → j < length old.sets) → AreMoves t bytes old moves i c → AreMoves t bytes new moves i c
+moves_extend : (t : Tables) (bytes : List ℕ) (old new : Found) (moves : List (Option ℕ)) (i c : ℕ) → length old.paths ≡ length old.sets
+    → Extends old new → ((j k : ℕ) → (j < i) ⊎ ((j ≡ i) × (k < c)) → j < length old.sets) → AreMoves t bytes old moves i c
+    → AreMoves t bytes new moves i c
 moves_extend t bytes old new moves i c len g within h = record {
   len = h.len;
   lead = λ j k set path which below at at_path.
       let lt : j < length old.sets = within j k which in
-      move_extends t old new set path (get_or bytes k 0) (get_or moves (j * length bytes + k) None) g (h.lead j k set path which below (back_set old new j set g lt at) (back_path old new j path g (omega arith) at_path));
+      move_extends t old new set path (get_or bytes k 0) (get_or moves (j * length bytes + k) None) g
+      (h.lead j k set path which below (back_set old new j set g lt at) (back_path old new j path g (omega arith) at_path));
 }
 
 -- one move more
-moves_push : (t : Tables) (bytes : List ℕ) (found : Found) (moves : List (Option ℕ)) (i c : ℕ) (set : List ℕ) (path : Path) (o : Option ℕ) → c < length bytes → slice_get found.sets i ≡ Some set → slice_get found.paths i ≡ Some path → AreMoves t bytes found moves i c → IsMove t found set path (get_or bytes c 0) o → AreMoves t bytes found (moves ++ o ∷ []) i (c + 1)
+moves_push : (t : Tables) (bytes : List ℕ) (found : Found) (moves : List (Option ℕ)) (i c : ℕ) (set : List ℕ) (path : Path) (o : Option ℕ)
+    → c < length bytes → slice_get found.sets i ≡ Some set → slice_get found.paths i ≡ Some path → AreMoves t bytes found moves i c
+    → IsMove t found set path (get_or bytes c 0) o → AreMoves t bytes found (moves ++ o ∷ []) i (c + 1)
 moves_push t bytes found moves i c set path o short at at_path h last = record {
   len = omega (arith, h.len, length-append moves (o ∷ []));
   lead = λ j k s p which below here here_path. elim (earlier j k below which) [
@@ -53,11 +72,13 @@ moves_push t bytes found moves i c set path o short at at_path h last = record {
         subst (λ z. IsMove t found s p (get_or bytes k 0) (get_or (moves ++ o ∷ []) z None)) (sym place)
         (rw (get_or_push moves o None (i * length bytes + c) h.len)
         (subst (λ z. IsMove t found s p (get_or bytes z 0) o) (sym f)
-        (subst (λ z. IsMove t found s z (get_or bytes c 0) o) same_path (subst (λ z. IsMove t found z path (get_or bytes c 0) o) same_set last))))
+        (subst (λ z. IsMove t found s z (get_or bytes c 0) o) same_path
+        (subst (λ z. IsMove t found z path (get_or bytes c 0) o) same_set last))))
   ];
 }
   where
-    earlier : (j k : ℕ) → k < length bytes → (j < i) ⊎ ((j ≡ i) × (k < c + 1)) → ((j * length bytes + k < length moves) × ((j < i) ⊎ ((j ≡ i) × (k < c)))) ⊎ ((j ≡ i) × (k ≡ c))
+    earlier : (j k : ℕ) → k < length bytes → (j < i) ⊎ ((j ≡ i) × (k < c + 1)) →
+        ((j * length bytes + k < length moves) × ((j < i) ⊎ ((j ≡ i) × (k < c)))) ⊎ ((j ≡ i) × (k ≡ c))
     earlier j k below (inl lt) = inl (omega (arith, h.len, place_below j k (length bytes) i lt below), inl lt)
     earlier j k below (inr (e, less)) = elim (cases_lt k c) [
       | inl lt ↦ inl (omega (arith, h.len, ap (λ z. z * length bytes) e), inr (e, lt))
@@ -65,7 +86,10 @@ moves_push t bytes found moves i c set path o short at at_path h last = record {
     ]
 
 -- a row begins
-pub row_begin : (t : Tables) (bytes : List ℕ) (found : Found) (moves : List (Option ℕ)) (i : ℕ) (ahead : List ℕ) → RowsPass t bytes found moves i → i < length found.sets → ((set : List ℕ) → slice_get found.sets i ≡ Some set → (q : ℕ) → Contains ahead q ↔ Ahead t.follow set q) → IsPlaceList (length t.nodes.items) ahead → RowPass t bytes found found i ahead moves 0
+pub row_begin : (t : Tables) (bytes : List ℕ) (found : Found) (moves : List (Option ℕ)) (i : ℕ) (ahead : List ℕ)
+    → RowsPass t bytes found moves i → i < length found.sets →
+    ((set : List ℕ) → slice_get found.sets i ≡ Some set → (q : ℕ) → Contains ahead q ↔ Ahead t.follow set q) → IsPlaceList
+    (length t.nodes.items) ahead → RowPass t bytes found found i ahead moves 0
 row_begin t bytes found moves i ahead h lt is places =
     let ready = h.ready lt in
     record {
@@ -83,7 +107,10 @@ row_begin t bytes found moves i ahead h lt is places =
     }
 
 -- a move is put after the others of its row
-pub row_step : (t : Tables) (bytes : List ℕ) (old mid new : Found) (i : ℕ) (ahead : List ℕ) (moves : List (Option ℕ)) (c : ℕ) (o : Option ℕ) (w : Path) → IsTable t → AreRising bytes → c < length bytes → (h : RowPass t bytes old mid i ahead moves c) → w ≡ on h.path (get_or bytes c 0) → IsMoved t.nodes.items ahead w (get_or bytes c 0) mid new o → RowPass t bytes old new i ahead (moves ++ o ∷ []) (c + 1)
+pub row_step : (t : Tables) (bytes : List ℕ) (old mid new : Found) (i : ℕ) (ahead : List ℕ) (moves : List (Option ℕ)) (c : ℕ)
+    (o : Option ℕ) (w : Path) → IsTable t → AreRising bytes → c < length bytes → (h : RowPass t bytes old mid i ahead moves c)
+    → w ≡ on h.path (get_or bytes c 0) → IsMoved t.nodes.items ahead w (get_or bytes c 0) mid new o → RowPass t bytes old new i ahead
+    (moves ++ o ∷ []) (c + 1)
 row_step t bytes old mid new i ahead moves c None w table rising lt h e (same, off) =
     let f : RowPass t bytes old mid i ahead (moves ++ None ∷ []) (c + 1) = record {
       set = h.set;
@@ -95,7 +122,8 @@ row_step t bytes old mid new i ahead moves c None w table rising lt h e (same, o
       extends = h.extends;
       sets_kept = h.sets_kept;
       found_ok = h.found_ok;
-      are_moves = moves_push t bytes mid moves i c h.set h.path None lt h.at h.at_path h.are_moves (λ q (holds, a). off q holds ((h.is q).1 a));
+      are_moves = moves_push t bytes mid moves i c h.set h.path None lt h.at h.at_path h.are_moves
+          (λ q (holds, a). off q holds ((h.is q).1 a));
       edge = λ b up. h.edge b (λ k less. up k (omega arith));
     } in
     subst (λ z. RowPass t bytes old z i ahead (moves ++ None ∷ []) (c + 1)) (sym same) f
@@ -105,11 +133,16 @@ row_step t bytes old mid new i ahead moves c (Some j) w table rising lt h e m =
     let placed : IsPlaced mid m.next to new j = subst (λ z. IsPlaced mid m.next z new j) e m.placed in
     let g : Extends mid new = place_extends mid new m.next to j placed in
     let before : AllBefore mid.paths to = h.edge r (λ k less. rising k c less lt) in
-    let exact : (q : ℕ) → Contains m.next q ↔ Reads t h.set r q = λ q. (λ has. let (x, y) = (m.exact q).0 has in (x, (h.is q).0 y), λ (x, y). (m.exact q).1 (x, (h.is q).1 y)) in
+    let exact : (q : ℕ) → Contains m.next q ↔ Reads t h.set r q = λ q.
+    (λ has. let (x, y) = (m.exact q).0 has in (x, (h.is q).0 y), λ (x, y). (m.exact q).1 (x, (h.is q).1 y)) in
     let len : length mid.paths ≡ length mid.sets = h.found_ok.len in
     let s : NewState t mid m.next to = record {
       before = before;
-      places = record { below = λ k d less. (let b = m.places.below k d less in let long = table.len in omega arith); rising = m.places.rising };
+      places = record {
+        below = λ k d less.
+            (let b = m.places.below k d less in let long = table.len in omega arith);
+        rising = m.places.rising;
+      };
       each = inr (record {
         from = i;
         byte = r;
@@ -137,15 +170,27 @@ row_step t bytes old mid new i ahead moves c (Some j) w table rising lt h e m =
       sets_kept = λ top below. place_top top mid new m.next to j placed (h.sets_kept top below) (h.sets_kept top below i h.path h.at_path);
       found_ok = found_ok;
       are_moves = moves_push t bytes new moves i c h.set h.path (Some j) lt (g.sets i h.set h.at) (g.paths i h.path h.at_path)
-          (moves_extend t bytes mid new moves i c len g (λ k l which. row_within i k (length mid.sets) (slice_get_within mid.sets i h.set h.at) l c which) h.are_moves)
-          (record { next = m.next; own = target.own; at = placed.here; at_path = target.at; exact = exact; some = m.some; least = target.least });
-      edge = λ b up. place_before mid new m.next to (on h.path b) j placed (h.edge b (λ k less. up k (omega arith))) (earlier_last h.path r b (up c (omega arith)));
+          (moves_extend t bytes mid new moves i c len g (λ k l which. row_within i k (length mid.sets)
+          (slice_get_within mid.sets i h.set h.at) l c which) h.are_moves)
+          (record {
+            next = m.next;
+            own = target.own;
+            at = placed.here;
+            at_path = target.at;
+            exact = exact;
+            some = m.some;
+            least = target.least;
+          });
+      edge = λ b up. place_before mid new m.next to (on h.path b) j placed (h.edge b (λ k less. up k (omega arith)))
+          (earlier_last h.path r b (up c (omega arith)));
     }
   where
-    place_top : (top : ℕ) (mid new : Found) (set : List ℕ) (path : Path) (j : ℕ) → IsPlaced mid set path new j → SetsBelow top mid → path.set < top → SetsBelow top new
+    place_top : (top : ℕ) (mid new : Found) (set : List ℕ) (path : Path) (j : ℕ) → IsPlaced mid set path new j → SetsBelow top mid
+        → path.set < top → SetsBelow top new
     place_top top mid new set path j p below lt k u at = elim p.change [
       | inl same ↦ below k u (subst (λ z. slice_get z.paths k ≡ Some u) same at)
-      | inr (last, same) ↦ elim (at_push mid.paths path u k (subst (λ z. slice_get z.paths k ≡ Some u) same at)) [ inl f ↦ below k u f | inr (_, f) ↦ subst (λ z. z.set < top) f lt ]
+      | inr (last, same) ↦ elim (at_push mid.paths path u k (subst
+          (λ z. slice_get z.paths k ≡ Some u) same at)) [ inl f ↦ below k u f | inr (_, f) ↦ subst (λ z. z.set < top) f lt ]
     ]
 
     row_within : (i k n : ℕ) → i < n → (l c : ℕ) → (k < i) ⊎ ((k ≡ i) × (l < c)) → k < n
@@ -153,7 +198,9 @@ row_step t bytes old mid new i ahead moves c (Some j) w table rising lt h e m =
     row_within i k n lt l c (inr (e, less)) = omega arith
 
 -- the row is whole
-pub row_end : (t : Tables) (bytes : List ℕ) (old found : Found) (i : ℕ) (ahead : List ℕ) (moves : List (Option ℕ)) (c : ℕ) → ((k : ℕ) → k < length bytes → get_or bytes k 0 < 256) → c ≡ length bytes → RowPass t bytes old found i ahead moves c → RowsFrom t bytes old found moves (i + 1)
+pub row_end : (t : Tables) (bytes : List ℕ) (old found : Found) (i : ℕ) (ahead : List ℕ) (moves : List (Option ℕ)) (c : ℕ) →
+    ((k : ℕ) → k < length bytes → get_or bytes k 0 < 256) → c ≡ length bytes → RowPass t bytes old found i ahead moves c
+    → RowsFrom t bytes old found moves (i + 1)
 row_end t bytes old found i ahead moves c small whole h = record {
   extends = h.extends;
   sets_kept = h.sets_kept;
@@ -164,14 +211,16 @@ row_end t bytes old found i ahead moves c small whole h = record {
         let own : List ℕ = get_or found.sets (i + 1) [] in
         let next : Path = get_or found.paths (i + 1) h.path in
         let at : slice_get found.sets (i + 1) ≡ Some own = slice_get-get_or found.sets (i + 1) [] less in
-        let at_path : slice_get found.paths (i + 1) ≡ Some next = slice_get-get_or found.paths (i + 1) h.path (omega (arith, h.found_ok.len)) in
+        let at_path : slice_get found.paths (i + 1) ≡ Some next = slice_get-get_or found.paths (i + 1) h.path
+        (omega (arith, h.found_ok.len)) in
         let after : IsEarlier h.path next = h.found_ok.sorted i (i + 1) h.path next (omega arith) h.at_path at_path in
         record {
           set = own;
           path = next;
           at = at;
           at_path = at_path;
-          ahead = λ b j u e. earlier_next u (on h.path 256) (on next b) (h.edge 256 (λ k lt. small k (omega arith)) j u e) (earlier_more h.path next 256 b after);
+          ahead = λ b j u e. earlier_next u (on h.path 256) (on next b) (h.edge 256 (λ k lt. small k (omega arith)) j u e)
+              (earlier_more h.path next 256 b after);
         };
     are_moves = record {
       len = h.are_moves.len ∙ row_length i (length bytes) c whole;
@@ -188,15 +237,24 @@ row_end t bytes old found i ahead moves c small whole h = record {
     earlier j k (inr (e, lt)) below = absurd (omega arith)
 
 -- more rows
-pub rows_more : (t : Tables) (bytes : List ℕ) (old mid new : Found) (moves moves' : List (Option ℕ)) (i j : ℕ) → RowsFrom t bytes old mid moves i → RowsFrom t bytes mid new moves' j → RowsFrom t bytes old new moves' j
-rows_more t bytes old mid new moves moves' i j h k = record { extends = extends_more old mid new h.extends k.extends; sets_kept = λ top below. k.sets_kept top (h.sets_kept top below); rows = k.rows }
+pub rows_more : (t : Tables) (bytes : List ℕ) (old mid new : Found) (moves moves' : List (Option ℕ)) (i j : ℕ)
+    → RowsFrom t bytes old mid moves i → RowsFrom t bytes mid new moves' j → RowsFrom t bytes old new moves' j
+rows_more t bytes old mid new moves moves' i j h k = record {
+  extends = extends_more old mid new h.extends k.extends;
+  sets_kept =
+      λ top below. k.sets_kept top (h.sets_kept top below);
+  rows = k.rows;
+}
 
 -- none so far
-pub rows_same : (t : Tables) (bytes : List ℕ) (found : Found) (moves : List (Option ℕ)) (i : ℕ) → RowsPass t bytes found moves i → RowsFrom t bytes found found moves i
+pub rows_same : (t : Tables) (bytes : List ℕ) (found : Found) (moves : List (Option ℕ)) (i : ℕ) → RowsPass t bytes found moves i
+    → RowsFrom t bytes found found moves i
 rows_same t bytes found moves i h = record { extends = extends_same found; sets_kept = λ top below. below; rows = h }
 
 -- the start of a set is listed
-pub start_rows : (t : Tables) (bytes : List ℕ) (old new : Found) (moves : List (Option ℕ)) (starts : List ℕ) (s state : ℕ) → IsTable t → s < length t.starts → AreExplored t bytes old moves starts s → IsPlaced old (row t.starts s) (record { set = s; text = [] }) new state → RowsPass t bytes new moves (length old.sets)
+pub start_rows : (t : Tables) (bytes : List ℕ) (old new : Found) (moves : List (Option ℕ)) (starts : List ℕ) (s state : ℕ) → IsTable t
+    → s < length t.starts → AreExplored t bytes old moves starts s → IsPlaced old (row t.starts s)
+    (record { set = s; text = [] }) new state → RowsPass t bytes new moves (length old.sets)
 start_rows t bytes old new moves starts s state table lt h p =
     let path : Path = record { set = s; text = [] } in
     let own : List ℕ = row t.starts s in
@@ -206,7 +264,13 @@ start_rows t bytes old new moves starts s state table lt h p =
     let n : NewState t old own path = record {
       before = before;
       places = table.starts s;
-      each = inl (record { set = s; here = push_last old.sets own; here_path = pushed_at old.paths path (length old.sets) (sym len); below = lt });
+      each = inl (record {
+        set = s;
+        here = push_last old.sets own;
+        here_path = pushed_at old.paths path (length old.sets)
+            (sym len);
+        below = lt;
+      });
     } in
     record {
       within = g.len;
@@ -217,8 +281,10 @@ start_rows t bytes old new moves starts s state table lt h p =
           set = own;
           path = path;
           at = subst (λ z. slice_get z.sets (length old.sets) ≡ Some own) (sym same) (push_last old.sets own);
-          at_path = subst (λ z. slice_get z.paths (length old.sets) ≡ Some path) (sym same) (pushed_at old.paths path (length old.sets) (sym len));
-          ahead = λ b. place_before old new own path (on path b) state p (λ j u at. inl (h.sets_below j u at)) (inr (refl, inl (omega arith)));
+          at_path = subst (λ z. slice_get z.paths (length old.sets) ≡ Some path) (sym same)
+              (pushed_at old.paths path (length old.sets) (sym len));
+          ahead = λ b. place_before old new own path (on path b) state p (λ j u at. inl (h.sets_below j u at))
+              (inr (refl, inl (omega arith)));
         }
       ];
       are_moves = moves_extend t bytes old new moves (length old.sets) 0 len g within h.rows.are_moves;
@@ -229,7 +295,8 @@ start_rows t bytes old new moves starts s state table lt h p =
     within j k (inr (e, none)) = absurd (omega arith)
 
 -- and paths begin at one set more
-start_sets : (t : Tables) (bytes : List ℕ) (old new : Found) (moves : List (Option ℕ)) (starts own : List ℕ) (s state : ℕ) → AreExplored t bytes old moves starts s → IsPlaced old own (record { set = s; text = [] }) new state → SetsBelow (s + 1) new
+start_sets : (t : Tables) (bytes : List ℕ) (old new : Found) (moves : List (Option ℕ)) (starts own : List ℕ) (s state : ℕ)
+    → AreExplored t bytes old moves starts s → IsPlaced old own (record { set = s; text = [] }) new state → SetsBelow (s + 1) new
 start_sets t bytes old new moves starts own s state h p k u at = elim p.change [
   | inl same ↦ (let b = h.sets_below k u (subst (λ z. slice_get z.paths k ≡ Some u) same at) in omega arith)
   | inr (last, same) ↦ elim (at_push old.paths (record { set = s; text = [] }) u k (subst (λ z. slice_get z.paths k ≡ Some u) same at)) [
@@ -239,7 +306,10 @@ start_sets t bytes old new moves starts own s state h p k u at = elim p.change [
 ]
 
 -- one set more
-pub explored_more : (t : Tables) (bytes : List ℕ) (old mid new : Found) (moves moves' : List (Option ℕ)) (starts : List ℕ) (s state : ℕ) → AreExplored t bytes old moves starts s → IsPlaced old (row t.starts s) (record { set = s; text = [] }) mid state → RowsFrom t bytes mid new moves' (length new.sets) → length new.sets ≤ 2 ^ length t.follow → AreExplored t bytes new moves' (starts ++ state ∷ []) (s + 1)
+pub explored_more : (t : Tables) (bytes : List ℕ) (old mid new : Found) (moves moves' : List (Option ℕ)) (starts : List ℕ) (s state : ℕ)
+    → AreExplored t bytes old moves starts s → IsPlaced old (row t.starts s) (record { set = s; text = [] }) mid state
+    → RowsFrom t bytes mid new moves' (length new.sets) → length new.sets ≤ 2 ^ length t.follow → AreExplored t bytes new moves'
+    (starts ++ state ∷ []) (s + 1)
 explored_more t bytes old mid new moves moves' starts s state h p r few =
     let path : Path = record { set = s; text = [] } in
     let own : List ℕ = row t.starts s in
@@ -253,10 +323,25 @@ explored_more t bytes old mid new moves moves' starts s state h p r few =
       starts_at = λ j lt. elim (cases_lt j s) [
         | inl less ↦
             let x = h.starts_at j less in
-            rw (get_or_append_left starts (state ∷ []) 0 j (omega (arith, h.starts_len))) (record { path = x.path; at = g.sets (get_or starts j 0) (row t.starts j) x.at; at_path = g.paths (get_or starts j 0) x.path x.at_path; least = x.least })
+            rw (get_or_append_left starts (state ∷ []) 0 j (omega (arith, h.starts_len)))
+            (record {
+              path = x.path;
+              at = g.sets (get_or starts j 0) (row t.starts j) x.at;
+              at_path = g.paths
+                  (get_or starts j 0) x.path x.at_path;
+              least = x.least;
+            })
         | inr past ↦
             let e : j ≡ s = omega arith in
-            subst (λ z. StartsAt t new z (get_or (starts ++ state ∷ []) z 0)) (sym e) (rw (get_or_push starts state 0 s h.starts_len) (record { path = target.own; at = r.extends.sets state own p.here; at_path = r.extends.paths state target.own target.at; least = target.least }))
+            subst (λ z. StartsAt t new z (get_or (starts ++ state ∷ []) z 0)) (sym e)
+            (rw (get_or_push starts state 0 s h.starts_len)
+            (record {
+              path = target.own;
+              at = r.extends.sets state own p.here;
+              at_path = r.extends.paths state target.own
+                  target.at;
+              least = target.least;
+            }))
       ];
     }
 
@@ -270,7 +355,13 @@ explored_none t bytes found e f =
       few = omega arith;
       rows = record {
         within = omega arith;
-        found_ok = record { len = refl; places = λ j set at. absurd (nothing_at set j at); each = λ j lt. absurd (omega arith); sorted = λ i j u v lt at at'. absurd (nothing_at v j at') };
+        found_ok = record {
+          len = refl;
+          places = λ j set at. absurd (nothing_at set j at);
+          each = λ j lt. absurd (omega arith);
+          sorted =
+              λ i j u v lt at at'. absurd (nothing_at v j at');
+        };
         ready = λ lt. absurd (omega arith);
         are_moves = record { len = omega arith; lead = λ j k set path which below at at_path. absurd (nothing_at set j at) };
       };

@@ -18,24 +18,54 @@ pub sub_cover : {nodes : List RegexNode} {s e : ℕ} {t : PositionTree} (j : ℕ
 sub_cover {nodes} j (one {s = s} words is f) ge lt = record { start = s; tree = Leaf s; covers = one words is (omega arith) }
 sub_cover j (seq {s = s} {r = r} {t = t} i k c d is f) ge lt = elim (cases_lt j (i + 1)) [
   | inl early ↦ sub_cover j c ge early
-  | inr late ↦ elim (cases_lt j (k + 1)) [ inl less ↦ sub_cover j d late less | inr past ↦ record { start = s; tree = Sequence r t; covers = seq i k c d is (omega arith) } ]
+  | inr late ↦ elim
+      (cases_lt j
+      (k + 1)) [
+        | inl less ↦ sub_cover j d late less
+        | inr past ↦ record {
+          start =
+              s;
+          tree = Sequence r t;
+          covers = seq i k c d is (omega arith);
+        }
+      ]
 ]
 sub_cover j (choice {s = s} {r = r} {t = t} i k c d is f) ge lt = elim (cases_lt j (i + 1)) [
   | inl early ↦ sub_cover j c ge early
-  | inr late ↦ elim (cases_lt j (k + 1)) [ inl less ↦ sub_cover j d late less | inr past ↦ record { start = s; tree = Choice r t; covers = choice i k c d is (omega arith) } ]
+  | inr late ↦ elim
+      (cases_lt j
+      (k + 1)) [
+        | inl less ↦ sub_cover j d late less
+        | inr past ↦ record {
+          start =
+              s;
+          tree = Choice r t;
+          covers = choice i k c d is (omega arith);
+        }
+      ]
 ]
-sub_cover j (star {s = s} {r = r} i c is f) ge lt = elim (cases_lt j (i + 1)) [ inl early ↦ sub_cover j c ge early | inr late ↦ record { start = s; tree = Star r; covers = star i c is (omega arith) } ]
-sub_cover j (plus {s = s} {r = r} i c is f) ge lt = elim (cases_lt j (i + 1)) [ inl early ↦ sub_cover j c ge early | inr late ↦ record { start = s; tree = Plus r; covers = plus i c is (omega arith) } ]
-sub_cover j (maybe {s = s} {r = r} i c is f) ge lt = elim (cases_lt j (i + 1)) [ inl early ↦ sub_cover j c ge early | inr late ↦ record { start = s; tree = Maybe r; covers = maybe i c is (omega arith) } ]
+sub_cover j (star {s = s} {r = r} i c is f) ge lt = elim (cases_lt j
+    (i + 1)) [ inl early ↦ sub_cover j c ge early | inr late ↦ record { start = s; tree = Star r; covers = star i c is (omega arith) } ]
+sub_cover j (plus {s = s} {r = r} i c is f) ge lt = elim (cases_lt j
+    (i + 1)) [ inl early ↦ sub_cover j c ge early | inr late ↦ record { start = s; tree = Plus r; covers = plus i c is (omega arith) } ]
+sub_cover j (maybe {s = s} {r = r} i c is f) ge lt = elim (cases_lt j
+    (i + 1)) [ inl early ↦ sub_cover j c ge early | inr late ↦ record { start = s; tree = Maybe r; covers = maybe i c is (omega arith) } ]
 
 at_place : (nodes : List RegexNode) (i j : ℕ) (a b : RegexNode) → slice_get nodes i ≡ Some a → slice_get nodes j ≡ Some b → i ≡ j → b ≡ a
 at_place nodes i j a b e f g = same_Some b a (sym f ∙ ap (slice_get nodes) (sym g) ∙ e)
 
 -- so its parts stand before it
-pub parts_before : {nodes : List RegexNode} {s e : ℕ} {t : PositionTree} (j : ℕ) (node : RegexNode) → Covers nodes s e t → e ≡ j + 1 → slice_get nodes j ≡ Some node → PartsBelow j node
-parts_before {nodes} j node (one {s = s} words is f) g at = subst (PartsBelow j) (at_place nodes j s node (n.Set words) at is (omega arith)) tt
-parts_before {nodes} j node (seq i k c d is f) g at = let lt = covers_lt d in subst (PartsBelow j) (at_place nodes j (k + 1) node (n.Sequence i k) at is (omega arith)) (omega arith, omega arith)
-parts_before {nodes} j node (choice i k c d is f) g at = let lt = covers_lt d in subst (PartsBelow j) (at_place nodes j (k + 1) node (n.Choice i k) at is (omega arith)) (omega arith, omega arith)
-parts_before {nodes} j node (star i c is f) g at = subst (PartsBelow j) (at_place nodes j (i + 1) node (n.Star i) at is (omega arith)) (omega arith)
-parts_before {nodes} j node (plus i c is f) g at = subst (PartsBelow j) (at_place nodes j (i + 1) node (n.Plus i) at is (omega arith)) (omega arith)
-parts_before {nodes} j node (maybe i c is f) g at = subst (PartsBelow j) (at_place nodes j (i + 1) node (n.Maybe i) at is (omega arith)) (omega arith)
+pub parts_before : {nodes : List RegexNode} {s e : ℕ} {t : PositionTree} (j : ℕ) (node : RegexNode) → Covers nodes s e t → e ≡ j + 1
+    → slice_get nodes j ≡ Some node → PartsBelow j node
+parts_before {nodes} j node (one {s = s} words is f) g at =
+    subst (PartsBelow j) (at_place nodes j s node (n.Set words) at is (omega arith)) tt
+parts_before {nodes} j node (seq i k c d is f) g at = let lt = covers_lt d in subst (PartsBelow j)
+    (at_place nodes j (k + 1) node (n.Sequence i k) at is (omega arith)) (omega arith, omega arith)
+parts_before {nodes} j node (choice i k c d is f) g at = let lt = covers_lt d in subst (PartsBelow j)
+    (at_place nodes j (k + 1) node (n.Choice i k) at is (omega arith)) (omega arith, omega arith)
+parts_before {nodes} j node (star i c is f) g at =
+    subst (PartsBelow j) (at_place nodes j (i + 1) node (n.Star i) at is (omega arith)) (omega arith)
+parts_before {nodes} j node (plus i c is f) g at =
+    subst (PartsBelow j) (at_place nodes j (i + 1) node (n.Plus i) at is (omega arith)) (omega arith)
+parts_before {nodes} j node (maybe i c is f) g at =
+    subst (PartsBelow j) (at_place nodes j (i + 1) node (n.Maybe i) at is (omega arith)) (omega arith)

@@ -1,5 +1,6 @@
 -- The text of a state is that of the state that it was found from, with a byte after it.
-use Rattle.std.proofs.Common.{◌≡◌, ℕ, zero, suc, ◌+◌, ◌≤◌, ◌<◌, List, [], ◌∷◌, ◌++◌, refl, sym, ◌∙◌, ap, subst, arith, Some, length, get_or, length-append, append_assoc, reverse}
+use Rattle.std.proofs.Common.{◌≡◌, ℕ, zero, suc, ◌+◌, ◌≤◌, ◌<◌, List, [], ◌∷◌, ◌++◌, refl, sym, ◌∙◌, ap, subst, arith, Some, length, get_or}
+use Rattle.std.proofs.Common.{length-append, append_assoc, reverse}
 use Rattle.std.proofs.lemmas.List.{reverse-append}
 use Rattle.std.specs.Prelude.{slice_get, Option, None}
 use Rattle.std.proofs.lemmas.Option.{slice_get-get_or, slice_get_past, same_Some}
@@ -9,7 +10,8 @@ use Rattle.wb_automata.specs.Paths.{path_on, path_by, grown, paths_of}
 use Rattle.wb_lemmas.proofs.Places.{append_keeps}
 use Rattle.wb_automata.proofs.PlaceLemmas.{pushed_at}
 
-grown_keeps : (paths : List Path) (os : List Predecessor) (k : ℕ) (x : Path) → slice_get paths k ≡ Some x → slice_get (grown paths os) k ≡ Some x
+grown_keeps : (paths : List Path) (os : List Predecessor) (k : ℕ) (x : Path) → slice_get paths k ≡ Some x → slice_get
+    (grown paths os) k ≡ Some x
 grown_keeps paths [] k x e = e
 grown_keeps paths (o ∷ os) k x e = grown_keeps (paths ++ path_by paths o ∷ []) os k x (append_keeps paths (path_by paths o ∷ []) k x e)
 
@@ -20,7 +22,8 @@ record Entry (paths : List Path) (os : List Predecessor) (j : ℕ) (o : Predeces
   pub keeps : (k : ℕ) (x : Path) → slice_get earlier k ≡ Some x → slice_get (grown paths os) k ≡ Some x
   pub is : slice_get (grown paths os) place ≡ Some (path_by earlier o)
 
-entry : (paths : List Path) (os : List Predecessor) (j : ℕ) (o : Predecessor) (place : ℕ) → place ≡ length paths + j → slice_get os j ≡ Some o → Entry paths os j o place
+entry : (paths : List Path) (os : List Predecessor) (j : ℕ) (o : Predecessor) (place : ℕ) → place ≡ length paths + j
+    → slice_get os j ≡ Some o → Entry paths os j o place
 entry paths [] j o place e at = cc
 entry paths (p ∷ os) zero o place e at =
     let same : p ≡ o = same_Some p o at in
@@ -29,7 +32,8 @@ entry paths (p ∷ os) zero o place e at =
       earlier = paths;
       len = omega arith;
       keeps = λ k x h. grown_keeps more os k x (append_keeps paths (path_by paths p ∷ []) k x h);
-      is = grown_keeps more os place (path_by paths o) (subst (λ z. slice_get more place ≡ Some (path_by paths z)) same (pushed_at paths (path_by paths p) place (omega arith)));
+      is = grown_keeps more os place (path_by paths o) (subst (λ z. slice_get more place ≡ Some (path_by paths z)) same
+          (pushed_at paths (path_by paths p) place (omega arith)));
     }
 entry paths (p ∷ os) (suc j) o place e at =
     let more : List Path = paths ++ path_by paths p ∷ [] in
@@ -37,23 +41,31 @@ entry paths (p ∷ os) (suc j) o place e at =
     record { earlier = r.earlier; len = r.len; keeps = r.keeps; is = r.is }
 
 -- a state that was found from an earlier one
-pub text_from : (os : List Predecessor) (j : ℕ) (o : Predecessor) → slice_get os j ≡ Some o → o.from < j → (u : Path) → slice_get (paths_of os) j ≡ Some u → (v : Path) × (slice_get (paths_of os) o.from ≡ Some v) × (u.text ≡ v.text ++ o.byte ∷ [])
+pub text_from : (os : List Predecessor) (j : ℕ) (o : Predecessor) → slice_get os j ≡ Some o → o.from < j → (u : Path) → slice_get
+    (paths_of os) j ≡ Some u → (v : Path) × (slice_get (paths_of os) o.from ≡ Some v) × (u.text ≡ v.text ++ o.byte ∷ [])
 unfolding paths_of
 text_from os j o at lt u is =
     let r = entry [] os j o j (omega arith) at in
     let v : Path = get_or r.earlier o.from u in
-    let h : slice_get r.earlier o.from ≡ Some v = slice_get-get_or r.earlier o.from u (omega (arith, r.len)) in
-    (v, r.keeps o.from v h, ap (λ z. z.text) (same_Some u (record { set = o.set; text = v.text ++ o.byte ∷ [] }) (sym is ∙ r.is ∙ ap (λ z. Some (path_on z o.set o.byte)) h)))
+    let h : slice_get r.earlier o.from ≡ Some v = slice_get-get_or r.earlier o.from u (omega (arith, r.len)) in (
+      v,
+      r.keeps o.from v h,
+      ap (λ z. z.text) (same_Some u (record { set = o.set; text = v.text ++ o.byte ∷ [] })
+          (sym is ∙ r.is ∙ ap (λ z. Some (path_on z o.set o.byte)) h)),
+    )
 
 -- a state at the start of a set
-pub text_none : (os : List Predecessor) (j : ℕ) (o : Predecessor) → slice_get os j ≡ Some o → j ≤ o.from → (u : Path) → slice_get (paths_of os) j ≡ Some u → u.text ≡ []
+pub text_none : (os : List Predecessor) (j : ℕ) (o : Predecessor) → slice_get os j ≡ Some o → j ≤ o.from → (u : Path) → slice_get
+    (paths_of os) j ≡ Some u → u.text ≡ []
 unfolding paths_of
 text_none os j o at le u is =
     let r = entry [] os j o j (omega arith) at in
-    ap (λ z. z.text) (same_Some u (record { set = o.set; text = [] }) (sym is ∙ r.is ∙ ap (λ z. Some (path_on z o.set o.byte)) (slice_get_past r.earlier o.from (omega (arith, r.len)))))
+    ap (λ z. z.text) (same_Some u (record { set = o.set; text = [] })
+    (sym is ∙ r.is ∙ ap (λ z. Some (path_on z o.set o.byte)) (slice_get_past r.earlier o.from (omega (arith, r.len)))))
 
 -- the set is that of the predecessor
-pub set_at : (os : List Predecessor) (j : ℕ) (o : Predecessor) → slice_get os j ≡ Some o → (u : Path) → slice_get (paths_of os) j ≡ Some u → o.set ≡ u.set
+pub set_at : (os : List Predecessor) (j : ℕ) (o : Predecessor) → slice_get os j ≡ Some o → (u : Path) → slice_get (paths_of os) j ≡ Some u
+    → o.set ≡ u.set
 unfolding paths_of
 set_at os j o at u is =
     let r = entry [] os j o j (omega arith) at in
@@ -73,10 +85,12 @@ paths_len os = (let e = grown_len [] os in omega arith)
 
 -- what is read back of a state's text so far
 abbrev pub IsReadBack : List Predecessor → ℕ → ℕ → List ℕ → Type 0
-IsReadBack os state at bytes = (at < length os) × ((u v : Path) → slice_get (paths_of os) state ≡ Some u → slice_get (paths_of os) at ≡ Some v → u.text ≡ v.text ++ reverse bytes)
+IsReadBack os state at bytes = (at < length os) × ((u v : Path) → slice_get (paths_of os) state ≡ Some u → slice_get
+    (paths_of os) at ≡ Some v → u.text ≡ v.text ++ reverse bytes)
 
 -- one byte more is read back
-pub text_back : (os : List Predecessor) (state at : ℕ) (bytes new : List ℕ) (o : Predecessor) → slice_get os at ≡ Some o → o.from < at → new ≡ bytes ++ o.byte ∷ [] → IsReadBack os state at bytes → IsReadBack os state o.from new
+pub text_back : (os : List Predecessor) (state at : ℕ) (bytes new : List ℕ) (o : Predecessor) → slice_get os at ≡ Some o → o.from < at
+    → new ≡ bytes ++ o.byte ∷ [] → IsReadBack os state at bytes → IsReadBack os state o.from new
 text_back os state at bytes new o here lt e (within, before) = (
   omega arith,
   λ u v is is_v.
@@ -84,7 +98,8 @@ text_back os state at bytes new o here lt e (within, before) = (
       let at_w : slice_get (paths_of os) at ≡ Some w = slice_get-get_or (paths_of os) at u (omega (arith, paths_len os)) in
       let (x, is_x, joins) = text_from os at o here lt w at_w in
       let same : x ≡ v = same_Some x v (sym is_x ∙ is_v) in
-      before u w is at_w ∙ ap (λ z. z ++ reverse bytes) (joins ∙ ap (λ z. z.text ++ o.byte ∷ []) same) ∙ append_assoc v.text (o.byte ∷ []) (reverse bytes) ∙ sym (ap (λ z. v.text ++ reverse z) e ∙ ap (λ z. v.text ++ z) (reverse-append bytes (o.byte ∷ []))),
+      before u w is at_w ∙ ap (λ z. z ++ reverse bytes) (joins ∙ ap (λ z. z.text ++ o.byte ∷ []) same) ∙ append_assoc v.text (o.byte ∷ [])
+      (reverse bytes) ∙ sym (ap (λ z. v.text ++ reverse z) e ∙ ap (λ z. v.text ++ z) (reverse-append bytes (o.byte ∷ []))),
 )
 
 pub back_begin : (os : List Predecessor) (state : ℕ) → state < length os → IsReadBack os state state []

@@ -41,7 +41,8 @@ pub record GoesOn (automaton : AutomatonView) (set : ℕ) (text : List ℕ) : Ty
 
 -- whatever is put after both texts, the same terminals match, each of its set
 abbrev pub AreAlike : AutomatonView → Path → Path → Type 0
-AreAlike automaton p q = (terminal : ℕ) (rest : List ℕ) → MatchesIn automaton p.set terminal (p.text ++ rest) ↔ MatchesIn automaton q.set terminal (q.text ++ rest)
+AreAlike automaton p q = (terminal : ℕ) (rest : List ℕ) → MatchesIn automaton p.set terminal
+    (p.text ++ rest) ↔ MatchesIn automaton q.set terminal (q.text ++ rest)
 
 -- the text leads from the start of the set to the state: it is alike to the path by which the state was found
 pub record LeadsTo (automaton : AutomatonView) (set : ℕ) (text : List ℕ) (state : ℕ) : Type 0 where

@@ -21,7 +21,7 @@ module _ {L A P O : Type 0} (nodes : List (Node L A P O)) where
   IsOfNode (n.Call name places) e = (es : Expressions L A P O) × AllStand nodes places es × (e ≡ Call name es)
   IsOfNode (n.If c h f) e =
       (x : Expression L A P O) × (y : Expression L A P O) × (z : Expression L A P O) × Stands nodes c x × Stands nodes h y
-          × Stands nodes f z × (e ≡ If x y z)
+      × Stands nodes f z × (e ≡ If x y z)
 
   -- one node stands at a place
   one_node : (at : ℕ) (a b : Node L A P O) → HasNode nodes at a → HasNode nodes at b → a ≡ b

@@ -58,14 +58,14 @@ module _ {L A P O : Type 0} where
           at_place m at (n.If c x f) h
           ∙ (ap (λ a. If a (expression_at nodes m x) (expression_at nodes m f)) (at_stands m c q i (omega (arith, l)))
           ∙ (ap (λ a. If q a (expression_at nodes m f)) (at_stands m x y j (omega (arith, l))) ∙ ap (λ a. If q y a)
-              (at_stands m f z k (omega (arith, l)))))
+          (at_stands m f z k (omega (arith, l)))))
 
       all_stand : (m : ℕ) (places : List ℕ) (es : Expressions L A P O) → AllStand nodes places es → size_of_all es ≤ m → all_at
           (expression_at nodes m) places ≡ es
       all_stand m places es p.nothing l = refl
       all_stand m places es (p.next {at = at} {places = ps} {e = e} {es = rest} s all) l =
           ap (λ x. more x (all_at (expression_at nodes m) ps)) (at_stands m at e s (omega (arith, l))) ∙ ap (λ x. more e x)
-              (all_stand m ps rest all (omega (arith, l)))
+          (all_stand m ps rest all (omega (arith, l)))
 
   -- nodes are those of one expression
   pub one_expression : (nodes : List (Node L A P O)) (e f : Expression L A P O) → nodes ≡ nodes_of e → nodes ≡ nodes_of f → e ≡ f

@@ -37,7 +37,7 @@ module _ {L A P O : Type 0} where
       let rest = places_before (at + size e) es in
       All-cons (λ place. place < at + (size e + size_of_all es)) (at + size e - 1) (places_from (at + size e) es) (omega (arith, some))
       (All-weaker (λ place. place < at + size e + size_of_all es) (λ place. place < at + (size e + size_of_all es))
-          (λ x h. omega (arith, h)) (places_from (at + size e) es) rest)
+      (λ x h. omega (arith, h)) (places_from (at + size e) es) rest)
 
   mutual
     nodes_before : (at : ℕ) (e : Expression L A P O) → AreBefore at (nodes_from at e)
@@ -51,10 +51,10 @@ module _ {L A P O : Type 0} where
     nodes_before at (Forward a) = before_one at (n.Forward a) (All-nil (λ part. part < at))
     nodes_before at (Build name es) =
         before_last at (all_nodes_from at es) (n.Build name (places_from at es)) (size_of_all es) (all_nodes_len at es)
-            (all_nodes_before at es) (places_before at es)
+        (all_nodes_before at es) (places_before at es)
     nodes_before at (Call name es) =
         before_last at (all_nodes_from at es) (n.Call name (places_from at es)) (size_of_all es) (all_nodes_len at es)
-            (all_nodes_before at es) (places_before at es)
+        (all_nodes_before at es) (places_before at es)
     nodes_before at (If c h f) =
         let x = nodes_from at c in
         let y = nodes_from (at + size c) h in
@@ -65,7 +65,7 @@ module _ {L A P O : Type 0} where
         let j = size_some h in
         let k = size_some f in
         let parts = All-cons below (at + size c - 1) ((at + size c + size h - 1) ∷ (at + size c + size h + size f - 1) ∷ [])
-            (omega (arith, i))
+        (omega (arith, i))
         (All-cons below (at + size c + size h - 1) ((at + size c + size h + size f - 1) ∷ []) (omega (arith, j))
         (All-cons below (at + size c + size h + size f - 1) [] (omega (arith, k)) (All-nil below))) in
         let lx = nodes_len at c in
@@ -76,13 +76,13 @@ module _ {L A P O : Type 0} where
         let three = before_append at (x ++ y) z (at + size c + size h) (omega (arith, lt)) two (nodes_before (at + size c + size h) f) in
         let lw : length (x ++ y ++ z) ≡ size c + size h + size f = omega (arith, lt, lz, length-append (x ++ y) z) in
         before_last at (x ++ y ++ z) whole (size c + size h + size f) lw three
-            (All-weaker below (λ part. part < at + (size c + size h + size f)) (λ part l. omega (arith, l)) (parts_of whole) parts)
+        (All-weaker below (λ part. part < at + (size c + size h + size f)) (λ part l. omega (arith, l)) (parts_of whole) parts)
 
     all_nodes_before : (at : ℕ) (es : Expressions L A P O) → AreBefore at (all_nodes_from at es)
     all_nodes_before at none = tt
     all_nodes_before at (more e es) =
         before_append at (nodes_from at e) (all_nodes_from (at + size e) es) (at + size e) (omega (arith, nodes_len at e))
-            (nodes_before at e) (all_nodes_before (at + size e) es)
+        (nodes_before at e) (all_nodes_before (at + size e) es)
 
   -- the parts of the node at a place
   before_at : (at : ℕ) (nodes : List (Node L A P O)) (k : ℕ) (d : Node L A P O) → AreBefore at nodes → k < length nodes → All

@@ -24,7 +24,7 @@ module _ {L A P O : Type 0} (nodes : List (Node L A P O)) where
       → at ≡ length front + length inner → HasNode nodes at node
   last_at front inner back node at q l =
       node_at (front ++ inner) back node at (q ∙ (ap (λ (x : List (Node L A P O)). front ++ x) (append_assoc inner (node ∷ []) back) ∙ sym
-          (append_assoc front inner (node ∷ back))))
+      (append_assoc front inner (node ∷ back))))
       (omega (arith, l, length-append front inner))
 
   mutual
@@ -60,7 +60,7 @@ module _ {L A P O : Type 0} (nodes : List (Node L A P O)) where
         let qw : nodes ≡ (((front ++ x) ++ y) ++ z) ++ whole ∷ back = qz ∙ sym (append_assoc ((front ++ x) ++ y) z (whole ∷ back)) in
         let lx : length (front ++ x) ≡ at + size c = omega (arith, l, length-append front x, nodes_len at c) in
         let ly : length ((front ++ x) ++ y) ≡ at + size c + size h = omega
-            (arith, lx, length-append (front ++ x) y, nodes_len (at + size c) h) in
+        (arith, lx, length-append (front ++ x) y, nodes_len (at + size c) h) in
         let lz : length (((front ++ x) ++ y) ++ z) ≡ at + size c + size h + size f
         = omega (arith, ly, length-append ((front ++ x) ++ y) z, nodes_len (at + size c + size h) f) in
         Stands.if_then (node_at (((front ++ x) ++ y) ++ z) back whole (at + suc (size c + size h + size f) - 1) qw (omega (arith, lz)))

@@ -1,5 +1,6 @@
 -- Unit cycles by an order or a cycle of the edges to nonterminals beside which all derives the empty text.
-use Rattle.std.proofs.Common.{◌≡◌, ℕ, ◌+◌, ◌-◌, ◌<◌, Bool, true, false, List, [], ◌∷◌, ◌++◌, length, Some, refl, ◌∙◌, ap, subst, inl, inr, arith}
+use Rattle.std.proofs.Common.{◌≡◌, ℕ, ◌+◌, ◌-◌, ◌<◌, Bool, true, false, List, [], ◌∷◌, ◌++◌, length, Some, refl, ◌∙◌, ap, subst, inl, inr}
+use Rattle.std.proofs.Common.{arith}
 use Rattle.std.specs.Prelude.{All, Contains, slice_get}
 use Rattle.std.proofs.lemmas.List.Elements.{All-head, All-tail, All-cons, All-nil}
 use Rattle.std.proofs.lemmas.Option.{slice_get-get_or}
@@ -26,7 +27,7 @@ held_empty g s set [] all = done
 held_empty g s set (Terminal t ∷ w) all = (let bad : false ≡ true = All-head (Holds false s) (Terminal t) w all in cc)
 held_empty g s set (Nonterminal a ∷ w) all =
     Derives-append ((set.each a).0 (All-head (Holds false s) (Nonterminal a) w all))
-        (held_empty g s set w (All-tail (Holds false s) (Nonterminal a) w all))
+    (held_empty g s set w (All-tail (Holds false s) (Nonterminal a) w all))
 
 -- and the other way round
 pub empty_held : (g : GrammarView) (s : List Bool) → IsNullableSet g s → (w : List Symbol) → Derives g w [] → All (Holds false s) w

@@ -1,8 +1,10 @@
 -- The edges that productions make.
-use Rattle.std.proofs.Common.{◌≡◌, ℕ, ◌+◌, ◌<◌, ◌≤◌, ◌⊎◌, zero, suc, Bool, List, [], ◌∷◌, ◌++◌, length, get_or, sym, ap, subst, inl, inr, arith}
+use Rattle.std.proofs.Common.{◌≡◌, ℕ, ◌+◌, ◌<◌, ◌≤◌, ◌⊎◌, zero, suc, Bool, List, [], ◌∷◌, ◌++◌, length, get_or, sym, ap, subst, inl, inr}
+use Rattle.std.proofs.Common.{arith}
 use Rattle.std.specs.Prelude.{All, Contains, ◌↔◌}
 use Rattle.std.proofs.lemmas.Bool.{cases_lt}
-use Rattle.std.proofs.lemmas.List.Elements.{Contains-append_left, Contains-append_right, Contains-append_cases, Contains-get_or, All-contains}
+use Rattle.std.proofs.lemmas.List.Elements.{Contains-append_left, Contains-append_right, Contains-append_cases, Contains-get_or}
+use Rattle.std.proofs.lemmas.List.Elements.{All-contains}
 use Rattle.wb_base.specs.declared.symbol.Symbol.{Symbol}
 use Rattle.wb_base.specs.declared.symbol.Symbol.TheVariants.{Terminal, Nonterminal}
 use Rattle.wb_base.specs.Grammar.{GrammarView, IsGrammar, IsSymbolBelow}
@@ -76,7 +78,7 @@ edges_more occurrence g nullable edges p left right symbols rule placed before =
           let same : e.p ≡ p = omega arith in
           let r = production_once g p a left e.right right (subst (λ z. IsProduction g z a e.right) same e.rule) rule in
           let there : Contains symbols (Nonterminal b) = (placed (Nonterminal b)).1
-              (subst (λ z. IsPlaced occurrence nullable z (Nonterminal b)) r.1 e.placed) in
+          (subst (λ z. IsPlaced occurrence nullable z (Nonterminal b)) r.1 e.placed) in
           Contains-append_right edges (edges_of left symbols) (a, b)
           (subst (λ z. Contains (edges_of left symbols) (z, b)) (sym r.0) (edges_of_back left symbols b there))
     ]
@@ -89,9 +91,11 @@ edges_exact occurrence g nullable edges limit le are a b =
 edge_below : (occurrence : Occurrence) (g : GrammarView) (nullable : List Bool) (a b : ℕ) → IsGrammar g →
     IsEdgeBy occurrence g nullable a b → IsEdgeBelow g.nonterminals (a, b)
 edge_below occurrence g nullable a b ok e =
-    let below = production_below g e.p a e.right ok e.rule in
-    (below.left, All-contains (IsSymbolBelow g.terminals g.nonterminals) e.right (Nonterminal b) below.right
-        (placed_within e.right e.placed.before e.placed.after (Nonterminal b) e.placed.is))
+    let below = production_below g e.p a e.right ok e.rule in (
+      below.left,
+      All-contains (IsSymbolBelow g.terminals g.nonterminals) e.right (Nonterminal b) below.right
+          (placed_within e.right e.placed.before e.placed.after (Nonterminal b) e.placed.is),
+    )
 
 pub edges_below : (occurrence : Occurrence) (g : GrammarView) (nullable : List Bool) (edges : List Edge) → IsGrammar g →
     AreEdges occurrence g nullable edges → All (IsEdgeBelow g.nonterminals) edges

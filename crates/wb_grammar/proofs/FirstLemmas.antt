@@ -1,5 +1,6 @@
 -- First sets: what can begin symbols by them, and when they are First.
-use Rattle.std.proofs.Common.{◌≡◌, ℕ, ◌+◌, ◌-◌, zero, suc, ◌<◌, ◌≤◌, ◌⊎◌, Bool, true, false, List, [], ◌∷◌, ◌++◌, length, get_or, set, replicate, refl, sym, ◌∙◌, ap, get_or-set_same, get_or-set_other, inl, inr, arith}
+use Rattle.std.proofs.Common.{◌≡◌, ℕ, ◌+◌, ◌-◌, zero, suc, ◌<◌, ◌≤◌, ◌⊎◌, Bool, true, false, List, [], ◌∷◌, ◌++◌, length, get_or, set}
+use Rattle.std.proofs.Common.{replicate, refl, sym, ◌∙◌, ap, get_or-set_same, get_or-set_other, inl, inr, arith}
 use Rattle.std.specs.Prelude.{All, ◌↔◌}
 use Rattle.std.proofs.lemmas.List.{get_or-replicate, get_or_past, length-replicate}
 use Rattle.std.proofs.lemmas.List.Elements.{All-head, All-tail}
@@ -39,7 +40,7 @@ room_mono [] (y ∷ new) e h n p q = absurd (omega arith)
 room_mono (x ∷ old) [] e h n p q = absurd (omega arith)
 room_mono (x ∷ old) (y ∷ new) e h n p q =
     let rest = room_mono old new (omega arith) (λ a. h (suc a)) n (All-tail (λ r. length r ≡ n) x old p)
-        (All-tail (λ r. length r ≡ n) y new q) in
+    (All-tail (λ r. length r ≡ n) y new q) in
     let a : length x ≡ n = All-head (λ r. length r ≡ n) x old p in
     let b : length y ≡ n = All-head (λ r. length r ≡ n) y new q in
     let more : members x ≤ members y = members_mono x y (a ∙ sym b) (h 0) in
@@ -52,14 +53,14 @@ room_grow [] (y ∷ new) a e h n p q grew = absurd (omega arith)
 room_grow (x ∷ old) [] a e h n p q grew = absurd (omega arith)
 room_grow (x ∷ old) (y ∷ new) zero e h n p q grew =
     let rest = room_mono old new (omega arith) (λ a. h (suc a)) n (All-tail (λ r. length r ≡ n) x old p)
-        (All-tail (λ r. length r ≡ n) y new q) in
+    (All-tail (λ r. length r ≡ n) y new q) in
     let a : length x ≡ n = All-head (λ r. length r ≡ n) x old p in
     let b : length y ≡ n = All-head (λ r. length r ≡ n) y new q in
     let more : members x < members y = members_grow x y (a ∙ sym b) (h 0) grew in
     omega (arith, members_le y, rest)
 room_grow (x ∷ old) (y ∷ new) (suc a) e h n p q grew =
     let rest = room_grow old new a (omega arith) (λ a. h (suc a)) n (All-tail (λ r. length r ≡ n) x old p)
-        (All-tail (λ r. length r ≡ n) y new q) grew in
+    (All-tail (λ r. length r ≡ n) y new q) grew in
     let a : length x ≡ n = All-head (λ r. length r ≡ n) x old p in
     let b : length y ≡ n = All-head (λ r. length r ≡ n) y new q in
     let more : members x ≤ members y = members_mono x y (a ∙ sym b) (h 0) in
@@ -138,6 +139,6 @@ pub no_members : (g : GrammarView) (n m : ℕ) → AreFirsts g (replicate n (rep
 no_members g n m a t has = elim (cases_lt a n) [
   | inl lt ↦ absurd (IsEmpty-replicate m t (ap (λ s. get_or s t false) (sym (get_or-replicate n a (replicate m false) [] lt)) ∙ has))
   | inr past ↦ absurd (true≢false
-        (sym has ∙ ap (λ s. get_or s t false)
-        (get_or_past (replicate n (replicate m false)) a [] (omega (arith, length-replicate n (replicate m false))))))
+      (sym has ∙ ap (λ s. get_or s t false)
+      (get_or_past (replicate n (replicate m false)) a [] (omega (arith, length-replicate n (replicate m false))))))
 ]

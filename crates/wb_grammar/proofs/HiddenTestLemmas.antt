@@ -1,5 +1,6 @@
 -- Hidden left recursion by paths of corners from the end of a hidden corner back to where it begins.
-use Rattle.std.proofs.Common.{◌≡◌, ℕ, ◌+◌, ◌-◌, ◌<◌, Bool, List, [], ◌∷◌, ◌++◌, length, length-append, Some, refl, sym, ◌∙◌, ap, subst, inl, inr, arith}
+use Rattle.std.proofs.Common.{◌≡◌, ℕ, ◌+◌, ◌-◌, ◌<◌, Bool, List, [], ◌∷◌, ◌++◌, length, length-append, Some, refl, sym, ◌∙◌, ap, subst, inl}
+use Rattle.std.proofs.Common.{inr, arith}
 use Rattle.std.specs.Prelude.{Contains, slice_get}
 use Rattle.std.proofs.lemmas.Option.{slice_get_within}
 use Rattle.wb_lemmas.proofs.Places.{at_push, push_keeps, push_last}
@@ -56,8 +57,12 @@ hidden_edge g s set a b c = record {
   p = c.corner.p;
   right = c.corner.before ++ Nonterminal b ∷ c.corner.after;
   rule = c.corner.rule;
-  placed = record { before = c.corner.before; after = c.corner.after; is = refl;
-      fits = (empty_held g s set c.corner.before c.corner.before_empty, c.hides) };
+  placed = record {
+    before = c.corner.before;
+    after = c.corner.after;
+    is = refl;
+    fits = (empty_held g s set c.corner.before c.corner.before_empty, c.hides);
+  };
 }
 
 -- walks in a row
@@ -82,12 +87,22 @@ record Around (g : GrammarView) (corners : List Edge) (a b : ℕ) : Type 0 where
 hidden_around : (g : GrammarView) (s : List Bool) (corners : List Edge) → IsNullableSet g s → AreEdges LeftCorner g s corners → {a b : ℕ} →
     HiddenWalk g a b → Around g corners a b
 hidden_around g s corners set are (last {a} {b} h) = record { above = a; below = b; hidden = h; before = stay a refl; after = stay b refl }
-hidden_around g s corners set are (here {a} {b} {c} h rest) = record { above = a; below = b; hidden = h; before = stay a refl;
-    after = corner_walk g s corners set are rest }
+hidden_around g s corners set are (here {a} {b} {c} h rest) = record {
+  above = a;
+  below = b;
+  hidden = h;
+  before = stay a refl;
+  after = corner_walk g s corners set are rest;
+}
 hidden_around g s corners set are (later {a} {b} {c} first rest) =
     let r = hidden_around g s corners set are rest in
-    record { above = r.above; below = r.below; hidden = r.hidden; before = walk_from ((are a b).1 (corner_edge g s set a b first)) r.before;
-        after = r.after }
+    record {
+      above = r.above;
+      below = r.below;
+      hidden = r.hidden;
+      before = walk_from ((are a b).1 (corner_edge g s set a b first)) r.before;
+      after = r.after;
+    }
 
 -- where no walk leads back from a hidden corner there is no hidden left recursion
 pub no_hidden : (g : GrammarView) (s : List Bool) (corners hidden : List Edge) → IsNullableSet g s → AreEdges LeftCorner g s corners →
@@ -114,7 +129,7 @@ path_last {from = from} (alone {list} {v} is same) =
     ap (λ n. slice_get list n) e ∙ (ap (λ l. slice_get l 0) is ∙ ap Some (sym same))
 path_last (longer shorter u {list} {v} p edge new is) =
     let e : length list - 1 ≡ length shorter = (let l : length list ≡ length shorter + 1 = ap length is ∙
-        length-append shorter (v ∷ []) in omega arith) in
+    length-append shorter (v ∷ []) in omega arith) in
     ap (λ n. slice_get list n) e ∙ (ap (λ l. slice_get l (length shorter)) is ∙ push_last shorter v)
 
 same_vertex : (list : List ℕ) (i x y : ℕ) → slice_get list i ≡ Some x → slice_get list i ≡ Some y → x ≡ y
@@ -135,14 +150,14 @@ path_steps {edges} {from} (longer shorter u {list} {v} p edge new is) i a b at_a
           elim (at_push shorter v a i a_there) [
             | inl a_old ↦ path_steps p i a b a_old b_old
             | inr a_new ↦ (let lt : i + 1 < length shorter = slice_get_within shorter (i + 1) b b_old in let at : i ≡ length shorter =
-                  a_new.0 in absurd (omega arith))
+                a_new.0 in absurd (omega arith))
           ]
       | inr b_new ↦
           elim (at_push shorter v a i a_there) [
             | inl a_old ↦
                 let at : i ≡ length shorter - 1 = (let h : i + 1 ≡ length shorter = b_new.0 in omega arith) in
                 let same : a ≡ u = same_vertex shorter (length shorter - 1) a u (subst (λ n. slice_get shorter n ≡ Some a) at a_old)
-                    (path_last p) in
+                (path_last p) in
                 subst (λ z. IsEdge edges z b) (sym same) (subst (λ z. IsEdge edges u z) b_new.1 edge)
             | inr a_new ↦ (let h : i + 1 ≡ length shorter = b_new.0 in let at : i ≡ length shorter = a_new.0 in absurd (omega arith))
           ]
@@ -193,7 +208,7 @@ path_cycle g s corners hidden list set are_corners are_hidden (above, below, wit
       | inr around ↦
           let at : f.place ≡ length list - 1 = (let h : f.place + 1 ≡ length list = around.0 in omega arith) in
           let a_is : a ≡ above = same_vertex list (length list - 1) a above (subst (λ n. slice_get list n ≡ Some a) at f.one)
-              (path_last path) in
+          (path_last path) in
           let b_is : b ≡ below = same_vertex list 0 b below around.1 (path_first path) in
           subst (λ z. IsLeftCorner g z b) (sym a_is) (subst (λ z. IsLeftCorner g above z) (sym b_is) hidden_corner.corner)
     ]
@@ -204,5 +219,15 @@ pub hidden_corners : (g : GrammarView) (s : List Bool) (corners hidden : List Ed
     Contains corners (a, b)
 hidden_corners g s corners hidden are_corners are_hidden a b h =
     let e = (are_hidden a b).0 h in
-    (are_corners a b).1 (record { p = e.p; right = e.right; rule = e.rule; placed = record { before = e.placed.before; after =
-        e.placed.after; is = e.placed.is; fits = e.placed.fits.0 } })
+    (are_corners a b).1 (record {
+      p = e.p;
+      right = e.right;
+      rule = e.rule;
+      placed = record {
+        before = e.placed.before;
+        after =
+            e.placed.after;
+        is = e.placed.is;
+        fits = e.placed.fits.0;
+      };
+    })

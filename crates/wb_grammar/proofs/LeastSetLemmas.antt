@@ -11,7 +11,8 @@ use Rattle.wb_grammars.specs.Derives.{Derives, done, keep, expand, IsText, empty
 use Rattle.wb_grammars.specs.Shape.{IsProductive}
 use Rattle.wb_grammars.proofs.DerivesLemmas.{nil_parts}
 use Rattle.wb_grammars.proofs.TreeLemmas.{text_left, text_right}
-use Rattle.wb_grammar.specs.Inner.LeastSets.{Generates, nothing, terminal, nonterminal, Holds, IsKnown, AreGenerated, IsClosedAt, IsLeastSet}
+use Rattle.wb_grammar.specs.Inner.LeastSets.{Generates, nothing, terminal, nonterminal, Holds, IsKnown, AreGenerated, IsClosedAt}
+use Rattle.wb_grammar.specs.Inner.LeastSets.{IsLeastSet}
 use Rattle.wb_grammar.specs.Facts.{IsNullableSet}
 
 -- what a sound set holds is generated
@@ -20,10 +21,10 @@ pub generated_within : (g : GrammarView) (terminals : Bool) (set : List Bool) �
 generated_within g terminals set sound [] all = nothing
 generated_within g terminals set sound (Terminal t ∷ w) all =
     terminal t (All-head (Holds terminals set) (Terminal t) w all)
-        (generated_within g terminals set sound w (All-tail (Holds terminals set) (Terminal t) w all))
+    (generated_within g terminals set sound w (All-tail (Holds terminals set) (Terminal t) w all))
 generated_within g terminals set sound (Nonterminal a ∷ w) all =
     more (sound a (All-head (Holds terminals set) (Nonterminal a) w all))
-        (generated_within g terminals set sound w (All-tail (Holds terminals set) (Nonterminal a) w all))
+    (generated_within g terminals set sound w (All-tail (Holds terminals set) (Nonterminal a) w all))
   where
     more : Generates g terminals (Nonterminal a ∷ []) → Generates g terminals w → Generates g terminals (Nonterminal a ∷ w)
     more (nonterminal p _ right rule below rest) rest_generated = nonterminal p a right rule below rest_generated
@@ -36,7 +37,7 @@ within_closed terminals set closed (terminal t passes rest) = All-cons (Holds te
     (within_closed terminals set closed rest)
 within_closed terminals set closed (nonterminal p a right rule below rest) =
     All-cons (Holds terminals set) (Nonterminal a) _ (closed p a right rule (within_closed terminals set closed below))
-        (within_closed terminals set closed rest)
+    (within_closed terminals set closed rest)
 
 -- a sound and closed set is that of what is generated
 pub least_set_is : (g : GrammarView) (terminals : Bool) (set : List Bool) → length set ≡ g.nonterminals → AreGenerated g terminals set →
@@ -93,8 +94,11 @@ generated_text (terminal t passes rest) =
 generated_text (nonterminal p a right rule below rest) =
     let b = generated_text below in
     let r = generated_text rest in
-    record { text = b.text ++ r.text; derived = expand p a right b.text r.text rule b.derived r.derived refl;
-        is_text = text_joined b.is_text r.is_text }
+    record {
+      text = b.text ++ r.text;
+      derived = expand p a right b.text r.text rule b.derived r.derived refl;
+      is_text = text_joined b.is_text r.is_text;
+    }
 
 text_generated : {g : GrammarView} {w v : List Symbol} → Derives g w v → IsText v → Generates g true w
 text_generated done h = nothing

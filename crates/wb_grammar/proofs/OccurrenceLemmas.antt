@@ -1,5 +1,6 @@
 -- The places of a right side that each of its parts has.
-use Rattle.std.proofs.Common.{length-drop, ◌≡◌, ◌≢◌, ℕ, ◌+◌, ◌-◌, ◌<◌, ◌≤◌, ◌⊎◌, zero, suc, Bool, false, List, [], ◌∷◌, ◌++◌, length, get_or, take, drop, refl, sym, ◌∙◌, ap, subst, inl, inr, arith}
+use Rattle.std.proofs.Common.{length-drop, ◌≡◌, ◌≢◌, ℕ, ◌+◌, ◌-◌, ◌<◌, ◌≤◌, ◌⊎◌, zero, suc, Bool, false, List, [], ◌∷◌, ◌++◌, length}
+use Rattle.std.proofs.Common.{get_or, take, drop, refl, sym, ◌∙◌, ap, subst, inl, inr, arith}
 use Rattle.std.specs.Prelude.{All, Contains, ◌↔◌}
 use Rattle.std.proofs.lemmas.List.{take_all, drop_all}
 use Rattle.std.proofs.Math.Seq.{drop-cons}
@@ -73,8 +74,12 @@ hidden_there over x h = absurd (contains_nil x h)
 hidden_there (stops denied) x h = absurd (contains_nil x h)
 hidden_there {s} (goes_on {x = y} {w} {count} held lead) x h =
     let p = corner_there lead x h in
-    record { before = y ∷ p.before; after = p.after; is = ap (λ z. y ∷ z) p.is;
-        fits = (All-cons (Holds false s) y p.before held p.fits, λ e. nonempty y p.before e) }
+    record {
+      before = y ∷ p.before;
+      after = p.after;
+      is = ap (λ z. y ∷ z) p.is;
+      fits = (All-cons (Holds false s) y p.before held p.fits, λ e. nonempty y p.before e);
+    }
   where
     nonempty : (y : Symbol) (w : List Symbol) → y ∷ w ≡ [] → ⊥
     nonempty y w e = cc
@@ -126,12 +131,20 @@ leading_some {s} (goes_on {x = y} {w} {count} held lead) lt all = leading_some l
 unit_all : (s : List Bool) (w : List Symbol) → All (Holds false s) w → (x : Symbol) → Contains w x → IsPlaced Unit s w x
 unit_all s [] all x h = absurd (contains_nil x h)
 unit_all s (y ∷ w) all x h = elim (contains_cases y w x h) [
-  | inl first ↦ record { before = []; after = w; is = ap (λ z. z ∷ w) first;
-        fits = (All-nil (Holds false s), All-tail (Holds false s) y w all) }
+  | inl first ↦ record {
+    before = [];
+    after = w;
+    is = ap (λ z. z ∷ w) first;
+    fits = (All-nil (Holds false s), All-tail (Holds false s) y w all);
+  }
   | inr rest ↦
       let p = unit_all s w (All-tail (Holds false s) y w all) x rest in
-      record { before = y ∷ p.before; after = p.after; is = ap (λ z. y ∷ z) p.is;
-          fits = (All-cons (Holds false s) y p.before (All-head (Holds false s) y w all) p.fits.0, p.fits.1) }
+      record {
+        before = y ∷ p.before;
+        after = p.after;
+        is = ap (λ z. y ∷ z) p.is;
+        fits = (All-cons (Holds false s) y p.before (All-head (Holds false s) y w all) p.fits.0, p.fits.1);
+      }
 ]
 
 -- a placed symbol is one of the symbols
@@ -153,8 +166,12 @@ one_there {s} (stops {x = y} {w} denied) lt all x h = elim (contains_cases y (ta
 ]
 one_there {s} (goes_on {x = y} {w} {count} held lead) lt all x h =
     let p = one_there lead (omega arith) all x h in
-    record { before = y ∷ p.before; after = p.after; is = ap (λ z. y ∷ z) p.is;
-        fits = (All-cons (Holds false s) y p.before held p.fits.0, p.fits.1) }
+    record {
+      before = y ∷ p.before;
+      after = p.after;
+      is = ap (λ z. y ∷ z) p.is;
+      fits = (All-cons (Holds false s) y p.before held p.fits.0, p.fits.1);
+    }
 
 one_back : {s : List Bool} {w : List Symbol} {k : ℕ} → IsLeading s w k → k < length w → (x : Symbol) (before after : List Symbol) →
     w ≡ before ++ x ∷ after → All (Holds false s) before → All (Holds false s) after →
@@ -197,8 +214,8 @@ leads_more s w i d lt held leads r lead =
     let e : i + suc r ≡ (i + 1) + r = omega arith in
     let n : i + 1 ≡ suc i = omega arith in
     subst (IsLeading s w) e
-        (leads (suc r) (subst (λ z. IsLeading s z (suc r)) (sym (drop-cons w i d lt))
-        (goes_on held (subst (λ m. IsLeading s (drop m w) r) n lead))))
+    (leads (suc r) (subst (λ z. IsLeading s z (suc r)) (sym (drop-cons w i d lt))
+    (goes_on held (subst (λ m. IsLeading s (drop m w) r) n lead))))
 
 pub leads_stop : (s : List Bool) (w : List Symbol) (i : ℕ) (d : Symbol) → i < length w → ¬ Holds false s (get_or w i d) → LeadsFrom s w i →
     IsLeading s w i

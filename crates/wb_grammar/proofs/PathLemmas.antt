@@ -1,5 +1,6 @@
 -- Trails, the paths that they give, and what is not met by one.
-use Rattle.std.proofs.Common.{◌≡◌, ◌≢◌, ℕ, ◌+◌, ◌-◌, ◌<◌, ◌≤◌, zero, suc, List, [], ◌∷◌, ◌++◌, length, get_or, set, replicate, Some, refl, sym, ◌∙◌, ap, subst, inl, inr, arith, get_or-set_same, get_or-set_other}
+use Rattle.std.proofs.Common.{◌≡◌, ◌≢◌, ℕ, ◌+◌, ◌-◌, ◌<◌, ◌≤◌, zero, suc, List, [], ◌∷◌, ◌++◌, length, get_or, set, replicate, Some, refl}
+use Rattle.std.proofs.Common.{sym, ◌∙◌, ap, subst, inl, inr, arith, get_or-set_same, get_or-set_other}
 use Rattle.std.specs.Prelude.{Contains, slice_get, slice_index}
 use Rattle.std.proofs.lemmas.Option.{slice_get_within, slice_get-get_or, same_Some}
 use Rattle.std.proofs.lemmas.Bool.{cases_eq, cases_lt}
@@ -87,8 +88,12 @@ trail_more edges to places trail above below edge lt unmet met_below t = record 
     each i link at ne = elim (at_push trail (above, slice_index places below - 1) link i at) [
       | inl old ↦
           let b = t.each i link old ne in
-          record { lower = b.lower; above = b.above; there = push_keeps trail (above, slice_index places below - 1) link.1 b.above b.there;
-              edge = b.edge }
+          record {
+            lower = b.lower;
+            above = b.above;
+            there = push_keeps trail (above, slice_index places below - 1) link.1 b.above b.there;
+            edge = b.edge;
+          }
       | inr new_link ↦
           subst (λ (n : ℕ). LeadsBack edges (trail ++ (above, slice_index places below - 1) ∷ []) n link) (sym new_link.0)
           (subst (λ (l : ℕ × ℕ). LeadsBack edges (trail ++ (above, slice_index places below - 1) ∷ []) (length trail) l) new_link.1 back_of)
@@ -99,11 +104,13 @@ trail_more edges to places trail above below edge lt unmet met_below t = record 
     met v i at = elim (cases_eq v above) [
       | inl same ↦
           let e : slice_index (set places above (length trail + 1)) v ≡ length trail + 1 = rw same
-              (get_or-set_same places above (length trail + 1) 0 lt) in
-          let z : length trail ≡ i = omega arith in
-          ((above, slice_index places below - 1),
-              subst (λ n. slice_get (trail ++ (above, slice_index places below - 1) ∷ []) n ≡ Some (above, slice_index places below - 1)) z
-              (push_last trail (above, slice_index places below - 1)), sym same)
+          (get_or-set_same places above (length trail + 1) 0 lt) in
+          let z : length trail ≡ i = omega arith in (
+            (above, slice_index places below - 1),
+            subst (λ n. slice_get (trail ++ (above, slice_index places below - 1) ∷ []) n ≡ Some (above, slice_index places below - 1)) z
+                (push_last trail (above, slice_index places below - 1)),
+            sym same,
+          )
       | inr other ↦
           let e : slice_index places v ≡ i + 1 = sym (get_or-set_other places above v (length trail + 1) 0 other) ∙ at in
           let (link, there, is) = t.met v i e in
@@ -195,8 +202,14 @@ goes_more trail place path at d e lt ne lt' goes edges to places link last t a b
 
     from : AreFrom trail x.1 (path ++ (get_or trail x.1 e).0 ∷ [])
     from v has = elim (contains_push path (get_or trail x.1 e).0 v has) [
-      | inl old ↦ (let (i, other, le, there, one) = so_far.1 v old in (i, other, (let lower : x.1 < at =
-            back.lower in omega (arith, lower, le)), there, one))
+      | inl old ↦ (let (i, other, le, there, one) = so_far.1 v old in (
+        i,
+        other,
+        (let lower : x.1 < at =
+            back.lower in omega (arith, lower, le)),
+        there,
+        one,
+      ))
       | inr new ↦ (x.1, get_or trail x.1 e, omega arith, here, new)
     ]
 

@@ -21,17 +21,21 @@ walk_from edge (step x w walk last) = step x w (walk_from edge walk) last
 -- the start derives symbols with what a walk leads to
 walk_reaches : (g : GrammarView) (s : List Bool) (edges : List Edge) → AreEdges Any g s edges → {v : ℕ} → Walk edges g.start v →
     IsReachable g v
-walk_reaches g s edges are (stay v same) = ([], [], subst (λ z. Derives g (Nonterminal g.start ∷ []) (Nonterminal z ∷ [])) same
-    (Derives-same g (Nonterminal g.start ∷ [])))
+walk_reaches g s edges are (stay v same) = (
+  [],
+  [],
+  subst (λ z. Derives g (Nonterminal g.start ∷ []) (Nonterminal z ∷ [])) same
+      (Derives-same g (Nonterminal g.start ∷ [])),
+)
 walk_reaches g s edges are (step a b walk edge) =
     let (u, v, r) = walk_reaches g s edges are walk in
     let e = (are a b).0 edge in
     let p = e.placed in
     let inner : Derives g (Nonterminal a ∷ v) ((p.before ++ Nonterminal b ∷ p.after) ++ v) =
     expand e.p a e.right (p.before ++ Nonterminal b ∷ p.after) v e.rule (subst (λ z. Derives g e.right z) p.is (Derives-same g e.right))
-        (Derives-same g v) refl in
+    (Derives-same g v) refl in
     let whole : Derives g (u ++ Nonterminal a ∷ v) (u ++ ((p.before ++ Nonterminal b ∷ p.after) ++ v)) = Derives-append
-        (Derives-same g u) inner in
+    (Derives-same g u) inner in
     let flat : u ++ ((p.before ++ Nonterminal b ∷ p.after) ++ v) ≡ (u ++ p.before) ++ Nonterminal b ∷ (p.after ++ v) = simp append_assoc in
     (u ++ p.before, p.after ++ v, subst (Derives g (Nonterminal g.start ∷ [])) flat (Derives-then r whole))
 
@@ -42,8 +46,11 @@ record Origin (edges : List Edge) (w : List Symbol) (b : ℕ) : Type 0 where
   walk : Walk edges from b
 
 later_origin : (edges : List Edge) (x : Symbol) (w : List Symbol) (b : ℕ) → Origin edges w b → Origin edges (x ∷ w) b
-later_origin edges x w b o = record { from = o.from; within = Contains-append_right (x ∷ []) w (Nonterminal o.from) o.within;
-    walk = o.walk }
+later_origin edges x w b o = record {
+  from = o.from;
+  within = Contains-append_right (x ∷ []) w (Nonterminal o.from) o.within;
+  walk = o.walk;
+}
 
 derives_walk : (g : GrammarView) (s : List Bool) (edges : List Edge) → AreEdges Any g s edges → {w x : List Symbol} → Derives g w x →
     (b : ℕ) → Contains x (Nonterminal b) → Origin edges w b
@@ -54,13 +61,18 @@ derives_walk g s edges are (keep y {w} {v} r) b h = elim (contains_cases y v (No
 ]
 derives_walk g s edges are (expand p a right u v {w} {x} rule below rest is) b h = elim
     (Contains-append_cases u v (Nonterminal b) (subst (λ z. Contains z (Nonterminal b)) is h)) [
-  | inl left ↦
-      let o = derives_walk g s edges are below b left in
-      let edge : IsEdge edges a o.from = (are a o.from).1 (record { p = p; right = right; rule = rule; placed =
-          (whole_is s right (Nonterminal o.from)).0 o.within }) in
-      record { from = a; within = (0, omega arith, refl); walk = walk_from edge o.walk }
-  | inr later ↦ later_origin edges (Nonterminal a) w b (derives_walk g s edges are rest b later)
-]
+      | inl left ↦
+          let o = derives_walk g s edges are below b left in
+          let edge : IsEdge edges a o.from = (are a o.from).1 (record {
+            p = p;
+            right = right;
+            rule = rule;
+            placed =
+                (whole_is s right (Nonterminal o.from)).0 o.within;
+          }) in
+          record { from = a; within = (0, omega arith, refl); walk = walk_from edge o.walk }
+      | inr later ↦ later_origin edges (Nonterminal a) w b (derives_walk g s edges are rest b later)
+    ]
 
 -- the one nonterminal of a list of one
 only_start : (start a : ℕ) → Contains (Nonterminal start ∷ []) (Nonterminal a) → start ≡ a
@@ -84,5 +96,8 @@ reached_is g s edges are v = (there, back)
     back : IsReachable g v → IsReached edges (g.start ∷ []) v
     back (u, w, r) =
         let o = derives_walk g s edges are r v (Contains-append_right u (Nonterminal v ∷ w) (Nonterminal v) (0, omega arith, refl)) in
-        record { start = g.start; is_start = (0, omega arith, refl);
-            walk = subst (λ z. Walk edges z v) (sym (only_start g.start o.from o.within)) o.walk }
+        record {
+          start = g.start;
+          is_start = (0, omega arith, refl);
+          walk = subst (λ z. Walk edges z v) (sym (only_start g.start o.from o.within)) o.walk;
+        }

@@ -15,7 +15,7 @@ use Rattle.wb_grammar.proofs.ReachLemmas.{reached_is}
 pub unreachable_found : (g : GrammarView) (s : List Bool) (edges : List Edge) (flags : List Bool) (n start : ℕ) (found : Option ℕ) →
     n ≡ g.nonterminals → start ≡ g.start → AreEdges Any g s edges → AreReached n edges (start ∷ []) flags
     → MatchOption found ((v : ℕ) → v < length flags →
-        get_or flags v false ≡ true) (λ v. (v < length flags) × (get_or flags v false ≡ false))
+    get_or flags v false ≡ true) (λ v. (v < length flags) × (get_or flags v false ≡ false))
     → MatchOption found ((a : ℕ) → a < g.nonterminals → IsReachable g a) (λ a. (a < g.nonterminals) × (¬ IsReachable g a))
 unreachable_found g s edges flags n start None same at are reached h =
     let from : AreReached n edges (g.start ∷ []) flags = subst (λ z. AreReached n edges (z ∷ []) flags) at reached in

@@ -1,5 +1,6 @@
 -- Edges whose ends are in one strongly connected component.
-use Rattle.std.proofs.Common.{◌≡◌, ℕ, ◌+◌, ◌<◌, ◌≤◌, zero, suc, List, [], ◌∷◌, length, refl, sym, ◌∙◌, ap, subst, inl, inr, arith, Some, None, Option, Vec, Global}
+use Rattle.std.proofs.Common.{◌≡◌, ℕ, ◌+◌, ◌<◌, ◌≤◌, zero, suc, List, [], ◌∷◌, length, refl, sym, ◌∙◌, ap, subst, inl, inr, arith, Some}
+use Rattle.std.proofs.Common.{None, Option, Vec, Global}
 use Rattle.std.specs.Prelude.{Contains, MatchOption, slice_get, slice_index_or}
 use Rattle.std.proofs.lemmas.Bool.{cases_lt}
 use Rattle.std.proofs.lemmas.Option.{slice_get-get_or, same_Some}
@@ -33,7 +34,7 @@ none_more components edges i m n above below differ before k lt = elim (cases_lt
   | inr new ↦
       let same : i ≡ k = omega arith in
       subst (λ j. ¬ IsTogether components (edge_at edges j)) same
-          (λ (number, one, other). differ (same_Some m number (sym above ∙ one) ∙ sym (same_Some n number (sym below ∙ other))))
+      (λ (number, one, other). differ (same_Some m number (sym above ∙ one) ∙ sym (same_Some n number (sym below ∙ other))))
 ]
 
 pub none_all : (components : ComponentsView) (edges : List Edge) (limit : ℕ) → length edges ≤ limit → NoneBefore components edges limit →
@@ -78,8 +79,8 @@ pub within_found : (count : ℕ) (corners hidden : List Edge) (components : Comp
     ((a b : ℕ) → Contains hidden (a, b) → (a < count) × (b < count) × Contains corners (a, b)) → (found : Option Edge) →
     MatchOption found ((e : Edge) → Contains hidden e → ¬ IsTogether components e) (λ e. Contains hidden e × IsTogether components e) →
     MatchOption found ((a b : ℕ) → Contains hidden (a, b) →
-        ¬ IsReached corners (b ∷ []) a) (λ e. Contains hidden e × IsReached corners (e.1 ∷ []) e.0)
+    ¬ IsReached corners (b ∷ []) a) (λ e. Contains hidden e × IsReached corners (e.1 ∷ []) e.0)
 within_found count corners hidden components are within None none =
     λ a b h back. let (a_lt, b_lt, edge) = within a b h in none (a, b) h
-        (back_together count corners components are a b a_lt b_lt edge back)
+    (back_together count corners components are a b a_lt b_lt edge back)
 within_found count corners hidden components are within (Some e) (h, together) = (h, together_back count corners components are e together)

@@ -1,5 +1,6 @@
 -- A worklist for a least set: what adding a member, stopping at a nonterminal and taking a member keep.
-use Rattle.std.proofs.Common.{◌≡◌, ℕ, ◌+◌, ◌<◌, ◌≤◌, ◌⊎◌, Bool, true, false, List, [], ◌∷◌, ◌++◌, length, length-append, length-set, set, get_or, take, replicate, Some, refl, sym, ◌∙◌, ap, subst, inl, inr, arith}
+use Rattle.std.proofs.Common.{◌≡◌, ℕ, ◌+◌, ◌<◌, ◌≤◌, ◌⊎◌, Bool, true, false, List, [], ◌∷◌, ◌++◌, length, length-append, length-set, set}
+use Rattle.std.proofs.Common.{get_or, take, replicate, Some, refl, sym, ◌∙◌, ap, subst, inl, inr, arith}
 use Rattle.std.specs.Prelude.{All, Contains, Option, None, IfSome, slice_get, slice_set, slice_index_or}
 use Rattle.std.proofs.lemmas.List.{length-replicate, get_or-replicate}
 use Rattle.std.proofs.lemmas.List.Elements.{All-nil, All-push, All-pop, All-contains, All-weaker}
@@ -12,11 +13,13 @@ use Rattle.wb_base.specs.declared.symbol.Symbol.{Symbol}
 use Rattle.wb_base.specs.declared.symbol.Symbol.TheVariants.{Terminal, Nonterminal}
 use Rattle.wb_base.specs.Grammar.{GrammarView, Production, IsSymbolBelow}
 use Rattle.wb_termset.specs.Sets.{IsMember, IsSubset, members}
-use Rattle.wb_termset.proofs.CallerLemmas.{IsMember-insert, IsMember-insert_same, IsSubset-insert, IsSubset-refl, IsEmpty-replicate, members_le, members_grow}
+use Rattle.wb_termset.proofs.CallerLemmas.{IsMember-insert, IsMember-insert_same, IsSubset-insert, IsSubset-refl, IsEmpty-replicate}
+use Rattle.wb_termset.proofs.CallerLemmas.{members_le, members_grow}
 use Rattle.wb_grammars.specs.Productions.{IsProduction}
 use Rattle.wb_grammars.proofs.ProductionLemmas.{production_once, production_within}
 use Rattle.wb_grammar.specs.Inner.LeastSets.{Holds, IsClosedAt, IsLeastSet, IsFirstMissing}
-use Rattle.wb_grammar.specs.Inner.Worklists.{State, added, stopped_at, IsPassed, IsStoppedAt, Blocks, IsBlocked, IsSettled, AreSettled, IsWorklist, left_of, Passes, Advances}
+use Rattle.wb_grammar.specs.Inner.Worklists.{State, added, stopped_at, IsPassed, IsStoppedAt, Blocks, IsBlocked, IsSettled, AreSettled}
+use Rattle.wb_grammar.specs.Inner.Worklists.{IsWorklist, left_of, Passes, Advances}
 use Rattle.wb_grammar.proofs.LeastSetLemmas.{generated_insert, least_set_is}
 
 -- what a set holds a larger one holds
@@ -99,8 +102,12 @@ passes_terminal : (g : GrammarView) (terminals : Bool) (s : State) (p a : ℕ) (
 passes_terminal g terminals s p a right x w rule has blocks = record {
   worklist = w;
   within = IsSubset-refl s.set;
-  settled = λ left other is. inr (record { symbol = x; within =
-      subst (λ z. Contains z x) (production_once g p a left right other rule is).1 has; blocks = blocks });
+  settled = λ left other is. inr (record {
+    symbol = x;
+    within =
+        subst (λ z. Contains z x) (production_once g p a left right other rule is).1 has;
+    blocks = blocks;
+  });
   keeps = λ q h. h;
   fewer = omega arith;
 }
@@ -150,8 +157,13 @@ passes_stopped g terminals s p a place b right list w rule held has out here = r
     passed = λ c row q k at in_row. elim (row_cases s b (list ++ (p, place) ∷ []) c row at) [
       | inl new ↦ elim (contains_push list (p, place) (q, k) (subst (λ z. Contains z (q, k)) new.1 in_row)) [
         | inl old ↦ w.passed b list q k here old
-        | inr is ↦ subst (λ (f : ℕ × ℕ). IsPassed g terminals s.set f.0 f.1) is (record { left = a; right = right; rule = rule; held =
-              held })
+        | inr is ↦ subst (λ (f : ℕ × ℕ). IsPassed g terminals s.set f.0 f.1) is (record {
+          left = a;
+          right = right;
+          rule = rule;
+          held =
+              held;
+        })
       ]
       | inr old ↦ w.passed c row q k old in_row
     ];
@@ -160,13 +172,19 @@ passes_stopped g terminals s p a place b right list w rule held has out here = r
   settled = λ left other is. inr (record {
     symbol = Nonterminal b;
     within = subst (λ z. Contains z (Nonterminal b)) (production_once g p a left right other rule is).1 has;
-    blocks = ((list ++ (p, place) ∷ [], row_same s b (list ++ (p, place) ∷ []) list here, (place, push_contains_last list (p, place))),
-        inl out);
+    blocks = (
+      (list ++ (p, place) ∷ [], row_same s b (list ++ (p, place) ∷ []) list here, (place, push_contains_last list (p, place))),
+      inl out,
+    );
   });
   keeps = λ q h left other is. elim (h left other is) [
     | inl member ↦ inl member
-    | inr blocked ↦ inr (record { symbol = blocked.symbol; within = blocked.within; blocks =
-          blocks_stopped terminals s b list p place q blocked.symbol here blocked.blocks })
+    | inr blocked ↦ inr (record {
+      symbol = blocked.symbol;
+      within = blocked.within;
+      blocks =
+          blocks_stopped terminals s b list p place q blocked.symbol here blocked.blocks;
+    })
   ];
   fewer = omega arith;
 }
@@ -271,8 +289,12 @@ advancing_start g terminals s waiting b list w settled popped here = record {
     settled_start p a right rule = elim (settled p a right rule) [
       | inl member ↦ inl (one_settled g terminals (taken s waiting b) p a right rule (inl member))
       | inr blocked ↦ elim (taken_blocks terminals s waiting b list p blocked.symbol popped here blocked.blocks) [
-        | inl blocks ↦ inl (one_settled g terminals (taken s waiting b) p a right rule (inr (record { symbol = blocked.symbol; within =
-              blocked.within; blocks = blocks })))
+        | inl blocks ↦ inl (one_settled g terminals (taken s waiting b) p a right rule (inr (record {
+          symbol = blocked.symbol;
+          within =
+              blocked.within;
+          blocks = blocks;
+        })))
         | inr pending ↦ inr pending
       ]
     ]
@@ -326,10 +348,10 @@ worklist_start g terminals = record {
   waits = All-nil (λ a. a < g.nonterminals);
   passed = λ b list p k at has.
       let lt : b < g.nonterminals = subst (λ n. b < n) (length-replicate {A = List (ℕ × ℕ)} g.nonterminals [])
-          (slice_get_within (replicate g.nonterminals []) b list at) in
+      (slice_get_within (replicate g.nonterminals []) b list at) in
       absurd (nothing_in (p, k)
-          (subst (λ z. Contains z (p, k)) (sym (default_at (replicate g.nonterminals []) b [] list at) ∙
-          get_or-replicate {A = List (ℕ × ℕ)} g.nonterminals b [] [] lt) has));
+      (subst (λ z. Contains z (p, k)) (sym (default_at (replicate g.nonterminals []) b [] list at) ∙
+      get_or-replicate {A = List (ℕ × ℕ)} g.nonterminals b [] [] lt) has));
 }
 
 -- of a production no symbol is passed yet
@@ -369,5 +391,5 @@ worklist_end g terminals s w settled empty = least_set_is g terminals s.set w.le
     closed p a right rule all = elim (settled p a right rule) [
       | inl member ↦ member
       | inr blocked ↦ absurd
-            (unblocked p blocked.symbol (All-contains (Holds terminals s.set) right blocked.symbol all blocked.within) blocked.blocks)
+          (unblocked p blocked.symbol (All-contains (Holds terminals s.set) right blocked.symbol all blocked.within) blocked.blocks)
     ]

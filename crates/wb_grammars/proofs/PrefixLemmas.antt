@@ -34,7 +34,12 @@ front_valid {g} start u w e = (
 front_valid (close item t b rest q u' right v is rule first) u w e = front_valid v u w e
 front_valid {g} (move item x rest shorter {t} {longer} {moved} v is longer_is moved_is) u w e = elim
     (front_cases u w shorter x (sym e ∙ longer_is)) [
-      | inl whole ↦ (moved, t, subst (λ z. IsValidItem g z moved t) (longer_is ∙ sym whole) (move item x rest shorter v is longer_is moved_is))
+      | inl whole ↦ (
+        moved,
+        t,
+        subst (λ z. IsValidItem g z moved t) (longer_is ∙ sym whole)
+            (move item x rest shorter v is longer_is moved_is),
+      )
       | inr front ↦ front_valid v u front.0 front.1
     ]
 

@@ -1,9 +1,11 @@
 -- Walks that lead back give cycles.
-use Rattle.std.proofs.Common.{◌≡◌, ◌≢◌, ℕ, ◌<◌, ◌+◌, zero, suc, List, [], ◌∷◌, length, Some, ◌⊎◌, refl, sym, ◌∙◌, ap, subst, inl, inr, arith}
+use Rattle.std.proofs.Common.{◌≡◌, ◌≢◌, ℕ, ◌<◌, ◌+◌, zero, suc, List, [], ◌∷◌, length, Some, ◌⊎◌, refl, sym, ◌∙◌, ap, subst, inl, inr}
+use Rattle.std.proofs.Common.{arith}
 use Rattle.std.specs.Prelude.{slice_get, ◌↔◌, Contains}
 use Rattle.std.proofs.lemmas.Option.{slice_get-get_or}
 use Rattle.wb_base.specs.Grammar.{GrammarView}
-use Rattle.wb_grammars.specs.Cycles.{DerivesAlone, DerivesItself, IsHiddenLeftRecursive, IsLeftCorner, IsHiddenCorner, IsFollowedBy, IsCycleOf, IsUnitCycle, IsHiddenCycle}
+use Rattle.wb_grammars.specs.Cycles.{DerivesAlone, DerivesItself, IsHiddenLeftRecursive, IsLeftCorner, IsHiddenCorner, IsFollowedBy}
+use Rattle.wb_grammars.specs.Cycles.{IsCycleOf, IsUnitCycle, IsHiddenCycle}
 use Rattle.wb_grammars.specs.Walks.{Walk, one, more, HiddenWalk, last, here, later}
 use Rattle.wb_grammars.proofs.HiddenLemmas.{hidden_is}
 use Rattle.wb_grammars.proofs.CycleLemmas.{cycle_walk, unit_cycle_member, follower_place, cycle_of_one}

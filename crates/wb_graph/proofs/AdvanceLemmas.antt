@@ -1,5 +1,6 @@
 -- Each outcome of one step of a depth-first search, with less left to do.
-use Rattle.std.proofs.Common.{◌≡◌, ◌<◌, ◌-◌, ◌++◌, ◌∷◌, [], ℕ, List, Some, length, get_or, set, slice_get, refl, sym, ◌∙◌, ap, subst, arith, length-set, length-append}
+use Rattle.std.proofs.Common.{◌≡◌, ◌<◌, ◌-◌, ◌++◌, ◌∷◌, [], ℕ, List, Some, length, get_or, set, slice_get, refl, sym, ◌∙◌, ap, subst, arith}
+use Rattle.std.proofs.Common.{length-set, length-append}
 use Rattle.std.specs.List.{sum}
 use Rattle.std.proofs.lemmas.Option.{slice_get_within, same_Some}
 use Rattle.wb_graph.specs.Graphs.{Edge, IsEdge}
@@ -68,7 +69,8 @@ pub begins : (edges : List Edge) (s new : State) (v : ℕ) → s.path ≡ [] →
 begins edges s new v empty h white is =
     let within : v < length s.colours = slice_get_within s.colours v White white in
     subst (λ (n : State). IsSearch edges n.path n × KeepsMet s n × (¬ (slice_get n.colours v ≡ Some White))) (sym is) (
-      entered edges s v white (λ u at. absurd (nothing_at u (length {A = ℕ} [] - 1) (subst (λ path. slice_get path (length path - 1) ≡ Some u) empty at)))
+      entered edges s v white (λ u at. absurd (nothing_at u (length {A = ℕ} [] - 1)
+          (subst (λ path. slice_get path (length path - 1) ≡ Some u) empty at)))
           (retrailed edges s [] (s.path ++ v ∷ []) empty h),
       record {
         len = length-set s.colours v Grey;

@@ -1,5 +1,6 @@
 -- A vertex of which no edge is left goes off the path, and a group that begins with it is a component.
-use Rattle.std.proofs.Common.{◌≡◌, ◌<◌, ◌≤◌, ◌+◌, ◌-◌, ◌⊎◌, ◌++◌, ◌∷◌, [], ℕ, List, Some, None, Contains, length, get_or, slice_get, take, drop, inl, inr, sym, ◌∙◌, ap, subst, arith, length-append}
+use Rattle.std.proofs.Common.{◌≡◌, ◌<◌, ◌≤◌, ◌+◌, ◌-◌, ◌⊎◌, ◌++◌, ◌∷◌, [], ℕ, List, Some, None, Contains, length, get_or, slice_get, take}
+use Rattle.std.proofs.Common.{drop, inl, inr, sym, ◌∙◌, ap, subst, arith, length-append}
 use Rattle.std.proofs.lemmas.Bool.{cases_eq, cases_lt}
 use Rattle.std.proofs.lemmas.Grind.{common_steps}
 use Rattle.std.proofs.lemmas.Option.{slice_get_within, same_Some, gets}
@@ -112,7 +113,11 @@ module _ (edges : List Edge) (s : State) (h : IsGrouping edges None s) (rest : L
 
     -- a start is kept, or the one of the group
     start_is : (p : ℕ) → Contains s.starts p → Contains starts p ⊎ (p ≡ start)
-    start_is p has = elim (contains_push starts start p (subst (λ xs. Contains xs p) is_starts has)) [ inl kept ↦ inl kept | inr is ↦ inr (sym is) ]
+    start_is p has = elim (contains_push starts start p (subst (λ xs. Contains xs p) is_starts has)) [
+      | inl kept ↦ inl kept
+      | inr is ↦ inr
+          (sym is)
+    ]
 
     -- a start that is kept is before
     start_before : (p : ℕ) → Contains starts p → p < start

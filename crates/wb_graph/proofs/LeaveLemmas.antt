@@ -1,5 +1,6 @@
 -- A search that finishes the last vertex of its path keeps what it stands for.
-use Rattle.std.proofs.Common.{◌≡◌, ◌≢◌, ◌<◌, ◌+◌, ◌⊎◌, ◌++◌, ◌∷◌, [], ℕ, List, Some, length, get_or, set, slice_get, inl, inr, sym, ◌∙◌, ap, subst, arith, length-set, length-append}
+use Rattle.std.proofs.Common.{◌≡◌, ◌≢◌, ◌<◌, ◌+◌, ◌⊎◌, ◌++◌, ◌∷◌, [], ℕ, List, Some, length, get_or, set, slice_get, inl, inr, sym, ◌∙◌, ap}
+use Rattle.std.proofs.Common.{subst, arith, length-set, length-append}
 use Rattle.std.proofs.lemmas.Bool.{cases_eq}
 use Rattle.std.proofs.lemmas.Option.{slice_get_within}
 use Rattle.wb_graph.specs.Graphs.{Edge, IsEdge}

@@ -1,5 +1,7 @@
 -- Each step of a worklist keeps what the worklist stands for, and a worklist that is done has reached what walks reach.
-use Rattle.std.proofs.Common.{◌≡◌, ◌<◌, ◌≤◌, ◌+◌, ◌-◌, ◌*◌, ◌⊎◌, ◌++◌, ◌∷◌, [], ℕ, Bool, true, false, List, Some, None, All, Contains, length, replicate, get_or, slice_get, inl, inr, refl, sym, ◌∙◌, ap, subst, arith, length-set, length-append, get_or-set_same, get_or-set_other}
+use Rattle.std.proofs.Common.{◌≡◌, ◌<◌, ◌≤◌, ◌+◌, ◌-◌, ◌*◌, ◌⊎◌, ◌++◌, ◌∷◌, [], ℕ, Bool, true, false, List, Some, None, All, Contains}
+use Rattle.std.proofs.Common.{length, replicate, get_or, slice_get, inl, inr, refl, sym, ◌∙◌, ap, subst, arith, length-set, length-append}
+use Rattle.std.proofs.Common.{get_or-set_same, get_or-set_other}
 use Rattle.std.specs.List.{sum}
 use Rattle.std.proofs.lemmas.Bool.{cases_eq, cases_lt, true≢false}
 use Rattle.std.proofs.lemmas.List.{length-replicate, get_or-replicate, get_or_past}

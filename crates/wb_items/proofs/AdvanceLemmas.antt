@@ -1,5 +1,6 @@
 -- The list of the items that move over symbols: how it is made, and what a run of it has.
-use Rattle.std.proofs.Common.{◌≡◌, ℕ, ◌+◌, ◌-◌, ◌<◌, ◌≤◌, ◌⊎◌, Bool, true, false, List, [], ◌∷◌, ◌++◌, length, get_or, Some, refl, sym, ◌∙◌, ap, subst, inl, inr, arith}
+use Rattle.std.proofs.Common.{◌≡◌, ℕ, ◌+◌, ◌-◌, ◌<◌, ◌≤◌, ◌⊎◌, Bool, true, false, List, [], ◌∷◌, ◌++◌, length, get_or, Some, refl, sym, ◌∙◌}
+use Rattle.std.proofs.Common.{ap, subst, inl, inr, arith}
 use Rattle.std.proofs.lemmas.List.{length-map}
 use Rattle.std.specs.Prelude.{slice_get, slice_index_or, Contains, ◌↔◌}
 use Rattle.std.specs.List.{between}
@@ -19,7 +20,8 @@ use Rattle.wb_grammars.specs.Items.{after_dot, advance}
 use Rattle.wb_grammars.specs.Shape.{IsLive}
 use Rattle.wb_grammars.proofs.ClosureLemmas.{closure_sound, closure_complete}
 use Rattle.wb_items.specs.declared.advance.Advance.{Advance}
-use Rattle.wb_items.specs.Inner.Advances.{AreAdvancesRising, AdvancePrecedes, HasAdvance, IsRun, ListsAdvances, items_of, symbol_by, symbol_of}
+use Rattle.wb_items.specs.Inner.Advances.{AreAdvancesRising, AdvancePrecedes, HasAdvance, IsRun, ListsAdvances, items_of, symbol_by}
+use Rattle.wb_items.specs.Inner.Advances.{symbol_of}
 use Rattle.wb_items.specs.Kernels.{ListsItems, Precedes}
 use Rattle.wb_items.specs.Order.{SymbolPrecedes}
 use Rattle.wb_items.specs.Inner.Passes.{AdvancesUpTo, AreRising}

@@ -8,7 +8,8 @@ use Rattle.wb_base.specs.declared.symbol.Symbol.{Symbol}
 use Rattle.wb_base.specs.Grammar.{GrammarView}
 use Rattle.wb_grammars.specs.declared.item.Item.{Item}
 use Rattle.wb_grammars.specs.Productions.{end_of}
-use Rattle.wb_grammars.specs.Items.{after_dot, advance, initial_item, IsValidItem, move, HasItem, IsKernelItem, IsViablePrefix, SameKernel, start_item}
+use Rattle.wb_grammars.specs.Items.{after_dot, advance, initial_item, IsValidItem, move, HasItem, IsKernelItem, IsViablePrefix, SameKernel}
+use Rattle.wb_grammars.specs.Items.{start_item}
 use Rattle.wb_grammars.specs.Items as valid
 use Rattle.wb_grammars.specs.Shape.{IsLive}
 use Rattle.wb_grammars.specs.Closure.{InClosure, kernel, opened, MovesTo}

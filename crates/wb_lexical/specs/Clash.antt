@@ -8,7 +8,8 @@ abbrev pub AreOrdered : List (ℕ × ℕ) → ℕ → ℕ → Type 0
 AreOrdered preferences t u = Contains preferences (t, u) ⊎ Contains preferences (u, t)
 
 -- two different terminals of this set match the text, and no preference orders them
-pub record IsClash (terminals : List Tree) (sets : List (List Bool)) (preferences : List (ℕ × ℕ)) (set left right : ℕ) (text : List ℕ) : Type 0 where
+pub record IsClash (terminals : List Tree) (sets : List (List Bool)) (preferences : List (ℕ × ℕ)) (set left right : ℕ)
+    (text : List ℕ) : Type 0 where
   pub different : left ≢ right
   pub left_in : IsConsidered sets set left
   pub right_in : IsConsidered sets set right

@@ -14,7 +14,8 @@ use Rattle.wb_grammars.proofs.ProductionLemmas.{production_once}
 use Rattle.wb_base.specs.declared.symbol.Symbol.{Symbol}
 use Rattle.wb_lookahead.specs.declared.worklist.Place.{Place}
 use Rattle.wb_lookahead.specs.Inner.Unions.{Unites}
-use Rattle.wb_lookahead.specs.Inner.Spreading.{ArePropagated, FlowsTo, IsFilled, IsFilledFrom, IsFirstOf, Keeps, Lists, StandsFor, itself, initial}
+use Rattle.wb_lookahead.specs.Inner.Spreading.{ArePropagated, FlowsTo, IsFilled, IsFilledFrom, IsFirstOf, Keeps, Lists, StandsFor, itself}
+use Rattle.wb_lookahead.specs.Inner.Spreading.{initial}
 use Rattle.wb_lookahead.proofs.SpreadLemmas.{union_sound}
 use Rattle.wb_lookahead.proofs.StandInLemmas.{initial_flows_all, stands_once}
 use Rattle.wb_lookahead.proofs.UnionLemmas.{lists_kept, shape_kept}

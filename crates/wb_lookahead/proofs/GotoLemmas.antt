@@ -1,5 +1,6 @@
 -- The kernels after nonterminals of one kernel, move by move.
-use Rattle.std.proofs.Common.{◌≡◌, ◌↔◌, ℕ, ◌+◌, ◌<◌, ◌≤◌, ◌⊎◌, List, [], ◌∷◌, ◌++◌, Some, None, Option, IsNone, IfSome, length, length-set, get_or, set, refl, sym, ◌∙◌, ap, subst, inl, inr, arith, get_or-set_same, get_or-set_other}
+use Rattle.std.proofs.Common.{◌≡◌, ◌↔◌, ℕ, ◌+◌, ◌<◌, ◌≤◌, ◌⊎◌, List, [], ◌∷◌, ◌++◌, Some, None, Option, IsNone, IfSome, length, length-set}
+use Rattle.std.proofs.Common.{get_or, set, refl, sym, ◌∙◌, ap, subst, inl, inr, arith, get_or-set_same, get_or-set_other}
 use Rattle.std.specs.Prelude.{Contains, slice_get, slice_index}
 use Rattle.std.proofs.lemmas.Bool.{cases_eq, cases_lt}
 use Rattle.std.proofs.lemmas.List.{get_or_past}
@@ -32,8 +33,11 @@ gotos_more {kernels} h s moves codes new n move are at (inl ((t, is), same)) bef
       sound = before.sound;
       complete = λ i b next lt there below. elim (cases_eq i n) [
         | inl now ↦
-            let e : move ≡ record { symbol = Nonterminal b; state = next } = same_Some move (record { symbol = Nonterminal b; state =
-                next })
+            let e : move ≡ record { symbol = Nonterminal b; state = next } = same_Some move (record {
+              symbol = Nonterminal b;
+              state =
+                  next;
+            })
             (sym at ∙ subst (λ k. slice_get moves k ≡ Some (record { symbol = Nonterminal b; state = next })) now there) in
             let other : Terminal t ≡ Nonterminal b = sym is ∙ ap (λ (m : Move). m.symbol) e in
             cc

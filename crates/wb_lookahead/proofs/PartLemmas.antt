@@ -1,5 +1,6 @@
 -- Tables in the making: one kernel more, and all kernels.
-use Rattle.std.proofs.Common.{◌≡◌, ℕ, ◌+◌, ◌<◌, Bool, List, [], ◌∷◌, ◌++◌, None, length, get_or, map, sym, ◌∙◌, ap, subst, arith, length-append}
+use Rattle.std.proofs.Common.{◌≡◌, ℕ, ◌+◌, ◌<◌, Bool, List, [], ◌∷◌, ◌++◌, None, length, get_or, map, sym, ◌∙◌, ap, subst, arith}
+use Rattle.std.proofs.Common.{length-append}
 use Rattle.std.proofs.lemmas.List.{get_or-map}
 use Rattle.wb_items.specs.Kernels.{KernelsView, AreKernels, count_of}
 use Rattle.wb_lookahead.specs.declared.build_tables.Parts.{Parts}

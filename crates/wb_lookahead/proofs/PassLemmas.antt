@@ -1,5 +1,6 @@
 -- How what is listed at an item is passed on.
-use Rattle.std.proofs.Common.{◌≡◌, ℕ, ◌+◌, ◌-◌, ◌<◌, ◌≤◌, ◌⊎◌, Bool, true, false, List, [], ◌∷◌, ◌++◌, length, get_or, take, drop, replicate, set, Some, Result, Ok, Err, refl, sym, ◌∙◌, ap, subst, inl, inr, arith, length-drop}
+use Rattle.std.proofs.Common.{◌≡◌, ℕ, ◌+◌, ◌-◌, ◌<◌, ◌≤◌, ◌⊎◌, Bool, true, false, List, [], ◌∷◌, ◌++◌, length, get_or, take, drop}
+use Rattle.std.proofs.Common.{replicate, set, Some, Result, Ok, Err, refl, sym, ◌∙◌, ap, subst, inl, inr, arith, length-drop}
 use Rattle.std.specs.Prelude.{All, Contains, OnOk, IfSome, slice_get, option_map}
 use Rattle.std.proofs.lemmas.Bool.{cases_eq, cases_lt}
 use Rattle.std.proofs.lemmas.List.{take_all, get_or_past, length-map}
@@ -134,7 +135,7 @@ opening_flows h same s lt item has b p rest is first u (inl begins) = open_flows
 opening_flows {kernels} {g} h same s lt item has b p rest is first u (inr (a, name, r)) =
     let one : b ≡ a = (let e : Nonterminal b ≡ Nonterminal a = name in cc) in
     let rule : IsProduction g r.q b (Nonterminal b ∷ r.rest) = subst (λ z. IsProduction g r.q z (Nonterminal z ∷ r.rest))
-        (sym one) r.production in
+    (sym one) r.production in
     let there = initial_has h s b item rest r.q (Nonterminal b ∷ r.rest) has (ap (λ z. after_dot z item) same ∙ is)
     (subst (λ z. IsProduction z r.q b (Nonterminal b ∷ r.rest)) (sym same) rule) in
     open_flows h same s lt (initial_item r.q) there b p r.rest (after_initial g r.q b (Nonterminal b ∷ r.rest) rule) first u r.first

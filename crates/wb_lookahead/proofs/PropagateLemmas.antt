@@ -1,5 +1,6 @@
 -- What is passed on from an item by the rest after its nonterminal.
-use Rattle.std.proofs.Common.{◌≡◌, ℕ, ◌+◌, ◌<◌, ◌≤◌, zero, suc, Bool, List, [], ◌∷◌, ◌++◌, length, get_or, drop, Some, sym, ◌∙◌, ap, subst, inl, inr, arith}
+use Rattle.std.proofs.Common.{◌≡◌, ℕ, ◌+◌, ◌<◌, ◌≤◌, zero, suc, Bool, List, [], ◌∷◌, ◌++◌, length, get_or, drop, Some, sym, ◌∙◌, ap, subst}
+use Rattle.std.proofs.Common.{inl, inr, arith}
 use Rattle.std.specs.Prelude.{slice_get, IfSome}
 use Rattle.std.proofs.lemmas.Option.{slice_get-get_or}
 use Rattle.wb_base.specs.declared.symbol.Symbol.{Symbol}
@@ -49,9 +50,11 @@ rest_there g rests are item lt x rest is row at =
     let right_is = after_initial g item.production a right rule in
     let here : drop item.dot right ≡ x ∷ rest = ap (drop item.dot) (sym right_is) ∙ is in
     let within = not_past right item.dot x rest here in
-    let rest_is : drop (item.dot + 1) right ≡ rest = ap (drop (item.dot + 1)) (sym right_is) ∙ after_advance g item x rest is in
-    (omega (arith, row_is.len, within), λ r r_at. subst (λ z. IsOpening g x z r) rest_is
-        (row_is.each item.dot r x r_at (first_left right item.dot x rest here)))
+    let rest_is : drop (item.dot + 1) right ≡ rest = ap (drop (item.dot + 1)) (sym right_is) ∙ after_advance g item x rest is in (
+      omega (arith, row_is.len, within),
+      λ r r_at. subst (λ z. IsOpening g x z r) rest_is
+          (row_is.each item.dot r x r_at (first_left right item.dot x rest here)),
+    )
 
 -- nothing is after the start in the added production
 pub nothing_after : (g : GrammarView) (item : Item) → length g.productions ≤ item.production → (x : Symbol) (rest : List Symbol) →

@@ -1,5 +1,6 @@
 -- Rests of right sides, one after another.
-use Rattle.std.proofs.Common.{◌≡◌, ℕ, ◌+◌, ◌<◌, ◌⊎◌, Bool, false, List, [], ◌∷◌, ◌++◌, length, drop, replicate, Some, sym, ◌∙◌, ap, subst, inl, inr, arith, length-append, length-set}
+use Rattle.std.proofs.Common.{◌≡◌, ℕ, ◌+◌, ◌<◌, ◌⊎◌, Bool, false, List, [], ◌∷◌, ◌++◌, length, drop, replicate, Some, sym, ◌∙◌, ap, subst}
+use Rattle.std.proofs.Common.{inl, inr, arith, length-append, length-set}
 use Rattle.std.specs.Prelude.{◌↔◌, IsTrue, slice_get, slice_set}
 use Rattle.std.proofs.lemmas.Grind.{common_steps}
 use Rattle.std.proofs.lemmas.List.{get_or-replicate, length-replicate}
@@ -29,7 +30,7 @@ rests_more g right row new n rest y len is here last each d r x at sym_at =
           let same : y ≡ x = at_once right n y x here (subst (λ k. slice_get right k ≡ Some x) (d_is ∙ len) sym_at) in
           subst (IsOpening g x (drop (d + 1) right)) r_is
           (subst (λ z. IsOpening g z (drop (d + 1) right) rest) same
-              (subst (λ k. IsOpening g y (drop (k + 1) right) rest) (sym (d_is ∙ len)) last))
+          (subst (λ k. IsOpening g y (drop (k + 1) right) rest) (sym (d_is ∙ len)) last))
     ]
 
 pub rests_done : (g : GrammarView) (right : List Symbol) (row made : List Rest) → length row ≡ length right →
@@ -75,13 +76,18 @@ repeats_more g sets q b right old set union are rule first at begins joined = re
   len = length-set sets b union ∙ are.len;
   widths = All-set (λ (s : List Bool). length s ≡ g.terminals + 1) sets b union
       (joined.len ∙ All-contains (λ (s : List Bool). length s ≡ g.terminals + 1) sets old are.widths
-          (contains_at sets old b at)) are.widths;
+      (contains_at sets old b at)) are.widths;
   sound = λ a u row row_at has. elim (row_cases a row row_at) [
     | inl (same, is) ↦ elim ((joined.each u).0 (subst (λ z. IsMember z u) is has)) [
       | inl before ↦ subst (λ z. Repeats g z u) (sym same) (are.sound b u old at before)
       | inr new ↦ subst (λ z. Repeats g z u) (sym same)
-          (record { q = q; rest = drop 1 right; production = subst (IsProduction g q b) (head_first right first) rule; first =
-              begins u new })
+          (record {
+            q = q;
+            rest = drop 1 right;
+            production = subst (IsProduction g q b) (head_first right first) rule;
+            first =
+                begins u new;
+          })
     ]
     | inr before ↦ are.sound a u row before has
   ];

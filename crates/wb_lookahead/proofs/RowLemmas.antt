@@ -1,5 +1,6 @@
 -- The actions of one kernel, item by item.
-use Rattle.std.proofs.Common.{◌≡◌, ◌≢◌, ◌↔◌, ℕ, ◌+◌, ◌<◌, ◌≤◌, ◌⊎◌, Bool, List, [], ◌∷◌, ◌++◌, Some, length, get_or, take, drop, refl, sym, ◌∙◌, ap, subst, inl, inr, arith}
+use Rattle.std.proofs.Common.{◌≡◌, ◌≢◌, ◌↔◌, ℕ, ◌+◌, ◌<◌, ◌≤◌, ◌⊎◌, Bool, List, [], ◌∷◌, ◌++◌, Some, length, get_or, take, drop, refl, sym}
+use Rattle.std.proofs.Common.{◌∙◌, ap, subst, inl, inr, arith}
 use Rattle.std.specs.Prelude.{slice_get}
 use Rattle.std.proofs.Math.ListN.{get_or-eq_default}
 use Rattle.std.proofs.Math.Seq.{take-append_seam, get_or-append_seam}
@@ -23,7 +24,8 @@ use Rattle.wb_lookahead.specs.declared.action.TableRefusal.{TableRefusal}
 use Rattle.wb_lookahead.specs.declared.action.TableRefusal.TheVariants.{Conflict, NoMemory}
 use Rattle.wb_lookahead.specs.Contents.{action_in}
 use Rattle.wb_lookahead.specs.Tables.{IsAction, IsConflict, IsTableRefusal, IsValidSet, Stands, ComesBefore}
-use Rattle.wb_lookahead.specs.Inner.Rows.{Asks, shift, reduce, accept, AddsItem, IsClash, IsReduction, IsRowOf, IsSoundRow, Puts, RowUpTo, ShowsBoth}
+use Rattle.wb_lookahead.specs.Inner.Rows.{Asks, shift, reduce, accept, AddsItem, IsClash, IsReduction, IsRowOf, IsSoundRow, Puts, RowUpTo}
+use Rattle.wb_lookahead.specs.Inner.Rows.{ShowsBoth}
 use Rattle.wb_lookahead.proofs.StepLemmas.{step_once}
 use Rattle.wb_lookahead.proofs.StandLemmas.{before_or, stands_asked, stands_valid, valid_stands}
 

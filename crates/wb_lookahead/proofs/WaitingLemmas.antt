@@ -16,7 +16,8 @@ use Rattle.wb_items.specs.Lookaheads.{AreEmpty, IsSetOf}
 use Rattle.wb_items.specs.LookaheadSets.{AreLookaheads}
 use Rattle.std.proofs.lemmas.Option.{slice_get_within}
 use Rattle.wb_lookahead.specs.declared.worklist.Place.{Place}
-use Rattle.wb_lookahead.specs.Inner.Spreading.{AreSound, AreWaiting, ArePropagated, FlowsTo, IsFilled, IsPassedOn, IsPlace, Lists, ListsFor, Spreads, itself, initial, Waits}
+use Rattle.wb_lookahead.specs.Inner.Spreading.{AreSound, AreWaiting, ArePropagated, FlowsTo, IsFilled, IsPassedOn, IsPlace, Lists, ListsFor}
+use Rattle.wb_lookahead.specs.Inner.Spreading.{Spreads, itself, initial, Waits}
 use Rattle.wb_lookahead.proofs.MarkLemmas.{contains_cases}
 use Rattle.wb_lookahead.proofs.PassLemmas.{empty_lists, passed_kept, set_once}
 use Rattle.wb_lookahead.proofs.StandInLemmas.{first_is, moved_sole, past_sole, stands_has}

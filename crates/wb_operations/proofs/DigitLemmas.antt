@@ -19,4 +19,4 @@ pub written_numeral : (negative : Bool) (ds : List ℕ) (size : ℕ) → is_nume
     → written negative ds ≡ inside_or_none (signed negative size)
 written_numeral negative ds size is e =
     ap (λ (b : Bool). cond b (inside_or_none (signed negative (digits_value 10 ds))) (fails 3)) is ∙ ap
-        (λ (n : ℕ). inside_or_none (signed negative n)) (sym e)
+    (λ (n : ℕ). inside_or_none (signed negative n)) (sym e)

@@ -77,7 +77,7 @@ plain-signatures (n ∷ names) [] e all = absurd (omega (arith, e))
 plain-signatures (n ∷ names) (x ∷ es) e all =
     let here = All-head IsPlainEntry x es all in
     All-cons IsPlainSignature (signature_of n x) (signatures_of names es)
-        (record { takes_plain = here.takes_plain; gives_plain = here.gives_plain })
+    (record { takes_plain = here.takes_plain; gives_plain = here.gives_plain })
     (plain-signatures names es (omega (arith, e)) (All-tail IsPlainEntry x es all))
 
 -- a name that wasn't there goes last
@@ -94,7 +94,7 @@ pub pushed-name : (names : List (List ℕ)) (es : List Entry) (view : List Opera
 pushed-name names es view name added new e shown adds absent =
     name-added names name added new adds
     (λ has. absent (subst (λ (ss : List OperationSignature). HasOperation ss name) shown
-        (subst (λ (ns : List (List ℕ)). Contains ns name) (sym (names-signatures names es e)) has)))
+    (subst (λ (ns : List (List ℕ)). Contains ns name) (sym (names-signatures names es e)) has)))
 
 -- one name and one entry of plain kinds more keep the invariant
 pub entries-push : (names : List (List ℕ)) (es : List Entry) (name : List ℕ) (x : Entry) {taken : List Kind} → AreEntries names es
@@ -109,7 +109,7 @@ entries-push names es name x are same taken made = record {
 pub shown-push : (names : List (List ℕ)) (es : List Entry) (view : List OperationSignature) (name : List ℕ) (x : Entry) (taken : List Kind)
     → length names ≡ length es
     → signatures_of names es ≡ view → x.takes.items ≡ taken → signatures_of (names ++ name ∷ [])
-        (es ++ x ∷ []) ≡ view ++ record { name = name; takes = taken; gives = x.gives } ∷ []
+    (es ++ x ∷ []) ≡ view ++ record { name = name; takes = taken; gives = x.gives } ∷ []
 shown-push names es view name x taken e shown same =
     signatures-push names es name x e
     ∙ ap (λ (ss : List OperationSignature). ss ++ signature_of name x ∷ []) shown
@@ -121,7 +121,7 @@ pub name-is-new : (all : List OperationSignature) (k : ℕ) (made : List Operati
     → IfSome (slice_get all k) (λ (s : OperationSignature). name ≡ s.name) → HasOperation made name → ⊥
 name-is-new all k made name apart lt so_far named has =
     let d : OperationSignature = get_or all k
-        (record { name = []; takes = []; gives = Rattle.wb_base.specs.declared.symbol.Kind.TheVariants.Int }) in
+    (record { name = []; takes = []; gives = Rattle.wb_base.specs.declared.symbol.Kind.TheVariants.Int }) in
     let at : slice_get all k ≡ Some d = slice_get-get_or all k _ lt in
     let is : name ≡ d.name = rw at at named in
     let within : k < length (names_of all) = omega (arith, length-map all (λ (s : OperationSignature). s.name), lt) in
@@ -136,7 +136,7 @@ name-is-new all k made name apart lt so_far named has =
 -- a copy of the first signatures, with one more
 pub copy-step : (all made new : List OperationSignature) (k : ℕ) (s : OperationSignature) → made ≡ take k all → k < length all
     → IfSome (slice_get all k) (λ (t : OperationSignature). s.name ≡ t.name) → IfSome (slice_get all k)
-        (λ (t : OperationSignature). s.takes ≡ t.takes)
+    (λ (t : OperationSignature). s.takes ≡ t.takes)
     → IfSome (slice_get all k) (λ (t : OperationSignature). s.gives ≡ t.gives) → new ≡ made ++ s ∷ [] → new ≡ take (k + 1) all
 copy-step all made new k s so_far lt name takes given pushed =
     let at = slice_get-get_or all k s lt in
@@ -146,9 +146,9 @@ copy-step all made new k s so_far lt name takes given pushed =
     let gives' : s.gives ≡ t.gives = rw at at given in
     let same : s ≡ t =
     ap (λ (n : List ℕ). record s { name = n }) name' ∙ ap (λ (ks : List Kind). record t { takes = ks; gives = s.gives }) takes' ∙ ap
-        (λ (g : Kind). record t { gives = g }) gives' in
+    (λ (g : Kind). record t { gives = g }) gives' in
     pushed ∙ ap (λ (xs : List OperationSignature). xs ++ s ∷ []) so_far ∙ ap (λ (u : OperationSignature). take k all ++ u ∷ []) same ∙ sym
-        (take_more all k s lt)
+    (take_more all k s lt)
 
 -- what is found among the names is an operation
 pub found-among : (names : List (List ℕ)) (es : List Entry) (view : List OperationSignature) (n : List ℕ) (r : Option ℕ)
@@ -165,12 +165,12 @@ pub none-among : (names : List (List ℕ)) (es : List Entry) (view : List Operat
 none-among names es view n (Some k) e shown none = tt
 none-among names es view n None e shown none =
     λ has. none (subst (λ (ns : List (List ℕ)). Contains ns n) (names-signatures names es e)
-        (subst (λ (ss : List OperationSignature). HasOperation ss n) (sym shown) has))
+    (subst (λ (ss : List OperationSignature). HasOperation ss n) (sym shown) has))
 
 -- the kinds of an operation are plain
 pub plain-at : (all : List OperationSignature) (k : ℕ) (taken : List Kind) (made : Kind) → All IsPlainSignature all → k < length all
     → IfSome (slice_get all k) (λ (s : OperationSignature). taken ≡ s.takes) → IfSome (slice_get all k)
-        (λ (s : OperationSignature). made ≡ s.gives) → All IsPlainKind taken × IsPlainKind made
+    (λ (s : OperationSignature). made ≡ s.gives) → All IsPlainKind taken × IsPlainKind made
 plain-at all k taken made plain lt takes given =
     let (s, at) = at_within all k lt in
     let p = all_at IsPlainSignature all k s plain at in

@@ -23,9 +23,9 @@ pub kept-standard : {R : Type 0} (signatures : List OperationSignature) (runs : 
     → signatures ≡ standard_signatures → runs ≡ [] → IsKept signatures 16 runs standard pre post
 kept-standard {R} signatures runs pre post is none =
     let count : length standard_signatures ≡ 16 = length-map standard_operations (λ (o : StandardOperation). o.signature)
-        ∙ standard_count in
+    ∙ standard_count in
     let below : (k : ℕ) (s : OperationSignature) → slice_get standard_signatures k ≡ Some s → k < 16 = λ k s at. subst
-        (λ (n : ℕ). k < n) count (slice_get_within standard_signatures k s at) in
+    (λ (n : ℕ). k < n) count (slice_get_within standard_signatures k s at) in
     subst (λ (ss : List OperationSignature). IsKept ss 16 runs standard pre post) (sym is)
     (subst (λ (rs : List R). IsKept standard_signatures 16 rs standard pre post) (sym none)
     (record {
@@ -43,9 +43,9 @@ kept-standard {R} signatures runs pre post is none =
 pub kept-push : {R : Type 0} (signatures more : List OperationSignature) (s : OperationSignature) (built_in : ℕ)
     (runs reserved new_runs : List R) (run : R)
     (meaning : ℕ → List Plain → Given) (pre : R → Pre) (post : R → Post) → IsKept signatures built_in runs meaning pre post
-        → more ≡ signatures ++ s ∷ [] → new_runs ≡ reserved ++ run ∷ [] → reserved ≡ runs
+    → more ≡ signatures ++ s ∷ [] → new_runs ≡ reserved ++ run ∷ [] → reserved ≡ runs
     → KeepsOne s (meaning (length signatures)) (pre run) (post run) →
-        ((values : List Plain) → AreOfKinds s.takes values → GivesKind s.gives (meaning (length signatures) values))
+    ((values : List Plain) → AreOfKinds s.takes values → GivesKind s.gives (meaning (length signatures) values))
     → IsKept more built_in new_runs meaning pre post
 kept-push {R} signatures more s built_in runs reserved new_runs run meaning pre post kept pushed last same one kind =
     let runs_are : new_runs ≡ runs ++ run ∷ [] = last ∙ ap (λ (rs : List R). rs ++ run ∷ []) same in
@@ -78,7 +78,7 @@ kept-push {R} signatures more s built_in runs reserved new_runs run meaning pre 
     of_place number t values are (inr at) =
         subst (λ (u : OperationSignature). GivesKind u.gives (meaning number values)) at.1
         (subst (λ (n : ℕ). GivesKind s.gives (meaning n values)) (sym at.0)
-            (kind values (subst (λ (u : OperationSignature). AreOfKinds u.takes values) (sym at.1) are)))
+        (kind values (subst (λ (u : OperationSignature). AreOfKinds u.takes values) (sym at.1) are)))
 
 -- what is known of the closure of an operation, on values that fit
 pub record Kept (given : List Plain → Given) (pre : Pre) (post : Post) (vs : Bor (List Value)) : Type 0 where
@@ -89,9 +89,9 @@ pub record Kept (given : List Plain → Given) (pre : Pre) (post : Post) (vs : B
 pub kept-at : {R : Type 0} (signatures : List OperationSignature) (built_in : ℕ) (runs : List R) (meaning : ℕ → List Plain → Given)
     (pre : R → Pre) (post : R → Post) (operation : ℕ) (run : R)
     (vs : Bor (List Value)) → IsKept signatures built_in runs meaning pre post → operation < length signatures → built_in ≤ operation
-        → run ≡ get_or runs (operation - built_in) run
+    → run ≡ get_or runs (operation - built_in) run
     → ((s : OperationSignature) → slice_get signatures operation ≡ Some s → FitKinds s.takes vs.now) → Kept (meaning operation) (pre run)
-        (post run) vs
+    (post run) vs
 kept-at {R} signatures built_in runs meaning pre post operation run vs kept there after is fits =
     let k = operation - built_in in
     let e : built_in + k ≡ operation = omega arith in

@@ -127,7 +127,7 @@ divided_gives (negsuc n) g is = is
 remainder_gives : (x y : ℤ) → GivesKind kind.Int (remainder x y)
 remainder_gives x y =
     divided_gives y (if is_inside (int_div x y) then gives (int (int_rem x y)) else fails 1)
-        (chosen kind.Int (is_inside (int_div x y)) (gives (int (int_rem x y))) (fails 1) tt tt)
+    (chosen kind.Int (is_inside (int_div x y)) (gives (int (int_rem x y))) (fails 1) tt tt)
 
 -- two texts joined are a text
 joined_gives : (x y : List ℕ) → GivesKind kind.Text (joined x y)
@@ -138,7 +138,7 @@ number_gives : (x : List ℕ) → GivesKind kind.Int (number_of x)
 number_gives x =
     let one = λ (z : ℤ). chosen kind.Int (is_inside z) (gives (int z)) (fails 3) tt tt in
     let sign = λ (negative : Bool) (ds : List ℕ). chosen kind.Int (is_numeral ds) (inside_or_none (signed negative (digits_value 10 ds)))
-        (fails 3) (one (signed negative (digits_value 10 ds))) tt in
+    (fails 3) (one (signed negative (digits_value 10 ds))) tt in
     chosen kind.Int (starts_with_minus x) (written true (drop 1 x)) (written false x) (sign true (drop 1 x)) (sign false x)
 
 -- the signature is of plain kinds, and what is given is of the kind

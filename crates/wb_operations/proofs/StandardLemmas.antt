@@ -28,7 +28,7 @@ not_after : (n : List ℕ) (ns : List (List ℕ)) (x : List ℕ) (i : ℕ) → n
 not_after n ns x i fresh same at =
     let is : get_or ns i x ≡ x = get_or_from_slice_get ns i x x at in
     let yes : list_any (bytes_eq n) ns ≡ true = list_any_at (bytes_eq n) ns i x (slice_get_within ns i x at)
-        ((bytes_eq-Decides n (get_or ns i x)).1 (same ∙ sym is)) in
+    ((bytes_eq-Decides n (get_or ns i x)).1 (same ∙ sym is)) in
     let no = not_true (list_any (bytes_eq n) ns) fresh in
     cc (yes, no)
 
@@ -70,10 +70,10 @@ standard_made k made lt is = subst IsPlainKind (sym is) (sound_at k lt).plain.gi
 pub standard_step : (made new : List OperationSignature) (k : ℕ) (s : OperationSignature) → made ≡ take k standard_signatures → k < 16
     → s.name ≡ (standard_signature k).name
     → s.takes ≡ (standard_signature k).takes → s.gives ≡ (standard_signature k).gives → new ≡ made ++ s ∷ [] → new ≡ take
-        (k + 1) standard_signatures
+    (k + 1) standard_signatures
 standard_step made new k s so_far lt name taken given pushed =
     copy-step standard_signatures made new k s so_far (omega (arith, lt, signature_count)) (rw (signature_at k lt) name)
-        (rw (signature_at k lt) taken) (rw (signature_at k lt) given) pushed
+    (rw (signature_at k lt) taken) (rw (signature_at k lt) given) pushed
 
 -- sixteen are all
 pub standard_all : (made : List OperationSignature) (k : ℕ) → 16 ≤ k → made ≡ take k standard_signatures → made ≡ standard_signatures

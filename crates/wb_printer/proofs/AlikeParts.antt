@@ -8,7 +8,8 @@ use Rattle.wb_syntax.specs.Tokens.{Lexeme}
 use Rattle.wb_expressions.specs.Expression.{nodes_of}
 use Rattle.wb_syntax.specs.Offsets.{unplaced_equation}
 use Rattle.wb_syntax.specs.PartGrammar as part
-use Rattle.wb_syntax.specs.PartGrammar.{IsKind, AreFurtherNames, AreNames, AreNeeds, AreOptionalNeeds, AreChildren, IsTarget, AreEquations, IsBlock}
+use Rattle.wb_syntax.specs.PartGrammar.{IsKind, AreFurtherNames, AreNames, AreNeeds, AreOptionalNeeds, AreChildren, IsTarget, AreEquations}
+use Rattle.wb_syntax.specs.PartGrammar.{IsBlock}
 use Rattle.wb_printer.proofs.Alike.{Alike, done, step, headed, halves, parted, closed, alike_as}
 use Rattle.wb_printer.proofs.AlikeExpressions.{expression_alike}
 

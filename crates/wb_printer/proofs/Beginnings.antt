@@ -1,5 +1,6 @@
 -- No layout stands where a token stands.
-use Rattle.std.proofs.Common.{◌≡◌, ◌≤◌, ◌<◌, ◌+◌, ℕ, List, [], ◌∷◌, ◌++◌, Bool, true, false, ◌||◌, not, eqb, length, get_or, refl, sym, ap, ◌∙◌, subst, arith, ℤ, length-append, append_assoc}
+use Rattle.std.proofs.Common.{◌≡◌, ◌≤◌, ◌<◌, ◌+◌, ℕ, List, [], ◌∷◌, ◌++◌, Bool, true, false, ◌||◌, not, eqb, length, get_or, refl, sym, ap}
+use Rattle.std.proofs.Common.{◌∙◌, subst, arith, ℤ, length-append, append_assoc}
 use Rattle.std.specs.Fmt.{signed_decimal}
 use Rattle.std.specs.Str.Parse.{IsNumeral}
 use Rattle.std.proofs.lemmas.Str.Parse.{digit_from_value}

@@ -24,7 +24,8 @@ use Rattle.wb_syntax.specs.Expression.{Expression, Expressions}
 use Rattle.wb_syntax.specs.ExpressionGrammar as e
 use Rattle.wb_syntax.specs.ExpressionGrammar.{IsExpression, AreArguments, AreFurther}
 use Rattle.wb_syntax.specs.PartGrammar as part
-use Rattle.wb_syntax.specs.PartGrammar.{IsKind, AreFurtherNames, AreNames, AreNeeds, AreOptionalNeeds, AreChildren, IsTarget, AreEquations, IsBlock}
+use Rattle.wb_syntax.specs.PartGrammar.{IsKind, AreFurtherNames, AreNames, AreNeeds, AreOptionalNeeds, AreChildren, IsTarget, AreEquations}
+use Rattle.wb_syntax.specs.PartGrammar.{IsBlock}
 use Rattle.wb_syntax.specs.Fields.{Field, AreFields, no_field, then_word, then_mark, then_name, then_kind, then_needs, then_optional_needs}
 use Rattle.wb_syntax.specs.ItemGrammar as item
 use Rattle.wb_syntax.specs.ItemGrammar.{IsProduction, IsProductionRole, IsItem, IsHeader, IsRole}
@@ -33,8 +34,10 @@ use Rattle.wb_syntax.proofs.CallerLemmas.{read_equations}
 use Rattle.wb_syntax.specs.SpecText.{IsReadForm, IsReadAs}
 use Rattle.wb_printer.specs.Inner.ExpressionTokens.{expression_tokens, arguments_tokens, further_tokens}
 use Rattle.wb_printer.specs.Inner.PartTokens as tokens_of
-use Rattle.wb_printer.specs.Inner.ItemTokens.{role_word, production_word, fields_tokens, production_tokens, form_tokens, AreItemTokens, header_tokens}
-use Rattle.wb_printer.specs.Inner.PartTokens.{kind_token, further_names, names_tokens, needs_tokens, optional_needs_tokens, children_tokens, target_tokens, AreEquationTokens, block_tokens}
+use Rattle.wb_printer.specs.Inner.ItemTokens.{role_word, production_word, fields_tokens, production_tokens, form_tokens, AreItemTokens}
+use Rattle.wb_printer.specs.Inner.ItemTokens.{header_tokens}
+use Rattle.wb_printer.specs.Inner.PartTokens.{kind_token, further_names, names_tokens, needs_tokens, optional_needs_tokens, children_tokens}
+use Rattle.wb_printer.specs.Inner.PartTokens.{target_tokens, AreEquationTokens, block_tokens}
 
 -- the tokens of lexemes
 abbrev pub tokens : List Lexeme → List Token

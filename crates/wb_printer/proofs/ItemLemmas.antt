@@ -1,5 +1,6 @@
 -- Parts of items, one behind the other.
-use Rattle.std.proofs.Common.{◌≡◌, ◌+◌, ◌<◌, ◌≤◌, ℕ, suc, ◌++◌, ◌∷◌, [], List, ap, ◌∙◌, refl, sym, subst, arith, length, get_or, drop, add-one}
+use Rattle.std.proofs.Common.{◌≡◌, ◌+◌, ◌<◌, ◌≤◌, ℕ, suc, ◌++◌, ◌∷◌, [], List, ap, ◌∙◌, refl, sym, subst, arith, length, get_or, drop}
+use Rattle.std.proofs.Common.{add-one}
 use Rattle.std.proofs.Math.Seq.{drop-cons}
 use Rattle.std.proofs.lemmas.List.{length-drop}
 use Rattle.wb_tokens.specs.declared.token.Token.{Token}

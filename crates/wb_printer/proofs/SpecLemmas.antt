@@ -52,7 +52,8 @@ canonical_text spec h o c lines here begun third =
     let b = headed spec o in
     let closely : o.closely ≡ true = ap (λ (x : Output). x.closely) begun in
     let front : a.text ≡ [] ++ line_of (format_tokens spec.format) ++ 10 ∷ []
-    = ended_line o (format_tokens spec.format) closely ∙ ap (λ (x : Output). x.text ++ line_of (format_tokens spec.format) ++ 10 ∷ []) begun in
+    = ended_line o (format_tokens spec.format) closely ∙ ap (λ (x : Output). x.text ++ line_of
+    (format_tokens spec.format) ++ 10 ∷ []) begun in
     let begins : a.closely ≡ true = ended_closely (after o (format_tokens spec.format)) in
     let same : line_of (header_tokens spec.name spec.header) ≡ line_of (tokens u.0) =
     ap line_of (sym (of_header u.0 spec.name spec.header u.1)) in

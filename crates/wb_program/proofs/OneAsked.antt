@@ -26,7 +26,7 @@ key (x ∷ y ∷ z ∷ rest) = 2 * x + z
 verb_of : ℕ → Verb
 verb_of k =
     if k == 344 then Value else if k == 341 then Show else if k == 299 then Check else if k == 312 then Certify else if k == 307 then
-        Compose
+    Compose
     else if k == 333 then Tree else if k == 338 then Run else Generate
 
 -- the verb of a verb's text is itself

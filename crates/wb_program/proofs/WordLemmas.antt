@@ -35,7 +35,7 @@ said words verb options rest later asked show_is_built (says_show {file = file})
 pub none_asked : (words : List (List ℕ)) → ¬ AreValue words → ¬ AreShow words → ¬ InCommandSet words
 none_asked words no_value no_show is =
     said words is.asks.verb is.asks.options is.asks.rest is.asks.positional is.asked is.built is.asks.says is.asks.splits is.asks.line
-        no_value no_show
+    no_value no_show
 
 -- no answer is one with what holds of none
 pub if_none : {X : Type 0} (o : Option X) (P Q : Type 0) → (P → Q) → IfNone o P → IfNone o Q

@@ -15,7 +15,8 @@ use Rattle.wb_syntax.specs.declared.written.WrittenSpec.{WrittenSpec}
 use Rattle.wb_syntax.specs.SpecText.{SpecView, IsWrittenText, IsSpecText, IsReadAs}
 use Rattle.wb_reader.specs.declared.refusal.SpecRefusal.{SpecRefusal}
 use Rattle.wb_reader.specs.declared.refusal.SpecRefusal.TheVariants.{TooLong, WrongFormat, Syntax, BadRegex, MatchesEmpty, NoMemory}
-use Rattle.wb_reader.specs.Refusals.{IsShort, IsOtherFormat, IsSyntaxFault, IsTaken, lexical_item, HasPattern, IsBadRegex, IsEmptyPattern, HasCause, IsAcceptedText}
+use Rattle.wb_reader.specs.Refusals.{IsShort, IsOtherFormat, IsSyntaxFault, IsTaken, lexical_item, HasPattern, IsBadRegex, IsEmptyPattern}
+use Rattle.wb_reader.specs.Refusals.{HasCause, IsAcceptedText}
 use Rattle.wb_reader.specs.Inner.Patterns.{OnForm, OnItems}
 use Rattle.wb_reader.specs.OneAnswer.{IsNoMemory}
 use Rattle.wb_reader.specs.OneAnswer.{HasOneAnswer}

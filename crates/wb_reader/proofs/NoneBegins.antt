@@ -1,5 +1,6 @@
 -- With what is at the place of a first error, no specification's text begins.
-use Rattle.std.proofs.Common.{◌≡◌, ℕ, ◌<◌, ◌≤◌, List, [], ◌∷◌, ◌++◌, length, take, drop, sym, ap, ◌∙◌, subst, arith, length-take, length-append, append_assoc, get_or, refl, inl, inr, ⊎_elim, ◌+◌}
+use Rattle.std.proofs.Common.{◌≡◌, ℕ, ◌<◌, ◌≤◌, List, [], ◌∷◌, ◌++◌, length, take, drop, sym, ap, ◌∙◌, subst, arith, length-take}
+use Rattle.std.proofs.Common.{length-append, append_assoc, get_or, refl, inl, inr, ⊎_elim, ◌+◌}
 use Rattle.std.proofs.lemmas.Bool.{cases_lt}
 use Rattle.std.proofs.lemmas.List.{take-append-drop, get_or_at}
 use Rattle.wb_predictive.specs.declared.table.Next.{Next}

@@ -1,5 +1,6 @@
 -- Regular expressions of items: where they stand, and which is the first that isn't taken.
-use Rattle.std.proofs.Common.{Result, Ok, Err, IfErr, ◌≡◌, ◌≤◌, ◌<◌, ◌+◌, ℕ, List, [], ◌∷◌, ◌++◌, ◌⊎◌, inl, inr, refl, sym, ap, ◌∙◌, subst, length, arith, All, MatchOption, Option, Some, None}
+use Rattle.std.proofs.Common.{Result, Ok, Err, IfErr, ◌≡◌, ◌≤◌, ◌<◌, ◌+◌, ℕ, List, [], ◌∷◌, ◌++◌, ◌⊎◌, inl, inr, refl, sym, ap, ◌∙◌, subst}
+use Rattle.std.proofs.Common.{length, arith, All, MatchOption, Option, Some, None}
 use Rattle.std.specs.List.{AllZip, slice_range}
 use Rattle.std.specs.Result.{IsErrAnd}
 use Rattle.std.proofs.lemmas.Slice.Zip.{AllZip-long}

@@ -1,5 +1,6 @@
 -- Items of names alone: each has a right side of its fields, whose action makes it of what the fields hold.
-use Rattle.std.proofs.Common.{◌≡◌, ◌<◌, ℕ, List, [], ◌∷◌, ◌++◌, ◌⊎◌, inl, inr, refl, sym, ap, ◌∙◌, subst, length, arith, Option, Some, None, slice_get}
+use Rattle.std.proofs.Common.{◌≡◌, ◌<◌, ℕ, List, [], ◌∷◌, ◌++◌, ◌⊎◌, inl, inr, refl, sym, ap, ◌∙◌, subst, length, arith, Option, Some, None}
+use Rattle.std.proofs.Common.{slice_get}
 use Rattle.wb_predictive.specs.declared.symbol.Symbol.TheVariants.{Nonterminal, Act}
 use Rattle.wb_predictive.specs.Grammar.{expand, act as acts}
 use Rattle.wb_syntax.specs.declared.item.Item.{Item}
@@ -20,7 +21,8 @@ use Rattle.wb_reader.specs.Inner.RightSides.{right_sides}
 use Rattle.wb_reader.specs.Inner.ItemRules.{plain_right_sides}
 use Rattle.wb_reader.proofs.Taking.{Row, Makes, OneOf, acted}
 use Rattle.wb_reader.proofs.Many.{Element}
-use Rattle.wb_reader.proofs.Fields.{row_of, row_append, first_place, with_fields, places_of, BeginsAt, Begins, begins, Values, fields_with, fields_taken, fields_given}
+use Rattle.wb_reader.proofs.Fields.{row_of, row_append, first_place, with_fields, places_of, BeginsAt, Begins, begins, Values, fields_with}
+use Rattle.wb_reader.proofs.Fields.{fields_taken, fields_given}
 
 -- the parts with these items
 abbrev pub itemized : SpecBuilder → List (Item WrittenPattern) → SpecBuilder

@@ -1,5 +1,6 @@
 -- Whole expressions that the table's grammar derives stand in the grammar of specifications.
-use Rattle.std.proofs.Common.{◌≡◌, ◌<◌, ◌+◌, ◌-◌, ℕ, zero, suc, List, [], ◌∷◌, ◌++◌, ◌⊎◌, inl, inr, refl, sym, ap, ◌∙◌, subst, length, arith, true, false, pos}
+use Rattle.std.proofs.Common.{◌≡◌, ◌<◌, ◌+◌, ◌-◌, ℕ, zero, suc, List, [], ◌∷◌, ◌++◌, ◌⊎◌, inl, inr, refl, sym, ap, ◌∙◌, subst, length}
+use Rattle.std.proofs.Common.{arith, true, false, pos}
 use Rattle.std.proofs.lemmas.List.{append_assoc, length-append}
 use Rattle.wb_predictive.specs.declared.symbol.Symbol.TheVariants.{Token, Nonterminal, Act}
 use Rattle.wb_tokens.specs.declared.word.Word.TheVariants as word
@@ -18,7 +19,8 @@ use Rattle.wb_builder.specs.declared.expressions.ExpressionAction.{ExpressionAct
 use Rattle.wb_builder.specs.declared.builder.SpecBuilder.{SpecBuilder}
 use Rattle.wb_reader.specs.Inner.RightSides.{right_sides}
 use Rattle.wb_builder.specs.Builder.{with_name, with_integer}
-use Rattle.wb_reader.proofs.Taking.{Row, Makes, Split, OneOf, chosen, acted, word_taken, mark_taken, name_taken, number_taken, one_taken, string_taken}
+use Rattle.wb_reader.proofs.Taking.{Row, Makes, Split, OneOf, chosen, acted, word_taken, mark_taken, name_taken, number_taken, one_taken}
+use Rattle.wb_reader.proofs.Taking.{string_taken}
 use Rattle.wb_reader.proofs.Joins.{joined_one, joined}
 use Rattle.wb_expressions.proofs.AppendLemmas.{behind_len, all_behind_len, if_nodes, if_root}
 use Rattle.wb_reader.proofs.ExpressionSound.{begun, grown, ExpressionBelow, rooted, arguments_of_rows, tail_of_rows}

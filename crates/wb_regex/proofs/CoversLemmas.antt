@@ -29,10 +29,12 @@ covers_within {nodes} (plus i a g h) = let p = slice_get_within nodes _ _ g in o
 covers_within {nodes} (maybe i a g h) = let p = slice_get_within nodes _ _ g in omega arith
 
 -- the tree of a node, down to enough levels
-at_node : (nodes : List RegexNode) (levels place : ℕ) (node : RegexNode) → slice_get nodes place ≡ Some node → tree_at nodes (suc levels) place ≡ node_tree (tree_at nodes levels) node
+at_node : (nodes : List RegexNode) (levels place : ℕ) (node : RegexNode) → slice_get nodes place ≡ Some node → tree_at nodes
+    (suc levels) place ≡ node_tree (tree_at nodes levels) node
 at_node nodes levels place node g = ap (node_tree (tree_at nodes levels)) (get_or_from_slice_get nodes place node (n.Set []) g)
 
-covers_at : {nodes : List RegexNode} (levels : ℕ) {s e : ℕ} {t : Tree} → Covers nodes s e t → e ≤ levels → (place : ℕ) → e ≡ place + 1 → tree_at nodes levels place ≡ t
+covers_at : {nodes : List RegexNode} (levels : ℕ) {s e : ℕ} {t : Tree} → Covers nodes s e t → e ≤ levels → (place : ℕ) → e ≡ place + 1
+    → tree_at nodes levels place ≡ t
 covers_at zero c l place f = let p = covers_rises c in absurd (omega arith)
 covers_at {nodes} (suc levels) {s} (set words g h) l place f =
     let p : place ≡ s = omega arith in ap (tree_at nodes (suc levels)) p ∙ at_node nodes levels s (n.Set words) g
@@ -40,12 +42,14 @@ covers_at {nodes} (suc levels) (sequence {r = r} i j a b g h) l place f =
     let p : place ≡ j + 1 = omega arith in
     let k : i + 1 ≤ j + 1 = let q = covers_rises b in omega arith in
     ap (tree_at nodes (suc levels)) p ∙ at_node nodes levels (j + 1) (n.Sequence i j) g
-    ∙ ap (λ q. Sequence q (tree_at nodes levels j)) (covers_at levels a (omega arith) i refl) ∙ ap (Sequence r) (covers_at levels b (omega arith) j refl)
+    ∙ ap (λ q. Sequence q (tree_at nodes levels j)) (covers_at levels a (omega arith) i refl) ∙ ap (Sequence r)
+    (covers_at levels b (omega arith) j refl)
 covers_at {nodes} (suc levels) (choice {r = r} i j a b g h) l place f =
     let p : place ≡ j + 1 = omega arith in
     let k : i + 1 ≤ j + 1 = let q = covers_rises b in omega arith in
     ap (tree_at nodes (suc levels)) p ∙ at_node nodes levels (j + 1) (n.Choice i j) g
-    ∙ ap (λ q. Choice q (tree_at nodes levels j)) (covers_at levels a (omega arith) i refl) ∙ ap (Choice r) (covers_at levels b (omega arith) j refl)
+    ∙ ap (λ q. Choice q (tree_at nodes levels j)) (covers_at levels a (omega arith) i refl) ∙ ap (Choice r)
+    (covers_at levels b (omega arith) j refl)
 covers_at {nodes} (suc levels) (star i a g h) l place f =
     let p : place ≡ i + 1 = omega arith in
     ap (tree_at nodes (suc levels)) p ∙ at_node nodes levels (i + 1) (n.Star i) g ∙ ap Star (covers_at levels a (omega arith) i refl)

@@ -1,5 +1,6 @@
 -- The answers exclude each other: a text has one tree, or one first fault, and never both.
-use Rattle.std.proofs.Common.{◌≡◌, ℕ, ◌+◌, ◌-◌, ◌<◌, ◌≤◌, List, [], ◌∷◌, ◌++◌, length, take, drop, map, refl, sym, ap, ◌∙◌, subst, arith, inl, inr, append_assoc, take-append-drop, length-drop}
+use Rattle.std.proofs.Common.{◌≡◌, ℕ, ◌+◌, ◌-◌, ◌<◌, ◌≤◌, List, [], ◌∷◌, ◌++◌, length, take, drop, map, refl, sym, ap, ◌∙◌, subst, arith}
+use Rattle.std.proofs.Common.{inl, inr, append_assoc, take-append-drop, length-drop}
 use Rattle.std.proofs.Math.Seq.{take-add}
 use Rattle.std.proofs.lemmas.List.{append-nil, length-take-le}
 use Rattle.std.proofs.lemmas.Bool.{cases_lt}
@@ -43,7 +44,8 @@ record Splits (front symbols : List Symbol) (rest : List ℕ) : Type 0 where
   text : IsText back rest
 
 splits : {front symbols : List Symbol} {a x : List ℕ} (b : List ℕ) → IsText front a → IsText symbols x → x ≡ a ++ b → Splits front symbols b
-splits {symbols = symbols} b (none f) t e = record { back = symbols; joins = refl; text = subst (IsText symbols) (e ∙ ap (λ z. z ++ b) f) t }
+splits {symbols = symbols} b (none f) t e =
+    record { back = symbols; joins = refl; text = subst (IsText symbols) (e ∙ ap (λ z. z ++ b) f) t }
 splits b (next {u = u} {v = v} i h f) (none g) e =
     let z : [] ≡ u ++ (v ++ b) = sym g ∙ e ∙ ap (λ w. w ++ b) f ∙ append_assoc u v b in absurd (start_some u (v ++ b) (symbol_some i) z)
 splits b (next {s} {ss} {u = u} {v = v} i h f) (next {s = z} {ss = zs} {u = p} {v = q} j t g) e =
@@ -64,23 +66,32 @@ written_append [] ys = refl
 written_append (x ∷ xs) ys = ap (λ z. Written x ∷ z) (written_append xs ys)
 
 -- what an expression begins with can start one
-front_starts : (front back : List Symbol) (rest : List Sign) (t : Tree) → Reads Regex (map Written (front ++ back) ++ rest) t → CanStart front
+front_starts : (front back : List Symbol) (rest : List Sign) (t : Tree) → Reads Regex (map Written (front ++ back) ++ rest) t
+    → CanStart front
 front_starts front back rest t r =
-    record { rest = map Written back ++ rest; tree = t; reads = subst (λ w. Reads Regex w t) (ap (λ w. w ++ rest) (written_append front back) ∙ append_assoc (map Written front) (map Written back) rest) r }
+    record {
+      rest = map Written back ++ rest;
+      tree = t;
+      reads = subst (λ w. Reads Regex w t)
+          (ap (λ w. w ++ rest) (written_append front back) ∙ append_assoc (map Written front) (map Written back) rest) r;
+    }
 
 -- no symbols go on after a first fault
-nothing_follows : (x : List ℕ) (o : ℕ) (f : IsFirstFault x o) {back : List Symbol} (b c : List ℕ) (rest : List Sign) (t : Tree) → IsText back b → drop o x ≡ b ++ c → Reads Regex (map Written (f.front ++ back) ++ rest) t → back ≡ []
+nothing_follows : (x : List ℕ) (o : ℕ) (f : IsFirstFault x o) {back : List Symbol} (b c : List ℕ) (rest : List Sign) (t : Tree)
+    → IsText back b → drop o x ≡ b ++ c → Reads Regex (map Written (f.front ++ back) ++ rest) t → back ≡ []
 nothing_follows x o f b c rest t (none e) j r = refl
 nothing_follows x o f b c rest t (next {s} {ss} {u = u} {v = v} i h e) j r =
     let e' : f.front ++ s ∷ ss ≡ (f.front ++ s ∷ []) ++ ss = sym (append_assoc f.front (s ∷ []) ss) in
-    absurd (f.follow s u (v ++ c) i (j ∙ ap (λ w. w ++ c) e ∙ append_assoc u v c) (front_starts (f.front ++ s ∷ []) ss rest t (subst (λ w. Reads Regex (map Written w ++ rest) t) e' r)))
+    absurd (f.follow s u (v ++ c) i (j ∙ ap (λ w. w ++ c) e ∙ append_assoc u v c)
+    (front_starts (f.front ++ s ∷ []) ss rest t (subst (λ w. Reads Regex (map Written w ++ rest) t) e' r)))
 
 -- an expression has no fault
 pub no_fault : (x : List ℕ) (t : Tree) (o : ℕ) → IsRegexText x t → ¬ IsFirstFault x o
 no_fault x t o h f =
     let s = splits (drop o x) f.text h.text (sym (take-append-drop o x)) in
     let r : Reads Regex (map Written (f.front ++ s.back)) t = subst (λ w. Reads Regex (map Written w) t) s.joins h.reads in
-    let n = nothing_follows x o f (drop o x) [] [] t s.text (sym (append-nil (drop o x))) (subst (λ w. Reads Regex w t) (sym (append-nil (map Written (f.front ++ s.back)))) r) in
+    let n = nothing_follows x o f (drop o x) [] [] t s.text (sym (append-nil (drop o x)))
+    (subst (λ w. Reads Regex w t) (sym (append-nil (map Written (f.front ++ s.back)))) r) in
     let z : drop o x ≡ [] = no_bytes (subst (λ w. IsText w (drop o x)) n s.text) in
     let l : length x - o ≡ 0 = sym (length-drop o x) ∙ ap length z in
     let in_range = f.within in
@@ -94,8 +105,10 @@ not_before x o p f g lt =
     let i : p ≡ o + m = omega arith in
     let j : take p x ≡ take o x ++ take m (drop o x) = ap (λ n. take n x) i ∙ take-add o m x in
     let s = splits (take m (drop o x)) f.text g.text j in
-    let r : Reads Regex (map Written (f.front ++ s.back) ++ g.before.rest) g.before.tree = subst (λ w. Reads Regex (map Written w ++ g.before.rest) g.before.tree) s.joins g.before.reads in
-    let n = nothing_follows x o f (take m (drop o x)) (drop m (drop o x)) g.before.rest g.before.tree s.text (sym (take-append-drop m (drop o x))) r in
+    let r : Reads Regex (map Written (f.front ++ s.back) ++ g.before.rest) g.before.tree = subst
+    (λ w. Reads Regex (map Written w ++ g.before.rest) g.before.tree) s.joins g.before.reads in
+    let n = nothing_follows x o f (take m (drop o x)) (drop m (drop o x)) g.before.rest g.before.tree s.text
+    (sym (take-append-drop m (drop o x))) r in
     let z : take m (drop o x) ≡ [] = no_bytes (subst (λ w. IsText w (take m (drop o x))) n s.text) in
     let in_range : p ≤ length x = g.within in
     let d : length (drop o x) ≡ length x - o = length-drop o x in

@@ -1,5 +1,7 @@
 -- What changes of words make of the byte sets that they are.
-use Rattle.std.proofs.Common.{◌≡◌, ℕ, zero, suc, ◌+◌, ◌-◌, ◌*◌, ◌/◌, ◌%◌, ◌^◌, ◌<◌, ◌≤◌, Bool, true, false, not, eqb, ◌&&◌, ◌||◌, List, [], ◌∷◌, length, get_or, set, refl, sym, ◌∙◌, ap, subst, arith, inl, inr, eq-eqb, ne_eqb, w64, get_or-set_same, get_or-set_other, length-set}
+use Rattle.std.proofs.Common.{◌≡◌, ℕ, zero, suc, ◌+◌, ◌-◌, ◌*◌, ◌/◌, ◌%◌, ◌^◌, ◌<◌, ◌≤◌, Bool, true, false, not, eqb, ◌&&◌, ◌||◌, List, []}
+use Rattle.std.proofs.Common.{◌∷◌, length, get_or, set, refl, sym, ◌∙◌, ap, subst, arith, inl, inr, eq-eqb, ne_eqb, w64, get_or-set_same}
+use Rattle.std.proofs.Common.{get_or-set_other, length-set}
 use Rattle.std.specs.Prelude.{bit_or, slice_index, nat_le}
 use Rattle.std.specs.Int.{bit_at, bit_not}
 use Rattle.std.proofs.lemmas.Bool.{cases_eq}
@@ -35,7 +37,8 @@ nothing_is = record {
   four = refl;
   small = λ k. rw (zeros k) (pow_pos 64);
   each = λ b. (
-    λ (h : HoldsByte (0 ∷ 0 ∷ 0 ∷ 0 ∷ []) b). let e = sym (bit_at-zero (b % 64)) ∙ sym (ap (λ w. bit_at w (b % 64)) (zeros (b / 64))) ∙ h.1 in absurd (omega arith),
+    λ (h : HoldsByte (0 ∷ 0 ∷ 0 ∷ 0 ∷ []) b). let e =
+        sym (bit_at-zero (b % 64)) ∙ sym (ap (λ w. bit_at w (b % 64)) (zeros (b / 64))) ∙ h.1 in absurd (omega arith),
     λ (h : (b < 256) × (false ≡ true)). let e = h.1 in absurd (cc),
   );
 }
@@ -47,9 +50,11 @@ added words b = set words (b / 64) (bit_or (get_or words (b / 64) 0) (1 * 2 ^ (b
 bit_small : (k : ℕ) → 1 * 2 ^ k % 2 ^ 64 < 2 ^ 64
 bit_small k = omega (arith, pow_pos 64)
 
-added_small : (words : List ℕ) (b : ℕ) → b / 64 < length words → ((k : ℕ) → get_or words k 0 < 2 ^ 64) → (k : ℕ) → get_or (added words b) k 0 < 2 ^ 64
+added_small : (words : List ℕ) (b : ℕ) → b / 64 < length words → ((k : ℕ) → get_or words k 0 < 2 ^ 64) → (k : ℕ) → get_or
+    (added words b) k 0 < 2 ^ 64
 added_small words b within small k = elim (cases_eq k (b / 64)) [
-  | inl e ↦ rw (e, get_or-set_same words (b / 64) (bit_or (get_or words (b / 64) 0) (1 * 2 ^ (b % 64) % 2 ^ 64)) 0 within) (or_lt 64 _ _ (small (b / 64)) (bit_small (b % 64)))
+  | inl e ↦ rw (e, get_or-set_same words (b / 64) (bit_or (get_or words (b / 64) 0) (1 * 2 ^ (b % 64) % 2 ^ 64)) 0 within)
+      (or_lt 64 _ _ (small (b / 64)) (bit_small (b % 64)))
   | inr ne ↦ rw (get_or-set_other words (b / 64) k (bit_or (get_or words (b / 64) 0) (1 * 2 ^ (b % 64) % 2 ^ 64)) 0 ne) (small k)
 ]
 
@@ -59,14 +64,16 @@ added_same words b within =
     ap (λ x. bit_at x (b % 64)) (get_or-set_same words (b / 64) (bit_or (get_or words (b / 64) 0) (1 * 2 ^ (b % 64) % 2 ^ 64)) 0 within)
     ∙ bit_at_set_same w64 (get_or words (b / 64) 0) (b % 64) (omega arith)
 
-added_other : (words : List ℕ) (b c : ℕ) → b / 64 < length words → (c ≡ b → ⊥) → bit_at (get_or (added words b) (c / 64) 0) (c % 64) ≡ bit_at (get_or words (c / 64) 0) (c % 64)
+added_other : (words : List ℕ) (b c : ℕ) → b / 64 < length words → (c ≡ b → ⊥) → bit_at (get_or (added words b) (c / 64) 0)
+    (c % 64) ≡ bit_at (get_or words (c / 64) 0) (c % 64)
 added_other words b c within ne = elim (cases_eq (c / 64) (b / 64)) [
   | inl e ↦
       ap (λ k. bit_at (get_or (added words b) k 0) (c % 64)) e
       ∙ ap (λ x. bit_at x (c % 64)) (get_or-set_same words (b / 64) (bit_or (get_or words (b / 64) 0) (1 * 2 ^ (b % 64) % 2 ^ 64)) 0 within)
       ∙ bit_at_set_other w64 (get_or words (b / 64) 0) (b % 64) (omega arith) (c % 64) (omega arith)
       ∙ ap (λ k. bit_at (get_or words k 0) (c % 64)) (sym e)
-  | inr apart ↦ ap (λ x. bit_at x (c % 64)) (get_or-set_other words (b / 64) (c / 64) (bit_or (get_or words (b / 64) 0) (1 * 2 ^ (b % 64) % 2 ^ 64)) 0 apart)
+  | inr apart ↦ ap (λ x. bit_at x (c % 64)) (get_or-set_other words (b / 64) (c / 64)
+      (bit_or (get_or words (b / 64) 0) (1 * 2 ^ (b % 64) % 2 ^ 64)) 0 apart)
 ]
 
 pub with_one : (words : List ℕ) (b : ℕ) (test : ℕ → Bool) → b < 256 → IsSetOf words test → IsSetOf (added words b) (λ c. eqb c b || test c)
@@ -79,8 +86,11 @@ with_one words b test small h =
       each = λ c. elim (cases_eq c b) [
         | inl e ↦
             let at_b : HoldsByte (added words b) b = (small, added_same words b within) in
-            let is_b : (eqb c b || test c) ≡ true = ap (λ z. z || test c) (eq-eqb c b e) in
-            (λ (k : HoldsByte (added words b) c). (k.0, is_b), λ (k : (c < 256) × ((eqb c b || test c) ≡ true)). subst (HoldsByte (added words b)) (sym e) at_b)
+            let is_b : (eqb c b || test c) ≡ true = ap (λ z. z || test c) (eq-eqb c b e) in (
+              λ (k : HoldsByte (added words b) c). (k.0, is_b),
+              λ (k : (c < 256) × ((eqb c b || test c) ≡ true)). subst
+                  (HoldsByte (added words b)) (sym e) at_b,
+            )
         | inr ne ↦
             let same = added_other words b c within ne in
             let is_c : (eqb c b || test c) ≡ test c = ap (λ z. z || test c) (ne_eqb c b ne) in (
@@ -103,7 +113,8 @@ literal_holds words b l h = (h.each b).1 (l, ap (λ z. z || false) (eq-eqb b b r
 
 -- the other bytes
 abbrev after_class : List ℕ → List ℕ
-after_class words = bit_not w64 (get_or words 0 0) ∷ bit_not w64 (get_or words 1 0) ∷ bit_not w64 (get_or words 2 0) ∷ bit_not w64 (get_or words 3 0) ∷ []
+after_class words = bit_not w64 (get_or words 0 0) ∷ bit_not w64 (get_or words 1 0) ∷ bit_not w64 (get_or words 2 0) ∷ bit_not w64
+    (get_or words 3 0) ∷ []
 
 turned_at : (words : List ℕ) (k : ℕ) → k < 4 → get_or (after_class words) k 0 ≡ bit_not w64 (get_or words k 0)
 turned_at words zero h = refl
@@ -155,7 +166,8 @@ range_test low end test c = (nat_le low c && nat_le (c + 1) end) || test c
 range_none : (low c : ℕ) (t : Bool) → t ≡ ((nat_le low c && nat_le (c + 1) low) || t)
 range_none low c t = grind arith
 
-range_more : (low end c : ℕ) (t : Bool) → low ≤ end → (eqb c end || ((nat_le low c && nat_le (c + 1) end) || t)) ≡ ((nat_le low c && nat_le (c + 1) (end + 1)) || t)
+range_more : (low end c : ℕ) (t : Bool) → low ≤ end → (eqb c end || ((nat_le low c && nat_le (c + 1) end) || t)) ≡
+    ((nat_le low c && nat_le (c + 1) (end + 1)) || t)
 range_more low end c t h = grind arith
 
 range_all : (low high c : ℕ) (t : Bool) → ((nat_le low c && nat_le (c + 1) (high + 1)) || t) ≡ ((nat_le low c && nat_le c high) || t)
@@ -164,8 +176,12 @@ range_all low high c t = grind arith
 pub range_begun : (words : List ℕ) (low : ℕ) (test : ℕ → Bool) → IsSetOf words test → IsSetOf words (range_test low low test)
 range_begun words low test h = by_test words test (range_test low low test) (λ c. range_none low c (test c)) h
 
-pub range_step : (words : List ℕ) (low end : ℕ) (test : ℕ → Bool) → low ≤ end → IsSetOf words (λ c. eqb c end || range_test low end test c) → IsSetOf words (range_test low (end + 1) test)
-range_step words low end test l h = by_test words (λ c. eqb c end || range_test low end test c) (range_test low (end + 1) test) (λ c. range_more low end c (test c) l) h
+pub range_step : (words : List ℕ) (low end : ℕ) (test : ℕ → Bool) → low ≤ end → IsSetOf words (λ c. eqb c end || range_test low end test c)
+    → IsSetOf words (range_test low (end + 1) test)
+range_step words low end test l h = by_test words (λ c. eqb c end || range_test low end test c) (range_test low (end + 1) test)
+    (λ c. range_more low end c (test c) l) h
 
-pub range_over : (words : List ℕ) (low high : ℕ) (test : ℕ → Bool) → IsSetOf words (range_test low (high + 1) test) → IsSetOf words (λ c. (nat_le low c && nat_le c high) || test c)
-range_over words low high test h = by_test words (range_test low (high + 1) test) (λ c. (nat_le low c && nat_le c high) || test c) (λ c. range_all low high c (test c)) h
+pub range_over : (words : List ℕ) (low high : ℕ) (test : ℕ → Bool) → IsSetOf words (range_test low (high + 1) test) → IsSetOf words
+    (λ c. (nat_le low c && nat_le c high) || test c)
+range_over words low high test h = by_test words (range_test low (high + 1) test) (λ c. (nat_le low c && nat_le c high) || test c)
+    (λ c. range_all low high c (test c)) h

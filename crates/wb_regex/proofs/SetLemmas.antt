@@ -1,5 +1,6 @@
 -- Four words are a byte set in one way, and a set has a byte where a word has a bit.
-use Rattle.std.proofs.Common.{◌≡◌, ℕ, zero, suc, ◌+◌, ◌-◌, ◌*◌, ◌/◌, ◌%◌, ◌^◌, ◌<◌, Bool, true, false, cond, List, length, get_or, refl, sym, ◌∙◌, ap, arith, inl, inr, eq-eqb, w64}
+use Rattle.std.proofs.Common.{◌≡◌, ℕ, zero, suc, ◌+◌, ◌-◌, ◌*◌, ◌/◌, ◌%◌, ◌^◌, ◌<◌, Bool, true, false, cond, List, length, get_or, refl}
+use Rattle.std.proofs.Common.{sym, ◌∙◌, ap, arith, inl, inr, eq-eqb, w64}
 use Rattle.std.specs.Prelude.{slice_index}
 use Rattle.std.specs.Int.{bit_at, trailing_zeros}
 use Rattle.std.proofs.Math.Nat.{pow-succ'}
@@ -97,7 +98,8 @@ same_words a b test h k = same_number_lists a b (h.four ∙ sym k.four) word
     place : (j i : ℕ) → j < 4 → i < 64 → (64 * j + i < 256) × ((64 * j + i) / 64 ≡ j) × ((64 * j + i) % 64 ≡ i)
     place j i p q = (omega arith, omega arith, omega arith)
 
-    crosses : (x y : List ℕ) → IsSetOf x test → IsSetOf y test → (j i : ℕ) → j < 4 → i < 64 → bit_at (get_or x j 0) i ≡ 1 → bit_at (get_or y j 0) i ≡ 1
+    crosses : (x y : List ℕ) → IsSetOf x test → IsSetOf y test → (j i : ℕ) → j < 4 → i < 64 → bit_at (get_or x j 0) i ≡ 1 → bit_at
+        (get_or y j 0) i ≡ 1
     crosses x y f g j i p q one =
         let at = place j i p q in
         let has : HoldsByte x (64 * j + i) = (at.0, rw (at.1, at.2) one) in
@@ -107,7 +109,9 @@ same_words a b test h k = same_number_lists a b (h.four ∙ sym k.four) word
     word : (j : ℕ) → j < length a → get_or a j 0 ≡ get_or b j 0
     word j p =
         let p' : j < 4 = rw (h.four) at p in
-        same_from_bits_below 64 (get_or a j 0) (get_or b j 0) (h.small j) (k.small j) (λ i q. same_bit _ _ (bit_at-lt (get_or a j 0) i) (bit_at-lt (get_or b j 0) i) (crosses a b h k j i p' q) (crosses b a k h j i p' q))
+        same_from_bits_below 64 (get_or a j 0) (get_or b j 0) (h.small j) (k.small j)
+        (λ i q. same_bit _ _ (bit_at-lt (get_or a j 0) i) (bit_at-lt (get_or b j 0) i) (crosses a b h k j i p' q)
+        (crosses b a k h j i p' q))
 
 pub words_are : (words : List ℕ) (test : ℕ → Bool) → IsSetOf words test → words ≡ words_of test
 words_are words test h = same_words words (words_of test) test h (is_set_of test)
@@ -122,7 +126,8 @@ zero_holds_none words h b has =
     let n = sym (bit_at-zero (b % 64)) ∙ sym (ap (λ w. bit_at w (b % 64)) z) ∙ has.1 in
     absurd (omega arith)
   where
-    all : (k : ℕ) → k < 4 → slice_index words 0 ≡ 0 → slice_index words 1 ≡ 0 → slice_index words 2 ≡ 0 → slice_index words 3 ≡ 0 → slice_index words k ≡ 0
+    all : (k : ℕ) → k < 4 → slice_index words 0 ≡ 0 → slice_index words 1 ≡ 0 → slice_index words 2 ≡ 0 → slice_index words 3 ≡ 0
+        → slice_index words k ≡ 0
     all zero l p q r s = p
     all (suc zero) l p q r s = q
     all (suc (suc zero)) l p q r s = r
@@ -148,7 +153,8 @@ nonzero_holds words small h = elim (cases_eq (slice_index words 0) 0) [
       | inr ne ↦ word_holds words 2 (omega arith) (small 2) ne
       | inl r ↦ elim (cases_eq (slice_index words 3) 0) [
         | inr ne ↦ word_holds words 3 (omega arith) (small 3) ne
-        | inl s ↦ let e : are_zero words ≡ true = rw (eq-eqb _ _ p, eq-eqb _ _ q, eq-eqb _ _ r, eq-eqb _ _ s) refl in let c = sym h ∙ e in absurd (cc)
+        | inl s ↦ let e : are_zero words ≡ true =
+            rw (eq-eqb _ _ p, eq-eqb _ _ q, eq-eqb _ _ r, eq-eqb _ _ s) refl in let c = sym h ∙ e in absurd (cc)
       ]
     ]
   ]

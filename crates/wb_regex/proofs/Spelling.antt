@@ -1,5 +1,6 @@
 -- The first symbol of some bytes is the one symbol that is spelled at their front.
-use Rattle.std.proofs.Common.{◌≡◌, ℕ, ◌+◌, ◌*◌, List, [], ◌∷◌, ◌++◌, Option, Some, None, true, false, cond, eqb, refl, sym, ap, ◌∙◌, subst, ⊎_elim, arith}
+use Rattle.std.proofs.Common.{◌≡◌, ℕ, ◌+◌, ◌*◌, List, [], ◌∷◌, ◌++◌, Option, Some, None, true, false, cond, eqb, refl, sym, ap, ◌∙◌, subst}
+use Rattle.std.proofs.Common.{⊎_elim, arith}
 use Rattle.std.proofs.lemmas.Bool.{cases_Bool}
 use Rattle.wb_base.specs.Decimal.{hex_value}
 use Rattle.wb_regex.specs.Text.{byte_symbol, escape_byte, IsSymbol, alone, escaped, hexadecimal}
@@ -19,15 +20,19 @@ not_hex c b h = ⊎_elim (λ t. let e = ap escape_byte (is_number c 120 t) in ab
 -- what is spelled at the front is found
 pub only : {s : Symbol} {u : List ℕ} (x r : List ℕ) → IsSymbol s u → x ≡ u ++ r → symbol_at x ≡ Some (s, r)
 only x r (alone {s} {b} h e) f =
-    ap symbol_at (f ∙ ap (λ a. a ++ r) e) ∙ ap (λ t. cond t (escape_at r) (with_rest (byte_symbol b) r)) (not_backslash b s h) ∙ ap (λ o. with_rest o r) h
+    ap symbol_at (f ∙ ap (λ a. a ++ r) e) ∙ ap (λ t. cond t (escape_at r) (with_rest (byte_symbol b) r)) (not_backslash b s h) ∙ ap
+    (λ o. with_rest o r) h
 only x r (escaped {s} {b} {c} h g e) f =
-    ap symbol_at (f ∙ ap (λ a. a ++ r) e) ∙ ap (λ t. cond t (hex_at r) (with_rest (escape_of (escape_byte c)) r)) (not_hex c b h) ∙ ap (λ o. with_rest (escape_of o) r) h ∙ ap (λ o. Some (o, r)) (sym g)
+    ap symbol_at (f ∙ ap (λ a. a ++ r) e) ∙ ap (λ t. cond t (hex_at r) (with_rest (escape_of (escape_byte c)) r)) (not_hex c b h) ∙ ap
+    (λ o. with_rest (escape_of o) r) h ∙ ap (λ o. Some (o, r)) (sym g)
 only x r (hexadecimal {s} {h} {l} {m} {n} p q g e) f =
-    ap symbol_at (f ∙ ap (λ a. a ++ r) e) ∙ ap (λ o. with_rest (escape_of (hex_pair o (hex_value l))) r) p ∙ ap (λ o. with_rest (escape_of (hex_pair (Some m) o)) r) q ∙ ap (λ o. Some (o, r)) (sym g)
+    ap symbol_at (f ∙ ap (λ a. a ++ r) e) ∙ ap (λ o. with_rest (escape_of (hex_pair o (hex_value l))) r) p ∙ ap
+    (λ o. with_rest (escape_of (hex_pair (Some m) o)) r) q ∙ ap (λ o. Some (o, r)) (sym g)
 
 with_rest_some : (o : Option Symbol) (xs r : List ℕ) (s : Symbol) → with_rest o xs ≡ Some (s, r) → (o ≡ Some s) × (xs ≡ r)
 with_rest_some None xs r s h = cc
-with_rest_some (Some t) xs r s h = let p : ◌≡◌ {A = Symbol × List ℕ} (t, xs) (s, r) = cc in (ap (λ (q : Symbol × List ℕ). Some q.0) p, ap (λ (q : Symbol × List ℕ). q.1) p)
+with_rest_some (Some t) xs r s h = let p : ◌≡◌ {A = Symbol × List ℕ} (t, xs) (s, r) = cc in
+    (ap (λ (q : Symbol × List ℕ). Some q.0) p, ap (λ (q : Symbol × List ℕ). q.1) p)
 
 escape_of_some : (o : Option ℕ) (s : Symbol) → escape_of o ≡ Some s → (b : ℕ) × (o ≡ Some b) × (s ≡ Escape b)
 escape_of_some None s h = cc
@@ -55,11 +60,13 @@ found_escape [] r s h = cc
 found_escape (c ∷ xs) r s h = ⊎_elim yes no (cases_Bool (eqb c 120))
   where
     yes : eqb c 120 ≡ true → Found s (92 ∷ c ∷ xs) r
-    yes t = subst (λ a. Found s (92 ∷ a ∷ xs) r) (sym (is_number c 120 t)) (found_hex xs r s (sym (ap (λ a. cond a (hex_at xs) (with_rest (escape_of (escape_byte c)) xs)) t) ∙ h))
+    yes t = subst (λ a. Found s (92 ∷ a ∷ xs) r) (sym (is_number c 120 t))
+        (found_hex xs r s (sym (ap (λ a. cond a (hex_at xs) (with_rest (escape_of (escape_byte c)) xs)) t) ∙ h))
 
     no : eqb c 120 ≡ false → Found s (92 ∷ c ∷ xs) r
     no t =
-        let g = with_rest_some (escape_of (escape_byte c)) xs r s (sym (ap (λ a. cond a (hex_at xs) (with_rest (escape_of (escape_byte c)) xs)) t) ∙ h) in
+        let g = with_rest_some (escape_of (escape_byte c)) xs r s
+        (sym (ap (λ a. cond a (hex_at xs) (with_rest (escape_of (escape_byte c)) xs)) t) ∙ h) in
         let b = escape_of_some (escape_byte c) s g.0 in
         (92 ∷ c ∷ [], escaped b.1 b.2 refl, ap (λ y. 92 ∷ c ∷ y) g.1)
 
@@ -69,7 +76,8 @@ found [] r s h = cc
 found (b ∷ xs) r s h = ⊎_elim yes no (cases_Bool (eqb b 92))
   where
     yes : eqb b 92 ≡ true → Found s (b ∷ xs) r
-    yes t = subst (λ a. Found s (a ∷ xs) r) (sym (is_number b 92 t)) (found_escape xs r s (sym (ap (λ a. cond a (escape_at xs) (with_rest (byte_symbol b) xs)) t) ∙ h))
+    yes t = subst (λ a. Found s (a ∷ xs) r) (sym (is_number b 92 t))
+        (found_escape xs r s (sym (ap (λ a. cond a (escape_at xs) (with_rest (byte_symbol b) xs)) t) ∙ h))
 
     no : eqb b 92 ≡ false → Found s (b ∷ xs) r
     no t =

@@ -1,10 +1,12 @@
 -- How symbols are spelled in bytes, which bytes are a regular expression, and where others go wrong.
-use Rattle.std.specs.Prelude.{◌≡◌, ◌≤◌, ◌+◌, ◌*◌, ◌==◌, ◌&&◌, ◌||◌, ℕ, Bool, List, [], ◌∷◌, ◌++◌, length, take, drop, map, Option, Some, None, nat_le, if◌then◌else◌}
+use Rattle.std.specs.Prelude.{◌≡◌, ◌≤◌, ◌+◌, ◌*◌, ◌==◌, ◌&&◌, ◌||◌, ℕ, Bool, List, [], ◌∷◌, ◌++◌, length, take, drop, map, Option, Some}
+use Rattle.std.specs.Prelude.{None, nat_le, if◌then◌else◌}
 use Rattle.wb_base.specs.Decimal.{hex_value}
 use Rattle.wb_regex.specs.Tree.{Tree}
 use Rattle.wb_regex.specs.Grammar.{Sign, Written, Reads, Regex}
 use Rattle.wb_regex.specs.declared.symbol.Symbol.{Symbol}
-use Rattle.wb_regex.specs.declared.symbol.Symbol.TheVariants.{Bar, Asterisk, PlusSign, Question, OpenParenthesis, CloseParenthesis, OpenClass, CloseClass, Dot, Dash, Caret, Slash, Byte, Escape}
+use Rattle.wb_regex.specs.declared.symbol.Symbol.TheVariants.{Bar, Asterisk, PlusSign, Question, OpenParenthesis, CloseParenthesis}
+use Rattle.wb_regex.specs.declared.symbol.Symbol.TheVariants.{OpenClass, CloseClass, Dot, Dash, Caret, Slash, Byte, Escape}
 
 -- the symbol that a byte is by itself: each but the backslash is one
 abbrev pub byte_symbol : ℕ → Option Symbol
@@ -28,7 +30,8 @@ escape_byte c =
 pub data IsSymbol : Symbol → List ℕ → Type 0 where
   alone : {s : Symbol} {b : ℕ} {x : List ℕ} → byte_symbol b ≡ Some s → x ≡ b ∷ [] → IsSymbol s x
   escaped : {s : Symbol} {b c : ℕ} {x : List ℕ} → escape_byte c ≡ Some b → s ≡ Escape b → x ≡ 92 ∷ c ∷ [] → IsSymbol s x
-  hexadecimal : {s : Symbol} {h l m n : ℕ} {x : List ℕ} → hex_value h ≡ Some m → hex_value l ≡ Some n → s ≡ Escape (16 * m + n) → x ≡ 92 ∷ 120 ∷ h ∷ l ∷ [] → IsSymbol s x
+  hexadecimal : {s : Symbol} {h l m n : ℕ} {x : List ℕ} → hex_value h ≡ Some m → hex_value l ≡ Some n → s ≡ Escape (16 * m + n)
+      → x ≡ 92 ∷ 120 ∷ h ∷ l ∷ [] → IsSymbol s x
 
 -- the bytes are these symbols
 pub data IsText : List Symbol → List ℕ → Type 0 where

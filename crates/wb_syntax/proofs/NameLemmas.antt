@@ -1,5 +1,6 @@
 -- The names of what the grammar has are names, where its tokens are spelled.
-use Rattle.std.proofs.Common.{◌≡◌, ◌+◌, ℕ, true, false, List, [], ◌∷◌, ◌++◌, All, Option, None, Some, refl, sym, ap, ◌∙◌, subst, append_assoc}
+use Rattle.std.proofs.Common.{◌≡◌, ◌+◌, ℕ, true, false, List, [], ◌∷◌, ◌++◌, All, Option, None, Some, refl, sym, ap, ◌∙◌, subst}
+use Rattle.std.proofs.Common.{append_assoc}
 use Rattle.std.specs.List.{AllZip}
 use Rattle.std.proofs.lemmas.List.Elements.{All-nil, All-cons, All-head, All-tail, All-append}
 use Rattle.wb_base.specs.Identifiers.{IsName as IsNamed}
@@ -17,7 +18,8 @@ use Rattle.wb_syntax.specs.Expression.{Expression, Expressions, Node}
 use Rattle.wb_syntax.specs.ExpressionGrammar as e
 use Rattle.wb_syntax.specs.ExpressionGrammar.{IsExpression, AreArguments, AreFurther}
 use Rattle.wb_syntax.specs.PartGrammar as part
-use Rattle.wb_syntax.specs.PartGrammar.{IsKind, AreFurtherNames, AreNames, AreNeeds, AreOptionalNeeds, AreChildren, IsTarget, AreEquations, IsBlock}
+use Rattle.wb_syntax.specs.PartGrammar.{IsKind, AreFurtherNames, AreNames, AreNeeds, AreOptionalNeeds, AreChildren, IsTarget, AreEquations}
+use Rattle.wb_syntax.specs.PartGrammar.{IsBlock}
 use Rattle.wb_syntax.specs.ItemGrammar as item
 use Rattle.wb_syntax.specs.Fields.{Field, AreFields, no_field, then_word, then_mark, then_name, then_kind, then_needs, then_optional_needs}
 use Rattle.wb_syntax.specs.ItemGrammar.{IsProduction, IsItem, AreItems, IsHeader, IsSpecification}
@@ -31,7 +33,8 @@ use Rattle.wb_syntax.specs.declared.production.Child.{Child}
 use Rattle.wb_syntax.specs.declared.production.NamedKind.{NamedKind}
 use Rattle.wb_syntax.specs.declared.production.Production.{Production}
 use Rattle.wb_syntax.specs.declared.written.WrittenSpec.{WrittenSpec}
-use Rattle.wb_syntax.specs.Names.{node_names, target_names, EquationHasNames, kind_names, child_names, ProductionHasNames, needs_names, fields_names, FormHasNames, header_names}
+use Rattle.wb_syntax.specs.Names.{node_names, target_names, EquationHasNames, kind_names, child_names, ProductionHasNames, needs_names}
+use Rattle.wb_syntax.specs.Names.{fields_names, FormHasNames, header_names}
 
 -- where the token is a name, it is one
 abbrev IsNameToken : Token → Type 0

@@ -67,8 +67,11 @@ module _ (ss : List Signature) (ts : List Tree) (t : Term) (b : Builder) (h : Ho
     is = is;
     within = zipped.0.within;
     tree =
-        λ known fits. record { numbered = built_numbered ss t (tree_in ts id.0) zipped.0.built
-            (all_known known); fit = all_fit known fits };
+        λ known fits. record {
+          numbered = built_numbered ss t (tree_in ts id.0) zipped.0.built
+              (all_known known);
+          fit = all_fit known fits;
+        };
   }
 
   pub root : Root
@@ -92,26 +95,26 @@ module _ (ss : List Signature) (bytes : List ℕ) where
   tree_or_unknown u place a b =
       let e = same_text b.term a.term b.text a.text in
       each_some (FitsNode ss) (IsUnknown ss place)
-          (λ name at arguments f. known_not_unknown ss place name at arguments f.found) a.term a.its.fit
-              (subst (λ t. SomeNode (IsUnknown ss place) t) e b.least.here)
+      (λ name at arguments f. known_not_unknown ss place name at arguments f.found) a.term a.its.fit
+      (subst (λ t. SomeNode (IsUnknown ss place) t) e b.least.here)
 
   tree_or_wrong : (u : Tree) (place : ℕ) → IsTermOf ss bytes u → HasWrongChild ss bytes place → ⊥
   tree_or_wrong u place a b =
       let e = same_text b.term a.term b.text a.text in
       each_some (FitsNode ss) (IsWrong ss place) (fits_no_wrong ss place) a.term a.its.fit
-          (subst (λ t. SomeNode (IsWrong ss place) t) e b.least.here)
+      (subst (λ t. SomeNode (IsWrong ss place) t) e b.least.here)
 
   unknown_or_wrong : (i j : ℕ) → HasUnknown ss bytes i → HasWrongChild ss bytes j → ⊥
   unknown_or_wrong i j a b =
       let e = same_text a.term b.term a.text b.text in
       each_some (λ name at arguments. HasFirst ss name) (IsUnknown ss i) (known_not_unknown ss i) b.term b.known
-          (subst (λ t. SomeNode (IsUnknown ss i) t) e a.least.here)
+      (subst (λ t. SomeNode (IsUnknown ss i) t) e a.least.here)
 
   -- there is one answer
   pub one_answer : (a b : Answer) → IsAnswer ss bytes a → IsAnswer ss bytes b → a ≡ b
   one_answer (stands u) (stands w) a b =
       ap stands (one_tree ss a.term u w a.its.numbered (subst (λ t. IsTreeOf ss t w)
-          (same_text b.term a.term b.text a.text) b.its).numbered)
+      (same_text b.term a.term b.text a.text) b.its).numbered)
   one_answer (stands u) (bad j) a b = absurd (term_or_fault bytes a.term j a.text b)
   one_answer (stands u) (unknown j) a b = absurd (tree_or_unknown u j a b)
   one_answer (stands u) (wrong j) a b = absurd (tree_or_wrong u j a b)
@@ -123,14 +126,14 @@ module _ (ss : List Signature) (bytes : List ℕ) where
   one_answer (unknown i) (bad j) a b = absurd (term_or_fault bytes a.term j a.text b)
   one_answer (unknown i) (unknown j) a b =
       ap unknown (one_least (λ at. SomeNode (IsUnknown ss at) b.term) i j
-          (subst (λ t. IsLeast (λ at. SomeNode (IsUnknown ss at) t) i) (same_text a.term b.term a.text b.text) a.least) b.least)
+      (subst (λ t. IsLeast (λ at. SomeNode (IsUnknown ss at) t) i) (same_text a.term b.term a.text b.text) a.least) b.least)
   one_answer (unknown i) (wrong j) a b = absurd (unknown_or_wrong i j a b)
   one_answer (wrong i) (stands w) a b = absurd (tree_or_wrong w i b a)
   one_answer (wrong i) (bad j) a b = absurd (term_or_fault bytes a.term j a.text b)
   one_answer (wrong i) (unknown j) a b = absurd (unknown_or_wrong j i b a)
   one_answer (wrong i) (wrong j) a b =
       ap wrong (one_least (λ at. SomeNode (IsWrong ss at) b.term) i j
-          (subst (λ t. IsLeast (λ at. SomeNode (IsWrong ss at) t) i) (same_text a.term b.term a.text b.text) a.least) b.least)
+      (subst (λ t. IsLeast (λ at. SomeNode (IsWrong ss at) t) i) (same_text a.term b.term a.text b.text) a.least) b.least)
 
 -- and so is its tree
 pub root_id : (r : Option Value) (x : Value) (id other : TreeId) → r ≡ Some (Stored id) → r ≡ Some x → x ≡ Stored other → id ≡ other

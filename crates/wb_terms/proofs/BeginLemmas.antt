@@ -23,7 +23,7 @@ begun ss name at production start b c (Ok x) values places faults number from pu
     let f : Frame = record { production = production; at = at; start = start } in
     let s =
     shape_begun ss ts (zipper events) b.values.items b.places.items (reverse b.frames.items) name f
-        (shape_of ss ts events b h) number from in
+    (shape_of ss ts events b h) number from in
     let stack : reverse c.frames.items ≡ f ∷ reverse b.frames.items = ap reverse pushed ∙ reverse-append b.frames.items (f ∷ []) in
     record {
       frames = subst (λ l. AreFrames ss (zipper (Begin name at ∷ events)) l) (sym stack) s.framed;

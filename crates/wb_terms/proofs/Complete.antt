@@ -82,7 +82,7 @@ mutual
       → Gives (Nonterminal Part.Term ∷ f) w a b
   complete_term {w = w} f a b
       (whole {name = name} {place = place} {arguments = arguments} {inner = inner} {rest = rest} {opening = opening} {closing = closing}
-          head opens inside closes) d =
+      head opens inside closes) d =
       expand 0 refl (complete_head name place w (opening ∷ inner) _ a b head
       (take_token (k.Mark p.OpenParenthesis) _ opening _ inner _ _ b opens refl refl
       (complete_arguments _ (Begin name place ∷ a) b inside

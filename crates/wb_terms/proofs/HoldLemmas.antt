@@ -85,7 +85,7 @@ shape_with ss ts z values places frames a x at s stored here = record {
   framed = frames_with ss a z frames s.framed;
   valued =
       subst (λ met. AllZip (IsStored ss ts) met (values ++ x ∷ [])) (sym (met_with a z))
-          (all_zipped_more (IsStored ss ts) (all_met z) values a x s.valued stored);
+      (all_zipped_more (IsStored ss ts) (all_met z) values a x s.valued stored);
   placed =
       ap (map place_of) (met_with a z)
       ∙ (map-append place_of (all_met z) (a ∷ []) ∙ (ap (λ l. l ++ place_of a ∷ []) s.placed ∙ ap (λ n. places ++ n ∷ []) here));
@@ -128,11 +128,11 @@ module _ (ss : List Signature) (ts : List Tree) (name : List ℕ) (place : ℕ) 
     here = s.framed.1;
     valued =
         subst (λ n. AllZip (IsStored ss ts) met (drop n values)) (sym start)
-            (zip_drop (IsStored ss ts) (all_met outer) met values s.valued);
+        (zip_drop (IsStored ss ts) (all_met outer) met values s.valued);
     placed =
         subst (λ n. map place_of met ≡ drop n places) (sym long)
-            (subst (λ l. map place_of met ≡ drop (length (map place_of (all_met outer))) l) apart
-                (sym (drop-append_seam (map place_of (all_met outer)) (map place_of met))));
+        (subst (λ l. map place_of met ≡ drop (length (map place_of (all_met outer))) l) apart
+        (sym (drop-append_seam (map place_of (all_met outer)) (map place_of met))));
   }
 
   -- what is outside of it
@@ -141,11 +141,11 @@ module _ (ss : List Signature) (ts : List Tree) (name : List ℕ) (place : ℕ) 
     framed = s.framed.3;
     valued =
         subst (λ n. AllZip (IsStored ss ts) (all_met outer) (take n values)) (sym start)
-            (zip_take (IsStored ss ts) (all_met outer) met values s.valued);
+        (zip_take (IsStored ss ts) (all_met outer) met values s.valued);
     placed =
         subst (λ n. map place_of (all_met outer) ≡ take n places) (sym long)
-            (subst (λ l. map place_of (all_met outer) ≡ take (length (map place_of (all_met outer))) l) apart
-                (sym (take-append_seam (map place_of (all_met outer)) (map place_of met))));
+        (subst (λ l. map place_of (all_met outer) ≡ take (length (map place_of (all_met outer))) l) apart
+        (sym (take-append_seam (map place_of (all_met outer)) (map place_of met))));
   }
 
   -- the sizes
@@ -161,7 +161,7 @@ module _ (ss : List Signature) (ts : List Tree) (name : List ℕ) (place : ℕ) 
   -- the node is built over its values, and is one value more of the outer node
   pub shape_closed : (id : TreeId) → id.0 ≡ length ts
       → Shape ss (ts ++ node f.production (values_in ts (drop f.start values)) ∷ [])
-          (with_argument (term (named name place (arguments_of met))) outer)
+      (with_argument (term (named name place (arguments_of met))) outer)
       (take f.start values ++ Stored id ∷ []) (take f.start places ++ f.at ∷ []) frames
   shape_closed id is =
       let tree = node f.production (values_in ts (drop f.start values)) in
@@ -172,7 +172,7 @@ module _ (ss : List Signature) (ts : List Tree) (name : List ℕ) (place : ℕ) 
         framed = o.framed;
         valued =
             zip_weaker (IsStored ss ts) (IsStored ss ts') (λ a x st. stored_stable ss ts (tree ∷ []) a x st) (all_met outer)
-                (take f.start values) o.valued;
+            (take f.start values) o.valued;
         placed = o.placed;
       } in
       let at : tree_in ts' id.0 ≡ tree = ap (tree_in ts') is ∙ get_or-append_seam ts tree [] (node 0 empty) in
@@ -180,50 +180,50 @@ module _ (ss : List Signature) (ts : List Tree) (name : List ℕ) (place : ℕ) 
         within = omega (arith, is, length-append ts (tree ∷ []));
         built =
             subst (λ t. IsBuiltValue ss (term (named name place (arguments_of met))) (v.tree t)) (sym at)
-                (i.number, are_built ss ts met (drop f.start values) i.valued);
+            (i.number, are_built ss ts met (drop f.start values) i.valued);
       } in
       shape_with ss ts' outer (take f.start values) (take f.start places) frames (term (named name place (arguments_of met)))
-          (Stored id) f.at kept stored (sym i.here)
+      (Stored id) f.at kept stored (sym i.here)
 
 -- the faults once a node is ended
 pub unknown_ended : (ss : List Signature) (events : List Event) (name : List ℕ) (place : ℕ) (met : List Argument) (outer : Zipper)
     (found o : Option ℕ)
     → zipper events ≡ inside name place met outer
     → FindsLeast (λ at. IsUnknown ss at name place met) (IsKnown ss name place met) found → FindsUnknown ss events o → FindsUnknown ss
-        (e.End ∷ events) (smaller_of found o)
+    (e.End ∷ events) (smaller_of found o)
 unknown_ended ss events name place met outer found o is here before =
     subst (λ z. FindsLeast (λ at. OfInnermost (IsUnknown ss at) z ⊥ ⊎ SomeEnded (IsUnknown ss at) events)
-        (OfInnermost (IsKnown ss) z (Unit {0}) × EachEnded (IsKnown ss) events) (smaller_of found o)) (sym is)
+    (OfInnermost (IsKnown ss) z (Unit {0}) × EachEnded (IsKnown ss) events) (smaller_of found o)) (sym is)
     (lesser_least (λ at. SomeEnded (IsUnknown ss at) events) (λ at. IsUnknown ss at name place met) (EachEnded (IsKnown ss) events)
-        (IsKnown ss name place met) found o here before)
+    (IsKnown ss name place met) found o here before)
 
 pub wrong_ended : (ss : List Signature) (events : List Event) (name : List ℕ) (place : ℕ) (met : List Argument) (outer : Zipper)
     (found o : Option ℕ)
     → zipper events ≡ inside name place met outer
     → FindsLeast (λ at. IsWrong ss at name place met) (FitsIfKnown ss name place met) found → FindsWrong ss events o → FindsWrong ss
-        (e.End ∷ events) (smaller_of found o)
+    (e.End ∷ events) (smaller_of found o)
 wrong_ended ss events name place met outer found o is here before =
     subst (λ z. FindsLeast (λ at. OfInnermost (IsWrong ss at) z ⊥ ⊎ SomeEnded (IsWrong ss at) events)
-        (OfInnermost (FitsIfKnown ss) z (Unit {0}) × EachEnded (FitsIfKnown ss) events) (smaller_of found o)) (sym is)
+    (OfInnermost (FitsIfKnown ss) z (Unit {0}) × EachEnded (FitsIfKnown ss) events) (smaller_of found o)) (sym is)
     (lesser_least (λ at. SomeEnded (IsWrong ss at) events) (λ at. IsWrong ss at name place met) (EachEnded (FitsIfKnown ss) events)
-        (FitsIfKnown ss name place met) found o here before)
+    (FitsIfKnown ss name place met) found o here before)
 
 -- nothing was begun, so nothing ends
 pub unknown_outside : (ss : List Signature) (events : List Event) (met : List Argument) (o : Option ℕ) → zipper events ≡ outside met
     → FindsUnknown ss events o → FindsUnknown ss (e.End ∷ events) o
 unknown_outside ss events met o is before =
     subst (λ z. FindsLeast (λ at. OfInnermost (IsUnknown ss at) z ⊥ ⊎ SomeEnded (IsUnknown ss at) events)
-        (OfInnermost (IsKnown ss) z (Unit {0}) × EachEnded (IsKnown ss) events) o) (sym is)
+    (OfInnermost (IsKnown ss) z (Unit {0}) × EachEnded (IsKnown ss) events) o) (sym is)
     (same_least (λ at. SomeEnded (IsUnknown ss at) events) (λ at. ⊥ ⊎ SomeEnded (IsUnknown ss at) events) (EachEnded (IsKnown ss) events)
-        (Unit {0} × EachEnded (IsKnown ss) events) o (λ at s. inr s) (λ at s. either absurd (λ x. x) s) (λ x. (tt, x)) before)
+    (Unit {0} × EachEnded (IsKnown ss) events) o (λ at s. inr s) (λ at s. either absurd (λ x. x) s) (λ x. (tt, x)) before)
 
 pub wrong_outside : (ss : List Signature) (events : List Event) (met : List Argument) (o : Option ℕ) → zipper events ≡ outside met
     → FindsWrong ss events o → FindsWrong ss (e.End ∷ events) o
 wrong_outside ss events met o is before =
     subst (λ z. FindsLeast (λ at. OfInnermost (IsWrong ss at) z ⊥ ⊎ SomeEnded (IsWrong ss at) events)
-        (OfInnermost (FitsIfKnown ss) z (Unit {0}) × EachEnded (FitsIfKnown ss) events) o) (sym is)
+    (OfInnermost (FitsIfKnown ss) z (Unit {0}) × EachEnded (FitsIfKnown ss) events) o) (sym is)
     (same_least (λ at. SomeEnded (IsWrong ss at) events) (λ at. ⊥ ⊎ SomeEnded (IsWrong ss at) events) (EachEnded (FitsIfKnown ss) events)
-        (Unit {0} × EachEnded (FitsIfKnown ss) events) o (λ at s. inr s) (λ at s. either absurd (λ x. x) s) (λ x. (tt, x)) before)
+    (Unit {0} × EachEnded (FitsIfKnown ss) events) o (λ at s. inr s) (λ at s. either absurd (λ x. x) s) (λ x. (tt, x)) before)
 
 -- the shape of what a builder holds
 pub shape_of : (ss : List Signature) (ts : List Tree) (events : List Event) (b : Builder) → Holds ss ts events b
@@ -237,14 +237,14 @@ pub holds_with : (ss : List Signature) (ts : List Tree) (events then : List Even
 holds_with ss ts events then a x at b c h is stored here adds unknown wrong =
     let s =
     shape_with ss ts (zipper events) b.values.items b.places.items (reverse b.frames.items) a x at
-        (shape_of ss ts events b h) stored here in
+    (shape_of ss ts events b h) stored here in
     record {
       frames =
           subst (λ fs. AreFrames ss (zipper then) (reverse fs.items)) (sym adds.frames)
-              (subst (λ z. AreFrames ss z (reverse b.frames.items)) (sym is) s.framed);
+          (subst (λ z. AreFrames ss z (reverse b.frames.items)) (sym is) s.framed);
       values =
           subst (λ xs. AllZip (IsStored ss ts) (all_met (zipper then)) xs) (sym adds.values)
-              (subst (λ z. AllZip (IsStored ss ts) (all_met z) (b.values.items ++ x ∷ [])) (sym is) s.valued);
+          (subst (λ z. AllZip (IsStored ss ts) (all_met z) (b.values.items ++ x ∷ [])) (sym is) s.valued);
       places = subst (λ z. map place_of (all_met z) ≡ c.places.items) (sym is) (s.placed ∙ sym adds.places);
       unknown = subst (λ fs. FindsUnknown ss then fs.unknown) (sym adds.faults) unknown;
       wrong = subst (λ fs. FindsWrong ss then fs.wrong) (sym adds.faults) wrong;

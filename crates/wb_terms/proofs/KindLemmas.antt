@@ -51,7 +51,7 @@ module _ (signatures : List Signature) where
       let within = slice_get_within signatures n t.0 t.1 in
       let long = length-take-le n signatures (omega (arith, within)) in
       b.first m s.0 (omega (arith, lt, long)) (ap (λ (x : Signature). x.name)
-          (get_or-take n signatures m s.0 lt ∙ get_or_from_slice_get signatures m s.0 s.0 s.1) ∙ s.2)
+      (get_or-take n signatures m s.0 lt ∙ get_or_from_slice_get signatures m s.0 s.0 s.1) ∙ s.2)
 
   -- the first is one
   pub one_first : (name : List ℕ) (m n : ℕ) → IsFirst signatures name m → IsFirst signatures name n → m ≡ n
@@ -89,8 +89,12 @@ module _ (signatures : List Signature) where
   left_of : (name : List ℕ) (n nonterminal : ℕ) → IsNumberOf signatures name n → IsOfNonterminal signatures name nonterminal
       → IsOfLeft signatures n nonterminal
   left_of name n nonterminal number o =
-      record { signature = o.found.signature; its = ap (slice_get signatures) (number_first name n number o.found)
-          ∙ o.found.its; left = o.left }
+      record {
+        signature = o.found.signature;
+        its = ap (slice_get signatures) (number_first name n number o.found)
+            ∙ o.found.its;
+        left = o.left;
+      }
 
   -- a tree is of the kind where its production is of the nonterminal
   pub tree_kind : (tree : Tree) (n nonterminal : ℕ) (r : Bool) (argument : Argument) → n ≡ production_of tree
@@ -110,14 +114,25 @@ module _ (signatures : List Signature) where
       (o : Option ℕ)
       → slice_get arguments i ≡ Some a → slice_get kinds i ≡ Some kind → (IsTrue fits ↔ IsOfKind signatures a kind) → place ≡ place_of a
       → FindsLeast (IsWrongAmong signatures i arguments kinds) (FirstFit signatures i arguments kinds) o → FindsLeast
-          (IsWrongAmong signatures (i + 1) arguments kinds) (FirstFit signatures (i + 1) arguments kinds) (smallest_with (not fits) place o)
+      (IsWrongAmong signatures (i + 1) arguments kinds) (FirstFit signatures (i + 1) arguments kinds) (smallest_with (not fits) place o)
   kind_step arguments kinds i a kind fits place o there asked both at finds =
       noted_least (IsWrongAmong signatures i arguments kinds) (IsWrongAmong signatures (i + 1) arguments kinds)
-          (FirstFit signatures i arguments kinds) (FirstFit signatures (i + 1) arguments kinds) (not fits) place o finds
+      (FirstFit signatures i arguments kinds) (FirstFit signatures (i + 1) arguments kinds) (not fits) place o finds
       (λ fit counts j b l lt here want. fact fit (fitting fits counts) j b l (early_or j i lt) here want)
       (λ p w. record { child = w.child; early = omega (arith, w.early) })
-      (λ counts. record { child = record { index = i; argument = a; kind = kind; there = there; asked = asked; wrong =
-          λ is. unfit fits counts (both.1 is); place = at }; early = omega arith })
+      (λ counts. record {
+        child = record {
+          index = i;
+          argument = a;
+          kind = kind;
+          there = there;
+          asked = asked;
+          wrong =
+              λ is. unfit fits counts (both.1 is);
+          place = at;
+        };
+        early = omega arith;
+      })
       (λ p w. only p w (early_or w.child.index i w.early))
     where
       some_same : {X : Type 0} (x y : X) → Some x ≡ Some y → x ≡ y
@@ -151,7 +166,7 @@ module _ (signatures : List Signature) where
           let sk : kind ≡ w.child.kind = some_same kind w.child.kind (sym asked ∙ (ap (slice_get kinds) (sym e) ∙ w.child.asked)) in
           let le : place ≡ p = at ∙ (ap place_of sa ∙ sym w.child.place) in
           inr (refused fits refl p (omega (arith, le)) (λ is. w.child.wrong
-              (subst (λ c. IsOfKind signatures c w.child.kind) sa (subst (λ m. IsOfKind signatures a m) sk is))))
+          (subst (λ c. IsOfKind signatures c w.child.kind) sa (subst (λ m. IsOfKind signatures a m) sk is))))
 
   -- all children are tested
   pub kinds_tested : (arguments : List Argument) (kinds : List Kind) (count n : ℕ) (o : Option ℕ) → length arguments ≡ count
@@ -159,9 +174,12 @@ module _ (signatures : List Signature) where
       → FindsLeast (IsWrongChild signatures arguments kinds) (KindsFit signatures arguments kinds) o
   kinds_tested arguments kinds count n o long all finds =
       same_least (IsWrongAmong signatures n arguments kinds) (IsWrongChild signatures arguments kinds)
-          (FirstFit signatures n arguments kinds) (KindsFit signatures arguments kinds) o
-      (λ at w. w.child) (λ at w. record { child = w; early = early w.index (slice_get_within arguments w.index w.argument w.there)
-          (slice_get_within kinds w.index w.kind w.asked) })
+      (FirstFit signatures n arguments kinds) (KindsFit signatures arguments kinds) o
+      (λ at w. w.child) (λ at w. record {
+        child = w;
+        early = early w.index (slice_get_within arguments w.index w.argument w.there)
+            (slice_get_within kinds w.index w.kind w.asked);
+      })
       (λ fit j a l here want. fit j a l (early j (slice_get_within arguments j a here) (slice_get_within kinds j l want)) here want) finds
     where
       early : (j : ℕ) → j < length arguments → j < length kinds → j < n
@@ -196,12 +214,12 @@ module _ (signatures : List Signature) where
       (o : Option ℕ)
       → IsNumberOf signatures name n → slice_get signatures n ≡ Some s → kinds ≡ s.children
       → (differ ≡ false → length arguments ≡ length kinds) → (differ ≡ true → length arguments ≢ length kinds) → FindsLeast
-          (IsWrongChild signatures arguments kinds) (KindsFit signatures arguments kinds) o
+      (IsWrongChild signatures arguments kinds) (KindsFit signatures arguments kinds) o
       → FindsLeast (λ place. IsWrong signatures place name at arguments) (FitsIfKnown signatures name at arguments)
-          (smallest_with differ at o)
+      (smallest_with differ at o)
   node_tested name n at arguments kinds differ s o number there same equal unequal finds =
       noted_least (IsWrongChild signatures arguments kinds) (λ place. IsWrong signatures place name at arguments)
-          (KindsFit signatures arguments kinds) (FitsIfKnown signatures name at arguments) differ at o finds
+      (KindsFit signatures arguments kinds) (FitsIfKnown signatures name at arguments) differ at o finds
       (λ fit counts f. subst (λ ks. AllZip (IsOfKind signatures) arguments ks) (kinds_of f) (fit_zip arguments kinds (equal counts) fit))
       (λ place w. record { found = found; fault = inr (subst (λ ks. IsWrongChild signatures arguments ks place) (kinds_of found) w) })
       (λ counts. record { found = found; fault = inl ((λ e. unequal counts (e ∙ ap length (sym (kinds_of found)))), refl) })
@@ -217,7 +235,7 @@ module _ (signatures : List Signature) where
       kinds_of f =
           same
           ∙ ap (λ (x : Signature). x.children) (some_same s f.signature
-              (sym there ∙ (ap (slice_get signatures) (number_first name n number f) ∙ f.its)))
+          (sym there ∙ (ap (slice_get signatures) (number_first name n number f) ∙ f.its)))
 
       counted : (b : Bool) → b ≡ differ → length arguments ≢ length kinds → b ≡ true
       counted true e h = refl
@@ -233,11 +251,11 @@ module _ (signatures : List Signature) where
 pub child_tested : (signatures : List Signature) (trees : List Tree) (arguments : List Argument) (values : List Stored) (places : List ℕ)
     (kinds : List Kind) (i : ℕ) (x : Stored) (d : Kind) (place : ℕ) (fits : Bool) (o r : Option ℕ)
     → AllZip (IsStored signatures trees) arguments values → map place_of arguments ≡ places → i < length values → i < length kinds
-        → x ≡ get_or values i x → place ≡ get_or places i 0
+    → x ≡ get_or values i x → place ≡ get_or places i 0
     → ((a : Argument) → IsStored signatures trees a x → (IsTrue fits ↔ IsOfKind signatures a (get_or kinds i d))) → r ≡ smallest_with
-        (not fits) place o
+    (not fits) place o
     → FindsLeast (IsWrongAmong signatures i arguments kinds) (FirstFit signatures i arguments kinds) o → FindsLeast
-        (IsWrongAmong signatures (i + 1) arguments kinds) (FirstFit signatures (i + 1) arguments kinds) r
+    (IsWrongAmong signatures (i + 1) arguments kinds) (FirstFit signatures (i + 1) arguments kinds) r
 child_tested signatures trees arguments values places kinds i x d place fits o r zipped placed within asked is at both e finds =
     let a = beside (IsStored signatures trees) arguments values i x zipped (slice_get_read values (length values) i x refl within is) in
     let there : get_or (map place_of arguments) i 0 ≡ place_of a.other =
@@ -246,7 +264,7 @@ child_tested signatures trees arguments values places kinds i x d place fits o r
     let here : place ≡ place_of a.other = at ∙ (ap (λ l. get_or l i 0) (sym placed) ∙ there) in
     subst (λ r. FindsLeast (IsWrongAmong signatures (i + 1) arguments kinds) (FirstFit signatures (i + 1) arguments kinds) r) (sym e)
     (kind_step signatures arguments kinds i a.other (get_or kinds i d) fits place o a.at (slice_get-get_or kinds i d asked)
-        (both a.other a.related) here finds)
+    (both a.other a.related) here finds)
 
 -- what is known of a signature that is there
 pub signature_at : (signatures : List Signature) (n : ℕ) (kinds : List Kind) → n < length signatures

@@ -34,7 +34,7 @@ noted_least P Q F G true place (Some m) finds fact keeps new only = record {
   here = of_min Q m place (keeps m finds.here) (new refl);
   least =
       λ at q. either (λ p. let le = finds.least at p in omega (arith, le, min-le_left m place))
-          (λ b. omega (arith, b.1, min-le_right m place)) (only at q);
+      (λ b. omega (arith, b.1, min-le_right m place)) (only at q);
 }
 
 -- two properties together
@@ -44,7 +44,7 @@ lesser_least P Q F G None None g f = ((g.0, f.0), λ at s. either (g.1 at) (f.1 
 lesser_least P Q F G None (Some m) g f = record { here = inr f.here; least = λ at s. either (λ q. absurd (g.1 at q)) (f.least at) s }
 lesser_least P Q F G (Some place) o g f =
     noted_least P (λ at. Q at ⊎ P at) F (G × F) true place o f (λ a e. absurd (cc)) (λ at p. inr p) (λ e. inl g.here)
-        (λ at s. either (λ q. inr (refl, g.least at q)) (λ p. inl p) s)
+    (λ at s. either (λ q. inr (refl, g.least at q)) (λ p. inl p) s)
 
 -- the same property, otherwise put
 pub same_least : (P Q : ℕ → Type 0) (F G : Type 0) (o : Option ℕ) → ((at : ℕ) → P at → Q at) → ((at : ℕ) → Q at → P at) → (F → G)

@@ -17,21 +17,21 @@ module _ {X E : Type 0} (ss : List Signature) (ts : List Tree) (b c : Builder) (
   int_met z (Err x) is adds = tt
   int_met z (Ok x) is adds =
       λ events h. subst (λ e. Holds ss ts (e ∷ events) c) (sym is)
-          (holds_with ss ts events (Int z at ∷ events) (plain (int z) at) (s.Int z) at b c h refl
-              (record { within = tt; built = refl }) refl adds h.unknown h.wrong)
+      (holds_with ss ts events (Int z at ∷ events) (plain (int z) at) (s.Int z) at b c h refl
+      (record { within = tt; built = refl }) refl adds h.unknown h.wrong)
 
   pub bool_met : (t : Bool) (r : Result X E) → event ≡ Truth t at → OnOk r (AddsValue (s.Bool t) at b c)
       → OnOk r ((events : List Event) → Holds ss ts events b → Holds ss ts (event ∷ events) c)
   bool_met t (Err x) is adds = tt
   bool_met t (Ok x) is adds =
       λ events h. subst (λ e. Holds ss ts (e ∷ events) c) (sym is)
-          (holds_with ss ts events (Truth t at ∷ events) (plain (bool t) at) (s.Bool t) at b c h refl
-              (record { within = tt; built = refl }) refl adds h.unknown h.wrong)
+      (holds_with ss ts events (Truth t at ∷ events) (plain (bool t) at) (s.Bool t) at b c h refl
+      (record { within = tt; built = refl }) refl adds h.unknown h.wrong)
 
   pub text_met : (l m : List ℕ) (r : Result X E) → event ≡ Text l at → m ≡ l → OnOk r (AddsValue (s.Text m) at b c)
       → OnOk r ((events : List Event) → Holds ss ts events b → Holds ss ts (event ∷ events) c)
   text_met l m (Err x) is same adds = tt
   text_met l m (Ok x) is same adds =
       λ events h. subst (λ e. Holds ss ts (e ∷ events) c) (sym is)
-          (holds_with ss ts events (Text l at ∷ events) (plain (text l) at) (s.Text m) at b c h refl
-              (record { within = tt; built = ap text (sym same) }) refl adds h.unknown h.wrong)
+      (holds_with ss ts events (Text l at ∷ events) (plain (text l) at) (s.Text m) at b c h refl
+      (record { within = tt; built = ap text (sym same) }) refl adds h.unknown h.wrong)

@@ -32,7 +32,7 @@ mutual
   pub term_met : (t : Term) (v : List Event) → zipper (term_onto t v) ≡ with_argument (term t) (zipper v)
   term_met (named name place arguments) v =
       ap closed (arguments_met arguments (Begin name place ∷ v) ∙ with_all_inside (list_of arguments) [] name place (zipper v)) ∙ ap
-          (λ (a : Arguments). with_argument (term (named name place a)) (zipper v)) (arguments_back arguments)
+      (λ (a : Arguments). with_argument (term (named name place a)) (zipper v)) (arguments_back arguments)
 
   argument_met : (a : Argument) (v : List Event) → zipper (argument_onto a v) ≡ with_argument a (zipper v)
   argument_met (plain (int z) place) v = refl
@@ -69,7 +69,7 @@ module _ (Holds : List ℕ → ℕ → List Argument → Type 0) where
     some_in_arguments empty v h = inr h
     some_in_arguments (more a others) v h =
         either (λ s. inl (inr s)) (λ e. either (λ s. inl (inl s)) (λ f. inr f) (some_in_argument a v e))
-            (some_in_arguments others (argument_onto a v) h)
+        (some_in_arguments others (argument_onto a v) h)
 
   mutual
     -- and the other way round

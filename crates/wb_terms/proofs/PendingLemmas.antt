@@ -21,16 +21,16 @@ begun_text : (ss : List Signature) (t : Tree) (n : ℕ) (children : Values) (out
     → ((out ++ name_of ss n) ++ 40 ∷ []) ++ (printed_children ss children ++ 41 ∷ rest) ≡ out ++ (printed_tree ss t ++ rest)
 begun_text ss (node p xs) n children out rest e f =
     subst (λ m. ((out ++ name_of ss m) ++ 40 ∷ []) ++ (printed_children ss children ++ 41 ∷ rest) ≡ out ++
-        (printed_tree ss (node p xs) ++ rest)) (sym e)
+    (printed_tree ss (node p xs) ++ rest)) (sym e)
     (subst (λ cs. ((out ++ name_of ss p) ++ 40 ∷ []) ++ (printed_children ss cs ++ 41 ∷ rest) ≡ out ++
-        (printed_tree ss (node p xs) ++ rest)) (sym f)
+    (printed_tree ss (node p xs) ++ rest)) (sym f)
     (simp append_assoc))
 
 pub tree_begun : {X E : Type 0} (ss : List Signature) (ts : List Tree) (t : Tree) (n : ℕ) (values : Pending) (old new : List ℕ)
     (ps qs : List Pending) (r : Result X E)
     → values.first ≡ true → n ≡ production_of t → values_in ts values.values.now ≡ children_of t
     → new ≡ (old ++ name_of ss n) ++ 40 ∷ [] → OnOk r (qs ≡ ps ++ values ∷ []) → OnOk r
-        (new ++ pending_text ss ts (reverse qs) ≡ old ++ (printed_tree ss t ++ pending_text ss ts (reverse ps)))
+    (new ++ pending_text ss ts (reverse qs) ≡ old ++ (printed_tree ss t ++ pending_text ss ts (reverse ps)))
 tree_begun ss ts t n values old new ps qs (Err x) first e f g h = tt
 tree_begun ss ts t n values old new ps qs (Ok x) first e f g h =
     let a : new ++ pending_text ss ts (reverse qs) ≡ ((old ++ name_of ss n) ++ 40 ∷ []) ++ pending_text ss ts (values ∷ reverse ps) =
@@ -38,7 +38,7 @@ tree_begun ss ts t n values old new ps qs (Ok x) first e f g h =
     ∙ ap (λ l. ((old ++ name_of ss n) ++ 40 ∷ []) ++ pending_text ss ts l) (pushed ps qs values h) in
     let b : pending_text ss ts (values ∷ reverse ps) ≡ printed_children ss (values_in ts values.values.now) ++ 41 ∷ pending_text ss ts (reverse ps) = ap (λ c. children_text c ss (values_in ts values.values.now) ++ 41 ∷ pending_text ss ts (reverse ps)) first in
     a ∙ (ap (λ l. ((old ++ name_of ss n) ++ 40 ∷ []) ++ l) b ∙ begun_text ss t n (values_in ts values.values.now) old
-        (pending_text ss ts (reverse ps)) e f)
+    (pending_text ss ts (reverse ps)) e f)
 
 -- what is pushed is in the store
 pub pushed_in : (count : ℕ) (ps qs : List Pending) (p : Pending) → qs ≡ ps ++ p ∷ [] → All (IsIn count) p.values.now
@@ -53,9 +53,15 @@ others_in count (y ∷ values) all = λ k d lt. all (suc k) d (omega (arith, lt)
 pub length_begun : (ss : List Signature) (ts : List Tree) (t : Tree) (n : ℕ) (values : Pending) (ps qs : List Pending) → values.first ≡ true
     → n ≡ production_of t → values_in ts values.values.now ≡ children_of t
     → qs ≡ ps ++ values ∷ [] → (length (name_of ss n) + 1) + length (pending_text ss ts (reverse qs)) ≡ length (printed_tree ss t) + length
-        (pending_text ss ts (reverse ps))
+    (pending_text ss ts (reverse ps))
 length_begun ss ts t n values ps qs first e f h =
     let name = name_of ss n in
     let whole = tree_begun {X = Unit {0}} {E = Unit {0}} ss ts t n values [] (name ++ 40 ∷ []) ps qs (Ok tt) first e f refl h in
-    omega (arith, ap length whole, length-append (name ++ 40 ∷ []) (pending_text ss ts (reverse qs)), length-append name
-        (40 ∷ []), length-append (printed_tree ss t) (pending_text ss ts (reverse ps)))
+    omega (
+      arith,
+      ap length whole,
+      length-append (name ++ 40 ∷ []) (pending_text ss ts (reverse qs)),
+      length-append name
+          (40 ∷ []),
+      length-append (printed_tree ss t) (pending_text ss ts (reverse ps)),
+    )

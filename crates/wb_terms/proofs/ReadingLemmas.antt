@@ -34,9 +34,12 @@ text_of_term tokens term is = complete_term [] [] (term_onto term []) is (done r
 term_of_text : (tokens : Tokens) (events : List Event) → IsText term_grammar [] tokens events
     → (term : Term) × IsTerm term tokens [] × (term_onto term [] ≡ events)
 term_of_text tokens events d =
-    let t = sound_term tokens [] events d in
-    (t.0, t.1, one_text_value same_kind kinds_same End term_entries term_grammar term_decided term_ends [] tokens (term_onto t.0 []) events
-        (text_of_term tokens t.0 t.1) d)
+    let t = sound_term tokens [] events d in (
+      t.0,
+      t.1,
+      one_text_value same_kind kinds_same End term_entries term_grammar term_decided term_ends [] tokens (term_onto t.0 []) events
+          (text_of_term tokens t.0 t.1) d,
+    )
 
 -- what can begin a term can start a text, and the other way round
 can_start : (front : Tokens) → CanBegin front → CanStart term_grammar [] front
@@ -96,7 +99,7 @@ one : (bytes : List ℕ) (o p : Outcome (List Event)) → R.IsOutcome term_gramm
     → R.IsOutcome term_grammar (IsNextIn Plain bytes) [] p → o ≡ p
 one bytes o p r s =
     one_outcome same_kind kinds_same End term_entries term_grammar term_decided term_ends (IsNextIn Plain bytes)
-        (one_next Plain bytes) [] o r p s
+    (one_next Plain bytes) [] o r p s
 
 -- what is met in two terms of one text is the same
 pub one_onto : (bytes : List ℕ) (s t : Term) → IsTermText bytes s → IsTermText bytes t → term_onto s [] ≡ term_onto t []

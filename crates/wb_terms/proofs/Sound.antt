@@ -29,7 +29,7 @@ abbrev IsPart : Part → Tokens → Tokens → Type 0
 IsPart Part.Term w rest = (t : Term) × IsTerm t w rest
 IsPart Part.Owner w rest =
     (w ≡ rest) ⊎ ((second : List ℕ) × (colon : Placed Lexeme) × (y : Placed Lexeme) × Is (t.Punctuation p.Colon) colon × Is
-        (t.Name second) y × (w ≡ colon ∷ y ∷ rest))
+    (t.Name second) y × (w ≡ colon ∷ y ∷ rest))
 IsPart Part.Arguments w rest = (arguments : Arguments) × AreArguments arguments w rest
 IsPart Part.More w rest = (arguments : Arguments) × AreMore arguments w rest
 IsPart Part.Argument w rest = (a : Argument) × IsArgument a w rest
@@ -54,7 +54,7 @@ the_right f w a b e m = let same : b ≡ a = cc in subst (λ (r : Row). Means (r
 -- a term by its rule
 term_by : (f : Row) (w : Tokens)
     → Means ((Token k.Name ∷ Nonterminal Part.Owner ∷ Token (k.Mark p.OpenParenthesis) ∷ Nonterminal Part.Arguments ∷ Token
-        (k.Mark p.CloseParenthesis) ∷ Act Action.Close ∷ []) ++ f) w
+    (k.Mark p.CloseParenthesis) ∷ Act Action.Close ∷ []) ++ f) w
     → Means (Nonterminal Part.Term ∷ f) w
 term_by f w m =
     let name = name_by_kind m.0.token m.2 in
@@ -62,10 +62,16 @@ term_by f w m =
     let head = head_of m.0 name.0 w m.1 rest.0 name.1 m.3 rest.1 in
     let opening = rest.2 in
     let inside = opening.4 in
-    let closing = inside.2 in
-    (closing.1, (_, whole (subst (λ v. IsHead head.0 m.0.at w v) opening.3 head.1)
-        (mark_by_kind opening.0.token p.OpenParenthesis opening.2) (subst (λ v. AreArguments inside.1.0 opening.1 v) closing.3 inside.1.1)
-            (mark_by_kind closing.0.token p.CloseParenthesis closing.2)), closing.4)
+    let closing = inside.2 in (
+      closing.1,
+      (
+        _,
+        whole (subst (λ v. IsHead head.0 m.0.at w v) opening.3 head.1)
+            (mark_by_kind opening.0.token p.OpenParenthesis opening.2) (subst (λ v. AreArguments inside.1.0 opening.1 v) closing.3 inside.1.1)
+            (mark_by_kind closing.0.token p.CloseParenthesis closing.2),
+      ),
+      closing.4,
+    )
 
 -- an argument that is a token of this kind
 token_by : (kind : TokenKind) (f : Row) (w : Tokens)
@@ -107,10 +113,10 @@ expanded Part.Argument (suc (suc zero)) right f w e m =
     token_by k.String f w (λ x v is whole. let i = string_by_kind x.token is in (_, string i.1 refl whole)) (the_right f w _ right e m)
 expanded Part.Argument (suc (suc (suc zero))) right f w e m =
     token_by (k.Word words.True) f w (λ x v is whole. (_, truth (word_by_kind x.token words.True is) refl whole))
-        (the_right f w _ right e m)
+    (the_right f w _ right e m)
 expanded Part.Argument (suc (suc (suc (suc zero)))) right f w e m =
     token_by (k.Word words.False) f w (λ x v is whole. (_, untruth (word_by_kind x.token words.False is) refl whole))
-        (the_right f w _ right e m)
+    (the_right f w _ right e m)
 expanded Part.Argument (suc (suc (suc (suc (suc zero))))) right f w e m =
     let m' : Means (Nonterminal Part.Term ∷ f) w = the_right f w _ right e m in
     (m'.0, (_, below m'.1.1), m'.2)

@@ -1,5 +1,6 @@
 -- The bits of words after one is set, after words are joined, and where words lie within others.
-use Rattle.std.proofs.Common.{◌≡◌, ℕ, ◌+◌, ◌*◌, ◌/◌, ◌%◌, ◌^◌, ◌<◌, ◌≤◌, Bool, true, false, not, eqb, List, length, get_or, set, refl, sym, ◌∙◌, ap, inl, inr, arith, get_or-set_same, get_or-set_other, eq-eqb, ne_eqb, w64}
+use Rattle.std.proofs.Common.{◌≡◌, ℕ, ◌+◌, ◌*◌, ◌/◌, ◌%◌, ◌^◌, ◌<◌, ◌≤◌, Bool, true, false, not, eqb, List, length, get_or, set, refl, sym}
+use Rattle.std.proofs.Common.{◌∙◌, ap, inl, inr, arith, get_or-set_same, get_or-set_other, eq-eqb, ne_eqb, w64}
 use Rattle.std.proofs.lemmas.List.{get_or_past}
 use Rattle.std.proofs.lemmas.Bool.{cases_eq, cases_lt, eqb-true, eqb-false}
 use Rattle.std.proofs.lemmas.Nat.{one_shl, pow_pos}
@@ -83,13 +84,15 @@ abbrev bit : ℕ → ℕ
 bit n = 1 * 2 ^ (n % 64) % 2 ^ 64
 
 -- after a write of one word with a bit set
-pub set_bit-same : (words : List ℕ) (n : ℕ) → n < 64 * length words → bit_of (set words (n / 64) (bit_or (get_or words (n / 64) 0) (1 * 2 ^ (n % 64) % 2 ^ 64))) n ≡ true
+pub set_bit-same : (words : List ℕ) (n : ℕ) → n < 64 * length words → bit_of
+    (set words (n / 64) (bit_or (get_or words (n / 64) 0) (1 * 2 ^ (n % 64) % 2 ^ 64))) n ≡ true
 set_bit-same words n h =
     ap (λ x. eqb (bit_at x (n % 64)) 1) (get_or-set_same words (n / 64) _ 0 (omega arith))
     ∙ eq-eqb _ 1 (bit_at_set_same w64 (get_or words (n / 64) 0) (n % 64) (omega arith))
 
 -- and of each other place
-pub set_bit-other : (words : List ℕ) (n m : ℕ) → n < 64 * length words → (m ≡ n → ⊥) → bit_of (set words (n / 64) (bit_or (get_or words (n / 64) 0) (1 * 2 ^ (n % 64) % 2 ^ 64))) m ≡ bit_of words m
+pub set_bit-other : (words : List ℕ) (n m : ℕ) → n < 64 * length words → (m ≡ n → ⊥) → bit_of
+    (set words (n / 64) (bit_or (get_or words (n / 64) 0) (1 * 2 ^ (n % 64) % 2 ^ 64))) m ≡ bit_of words m
 set_bit-other words n m h other =
     elim (cases_eq (m / 64) (n / 64)) [
       | inl row ↦
@@ -109,10 +112,12 @@ pub record Joined (words others before : List ℕ) (k : ℕ) (some : Bool) : Typ
   pub fits : (j : ℕ) → get_or before j 0 < 2 ^ 64
 
 -- joined words have the bits of both
-pub Joined-each : (words others before : List ℕ) (k : ℕ) (some : Bool) → Joined words others before k some → length before ≡ k → length others ≡ k → (m : ℕ) → bit_of words m ≡ (bit_of before m || bit_of others m)
+pub Joined-each : (words others before : List ℕ) (k : ℕ) (some : Bool) → Joined words others before k some → length before ≡ k
+    → length others ≡ k → (m : ℕ) → bit_of words m ≡ (bit_of before m || bit_of others m)
 Joined-each words others before k some joined e f m =
     elim (cases_lt (m / 64) k) [
-      | inl within ↦ ap (λ x. eqb (bit_at x (m % 64)) 1) (joined.done (m / 64) within) ∙ bit_or-at (get_or before (m / 64) 0) (get_or others (m / 64) 0) (m % 64)
+      | inl within ↦ ap (λ x. eqb (bit_at x (m % 64)) 1) (joined.done (m / 64) within) ∙ bit_or-at (get_or before (m / 64) 0)
+          (get_or others (m / 64) 0) (m % 64)
       | inr past ↦
           ap (λ x. eqb (bit_at x (m % 64)) 1) (joined.left (m / 64) past)
           ∙ bit_of-past before m (omega arith)
@@ -120,7 +125,8 @@ Joined-each words others before k some joined e f m =
     ]
 
 -- where a join wrote another word, it set a bit that was clear
-pub Joined-grew : (words others before : List ℕ) (k : ℕ) (some : Bool) → Joined words others before k some → ((j : ℕ) → get_or others j 0 < 2 ^ 64) → some ≡ true → (m : ℕ) × (bit_of before m ≡ false) × (bit_of words m ≡ true)
+pub Joined-grew : (words others before : List ℕ) (k : ℕ) (some : Bool) → Joined words others before k some →
+    ((j : ℕ) → get_or others j 0 < 2 ^ 64) → some ≡ true → (m : ℕ) × (bit_of before m ≡ false) × (bit_of words m ≡ true)
 Joined-grew words others before k some joined fits' e =
     let (j, h, ne) = joined.grew e in
     let d = or_differs (get_or before j 0) (get_or others j 0) (joined.fits j) (fits' j) ne in (
@@ -130,7 +136,9 @@ Joined-grew words others before k some joined fits' e =
     )
 
 -- where each word is within the other, so is each bit
-pub within_each : (words others : List ℕ) (k : ℕ) → length words ≡ k → ((j : ℕ) → j < k → bit_or (get_or words j 0) (get_or others j 0) ≡ get_or others j 0) → (m : ℕ) → bit_of words m ≡ true → bit_of others m ≡ true
+pub within_each : (words others : List ℕ) (k : ℕ) → length words ≡ k →
+    ((j : ℕ) → j < k → bit_or (get_or words j 0) (get_or others j 0) ≡ get_or others j 0) → (m : ℕ) → bit_of words m ≡ true
+    → bit_of others m ≡ true
 within_each words others k e all m has =
     elim (cases_lt (m / 64) k) [
       | inl within ↦
@@ -147,12 +155,14 @@ or_flips : (x y z : Bool) → z ≡ (x || y) → z ≡ true → y ≡ false → 
 or_flips x y z e p q = grind arith
 
 -- a word that is not within another has a bit that the other lacks
-pub beyond_at : (words others : List ℕ) (j : ℕ) → get_or words j 0 < 2 ^ 64 → get_or others j 0 < 2 ^ 64 → (bit_or (get_or words j 0) (get_or others j 0) ≡ get_or others j 0 → ⊥) → (m : ℕ) × (bit_of words m ≡ true) × (bit_of others m ≡ false)
+pub beyond_at : (words others : List ℕ) (j : ℕ) → get_or words j 0 < 2 ^ 64 → get_or others j 0 < 2 ^ 64 →
+    (bit_or (get_or words j 0) (get_or others j 0) ≡ get_or others j 0 → ⊥) → (m : ℕ) × (bit_of words m ≡ true) × (bit_of others m ≡ false)
 beyond_at words others j fits fits' ne =
     let a : ℕ = get_or words j 0 in
     let b : ℕ = get_or others j 0 in
     let d = or_differs b a fits' fits (λ e. ne (or_comm a b ∙ e)) in (
       64 * j + d.place,
-      bit_of-at words j d.place d.small ∙ or_flips _ _ _ (ap (λ x. eqb (bit_at x d.place) 1) (or_comm b a) ∙ bit_or-at a b d.place) d.on d.off,
+      bit_of-at words j d.place d.small ∙ or_flips _ _ _ (ap (λ x. eqb (bit_at x d.place) 1) (or_comm b a)
+          ∙ bit_or-at a b d.place) d.on d.off,
       bit_of-at others j d.place d.small ∙ d.off,
     )

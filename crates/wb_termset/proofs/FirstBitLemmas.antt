@@ -1,5 +1,6 @@
 -- The first bit that is set at or above a place: in the rest of its own word, or in a later word.
-use Rattle.std.proofs.Common.{◌≡◌, ◌+◌, ◌-◌, ◌*◌, ◌/◌, ◌%◌, ◌^◌, ◌<◌, ◌≤◌, ℕ, false, List, get_or, eqb, inl, inr, sym, ◌∙◌, ap, arith, eq-eqb, w64}
+use Rattle.std.proofs.Common.{◌≡◌, ◌+◌, ◌-◌, ◌*◌, ◌/◌, ◌%◌, ◌^◌, ◌<◌, ◌≤◌, ℕ, false, List, get_or, eqb, inl, inr, sym, ◌∙◌, ap, arith}
+use Rattle.std.proofs.Common.{eq-eqb, w64}
 use Rattle.std.proofs.lemmas.Bool.{cases_lt}
 use Rattle.std.proofs.lemmas.Nat.{pow-add}
 use Rattle.std.proofs.Math.Nat.{div-div-eq-div-mul, div-le_self}
@@ -22,7 +23,8 @@ clear : (word k : ℕ) → bit_at word k ≡ 0 → eqb (bit_at word k) 1 ≡ fal
 clear word k e = ap (λ x. eqb x 1) e
 
 -- the lowest bit of a word that stands behind words without one
-pub first_in_word : (words : List ℕ) (from k : ℕ) → from ≤ 64 * k → get_or words k 0 < 2 ^ 64 → 0 < get_or words k 0 → ((m : ℕ) → from ≤ m → m < 64 * k → bit_of words m ≡ false) → IsFirstBit words from (64 * k + trailing_zeros w64 (get_or words k 0))
+pub first_in_word : (words : List ℕ) (from k : ℕ) → from ≤ 64 * k → get_or words k 0 < 2 ^ 64 → 0 < get_or words k 0 →
+    ((m : ℕ) → from ≤ m → m < 64 * k → bit_of words m ≡ false) → IsFirstBit words from (64 * k + trailing_zeros w64 (get_or words k 0))
 first_in_word words from k low fits some below =
     let word : ℕ = get_or words k 0 in
     let t : ℕ = trailing_zeros w64 word in
@@ -60,7 +62,8 @@ empty_rest words from m e low high =
     ∙ clear 0 k (bit_at-zero k)
 
 module _ (words : List ℕ) (from : ℕ) (fits : get_or words (from / 64) 0 < 2 ^ 64) (some : 0 < rest_of words from) where
-  lowest : (trailing_zeros w64 (rest_of words from) < 64) × (bit_at (rest_of words from) (trailing_zeros w64 (rest_of words from)) ≡ 1) × ((i : ℕ) → i < trailing_zeros w64 (rest_of words from) → bit_at (rest_of words from) i ≡ 0)
+  lowest : (trailing_zeros w64 (rest_of words from) < 64) × (bit_at (rest_of words from) (trailing_zeros w64 (rest_of words from)) ≡ 1) ×
+      ((i : ℕ) → i < trailing_zeros w64 (rest_of words from) → bit_at (rest_of words from) i ≡ 0)
   lowest = bit_at-trailing_zeros w64 (rest_of words from) some (omega (arith, div-le_self (get_or words (from / 64) 0) (2 ^ (from % 64))))
 
   -- the lowest bit of a rest is a bit of its word
@@ -69,7 +72,12 @@ module _ (words : List ℕ) (from : ℕ) (fits : get_or words (from / 64) 0 < 2 
     | inl within ↦ within
     | inr past ↦
         let one = sym (bit_at-shr (get_or words (from / 64) 0) (from % 64) (trailing_zeros w64 (rest_of words from))) ∙ lowest.1 in
-        absurd (omega (arith, one, bit_at_above (get_or words (from / 64) 0) 64 (from % 64 + trailing_zeros w64 (rest_of words from)) fits past))
+        absurd (omega (
+          arith,
+          one,
+          bit_at_above (get_or words (from / 64) 0) 64
+              (from % 64 + trailing_zeros w64 (rest_of words from)) fits past,
+        ))
   ]
 
   -- it is the first from that place on
@@ -80,5 +88,6 @@ module _ (words : List ℕ) (from : ℕ) (fits : get_or words (from / 64) 0 < 2 
     before = λ m ge lt.
         let k : ℕ = m - from in
         let early : k < trailing_zeros w64 (rest_of words from) = omega arith in
-        ap (bit_of words) (omega arith) ∙ rest_bit words from k (omega (arith, rest_within)) ∙ clear (rest_of words from) k (lowest.2 k early);
+        ap (bit_of words) (omega arith) ∙ rest_bit words from k (omega (arith, rest_within)) ∙ clear (rest_of words from) k
+        (lowest.2 k early);
   }

@@ -1,5 +1,7 @@
 -- What words show of a set: its flags are bits, and a change of bits is a change of members.
-use Rattle.std.proofs.Common.{◌≡◌, ◌≤◌, ◌<◌, ◌+◌, ◌*◌, ◌/◌, ◌^◌, ◌⊎◌, ◌++◌, ℕ, Bool, Option, Some, None, true, false, List, length, replicate, get_or, set, take, drop, refl, sym, ◌∙◌, ap, inl, inr, subst, arith, ext_get_or, length-set, get_or-set_same, get_or-set_other}
+use Rattle.std.proofs.Common.{◌≡◌, ◌≤◌, ◌<◌, ◌+◌, ◌*◌, ◌/◌, ◌^◌, ◌⊎◌, ◌++◌, ℕ, Bool, Option, Some, None, true, false, List, length}
+use Rattle.std.proofs.Common.{replicate, get_or, set, take, drop, refl, sym, ◌∙◌, ap, inl, inr, subst, arith, ext_get_or, length-set}
+use Rattle.std.proofs.Common.{get_or-set_same, get_or-set_other}
 use Rattle.std.proofs.Math.Seq.{take-append_seam}
 use Rattle.std.proofs.lemmas.Bool.{or_cases, cases_Bool, cases_eq, cases_lt, true≢false}
 use Rattle.std.proofs.lemmas.List.{length-replicate, get_or-replicate, get_or_past}
@@ -29,18 +31,21 @@ flag_is count words h k =
     ]
 
 -- words with the bits of a list of flags have those flags
-flags_of-is : (count : ℕ) (words : List ℕ) (flags : List Bool) → length flags ≡ count → ((k : ℕ) → k < count → bit_of words k ≡ get_or flags k false) → flags_of count words ≡ flags
+flags_of-is : (count : ℕ) (words : List ℕ) (flags : List Bool) → length flags ≡ count →
+    ((k : ℕ) → k < count → bit_of words k ≡ get_or flags k false) → flags_of count words ≡ flags
 flags_of-is count words flags e same =
     ext_get_or false _ _ (length-flags_of count words ∙ sym e)
     (λ k h. let within : k < count = omega (arith, length-flags_of count words) in get_or-flags_of count words k within ∙ same k within)
 
 -- after a bit is set
-flags_of-set : (count : ℕ) (old new : List ℕ) (n : ℕ) → n < count → bit_of new n ≡ true → ((m : ℕ) → (m ≡ n → ⊥) → bit_of new m ≡ bit_of old m) → flags_of count new ≡ set (flags_of count old) n true
+flags_of-set : (count : ℕ) (old new : List ℕ) (n : ℕ) → n < count → bit_of new n ≡ true →
+    ((m : ℕ) → (m ≡ n → ⊥) → bit_of new m ≡ bit_of old m) → flags_of count new ≡ set (flags_of count old) n true
 flags_of-set count old new n h same other =
     flags_of-is count new (set (flags_of count old) n true) (length-set (flags_of count old) n true ∙ length-flags_of count old)
     (λ k within. elim (cases_eq k n) [
       | inl here ↦ rw here (same ∙ sym (get_or-set_same (flags_of count old) n true false (omega (arith, length-flags_of count old))))
-      | inr apart ↦ other k apart ∙ sym (get_or-flags_of count old k within) ∙ sym (get_or-set_other (flags_of count old) n k true false apart)
+      | inr apart ↦ other k apart ∙ sym (get_or-flags_of count old k within) ∙ sym
+          (get_or-set_other (flags_of count old) n k true false apart)
     ])
 
 -- what a write through a whole `Vec` leaves
@@ -48,7 +53,8 @@ pub whole : (n : ℕ) (xs ys : List ℕ) → length xs ≡ n → take n (xs ++ d
 whole n xs ys e = subst (λ m. take m (xs ++ drop (length xs) ys) ≡ xs) e (take-append_seam xs (drop (length xs) ys))
 
 -- words of the same length, with no bit past the count
-AreWords-kept : (count : ℕ) (old new : List ℕ) → AreWords count old → length new ≡ length old → ((m : ℕ) → count ≤ m → bit_of new m ≡ false) → AreWords count new
+AreWords-kept : (count : ℕ) (old new : List ℕ) → AreWords count old → length new ≡ length old →
+    ((m : ℕ) → count ≤ m → bit_of new m ≡ false) → AreWords count new
 AreWords-kept count old new h e clear = record { room = rw e h.room; len = rw e h.len; fits = h.fits; clear = clear }
 
 -- a set that words show
@@ -57,7 +63,8 @@ pub record Shows (count : ℕ) (words : List ℕ) (set : List Bool) : Type 0 whe
   pub in_words : AreWords count words
 
 -- the words that a method reads show what its set is seen as
-pub shows : {count : ℕ} {words now : List ℕ} {set' : List Bool} → flags_of count words ≡ set' → AreWords count words → now ≡ words → Shows count now set'
+pub shows : {count : ℕ} {words now : List ℕ} {set' : List Bool} → flags_of count words ≡ set' → AreWords count words → now ≡ words
+    → Shows count now set'
 shows {count} {words} {now} {set'} view h e = subst (λ ws. Shows count ws set') (sym e) (record { view = view; in_words = h })
 
 module _ {count : ℕ} {words : List ℕ} {set : List Bool} (h : Shows count words set) where
@@ -102,12 +109,15 @@ module _ {count : ℕ} {words : List ℕ} {set : List Bool} (h : Shows count wor
   ]
 
   -- no bit is no member, and the other way round
-  pub next_none : (from : ℕ) (result : Option ℕ) → IfSome result (IsFirstBit words from) → (IsNone result → (m : ℕ) → from ≤ m → bit_of words m ≡ false) → IsNone result ↔ HasNoneFrom set from
+  pub next_none : (from : ℕ) (result : Option ℕ) → IfSome result (IsFirstBit words from) →
+      (IsNone result → (m : ℕ) → from ≤ m → bit_of words m ≡ false) → IsNone result ↔ HasNoneFrom set from
   next_none from None first clear = (λ t m ge. has_not m (clear t m ge), λ _. refl)
   next_none from (Some n) first clear = (λ t. cc, λ all. absurd (all n first.from_on (flag_at n ∙ first.is_set)))
 
 -- the words after an insertion
-pub inserted : {count : ℕ} {old : List ℕ} {set' : List Bool} → Shows count old set' → (new : List ℕ) (n : ℕ) → n < length set' → length new ≡ length old → bit_of new n ≡ true → ((m : ℕ) → (m ≡ n → ⊥) → bit_of new m ≡ bit_of old m) → Shows count new (set set' n true)
+pub inserted : {count : ℕ} {old : List ℕ} {set' : List Bool} → Shows count old set' → (new : List ℕ) (n : ℕ) → n < length set'
+    → length new ≡ length old → bit_of new n ≡ true → ((m : ℕ) → (m ≡ n → ⊥) → bit_of new m ≡ bit_of old m) → Shows count new
+    (set set' n true)
 inserted {count} {old} {set'} h new n lt len same other =
     let in' : n < count = omega (arith, count_is h) in
     record {
@@ -125,9 +135,12 @@ or_true x y (inl p) = grind arith
 or_true x y (inr q) = grind arith
 
 -- the words after a union
-module _ {count count' : ℕ} {old other : List ℕ} {set' set'' : List Bool} (h : Shows count old set') (h' : Shows count' other set'') (new : List ℕ) (e : length set' ≡ length set'') (len : length new ≡ length old) (each : (m : ℕ) → bit_of new m ≡ (bit_of old m || bit_of other m)) where
+module _ {count count' : ℕ} {old other : List ℕ} {set' set'' : List Bool} (h : Shows count old set') (h' : Shows count' other set'')
+    (new : List ℕ) (e : length set' ≡ length set'') (len : length new ≡ length old)
+    (each : (m : ℕ) → bit_of new m ≡ (bit_of old m || bit_of other m)) where
   pub joined_words : AreWords count new
-  joined_words = AreWords-kept count old new h.in_words len (λ m past. each m ∙ or_false _ _ (h.in_words.clear m past) (h'.in_words.clear m (omega (arith, count_is h, count_is h'))))
+  joined_words = AreWords-kept count old new h.in_words len (λ m past. each m ∙ or_false _ _ (h.in_words.clear m past)
+      (h'.in_words.clear m (omega (arith, count_is h, count_is h'))))
 
   -- they show the union
   pub joined_union : IsUnion set' set'' (flags_of count new)
@@ -150,13 +163,15 @@ module _ {count count' : ℕ} {old other : List ℕ} {set' set'' : List Bool} (h
   joined_grew (m, off, on) = (m, has_not h m off, flag_is count new joined_words m ∙ on)
 
 -- two sets compared by their bits
-module _ {count count' : ℕ} {words other : List ℕ} {set' set'' : List Bool} (h : Shows count words set') (h' : Shows count' other set'') where
+module _ {count count' : ℕ} {words other : List ℕ} {set' set'' : List Bool} (h : Shows count words set')
+    (h' : Shows count' other set'') where
   -- words of sets of one count are as many
   pub same_len : length set' ≡ length set'' → length words ≡ length other
   same_len e = omega (arith, count_is h, count_is h', h.in_words.room, h'.in_words.room, h.in_words.len, h'.in_words.len)
 
   -- bits within bits are a subset
-  pub subset_is : (result : Bool) → (result ≡ true → (m : ℕ) → bit_of words m ≡ true → bit_of other m ≡ true) → (result ≡ false → (m : ℕ) × (bit_of words m ≡ true) × (bit_of other m ≡ false)) → IsTrue result ↔ IsSubset set' set''
+  pub subset_is : (result : Bool) → (result ≡ true → (m : ℕ) → bit_of words m ≡ true → bit_of other m ≡ true) →
+      (result ≡ false → (m : ℕ) × (bit_of words m ≡ true) × (bit_of other m ≡ false)) → IsTrue result ↔ IsSubset set' set''
   subset_is result within beyond = (
     λ t n has. flag_at h' n ∙ within t n (sym (flag_at h n) ∙ has),
     λ sub. elim (cases_Bool result) [
@@ -166,7 +181,8 @@ module _ {count count' : ℕ} {words other : List ℕ} {set' set'' : List Bool} 
   )
 
   -- a bit in both is a common member
-  pub meet_is : (result : Bool) → (result ≡ true → (m : ℕ) × (bit_of words m ≡ true) × (bit_of other m ≡ true)) → (result ≡ false → (m : ℕ) → bit_of words m ≡ true → bit_of other m ≡ false) → IsTrue result ↔ Intersects set' set''
+  pub meet_is : (result : Bool) → (result ≡ true → (m : ℕ) × (bit_of words m ≡ true) × (bit_of other m ≡ true)) →
+      (result ≡ false → (m : ℕ) → bit_of words m ≡ true → bit_of other m ≡ false) → IsTrue result ↔ Intersects set' set''
   meet_is result met apart = (
     λ t. let (m, on, both) = met t in (m, flag_at h m ∙ on, flag_at h' m ∙ both),
     λ (m, one, two). elim (cases_Bool result) [
@@ -185,6 +201,7 @@ zeros_clear n m = elim (cases_lt (m / 64) n) [
 -- words without a bit show the empty set
 pub fresh : (count n : ℕ) → count < 64 * n → 64 * n ≤ count + 64 → count < 2 ^ 64 → Shows count (replicate n 0) (replicate count false)
 fresh count n room len fits = record {
-  view = flags_of-is count (replicate n 0) (replicate count false) (length-replicate count false) (λ k h. zeros_clear n k ∙ sym (get_or-replicate count k false false h));
+  view = flags_of-is count (replicate n 0) (replicate count false) (length-replicate count false)
+      (λ k h. zeros_clear n k ∙ sym (get_or-replicate count k false false h));
   in_words = record { room = rw length-replicate room; len = rw length-replicate len; fits = fits; clear = λ m _. zeros_clear n m };
 }

@@ -107,8 +107,13 @@ pub known_refused : (a : AttributionParts) (operations : List OperationSignature
 known_refused a operations (r.UnknownOperation name) any = let found = any.fails in let calls = found.fails in
     record {
       offset = found.offset;
-      expression = record { production = any.production; listed = any.listed; nodes = found.nodes; expected = found.is;
-          is_expected = found.asked };
+      expression = record {
+        production = any.production;
+        listed = any.listed;
+        nodes = found.nodes;
+        expected = found.is;
+        is_expected = found.asked;
+      };
       arguments = calls.arguments;
       calls = calls.calls;
       unknown = calls.unknown;
@@ -124,8 +129,13 @@ arity_refused a operations known refusal any =
     let found = any.fails in
     subst (IsTrueRefusal a operations) (sym found.fails.0) (record {
       known = known;
-      expression = record { production = any.production; listed = any.listed; nodes = found.nodes; expected = found.is;
-          is_expected = found.asked };
+      expression = record {
+        production = any.production;
+        listed = any.listed;
+        nodes = found.nodes;
+        expected = found.is;
+        is_expected = found.asked;
+      };
       wrong = found.fails.1;
     })
 

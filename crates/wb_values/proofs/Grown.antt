@@ -57,7 +57,7 @@ grown-at ts (y ∷ ys) zero x d lt ord is =
     let ord' = subst (λ (z : Built). All (IsIn (length ts)) z.1) same ord.0 in
     let st = values-stable ts (tree_of ts y ∷ b.0) x.1 ord' in
     let here : get_or (ts ++ tree_of ts y ∷ b.0) (length ts + 0) d ≡ tree_of ts y = rw add-zero
-        (get_or-append_seam ts (tree_of ts y) b.0 d) in
+    (get_or-append_seam ts (tree_of ts y) b.0 d) in
     let there = ap (tree_of ts) same ∙ sym (ap (node x.0) st) in
     subst (λ (l : List Tree). get_or l (length ts + 0) d ≡ tree_of l x) (sym whole) (here ∙ there)
 grown-at ts (y ∷ ys) (suc i) x d lt ord is =

@@ -52,7 +52,7 @@ slice-stable : (first count : ℕ) (vs more : List Value) → first + count ≤ 
 slice-stable first count vs more h =
     let a : drop first (vs ++ more) ≡ drop first vs ++ more = drop-append-le first vs more (omega (arith, h)) in
     let b : take count (drop first vs ++ more) ≡ take count (drop first vs) = take-append-le count (drop first vs) more
-        (omega (arith, length-drop first vs, h)) in
+    (omega (arith, length-drop first vs, h)) in
     ap (take count) a ∙ b
 
 -- nor any of the nodes
@@ -128,7 +128,7 @@ built-take ns vs k s le =
     let within = begin-le 0 ns (length vs) k s.laid in
     let len : length (take first vs) ≡ first = length-take-le first vs within in
     let a = built-stable 0 (take k ns) first (take first vs) (drop first vs) (laid-take 0 ns (length vs) k s.laid le)
-        (omega (arith, len)) in
+    (omega (arith, len)) in
     let b = take-append-drop first vs in
     sym (subst (λ (xs : List Value). built_from 0 xs (take k ns) ≡ built_from 0 (take first vs) (take k ns)) b a) ∙ built-first 0 k vs ns
 
@@ -145,7 +145,7 @@ trees-take ns vs k s le =
 pub store-take : (ns : List Node) (vs : List Value) (k : ℕ) → IsStore ns vs → k ≤ length ns → IsStore (take k ns) (take (begin 0 ns k) vs)
 store-take ns vs k s le =
     let len : begin 0 ns k ≡ length (take (begin 0 ns k) vs) = sym
-        (length-take-le (begin 0 ns k) vs (begin-le 0 ns (length vs) k s.laid)) in
+    (length-take-le (begin 0 ns k) vs (begin-le 0 ns (length vs) k s.laid)) in
     record {
       laid = subst (λ (m : ℕ). IsLaid 0 (take k ns) m) len (laid-take 0 ns (length vs) k s.laid le);
       ordered = subst (IsOrdered 0) (sym (built-take ns vs k s le)) (ordered-take 0 k (built_from 0 vs ns) s.ordered);
@@ -165,7 +165,7 @@ trees-at ns vs k n s lt is =
     let e : 0 + k ≡ k = omega arith in
     let below : k < length bs = omega (arith, length-built 0 vs ns, lt) in
     subst (λ (m : ℕ). get_or (grown [] bs) m (node 0 empty) ≡ tree_of (grown [] bs) b) e
-        (grown-at [] bs k b (node 0 empty) below s.ordered (built-at 0 ns vs k n b lt is))
+    (grown-at [] bs k b (node 0 empty) below s.ordered (built-at 0 ns vs k n b lt is))
 
 -- the children of the node at a place name lower trees alone
 below-at : (ns : List Node) (vs : List Value) (k : ℕ) (n : Node) → IsStore ns vs → k < length ns → get_or ns k n ≡ n → All (IsIn k)

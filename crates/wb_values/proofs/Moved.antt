@@ -26,7 +26,7 @@ moved-step start at len room from now to new x y m lt is =
     sym a ∙ ap (λ (xs : List Value). get_or xs 0 x) m.rest ∙ b in
     let in_from : at < length from = omega (arith, m.all) in
     let head : drop at from ≡ x ∷ drop (at + 1) from = drop_more from at x in_from ∙ ap (λ (z : Value). z ∷ drop (at + 1) from)
-        (sym (is ∙ same)) in
+    (sym (is ∙ same)) in
     let tail : drop (at + 1) now ≡ drop (at + 1) from = sym (drop-drop 1 at now) ∙ ap (drop 1) m.rest ∙ drop-drop 1 at from in
     record {
       start_le = let h = m.start_le in omega arith;

@@ -38,7 +38,7 @@ at-entry names es view i e P shown lt is p =
 -- more names after the others change no signature whose name was there
 signatures-kept : (names more : List (List ℕ)) (es : List Entry) →
     ((k : ℕ) (text : List ℕ) → slice_get names k ≡ Some text → slice_get more k ≡ Some text) → All (λ (k : ℕ). k < length names)
-        (name_numbers es) → signatures_of more es ≡ signatures_of names es
+    (name_numbers es) → signatures_of more es ≡ signatures_of names es
 signatures-kept names more [] kept below = refl
 signatures-kept names more (e ∷ es) kept below =
     let lt : e.name < length names = below 0 0 (omega arith) in
@@ -51,8 +51,8 @@ signatures-kept names more (e ∷ es) kept below =
 -- one entry more is one signature more
 pub signatures-push : (names more : List (List ℕ)) (es : List Entry) (e : Entry) (name : List ℕ) →
     ((k : ℕ) (text : List ℕ) → slice_get names k ≡ Some text → slice_get more k ≡ Some text) → All (λ (k : ℕ). k < length names)
-        (name_numbers es) → slice_get more e.name ≡ Some name → signatures_of more
-            (es ++ e ∷ []) ≡ signatures_of names es ++ record { name = name; left = e.left; children = e.children.items } ∷ []
+    (name_numbers es) → slice_get more e.name ≡ Some name → signatures_of more
+    (es ++ e ∷ []) ≡ signatures_of names es ++ record { name = name; left = e.left; children = e.children.items } ∷ []
 signatures-push names more es e name kept below there =
     let a = map-append (signature_of more) es (e ∷ []) in
     let b = signatures-kept names more es kept below in
@@ -87,7 +87,7 @@ none-named names es name below absent i d lt is =
 -- the first use of a name is the first signature of it
 pub first-named : (names : List (List ℕ)) (es : List Entry) (firsts : List ℕ) (k : ℕ) (name : List ℕ) (at : ℕ) → Differ names → IsIndex
     (length names) firsts (name_numbers es) → slice_get names k ≡ Some name → at ≡ get_or firsts k at → IsFirst
-        (signatures_of names es) name at
+    (signatures_of names es) name at
 first-named names es firsts k name at apart index there is =
     let known : k < length names = slice_get_within names k name there in
     let place : get_or firsts k 0 ≡ at = sym (get_or_read firsts k at (omega (arith, index.counted)) is 0) in
@@ -108,17 +108,17 @@ first-named names es firsts k name at apart index there is =
         let within : i < length es = omega arith in
         let f = element es i within in
         let same : get_or (take at (signatures_of names es)) i d ≡ signature_of names f.0 = get_or-take at
-            (signatures_of names es) i d i_lt ∙ signature-or names es i d f.0 within f.1 in
+        (signatures_of names es) i d i_lt ∙ signature-or names es i d f.0 within f.1 in
         let named : get_or names f.0.name [] ≡ name = sym (ap (λ (s : Signature). s.name) same) ∙ is in
         let number = number-below (length names) es i f.0 index.below within f.1 in
         let stands : slice_get names f.0.name ≡ Some name = slice_get-get_or names f.0.name [] number ∙ ap
-            (λ (text : List ℕ). Some text) named in
+        (λ (text : List ℕ). Some text) named in
         first_use.before i i_lt (number-at es i f.0 within f.1 ∙ apart name f.0.name k stands there)
 
 -- a copy of the first signatures, with one more
 pub copy-step : (all made new : List Signature) (k : ℕ) (s : Signature) → made ≡ take k all → k < length all → IfSome (slice_get all k)
     (λ (t : Signature). s.name ≡ t.name) → IfSome (slice_get all k) (λ (t : Signature). s.left ≡ t.left) → IfSome (slice_get all k)
-        (λ (t : Signature). s.children ≡ t.children) → new ≡ made ++ s ∷ [] → new ≡ take (k + 1) all
+    (λ (t : Signature). s.children ≡ t.children) → new ≡ made ++ s ∷ [] → new ≡ take (k + 1) all
 copy-step all made new k s so_far lt name left children pushed =
     let at = slice_get-get_or all k s lt in
     let name' : s.name ≡ (get_or all k s).name = rw at at name in
@@ -127,6 +127,6 @@ copy-step all made new k s so_far lt name left children pushed =
     let t = get_or all k s in
     let same : s ≡ t =
     ap (λ (n : List ℕ). record s { name = n }) name' ∙ ap (λ (n : ℕ). record t { left = n; children = s.children }) left' ∙ ap
-        (λ (kinds : List Kind). record t { children = kinds }) children' in
+    (λ (kinds : List Kind). record t { children = kinds }) children' in
     pushed ∙ ap (λ (xs : List Signature). xs ++ s ∷ []) so_far ∙ ap (λ (t : Signature). take k all ++ t ∷ []) same ∙ sym
-        (take_more all k s lt)
+    (take_more all k s lt)

@@ -9,7 +9,8 @@ pub record AreClasses (nodes : List RegexNode) (classes firsts : List ℕ) (i : 
   pub len : length classes ≡ 256
   pub below : (b : ℕ) → b < 256 → slice_index classes b < length firsts
   pub first : (b : ℕ) → b < 256 → slice_index firsts (slice_index classes b) ≤ b
-  pub alike : (b : ℕ) → b < 256 → (p : ℕ) (node : RegexNode) → p < i → slice_get nodes p ≡ Some node → node_holds node b ≡ node_holds node (slice_index firsts (slice_index classes b))
+  pub alike : (b : ℕ) → b < 256 → (p : ℕ) (node : RegexNode) → p < i → slice_get nodes p ≡ Some node → node_holds node b ≡ node_holds node
+      (slice_index firsts (slice_index classes b))
   pub rising : AreRising firsts
 
 -- the class of a byte has as its first byte one of the same old class that the node holds or not as it does this byte

@@ -1,5 +1,6 @@
 -- Where bytes lead from the states that were found.
-use Rattle.std.specs.Prelude.{◌≡◌, ◌+◌, ◌*◌, ◌^◌, ◌<◌, ◌≤◌, ◌↔◌, ◌⊎◌, ℕ, Option, Some, None, List, [], Contains, length, slice_get, slice_index, slice_index_or}
+use Rattle.std.specs.Prelude.{◌≡◌, ◌+◌, ◌*◌, ◌^◌, ◌<◌, ◌≤◌, ◌↔◌, ◌⊎◌, ℕ, Option, Some, None, List, [], Contains, length, slice_get}
+use Rattle.std.specs.Prelude.{slice_index, slice_index_or}
 use Rattle.wb_automata.specs.declared.tables.Tables.{Tables}
 use Rattle.wb_automata.specs.Automata.{Path, IsEarlier}
 use Rattle.wb_automata.specs.Rows.{row}
@@ -24,7 +25,9 @@ IsMove t found set path b (Some j) = LeadsOn t found set path b j
 -- the moves of the first i states, and those of state i by the first c of the bytes, one after the other
 pub record AreMoves (t : Tables) (bytes : List ℕ) (found : Found) (moves : List (Option ℕ)) (i c : ℕ) : Type 0 where
   pub len : length moves ≡ i * length bytes + c
-  pub lead : (j k : ℕ) (set : List ℕ) (path : Path) → (j < i) ⊎ ((j ≡ i) × (k < c)) → k < length bytes → slice_get found.sets j ≡ Some set → slice_get found.paths j ≡ Some path → IsMove t found set path (slice_index bytes k) (slice_index_or moves (j * length bytes + k) None)
+  pub lead : (j k : ℕ) (set : List ℕ) (path : Path) → (j < i) ⊎ ((j ≡ i) × (k < c)) → k < length bytes → slice_get found.sets j ≡ Some set
+      → slice_get found.paths j ≡ Some path → IsMove t found set path (slice_index bytes k)
+      (slice_index_or moves (j * length bytes + k) None)
 
 -- every path is earlier than that of the state with any byte after it
 pub record IsReady (found : Found) (i : ℕ) : Type 0 where
@@ -43,7 +46,8 @@ abbrev pub KeepsSets : Found → Found → Type 0
 KeepsSets old found = (top : ℕ) → SetsBelow top old → SetsBelow top found
 
 -- within the state i: what may come after its places, and its moves by the first c of the bytes
-pub record RowPass (t : Tables) (bytes : List ℕ) (old found : Found) (i : ℕ) (ahead : List ℕ) (moves : List (Option ℕ)) (c : ℕ) : Type 0 where
+pub record RowPass (t : Tables) (bytes : List ℕ) (old found : Found) (i : ℕ) (ahead : List ℕ) (moves : List (Option ℕ))
+    (c : ℕ) : Type 0 where
   pub set : List ℕ
   pub path : Path
   pub at : slice_get found.sets i ≡ Some set

@@ -1,5 +1,6 @@
 -- Nodes in post-order, and tables with an entry for each node.
-use Rattle.std.specs.Prelude.{◌≡◌, ℕ, ◌+◌, ◌<◌, List, [], ◌∷◌, ◌++◌, Bool, true, false, cond, ◌&&◌, ◌||◌, slice_get, slice_index_or, Some, length}
+use Rattle.std.specs.Prelude.{◌≡◌, ℕ, ◌+◌, ◌<◌, List, [], ◌∷◌, ◌++◌, Bool, true, false, cond, ◌&&◌, ◌||◌, slice_get, slice_index_or, Some}
+use Rattle.std.specs.Prelude.{length}
 use Rattle.wb_automata.specs.Inner.PositionTrees.{PositionTree, Leaf, Sequence, Choice, Star, Plus, Maybe, nullable_of}
 use Rattle.wb_automata.specs.Rows.{row}
 use Rattle.wb_regex.specs.declared.node.RegexNode.{RegexNode}
@@ -8,11 +9,16 @@ use Rattle.wb_regex.specs.declared.node.RegexNode.TheVariants as n
 -- The nodes from s on and below e are this tree: the parts before the whole, from left to right, and nothing else. A leaf is named by its place.
 pub data Covers (nodes : List RegexNode) : ℕ → ℕ → PositionTree → Type 0 where
   one : {s e : ℕ} (words : List ℕ) → slice_get nodes s ≡ Some (n.Set words) → e ≡ s + 1 → Covers nodes s e (Leaf s)
-  seq : {s e : ℕ} {r t : PositionTree} (i j : ℕ) → Covers nodes s (i + 1) r → Covers nodes (i + 1) (j + 1) t → slice_get nodes (j + 1) ≡ Some (n.Sequence i j) → e ≡ j + 2 → Covers nodes s e (Sequence r t)
-  choice : {s e : ℕ} {r t : PositionTree} (i j : ℕ) → Covers nodes s (i + 1) r → Covers nodes (i + 1) (j + 1) t → slice_get nodes (j + 1) ≡ Some (n.Choice i j) → e ≡ j + 2 → Covers nodes s e (Choice r t)
-  star : {s e : ℕ} {r : PositionTree} (i : ℕ) → Covers nodes s (i + 1) r → slice_get nodes (i + 1) ≡ Some (n.Star i) → e ≡ i + 2 → Covers nodes s e (Star r)
-  plus : {s e : ℕ} {r : PositionTree} (i : ℕ) → Covers nodes s (i + 1) r → slice_get nodes (i + 1) ≡ Some (n.Plus i) → e ≡ i + 2 → Covers nodes s e (Plus r)
-  maybe : {s e : ℕ} {r : PositionTree} (i : ℕ) → Covers nodes s (i + 1) r → slice_get nodes (i + 1) ≡ Some (n.Maybe i) → e ≡ i + 2 → Covers nodes s e (Maybe r)
+  seq : {s e : ℕ} {r t : PositionTree} (i j : ℕ) → Covers nodes s (i + 1) r → Covers nodes (i + 1) (j + 1) t → slice_get nodes
+      (j + 1) ≡ Some (n.Sequence i j) → e ≡ j + 2 → Covers nodes s e (Sequence r t)
+  choice : {s e : ℕ} {r t : PositionTree} (i j : ℕ) → Covers nodes s (i + 1) r → Covers nodes (i + 1) (j + 1) t → slice_get nodes
+      (j + 1) ≡ Some (n.Choice i j) → e ≡ j + 2 → Covers nodes s e (Choice r t)
+  star : {s e : ℕ} {r : PositionTree} (i : ℕ) → Covers nodes s (i + 1) r → slice_get nodes (i + 1) ≡ Some (n.Star i) → e ≡ i + 2
+      → Covers nodes s e (Star r)
+  plus : {s e : ℕ} {r : PositionTree} (i : ℕ) → Covers nodes s (i + 1) r → slice_get nodes (i + 1) ≡ Some (n.Plus i) → e ≡ i + 2
+      → Covers nodes s e (Plus r)
+  maybe : {s e : ℕ} {r : PositionTree} (i : ℕ) → Covers nodes s (i + 1) r → slice_get nodes (i + 1) ≡ Some (n.Maybe i) → e ≡ i + 2
+      → Covers nodes s e (Maybe r)
 
 -- the parts have places below this
 abbrev pub PartsBelow : ℕ → RegexNode → Type 0

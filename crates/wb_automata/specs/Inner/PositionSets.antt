@@ -50,7 +50,8 @@ pub record IsStartOf (n count : ℕ) (considered : ℕ → Type 0) (p : ℕ) : T
 
 -- with these expressions considered the set is the state after this text
 abbrev pub Stands : (ℕ → ℕ → Bool) → List PositionTree → ℕ → (ℕ → Type 0) → List ℕ → List ℕ → Type 0
-Stands holds trees n considered set x = (k : ℕ) (t : PositionTree) → slice_get trees k ≡ Some t → (w : List ℕ) → Rest holds n set k t w ↔ (considered k × Matches holds t (x ++ w))
+Stands holds trees n considered set x = (k : ℕ) (t : PositionTree) → slice_get trees k ≡ Some t → (w : List ℕ) → Rest holds n set k t w ↔
+    (considered k × Matches holds t (x ++ w))
 
 -- a match of the expression may end with some leaf of the set
 pub record Ends (set : List ℕ) (t : PositionTree) : Type 0 where

@@ -15,8 +15,10 @@ pub record IsLeastState (automaton : AutomatonView) (one other state : ℕ) : Ty
   pub at : slice_get automaton.paths state ≡ Some path
   pub first : MatchesIn automaton path.set one path.text
   pub second : MatchesIn automaton path.set other path.text
-  pub least : (set : ℕ) (shared : List ℕ) → MatchesIn automaton set one shared → MatchesIn automaton set other shared → (path ≡ record { set = set; text = shared }) ⊎ IsEarlier path (record { set = set; text = shared })
+  pub least : (set : ℕ) (shared : List ℕ) → MatchesIn automaton set one shared → MatchesIn automaton set other shared →
+      (path ≡ record { set = set; text = shared }) ⊎ IsEarlier path (record { set = set; text = shared })
 
 -- no text that leads to one of the first n states matches both terminals
 abbrev pub AreApartBelow : AutomatonView → ℕ → ℕ → ℕ → Type 0
-AreApartBelow automaton one other n = (state set : ℕ) (text : List ℕ) → state < n → LeadsTo automaton set text state → MatchesIn automaton set one text → MatchesIn automaton set other text → ⊥
+AreApartBelow automaton one other n = (state set : ℕ) (text : List ℕ) → state < n → LeadsTo automaton set text state
+    → MatchesIn automaton set one text → MatchesIn automaton set other text → ⊥

@@ -38,7 +38,8 @@ pub record AreLinks (nodes : List RegexNode) (roots : List ℕ) (follow ends : L
   pub firsts : AreFirsts nodes first (length nodes)
   pub lasts : AreLasts nodes last (length nodes)
   pub follow_len : length follow ≡ length nodes + length roots
-  pub follow_exact : (p q : ℕ) → Contains (row follow p) q ↔ (LinkIn nodes first last 0 (length nodes) p q ⊎ StartAt first roots (length nodes) (length roots) p q)
+  pub follow_exact : (p q : ℕ) → Contains (row follow p) q ↔ (LinkIn nodes first last 0 (length nodes) p q ⊎ StartAt first roots
+      (length nodes) (length roots) p q)
   pub ends_len : length ends ≡ length nodes + length roots
   pub ends_exact : (p k : ℕ) → Contains (row ends p) k ↔ EndAt last roots (length roots) p k
 
@@ -54,7 +55,8 @@ pub record AreTables (trees : List Tree) (sets : List (List Bool)) (t : Tables) 
   pub is_ends : IsEnds planted.linears t.ends
   pub table : IsTable t
   pub starts_len : length t.starts ≡ length sets
-  pub is_starts : (s : ℕ) (flags : List Bool) → slice_get sets s ≡ Some flags → IsStartsOf (length t.nodes.items) (length trees) flags (row t.starts s)
+  pub is_starts : (s : ℕ) (flags : List Bool) → slice_get sets s ≡ Some flags → IsStartsOf (length t.nodes.items) (length trees) flags
+      (row t.starts s)
   pub follow_len : length t.follow ≡ length t.nodes.items + length trees
   pub ends_len : length t.ends ≡ length t.follow
   pub ends_below : AreBelow (length trees) t.ends

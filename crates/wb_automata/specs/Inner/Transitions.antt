@@ -1,5 +1,6 @@
 -- States as lists of leaves, and where a byte leads from them.
-use Rattle.std.specs.Prelude.{◌≡◌, ℕ, ◌<◌, ◌≤◌, All, ◌/◌, ◌%◌, ◌==◌, ◌&&◌, slice_index, List, [], Bool, true, false, slice_index_or, length, Contains}
+use Rattle.std.specs.Prelude.{◌≡◌, ℕ, ◌<◌, ◌≤◌, All, ◌/◌, ◌%◌, ◌==◌, ◌&&◌, slice_index, List, [], Bool, true, false, slice_index_or, length}
+use Rattle.std.specs.Prelude.{Contains}
 use Rattle.wb_regex.specs.declared.node.RegexNode.{RegexNode}
 use Rattle.wb_regex.specs.declared.node.RegexNode.TheVariants as n
 use Rattle.wb_automata.specs.Rows.{row}

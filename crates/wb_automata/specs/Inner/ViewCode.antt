@@ -6,7 +6,10 @@ use Rattle.wb_regex.specs.Inner.TreeCode.{coded_tree}
 use Rattle.wb_automata.specs.Automata.{AutomatonView, Path}
 
 abbrev coded_path : Coded Path
-coded_path = code_by (ℕ × List ℕ) (coded× coded_ℕ (coded_list coded_ℕ)) (λ p. (p.set, p.text)) (λ p. record { set = p.0; text = p.1 }) (λ _. refl)
+coded_path = code_by (ℕ × List ℕ) (coded× coded_ℕ (coded_list coded_ℕ)) (λ p. (p.set, p.text)) (λ p. record { set = p.0; text = p.1 })
+    (λ _. refl)
 
 abbrev pub coded_automaton : Coded AutomatonView
-coded_automaton = code_by (List Tree × (List (List Bool) × List Path)) (coded× (coded_list coded_tree) (coded× (coded_list (coded_list coded_bool)) (coded_list coded_path))) (λ a. (a.terminals, (a.sets, a.paths))) (λ p. record { terminals = p.0; sets = p.1.0; paths = p.1.1 }) (λ _. refl)
+coded_automaton = code_by (List Tree × (List (List Bool) × List Path))
+    (coded× (coded_list coded_tree) (coded× (coded_list (coded_list coded_bool)) (coded_list coded_path)))
+    (λ a. (a.terminals, (a.sets, a.paths))) (λ p. record { terminals = p.0; sets = p.1.0; paths = p.1.1 }) (λ _. refl)

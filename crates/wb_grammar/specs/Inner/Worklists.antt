@@ -1,5 +1,6 @@
 -- A worklist for a least set: how far each production has come, and why none is forgotten.
-use Rattle.std.specs.Prelude.{◌≡◌, ◌<◌, ◌≤◌, ◌+◌, ◌-◌, ◌*◌, ◌⊎◌, ◌++◌, ◌∷◌, [], ℕ, Bool, true, false, List, All, Contains, length, take, slice_get, slice_set, Some}
+use Rattle.std.specs.Prelude.{◌≡◌, ◌<◌, ◌≤◌, ◌+◌, ◌-◌, ◌*◌, ◌⊎◌, ◌++◌, ◌∷◌, [], ℕ, Bool, true, false, List, All, Contains, length, take}
+use Rattle.std.specs.Prelude.{slice_get, slice_set, Some}
 use Rattle.wb_base.specs.declared.symbol.Symbol.{Symbol}
 use Rattle.wb_base.specs.declared.symbol.Symbol.TheVariants.{Terminal, Nonterminal}
 use Rattle.wb_base.specs.Grammar.{GrammarView}

@@ -1,6 +1,7 @@
 -- A path-based search for strongly connected components: open vertices stand in groups, one after another, and a group is closed
 -- once all its edges are taken.
-use Rattle.std.specs.Prelude.{◌≡◌, ◌<◌, ◌≤◌, ◌+◌, ◌-◌, ◌*◌, ◌⊎◌, ◌++◌, ◌∷◌, ℕ, List, [], Option, Some, None, All, Contains, length, slice_get, slice_set, slice_index, sum, take, drop}
+use Rattle.std.specs.Prelude.{◌≡◌, ◌<◌, ◌≤◌, ◌+◌, ◌-◌, ◌*◌, ◌⊎◌, ◌++◌, ◌∷◌, ℕ, List, [], Option, Some, None, All, Contains, length}
+use Rattle.std.specs.Prelude.{slice_get, slice_set, slice_index, sum, take, drop}
 use Rattle.wb_graph.specs.Graphs.{Edge, IsEdge, IsEdgeBelow, Walk}
 use Rattle.wb_graph.specs.Inner.Taking.{IsLinked, IsTaken}
 use Rattle.wb_graph.specs.declared.groups.Groups.{Groups}

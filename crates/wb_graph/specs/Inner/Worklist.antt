@@ -1,5 +1,6 @@
 -- A worklist over a graph: what it keeps of the vertices reached, and of those of which edges may be left.
-use Rattle.std.specs.Prelude.{◌≡◌, ◌<◌, ◌+◌, ◌*◌, ◌⊎◌, ◌++◌, ◌∷◌, [], ℕ, Bool, true, false, Option, Some, None, List, All, length, slice_get, slice_set, slice_index, slice_index_or, sum}
+use Rattle.std.specs.Prelude.{◌≡◌, ◌<◌, ◌+◌, ◌*◌, ◌⊎◌, ◌++◌, ◌∷◌, [], ℕ, Bool, true, false, Option, Some, None, List, All, length}
+use Rattle.std.specs.Prelude.{slice_get, slice_set, slice_index, slice_index_or, sum}
 use Rattle.wb_graph.specs.Graphs.{Edge, IsEdge, IsEdgeBelow}
 use Rattle.wb_graph.specs.Inner.Taking.{IsLinked, IsTaken}
 use Rattle.wb_graph.specs.declared.worklist.Worklist.{Worklist}

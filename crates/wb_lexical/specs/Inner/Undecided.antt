@@ -21,4 +21,5 @@ pub record IsLeastClash (automaton : AutomatonView) (preferences : List (ℕ × 
 
 -- no two terminals of a set match a text with no preference between them
 abbrev pub HasNoUndecided : AutomatonView → List (ℕ × ℕ) → Type 0
-HasNoUndecided automaton preferences = (set left right : ℕ) (text : List ℕ) → left < right → MatchesIn automaton set left text → MatchesIn automaton set right text → ¬ ¬ AreOrdered preferences left right
+HasNoUndecided automaton preferences = (set left right : ℕ) (text : List ℕ) → left < right → MatchesIn automaton set left text
+    → MatchesIn automaton set right text → ¬ ¬ AreOrdered preferences left right

@@ -24,7 +24,8 @@ use Rattle.wb_syntax.specs.Fields as field
 use Rattle.wb_syntax.specs.ItemGrammar.{plain_fields}
 use Rattle.wb_syntax.specs.SpecText.{SpecView}
 use Rattle.wb_printer.specs.Inner.Output.{Output, after, ended}
-use Rattle.wb_printer.specs.Inner.PartTokens.{AreEquationTokens, block_tokens, children_tokens, kind_token, needs_tokens, optional_needs_tokens}
+use Rattle.wb_printer.specs.Inner.PartTokens.{AreEquationTokens, block_tokens, children_tokens, kind_token, needs_tokens}
+use Rattle.wb_printer.specs.Inner.PartTokens.{optional_needs_tokens}
 
 -- a production, whose equations have these tokens
 abbrev pub production_tokens : Production → List Token → List Token

@@ -7,7 +7,8 @@ use Rattle.wb_tokens.specs.declared.punctuation.Punctuation.TheVariants as p
 use Rattle.wb_syntax.specs.Expression.{Node}
 use Rattle.wb_expressions.specs.declared.node.Node.TheVariants as n
 use Rattle.wb_syntax.specs.Expression.{Expression, Expressions}
-use Rattle.wb_expressions.specs.Expression.{Int, Text, Truth, Label, Read, Lexeme, Top, Forward, Build, Call, If, none, more, size, size_of_all}
+use Rattle.wb_expressions.specs.Expression.{Int, Text, Truth, Label, Read, Lexeme, Top, Forward, Build, Call, If, none, more, size}
+use Rattle.wb_expressions.specs.Expression.{size_of_all}
 use Rattle.wb_expressions.specs.Places.{HasNode, Stands, AllStand}
 use Rattle.wb_printer.specs.Inner.ExpressionTokens.{expression_tokens, arguments_tokens, further_tokens}
 use Rattle.wb_printer.specs.declared.expressions.Waiting.{Waiting}

@@ -4,7 +4,8 @@ use Rattle.wb_regex.specs.Tree.{Tree, Set, Sequence, Choice, Star, Plus, Maybe}
 use Rattle.wb_regex.specs.Grammar.{literal_of}
 use Rattle.wb_regex.specs.Inner.ClassSteps.{ClassState, Begin, ClassMove, Stay, Leave, words_of, class_step}
 use Rattle.wb_regex.specs.declared.symbol.Symbol.{Symbol}
-use Rattle.wb_regex.specs.declared.symbol.Symbol.TheVariants.{Bar, Asterisk, PlusSign, Question, OpenParenthesis, CloseParenthesis, OpenClass, Dot}
+use Rattle.wb_regex.specs.declared.symbol.Symbol.TheVariants.{Bar, Asterisk, PlusSign, Question, OpenParenthesis, CloseParenthesis}
+use Rattle.wb_regex.specs.declared.symbol.Symbol.TheVariants.{OpenClass, Dot}
 
 -- what was read at one depth of groups: the choice of the branches that are over, and the pieces of the branch that isn't
 pub record Level : Type 0 where

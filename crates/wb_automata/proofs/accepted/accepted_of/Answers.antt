@@ -9,4 +9,6 @@ loop-i-init c = rw (c.new-accepted.ensures) (accepted_none c.args.ends.now c.arg
 pub loop-i-preserved : goal.loop-i-preserved
 loop-i-preserved c =
     let a = c.in_ok-push_accepted.ensures in
-    subst (λ z. AreAccepted c.args.ends.now c.args.states.now.sets z (c.loop-i.i + 1)) (sym a.last) (accepted_step c.args.ends.now c.args.states.now.sets c.loop-i.accepted c.at.result.now a.all c.loop-i.i c.at.ensures a.exact a.rising c.loop-i.invariant)
+    subst (λ z. AreAccepted c.args.ends.now c.args.states.now.sets z (c.loop-i.i + 1)) (sym a.last)
+    (accepted_step c.args.ends.now c.args.states.now.sets c.loop-i.accepted c.at.result.now a.all c.loop-i.i c.at.ensures a.exact
+    a.rising c.loop-i.invariant)

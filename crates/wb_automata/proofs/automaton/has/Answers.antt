@@ -4,4 +4,5 @@ use Rattle.std.proofs.lemmas.List.Elements.{contains_decides, Decides-contains}
 use Rattle.wb_automata.proofs.automaton.has.Goals as goal
 
 pub returns : goal.returns
-returns c = Decides-contains c.args.numbers.now c.args.number c.contains.result (contains_decides eqb Decides-eqb c.args.numbers.now c.args.number c.contains.result c.contains.ensures.cases)
+returns c = Decides-contains c.args.numbers.now c.args.number c.contains.result
+    (contains_decides eqb Decides-eqb c.args.numbers.now c.args.number c.contains.result c.contains.ensures.cases)

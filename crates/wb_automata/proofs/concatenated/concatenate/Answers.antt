@@ -10,4 +10,7 @@ pub loop-regex-preserved : goal.loop-regex-preserved
 loop-regex-preserved c =
     let trees = c.args.terminals.now in
     let i = c.loop-regex.regex-index in
-    rw (c.in_ok-push.ensures.ok) (join_step trees c.loop-regex.nodes.items c.add_nodes.new.nodes.items c.loop-regex.roots.items i c.in_ok-root.root c.regex-item.result (slice_get_read trees (length trees) i c.regex-item.result refl (omega arith) c.regex-item.is) c.loop-regex.invariant c.in_ok-root.ensures)
+    rw (c.in_ok-push.ensures.ok)
+    (join_step trees c.loop-regex.nodes.items c.add_nodes.new.nodes.items c.loop-regex.roots.items i c.in_ok-root.root
+    c.regex-item.result (slice_get_read trees (length trees) i c.regex-item.result refl
+    (omega arith) c.regex-item.is) c.loop-regex.invariant c.in_ok-root.ensures)

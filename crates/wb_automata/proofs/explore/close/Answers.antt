@@ -8,10 +8,12 @@ pub states-init : goal.states-init
 states-init c = rows_same c.args.tables.now c.args.bytes.now c.args.states.now c.args.moves.now c.args.from c.requires.before
 
 pub states-preserved : goal.states-preserved
-states-preserved c = rows_more c.args.tables.now c.args.bytes.now c.args.states.now c.states.states c.row_of.new.states c.states.moves c.row_of.new.moves c.states.i (c.states.i + 1) c.states.invariant c.in_ok-row_of.ensures
+states-preserved c = rows_more c.args.tables.now c.args.bytes.now c.args.states.now c.states.states c.row_of.new.states c.states.moves
+    c.row_of.new.moves c.states.i (c.states.i + 1) c.states.invariant c.in_ok-row_of.ensures
 
 pub states-smaller : goal.states-smaller
-states-smaller c = (let few = few_found c.args.tables.now c.states.states c.states.invariant.rows.found_ok c.len.ensures.different in let test = c.states-test.true in let count = c.len.ensures.count in omega arith)
+states-smaller c = (let few = few_found c.args.tables.now c.states.states c.states.invariant.rows.found_ok c.len.ensures.different in let
+    test = c.states-test.true in let count = c.len.ensures.count in omega arith)
 
 pub returns-clause-few : goal.returns-clause-few
 returns-clause-few c = few_found c.args.tables.now c.states.states c.states.invariant.rows.found_ok c.len.ensures.different
@@ -19,5 +21,6 @@ returns-clause-few c = few_found c.args.tables.now c.states.states c.states.inva
 pub returns-clause-rows : goal.returns-clause-rows
 returns-clause-rows c =
     let h = c.states.invariant in
-    let e : c.states.i ≡ length c.states.states.sets = (let le = h.rows.within in let test = c.states-test.false in let count = c.len.ensures.count in omega arith) in
+    let e : c.states.i ≡ length c.states.states.sets = (let le = h.rows.within in let test = c.states-test.false in let
+    count = c.len.ensures.count in omega arith) in
     subst (RowsFrom c.args.tables.now c.args.bytes.now c.args.states.now c.states.states c.states.moves) e h

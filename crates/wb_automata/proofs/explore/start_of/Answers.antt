@@ -6,5 +6,6 @@ use Rattle.wb_automata.proofs.explore.start_of.Goals as goal
 pub returns : goal.returns
 returns c =
     let old = c.args.states.now in
-    let none : slice_get old.paths c.len.result ≡ None = slice_get_past old.paths c.len.result (omega (arith, c.requires.count, c.len.ensures.count)) in
+    let none : slice_get old.paths c.len.result ≡ None = slice_get_past old.paths c.len.result
+    (omega (arith, c.requires.count, c.len.ensures.count)) in
     rw (c.row.ensures, none) at c.place_of.ensures

@@ -9,4 +9,5 @@ pub returns-else-accepts-clause-apart : goal.returns-else-accepts-clause-apart
 returns-else-accepts-clause-apart c off set text l p q = true≢false (sym ((c.accepts.ensures set text l).1 p) ∙ off)
 
 pub returns-then-accepts-clause-both : goal.returns-then-accepts-clause-both
-returns-then-accepts-clause-both c accepted set text l = ((c.accepts.ensures set text l).0 c.if-accepts.true, (c.accepts-then-accepts.ensures set text l).0 accepted)
+returns-then-accepts-clause-both c accepted set text l =
+    ((c.accepts.ensures set text l).0 c.if-accepts.true, (c.accepts-then-accepts.ensures set text l).0 accepted)

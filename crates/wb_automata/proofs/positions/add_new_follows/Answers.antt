@@ -8,14 +8,16 @@ use Rattle.wb_automata.proofs.positions.add_new_follows.Goals as goal
 use Rattle.wb_automata.proofs.positions.add_new_follows.Goals.{then-not-adds_nothing+in_ok-link_at, else-not-adds_nothing}
 
 pub loop-place-init : goal.loop-place-init
-loop-place-init c = linked_none c.args.order.now.empty.now c.args.order.now.nodes.now c.requires.order c.args.repeated.now c.args.follow.now c.requires.none
+loop-place-init c = linked_none c.args.order.now.empty.now c.args.order.now.nodes.now c.requires.order c.args.repeated.now
+    c.args.follow.now c.requires.none
 
 pub adds_nothing-requires : goal.adds_nothing-requires
 adds_nothing-requires c =
     let nodes = c.args.order.now.nodes.now in
     let i = c.loop-place.place in
     let node = get_or nodes i (n.Set []) in
-    parts_more node i (length c.args.order.now.empty.now) (omega (arith, c.requires.order.len)) (c.requires.order.parts i node (slice_get-get_or nodes i (n.Set []) (omega arith)))
+    parts_more node i (length c.args.order.now.empty.now) (omega (arith, c.requires.order.len))
+    (c.requires.order.parts i node (slice_get-get_or nodes i (n.Set []) (omega arith)))
 
 pub link_at-requires-clause-parts : goal.link_at-requires-clause-parts
 link_at-requires-clause-parts c =
@@ -32,9 +34,13 @@ loop-place-preserved c =
     let node = get_or nodes i (n.Set []) in
     let at : slice_get nodes i ≡ Some node = slice_get-get_or nodes i (n.Set []) (omega arith) in
     elim c.if-not-adds_nothing.branch [
-      | then-not-adds_nothing+in_ok-link_at w ↦ rw w.follow-is (linked_more es nodes c.requires.order c.args.repeated.now c.loop-place.follow w.link_at.new.follow (length c.args.follow.now) i node at w.in_ok-link_at.ensures.len w.in_ok-link_at.ensures.exact c.loop-place.invariant)
-      | else-not-adds_nothing w ↦ rw w.follow-is (linked_skip es nodes c.requires.order c.args.repeated.now c.loop-place.follow (length c.args.follow.now) i node at (sym c.adds_nothing.ensures ∙ w.if-not-adds_nothing.false) c.loop-place.invariant)
+      | then-not-adds_nothing+in_ok-link_at w ↦ rw w.follow-is
+          (linked_more es nodes c.requires.order c.args.repeated.now c.loop-place.follow w.link_at.new.follow
+          (length c.args.follow.now) i node at w.in_ok-link_at.ensures.len w.in_ok-link_at.ensures.exact c.loop-place.invariant)
+      | else-not-adds_nothing w ↦ rw w.follow-is (linked_skip es nodes c.requires.order c.args.repeated.now c.loop-place.follow
+          (length c.args.follow.now) i node at (sym c.adds_nothing.ensures ∙ w.if-not-adds_nothing.false) c.loop-place.invariant)
     ]
 
 pub returns-clause-exact : goal.returns-clause-exact
-returns-clause-exact c = linked_all c.args.order.now.empty.now c.args.order.now.nodes.now c.requires.order c.args.repeated.now c.loop-place.follow (length c.args.follow.now) c.loop-place.place (omega arith) c.requires.repeated c.loop-place.invariant
+returns-clause-exact c = linked_all c.args.order.now.empty.now c.args.order.now.nodes.now c.requires.order c.args.repeated.now
+    c.loop-place.follow (length c.args.follow.now) c.loop-place.place (omega arith) c.requires.repeated c.loop-place.invariant

@@ -10,4 +10,5 @@ loop-node-preserved c =
     let i = c.loop-node.node-index in
     let node = get_or nodes i (n.Set []) in
     let e : c.push.new.self.items ≡ c.loop-node.all.items ++ c.nullable_at-empty.result ∷ [] = c.in_ok-push.ensures.items in
-    rw (e, c.nullable_at-empty.ensures, c.deref.ensures.value) (empty_step nodes c.loop-node.all.items i node c.loop-node.invariant (slice_get-get_or nodes i (n.Set []) (omega arith)))
+    rw (e, c.nullable_at-empty.ensures, c.deref.ensures.value)
+    (empty_step nodes c.loop-node.all.items i node c.loop-node.invariant (slice_get-get_or nodes i (n.Set []) (omega arith)))

@@ -16,7 +16,8 @@ mark_parts-requires-clause-parts c =
     let k : ℕ = c.nodes.place - 1 in
     let node = get_or nodes k (n.Set []) in
     let lt : k < length nodes = omega (arith, c.nodes.invariant.within, c.nodes-test.true) in
-    parts_more node k (length c.args.order.now.empty.now) (omega (arith, c.requires.len)) (c.requires.parts k node (slice_get-get_or nodes k (n.Set []) lt))
+    parts_more node k (length c.args.order.now.empty.now) (omega (arith, c.requires.len))
+    (c.requires.parts k node (slice_get-get_or nodes k (n.Set []) lt))
 
 pub nodes-preserved : goal.nodes-preserved
 nodes-preserved c =
@@ -28,10 +29,12 @@ nodes-preserved c =
     let node = get_or nodes k (n.Set []) in
     let lt : k < length nodes = omega (arith, c.nodes.invariant.within, c.nodes-test.true) in
     let next : c.nodes.place ≡ k + 1 = omega (arith, c.nodes-test.true) in
-    let read : c.index-repeated.result.now ≡ flag flags k = c.index-repeated.ensures ∙ get_or_default flags k c.index-repeated.result.now false (omega (arith, h.len)) in
+    let read : c.index-repeated.result.now ≡ flag flags k = c.index-repeated.ensures
+    ∙ get_or_default flags k c.index-repeated.result.now false (omega (arith, h.len)) in
     record {
       within = omega arith;
-      repeated = repeated_more es nodes c.requires flags c.mark_parts.new.flags.items k node (slice_get-get_or nodes k (n.Set []) lt) c.mark_parts.ensures.len
+      repeated = repeated_more es nodes c.requires flags c.mark_parts.new.flags.items k node
+          (slice_get-get_or nodes k (n.Set []) lt) c.mark_parts.ensures.len
           (λ x on. subst (λ z. (flag flags x ≡ true) ⊎ RepeatsPart es z node x) read (c.mark_parts.ensures.marked x on))
           (subst (AreRepeated nodes (rows_of es First nodes) (rows_of es Last nodes) flags) next h);
     }

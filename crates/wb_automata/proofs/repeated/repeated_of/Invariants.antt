@@ -7,7 +7,8 @@ use Rattle.wb_automata.proofs.repeated.repeated_of.Given as goal
 abbrev pub invariant-nodes : goal.invariant-nodes
 invariant-nodes l = record {
   within : l.place ≤ length l.order.nodes.now;
-  repeated : AreRepeated l.order.nodes.now (rows_of l.order.empty.now First l.order.nodes.now) (rows_of l.order.empty.now Last l.order.nodes.now) l.flags.items l.place;
+  repeated : AreRepeated l.order.nodes.now (rows_of l.order.empty.now First l.order.nodes.now)
+      (rows_of l.order.empty.now Last l.order.nodes.now) l.flags.items l.place;
 }
 
 abbrev pub decreases-nodes : goal.decreases-nodes

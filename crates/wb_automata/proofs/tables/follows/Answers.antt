@@ -3,7 +3,8 @@ use Rattle.std.proofs.lemmas.List.{length-replicate}
 use Rattle.wb_automata.proofs.tables.follows.Goals as goal
 
 blank_len : (c : goal.In_ok-begins) → length c.in_ok-follow.follow ≡ length c.args.order.now.nodes.now + length c.args.roots.now
-blank_len c = ap length c.in_ok-follow.ensures ∙ length-replicate {A = List ℕ} (length c.args.order.now.nodes.now + length c.args.roots.now) []
+blank_len c = ap length c.in_ok-follow.ensures ∙ length-replicate {A = List ℕ}
+    (length c.args.order.now.nodes.now + length c.args.roots.now) []
 
 pub returns-clause-exact : goal.returns-clause-exact
 returns-clause-exact c p q =

@@ -10,4 +10,6 @@ pub loop-set-preserved : goal.loop-set-preserved
 loop-set-preserved c =
     let sets = c.args.sets.now in
     let i = c.loop-set.set-index in
-    rw (c.in_ok-push.ensures) (starts_more c.args.n c.args.count sets c.loop-set.starts c.set-item.result c.in_ok-places.places i (slice_get_read sets (length sets) i c.set-item.result refl (omega arith) c.set-item.is) c.in_ok-places.ensures.exact c.in_ok-places.ensures.places c.loop-set.invariant)
+    rw (c.in_ok-push.ensures) (starts_more c.args.n c.args.count sets c.loop-set.starts c.set-item.result c.in_ok-places.places i
+    (slice_get_read sets (length sets) i c.set-item.result refl
+    (omega arith) c.set-item.is) c.in_ok-places.ensures.exact c.in_ok-places.ensures.places c.loop-set.invariant)

@@ -6,4 +6,4 @@ pub returns : goal.returns
 returns c =
     let corner = rw c.in-Some.is at c.in_ok-corner.ensures in
     IfOk-weaker c.path.result _ _
-        (λ found h. found_back _ c.args.corners.now c.args.hidden.now c.in-Some.corner corner.0 corner.1 found h) c.path.ensures
+    (λ found h. found_back _ c.args.corners.now c.args.hidden.now c.in-Some.corner corner.0 corner.1 found h) c.path.ensures

@@ -7,5 +7,5 @@ pub returns : goal.returns
 returns c =
     within_found c.args.count c.args.corners.now c.args.hidden.now c.in_ok-components.components c.in_ok-components.ensures
     (λ a b h. let e : Edge = (a, b) in let below : IsEdgeBelow c.args.count e =
-        All-contains (IsEdgeBelow c.args.count) c.args.hidden.now e c.requires.hidden h in (below.0, below.1, c.requires.within a b h))
+    All-contains (IsEdgeBelow c.args.count) c.args.hidden.now e c.requires.hidden h in (below.0, below.1, c.requires.within a b h))
     c.first_together.result c.first_together.ensures

@@ -10,13 +10,13 @@ returns-then-empty-symbols c = unit_whole c.args.nullable.now c.args.symbols.now
 pub returns-then-are_nullable : goal.returns-then-are_nullable
 returns-then-are_nullable c =
     unit_one c.args.nullable.now c.args.symbols.now c.args.empty (c.args.empty + 1 - c.args.empty) c.requires.leading (omega arith)
-        (omega arith)
+    (omega arith)
     (subst (All (Holds false c.args.nullable.now)) (rest_of c.args.symbols.now c.args.empty)
-        (c.are_nullable.ensures.0 c.if-are_nullable.true))
+    (c.are_nullable.ensures.0 c.if-are_nullable.true))
 
 pub returns-else-are_nullable : goal.returns-else-are_nullable
 returns-else-are_nullable c =
     unit_none c.args.nullable.now c.args.symbols.now c.args.empty c.requires.leading (omega arith)
     (λ all. let held = c.are_nullable.ensures.1
-        (subst (All (Holds false c.args.nullable.now)) (sym (rest_of c.args.symbols.now c.args.empty)) all) in cc
-        (held, c.if-are_nullable.false))
+    (subst (All (Holds false c.args.nullable.now)) (sym (rest_of c.args.symbols.now c.args.empty)) all) in cc
+    (held, c.if-are_nullable.false))

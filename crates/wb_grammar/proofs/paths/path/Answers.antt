@@ -20,7 +20,7 @@ returns-then-index-eq0 c =
     let trail = c.sweep.new.trail.items in
     let none : slice_index places c.args.from ≡ 0 = grind (arith, common_steps) in
     not_reached c.args.edges.now c.args.from c.args.to places trail (c.in_ok-sweep.ensures.closed c.if-branch.false)
-        (c.in_ok-sweep.ensures.trail c.args.to c.sweeps.invariant.1) none
+    (c.in_ok-sweep.ensures.trail c.args.to c.sweeps.invariant.1) none
 
 pub walk_back-requires-clause-place : goal.walk_back-requires-clause-place
 walk_back-requires-clause-place c =
@@ -29,7 +29,7 @@ walk_back-requires-clause-place c =
     let met : slice_index places c.args.from ≢ 0 = λ z. (let h = c.if-index-eq0.false in grind (arith, common_steps)) in
     let at : c.index-2.result.now ≡ slice_index places c.args.from = grind (arith, common_steps) in
     let within = place_within c.args.edges.now c.args.from c.args.to places trail
-        (c.in_ok-sweep.ensures.trail c.args.to c.sweeps.invariant.1) met in
+    (c.in_ok-sweep.ensures.trail c.args.to c.sweeps.invariant.1) met in
     rw (at, c.deref.ensures.value) within
 
 pub walk_back-requires-clause-lower : goal.walk_back-requires-clause-lower
@@ -43,5 +43,5 @@ returns c =
     let met : slice_index places c.args.from ≢ 0 = λ z. (let h = c.if-index-eq0.false in grind (arith, common_steps)) in
     let at : c.index-2.result.now ≡ slice_index places c.args.from = grind (arith, common_steps) in
     path_of c.args.edges.now c.args.from c.args.to places trail c.in_ok-walk_back.field-0.items
-        (c.in_ok-sweep.ensures.trail c.args.to c.sweeps.invariant.1) met
+    (c.in_ok-sweep.ensures.trail c.args.to c.sweeps.invariant.1) met
     (rw (c.deref.ensures.value, at) at c.in_ok-walk_back.ensures)

@@ -7,7 +7,7 @@ returns-in-Sorted-clause-ok c =
     let edges = c.in_ok-edges.edges.items in
     let order = rw c.in-Sorted.is at c.in_ok-order_of.ensures.ok in
     order_no_cycle g c.args.nullable.now edges c.in-Sorted.field-0.items c.in_ok-edges.ensures.grammar c.requires.nullable
-        c.in_ok-edges.ensures.exact
+    c.in_ok-edges.ensures.exact
     (rw (← c.nonterminals.ensures, ← c.deref.ensures.value) order)
 
 pub returns-clause-refused : goal.returns-clause-refused

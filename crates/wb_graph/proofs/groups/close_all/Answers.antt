@@ -17,4 +17,5 @@ vertices-preserved c =
     }
 
 pub returns : goal.returns
-returns c = closes_all c.args.vertices.now c.vertices.vertex-index c.args.number c.args.marks.now c.vertices.marks c.vertices-test.false c.vertices.invariant.closes
+returns c = closes_all c.args.vertices.now c.vertices.vertex-index c.args.number c.args.marks.now c.vertices.marks c.vertices-test.false
+    c.vertices.invariant.closes

@@ -17,7 +17,8 @@ roots-init c = record {
 pub roots-preserved : goal.roots-preserved
 roots-preserved c =
     let h = c.roots.invariant in
-    let visits : Visits c.args.edges.now c.roots.root (state_of c.roots.search) (state_of c.visit.new.self) = rw c.in_default.is at c.in_ok-vertex.ensures.none in
+    let visits : Visits c.args.edges.now c.roots.root (state_of c.roots.search) (state_of c.visit.new.self) = rw c.in_default.is at
+    c.in_ok-vertex.ensures.none in
     record {
       search = visits.search;
       path = visits.path;

@@ -14,4 +14,5 @@ pub returns : goal.returns
 returns c =
     let h = c.roots.invariant in
     are_components c.args.edges.now (state_of c.roots.groups) h.grouping h.path (λ v less. h.met v (omega (arith, h.len))) c.args.count
-    c.in_ok-numbers.numbers.items h.len (subst (λ marks. AreNumbers c.in_ok-numbers.numbers.items marks) c.deref.ensures.value c.in_ok-numbers.ensures)
+    c.in_ok-numbers.numbers.items h.len
+    (subst (λ marks. AreNumbers c.in_ok-numbers.numbers.items marks) c.deref.ensures.value c.in_ok-numbers.ensures)

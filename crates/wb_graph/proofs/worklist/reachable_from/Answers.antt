@@ -5,7 +5,8 @@ use Rattle.std.proofs.lemmas.Option.{slice_get_within, get_or_from_slice_get}
 use Rattle.wb_graph.specs.Graphs.{AreReached}
 use Rattle.wb_graph.specs.Inner.Worklist.{worklist_of, State, IsMarked, marked}
 use Rattle.wb_lemmas.proofs.Members.{place_of}
-use Rattle.wb_graph.proofs.WorklistLemmas.{IsReaching, reaching_begun, reaching_mark, reaching_step, worklist_reached, marked_at, marked_keeps}
+use Rattle.wb_graph.proofs.WorklistLemmas.{IsReaching, reaching_begun, reaching_mark, reaching_step, worklist_reached, marked_at}
+use Rattle.wb_graph.proofs.WorklistLemmas.{marked_keeps}
 use Rattle.wb_graph.proofs.worklist.reachable_from.Goals as goal
 
 pub starts-init : goal.starts-init
@@ -14,7 +15,8 @@ starts-init c =
     let clear : c.in_ok-vec.field-0.items ≡ replicate c.args.count false = c.in_ok-vec.ensures.items_if_clones_equal (λ y same. same) in
     record {
       reaching = rw (clear, c.new-2.ensures.items)
-          (reaching_begun c.args.count c.args.edges.now c.args.from.now made.firsts.items made.links.items c.requires.edges c.in_ok-new.ensures.linked c.in_ok-new.ensures.len c.in_ok-new.ensures.nothing);
+          (reaching_begun c.args.count c.args.edges.now c.args.from.now made.firsts.items made.links.items c.requires.edges
+          c.in_ok-new.ensures.linked c.in_ok-new.ensures.len c.in_ok-new.ensures.nothing);
       starts = λ k less. absurd (omega arith);
     }
 

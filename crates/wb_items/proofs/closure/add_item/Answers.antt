@@ -8,12 +8,12 @@ use Rattle.wb_items.proofs.closure.add_item.Goals.{then-place-gt0+else-is_item, 
 pub returns-then-is_item : goal.returns-then-is_item
 returns-then-is_item c =
     strict_pass_at c.args.items.now c.args.list.now.items c.args.place c.item_at-before.result c.item_at-item.result c.if-place-gt0.true
-        c.item_at-before.ensures c.item_at-item.ensures (c.is_item.ensures.0 c.if-is_item.true) c.requires.before
+    c.item_at-before.ensures c.item_at-item.ensures (c.is_item.ensures.0 c.if-is_item.true) c.requires.before
 
 pub returns : goal.returns
 returns c =
     strict_take_at c.args.items.now c.args.list.now.items c.push.new.list.items c.args.place c.item_at-item.result c.requires.rising
-        c.item_at-item.ensures c.in_ok-push.ensures.ok
+    c.item_at-item.ensures c.in_ok-push.ensures.ok
     (λ pos a at same. elim c.if-place-gt0.branch [
       | then-place-gt0+else-is_item w ↦ true≢false
           (sym (w.is_item.ensures.1 (at_once c.args.items.now (c.args.place - 1) w.item_at-before.result a w.item_at-before.ensures at ∙

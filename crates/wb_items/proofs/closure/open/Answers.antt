@@ -18,8 +18,8 @@ returns-in_ok-add_initial_items c =
     let below = c.in-Some.ensures.below in
     rw (c.in_ok-add_initial_items.ensures, c.insert.ensures.after)
     (closing_more g c.args.kernel.now c.args.opened.now c.args.closure.now.items c.args.place c.item_at-item.result c.in-Some.nonterminal
-        rest c.as_slice.result.now
-        (subst (λ xs. slice_get xs c.args.place ≡ Some c.item_at-item.result) c.deref.ensures.value c.item_at-item.ensures) is
+    rest c.as_slice.result.now
+    (subst (λ xs. slice_get xs c.args.place ≡ Some c.item_at-item.result) c.deref.ensures.value c.item_at-item.ensures) is
     (omega (arith, c.requires.before.len, below))
     (c.requires.rules.each c.in-Some.nonterminal c.as_slice.result.now
     (slice_get_read c.args.rules.now (length c.args.rules.now) c.in-Some.nonterminal c.index-rules-nonterminal.result refl
@@ -31,8 +31,8 @@ returns-else-insert c =
     let (rest, is) = c.in-Some.ensures.nonterminal in
     rw (c.insert.ensures.stayed c.if-insert.false)
     (closing_known c.args.grammar.now c.args.kernel.now c.args.opened.now c.args.closure.now.items c.args.place c.item_at-item.result
-        c.in-Some.nonterminal rest
-        (subst (λ xs. slice_get xs c.args.place ≡ Some c.item_at-item.result) c.deref.ensures.value c.item_at-item.ensures) is
+    c.in-Some.nonterminal rest
+    (subst (λ xs. slice_get xs c.args.place ≡ Some c.item_at-item.result) c.deref.ensures.value c.item_at-item.ensures) is
     (λ without. true≢false (sym (c.insert.ensures.new.1 without) ∙ c.if-insert.false)) c.requires.before)
 
 pub returns-in_default : goal.returns-in_default

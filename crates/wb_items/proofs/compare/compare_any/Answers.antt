@@ -7,22 +7,22 @@ use Rattle.wb_items.proofs.compare.compare_any.Goals as goal
 pub returns-in_default : goal.returns-in_default
 returns-in_default c =
     kernel_goes_on c.args.kernel.now c.args.items.now c.places.place c.item_at-item.result c.requires c.item_at-item.ensures
-        c.places.invariant c.in_default.ensures
+    c.places.invariant c.in_default.ensures
 
 pub returns-then-precedes : goal.returns-then-precedes
 returns-then-precedes c =
     kernel_less c.args.kernel.now c.args.items.now c.places.place c.item_at-item.result c.requires c.item_at-item.ensures c.places.invariant
-        c.in-Some.found c.in-Some.ensures (c.precedes.ensures.0 c.if-precedes.true)
+    c.in-Some.found c.in-Some.ensures (c.precedes.ensures.0 c.if-precedes.true)
 
 pub returns-then-precedes-2 : goal.returns-then-precedes-2
 returns-then-precedes-2 c =
     items_less c.args.kernel.now c.args.items.now c.places.place c.item_at-item.result c.requires c.item_at-item.ensures c.places.invariant
-        c.in-Some.found c.in-Some.ensures (c.precedes-in-places.ensures.0 c.if-precedes-2.true)
+    c.in-Some.found c.in-Some.ensures (c.precedes-in-places.ensures.0 c.if-precedes-2.true)
 
 pub places-preserved : goal.places-preserved
 places-preserved c =
     agree_more c.args.kernel.now c.args.items.now c.places.place c.item_at-item.result c.requires c.item_at-item.ensures c.places.invariant
-        c.in-Some.found c.in-Some.ensures
+    c.in-Some.found c.in-Some.ensures
     (λ lt. true≢false (sym (c.precedes.ensures.1 lt) ∙ c.if-precedes.false))
     (λ gt. true≢false (sym (c.precedes-in-places.ensures.1 gt) ∙ c.if-precedes-2.false))
 

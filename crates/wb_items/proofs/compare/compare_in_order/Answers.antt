@@ -18,14 +18,14 @@ pub returns-in-Less : goal.returns-in-Less
 returns-in-Less c =
     first_here c.args.kernel.now c.args.items.now c.places.place c.item_at.result c.requires.kernel c.places.invariant c.item_at.ensures
     (all_follow c.args.items.now c.places.place c.item_at.result c.item_at-in-places.result c.requires.items c.item_at-in-places.ensures
-        c.in-Less.ensures)
+    c.in-Less.ensures)
 
 pub returns-in-Greater : goal.returns-in-Greater
 returns-in-Greater c =
     first_here c.args.items.now c.args.kernel.now c.places.place c.item_at-in-places.result c.requires.items
     (agree_turned c.args.kernel.now c.args.items.now c.places.place c.places.invariant) c.item_at-in-places.ensures
     (all_follow c.args.kernel.now c.places.place c.item_at-in-places.result c.item_at.result c.requires.kernel c.item_at.ensures
-        c.in-Greater.ensures)
+    c.in-Greater.ensures)
 
 pub returns-then-kernel-items : goal.returns-then-kernel-items
 returns-then-kernel-items c =

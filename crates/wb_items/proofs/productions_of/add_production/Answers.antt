@@ -14,7 +14,7 @@ returns c =
     let lt : left < length rows = omega (arith, c.requires.before.len, c.left.ensures.in_range) in
     let at = slice_get-get_or rows left c.index-rows-left.result lt in
     let rule = production_read g c.args.production left c.right-right.result.now c.requires.production c.left.ensures.left
-        c.right-right.ensures.right in
+    c.right-right.ensures.right in
     subst (λ numbers. RowsUpTo g (slice_set rows left numbers) (c.args.production + 1)) (sym c.in_ok-push.ensures)
     (rows_more g rows c.args.production left c.right-right.result.now
     (slice_index_or rows left c.index-rows-left.result) rule at c.requires.before)

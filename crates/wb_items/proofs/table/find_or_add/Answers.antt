@@ -8,13 +8,13 @@ returns-in-Some-clause-leads c =
     let (kernel, there, same) = c.in-Some.ensures.found in
     let (prefix, at) = prefix_at c.requires.kernels c.args.state c.requires.state in
     leads_known c.args.grammar.now c.args.found.now.prefixes c.args.found.now.kernels c.args.state c.args.symbol prefix c.args.kernel
-        c.in-Some.next kernel c.requires.kernels at
+    c.in-Some.next kernel c.requires.kernels at
     (c.requires.kernel prefix at) there (subst (SameItems kernel) c.as_slice.ensures same)
 
 is_new : (c : goal.In_ok-add) → IsAdded c.args.grammar.now c.args.found.now c.add.new.self c.args.state c.args.symbol c.len-next.result
 is_new c =
     is_added c.args.grammar.now c.args.found.now c.add.new.self c.args.state c.args.symbol c.len-next.result c.args.kernel
-        c.requires.kernels c.requires.state c.requires.kernel
+    c.requires.kernels c.requires.state c.requires.kernel
     (λ t other at same. c.in_default.ensures.none t other at
     (subst (SameItems other) (sym c.as_slice.ensures) same)) c.len-next.ensures.prefixes c.in_ok-add.ensures
 

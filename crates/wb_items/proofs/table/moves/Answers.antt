@@ -19,7 +19,7 @@ pub returns-clause-row : goal.returns-clause-row
 returns-clause-row c =
     rw c.from_vec.ensures
     (moves_done c.args.grammar.now c.args.found.now c.runs.found c.args.closure.now c.in_ok-list.list.items c.args.state c.runs.row.items
-        c.runs.place (omega arith) c.in_ok-list.ensures.exact c.runs.invariant.moves)
+    c.runs.place (omega arith) c.in_ok-list.ensures.exact c.runs.invariant.moves)
 
 pub add_move-requires-clause-rising : goal.add_move-requires-clause-rising
 add_move-requires-clause-rising c = subst AreAdvancesRising (sym c.deref.ensures.value) c.in_ok-list.ensures.rising
@@ -29,13 +29,13 @@ add_move-requires-clause-before c =
     subst (λ list. MovesUpTo c.args.grammar.now c.runs.found c.runs.found list c.args.state c.runs.row.items c.runs.place)
     (sym c.deref.ensures.value)
     (moves_now c.args.grammar.now c.args.found.now c.runs.found c.in_ok-list.list.items c.args.state c.runs.row.items c.runs.place
-        c.runs.invariant.moves)
+    c.runs.invariant.moves)
 
 pub runs-preserved : goal.runs-preserved
 runs-preserved c = record {
   moves = moves_then c.args.grammar.now c.args.found.now c.runs.found c.add_move.new.found c.in_ok-list.list.items c.args.state
       c.add_move.new.row.items c.in_ok-place.place c.runs.invariant.moves.grows
       (subst (λ list. MovesUpTo c.args.grammar.now c.runs.found c.add_move.new.found list c.args.state c.add_move.new.row.items
-          c.in_ok-place.place) c.deref.ensures.value c.in_ok-place.ensures.moves);
+      c.in_ok-place.place) c.deref.ensures.value c.in_ok-place.ensures.moves);
   within = subst (λ (list : List Advance). c.in_ok-place.place ≤ length list) c.deref.ensures.value c.in_ok-place.ensures.after.1;
 }

@@ -10,7 +10,7 @@ returns-in-Some-clause-leads c =
     let (kernel, there, same) = c.in-Some.ensures in
     let (prefix, at) = prefix_at c.requires.kernels c.args.state c.requires.state in
     leads_known c.args.grammar.now c.args.found.now.prefixes c.args.found.now.kernels c.args.state c.args.symbol prefix c.args.kernel
-        c.in-Some.next kernel c.requires.kernels at
+    c.in-Some.next kernel c.requires.kernels at
     (c.requires.kernel prefix at) there (subst (SameItems kernel) c.as_slice.ensures same)
 
 pub returns-clause-kernels : goal.returns-clause-kernels

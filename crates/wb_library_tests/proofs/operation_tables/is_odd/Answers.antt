@@ -11,8 +11,10 @@ use Rattle.wb_library_tests.proofs.operation_tables.is_odd.Goals as goal
 
 pub add-requires-clause-kind : goal.add-requires-clause-kind
 add-requires-clause-kind c =
-    rw (c.new-table.ensures.signatures) (λ values are. ints_give kind.Int odd_sum (λ x y. chosen kind.Int (int_eq y (pos 4)) (fails 9) (inside (x +ℤ y)) tt (inside_gives (x +ℤ y))) values are)
+    rw (c.new-table.ensures.signatures) (λ values are. ints_give kind.Int odd_sum
+    (λ x y. chosen kind.Int (int_eq y (pos 4)) (fails 9) (inside (x +ℤ y)) tt (inside_gives (x +ℤ y))) values are)
 
 pub add-requires-2-clause-kind : goal.add-requires-2-clause-kind
 unfolding standard_at standard_operations
-add-requires-2-clause-kind c = rw (c.in_ok-add.ensures.ok, c.new-table.ensures.signatures) (λ values are. (sound_at 15 (omega arith)).kind values are)
+add-requires-2-clause-kind c =
+    rw (c.in_ok-add.ensures.ok, c.new-table.ensures.signatures) (λ values are. (sound_at 15 (omega arith)).kind values are)

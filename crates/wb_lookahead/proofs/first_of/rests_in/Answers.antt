@@ -19,7 +19,7 @@ places-preserved c =
           c.in_ok-push.ensures.ok
           (slice_get-get_or right n _ c.places-test.true)
           (joined_opening g _ (drop
-              (n + 1) right) c.args.repeats.now c.in_ok-rest.rest c.join_repeats.new.rest is_rest c.requires.repeats c.join_repeats.ensures)
+          (n + 1) right) c.args.repeats.now c.in_ok-rest.rest c.join_repeats.new.rest is_rest c.requires.repeats c.join_repeats.ensures)
           c.places.invariant.each;
     }
 

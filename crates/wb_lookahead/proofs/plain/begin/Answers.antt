@@ -32,7 +32,7 @@ spread-requires-clause-flows c =
     λ t has. subst (λ p. FlowsTo K 0 (initial_item p) t) (sym top)
     (subst (FlowsTo K 0 (initial_item (length K.grammar.productions)))
     (sym (one_member c.in_ok-lookahead_count.field-0 c.terminals.result c.in_ok-end.end c.insert.new.self c.in_ok-end.ensures
-        c.insert.ensures.after t has ∙ last)) start)
+    c.insert.ensures.after t has ∙ last)) start)
 
 pub returns-clause-waiting : goal.returns-clause-waiting
 returns-clause-waiting c =

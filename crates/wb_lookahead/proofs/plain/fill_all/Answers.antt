@@ -22,7 +22,7 @@ place_near-at-requires-clause-item c =
     ap Some (sym c.as_slice-numbers.ensures) in
     let are : AreProductionsOf c.args.context.now.kernels.now.grammar c.args.nonterminal numbers =
     productions_here c.args.context.now.kernels.now c.requires.context.of_grammar c.args.context.now.productions.now
-        c.requires.context.are_productions c.args.nonterminal numbers at in
+    c.requires.context.are_productions c.args.nonterminal numbers at in
     let q = get_or numbers c.productions.production-index 0 in
     let (right, rule) = are.sound q (Contains-get_or numbers c.productions.production-index 0 c.productions-test.true) in
     row_has c.requires.context.are_kernels c.productions.lookaheads c.productions.invariant.propagated.shape c.args.state
@@ -38,12 +38,12 @@ productions-preserved c =
     ap Some (sym c.as_slice-numbers.ensures) in
     let are : AreProductionsOf c.args.context.now.kernels.now.grammar c.args.nonterminal numbers =
     productions_here c.args.context.now.kernels.now c.requires.context.of_grammar c.args.context.now.productions.now
-        c.requires.context.are_productions c.args.nonterminal numbers at in
+    c.requires.context.are_productions c.args.nonterminal numbers at in
     let q = get_or numbers c.productions.production-index 0 in
     let (right, rule) = are.sound q (Contains-get_or numbers c.productions.production-index 0 c.productions-test.true) in
     let place = place_of c.args.state (initial_item q) c.place_near-at.result in
     let within = state_within c.requires.context.are_kernels place c.requires.state c.productions.lookaheads
-        c.productions.invariant.propagated.shape in
+    c.productions.invariant.propagated.shape in
     record {
       propagated = union_propagated place within c.productions.invariant.propagated
           (λ t has. (c.requires.exact q t right rule).0 has) c.unite.ensures;
@@ -67,6 +67,6 @@ returns-clause-filled c =
     ap Some (sym c.as_slice-numbers.ensures) in
     let are : AreProductionsOf c.args.context.now.kernels.now.grammar c.args.nonterminal numbers =
     productions_here c.args.context.now.kernels.now c.requires.context.of_grammar c.args.context.now.productions.now
-        c.requires.context.are_productions c.args.nonterminal numbers at in
+    c.requires.context.are_productions c.args.nonterminal numbers at in
     λ q t right rule f. c.productions.invariant.filled q t (contains_all numbers c.productions.production-index q c.productions-test.false
     (are.complete q right rule)) f

@@ -18,7 +18,7 @@ fill_all-requires-clause-has c =
     let has : HasItem K.grammar (prefix_of K place.state) (initial_item place.item.production) = subst
     (HasItem K.grammar (prefix_of K place.state)) c.in-Some.ensures.is.1 (place_has h place c.requires.place) in
     λ q right rule. initial_all h place.state c.requires.place.state c.in-Some.nonterminal place.item.production q first.right right
-        first.production rule has
+    first.production rule has
 
 pub fill_all-requires-clause-len : goal.fill_all-requires-clause-len
 fill_all-requires-clause-len c =
@@ -26,7 +26,7 @@ fill_all-requires-clause-len c =
     let place = c.args.place in
     held_len h c.args.lookaheads.now c.requires.propagated.shape place.state c.requires.place.state place.item c.in_ok-set.set
     (held h c.args.lookaheads.now c.requires.propagated.shape place c.requires.place c.at.result.now c.in_ok-set.set c.at.ensures
-        c.in_ok-set.ensures)
+    c.in_ok-set.ensures)
 
 pub fill_all-requires-clause-exact : goal.fill_all-requires-clause-exact
 fill_all-requires-clause-exact c =
@@ -37,10 +37,10 @@ fill_all-requires-clause-exact c =
     (λ z. IsFirstOf z c.in-Some.nonterminal place.item.production) (sym c.requires.context.of_grammar) c.in-Some.ensures.is.0 in
     let set_is : IsSetOf c.args.lookaheads.now place.state place.item c.in_ok-set.set =
     held h c.args.lookaheads.now c.requires.propagated.shape place c.requires.place c.at.result.now c.in_ok-set.set c.at.ensures
-        c.in_ok-set.ensures in
+    c.in_ok-set.ensures in
     λ q t right rule.
     let both = initial_exact place.state place.item c.in-Some.nonterminal q t right c.requires.propagated first c.in-Some.ensures.is.1
-        rule in (
+    rule in (
       λ has. both.0 (c.in_ok-set.set, set_is, has),
       λ f. listed_held h c.args.lookaheads.now c.requires.propagated.shape place.state c.requires.place.state place.item c.in_ok-set.set
           set_is t (both.1 f),
@@ -58,4 +58,4 @@ returns-clause-filled c =
     let first : IsFirstOf K.grammar c.in-Some.nonterminal place.item.production = subst
     (λ z. IsFirstOf z c.in-Some.nonterminal place.item.production) (sym c.requires.context.of_grammar) c.in-Some.ensures.is.0 in
     filled_all K c.fill_all.new.lookaheads place.state place.item c.in-Some.nonterminal first c.in-Some.ensures.is.1
-        c.fill_all.ensures.filled
+    c.fill_all.ensures.filled

@@ -16,5 +16,5 @@ places-preserved c = record {
       (get_or c.closure-item-items.result.now c.places.at start)
       (ap (λ z. slice_get z c.places.at) (sym c.closure-item-items.ensures.is) ∙
       slice_get-get_or c.closure-item-items.result.now c.places.at start c.places-test.true) c.in_ok-fill_from.ensures.keeps
-          c.places.invariant.filled c.in_ok-fill_from.ensures.filled;
+      c.places.invariant.filled c.in_ok-fill_from.ensures.filled;
 }

@@ -1,7 +1,8 @@
 use Rattle.std.proofs.Common.{arith}
 use Rattle.wb_lookahead.proofs.StandInLemmas.{moved_sole, past_sole, sole_alone}
 use Rattle.wb_lookahead.proofs.plain.opened_by.Goals as goal
-use Rattle.wb_lookahead.proofs.plain.opened_by.Goals.{then-item-gt0-via-then-item-gt0, then-item-gt0-via-else-item-gt0+then-item-productions}
+use Rattle.wb_lookahead.proofs.plain.opened_by.Goals.{then-item-gt0-via-then-item-gt0}
+use Rattle.wb_lookahead.proofs.plain.opened_by.Goals.{then-item-gt0-via-else-item-gt0+then-item-productions}
 
 pub returns-then-item-gt0-clause-is : goal.returns-then-item-gt0-clause-is
 returns-then-item-gt0-clause-is c other = elim c.then-item-gt0.branch [

@@ -20,7 +20,7 @@ spread-requires-clause-has c =
     let (rest, is) = c.requires.symbol in
     let here : after_dot g c.args.item ≡ Nonterminal n ∷ rest = is ∙ ap (λ z. z ∷ rest) c.in-Nonterminal.is in
     open_has c.requires.context.are_kernels c.requires.context.of_grammar c.args.state c.args.item c.requires.has n p rest here
-        c.in-Some.ensures
+    c.in-Some.ensures
 
 pub spread-requires-clause-flows : goal.spread-requires-clause-flows
 spread-requires-clause-flows c =
@@ -32,7 +32,7 @@ spread-requires-clause-flows c =
     let past : length g.productions ≤ c.args.item.production = (let e = c.productions.ensures.count in let f =
     c.if-item-productions.true in omega (arith, e, f)) in
     λ t has. open_flows_on c.args.context.now.kernels.now c.requires.context.of_grammar c.args.state c.args.item n p rest here
-        c.in-Some.ensures
+    c.in-Some.ensures
     (nothing_after g c.args.item past (Nonterminal n) rest here) t (c.requires.flows t has)
 
 pub returns-then-item-productions-clause-lists : goal.returns-then-item-productions-clause-lists
@@ -90,7 +90,7 @@ spread-requires-2-clause-has c =
     let (rest, is) = c.requires.symbol in
     let here : after_dot g c.args.item ≡ Nonterminal n ∷ rest = is ∙ ap (λ z. z ∷ rest) c.in-Nonterminal.is in
     open_has c.requires.context.are_kernels c.requires.context.of_grammar c.args.state c.args.item c.requires.has n p rest here
-        c.in-Some.ensures
+    c.in-Some.ensures
 
 pub spread-requires-2-clause-len : goal.spread-requires-2-clause-len
 spread-requires-2-clause-len c =
@@ -131,7 +131,7 @@ spread-requires-2-clause-flows c =
     (slice_get_read c.as_slice.result.now
     (length c.as_slice.result.now) c.args.item.dot c.index-as_slice-item.result refl there.0 c.index-as_slice-item.is) in
     λ u has. opening_flows c.requires.context.are_kernels c.requires.context.of_grammar c.args.state c.requires.state c.args.item
-        c.requires.has n p rest here c.in-Some.ensures u
+    c.requires.has n p rest here c.in-Some.ensures u
     (is_rest.sound u has)
 
 pub spread-requires-then-rest-clause-has : goal.spread-requires-then-rest-clause-has
@@ -142,7 +142,7 @@ spread-requires-then-rest-clause-has c =
     let (rest, is) = c.requires.symbol in
     let here : after_dot g c.args.item ≡ Nonterminal n ∷ rest = is ∙ ap (λ z. z ∷ rest) c.in-Nonterminal.is in
     open_has c.requires.context.are_kernels c.requires.context.of_grammar c.args.state c.args.item c.requires.has n p rest here
-        c.in-Some.ensures
+    c.in-Some.ensures
 
 pub spread-requires-then-rest-clause-flows : goal.spread-requires-then-rest-clause-flows
 spread-requires-then-rest-clause-flows c =
@@ -163,7 +163,7 @@ spread-requires-then-rest-clause-flows c =
     (slice_get_read c.as_slice.result.now
     (length c.as_slice.result.now) c.args.item.dot c.index-as_slice-item.result refl there.0 c.index-as_slice-item.is) in
     λ t has. open_flows_on c.args.context.now.kernels.now c.requires.context.of_grammar c.args.state c.args.item n p rest here
-        c.in-Some.ensures
+    c.in-Some.ensures
     (is_rest.empty.0 c.if-rest.true) t (c.requires.flows t has)
 
 pub returns-in_ok-spread-2-clause-spreads : goal.returns-in_ok-spread-2-clause-spreads

@@ -20,7 +20,7 @@ pass_item-requires-clause-has c =
     ap Some (sym c.as_slice-numbers.ensures) in
     let are : AreProductionsOf c.args.context.now.kernels.now.grammar c.args.nonterminal numbers =
     productions_here c.args.context.now.kernels.now c.requires.context.of_grammar c.args.context.now.productions.now
-        c.requires.context.are_productions c.args.nonterminal numbers at in
+    c.requires.context.are_productions c.args.nonterminal numbers at in
     let q = get_or numbers c.productions.production-index 0 in
     let (right, rule) = are.sound q (Contains-get_or numbers c.productions.production-index 0 c.productions-test.true) in
     c.requires.has q right rule
@@ -35,7 +35,7 @@ pass_item-requires-clause-flows c =
     ap Some (sym c.as_slice-numbers.ensures) in
     let are : AreProductionsOf c.args.context.now.kernels.now.grammar c.args.nonterminal numbers =
     productions_here c.args.context.now.kernels.now c.requires.context.of_grammar c.args.context.now.productions.now
-        c.requires.context.are_productions c.args.nonterminal numbers at in
+    c.requires.context.are_productions c.args.nonterminal numbers at in
     let q = get_or numbers c.productions.production-index 0 in
     let (right, rule) = are.sound q (Contains-get_or numbers c.productions.production-index 0 c.productions-test.true) in
     λ t has. c.requires.flows q t right rule has
@@ -49,7 +49,7 @@ productions-preserved c = record {
         | inl before ↦ passed_kept c.productions.lookaheads c.in_ok-pass_item.ensures.spreads.keeps
             (c.productions.invariant.passed q t before has)
         | inr same ↦ subst (λ z. IsItemPassed c.args.context.now.kernels.now c.pass_item.new.lookaheads c.args.state
-              (initial_item z) t) same
+            (initial_item z) t) same
             (c.in_ok-pass_item.ensures.passed t has)
       ];
 }
@@ -64,6 +64,6 @@ returns-clause-passed c =
     ap Some (sym c.as_slice-numbers.ensures) in
     let are : AreProductionsOf c.args.context.now.kernels.now.grammar c.args.nonterminal numbers =
     productions_here c.args.context.now.kernels.now c.requires.context.of_grammar c.args.context.now.productions.now
-        c.requires.context.are_productions c.args.nonterminal numbers at in
+    c.requires.context.are_productions c.args.nonterminal numbers at in
     λ q t right rule has. c.productions.invariant.passed q t (contains_all numbers c.productions.production-index q c.productions-test.false
     (are.complete q right rule)) has

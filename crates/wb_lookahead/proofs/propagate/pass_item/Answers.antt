@@ -12,7 +12,7 @@ returns-clause-passed c =
     let (rest, is) = c.in-Some.ensures.symbol in
     on_ok_two c.open_after.result
     (λ spreads lists t has. item_passed c.args.context.now.kernels.now c.move_on.new.lookaheads c.requires.context.of_grammar c.args.state
-        c.args.item c.in-Some.symbol rest is t spreads.keeps
+    c.args.item c.in-Some.symbol rest is t spreads.keeps
     (λ next leads. c.in_ok-move_on.ensures.lists t next leads has)
     (λ u b p more here first begins. lists t u b p more here first has begins))
     c.open_after.ensures.spreads c.open_after.ensures.lists

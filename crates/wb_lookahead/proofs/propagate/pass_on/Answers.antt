@@ -11,7 +11,8 @@ use Rattle.wb_lookahead.proofs.PlaceLemmas.{held, held_len, listed_held, place_h
 use Rattle.wb_lookahead.proofs.PropagateLemmas.{left_is}
 use Rattle.wb_lookahead.proofs.StandInLemmas.{initial_all, initial_flows_all, initial_is, moved_sole, past_sole}
 use Rattle.wb_lookahead.proofs.propagate.pass_on.Goals as goal
-use Rattle.wb_lookahead.proofs.propagate.pass_on.Goals.{then-place-gt0-via-then-place-gt0, then-place-gt0-via-else-place-gt0+then-place-productions}
+use Rattle.wb_lookahead.proofs.propagate.pass_on.Goals.{then-place-gt0-via-then-place-gt0}
+use Rattle.wb_lookahead.proofs.propagate.pass_on.Goals.{then-place-gt0-via-else-place-gt0+then-place-productions}
 
 pub pass_item-requires-clause-has : goal.pass_item-requires-clause-has
 pass_item-requires-clause-has c = place_has c.requires.context.are_kernels c.args.place c.requires.place
@@ -23,7 +24,7 @@ pass_item-requires-clause-len c =
     let place = c.args.place in
     let set_is : IsSetOf c.args.lookaheads.now place.state place.item c.in_ok-set.set =
     held h c.args.lookaheads.now c.requires.sound.shape place c.requires.place c.at.result.now c.in_ok-set.set c.at.ensures
-        c.in_ok-set.ensures in
+    c.in_ok-set.ensures in
     held_len h c.args.lookaheads.now c.requires.sound.shape place.state c.requires.place.state place.item c.in_ok-set.set set_is
 
 pub pass_item-requires-clause-flows : goal.pass_item-requires-clause-flows
@@ -33,7 +34,7 @@ pass_item-requires-clause-flows c =
     let place = c.args.place in
     let set_is : IsSetOf c.args.lookaheads.now place.state place.item c.in_ok-set.set =
     held h c.args.lookaheads.now c.requires.sound.shape place c.requires.place c.at.result.now c.in_ok-set.set c.at.ensures
-        c.in_ok-set.ensures in
+    c.in_ok-set.ensures in
     λ t has. c.requires.sound.sound place.state place.item t (c.in_ok-set.set, set_is, has)
 
 pub returns-then-place-gt0-clause-passed : goal.returns-then-place-gt0-clause-passed
@@ -43,7 +44,7 @@ returns-then-place-gt0-clause-passed c =
     let place = c.args.place in
     let set_is : IsSetOf c.args.lookaheads.now place.state place.item c.in_ok-set.set =
     held h c.args.lookaheads.now c.requires.sound.shape place c.requires.place c.at.result.now c.in_ok-set.set c.at.ensures
-        c.in_ok-set.ensures in
+    c.in_ok-set.ensures in
     let sole : IsSole K.grammar place.item = elim c.then-place-gt0.branch [
       | then-place-gt0-via-then-place-gt0 w ↦ moved_sole K.grammar place.item w.if-place-gt0.true
       | then-place-gt0-via-else-place-gt0+then-place-productions w ↦
@@ -54,7 +55,7 @@ returns-then-place-gt0-clause-passed c =
     on_ok_weaker c.pass_item.result
     (λ passed t lists. sole_passed sole
     (passed t (listed_held h c.args.lookaheads.now c.requires.sound.shape place.state c.requires.place.state place.item c.in_ok-set.set
-        set_is t lists)))
+    set_is t lists)))
     c.pass_item.ensures.passed
 
 pub pass_all-requires-clause-has : goal.pass_all-requires-clause-has
@@ -80,7 +81,7 @@ pass_all-requires-clause-len c =
     let place = c.args.place in
     let set_is : IsSetOf c.args.lookaheads.now place.state place.item c.in_ok-set.set =
     held h c.args.lookaheads.now c.requires.sound.shape place c.requires.place c.at.result.now c.in_ok-set.set c.at.ensures
-        c.in_ok-set.ensures in
+    c.in_ok-set.ensures in
     held_len h c.args.lookaheads.now c.requires.sound.shape place.state c.requires.place.state place.item c.in_ok-set.set set_is
 
 pub pass_all-requires-clause-flows : goal.pass_all-requires-clause-flows
@@ -90,7 +91,7 @@ pass_all-requires-clause-flows c =
     let place = c.args.place in
     let set_is : IsSetOf c.args.lookaheads.now place.state place.item c.in_ok-set.set =
     held h c.args.lookaheads.now c.requires.sound.shape place c.requires.place c.at.result.now c.in_ok-set.set c.at.ensures
-        c.in_ok-set.ensures in
+    c.in_ok-set.ensures in
     let same = c.requires.context.of_grammar in
     let lt : place.item.production < length c.args.context.now.grammar.now.productions = (let e = c.productions.ensures.count in let f =
     c.if-place-productions.false in omega (arith, e, f)) in
@@ -108,7 +109,7 @@ returns-clause-passed c =
     let place = c.args.place in
     let set_is : IsSetOf c.args.lookaheads.now place.state place.item c.in_ok-set.set =
     held h c.args.lookaheads.now c.requires.sound.shape place c.requires.place c.at.result.now c.in_ok-set.set c.at.ensures
-        c.in_ok-set.ensures in
+    c.in_ok-set.ensures in
     let same = c.requires.context.of_grammar in
     let lt : place.item.production < length c.args.context.now.grammar.now.productions = (let e = c.productions.ensures.count in let f =
     c.if-place-productions.false in omega (arith, e, f)) in
@@ -120,5 +121,5 @@ returns-clause-passed c =
     (λ passed t lists. initial_passed c.left-left.result place.item.production w rule is
     (λ q right other. passed q t right other
     (listed_held h c.args.lookaheads.now c.requires.sound.shape place.state c.requires.place.state place.item c.in_ok-set.set set_is t
-        lists)))
+    lists)))
     c.pass_all.ensures.passed

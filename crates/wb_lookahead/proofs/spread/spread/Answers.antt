@@ -11,7 +11,7 @@ pub returns-in_ok-add-clause-sound : goal.returns-in_ok-add-clause-sound
 returns-in_ok-add-clause-sound c =
     spread_sound (place_of c.args.state c.args.item c.place_near-at.result) c.requires.kernels
     (is_place c.requires.kernels c.args.lookaheads.now c.requires.sound.shape c.args.state c.requires.state c.args.item
-        c.place_near-at.result c.place_near-at.ensures)
+    c.place_near-at.result c.place_near-at.ensures)
     c.unite.ensures c.requires.sound c.requires.flows (adds_to c.note.ensures c.in_ok-add.ensures)
 
 pub returns-in_ok-add-clause-spreads : goal.returns-in_ok-add-clause-spreads
@@ -21,7 +21,7 @@ returns-in_ok-add-clause-spreads c =
     (state_within c.requires.kernels place c.requires.state c.args.lookaheads.now c.requires.sound.shape) c.unite.ensures c.if-unite.true
     c.requires.sound.places
     (is_place c.requires.kernels c.args.lookaheads.now c.requires.sound.shape c.args.state c.requires.state c.args.item
-        c.place_near-at.result c.place_near-at.ensures)
+    c.place_near-at.result c.place_near-at.ensures)
     (adds_to c.note.ensures c.in_ok-add.ensures)
 
 pub returns-in_ok-add-clause-lists : goal.returns-in_ok-add-clause-lists

@@ -18,5 +18,5 @@ returns c = standard_all c.loop-number.made c.loop-number.number (omega arith) c
 pub loop-number-preserved : goal.loop-number-preserved
 loop-number-preserved c =
     standard_step c.loop-number.made c.add.new.self c.loop-number.number
-        (record { name = c.name_of.result.now; takes = c.takes_of.result.now; gives = c.gives_of.result })
+    (record { name = c.name_of.result.now; takes = c.takes_of.result.now; gives = c.gives_of.result })
     c.loop-number.invariant (omega arith) c.name_of.ensures c.takes_of.ensures c.gives_of.ensures c.in_ok-add.ensures.ok

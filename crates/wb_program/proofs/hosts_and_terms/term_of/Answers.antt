@@ -11,4 +11,4 @@ returns-in-Err-Refused-clause-ok c =
     subst (λ (contents : Contents). ReadsAs (IsTerm c.args.spec.now) (IsNoTerm c.args.spec.now) contents None) (sym c.in-Whole.is)
     (subst (λ (bytes : List ℕ). IsNoTerm c.args.spec.now bytes) c.deref.ensures.value
     (subst (λ (e : SmallRefusal). OnRefused e
-        (IsNoTerm c.args.spec.now c.deref.result.now)) c.in-Err-Refused.field-0-is c.in-Err-Refused.ensures.refused))
+    (IsNoTerm c.args.spec.now c.deref.result.now)) c.in-Err-Refused.field-0-is c.in-Err-Refused.ensures.refused))

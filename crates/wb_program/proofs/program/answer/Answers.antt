@@ -20,9 +20,9 @@ returns-in-Some-Value-clause-ok g c =
     let asks : Asks (texts c.args.words.now) (a.value c.in-Some-Value.host.now c.in-Some-Value.term.now c.in-Some-Value.attribute.now) = search rules in
     on_ok c.answer_value.result (λ answer. ValueReport
     (g.S.Shelf.files c.args.shelf.now) c.in-Some-Value.host.now c.in-Some-Value.term.now c.in-Some-Value.attribute.now answer.status
-        answer.report.items)
+    answer.report.items)
     (λ answer. IsReport (record { signatures = c.args.operations.now.signatures; meaning = g.M.Meaning.meaning }) (texts c.args.words.now)
-        (g.S.Shelf.files c.args.shelf.now) answer.status answer.report.items)
+    (g.S.Shelf.files c.args.shelf.now) answer.status answer.report.items)
     (λ answer report. inr (record {
       asked = a.value c.in-Some-Value.host.now c.in-Some-Value.term.now c.in-Some-Value.attribute.now;
       asks = asks;
@@ -51,7 +51,7 @@ returns-in-Some-Show-clause-ok g c =
     on_ok c.answer_show.result (λ answer. ShowReport
     (g.S.Shelf.files c.args.shelf.now) c.in-Some-Show.file.now answer.status answer.report.items)
     (λ answer. IsReport (record { signatures = c.args.operations.now.signatures; meaning = g.M.Meaning.meaning }) (texts c.args.words.now)
-        (g.S.Shelf.files c.args.shelf.now) answer.status answer.report.items)
+    (g.S.Shelf.files c.args.shelf.now) answer.status answer.report.items)
     (λ answer report. inr (record { asked = a.show c.in-Some-Show.file.now; asks = asks; report = show_report report }))
     c.answer_show.ensures.ok
 
@@ -73,9 +73,12 @@ returns-in-Some-Value-clause-only_usage g c =
     let asks : Asks (texts c.args.words.now) (a.value c.in-Some-Value.host.now c.in-Some-Value.term.now c.in-Some-Value.attribute.now) = search rules in
     of_ok c.answer_value.result (λ answer. ¬ InCommandSet (texts c.args.words.now) → answer.status ≡ Usage)
     (λ answer none_asked. absurd
-        (none_asked
-            (record { asked = a.value c.in-Some-Value.host.now c.in-Some-Value.term.now c.in-Some-Value.attribute.now; asks = asks;
-                built = value_is_built })))
+    (none_asked
+    (record {
+      asked = a.value c.in-Some-Value.host.now c.in-Some-Value.term.now c.in-Some-Value.attribute.now;
+      asks = asks;
+      built = value_is_built;
+    })))
 
 pub returns-in-Some-Show-clause-only_usage : goal.returns-in-Some-Show-clause-only_usage
 returns-in-Some-Show-clause-only_usage g c =
@@ -104,11 +107,11 @@ pub returns-in-Some-Value-clause-reports : goal.returns-in-Some-Value-clause-rep
 returns-in-Some-Value-clause-reports g c =
     on_ok c.answer_value.result (λ answer. ValueReport
     (g.S.Shelf.files c.args.shelf.now) c.in-Some-Value.host.now c.in-Some-Value.term.now c.in-Some-Value.attribute.now answer.status
-        answer.report.items)
+    answer.report.items)
     (λ answer. ¬ WritesNothing answer.status)
     (λ answer report. value_reported
-        (g.S.Shelf.files c.args.shelf.now) c.in-Some-Value.host.now c.in-Some-Value.term.now c.in-Some-Value.attribute.now answer.status
-            answer.report.items report)
+    (g.S.Shelf.files c.args.shelf.now) c.in-Some-Value.host.now c.in-Some-Value.term.now c.in-Some-Value.attribute.now answer.status
+    answer.report.items report)
     c.answer_value.ensures.ok
 
 pub returns-in-Some-Show-clause-reports : goal.returns-in-Some-Show-clause-reports

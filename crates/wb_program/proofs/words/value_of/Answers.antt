@@ -23,7 +23,7 @@ three a b c p q r = All-cons IsPositional a (b ∷ c ∷ []) p
 pub returns-then-is_positional-3-clause-some : goal.returns-then-is_positional-3-clause-some
 returns-then-is_positional-3-clause-some c =
     let words : c.args.words.now ≡ c.verb-item.result ∷ c.host-item.result ∷ c.term-item.result ∷ c.attribute-item.result ∷ [] = four _ _ _
-        _ _ (omega arith) c.verb-item.is c.host-item.is c.term-item.is c.attribute-item.is in
+    _ _ (omega arith) c.verb-item.is c.host-item.is c.term-item.is c.attribute-item.is in
     let verb : c.as_str.result.now ≡ codes "value" = search rules in
     let first : string_bytes c.verb-item.result ≡ codes "value" = sym c.as_str.ensures.value ∙ verb in
     let all : texts c.args.words.now ≡ string_bytes c.verb-item.result ∷ string_bytes c.host-item.result ∷ string_bytes c.term-item.result ∷ string_bytes c.attribute-item.result ∷ [] = ap texts words in

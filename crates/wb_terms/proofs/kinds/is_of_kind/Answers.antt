@@ -15,5 +15,5 @@ returns-in-Tree-kind c = λ argument stored.
     subst (λ (x : Value). IsBuiltValue c.args.signatures.now argument (value_in c.args.store.now x)) c.in-Tree.is stored.built in
     subst (λ (k : Kind). IsTrue c.is_of_left.result ↔ IsOfKind c.args.signatures.now argument k) (sym c.in-Tree-kind.is)
     (tree_kind c.args.signatures.now
-        (tree_in c.args.store.now c.in-Tree.tree.0) c.production.result c.in-Tree-kind.nonterminal c.is_of_left.result argument
-            c.production.ensures c.is_of_left.ensures built)
+    (tree_in c.args.store.now c.in-Tree.tree.0) c.production.result c.in-Tree-kind.nonterminal c.is_of_left.result argument
+    c.production.ensures c.is_of_left.ensures built)

@@ -9,4 +9,4 @@ pub begin_length-requires-clause-pending : goal.begin_length-requires-clause-pen
 begin_length-requires-clause-pending c =
     pushed_in (length c.args.store.now) c.args.stack.now.items c.push.new.list.items _ c.in_ok-push-in-len1-up.ensures.ok
     (subst (λ (l : List Value). All (IsIn (length c.args.store.now)) l) (sym (take_to_end 1 c.args.next.values.now))
-        (others_in (length c.args.store.now) c.args.next.values.now c.requires.next)) c.requires.pending
+    (others_in (length c.args.store.now) c.args.next.values.now c.requires.next)) c.requires.pending

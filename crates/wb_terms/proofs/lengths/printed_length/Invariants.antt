@@ -9,7 +9,7 @@ abbrev pub invariant-count : goal.invariant-count
 invariant-count l =
     (l.length ≤ 16777217)
     × (capped (l.length + length (pending_text l.signatures l.store (reverse l.stack.items))) ≡ capped
-        (length (printed_value l.signatures (value_in l.store l.value))))
+    (length (printed_value l.signatures (value_in l.store l.value))))
     × ArePendingIn (length l.store) (reverse l.stack.items)
 
 abbrev pub decreases-count : goal.decreases-count

@@ -8,7 +8,7 @@ use Rattle.wb_terms.proofs.read.read_term.Goals as goal
 pub returns-in-Ok-clause-only : goal.returns-in-Ok-clause-only
 returns-in-Ok-clause-only c =
     λ answer is. one_answer c.args.signatures.now c.args.bytes.now answer
-        (stands (tree_in c.add_term.new.store c.in-Ok.tree.0)) is c.in-Ok.ensures.ok
+    (stands (tree_in c.add_term.new.store c.in-Ok.tree.0)) is c.in-Ok.ensures.ok
 
 pub returns-in-Err-clause-only : goal.returns-in-Err-clause-only
 returns-in-Err-clause-only c =

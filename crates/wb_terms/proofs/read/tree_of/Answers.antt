@@ -24,19 +24,19 @@ into_tree-requires c = record {
   term = c.requires.0;
   holds = subst (λ (v : List Event). Holds c.args.signatures.now c.loop-event.store v c.loop-event.builder)
       (ap reverse (take_all c.loop-event.event-index c.args.events.now c.loop-event-test.false)
-          ∙ sym c.requires.1) c.loop-event.invariant.0;
+      ∙ sym c.requires.1) c.loop-event.invariant.0;
 }
 
 pub returns-clause-ok : goal.returns-clause-ok
 returns-clause-ok c =
     found_tree c.args.signatures.now c.loop-event.store (reverse c.args.events.now) c.loop-event.builder c.into_tree.result
     (subst (λ (v : List Event). Holds c.args.signatures.now c.loop-event.store v c.loop-event.builder)
-        (ap reverse (take_all c.loop-event.event-index c.args.events.now c.loop-event-test.false)) c.loop-event.invariant.0)
+    (ap reverse (take_all c.loop-event.event-index c.args.events.now c.loop-event-test.false)) c.loop-event.invariant.0)
     c.into_tree.ensures.ok
 
 pub returns-clause-refused : goal.returns-clause-refused
 returns-clause-refused c =
     found_fault c.args.signatures.now c.loop-event.store (reverse c.args.events.now) c.loop-event.builder c.into_tree.result
     (subst (λ (v : List Event). Holds c.args.signatures.now c.loop-event.store v c.loop-event.builder)
-        (ap reverse (take_all c.loop-event.event-index c.args.events.now c.loop-event-test.false)) c.loop-event.invariant.0)
+    (ap reverse (take_all c.loop-event.event-index c.args.events.now c.loop-event-test.false)) c.loop-event.invariant.0)
     c.into_tree.ensures.refused

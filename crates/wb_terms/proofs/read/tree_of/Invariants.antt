@@ -6,4 +6,4 @@ use Rattle.wb_terms.proofs.read.tree_of.Given as goal
 abbrev pub invariant-loop-event : goal.invariant-loop-event
 invariant-loop-event l =
     Holds l.signatures l.store (reverse (take l.event-index l.events)) l.builder ×
-        ((more : List Tree) × (l.store ≡ l.initial.store ++ more))
+    ((more : List Tree) × (l.store ≡ l.initial.store ++ more))

@@ -9,6 +9,8 @@ use Rattle.wb_terms.proofs.reading.read_events.Goals as goal
 
 pub returns : goal.returns
 returns c =
-    record { ok = term_reading c.args.bytes.now c.in_ok-outcome.outcome
-        (subst (λ (v : List Event). IsOutcome term_grammar
-            (IsNextIn Plain c.args.bytes.now) v c.in_ok-outcome.outcome) c.new-events.ensures c.in_ok-outcome.ensures.ok) }
+    record {
+      ok = term_reading c.args.bytes.now c.in_ok-outcome.outcome
+          (subst (λ (v : List Event). IsOutcome term_grammar
+          (IsNextIn Plain c.args.bytes.now) v c.in_ok-outcome.outcome) c.new-events.ensures c.in_ok-outcome.ensures.ok);
+    }

@@ -15,4 +15,5 @@ pub returns : goal.returns
 returns c path at =
     let os = c.self.inside.predecessors.items in
     let e : get_or os c.args.i c.index.result.now ≡ c.index.result.now = sym c.index.ensures in
-    set_at os c.args.i c.index.result.now (slice_get-get_or os c.args.i c.index.result.now (index-requires' c) ∙ ap Some e) path (subst (λ (f : Found). slice_get f.paths c.args.i ≡ Some path) (sym c.self.view_is) at)
+    set_at os c.args.i c.index.result.now (slice_get-get_or os c.args.i c.index.result.now (index-requires' c) ∙ ap Some e) path
+    (subst (λ (f : Found). slice_get f.paths c.args.i ≡ Some path) (sym c.self.view_is) at)

@@ -14,5 +14,5 @@ returns-clause-exact c g are t =
     let shown : c.args.self.now.first ≡ sets = ap (λ (f : FactsState). f.first) (sym c.self.view_is) in
     let lt : n < length sets = subst (λ s. n < length s) shown c.requires in
     let is : set_of sets n ≡ c.index.result.now = get_or_from_slice_get sets n (get_or sets n c.index.result.now) []
-        (slice_get-get_or sets n c.index.result.now lt) ∙ sym c.index.ensures in
+    (slice_get-get_or sets n c.index.result.now lt) ∙ sym c.index.ensures in
     subst (λ s. IsMember s t ↔ IsFirst g (Nonterminal n ∷ []) t) (ap (λ s. set_of s n) shown ∙ is) (are.first.each n t)

@@ -16,8 +16,8 @@ returns-in_default c =
     let rule = production_read g p c.left.result c.right-right.result.now lt c.left.ensures.left c.right-right.ensures.right in
     on_ok_weaker c.add.result
     (λ is. subst (Passes g c.args.terminals p s) (sym is)
-        (passes_added g c.args.terminals s p c.left.result c.right-right.result.now _ c.requires.worklist c.left.ensures.in_range rule
-            c.in_default.ensures refl))
+    (passes_added g c.args.terminals s p c.left.result c.right-right.result.now _ c.requires.worklist c.left.ensures.in_range rule
+    c.in_default.ensures refl))
     c.add.ensures
 
 pub returns-in_ok-push : goal.returns-in_ok-push
@@ -29,9 +29,9 @@ returns-in_ok-push c =
     let old = c.requires.passed in
     let rule = rule_read g p old.left old.right c.right-right.result.now old.rule c.right-right.ensures.right in
     let step = passes_nonterminal g c.args.terminals s p old.left c.in-Some.place b c.right-right.result.now _ c.index_mut.result.now
-        c.requires.worklist rule c.right-right.ensures.in_range c.in-Some.ensures c.in-Nonterminal.is in
+    c.requires.worklist rule c.right-right.ensures.in_range c.in-Some.ensures c.in-Nonterminal.is in
     subst (λ (list : List (ℕ × ℕ)). Passes g c.args.terminals p s (record s { stopped = slice_set s.stopped b list }))
-        (sym c.in_ok-push.ensures)
+    (sym c.in_ok-push.ensures)
     (rw c.index_mut.ensures.value step)
 
 pub returns-in_default-right : goal.returns-in_default-right
@@ -41,4 +41,4 @@ returns-in_default-right c =
     let old = c.requires.passed in
     let rule = rule_read g c.args.production old.left old.right c.right-right.result.now old.rule c.right-right.ensures.right in
     passes_no_nonterminal g c.args.terminals s c.args.production old.left c.in-Some.place c.right-right.result.now _ c.requires.worklist
-        rule c.in-Some.ensures c.in_default-right.not-Nonterminal
+    rule c.in-Some.ensures c.in_default-right.not-Nonterminal

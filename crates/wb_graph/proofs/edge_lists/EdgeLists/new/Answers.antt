@@ -11,9 +11,12 @@ loop-number-preserved c =
     let edge = get_or c.args.edges.now c.loop-number.number (0, 0) in
     let below : IsEdgeBelow c.args.count edge = All-get_or (IsEdgeBelow c.args.count) c.args.edges.now c.loop-number.number
     (0, 0) c.loop-number-test.true c.requires in
-    let begun : c.index.result.now ≡ get_or c.loop-number.firsts.items edge.0 0 = read_at c.loop-number.firsts.items edge.0 c.index.result.now (omega (arith, c.loop-number.invariant.firsts_len, below.0)) c.index.ensures in
+    let begun : c.index.result.now ≡ get_or c.loop-number.firsts.items edge.0 0 = read_at c.loop-number.firsts.items edge.0
+    c.index.result.now (omega (arith, c.loop-number.invariant.firsts_len, below.0)) c.index.ensures in
     let pushed : c.push.new.self.items ≡ c.loop-number.links.items ++ get_or c.loop-number.firsts.items edge.0 0 ∷ [] = c.in_ok-push.ensures.items ∙ ap (λ x. c.loop-number.links.items ++ x ∷ []) begun in
-    rw pushed (built_more c.args.count c.args.edges.now c.loop-number.number c.loop-number.firsts.items c.loop-number.links.items edge c.loop-number.invariant below.0 (slice_get-get_or c.args.edges.now c.loop-number.number (0, 0) c.loop-number-test.true))
+    rw pushed
+    (built_more c.args.count c.args.edges.now c.loop-number.number c.loop-number.firsts.items c.loop-number.links.items edge
+    c.loop-number.invariant below.0 (slice_get-get_or c.args.edges.now c.loop-number.number (0, 0) c.loop-number-test.true))
 
 pub returns-clause-linked : goal.returns-clause-linked
 returns-clause-linked c =

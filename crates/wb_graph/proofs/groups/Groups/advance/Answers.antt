@@ -34,7 +34,8 @@ leave-requires-clause-marks c = opened_below c.args.edges.now (state_of c.args.s
 pub returns-in_default : goal.returns-in_default
 returns-in_default c =
     let none_left = c.in_default.ensures.none in
-    leaves c.args.edges.now (state_of c.args.self.now) c.requires.grouping c.take.new.self.firsts.items c.take.new.self.links.items c.take.ensures.linked
+    leaves c.args.edges.now
+    (state_of c.args.self.now) c.requires.grouping c.take.new.self.firsts.items c.take.new.self.links.items c.take.ensures.linked
     (state_of c.leave.new.self) c.index-vertex.result.now none_left.1 none_left.0 c.in_ok-leave.ensures
 
 pub returns-in_ok-enter-in-New : goal.returns-in_ok-enter-in-New
@@ -42,9 +43,11 @@ returns-in_ok-enter-in-New c =
     let s : State = state_of c.args.self.now in
     let last = read_last s.path c.len.result c.index-vertex.result.now (omega arith) c.requires.path c.index-vertex.ensures in
     let takes = c.in-Some.ensures.some in
-    let below = edge_below (length s.marks) c.args.edges.now c.index-vertex.result.now c.in-Some.target c.requires.grouping.edges_below takes.edge in
+    let below = edge_below
+    (length s.marks) c.args.edges.now c.index-vertex.result.now c.in-Some.target c.requires.grouping.edges_below takes.edge in
     let mark = slice_get_read s.marks (length s.marks) c.in-Some.target c.index.result.now refl below.1 c.index.ensures in
-    goes_on c.args.edges.now s c.requires.grouping c.take.new.self.firsts.items c.take.new.self.links.items c.take.ensures.linked c.index-vertex.result.now
+    goes_on c.args.edges.now s c.requires.grouping c.take.new.self.firsts.items c.take.new.self.links.items c.take.ensures.linked
+    c.index-vertex.result.now
     c.in-Some.target c.take.ensures.len last takes (state_of c.enter.new.self) (mark ∙ ap Some c.in-New.is) c.in_ok-enter-in-New.ensures
 
 pub returns-in-Open : goal.returns-in-Open
@@ -52,7 +55,8 @@ returns-in-Open c =
     let s : State = state_of c.args.self.now in
     let last = read_last s.path c.len.result c.index-vertex.result.now (omega arith) c.requires.path c.index-vertex.ensures in
     let takes = c.in-Some.ensures.some in
-    let below = edge_below (length s.marks) c.args.edges.now c.index-vertex.result.now c.in-Some.target c.requires.grouping.edges_below takes.edge in
+    let below = edge_below
+    (length s.marks) c.args.edges.now c.index-vertex.result.now c.in-Some.target c.requires.grouping.edges_below takes.edge in
     let mark = slice_get_read s.marks (length s.marks) c.in-Some.target c.index.result.now refl below.1 c.index.ensures in
     let kept = c.kept_starts-kept.ensures in
     let cut : c.truncate.new.self.items ≡ take c.kept_starts-kept.result c.args.self.now.starts.items = grind (arith, common_steps) in
@@ -62,7 +66,8 @@ returns-in-Open c =
       links = c.take.new.self.links.items;
       starts = take c.kept_starts-kept.result s.starts;
     }) =
-    joins_on c.args.edges.now s c.requires.grouping c.take.new.self.firsts.items c.take.new.self.links.items c.take.ensures.linked c.index-vertex.result.now
+    joins_on c.args.edges.now s c.requires.grouping c.take.new.self.firsts.items c.take.new.self.links.items c.take.ensures.linked
+    c.index-vertex.result.now
     c.in-Some.target c.take.ensures.len last takes j c.kept_starts-kept.result (mark ∙ ap Some c.in-Open.is) (search rules) in
     subst (λ xs. Advances c.args.edges.now s (record s {
       firsts = c.take.new.self.firsts.items;
@@ -75,7 +80,9 @@ returns-in-Closed c =
     let s : State = state_of c.args.self.now in
     let last = read_last s.path c.len.result c.index-vertex.result.now (omega arith) c.requires.path c.index-vertex.ensures in
     let takes = c.in-Some.ensures.some in
-    let below = edge_below (length s.marks) c.args.edges.now c.index-vertex.result.now c.in-Some.target c.requires.grouping.edges_below takes.edge in
+    let below = edge_below
+    (length s.marks) c.args.edges.now c.index-vertex.result.now c.in-Some.target c.requires.grouping.edges_below takes.edge in
     let mark = slice_get_read s.marks (length s.marks) c.in-Some.target c.index.result.now refl below.1 c.index.ensures in
-    passes c.args.edges.now s c.requires.grouping c.take.new.self.firsts.items c.take.new.self.links.items c.take.ensures.linked c.index-vertex.result.now
+    passes c.args.edges.now s c.requires.grouping c.take.new.self.firsts.items c.take.new.self.links.items c.take.ensures.linked
+    c.index-vertex.result.now
     c.in-Some.target c.take.ensures.len last takes c.in-Closed.field-0 (mark ∙ ap Some c.in-Closed.is)

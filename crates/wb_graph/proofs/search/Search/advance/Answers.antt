@@ -35,34 +35,48 @@ returns-in_default-clause-none c =
     let s = state_of c.args.self.now in
     let none_left = c.in_default.ensures.none in
     finishes c.args.edges.now s c.take.new.self.firsts.items c.take.new.self.links.items c.take.ensures.linked c.requires.search
-    (state_of c.leave.new.self) c.leave.new.self.path.items c.index-vertex.result.now none_left.1 none_left.0 c.in_ok-leave.ensures.rest c.in_ok-leave.ensures.ok
+    (state_of c.leave.new.self) c.leave.new.self.path.items c.index-vertex.result.now none_left.1 none_left.0 c.in_ok-leave.ensures.rest
+    c.in_ok-leave.ensures.ok
 
 pub returns-in_ok-enter-in-White-clause-none : goal.returns-in_ok-enter-in-White-clause-none
 returns-in_ok-enter-in-White-clause-none c =
     let path = c.args.self.now.path.items in
     let last = read_last path c.len.result c.index-vertex.result.now (omega arith) c.requires.path c.index-vertex.ensures in
     let takes = c.in-Some.ensures.some in
-    let below = edge_below (length c.args.self.now.colours.items) c.args.edges.now c.index-vertex.result.now c.in-Some.target c.requires.search.below takes.edge in
+    let below = edge_below
+    (length c.args.self.now.colours.items) c.args.edges.now c.index-vertex.result.now c.in-Some.target c.requires.search.below
+    takes.edge in
     let colour = slice_get_read c.args.self.now.colours.items
     (length c.args.self.now.colours.items) c.in-Some.target c.index.result.now refl below.1 c.index.ensures in
-    goes_on c.args.edges.now (state_of c.args.self.now) c.take.new.self.firsts.items c.take.new.self.links.items c.take.ensures.linked c.requires.search c.index-vertex.result.now c.in-Some.target c.take.ensures.len last takes (state_of c.enter.new.self) (colour ∙ ap Some c.in-White.is) c.in_ok-enter-in-White.ensures
+    goes_on c.args.edges.now
+    (state_of c.args.self.now) c.take.new.self.firsts.items c.take.new.self.links.items c.take.ensures.linked c.requires.search
+    c.index-vertex.result.now c.in-Some.target c.take.ensures.len last takes (state_of c.enter.new.self)
+    (colour ∙ ap Some c.in-White.is) c.in_ok-enter-in-White.ensures
 
 pub returns-in-Grey-clause-met : goal.returns-in-Grey-clause-met
 returns-in-Grey-clause-met c =
     let path = c.args.self.now.path.items in
     let last = read_last path c.len.result c.index-vertex.result.now (omega arith) c.requires.path c.index-vertex.ensures in
     let takes = c.in-Some.ensures.some in
-    let below = edge_below (length c.args.self.now.colours.items) c.args.edges.now c.index-vertex.result.now c.in-Some.target c.requires.search.below takes.edge in
+    let below = edge_below
+    (length c.args.self.now.colours.items) c.args.edges.now c.index-vertex.result.now c.in-Some.target c.requires.search.below
+    takes.edge in
     let colour = slice_get_read c.args.self.now.colours.items
     (length c.args.self.now.colours.items) c.in-Some.target c.index.result.now refl below.1 c.index.ensures in
-    meets c.args.edges.now (state_of c.args.self.now) c.take.new.self.firsts.items c.take.new.self.links.items c.take.ensures.linked c.requires.search c.index-vertex.result.now c.in-Some.target c.take.ensures.len last takes (colour ∙ ap Some c.in-Grey.is)
+    meets c.args.edges.now
+    (state_of c.args.self.now) c.take.new.self.firsts.items c.take.new.self.links.items c.take.ensures.linked c.requires.search
+    c.index-vertex.result.now c.in-Some.target c.take.ensures.len last takes (colour ∙ ap Some c.in-Grey.is)
 
 pub returns-in-Black-clause-none : goal.returns-in-Black-clause-none
 returns-in-Black-clause-none c =
     let path = c.args.self.now.path.items in
     let last = read_last path c.len.result c.index-vertex.result.now (omega arith) c.requires.path c.index-vertex.ensures in
     let takes = c.in-Some.ensures.some in
-    let below = edge_below (length c.args.self.now.colours.items) c.args.edges.now c.index-vertex.result.now c.in-Some.target c.requires.search.below takes.edge in
+    let below = edge_below
+    (length c.args.self.now.colours.items) c.args.edges.now c.index-vertex.result.now c.in-Some.target c.requires.search.below
+    takes.edge in
     let colour = slice_get_read c.args.self.now.colours.items
     (length c.args.self.now.colours.items) c.in-Some.target c.index.result.now refl below.1 c.index.ensures in
-    passes c.args.edges.now (state_of c.args.self.now) c.take.new.self.firsts.items c.take.new.self.links.items c.take.ensures.linked c.requires.search c.index-vertex.result.now c.in-Some.target c.take.ensures.len last takes (colour ∙ ap Some c.in-Black.is)
+    passes c.args.edges.now
+    (state_of c.args.self.now) c.take.new.self.firsts.items c.take.new.self.links.items c.take.ensures.linked c.requires.search
+    c.index-vertex.result.now c.in-Some.target c.take.ensures.len last takes (colour ∙ ap Some c.in-Black.is)

@@ -8,4 +8,5 @@ returns-clause-search c =
     let made = c.in_ok-new.field-0 in
     let white : c.in_ok-vec.field-0.items ≡ replicate c.args.count White = c.in_ok-vec.ensures.items_if_clones_equal (λ y same. same) in
     rw (white, c.new-2.ensures.items, c.new-3.ensures.items)
-    (started c.args.edges.now c.args.count made.firsts.items made.links.items c.requires c.in_ok-new.ensures.linked c.in_ok-new.ensures.len c.in_ok-new.ensures.nothing)
+    (started c.args.edges.now c.args.count made.firsts.items made.links.items c.requires c.in_ok-new.ensures.linked c.in_ok-new.ensures.len
+    c.in_ok-new.ensures.nothing)

@@ -22,7 +22,10 @@ pub returns-in-Some : goal.returns-in-Some
 returns-in-Some c =
     let last = read_last c.args.self.now.waiting.items c.len.result c.index-vertex.result.now
     (omega arith) c.requires.waiting c.index-vertex.ensures in
-    advances_on c.args.edges.now (worklist_of c.args.self.now) c.take.new.self.firsts.items c.take.new.self.links.items c.take.ensures.linked c.requires.worklist (worklist_of c.mark.new.self) c.index-vertex.result.now c.in-Some.target c.take.ensures.len last c.in-Some.ensures.some c.in_ok-mark.ensures
+    advances_on c.args.edges.now
+    (worklist_of c.args.self.now) c.take.new.self.firsts.items c.take.new.self.links.items c.take.ensures.linked c.requires.worklist
+    (worklist_of c.mark.new.self) c.index-vertex.result.now c.in-Some.target c.take.ensures.len last c.in-Some.ensures.some
+    c.in_ok-mark.ensures
 
 pub returns : goal.returns
 returns c =
@@ -32,4 +35,6 @@ returns c =
     let popped : waiting ≡ c.pop.new.self.items ++ u ∷ [] = grind
     (arith, common_steps, gets, c.pop.ensures.items, c.pop.ensures.value, last) in
     let none_left = c.in_default.ensures.none in
-    advances_off c.args.edges.now (worklist_of c.args.self.now) c.take.new.self.firsts.items c.take.new.self.links.items c.take.ensures.linked c.requires.worklist c.pop.new.self.items u none_left.1 none_left.0 popped
+    advances_off c.args.edges.now
+    (worklist_of c.args.self.now) c.take.new.self.firsts.items c.take.new.self.links.items c.take.ensures.linked c.requires.worklist
+    c.pop.new.self.items u none_left.1 none_left.0 popped

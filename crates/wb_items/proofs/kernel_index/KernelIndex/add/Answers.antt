@@ -34,7 +34,7 @@ invariant_of-self-2 c =
     let kernels = c.self.inside.kernels.items in
     let order = c.self.inside.order.items in
     found_more c.self.inside.steps.items c.push_reserved.new.self.items kernels c.push_reserved-2.new.self.items order
-        c.insert.new.list.items (record { from = c.args.from; symbol = c.args.symbol }) c.args.kernel place c.len.result
+    c.insert.new.list.items (record { from = c.args.from; symbol = c.args.symbol }) c.args.kernel place c.len.result
     c.self.invariant (subst (λ (f : IndexView). c.args.from < length f.kernels) (sym c.self.view_is) c.requires.from)
     (subst (λ k. LiesWithin k order c.args.kernel place place) c.deref.ensures.value
     (subst (λ o. LiesWithin c.deref.result.now o c.args.kernel place place) c.deref-2.ensures.value

@@ -12,4 +12,4 @@ returns-clause-exact c =
           c.in_ok-table.table.closures.items;
     })) (sym c.in_ok-copy.ensures)
     (whole c.args.grammar.now c.in_ok-table.table.found c.in_ok-table.table.closures.items c.in_ok-table.table.rows.items
-        c.in_ok-table.ensures)
+    c.in_ok-table.ensures)

@@ -11,11 +11,11 @@ returns-clause-some c =
     subst (λ (k : KernelsView). IfSome c.find.result (λ state. (state < count_of k) ×
     ListsKernel k.grammar (prefix_of k state) c.args.items.now)) c.self.view_is
     (find_some c.self.inside.grammar c.self.inside.found c.self.inside.closures.items c.self.inside.rows.items c.self.invariant
-        c.args.items.now c.find.result c.find.ensures.found)
+    c.args.items.now c.find.result c.find.ensures.found)
 
 pub returns-clause-none : goal.returns-clause-none
 returns-clause-none c =
     subst (λ (k : KernelsView). IsNone c.find.result ↔ ((prefix : List Symbol) → IsViablePrefix k.grammar prefix →
     ¬ ListsKernel k.grammar prefix c.args.items.now)) c.self.view_is
     (find_none c.self.inside.grammar c.self.inside.found c.self.inside.closures.items c.self.inside.rows.items c.self.invariant
-        c.args.items.now c.find.result c.find.ensures.found c.find.ensures.none)
+    c.args.items.now c.find.result c.find.ensures.found c.find.ensures.none)

@@ -21,9 +21,9 @@ returns-clause-exact c =
     subst (λ (k : KernelsView). (symbol : Symbol) (next : ℕ) →
     Contains c.as_slice.result.now (record { symbol = symbol; state = next }) ↔ LeadsTo k c.args.state symbol next) c.self.view_is
     (moves_lead c.self.inside.grammar c.self.inside.found c.self.inside.closures.items c.self.inside.rows.items c.self.invariant
-        c.args.state c.as_slice.result.now (within c) (there c))
+    c.args.state c.as_slice.result.now (within c) (there c))
 
 pub returns-clause-in_order : goal.returns-clause-in_order
 returns-clause-in_order c =
     moves_ordered c.self.inside.grammar c.self.inside.found c.self.inside.closures.items c.self.inside.rows.items c.self.invariant
-        c.args.state c.as_slice.result.now (within c) (there c)
+    c.args.state c.as_slice.result.now (within c) (there c)

@@ -10,4 +10,4 @@ returns c =
     let more : c.in-Some.height ≡ c.self.inside.height + 1 = grind (arith, common_steps) in
     rw (← c.self.view_is)
     (matrix_more c.self.inside.height c.in-Some.height c.self.inside.width c.self.inside.codes.items c.extend_from_slice.new.self.items
-        c.args.row.now c.self.invariant len more c.in_ok-extend_from_slice.ensures.items)
+    c.args.row.now c.self.invariant len more c.in_ok-extend_from_slice.ensures.items)

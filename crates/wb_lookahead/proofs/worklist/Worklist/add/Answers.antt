@@ -20,10 +20,10 @@ pub invariant_of-self-2 : goal.invariant_of-self-2
 invariant_of-self-2 c = elim c.in_ok-put_place.ensures.ok [
   | inl is ↦ subst (λ z. AreMarked z c.put_mark.new.marks.items) (sym is)
       (marked_before c.self.inside.queue.items c.self.inside.marks.items c.put_mark.new.marks.items c.args.place c.self.invariant
-          c.put_mark.ensures)
+      c.put_mark.ensures)
   | inr is ↦ subst (λ z. AreMarked z c.put_mark.new.marks.items) (sym is)
       (marked_more c.self.inside.queue.items c.self.inside.marks.items c.put_mark.new.marks.items c.args.place c.self.invariant
-          c.put_mark.ensures)
+      c.put_mark.ensures)
 ]
 
 pub returns : goal.returns

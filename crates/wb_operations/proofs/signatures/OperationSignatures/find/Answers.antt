@@ -15,4 +15,4 @@ returns-clause-none c = none-among c.self.inside.names c.self.inside.entries.ite
 pub returns-clause-different : goal.returns-clause-different
 returns-clause-different c =
     subst Differ (sym (names-signatures c.self.inside.names c.self.inside.entries.items c.self.invariant.counted)
-        ∙ ap names_of c.self.view_is) c.find.ensures.different
+    ∙ ap names_of c.self.view_is) c.find.ensures.different

@@ -11,4 +11,4 @@ returns c = λ events name arguments outer is number zipped placed unknown wrong
     let places = take_to_end c.args.frame.start c.deref-2.result.now ∙ ap (drop c.args.frame.start) c.deref-2.ensures.value in
     c.with_node.ensures events name arguments outer is number
     (subst (λ (xs : List Value). AllZip (IsStored c.args.signatures.now c.args.store.now) arguments xs) (sym values) zipped)
-        (placed ∙ sym places) unknown wrong
+    (placed ∙ sym places) unknown wrong

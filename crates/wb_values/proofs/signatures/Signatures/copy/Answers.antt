@@ -10,7 +10,7 @@ returns c = c.loop-production.invariant ∙ take_all c.loop-production.productio
 pub loop-production-preserved : goal.loop-production-preserved
 loop-production-preserved c =
     let lt : c.loop-production.production < length c.args.self.now = omega
-        (arith, c.len-production-end.ensures, c.loop-production-test.true) in
+    (arith, c.len-production-end.ensures, c.loop-production-test.true) in
     copy-step c.args.self.now c.loop-production.made c.add.new.self c.loop-production.production
-        (record { name = c.name.result.now; left = c.left.result; children = c.children.result.now })
+    (record { name = c.name.result.now; left = c.left.result; children = c.children.result.now })
     c.loop-production.invariant lt c.name.ensures c.left.ensures c.children.ensures c.in_ok-add.ensures.ok

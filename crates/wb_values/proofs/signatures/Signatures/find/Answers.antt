@@ -18,4 +18,4 @@ pub returns-clause-found : goal.returns-clause-found
 returns-clause-found c =
     subst (λ (xs : List Signature). IsFirst xs c.args.name.now c.index.result.now) c.self.view_is
     (first-named c.self.inside.names c.self.inside.entries.items c.self.inside.firsts.items c.in_ok-number.number c.args.name.now
-        c.index.result.now c.len.ensures.different c.self.invariant c.in_ok-number.ensures.found c.index.ensures)
+    c.index.result.now c.len.ensures.different c.self.invariant c.in_ok-number.ensures.found c.index.ensures)

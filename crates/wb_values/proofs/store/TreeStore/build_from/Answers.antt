@@ -11,7 +11,7 @@ invariant_of-self-2 c =
     let cs = last c.args.count c.args.values.now.items in
     let below = subst (λ n. All (IsIn n) cs) (sym (ap length c.self.view_is) ∙ length-trees ns vs) c.requires.children in
     let cut : drop (c.len-2.result - c.args.count) c.args.values.now.items ≡ cs = ap (λ n. drop (n - c.args.count) c.args.values.now.items)
-        (c.len-2.ensures ∙ c.args.values.now.ok.0) in
+    (c.len-2.ensures ∙ c.args.values.now.ok.0) in
     let to : c.move_end.new.to.items ≡ vs ++ cs = c.in_ok-move_end.ensures.to ∙ ap (λ xs. vs ++ xs) cut in
     let end : c.len-end.result ≡ length vs + length cs = c.len-end.ensures ∙ c.move_end.new.to.ok.0 ∙ ap length to ∙ length-append vs cs in
     rw (c.push_reserved.ensures.items, c.in_ok-reserve.ensures.items, to) (store-snoc ns vs cs _ c.self.invariant end below)
@@ -26,9 +26,9 @@ returns-clause-ok c =
     let vs = c.self.inside.values.items in
     let cs = last c.args.count c.args.values.now.items in
     let cut : drop (c.len-2.result - c.args.count) c.args.values.now.items ≡ cs = ap (λ n. drop (n - c.args.count) c.args.values.now.items)
-        (c.len-2.ensures ∙ c.args.values.now.ok.0) in
+    (c.len-2.ensures ∙ c.args.values.now.ok.0) in
     let to : c.move_end.new.to.items ≡ vs ++ cs = c.in_ok-move_end.ensures.to ∙ ap (λ xs. vs ++ xs) cut in
     let end : c.len-end.result ≡ length vs + length cs = c.len-end.ensures ∙ c.move_end.new.to.ok.0 ∙ ap length to ∙ length-append vs cs in
     rw (c.push_reserved.ensures.items, c.in_ok-reserve.ensures.items, to)
     (trees-snoc ns vs cs _ c.self.invariant end ∙ ap (λ (ts : List Tree). ts ++ node c.args.production
-        (values_in ts cs) ∷ []) c.self.view_is)
+    (values_in ts cs) ∷ []) c.self.view_is)

@@ -10,4 +10,4 @@ index-requires c = omega
 pub returns : goal.returns
 returns c = ap production_of
     (node-at c.args.self.now c.self.inside.nodes.items c.self.inside.values.items c.args.tree.0 c.index.result.now c.self.invariant
-        c.self.view_is c.requires c.index.ensures).tree
+    c.self.view_is c.requires c.index.ensures).tree

@@ -3,9 +3,13 @@ use Rattle.wb_values.proofs.Laid.{length-trees, trees-take, store-take}
 use Rattle.wb_values.proofs.store.TreeStore.truncate.Goals as goal
 
 pub begin-kept-requires : goal.begin-kept-requires
-begin-kept-requires c = omega
-    (arith, ap length c.self.view_is, length-trees c.self.inside.nodes.items c.self.inside.values.items, ap length
-        c.as_slice-nodes.ensures.value)
+begin-kept-requires c = omega (
+  arith,
+  ap length c.self.view_is,
+  length-trees c.self.inside.nodes.items c.self.inside.values.items,
+  ap length
+      c.as_slice-nodes.ensures.value,
+)
 
 pub invariant_of-self : goal.invariant_of-self
 invariant_of-self c =
@@ -13,7 +17,7 @@ invariant_of-self c =
     let vs = c.self.inside.values.items in
     let le : c.args.len ≤ length ns = omega (arith, ap length c.self.view_is, length-trees ns vs) in
     rw (c.truncate-2.ensures.items, c.truncate.ensures.items, c.begin-kept.ensures, c.as_slice-nodes.ensures.value)
-        (store-take ns vs c.args.len c.self.invariant le)
+    (store-take ns vs c.args.len c.self.invariant le)
 
 pub returns : goal.returns
 returns c =
@@ -21,4 +25,4 @@ returns c =
     let vs = c.self.inside.values.items in
     let le : c.args.len ≤ length ns = omega (arith, ap length c.self.view_is, length-trees ns vs) in
     rw (c.truncate-2.ensures.items, c.truncate.ensures.items, c.begin-kept.ensures, c.as_slice-nodes.ensures.value)
-        (trees-take ns vs c.args.len c.self.invariant le ∙ ap (take c.args.len) c.self.view_is)
+    (trees-take ns vs c.args.len c.self.invariant le ∙ ap (take c.args.len) c.self.view_is)
