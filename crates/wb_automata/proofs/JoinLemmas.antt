@@ -17,7 +17,7 @@ use Rattle.wb_automata.specs.Inner.Concatenated.{raised, size_of, bound_of, AreC
 use Rattle.wb_regex.specs.Filled.{Filled}
 use Rattle.wb_regex.specs.Matches.{Matches}
 use Rattle.wb_automata.proofs.NodeLemmas.{parts_more}
-use Rattle.wb_lemmas.proofs.Places.{append_keeps}
+use Rattle.wb_lemmas.proofs.Places.{append_keeps, append_after}
 
 -- an expression with places at its leaves, of which the nodes are, and the tree is
 pub record IsPlaced (nodes : List RegexNode) (s e : ℕ) (tree : Tree) : Type 0 where
@@ -147,11 +147,6 @@ bound_next (t ∷ ts) zero tree at = let e : t ≡ tree = same_Some t tree at in
     bound_none (t ∷ ts) = refl
 bound_next (t ∷ ts) (suc k) tree at = omega (arith, bound_next ts k tree at)
 
-pub slice_get_behind : {X : Type 0} (xs ys : List X) (k : ℕ) → slice_get (xs ++ ys) (length xs + k) ≡ slice_get ys k
-slice_get_behind [] ys k = ap (slice_get ys) (let e : 0 + k ≡ k = omega arith in e)
-slice_get_behind (x ∷ xs) ys k = ap (slice_get (x ∷ (xs ++ ys))) (let e : length (x ∷ xs) + k ≡ suc (length xs + k) = omega arith in e)
-    ∙ slice_get_behind xs ys k
-
 -- the nodes of one tree more
 pub join_step : (trees : List Tree) (old new : List RegexNode) (roots : List ℕ) (i root : ℕ) (tree : Tree) → slice_get trees i ≡ Some tree
     → AreConcatenated trees old roots i → AreAdded old new tree root → AreConcatenated trees new (roots ++ root ∷ []) (i + 1)
@@ -181,7 +176,7 @@ join_step trees old new roots i root tree at h a = record {
           filled = subst Filled same a.filled;
           not_empty = subst (λ z. ¬ Matches z []) same a.not_empty;
           embeds = λ j node is. subst (λ z. slice_get new (z + j) ≡ Some (raised z node)) m
-              (ap (λ z. slice_get z (length old + j)) a.joins ∙ slice_get_behind old (map (raised (length old)) a.source) j ∙ slice_get-map
+              (ap (λ z. slice_get z (length old + j)) a.joins ∙ append_after old (map (raised (length old)) a.source) j ∙ slice_get-map
               (raised (length old)) a.source j ∙ ap (option_map (raised (length old))) is);
         }
   ];

@@ -1,9 +1,8 @@
 -- Unit cycles by an order or a cycle of the edges to nonterminals beside which all derives the empty text.
-use Rattle.std.proofs.Common.{◌≡◌, ℕ, ◌+◌, ◌-◌, ◌<◌, Bool, true, false, List, [], ◌∷◌, ◌++◌, length, Some, refl, ◌∙◌, ap, subst, inl, inr}
+use Rattle.std.proofs.Common.{◌≡◌, ℕ, ◌+◌, ◌-◌, ◌<◌, Bool, true, false, List, [], ◌∷◌, ◌++◌, length, Some, refl, ◌∙◌, subst, inl, inr}
 use Rattle.std.proofs.Common.{arith}
-use Rattle.std.specs.Prelude.{All, Contains, slice_get}
+use Rattle.std.specs.Prelude.{All, slice_get}
 use Rattle.std.proofs.lemmas.List.Elements.{All-head, All-tail, All-cons, All-nil}
-use Rattle.std.proofs.lemmas.Option.{slice_get-get_or}
 use Rattle.wb_base.specs.declared.symbol.Symbol.{Symbol}
 use Rattle.wb_base.specs.declared.symbol.Symbol.TheVariants.{Terminal, Nonterminal}
 use Rattle.wb_base.specs.Grammar.{GrammarView, IsGrammar}
@@ -20,6 +19,7 @@ use Rattle.wb_grammar.specs.Inner.LeastSets.{Holds}
 use Rattle.wb_grammar.specs.Facts.{IsNullableSet}
 use Rattle.wb_grammar.specs.declared.occurrence.Occurrence.TheVariants.{Unit}
 use Rattle.wb_grammar.specs.Inner.Edges.{IsEdgeBy, AreEdges}
+use Rattle.wb_lemmas.proofs.Members.{place_of}
 
 -- what the set of the nullable nonterminals holds derives the empty text
 pub held_empty : (g : GrammarView) (s : List Bool) → IsNullableSet g s → (w : List Symbol) → All (Holds false s) w → Derives g w []
@@ -60,10 +60,6 @@ unit_edge g s set a b u = record {
     fits = (empty_held g s set u.before u.before_empty, empty_held g s set u.after u.after_empty);
   };
 }
-
--- a vertex of an order has a place
-pub place_of : (list : List ℕ) (v : ℕ) → Contains list v → (i : ℕ) × (slice_get list i ≡ Some v)
-place_of list v (i, lt, is) = (i, slice_get-get_or list i v lt ∙ ap Some is)
 
 -- along a walk places fall
 walk_falls : (g : GrammarView) (s : List Bool) → IsNullableSet g s → (count : ℕ) (edges : List Edge) (order : List ℕ) →

@@ -6,7 +6,7 @@ use Rattle.std.proofs.lemmas.List.{length-replicate, length-set}
 use Rattle.std.proofs.lemmas.Option.{slice_get_within}
 use Rattle.std.proofs.lemmas.Bool.{cases_eq}
 use Rattle.wb_lemmas.proofs.Places.{at_once}
-use Rattle.wb_lemmas.proofs.Members.{contains_at, place_of}
+use Rattle.wb_lemmas.proofs.Members.{contains_at, place_of, append_contains_left, append_contains_right}
 use Rattle.wb_base.specs.declared.symbol.Symbol.{Symbol}
 use Rattle.wb_base.specs.declared.symbol.Symbol.TheVariants.{Nonterminal}
 use Rattle.wb_base.specs.Grammar.{GrammarView}
@@ -29,18 +29,6 @@ at_left : {X : Type 0} (xs ys : List X) (j : ℕ) (z : X) → j < length xs → 
 at_left [] ys j z lt e = absurd (omega arith)
 at_left (x ∷ xs) ys zero z lt e = e
 at_left (x ∷ xs) ys (suc j) z lt e = at_left xs ys j z (omega arith) e
-
-left_stays : {X : Type 0} (xs ys : List X) (j : ℕ) (z : X) → slice_get xs j ≡ Some z → slice_get (xs ++ ys) j ≡ Some z
-left_stays [] ys j z e = cc
-left_stays (x ∷ xs) ys zero z e = e
-left_stays (x ∷ xs) ys (suc j) z e = left_stays xs ys j z e
-
-right_stays : {X : Type 0} (xs ys : List X) (z : X) → Contains ys z → Contains (xs ++ ys) z
-right_stays [] ys z k = k
-right_stays (x ∷ xs) ys z k = let (j, at) = place_of (xs ++ ys) z (right_stays xs ys z k) in contains_at (x ∷ (xs ++ ys)) z (suc j) at
-
-Contains_left : {X : Type 0} (xs ys : List X) (z : X) → Contains xs z → Contains (xs ++ ys) z
-Contains_left xs ys z k = let (j, at) = place_of xs z k in contains_at (xs ++ ys) z j (left_stays xs ys j z at)
 
 opening_at : (numbers : List ℕ) (j q : ℕ) → slice_get numbers j ≡ Some q → slice_get (map initial_item numbers) j ≡ Some (initial_item q)
 opening_at [] j q e = cc
@@ -88,12 +76,12 @@ pub closing_more : (g : GrammarView) (items : List Item) (flags : List Bool) (cl
     IsClosing g items (set flags b true) (closure ++ map initial_item numbers) (place + 1)
 closing_more g items flags closure place item b rest numbers here before lt rules h = record {
   len = length-set flags b true ∙ h.len;
-  front = λ z k. Contains_left closure (map initial_item numbers) z (h.front z k);
+  front = λ z k. append_contains_left closure (map initial_item numbers) z (h.front z k);
   complete = λ c q right has rule. elim (IsMember-insert flags b c has) [
-    | inl old ↦ Contains_left closure (map initial_item numbers) (initial_item q) (h.complete c q right old rule)
+    | inl old ↦ append_contains_left closure (map initial_item numbers) (initial_item q) (h.complete c q right old rule)
     | inr same ↦
         let (j, at) = place_of numbers q (rules.complete q right (subst (λ k. IsProduction g q k right) same rule)) in
-        right_stays closure (map initial_item numbers) (initial_item q)
+        append_contains_right closure (map initial_item numbers) (initial_item q)
         (contains_at (map initial_item numbers) (initial_item q) j (opening_at numbers j q at))
   ];
   sound = λ p z at. elim (at_joined closure (map initial_item numbers) p z at) [

@@ -13,7 +13,8 @@ use Rattle.wb_grammars.specs.declared.item.Item.{Item}
 use Rattle.wb_items.specs.Kernels.{Precedes, AreInOrder}
 use Rattle.wb_items.specs.Inner.Passes.{AreRising, StrictUpTo}
 
-same_item : (a b : Item) → a.production ≡ b.production → a.dot ≡ b.dot → a ≡ b
+-- items of one production and one place of the dot are one
+pub same_item : (a b : Item) → a.production ≡ b.production → a.dot ≡ b.dot → a ≡ b
 same_item a b p q i = record { production = p i; dot = q i }
 
 -- of two items the one precedes the other, or they are the same

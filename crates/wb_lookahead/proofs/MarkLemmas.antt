@@ -1,5 +1,5 @@
 -- Marks of places that wait.
-use Rattle.std.proofs.Common.{◌≡◌, ℕ, ◌<◌, ◌≤◌, ◌⊎◌, zero, suc, Bool, true, false, List, [], ◌∷◌, ◌++◌, length, get_or, set, refl, sym, ◌∙◌}
+use Rattle.std.proofs.Common.{◌≡◌, ℕ, ◌<◌, ◌≤◌, ◌⊎◌, suc, Bool, true, false, List, [], ◌∷◌, ◌++◌, length, get_or, set, refl, sym, ◌∙◌}
 use Rattle.std.proofs.Common.{ap, subst, inl, inr, arith, get_or-set_same, get_or-set_other, length-append, length-set}
 use Rattle.std.specs.Prelude.{Contains, replicate}
 use Rattle.std.proofs.lemmas.Bool.{cases_eq, cases_lt, true≢false}
@@ -10,6 +10,7 @@ use Rattle.std.proofs.lemmas.List.Elements.{Contains-append_left, Contains-push}
 use Rattle.wb_termset.proofs.CallerLemmas.{IsEmpty-replicate}
 use Rattle.wb_lookahead.specs.declared.worklist.Place.{Place}
 use Rattle.wb_lookahead.specs.Inner.Waiting.{IsMarked, AreMarked, MarksChange}
+use Rattle.wb_lemmas.proofs.Members.{contains_cases}
 
 -- a row of marks after one was put
 row_changes : (row : List Bool) (at j : ℕ) (mark : Bool) → get_or (set row at mark) j false ≡ true → ((j ≡ at) × (mark ≡ true)) ⊎
@@ -79,11 +80,6 @@ marked_before waiting marks new place h change s at marked = elim (change s at m
       } in
       (place.item, subst (Contains (place ∷ waiting)) is (0, omega arith, refl))
 ]
-
--- an element is the first, or one after it
-pub contains_cases : {A : Type 0} (x z : A) (xs : List A) → Contains (x ∷ xs) z → (x ≡ z) ⊎ Contains xs z
-contains_cases x z xs (zero, lt, is) = inl is
-contains_cases x z xs (suc k, lt, is) = inr (k, omega arith, is)
 
 -- the first place is taken, with its mark
 pub marked_less : (waiting all : List Place) (marks new : List (List Bool)) (place : Place) → AreMarked all marks → all ≡ place ∷ waiting →

@@ -1,28 +1,21 @@
 -- Rows in one list: a row more, and the number at a place.
 use Rattle.std.proofs.Common.{◌≡◌, ℕ, zero, suc, ◌+◌, ◌*◌, ◌<◌, ◌≤◌, List, [], ◌∷◌, ◌++◌, length, get_or, take, drop, refl, sym, ◌∙◌, ap}
 use Rattle.std.proofs.Common.{arith, add-one, length-append, length-drop}
-use Rattle.std.proofs.Math.Nat.{mul-le-mul_left}
 use Rattle.std.proofs.lemmas.List.{take-append-le, drop-append-le, drop-drop, take_all, length-take-le, get_or-take, get_or-drop}
 use Rattle.wb_lookahead.specs.Matrices.{MatrixView, rows_of}
+use Rattle.wb_lemmas.proofs.Numbers.{row_within}
+use Rattle.wb_lemmas.proofs.Parts.{no_elements}
 
 pub rows_of-length : (height width : ℕ) (codes : List ℕ) → length (rows_of height width codes) ≡ height
 unfolding rows_of
 rows_of-length zero width codes = refl
 rows_of-length (suc height) width codes = (let e = rows_of-length height width (drop width codes) in omega arith)
 
--- a row lies within the list
-pub row_within : (height width s : ℕ) → s < height → s * width + width ≤ height * width
-row_within height width s lt = omega (arith, mul-le-mul_left width (let h : s + 1 ≤ height = omega arith in h))
-
-nothing : {A : Type 0} (xs : List A) → length xs ≡ 0 → xs ≡ []
-nothing [] e = refl
-nothing (x ∷ xs) e = absurd (omega arith)
-
 rows_suc : (height width : ℕ) (codes row : List ℕ) → length codes ≡ height * width → length row ≡ width →
     rows_of (suc height) width (codes ++ row) ≡ rows_of height width codes ++ row ∷ []
 unfolding rows_of
 rows_suc zero width codes row e len =
-    let none : codes ≡ [] = nothing codes (omega arith) in
+    let none : codes ≡ [] = no_elements codes (omega arith) in
     ap (λ (z : List ℕ). take width (z ++ row) ∷ []) none ∙ ap (λ (z : List ℕ). z ∷ []) (take_all width row (omega arith))
 rows_suc (suc height) width codes row e len =
     let le : width ≤ length codes = omega arith in

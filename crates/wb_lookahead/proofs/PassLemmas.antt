@@ -1,7 +1,7 @@
 -- How what is listed at an item is passed on.
 use Rattle.std.proofs.Common.{◌≡◌, ℕ, ◌+◌, ◌-◌, ◌<◌, ◌≤◌, ◌⊎◌, Bool, true, false, List, [], ◌∷◌, ◌++◌, length, get_or, take, drop}
-use Rattle.std.proofs.Common.{replicate, set, Some, Result, Ok, Err, refl, sym, ◌∙◌, ap, subst, inl, inr, arith, length-drop}
-use Rattle.std.specs.Prelude.{All, Contains, OnOk, IfSome, slice_get, option_map}
+use Rattle.std.proofs.Common.{replicate, set, Some, refl, sym, ◌∙◌, ap, subst, inl, inr, arith, length-drop}
+use Rattle.std.specs.Prelude.{All, Contains, IfSome, slice_get, option_map}
 use Rattle.std.proofs.lemmas.Bool.{cases_eq, cases_lt}
 use Rattle.std.proofs.lemmas.List.{take_all, get_or_past, length-map}
 use Rattle.std.proofs.lemmas.List.Elements.{All-get_or, All-contains}
@@ -29,11 +29,6 @@ use Rattle.wb_lookahead.specs.Inner.Rests.{Repeats}
 use Rattle.wb_lookahead.specs.Inner.Spreading.{FlowsTo, IsFirstOf, IsItemPassed, IsPassedOn, IsSole, Keeps, Lists, itself, initial}
 use Rattle.wb_lookahead.proofs.StepLemmas.{initial_has, row_items}
 use Rattle.wb_lookahead.proofs.StandInLemmas.{item_flows}
-
--- what follows of two clauses where a call succeeds
-pub on_ok_two : {A E : Type 0} (r : Result A E) {P Q R : Type 0} → (P → Q → R) → OnOk r P → OnOk r Q → OnOk r R
-on_ok_two (Ok x) f p q = f p q
-on_ok_two (Err e) f p q = p
 
 right_is : (g : GrammarView) (p : ℕ) (right : List Symbol) → p < length g.productions →
     IfSome (slice_get g.productions p) (λ r. right ≡ r.1) → right_of g p ≡ right

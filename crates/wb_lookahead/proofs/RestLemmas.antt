@@ -9,18 +9,12 @@ use Rattle.wb_base.specs.Grammar.{GrammarView}
 use Rattle.wb_termset.specs.Sets.{IsMember, IsUnion, IsEmpty}
 use Rattle.wb_termset.proofs.CallerLemmas.{IsMember-insert, IsMember-insert_same, IsSubset-insert}
 use Rattle.wb_grammars.specs.Derives.{Derives, done, keep, IsFirst}
-use Rattle.wb_grammars.proofs.DerivesLemmas.{Derives-same, Derives-append, Derives-split, First-append, nil_parts}
+use Rattle.wb_grammars.proofs.DerivesLemmas.{Derives-same, Derives-append, Derives-split, First-append, nil_parts, Terminal-not_nullable}
 use Rattle.wb_lookahead.specs.Inner.Rests.{IsRest, BeginsSoFar}
 
 -- a terminal begins what it derives alone
 terminal_first : {g : GrammarView} (v : ℕ) (w : List Symbol) (u : ℕ) → IsFirst g (Terminal v ∷ w) u → u ≡ v
 terminal_first v w u (z, keep (Terminal x) r) = refl
-
-terminal_stays : {g : GrammarView} (v : ℕ) (w : List Symbol) → Derives g (Terminal v ∷ w) [] → ⊥
-terminal_stays v w r = go r refl
-  where
-    go : {g : GrammarView} {v : ℕ} {w x : List Symbol} → Derives g (Terminal v ∷ w) x → x ≡ [] → ⊥
-    go (keep y r) e = cc
 
 pub nothing_first : {g : GrammarView} (u : ℕ) → IsFirst g [] u → ⊥
 nothing_first u (v, r) = go r refl
@@ -118,7 +112,7 @@ begins_terminal g w left set new v h len is = record {
       | inr more ↦ (is u).1 (inr (terminal_first v left u more))
     ],
   );
-  empty = (λ t. absurd (true≢false (sym t)), λ r. absurd (terminal_stays v left (h.empty.0 r)));
+  empty = (λ t. absurd (true≢false (sym t)), λ r. absurd (Terminal-not_nullable v left (h.empty.0 r)));
 }
 
 -- nothing is left

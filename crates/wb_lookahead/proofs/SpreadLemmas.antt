@@ -18,6 +18,7 @@ use Rattle.wb_lookahead.specs.Inner.Waiting.{Adds, in_front, at_end, stays}
 use Rattle.wb_lookahead.proofs.UnionLemmas.{lists_kept, lists_new, shape_kept}
 use Rattle.wb_lookahead.proofs.RoomLemmas.{room_less}
 use Rattle.wb_lookahead.proofs.StepLemmas.{closure_at, rows_within}
+use Rattle.wb_items.proofs.OrderLemmas.{same_item}
 
 pub spreads_none : (l : List (List ItemLookahead)) (w : List Place) → Spreads l w l w
 spreads_none l w = record { keeps = λ s item t h. h; waits = λ s item h. h; grew = λ s item. inr (λ t h. h); less = omega arith }
@@ -40,9 +41,6 @@ spreads_then {l} {m} {n} {v} {w} {x} p q = record {
 abbrev item_of : ℕ → ℕ → Item
 item_of p d = record { production = p; dot = d }
 
-item_parts : (a b : Item) → a.production ≡ b.production → a.dot ≡ b.dot → a ≡ b
-item_parts a b p d = ap (λ z. item_of z a.dot) p ∙ ap (item_of b.production) d
-
 -- two items of kernels are the same, or not
 same_at : (s k : ℕ) (a b : Item) → ((s ≡ k) × (a ≡ b)) ⊎ (((s ≡ k) × (a ≡ b)) → ⊥)
 same_at s k a b = elim (cases_eq s k) [
@@ -51,7 +49,7 @@ same_at s k a b = elim (cases_eq s k) [
     | inr p ↦ inr (λ e. p (ap (λ (z : Item). z.production) e.1))
     | inl p ↦ elim (cases_eq a.dot b.dot) [
       | inr d ↦ inr (λ e. d (ap (λ (z : Item). z.dot) e.1))
-      | inl d ↦ inl (s, item_parts a b p d)
+      | inl d ↦ inl (s, same_item a b p d)
     ]
   ]
 ]

@@ -1,7 +1,7 @@
 -- When nothing waits, the sets are the lookaheads.
 use Rattle.std.proofs.Common.{◌≡◌, ℕ, suc, ◌<◌, ◌⊎◌, Bool, List, [], ◌∷◌, length, refl, sym, ap, subst, inl, inr, arith}
 use Rattle.std.specs.Prelude.{All, Contains, ◌↔◌}
-use Rattle.wb_lemmas.proofs.Members.{place_of}
+use Rattle.wb_lemmas.proofs.Members.{place_of, contains_cases}
 use Rattle.wb_termset.specs.Sets.{IsMember}
 use Rattle.wb_grammars.specs.declared.item.Item.{Item}
 use Rattle.wb_grammars.specs.Items.{start_item}
@@ -18,7 +18,6 @@ use Rattle.std.proofs.lemmas.Option.{slice_get_within}
 use Rattle.wb_lookahead.specs.declared.worklist.Place.{Place}
 use Rattle.wb_lookahead.specs.Inner.Spreading.{AreSound, AreWaiting, ArePropagated, FlowsTo, IsFilled, IsPassedOn, IsPlace, Lists, ListsFor}
 use Rattle.wb_lookahead.specs.Inner.Spreading.{Spreads, itself, initial, Waits}
-use Rattle.wb_lookahead.proofs.MarkLemmas.{contains_cases}
 use Rattle.wb_lookahead.proofs.PassLemmas.{empty_lists, passed_kept, set_once}
 use Rattle.wb_lookahead.proofs.StandInLemmas.{first_is, moved_sole, past_sole, stands_has}
 

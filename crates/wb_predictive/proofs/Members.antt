@@ -4,7 +4,8 @@ use Rattle.std.proofs.Common.{⊎_elim, sym, ap, ◌∙◌, subst}
 use Rattle.std.specs.Prelude.{slice_get, ◌↔◌}
 use Rattle.wb_predictive.specs.Kinds.{is_member, is_subset, is_apart, is_apart_from_all, are_apart}
 use Rattle.wb_predictive.specs.Inner.Choice.{choose}
-use Rattle.wb_predictive.proofs.Booleans.{and_left, and_right, or_left, or_right, or_cases, skipped}
+use Rattle.wb_predictive.proofs.Booleans.{skipped}
+use Rattle.wb_lemmas.proofs.Booleans.{and_left, and_right, or_left, or_right, or_cases}
 
 module _ {K : Type 0} (same : K → K → Bool) where
   -- a member of one part is one of the whole

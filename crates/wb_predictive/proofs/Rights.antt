@@ -5,7 +5,7 @@ use Rattle.wb_predictive.specs.declared.symbol.Symbol.{Symbol}
 use Rattle.wb_predictive.specs.Entries.{Entry, all_nullable, firsts, is_below, is_some_below, weight_of, is_foreseen, is_followed, is_right}
 use Rattle.wb_predictive.specs.Entries.{are_rights, is_decided}
 use Rattle.wb_predictive.specs.Kinds.{implies, is_subset, are_apart}
-use Rattle.wb_predictive.proofs.Booleans.{and_left, and_right, or_cases}
+use Rattle.wb_lemmas.proofs.Booleans.{and_left, and_right, or_cases}
 
 -- a right side that is below the rank
 pub below_at : {K N A : Type 0} (entries : N → Entry K) (rank : ℕ) (rs : List (List (Symbol K N A)))

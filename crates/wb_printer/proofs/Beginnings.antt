@@ -16,10 +16,11 @@ use Rattle.wb_tokens.specs.declared.token.Token.{Token}
 use Rattle.wb_tokens.specs.declared.token.Token.TheVariants as t
 use Rattle.wb_tokens.specs.Printing.{printed_text}
 use Rattle.wb_tokens.specs.Skipping.{is_blank, IsLayoutPiece, blank, comment}
-use Rattle.wb_tokens.specs.Spelling.{Spells, IsInteger, IsRegexPart, IsRegexBody}
+use Rattle.wb_tokens.specs.Spelling.{Spells, IsInteger, IsRegexBody}
 use Rattle.wb_base.specs.Identifiers.{is_letter, IsIdentifier}
 use Rattle.wb_tokens.specs.Words.{word_text, punctuation_text}
 use Rattle.wb_syntax.specs.Canonical.{printed}
+use Rattle.wb_tokens.proofs.NoPieceLemmas.{no_slash}
 
 -- a byte with which layout begins, if a slash is behind a slash
 abbrev begins_layout : ℕ → Bool
@@ -58,23 +59,6 @@ mark_clear : (mark : Punctuation) → IsClear (punctuation_text mark)
 mark_clear mark =
     not_true (begins_layout (get_or (punctuation_text mark) 0 0))
     (each_value marks.enum (λ x. not (begins_layout (get_or (punctuation_text x) 0 0))) refl mark)
-
--- a slash is not plain
-plain_no_slash : (b : ℕ) → b ≡ 47 → (eqb b 47 || eqb b 92 || eqb b 10) ≡ false → ⊥
-plain_no_slash b e h =
-    let k : (eqb 47 47 || eqb 47 92 || eqb 47 10) ≡ false = subst (λ c. (eqb c 47 || eqb c 92 || eqb c 10) ≡ false) e h in absurd (cc)
-
--- the body of a regular expression doesn't begin with a slash
-no_slash : (d : ℕ) (x : List ℕ) → IsRegexBody (d ∷ x) → d ≡ 47 → ⊥
-no_slash d x (IsRegexBody.none e) q = absurd (cc)
-no_slash d x (IsRegexBody.next {part = part} {x = y} (IsRegexPart.plain {b = b} h f) r e) q =
-    let w : d ∷ x ≡ b ∷ y = e ∙ ap (λ l. l ++ y) f in
-    let same : d ≡ b = cc in
-    plain_no_slash b (sym same ∙ q) h
-no_slash d x (IsRegexBody.next {part = part} {x = y} (IsRegexPart.escaped {b = b} h f) r e) q =
-    let w : d ∷ x ≡ 92 ∷ b ∷ y = e ∙ ap (λ l. l ++ y) f in
-    let same : d ≡ 92 = cc in
-    omega (arith, same, q)
 
 -- no layout stands where the bytes from there on begin with one that begins none
 clear_piece : (text : List ℕ) (at : ℕ) → begins_layout (get_or text at 0) ≡ false → (behind : ℕ)

@@ -1,5 +1,5 @@
 -- Printed tokens with blanks before them are read as those tokens.
-use Rattle.std.proofs.Common.{◌≡◌, ◌+◌, ℕ, List, [], ◌∷◌, ◌++◌, Bool, true, false, ◌&&◌, length, get_or, refl, sym, ap, ◌∙◌, subst, arith}
+use Rattle.std.proofs.Common.{◌≡◌, ◌+◌, ℕ, List, [], ◌∷◌, ◌++◌, true, ◌&&◌, length, get_or, refl, sym, ap, ◌∙◌, subst, arith}
 use Rattle.std.proofs.Common.{length-append, append_assoc}
 use Rattle.std.specs.List.{list_all}
 use Rattle.std.proofs.lemmas.List.{get_or_at, append-nil}
@@ -17,6 +17,7 @@ use Rattle.wb_syntax.specs.Tokens.{Lexeme}
 use Rattle.wb_syntax.specs.Canonical.{printed}
 use Rattle.wb_printer.proofs.GrammarTokens.{tokens}
 use Rattle.wb_printer.proofs.Beginnings.{no_piece}
+use Rattle.wb_lemmas.proofs.Booleans.{and_parts}
 
 -- blanks alone
 abbrev pub AreBlanks : List ℕ → Type 0
@@ -40,11 +41,6 @@ more_blanks front x ts h (flow gap rest {b = b} g s ends r e) =
     flow (front ++ gap) rest (both_blanks front gap h g) s ends r
     (ap (λ l. front ++ l) e ∙ sym (append_assoc front gap (printed b ++ rest)))
 
--- both parts of a test
-both_true : (a b : Bool) → (a && b) ≡ true → (a ≡ true) × (b ≡ true)
-both_true true b h = (refl, h)
-both_true false b h = absurd (cc)
-
 -- blanks are skipped where no layout stands behind them
 skips : (text before gap rest : List ℕ) (from at : ℕ) → text ≡ before ++ (gap ++ rest) → from ≡ length before → at ≡ from + length gap
     → AreBlanks gap
@@ -53,7 +49,7 @@ skips text before [] rest from at e f g h none_there =
     let same : from ≡ at = omega (arith, g) in
     stop (λ behind p. none_there behind (subst (λ k. IsLayoutPiece WithComments text k behind) same p)) same
 skips text before (b ∷ gap) rest from at e f g h none_there =
-    let both = both_true (is_blank b) (list_all is_blank gap) h in
+    let both = and_parts (is_blank b) (list_all is_blank gap) h in
     let here : get_or text from 0 ≡ b = ap (λ l. get_or l from 0) e ∙ get_or_at before b (gap ++ rest) 0 from (sym f) in
     skip {behind = from + 1} (blank (omega (arith, f, ap length e, length-append before (b ∷ (gap ++ rest))))
     (ap is_blank here ∙ both.0) refl)

@@ -1,8 +1,5 @@
 -- Parts of items, one behind the other.
-use Rattle.std.proofs.Common.{◌≡◌, ◌+◌, ◌<◌, ◌≤◌, ℕ, suc, ◌++◌, ◌∷◌, [], List, ap, ◌∙◌, refl, sym, subst, arith, length, get_or, drop}
-use Rattle.std.proofs.Common.{add-one}
-use Rattle.std.proofs.Math.Seq.{drop-cons}
-use Rattle.std.proofs.lemmas.List.{length-drop}
+use Rattle.std.proofs.Common.{◌≡◌, ◌+◌, ◌<◌, ◌≤◌, ℕ, ◌++◌, ◌∷◌, [], List, ap, ◌∙◌, refl, sym, subst, length, get_or, drop}
 use Rattle.wb_tokens.specs.declared.token.Token.{Token}
 use Rattle.wb_tokens.specs.declared.token.Token.TheVariants as t
 use Rattle.wb_tokens.specs.declared.punctuation.Punctuation.TheVariants as p
@@ -16,6 +13,7 @@ use Rattle.wb_printer.specs.Inner.ExpressionTokens.{expression_tokens}
 use Rattle.wb_printer.specs.Inner.ItemTokens.{AreLinesOf, AreItemTokens}
 use Rattle.wb_printer.specs.Inner.PartTokens.{AreEquationTokens, target_tokens}
 use Rattle.wb_printer.proofs.OutputLemmas.{after_both}
+use Rattle.wb_lemmas.proofs.Parts.{drop_from, drop_past}
 
 -- three parts
 pub in_turn : (o p q r : Output) (front middle back : List Token) → p ≡ after o front → q ≡ after p middle → r ≡ after q back
@@ -23,16 +21,6 @@ pub in_turn : (o p q r : Output) (front middle back : List Token) → p ≡ afte
 in_turn o p q r front middle back i j k =
     k ∙ (ap (λ (x : Output). after x back) (j ∙ ap (λ (x : Output). after x middle) i)
     ∙ (sym (after_both (after o front) middle back) ∙ sym (after_both o front (middle ++ back))))
-
--- the rest of a list from a place on
-pub from_place : {X : Type 0} (xs : List X) (i : ℕ) (x : X) → i < length xs → x ≡ get_or xs i x → drop i xs ≡ x ∷ drop (i + 1) xs
-from_place xs i x h q = drop-cons xs i x h ∙ (ap (λ k. k ∷ drop (suc i) xs) (sym q) ∙ ap (λ (k : ℕ). x ∷ drop k xs) (sym (add-one i)))
-
-none_from : {X : Type 0} (xs : List X) (i : ℕ) → length xs ≤ i → drop i xs ≡ []
-none_from xs i h = empty (drop i xs) (omega (arith, length-drop i xs, h)) where
-  empty : {X : Type 0} (l : List X) → length l ≡ 0 → l ≡ []
-  empty [] e = refl
-  empty (x ∷ l) e = absurd (omega (arith, e))
 
 -- the first equation and the others
 first_equation : (list : List Equation) (x : Equation) (others : List Equation) (tokens : List Token) → list ≡ x ∷ others
@@ -54,7 +42,7 @@ pub equation_at : (list : List Equation) (i : ℕ) (x : Equation) (tokens : List
     → AreEquationTokens (drop i list) tokens
     → (e : Expression) × (rest : List Token) × (x.nodes ≡ nodes_of e) × AreEquationTokens (drop (i + 1) list) rest
     × (tokens ≡ target_tokens x.target ++ (expression_tokens e ++ t.Punctuation p.Semicolon ∷ rest))
-equation_at list i x tokens h q are = first_equation (drop i list) x (drop (i + 1) list) tokens (from_place list i x h q) are
+equation_at list i x tokens h q are = first_equation (drop i list) x (drop (i + 1) list) tokens (drop_from list i x h q) are
 
 -- an equation more
 pub equation_after : (o r : Output) (target e rest : List Token) → r ≡ put (after (after o target) e) (t.Punctuation p.Semicolon)
@@ -67,7 +55,7 @@ equation_after o r target e rest k =
 -- no equation more
 pub no_equation : (list : List Equation) (i : ℕ) (tokens : List Token) → length list ≤ i → AreEquationTokens (drop i list) tokens
     → tokens ≡ []
-no_equation list i tokens h are = at (drop i list) tokens (none_from list i h) are where
+no_equation list i tokens h are = at (drop i list) tokens (drop_past list i h) are where
   at : (l : List Equation) (tokens : List Token) → l ≡ [] → AreEquationTokens l tokens → tokens ≡ []
   at l tokens q AreEquationTokens.nothing = refl
   at l tokens q (AreEquationTokens.next e nodes are whole) = cc
@@ -91,12 +79,12 @@ pub item_at : (list : List (Item Pattern)) (i : ℕ) (x : Item Pattern) (lines :
     → AreLinesOf (drop i list) lines
     → (tokens : List Token) × (rest : List (List Token)) × AreItemTokens x tokens × AreLinesOf (drop (i + 1) list) rest
     × (lines ≡ tokens ∷ rest)
-item_at list i x lines h q are = first_item (drop i list) x (drop (i + 1) list) lines (from_place list i x h q) are
+item_at list i x lines h q are = first_item (drop i list) x (drop (i + 1) list) lines (drop_from list i x h q) are
 
 -- no item more
 pub no_item : (list : List (Item Pattern)) (i : ℕ) (lines : List (List Token)) → length list ≤ i → AreLinesOf (drop i list) lines
     → lines ≡ []
-no_item list i lines h are = at (drop i list) lines (none_from list i h) are where
+no_item list i lines h are = at (drop i list) lines (drop_past list i h) are where
   at : (l : List (Item Pattern)) (lines : List (List Token)) → l ≡ [] → AreLinesOf l lines → lines ≡ []
   at l lines q AreLinesOf.nothing = refl
   at l lines q (AreLinesOf.next item are) = cc

@@ -24,9 +24,9 @@ use Rattle.wb_builder.specs.declared.builder.SpecBuilder.{SpecBuilder}
 use Rattle.wb_reader.specs.Inner.RightSides.{right_sides}
 use Rattle.wb_reader.proofs.Taking.{Row, Makes, Split, OneOf, chosen, acted, word_taken, mark_taken, name_taken}
 use Rattle.wb_reader.proofs.Many.{Element, many}
-use Rattle.wb_reader.proofs.Joins.{joined_one, joined}
 use Rattle.wb_reader.proofs.PartSound.{children_sound}
 use Rattle.wb_reader.proofs.WholeSound.{expression_sound}
+use Rattle.wb_lemmas.proofs.Parts.{joined, joined_one}
 
 -- the parts with a target at the top
 abbrev targeted : SpecBuilder → Target → ℕ → SpecBuilder

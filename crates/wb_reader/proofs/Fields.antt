@@ -17,9 +17,9 @@ use Rattle.wb_builder.specs.Parts.{with_kind}
 use Rattle.wb_reader.specs.declared.part.Part.{Part}
 use Rattle.wb_reader.proofs.Taking.{Row, Makes, word_taken, mark_taken, name_taken}
 use Rattle.wb_reader.proofs.Giving.{word_given, mark_given, name_given}
-use Rattle.wb_reader.proofs.Joins.{joined}
 use Rattle.wb_reader.proofs.PartSound.{kind_sound, needs_sound, optional_sound}
 use Rattle.wb_reader.proofs.PartComplete.{kind_given, needs_given, optional_given}
+use Rattle.wb_lemmas.proofs.Parts.{joined}
 
 -- the symbol that reads a field
 abbrev symbol_of : Field → Symbol TokenKind Part Action

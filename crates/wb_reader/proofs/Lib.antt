@@ -9,7 +9,6 @@ pub mod FormatLemmas
 mod Giving
 mod ItemComplete
 mod ItemSound
-mod Joins
 mod Many
 pub mod NoneBegins
 pub mod OneText

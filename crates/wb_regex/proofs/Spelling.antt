@@ -1,21 +1,19 @@
 -- The first symbol of some bytes is the one symbol that is spelled at their front.
 use Rattle.std.proofs.Common.{◌≡◌, ℕ, ◌+◌, ◌*◌, List, [], ◌∷◌, ◌++◌, Option, Some, None, true, false, cond, eqb, refl, sym, ap, ◌∙◌, subst}
-use Rattle.std.proofs.Common.{⊎_elim, arith}
+use Rattle.std.proofs.Common.{⊎_elim}
 use Rattle.std.proofs.lemmas.Bool.{cases_Bool}
 use Rattle.wb_base.specs.Decimal.{hex_value}
 use Rattle.wb_regex.specs.Text.{byte_symbol, escape_byte, IsSymbol, alone, escaped, hexadecimal}
 use Rattle.wb_regex.specs.Inner.Scan.{with_rest, escape_of, hex_pair, hex_at, escape_at, symbol_at}
 use Rattle.wb_regex.specs.declared.symbol.Symbol.{Symbol}
 use Rattle.wb_regex.specs.declared.symbol.Symbol.TheVariants.{Escape}
-
-is_number : (b n : ℕ) → eqb b n ≡ true → b ≡ n
-is_number b n h = grind (arith, h)
+use Rattle.wb_lemmas.proofs.Numbers.{eqb_true}
 
 not_backslash : (b : ℕ) (s : Symbol) → byte_symbol b ≡ Some s → eqb b 92 ≡ false
-not_backslash b s h = ⊎_elim (λ t. let e = ap byte_symbol (is_number b 92 t) in absurd (cc)) (λ f. f) (cases_Bool (eqb b 92))
+not_backslash b s h = ⊎_elim (λ t. let e = ap byte_symbol (eqb_true b 92 t) in absurd (cc)) (λ f. f) (cases_Bool (eqb b 92))
 
 not_hex : (c b : ℕ) → escape_byte c ≡ Some b → eqb c 120 ≡ false
-not_hex c b h = ⊎_elim (λ t. let e = ap escape_byte (is_number c 120 t) in absurd (cc)) (λ f. f) (cases_Bool (eqb c 120))
+not_hex c b h = ⊎_elim (λ t. let e = ap escape_byte (eqb_true c 120 t) in absurd (cc)) (λ f. f) (cases_Bool (eqb c 120))
 
 -- what is spelled at the front is found
 pub only : {s : Symbol} {u : List ℕ} (x r : List ℕ) → IsSymbol s u → x ≡ u ++ r → symbol_at x ≡ Some (s, r)
@@ -60,7 +58,7 @@ found_escape [] r s h = cc
 found_escape (c ∷ xs) r s h = ⊎_elim yes no (cases_Bool (eqb c 120))
   where
     yes : eqb c 120 ≡ true → Found s (92 ∷ c ∷ xs) r
-    yes t = subst (λ a. Found s (92 ∷ a ∷ xs) r) (sym (is_number c 120 t))
+    yes t = subst (λ a. Found s (92 ∷ a ∷ xs) r) (sym (eqb_true c 120 t))
         (found_hex xs r s (sym (ap (λ a. cond a (hex_at xs) (with_rest (escape_of (escape_byte c)) xs)) t) ∙ h))
 
     no : eqb c 120 ≡ false → Found s (92 ∷ c ∷ xs) r
@@ -76,7 +74,7 @@ found [] r s h = cc
 found (b ∷ xs) r s h = ⊎_elim yes no (cases_Bool (eqb b 92))
   where
     yes : eqb b 92 ≡ true → Found s (b ∷ xs) r
-    yes t = subst (λ a. Found s (a ∷ xs) r) (sym (is_number b 92 t))
+    yes t = subst (λ a. Found s (a ∷ xs) r) (sym (eqb_true b 92 t))
         (found_escape xs r s (sym (ap (λ a. cond a (escape_at xs) (with_rest (byte_symbol b) xs)) t) ∙ h))
 
     no : eqb b 92 ≡ false → Found s (b ∷ xs) r

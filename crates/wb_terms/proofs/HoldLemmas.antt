@@ -3,15 +3,14 @@ use Rattle.std.proofs.Common.{◌≡◌, ◌+◌, ◌⊎◌, inr, ℕ, List, [],
 use Rattle.std.proofs.Common.{subst, arith, append_assoc, append-nil, length-append}
 use Rattle.std.specs.List.{AllZip}
 use Rattle.std.proofs.Math.Seq.{take-append_seam, drop-append_seam, get_or-append_seam}
-use Rattle.std.proofs.Math.ListN.{get_or-append}
 use Rattle.std.proofs.lemmas.List.{map-append, length-map}
 use Rattle.std.proofs.lemmas.Slice.Zip.{AllZip-long, all_zipped_more}
 use Rattle.wb_values.specs.Signature.{Signature}
-use Rattle.wb_values.specs.Tree.{Tree, node, empty, int, bool, text}
+use Rattle.wb_values.specs.Tree.{Tree, node, empty}
 use Rattle.wb_values.specs.Tree as v
-use Rattle.wb_values.specs.ValuesIn.{value_in, values_in, tree_in, IsIn}
+use Rattle.wb_values.specs.ValuesIn.{values_in, tree_in, IsIn}
 use Rattle.wb_values.specs.declared.value.Value.{Value}
-use Rattle.wb_values.specs.declared.value.Value.TheVariants.{Int, Bool, Text, Tree as Stored}
+use Rattle.wb_values.specs.declared.value.Value.TheVariants.{Tree as Stored}
 use Rattle.wb_values.specs.declared.value.TreeId.{TreeId}
 use Rattle.wb_terms.specs.declared.event.Event.{Event}
 use Rattle.wb_terms.specs.declared.event.Event.TheVariants as e
@@ -27,26 +26,14 @@ use Rattle.wb_terms.specs.Inner.Built.{IsNumberOf, IsBuiltValue, AreBuilt, IsSto
 use Rattle.wb_terms.specs.Inner.Holding.{AreFrames, Holds, AddsValue}
 use Rattle.wb_terms.proofs.LeastLemmas.{either, lesser_least, same_least}
 use Rattle.wb_lemmas.proofs.Zips.{zip_weaker, zip_take, zip_drop}
-
--- a value stands for the same among more trees
-value_stable : (ts r : List Tree) (x : Value) → IsIn (length ts) x → value_in (ts ++ r) x ≡ value_in ts x
-value_stable ts r (Int z) h = refl
-value_stable ts r (Bool b) h = refl
-value_stable ts r (Text s) h = refl
-value_stable ts r (Stored t) h = ap v.tree (get_or-append ts r (node 0 empty) t.0 h)
-
--- and is among them
-in_more : (m n : ℕ) (x : Value) → IsIn m x → IsIn (m + n) x
-in_more m n (Int z) h = tt
-in_more m n (Bool b) h = tt
-in_more m n (Text s) h = tt
-in_more m n (Stored t) h = omega (arith, h)
+use Rattle.wb_values.proofs.Grown.{value-stable}
+use Rattle.wb_values.proofs.CallerLemmas.{is_in_more}
 
 -- an argument's value stays so among more trees
 stored_stable : (ss : List Signature) (ts r : List Tree) (a : Argument) (x : Value) → IsStored ss ts a x → IsStored ss (ts ++ r) a x
 stored_stable ss ts r a x s = record {
-  within = subst (λ n. IsIn n x) (sym (length-append ts r)) (in_more (length ts) (length r) x s.within);
-  built = subst (λ y. IsBuiltValue ss a y) (sym (value_stable ts r x s.within)) s.built;
+  within = subst (λ n. IsIn n x) (sym (length-append ts r)) (is_in_more (length ts) (length ts + length r) x (omega arith) s.within);
+  built = subst (λ y. IsBuiltValue ss a y) (sym (value-stable ts r x s.within)) s.built;
 }
 
 -- values of arguments are built

@@ -20,6 +20,7 @@ use Rattle.wb_tokens.specs.declared.word.Word.{Word}
 use Rattle.wb_tokens.specs.contracts.word.Word as words
 use Rattle.wb_tokens.proofs.Enumerations.{each_value}
 use Rattle.wb_lemmas.proofs.Booleans.{and_left, and_right}
+use Rattle.wb_lemmas.proofs.Digits.{digit_is}
 
 -- the kind of a token
 abbrev pub class_of : Token → TokenClass
@@ -75,10 +76,6 @@ mark_is p.Comma = record { some = omega arith; mark = refl }
 mark_is p.OpenParenthesis = record { some = omega arith; mark = refl }
 mark_is p.CloseParenthesis = record { some = omega arith; mark = refl }
 mark_is p.At = record { some = omega arith; mark = refl }
-
--- a byte from `0` to `9` is a digit
-pub digit_is : (b : ℕ) → 48 ≤ b → b ≤ 57 → is_ascii_digit b ≡ true
-digit_is b low high = grind arith
 
 -- a digit is no letter
 digit_no_letter : (b : ℕ) → 48 ≤ b → b ≤ 57 → is_letter b ≡ false

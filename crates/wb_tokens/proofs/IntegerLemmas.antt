@@ -11,13 +11,13 @@ use Rattle.std.specs.Char.{is_ascii_digit}
 use Rattle.std.specs.Str.Parse.{AllDigits, IsNumeral, digits_value}
 use Rattle.wb_tokens.specs.Inner.Longest.{first_class, IsLongest}
 use Rattle.wb_tokens.specs.Inner.Numbers.{number_of, FindsNumber}
-use Rattle.wb_lemmas.proofs.Digits.{digits_pass}
+use Rattle.wb_lemmas.proofs.Digits.{digits_pass, digit_is}
 use Rattle.wb_base.specs.Decimal.{signed, digit_count}
 use Rattle.wb_tokens.specs.Spelling.{IsInteger}
 use Rattle.wb_tokens.specs.declared.token_class.TokenClass.TheVariants.{Number}
 use Rattle.wb_tokens.specs.declared.token.Token.{Token}
 use Rattle.wb_tokens.specs.declared.token.Token.TheVariants as t
-use Rattle.wb_tokens.proofs.FirstByteLemmas.{digit_is, number_is}
+use Rattle.wb_tokens.proofs.FirstByteLemmas.{number_is}
 use Rattle.wb_tokens.proofs.LongestLemmas.{prefix_some, prefix_kind}
 use Rattle.wb_lemmas.proofs.Runs.{all_before, headed}
 

@@ -8,7 +8,7 @@ pub mod LineFeedLemmas
 pub mod LinesLemmas
 mod LongestLemmas
 mod MarkLemmas
-mod NoPieceLemmas
+pub mod NoPieceLemmas
 mod OnlyLemmas
 pub mod OverLemmas
 mod PartLemmas

@@ -38,7 +38,7 @@ no_blank token x s h =
     absurd (cc)
 
 -- the body of a regular expression doesn't begin with a slash
-no_slash : (d : ℕ) (x : List ℕ) → IsRegexBody (d ∷ x) → d ≡ 47 → ⊥
+pub no_slash : (d : ℕ) (x : List ℕ) → IsRegexBody (d ∷ x) → d ≡ 47 → ⊥
 no_slash d x (IsRegexBody.none e) q = absurd (cc)
 no_slash d x (IsRegexBody.next {part = part} {x = y} (IsRegexPart.plain {b = b} h f) r e) q =
     let w : d ∷ x ≡ b ∷ y = e ∙ ap (λ l. l ++ y) f in

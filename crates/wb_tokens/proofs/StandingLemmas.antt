@@ -29,6 +29,7 @@ use Rattle.wb_tokens.proofs.LongestLemmas.{name_longest}
 use Rattle.wb_tokens.proofs.MarkLemmas.{mark_longest}
 use Rattle.wb_tokens.proofs.OnlyLemmas.{stands_at}
 use Rattle.wb_tokens.proofs.QuotedLemmas.{string_longest, regex_longest}
+use Rattle.wb_lemmas.proofs.Booleans.{and_parts}
 
 -- the list is empty, or its first byte doesn't pass the test
 abbrev pub StopsAt : (ℕ → Bool) → List ℕ → Type 0
@@ -63,16 +64,11 @@ run_stops : (test : ℕ → Bool) (rest : List ℕ) → StopsAt test rest → pr
 run_stops test [] s = refl
 run_stops test (b ∷ rest) s = ap (λ t. cond t (1 + prefix_len test rest) 0) s
 
--- both parts of a test
-both : (a b : Bool) → (a && b) ≡ true → (a ≡ true) × (b ≡ true)
-both true b h = (refl, h)
-both false b h = cc
-
 -- a run goes through what passes the test, and no further
 run_length : (test : ℕ → Bool) (x rest : List ℕ) → list_all test x ≡ true → StopsAt test rest → prefix_len test (x ++ rest) ≡ length x
 run_length test [] rest all s = run_stops test rest s
 run_length test (b ∷ x) rest all s =
-    let h = both (test b) (list_all test x) all in
+    let h = and_parts (test b) (list_all test x) all in
     let i = run_length test x rest h.1 s in
     ap (λ t. cond t (1 + prefix_len test (x ++ rest)) 0) h.0 ∙ omega (arith, i)
 

@@ -15,7 +15,6 @@ use Rattle.wb_base.specs.declared.symbol.Kind.{Kind}
 use Rattle.wb_values.specs.declared.value.Value.{Value}
 use Rattle.wb_values.specs.declared.value.Value.TheVariants.{Int, Bool, Text, Tree as Stored}
 use Rattle.wb_values.specs.ValuesIn.{tree_in, value_in, values_in, last, IsIn}
-use Rattle.wb_values.proofs.Grown.{value-stable, values-stable}
 
 -- the value at a place, from 0 on
 abbrev pub value_at : Values → ℕ → Option v.Value
@@ -41,15 +40,6 @@ tree_in_more trees more place within = get_or-append trees more (node 0 empty) p
 -- the tree that was added is at the end
 pub tree_in_push : (trees more : List Tree) (t : Tree) → tree_in (trees ++ t ∷ more) (length trees) ≡ t
 tree_in_push trees more t = get_or-append_seam trees t more (node 0 empty)
-
--- a value stands for the same among more trees
-pub value_in_more : (trees more : List Tree) (x : Value) → IsIn (length trees) x → value_in (trees ++ more) x ≡ value_in trees x
-value_in_more trees more x is = value-stable trees more x is
-
--- values stand for the same among more trees
-pub values_in_more : (trees more : List Tree) (xs : List Value) → All (IsIn (length trees)) xs → values_in
-    (trees ++ more) xs ≡ values_in trees xs
-values_in_more trees more xs all = values-stable trees more xs all
 
 -- what the value at a place stands for
 pub value_at-values_in : (trees : List Tree) (xs : List Value) (k : ℕ) → value_at (values_in trees xs) k ≡ option_map (value_in trees)

@@ -8,9 +8,10 @@ use Rattle.wb_grammars.specs.Productions.{end_of}
 use Rattle.wb_grammars.specs.States.{start}
 use Rattle.wb_items.specs.Kernels.{prefix_of}
 use Rattle.wb_lookahead.specs.Inner.Spreading.{FlowsTo, Lists}
-use Rattle.wb_lookahead.proofs.PassLemmas.{first_within, on_ok_two, one_member, start_has}
+use Rattle.wb_lookahead.proofs.PassLemmas.{first_within, one_member, start_has}
 use Rattle.wb_lookahead.proofs.WaitingLemmas.{begun_waiting}
 use Rattle.wb_lookahead.proofs.plain.begin.Goals as goal
+use Rattle.wb_lemmas.proofs.Refusals.{on_ok_both}
 
 pub spread-requires-clause-state : goal.spread-requires-clause-state
 spread-requires-clause-state c = first_within c.requires.context.are_kernels
@@ -47,7 +48,7 @@ returns-clause-waiting c =
     subst (IsMember c.insert.new.self) last
     (subst (λ z. IsMember z c.terminals.result) (sym c.insert.ensures.after)
     (IsMember-insert_same c.in_ok-end.end c.terminals.result fits)) in
-    on_ok_two c.spread.result
+    on_ok_both c.spread.result
     (λ lists spreads. begun_waiting c.args.lookaheads.now c.args.worklist.now c.requires.empty spreads
     (subst (λ p. Lists c.spread.new.lookaheads 0 (initial_item p) (end_of K.grammar)) top (lists (end_of K.grammar) has)))
     c.spread.ensures.lists c.spread.ensures.spreads

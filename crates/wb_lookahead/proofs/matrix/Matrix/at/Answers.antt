@@ -2,8 +2,9 @@ use Rattle.std.proofs.Common.{rules, refl, ◌+◌, ◌*◌, ◌<◌, List, leng
 use Rattle.std.specs.Prelude.{ℕ, vec_len}
 use Rattle.std.proofs.lemmas.List.{get_or_read_under}
 use Rattle.wb_lookahead.specs.Matrices.{MatrixView, rows_of}
-use Rattle.wb_lookahead.proofs.MatrixLemmas.{number_at, row_length, row_within, rows_of-length}
+use Rattle.wb_lookahead.proofs.MatrixLemmas.{number_at, row_length, rows_of-length}
 use Rattle.wb_lookahead.proofs.matrix.Matrix.at.Goals as goal
+use Rattle.wb_lemmas.proofs.Numbers.{row_within}
 
 pub overflow_mul-row : goal.overflow_mul-row
 overflow_mul-row c =
