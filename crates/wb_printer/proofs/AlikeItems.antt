@@ -1,5 +1,5 @@
 -- The same tokens at other places are the same item but for places.
-use Rattle.std.proofs.Common.{◌≡◌, ℕ, List, [], ◌∷◌, ◌++◌, refl, sym, ap, ◌∙◌, subst}
+use Rattle.std.proofs.Common.{◌≡◌, List, ◌∷◌, ◌++◌, refl, sym, ap, ◌∙◌, subst}
 use Rattle.wb_syntax.specs.declared.production.Production.{Production}
 use Rattle.wb_syntax.specs.declared.production.ProductionRole.{ProductionRole}
 use Rattle.wb_syntax.specs.declared.production.ProductionRole.TheVariants as kinds
@@ -16,7 +16,7 @@ use Rattle.wb_syntax.specs.ItemGrammar as item
 use Rattle.wb_syntax.specs.ItemGrammar.{IsProduction, IsProductionRole, IsPlain, IsItem, IsRole}
 use Rattle.wb_syntax.specs.SpecText.{IsReadForm, IsReadAs}
 use Rattle.wb_syntax.specs.Offsets.{unplaced, unplaced_form, unplaced_production}
-use Rattle.wb_printer.proofs.Alike.{Alike, done, step, headed, halves, closed, alike_as}
+use Rattle.wb_printer.proofs.Alike.{Alike, done, step, headed, halves, alike_as}
 use Rattle.wb_printer.proofs.AlikeParts.{kind_alike, needs_alike, optional_alike, children_alike, block_alike}
 
 -- the lexemes are a production that is this one but for places

@@ -3,7 +3,6 @@ use Rattle.std.proofs.Common.{◌≡◌, ℕ, List, [], ◌∷◌, ◌++◌, map
 use Rattle.std.proofs.lemmas.List.{map-append, append_assoc}
 use Rattle.wb_tokens.specs.declared.token.Token.{Token}
 use Rattle.wb_tokens.specs.declared.token.Token.TheVariants as t
-use Rattle.wb_tokens.specs.declared.punctuation.Punctuation.TheVariants as p
 use Rattle.wb_syntax.specs.declared.expression.Equation.{Equation}
 use Rattle.wb_syntax.specs.declared.expression.Target.{Target}
 use Rattle.wb_syntax.specs.declared.header.Header.{Header}

@@ -4,9 +4,6 @@ use Rattle.std.specs.Prelude.{codes}
 use Rattle.std.specs.Fmt.{signed_decimal}
 use Rattle.std.proofs.lemmas.List.{append-nil}
 use Rattle.wb_tokens.specs.declared.token.Token.{Token}
-use Rattle.wb_tokens.specs.declared.token.Token.TheVariants as t
-use Rattle.wb_tokens.specs.declared.word.Word.TheVariants as w
-use Rattle.wb_tokens.specs.declared.punctuation.Punctuation.TheVariants as p
 use Rattle.wb_syntax.specs.declared.header.Header.{Header}
 use Rattle.wb_syntax.specs.declared.written.WrittenSpec.{WrittenSpec}
 use Rattle.wb_syntax.specs.Tokens.{Lexeme}

@@ -1,7 +1,7 @@
 -- Steps of the walk over an expression.
 use Rattle.std.proofs.Common.{◌≡◌, ◌+◌, ℕ, ◌++◌, ◌∷◌, [], List, Bool, true, false, ap, ◌∙◌, refl, sym, subst, arith, append_assoc, ◌-◌, ◌<◌}
 use Rattle.std.proofs.Common.{length, get_or, take, drop}
-use Rattle.std.proofs.lemmas.List.{append-nil, length-drop, take_all, get_or_default}
+use Rattle.std.proofs.lemmas.List.{append-nil, length-drop, take_all}
 use Rattle.wb_expressions.proofs.PlaceLemmas.{within, size_some}
 use Rattle.wb_tokens.specs.declared.token.Token.{Token}
 use Rattle.wb_tokens.specs.declared.token.Token.TheVariants as t
@@ -10,8 +10,7 @@ use Rattle.wb_tokens.specs.declared.punctuation.Punctuation.TheVariants as p
 use Rattle.wb_syntax.specs.Expression.{Node}
 use Rattle.wb_expressions.specs.declared.node.Node.TheVariants as n
 use Rattle.wb_syntax.specs.Expression.{Expression, Expressions}
-use Rattle.wb_expressions.specs.Expression.{Int, Text, Truth, Label, Read, Lexeme, Top, Forward, Build, Call, If, none, more, size}
-use Rattle.wb_expressions.specs.Expression.{size_of_all}
+use Rattle.wb_expressions.specs.Expression.{none, more, size, size_of_all}
 use Rattle.wb_printer.specs.Inner.Output.{Output, put, after}
 use Rattle.wb_printer.proofs.OutputLemmas.{after_both}
 use Rattle.wb_printer.specs.Inner.ExpressionTokens.{expression_tokens, arguments_tokens, further_tokens}

@@ -1,5 +1,5 @@
 -- Equations, blocks and productions that the table's grammar derives stand in the grammar of specifications.
-use Rattle.std.proofs.Common.{◌≡◌, ◌≤◌, ◌<◌, ℕ, List, [], ◌∷◌, ◌++◌, ◌⊎◌, inl, inr, refl, sym, ap, ◌∙◌, subst, length, arith}
+use Rattle.std.proofs.Common.{◌≡◌, ℕ, List, [], ◌∷◌, ◌++◌, ◌⊎◌, inl, inr, refl, sym, ap, ◌∙◌, subst, length, arith}
 use Rattle.std.proofs.lemmas.List.{append_assoc}
 use Rattle.wb_predictive.specs.declared.symbol.Symbol.TheVariants.{Token, Nonterminal, Act}
 use Rattle.wb_tokens.specs.declared.word.Word.TheVariants as word
@@ -7,7 +7,6 @@ use Rattle.wb_tokens.specs.declared.punctuation.Punctuation.TheVariants as p
 use Rattle.wb_syntax.specs.declared.expression.Equation.{Equation}
 use Rattle.wb_syntax.specs.declared.expression.Target.{Target}
 use Rattle.wb_syntax.specs.declared.expression.Target.TheVariants as g
-use Rattle.wb_syntax.specs.declared.production.Production.{Production}
 use Rattle.wb_syntax.specs.Tokens.{Lexeme, IsMark}
 use Rattle.wb_syntax.specs.Expression.{Expression}
 use Rattle.wb_expressions.specs.Expression.{nodes_of}

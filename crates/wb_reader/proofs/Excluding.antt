@@ -1,5 +1,5 @@
 -- Bytes have one answer: the causes of refusals exclude each other, and each excludes that the bytes are taken.
-use Rattle.std.proofs.Common.{◌≡◌, ◌≤◌, ◌<◌, ◌+◌, ℕ, List, [], ◌∷◌, ◌++◌, refl, sym, ap, ◌∙◌, subst, length, arith, All}
+use Rattle.std.proofs.Common.{◌≡◌, ℕ, List, [], ◌∷◌, ◌++◌, refl, sym, ap, ◌∙◌, subst, arith, All}
 use Rattle.std.specs.List.{AllZip}
 use Rattle.std.proofs.lemmas.List.Elements.{All-head, All-tail}
 use Rattle.wb_regex.specs.Text.{IsFirstFault}
@@ -15,8 +15,7 @@ use Rattle.wb_syntax.specs.declared.written.WrittenSpec.{WrittenSpec}
 use Rattle.wb_syntax.specs.SpecText.{SpecView, IsWrittenText, IsSpecText, IsReadAs}
 use Rattle.wb_reader.specs.declared.refusal.SpecRefusal.{SpecRefusal}
 use Rattle.wb_reader.specs.declared.refusal.SpecRefusal.TheVariants.{TooLong, WrongFormat, Syntax, BadRegex, MatchesEmpty, NoMemory}
-use Rattle.wb_reader.specs.Refusals.{IsShort, IsOtherFormat, IsSyntaxFault, IsTaken, lexical_item, HasPattern, IsBadRegex, IsEmptyPattern}
-use Rattle.wb_reader.specs.Refusals.{HasCause, IsAcceptedText}
+use Rattle.wb_reader.specs.Refusals.{IsShort, IsTaken, lexical_item, HasPattern, IsBadRegex, IsEmptyPattern, HasCause, IsAcceptedText}
 use Rattle.wb_reader.specs.Inner.Patterns.{OnForm, OnItems}
 use Rattle.wb_reader.specs.OneAnswer.{IsNoMemory}
 use Rattle.wb_reader.specs.OneAnswer.{HasOneAnswer}

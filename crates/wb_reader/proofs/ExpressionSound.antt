@@ -1,6 +1,5 @@
 -- Expressions that the table's grammar derives stand in the grammar of specifications.
-use Rattle.std.proofs.Common.{◌≡◌, ◌≤◌, ◌<◌, ◌+◌, ◌-◌, ℕ, zero, suc, List, [], ◌∷◌, ◌++◌, ◌⊎◌, inl, inr, refl, sym, ap, ◌∙◌, subst, length}
-use Rattle.std.proofs.Common.{arith}
+use Rattle.std.proofs.Common.{◌≡◌, ◌<◌, ◌+◌, ◌-◌, ℕ, zero, suc, List, [], ◌∷◌, ◌++◌, inl, inr, refl, sym, ap, ◌∙◌, subst, length, arith}
 use Rattle.std.proofs.lemmas.List.{append_assoc, append-nil, length-append}
 use Rattle.wb_predictive.specs.declared.symbol.Symbol.TheVariants.{Token, Nonterminal, Act}
 use Rattle.wb_tokens.specs.declared.word.Word.TheVariants as word
@@ -9,8 +8,8 @@ use Rattle.wb_syntax.specs.Expression.{Node}
 use Rattle.wb_expressions.specs.declared.node.Node.TheVariants as n
 use Rattle.wb_syntax.specs.Tokens.{Lexeme, IsMark, IsName}
 use Rattle.wb_syntax.specs.Expression.{Expression, Expressions}
-use Rattle.wb_expressions.specs.Expression.{Label, Read, Lexeme as LexemeOf, Build, none, more}
-use Rattle.wb_expressions.specs.Expression.{size, nodes_from, all_nodes_from, places_from}
+use Rattle.wb_expressions.specs.Expression.{Label, Read, Lexeme as LexemeOf, Build, none, more, size, nodes_from, all_nodes_from}
+use Rattle.wb_expressions.specs.Expression.{places_from}
 use Rattle.wb_syntax.specs.ExpressionGrammar as grammar
 use Rattle.wb_syntax.specs.ExpressionGrammar.{IsExpression, AreArguments, AreFurther}
 use Rattle.wb_tokens.specs.declared.kind.TokenKind.TheVariants as kind

@@ -1,5 +1,5 @@
 -- How the table's grammar derives tokens and right sides.
-use Rattle.std.proofs.Common.{◌≡◌, ℕ, ℤ, pos, List, [], ◌∷◌, ◌++◌, refl, sym, ap, subst}
+use Rattle.std.proofs.Common.{ℕ, ℤ, List, ◌∷◌, refl, sym, ap, subst}
 use Rattle.wb_predictive.specs.declared.symbol.Symbol.TheVariants.{Token}
 use Rattle.wb_predictive.specs.Grammar.{token}
 use Rattle.wb_tokens.specs.declared.word.Word.{Word}
@@ -10,7 +10,7 @@ use Rattle.wb_builder.specs.declared.builder.SpecBuilder.{SpecBuilder}
 use Rattle.wb_tokens.specs.Kinds.{kind_of, integer_kind}
 use Rattle.wb_builder.specs.Builder.{with_name, with_integer, with_text, with_pattern}
 use Rattle.wb_builder.specs.Items.{word_shift}
-use Rattle.wb_reader.specs.Inner.Table.{spec_grammar, shift}
+use Rattle.wb_reader.specs.Inner.Table.{shift}
 use Rattle.wb_reader.proofs.Taking.{Row, Makes}
 
 pub word_given : {x : Lexeme} {f : Row} {v : List Lexeme} {a b : SpecBuilder} (y : Word) → IsWord y x → Makes f v (word_shift y x.at a) b

@@ -1,7 +1,7 @@
 -- Items, headers and specifications of the grammar are derived by the table's grammar.
 use Rattle.std.proofs.Common.{◌≡◌, ℕ, pos, List, [], ◌∷◌, ◌++◌, refl, sym, ap, ◌∙◌, subst}
 use Rattle.std.proofs.lemmas.List.{append_assoc, append-nil}
-use Rattle.wb_predictive.specs.declared.symbol.Symbol.TheVariants.{Token, Nonterminal, Act}
+use Rattle.wb_predictive.specs.declared.symbol.Symbol.TheVariants.{Nonterminal}
 use Rattle.wb_predictive.specs.Grammar.{expand, act as acts}
 use Rattle.wb_tokens.specs.declared.word.Word.TheVariants as word
 use Rattle.wb_tokens.specs.declared.punctuation.Punctuation.TheVariants as p
@@ -9,7 +9,6 @@ use Rattle.wb_syntax.specs.declared.pattern.Role.{Role}
 use Rattle.wb_syntax.specs.declared.pattern.Role.TheVariants as r
 use Rattle.wb_syntax.specs.declared.header.Header.{Header}
 use Rattle.wb_syntax.specs.declared.item.Item.{Item}
-use Rattle.wb_syntax.specs.declared.item.ItemForm.{ItemForm}
 use Rattle.wb_syntax.specs.declared.item.ItemForm.TheVariants as form
 use Rattle.wb_syntax.specs.declared.pattern.WrittenPattern.{WrittenPattern}
 use Rattle.wb_syntax.specs.declared.production.Production.{Production}

@@ -1,5 +1,5 @@
 -- Items, headers and specifications that the table's grammar derives stand in the grammar of specifications.
-use Rattle.std.proofs.Common.{◌≡◌, ◌≤◌, ◌<◌, ℕ, List, [], ◌∷◌, ◌++◌, ◌⊎◌, inl, inr, refl, ap, ◌∙◌, length, arith}
+use Rattle.std.proofs.Common.{ℕ, List, [], ◌∷◌, ◌++◌, ◌⊎◌, inl, inr, refl, ap, ◌∙◌, length, arith}
 use Rattle.wb_predictive.specs.declared.symbol.Symbol.TheVariants.{Nonterminal}
 use Rattle.wb_tokens.specs.declared.word.Word.TheVariants as word
 use Rattle.wb_tokens.specs.declared.punctuation.Punctuation.TheVariants as p
@@ -15,7 +15,6 @@ use Rattle.wb_syntax.specs.declared.written.WrittenSpec.{WrittenSpec}
 use Rattle.wb_syntax.specs.Tokens.{Lexeme}
 use Rattle.wb_syntax.specs.ItemGrammar as grammar
 use Rattle.wb_syntax.specs.ItemGrammar.{IsItem, AreItems, IsHeader, IsSpecification}
-use Rattle.wb_tokens.specs.declared.kind.TokenKind.TheVariants as kind
 use Rattle.wb_reader.specs.declared.part.Part.{Part}
 use Rattle.wb_builder.specs.declared.builder.SpecBuilder.{SpecBuilder}
 use Rattle.wb_reader.specs.Inner.RightSides.{right_sides}

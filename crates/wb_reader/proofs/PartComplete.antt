@@ -1,7 +1,7 @@
 -- Kinds, flow types and children of the grammar of specifications are derived by the table's grammar.
-use Rattle.std.proofs.Common.{◌≡◌, ℕ, List, [], ◌∷◌, ◌++◌, refl, sym, ap, ◌∙◌, subst, Option, Some, None}
+use Rattle.std.proofs.Common.{◌≡◌, ℕ, List, [], ◌∷◌, ◌++◌, refl, sym, ap, ◌∙◌, subst, Option}
 use Rattle.std.proofs.lemmas.List.{append_assoc, append-nil}
-use Rattle.wb_predictive.specs.declared.symbol.Symbol.TheVariants.{Token, Nonterminal, Act}
+use Rattle.wb_predictive.specs.declared.symbol.Symbol.TheVariants.{Nonterminal}
 use Rattle.wb_predictive.specs.Grammar.{expand, act as acts}
 use Rattle.wb_tokens.specs.declared.word.Word.TheVariants as word
 use Rattle.wb_tokens.specs.declared.punctuation.Punctuation.TheVariants as p

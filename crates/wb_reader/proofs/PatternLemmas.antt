@@ -1,28 +1,22 @@
 -- Regular expressions of items: where they stand, and which is the first that isn't taken.
-use Rattle.std.proofs.Common.{Result, Ok, Err, IfErr, ◌≡◌, ◌≤◌, ◌<◌, ◌+◌, ℕ, List, [], ◌∷◌, ◌++◌, ◌⊎◌, inl, inr, refl, sym, ap, ◌∙◌, subst}
-use Rattle.std.proofs.Common.{length, arith, All, MatchOption, Option, Some, None}
+use Rattle.std.proofs.Common.{Result, Ok, Err, IfErr, ◌≡◌, ◌≤◌, ◌+◌, ℕ, List, [], ◌∷◌, ◌++◌, refl, sym, ap, ◌∙◌, subst, length, arith, All}
 use Rattle.std.specs.List.{AllZip, slice_range}
 use Rattle.std.specs.Result.{IsErrAnd}
-use Rattle.std.proofs.lemmas.Slice.Zip.{AllZip-long}
-use Rattle.std.proofs.lemmas.List.{append_assoc, length-append, length-take, length-drop}
-use Rattle.std.specs.Prelude.{take, drop, ◌-◌, min}
+use Rattle.std.proofs.lemmas.List.{length-append, length-take, length-drop}
+use Rattle.std.specs.Prelude.{drop, ◌-◌, min}
 use Rattle.std.proofs.lemmas.List.Elements.{All-nil, All-cons}
-use Rattle.wb_predictive.specs.declared.table.Next.TheVariants.{Found}
-use Rattle.wb_predictive.specs.Reading.{Spells, none, next}
+use Rattle.wb_predictive.specs.Reading.{Spells, next}
 use Rattle.wb_tokens.specs.declared.token.Layout.TheVariants.{WithComments}
-use Rattle.wb_tokens.specs.declared.token.Token.{Token}
 use Rattle.wb_tokens.specs.declared.token.Token.TheVariants as t
-use Rattle.wb_tokens.specs.NextToken.{IsTokenAt, NextToken}
+use Rattle.wb_tokens.specs.NextToken.{NextToken}
 use Rattle.wb_tokens.specs.Spelling.{Spells as SpellsToken}
 use Rattle.wb_tokens.specs.NextToken.{IsNextIn}
-use Rattle.wb_regex.specs.Tree.{Tree}
 use Rattle.wb_regex.proofs.CallerLemmas.{one}
 use Rattle.wb_syntax.specs.declared.item.Item.{Item}
 use Rattle.wb_syntax.specs.declared.item.ItemForm.{ItemForm}
 use Rattle.wb_syntax.specs.declared.item.ItemForm.TheVariants as f
 use Rattle.wb_syntax.specs.declared.pattern.Pattern.{Pattern}
 use Rattle.wb_syntax.specs.declared.pattern.WrittenPattern.{WrittenPattern}
-use Rattle.wb_syntax.specs.declared.header.Header.{Header}
 use Rattle.wb_syntax.specs.declared.written.WrittenSpec.{WrittenSpec}
 use Rattle.wb_syntax.specs.Tokens.{Lexeme, IsRegex}
 use Rattle.wb_syntax.specs.ItemGrammar as grammar
@@ -31,7 +25,7 @@ use Rattle.wb_syntax.specs.SpecText.{SpecView, IsWrittenText, IsReadAs, IsReadFo
 use Rattle.wb_reader.specs.declared.refusal.SpecRefusal.{SpecRefusal}
 use Rattle.wb_reader.specs.declared.refusal.SpecRefusal.TheVariants.{TooLong, WrongFormat, Syntax, BadRegex, MatchesEmpty, NoMemory}
 use Rattle.wb_reader.specs.Refusals.{IsShort, IsTaken, IsTakenForm}
-use Rattle.wb_reader.specs.Inner.Patterns.{IsPlaced, IsPlacedForm, OnForm, OnItem, OnItems}
+use Rattle.wb_reader.specs.Inner.Patterns.{IsPlaced, OnForm, OnItem, OnItems}
 
 -- items that are read are taken
 form_taken : (form : ItemForm WrittenPattern) (read : ItemForm Pattern) → IsReadForm form read → IsTakenForm form

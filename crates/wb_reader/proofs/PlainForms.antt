@@ -1,6 +1,5 @@
 -- Items of names alone: each has a right side of its fields, whose action makes it of what the fields hold.
-use Rattle.std.proofs.Common.{◌≡◌, ◌<◌, ℕ, List, [], ◌∷◌, ◌++◌, ◌⊎◌, inl, inr, refl, sym, ap, ◌∙◌, subst, length, arith, Option, Some, None}
-use Rattle.std.proofs.Common.{slice_get}
+use Rattle.std.proofs.Common.{◌≡◌, ℕ, List, [], ◌∷◌, ◌++◌, inl, inr, refl, sym, ap, ◌∙◌, subst, length, arith, Some, None, slice_get}
 use Rattle.wb_predictive.specs.declared.symbol.Symbol.TheVariants.{Nonterminal, Act}
 use Rattle.wb_predictive.specs.Grammar.{expand, act as acts}
 use Rattle.wb_syntax.specs.declared.item.Item.{Item}

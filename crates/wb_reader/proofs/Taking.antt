@@ -1,9 +1,8 @@
 -- How the table's grammar takes tokens, chooses right sides and acts.
-use Rattle.std.proofs.Common.{◌≡◌, ℕ, ℤ, zero, suc, pos, List, [], ◌∷◌, ◌++◌, ◌⊎◌, inl, inr, refl, sym, ap, ◌∙◌, subst, Some, None}
-use Rattle.std.proofs.Common.{slice_get}
+use Rattle.std.proofs.Common.{◌≡◌, ℕ, ℤ, zero, suc, pos, List, [], ◌∷◌, ◌++◌, ◌⊎◌, inl, inr, sym, subst, Some, slice_get}
 use Rattle.wb_predictive.specs.declared.symbol.Symbol.{Symbol}
 use Rattle.wb_predictive.specs.declared.symbol.Symbol.TheVariants.{Token, Nonterminal, Act}
-use Rattle.wb_predictive.specs.Grammar.{Derives, done, token, expand, act as acts}
+use Rattle.wb_predictive.specs.Grammar.{Derives, token, expand, act as acts}
 use Rattle.wb_tokens.specs.declared.word.Word.{Word}
 use Rattle.wb_tokens.specs.declared.punctuation.Punctuation.{Punctuation}
 use Rattle.wb_syntax.specs.Tokens.{Lexeme, IsWord, IsMark, IsName, IsInt, IsString, IsRegex}

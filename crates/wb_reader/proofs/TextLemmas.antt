@@ -1,10 +1,10 @@
 -- What the table's outcomes say of bytes as specifications.
 use Rattle.std.proofs.Common.{◌≡◌, ℕ, List, [], ◌∷◌, ◌++◌, refl, sym, ap, ◌∙◌, subst}
-use Rattle.std.proofs.lemmas.List.{append_assoc, append-nil}
+use Rattle.std.proofs.lemmas.List.{append-nil}
 use Rattle.wb_predictive.specs.declared.table.Next.{Next}
 use Rattle.wb_predictive.specs.declared.table.Next.TheVariants.{Found, End, NoToken}
 use Rattle.wb_predictive.specs.declared.symbol.Symbol.TheVariants.{Nonterminal}
-use Rattle.wb_predictive.specs.Grammar.{Derives, done, CanStart as CanStartTable}
+use Rattle.wb_predictive.specs.Grammar.{done, CanStart as CanStartTable}
 use Rattle.wb_predictive.specs.declared.reading.Outcome.{Outcome}
 use Rattle.wb_predictive.specs.declared.reading.Outcome.TheVariants.{Whole, Stopped}
 use Rattle.wb_predictive.specs.Reading.{IsOutcome, IsReading, IsFirstFault as IsTableFault, CannotFollow as CannotFollowTable}

@@ -1,6 +1,6 @@
 -- Whole expressions that the table's grammar derives stand in the grammar of specifications.
-use Rattle.std.proofs.Common.{◌≡◌, ◌<◌, ◌+◌, ◌-◌, ℕ, zero, suc, List, [], ◌∷◌, ◌++◌, ◌⊎◌, inl, inr, refl, sym, ap, ◌∙◌, subst, length}
-use Rattle.std.proofs.Common.{arith, true, false, pos}
+use Rattle.std.proofs.Common.{◌≡◌, ◌<◌, ◌+◌, ◌-◌, ℕ, zero, suc, List, [], ◌∷◌, ◌++◌, inl, inr, refl, sym, ap, ◌∙◌, subst, length, arith}
+use Rattle.std.proofs.Common.{true, false, pos}
 use Rattle.std.proofs.lemmas.List.{append_assoc, length-append}
 use Rattle.wb_predictive.specs.declared.symbol.Symbol.TheVariants.{Token, Nonterminal, Act}
 use Rattle.wb_tokens.specs.declared.word.Word.TheVariants as word
@@ -8,7 +8,6 @@ use Rattle.wb_tokens.specs.declared.punctuation.Punctuation.TheVariants as p
 use Rattle.wb_syntax.specs.Expression.{Node}
 use Rattle.wb_expressions.specs.declared.node.Node.TheVariants as n
 use Rattle.wb_syntax.specs.Tokens.{Lexeme, IsInt, IsWord}
-use Rattle.wb_syntax.specs.Expression.{Expression}
 use Rattle.wb_expressions.specs.Expression.{Int, Text, Truth, Top, Forward, Call, If, size, nodes_from, all_nodes_from, places_from}
 use Rattle.wb_syntax.specs.ExpressionGrammar as grammar
 use Rattle.wb_syntax.specs.ExpressionGrammar.{IsExpression}

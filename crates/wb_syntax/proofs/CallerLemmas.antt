@@ -1,13 +1,12 @@
 -- What is known of a specification that some text has: its names are names, and its equations whole expressions.
-use Rattle.std.proofs.Common.{◌≡◌, ℕ, List, [], ◌∷◌, All, refl, sym, ap, subst}
+use Rattle.std.proofs.Common.{◌≡◌, List, [], ◌∷◌, All, refl, sym, ap, subst}
 use Rattle.std.specs.List.{AllZip}
 use Rattle.std.proofs.lemmas.List.Elements.{All-nil, All-cons, All-head, All-tail}
 use Rattle.wb_base.specs.Identifiers.{IsName as IsNamed}
 use Rattle.wb_tokens.specs.declared.token.Layout.TheVariants.{WithComments}
 use Rattle.wb_expressions.specs.Expression.{IsWhole, nodes_of}
-use Rattle.wb_syntax.specs.Expression.{Expression}
 use Rattle.wb_syntax.specs.PartGrammar as part
-use Rattle.wb_syntax.specs.PartGrammar.{AreEquations, IsBlock}
+use Rattle.wb_syntax.specs.PartGrammar.{AreEquations}
 use Rattle.wb_syntax.specs.ItemGrammar as item
 use Rattle.wb_syntax.specs.ItemGrammar.{IsProduction, IsItem, AreItems, IsSpecification}
 use Rattle.wb_syntax.specs.Tokens.{Lexeme}

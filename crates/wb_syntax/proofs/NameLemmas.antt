@@ -1,11 +1,8 @@
 -- The names of what the grammar has are names, where its tokens are spelled.
-use Rattle.std.proofs.Common.{◌≡◌, ◌+◌, ℕ, true, false, List, [], ◌∷◌, ◌++◌, All, Option, None, Some, refl, sym, ap, ◌∙◌, subst}
-use Rattle.std.proofs.Common.{append_assoc}
-use Rattle.std.specs.List.{AllZip}
+use Rattle.std.proofs.Common.{◌+◌, ℕ, true, false, List, [], ◌∷◌, ◌++◌, All, Option, ap, ◌∙◌, subst, append_assoc}
 use Rattle.std.proofs.lemmas.List.Elements.{All-nil, All-cons, All-head, All-tail, All-append}
 use Rattle.wb_base.specs.Identifiers.{IsName as IsNamed}
 use Rattle.wb_lemmas.proofs.Elements.{all_left, all_right}
-use Rattle.wb_predictive.specs.declared.table.Placed.{Placed}
 use Rattle.wb_predictive.specs.Reading.{Spells, none as spells_none, next as spells_next}
 use Rattle.wb_tokens.specs.declared.token.Layout.{Layout}
 use Rattle.wb_tokens.specs.declared.token.Token.{Token}
@@ -13,7 +10,7 @@ use Rattle.wb_tokens.specs.declared.token.Token.TheVariants as t
 use Rattle.wb_tokens.specs.NextToken.{IsNextIn}
 use Rattle.wb_tokens.specs.Spelling as spelling
 use Rattle.wb_expressions.specs.declared.node.Node.TheVariants as n
-use Rattle.wb_expressions.specs.Expression.{none, more, size, nodes_from, all_nodes_from, places_from, nodes_of}
+use Rattle.wb_expressions.specs.Expression.{size, nodes_from, all_nodes_from, places_from, nodes_of}
 use Rattle.wb_syntax.specs.Expression.{Expression, Expressions, Node}
 use Rattle.wb_syntax.specs.ExpressionGrammar as e
 use Rattle.wb_syntax.specs.ExpressionGrammar.{IsExpression, AreArguments, AreFurther}

@@ -1,15 +1,13 @@
 -- Expressions in a list of nodes, and what of them is still to come.
-use Rattle.std.specs.Prelude.{◌≡◌, ℕ, ℤ, ◌+◌, ◌<◌, Bool, true, false, List, [], ◌∷◌, ◌++◌, length, slice_index_or}
+use Rattle.std.specs.Prelude.{◌≡◌, ℕ, ◌+◌, Bool, true, false, List, [], ◌∷◌, ◌++◌, length}
 use Rattle.wb_tokens.specs.declared.token.Token.{Token}
 use Rattle.wb_tokens.specs.declared.token.Token.TheVariants as t
 use Rattle.wb_tokens.specs.declared.word.Word.TheVariants as w
 use Rattle.wb_tokens.specs.declared.punctuation.Punctuation.TheVariants as p
 use Rattle.wb_syntax.specs.Expression.{Node}
-use Rattle.wb_expressions.specs.declared.node.Node.TheVariants as n
 use Rattle.wb_syntax.specs.Expression.{Expression, Expressions}
-use Rattle.wb_expressions.specs.Expression.{Int, Text, Truth, Label, Read, Lexeme, Top, Forward, Build, Call, If, none, more, size}
-use Rattle.wb_expressions.specs.Expression.{size_of_all}
-use Rattle.wb_expressions.specs.Places.{HasNode, Stands, AllStand}
+use Rattle.wb_expressions.specs.Expression.{size, size_of_all}
+use Rattle.wb_expressions.specs.Places.{Stands, AllStand}
 use Rattle.wb_printer.specs.Inner.ExpressionTokens.{expression_tokens, arguments_tokens, further_tokens}
 use Rattle.wb_printer.specs.declared.expressions.Waiting.{Waiting}
 use Rattle.wb_printer.specs.declared.expressions.Waiting.TheVariants.{Whole, Arguments, Then, Else}

@@ -1,5 +1,5 @@
 -- The forms of items: the tokens with which they begin, and their right sides, both in one order.
-use Rattle.std.specs.Prelude.{List, [], ◌∷◌, ◌++◌}
+use Rattle.std.specs.Prelude.{List, [], ◌∷◌}
 use Rattle.wb_predictive.specs.declared.symbol.Symbol.{Symbol}
 use Rattle.wb_predictive.specs.declared.symbol.Symbol.TheVariants.{Token, Nonterminal, Act}
 use Rattle.wb_tokens.specs.declared.kind.TokenKind.{TokenKind}

@@ -1,4 +1,4 @@
-use Rattle.std.proofs.Common.{rules, FitsSigned, w64, ◌≡◌, ◌∙◌, ℕ, pos, ap}
+use Rattle.std.proofs.Common.{rules, FitsSigned, w64, ◌∙◌, pos, ap}
 use Rattle.std.proofs.lemmas.Int.{to_z-of_z}
 use Rattle.std.proofs.lemmas.Result.{on_ok_weaker}
 use Rattle.wb_tokens.specs.declared.token.Token.TheVariants as t

@@ -1,4 +1,3 @@
-use Rattle.std.proofs.Common.{rules}
 use Rattle.wb_reader.proofs.FormatLemmas.{no_word, no_number, decides}
 use Rattle.wb_reader.proofs.format.is_other_format.Goals as goal
 

@@ -1,7 +1,7 @@
-use Rattle.std.proofs.Common.{◌≡◌, ◌++◌, ◌∷◌, [], List, sym, ap, ◌∙◌, subst, rules, MatchOption, ℕ, ◌+◌}
+use Rattle.std.proofs.Common.{◌≡◌, ◌++◌, ◌∷◌, [], sym, ap, ◌∙◌, subst}
 use Rattle.std.proofs.lemmas.List.{append_assoc}
 use Rattle.std.specs.List.{AllZip}
-use Rattle.std.specs.Vec.Iter.{into_iter_items, into_iter_len}
+use Rattle.std.specs.Vec.Iter.{into_iter_items}
 use Rattle.wb_syntax.specs.SpecText.{IsReadAs}
 use Rattle.wb_reader.proofs.PatternLemmas.{item_handed_on, one_more}
 use Rattle.wb_reader.proofs.patterns.read_items.Goals as goal

@@ -1,8 +1,7 @@
-use Rattle.std.proofs.Common.{◌≡◌, ◌<◌, List, sym, ap, ◌∙◌, subst, rules, All}
+use Rattle.std.proofs.Common.{◌≡◌, ◌<◌, sym, ◌∙◌, subst, rules, All}
 use Rattle.std.specs.List.{AllZip}
 use Rattle.std.proofs.lemmas.List.{get_or_default}
-use Rattle.wb_syntax.specs.SpecText.{IsReadAs, SpecView}
-use Rattle.wb_syntax.specs.declared.item.Item.{Item}
+use Rattle.wb_syntax.specs.SpecText.{IsReadAs}
 use Rattle.wb_lemmas.proofs.Refusals.{handed_on}
 use Rattle.wb_reader.specs.Refusals.{IsShort, HasCause}
 use Rattle.wb_reader.specs.Inner.Patterns.{IsPlaced, OnItems}

@@ -1,11 +1,5 @@
 use Rattle.std.proofs.Common.{subst, sym}
-use Rattle.wb_predictive.specs.Reading.{IsOutcome}
-use Rattle.wb_predictive.specs.declared.reading.Outcome.TheVariants.{Whole, Stopped}
-use Rattle.wb_tokens.specs.declared.token.Layout.TheVariants.{WithComments}
-use Rattle.wb_tokens.specs.NextToken.{IsNextIn}
 use Rattle.wb_syntax.specs.SpecText.{IsWrittenText}
-use Rattle.wb_builder.specs.Builder.{empty}
-use Rattle.wb_reader.specs.Inner.Table.{spec_grammar}
 use Rattle.wb_reader.proofs.TextLemmas.{whole_outcome, stopped_outcome}
 use Rattle.wb_reader.proofs.written.read_written.Goals as goal
 
