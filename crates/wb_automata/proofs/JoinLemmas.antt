@@ -91,7 +91,7 @@ covers_below (w.star i x at e) = omega (arith, covers_below x)
 covers_below (w.plus i x at e) = omega (arith, covers_below x)
 covers_below (w.maybe i x at e) = omega (arith, covers_below x)
 
--- each part of nodes stands before its whole
+-- each part of nodes comes before its whole
 pub covers_parts : {nodes : List RegexNode} {s e : ℕ} {tree : Tree} (k : ℕ) (node : RegexNode) → w.Covers nodes s e tree → s ≤ k → k < e
     → slice_get nodes k ≡ Some node → c.PartsBelow k node
 covers_parts {nodes} k node (w.set {s = s} words at e) ge lt is =

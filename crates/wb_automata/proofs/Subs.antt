@@ -54,7 +54,7 @@ sub_cover j (maybe {s = s} {r = r} i c is f) ge lt = elim (cases_lt j
 at_place : (nodes : List RegexNode) (i j : ℕ) (a b : RegexNode) → slice_get nodes i ≡ Some a → slice_get nodes j ≡ Some b → i ≡ j → b ≡ a
 at_place nodes i j a b e f g = same_Some b a (sym f ∙ ap (slice_get nodes) (sym g) ∙ e)
 
--- so its parts stand before it
+-- so its parts come before it
 pub parts_before : {nodes : List RegexNode} {s e : ℕ} {t : PositionTree} (j : ℕ) (node : RegexNode) → Covers nodes s e t → e ≡ j + 1
     → slice_get nodes j ≡ Some node → PartsBelow j node
 parts_before {nodes} j node (one {s = s} words is f) g at =

@@ -6,7 +6,7 @@ use Rattle.wb_builder.specs.declared.expressions.ExpressionAction.{ExpressionAct
 use Rattle.wb_builder.specs.declared.builder.SpecBuilder.{SpecBuilder}
 use Rattle.wb_builder.specs.Builder.{on_top}
 
--- the node goes behind the last nodes, and is a part
+-- the node goes after the last nodes, and is a part
 abbrev pub with_node : Node → SpecBuilder → SpecBuilder
 with_node node v = on_top v.nodes v (λ nodes rest. record v { nodes = (nodes ++ node ∷ []) ∷ rest; roots = length nodes ∷ v.roots })
 

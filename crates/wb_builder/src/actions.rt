@@ -11,7 +11,7 @@ use crate::items::{ItemAction, item_act};
 use crate::parts::{PartAction, part_act};
 use std::alloc::{AllocError, Global};
 
-/// What is done between the symbols of a right side, once what stands before is read.
+/// What is done between the symbols of a right side, once what comes before is read.
 #[derive(Clone, Copy)]
 pub enum Action {
     Item(ItemAction),

@@ -58,7 +58,7 @@ pub(crate) fn expression_act(
 }
 
 impl SpecBuilder {
-    // The node goes behind the others of its expression. The only error is want of memory.
+    // The node goes after the others of its expression. The only error is want of memory.
     fn add_node(&mut self, node: Node) -> Result<(), AllocError>
         ensures ok { OnOk result (self.new ≡ with_node node self.old) }
     {

@@ -23,7 +23,7 @@ module _ {L A P O : Type 0} (nodes : List (Node L A P O)) where
       (x : Expression L A P O) × (y : Expression L A P O) × (z : Expression L A P O) × Stands nodes c x × Stands nodes h y
       × Stands nodes f z × (e ≡ If x y z)
 
-  -- one node stands at a place
+  -- one node is at a place
   one_node : (at : ℕ) (a b : Node L A P O) → HasNode nodes at a → HasNode nodes at b → a ≡ b
   one_node at a b h k = sym (h.is a) ∙ k.is a
 

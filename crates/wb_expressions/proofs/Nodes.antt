@@ -1,4 +1,4 @@
--- How many nodes expressions have, and where they stand behind others.
+-- How many nodes expressions have, and where they come after others.
 use Rattle.std.proofs.Common.{◌≡◌, ◌+◌, ◌-◌, ℕ, List, [], ◌∷◌, ◌++◌, refl, length, arith}
 use Rattle.std.proofs.lemmas.List.{length-append}
 use Rattle.wb_expressions.specs.declared.node.Node.{Node}

@@ -34,7 +34,7 @@ module _ {L A P O : Type 0} where
   expression_at nodes (suc levels) place = at_node (expression_at nodes levels) (get_or nodes place (n.Int (pos 0)))
 
   module _ (nodes : List (Node L A P O)) where
-    -- a node that stands at a place
+    -- a node that is at a place
     at_place : (m at : ℕ) (node : Node L A P O) → HasNode nodes at node → expression_at nodes (suc m) at ≡ at_node
         (expression_at nodes m) node
     at_place m at node h = ap (at_node (expression_at nodes m)) (h.is (n.Int (pos 0)))

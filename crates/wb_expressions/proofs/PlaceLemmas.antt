@@ -1,4 +1,4 @@
--- The expression of a list of nodes stands in it.
+-- The expression of a list of nodes is in it.
 use Rattle.std.proofs.Common.{◌≡◌, ◌+◌, ◌-◌, ◌<◌, ℕ, suc, ◌++◌, ◌∷◌, [], List, ap, ◌∙◌, refl, sym, subst, arith, append_assoc, length}
 use Rattle.std.proofs.Common.{length-append}
 use Rattle.std.specs.Prelude.{slice_index_or}
@@ -11,7 +11,7 @@ use Rattle.wb_expressions.proofs.Nodes.{nodes_len, all_nodes_len}
 use Rattle.wb_expressions.specs.Places.{HasNode, Stands, AllStand}
 
 module _ {L A P O : Type 0} (nodes : List (Node L A P O)) where
-  -- a node behind others
+  -- a node after others
   node_at : (front back : List (Node L A P O)) (node : Node L A P O) (at : ℕ) → nodes ≡ front ++ node ∷ back → at ≡ length front
       → HasNode nodes at node
   node_at front back node at q l = record {
@@ -102,7 +102,7 @@ whole_stands nodes e q =
     let s = stands nodes [] [] 0 e (q ∙ sym (append-nil (nodes_of e))) refl in
     (subst (λ (k : ℕ). Stands nodes k e) (omega (arith, count)) s, count)
 
--- where an expression stands there is a node
+-- where an expression is there is a node
 pub within : {L A P O : Type 0} (nodes : List (Node L A P O)) (at : ℕ) (e : Expression L A P O) → Stands nodes at e → at < length nodes
 within nodes at e (Stands.int h) = h.within
 within nodes at e (Stands.text h) = h.within

@@ -25,7 +25,7 @@ contains_first y ys x is = (0, omega arith, is)
 contains_later : (y : Symbol) (ys : List Symbol) (x : Symbol) → Contains ys x → Contains (y ∷ ys) x
 contains_later y ys x (k, lt, is) = (suc k, omega arith, is)
 
--- a first symbol that is not held is at the first place of what the set holds in front
+-- a first symbol that is not held is at the first place of what the set holds at the beginning
 refused : (s : List Bool) (y b : Symbol) (before : List Symbol) → ¬ Holds false s y → y ≡ b → All (Holds false s) (b ∷ before) → ⊥
 refused s y b before denied is all = denied (subst (Holds false s) (sym is) (All-head (Holds false s) b before all))
 

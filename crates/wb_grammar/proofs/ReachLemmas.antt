@@ -13,7 +13,7 @@ use Rattle.wb_grammar.specs.declared.occurrence.Occurrence.TheVariants.{Any}
 use Rattle.wb_grammar.specs.Inner.Edges.{AreEdges}
 use Rattle.wb_grammar.proofs.OccurrenceLemmas.{whole_is, contains_cases, contains_nil}
 
--- a walk with one more edge in front
+-- a walk with one more edge at the beginning
 pub walk_from : {edges : List Edge} {u v w : ℕ} → IsEdge edges u v → Walk edges v w → Walk edges u w
 walk_from {edges} {u} {v} edge (stay w same) = step u w (stay u refl) (subst (λ z. IsEdge edges u z) same edge)
 walk_from edge (step x w walk last) = step x w (walk_from edge walk) last

@@ -4,10 +4,10 @@ use Rattle.wb_grammars.proofs.CycleLemmas.{unit_cycle_member, hidden_cycle_above
 use Rattle.wb_grammar.specs.declared.refusal.Reason.TheVariants.{Unreachable, Unproductive}
 use Rattle.wb_grammar.specs.declared.refusal.GrammarRefusal.{GrammarRefusal}
 use Rattle.wb_grammar.specs.declared.refusal.GrammarRefusal.TheVariants.{NotReduced, UnitCycle, HiddenLeftRecursion, NoMemory}
-use Rattle.wb_grammar.specs.Facts.{FactsState, AreFacts}
+use Rattle.wb_grammar.specs.Facts.{FactsView, AreFacts}
 use Rattle.wb_grammar.specs.Refusals.{IsTrueRefusal, IsNoMemory}
 
-pub excluded : (g : GrammarView) (refusal : GrammarRefusal) (facts : FactsState) → IsTrueRefusal g refusal → AreFacts g facts →
+pub excluded : (g : GrammarView) (refusal : GrammarRefusal) (facts : FactsView) → IsTrueRefusal g refusal → AreFacts g facts →
     IsNoMemory refusal
 excluded g (NotReduced (Unreachable a)) facts h are = absurd (h.1 (are.reduced.reachable a h.0))
 excluded g (NotReduced (Unproductive a)) facts h are = absurd (h.1 (are.reduced.productive a h.0))

@@ -8,7 +8,7 @@ use Rattle.wb_grammars.specs.Shape.{IsReduced, IsLive}
 use Rattle.wb_grammars.specs.Cycles.{HasNoUnitCycle, HasNoHiddenLeftRecursion}
 
 -- a set of nonterminals, and for each nonterminal a set of terminals
-pub record FactsState : Type 0 where
+pub record FactsView : Type 0 where
   pub nullable : List Bool
   pub first : List (List Bool)
 
@@ -33,7 +33,7 @@ pub record AreFirstSets (g : GrammarView) (sets : List (List Bool)) : Type 0 whe
 
 -- the facts are those of the grammar, which is reduced and has neither unit cycles nor hidden left recursion. So it is live: for each
 -- item with a symbol after its dot, and each terminal, some terminal begins what the symbols after that one derive with the terminal last
-pub record AreFacts (g : GrammarView) (facts : FactsState) : Type 0 where
+pub record AreFacts (g : GrammarView) (facts : FactsView) : Type 0 where
   pub reduced : IsReduced g
   pub live : IsLive g
   pub no_unit_cycle : HasNoUnitCycle g

@@ -5,7 +5,7 @@
 ghost use Rattle.std.specs.Prelude.{◌≡◌, ◌<◌, ℕ, length, All, IfErr, IfOk};
 ghost use Rattle.wb_base.specs.Grammar.{GrammarView};
 ghost use Rattle.wb_grammar.specs.declared.refusal.GrammarRefusal.{GrammarRefusal as Refusal};
-ghost use Rattle.wb_grammar.specs.Facts.{FactsState, AreFacts, IsNullableSet};
+ghost use Rattle.wb_grammar.specs.Facts.{FactsView, AreFacts, IsNullableSet};
 ghost use Rattle.wb_grammar.specs.Refusals.{IsTrueRefusal, IsNoMemory};
 
 use crate::first::first_of_all;
@@ -39,7 +39,7 @@ pub fn analyse(alloc: Global, grammar: &Grammar) -> Result<Facts, GrammarRefusal
 
 /// A refusal but for want of memory and facts exclude each other: no grammar has both.
 pub fn refusals_law()
-    ensures { (g : GrammarView) (refusal : Refusal) (facts : FactsState) → IsTrueRefusal g refusal → AreFacts g facts → IsNoMemory refusal }
+    ensures { (g : GrammarView) (refusal : Refusal) (facts : FactsView) → IsTrueRefusal g refusal → AreFacts g facts → IsNoMemory refusal }
 {}
 
 // The nonterminals that derive the empty text.

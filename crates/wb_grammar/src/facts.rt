@@ -21,9 +21,9 @@ pub struct Facts {
 }
 
 impl Model for Facts {
-    ghost use Rattle.wb_grammar.specs.Facts.{FactsState};
+    ghost use Rattle.wb_grammar.specs.Facts.{FactsView};
 
-    ghost Value = { FactsState };
+    ghost Value = { FactsView };
 
     ghost view = { λ f. record { nullable = f.nullable; first = f.first.items } };
 }

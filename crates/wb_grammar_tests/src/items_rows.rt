@@ -3,7 +3,7 @@
 use std::alloc::{AllocError, Global};
 use wb_base::{Grammar, Symbol};
 
-/// An item: its production, and how many symbols stand before its dot.
+/// An item: its production, and how many symbols come before its dot.
 pub type Place = (usize, usize);
 
 /// What is expected of a kernel.
@@ -28,7 +28,7 @@ const T1: Symbol = Symbol::Terminal(1);
 
 const T2: Symbol = Symbol::Terminal(2);
 
-/// The symbols of these grammars, and some that stand in none of them.
+/// The symbols of these grammars, and some that are in none of them.
 pub static SYMBOLS: [Symbol; 8] = [
     A,
     B,

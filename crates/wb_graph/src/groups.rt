@@ -1,6 +1,6 @@
 //! A path-based search for strongly connected components, without recursion (Cheriyan, Mehlhorn; Gabow).
 //!
-//! Open vertices stand in groups that lie on a path; an edge back joins groups, and a group whose edges are all taken is a component.
+//! Open vertices are in groups that lie on a path; an edge back joins groups, and a group whose edges are all taken is a component.
 ghost use Rattle.std.specs.Prelude.{◌≡◌, ◌<◌, ◌≤◌, ◌-◌, ℕ, [], All, None, length, slice_get, take, IfOk, OnOk, Some};
 ghost use Rattle.wb_graph.specs.Graphs.{IsEdgeBelow};
 ghost use Rattle.wb_graph.specs.Inner.Groups.{state_of, entered, IsGrouping, Advances, Visits, AreKept, Closes, ClosesGroup, Leaves};

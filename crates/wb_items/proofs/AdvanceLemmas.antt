@@ -186,7 +186,7 @@ at_part list place end j a le from lt at =
 item_at : (list : List Advance) (j : ℕ) (a : Advance) → slice_get list j ≡ Some a → slice_get (items_of list) j ≡ Some a.item
 item_at list j a at = slice_get-map (λ (z : Advance). z.item) list j ∙ ap (option_map (λ (z : Advance). z.item)) at
 
--- an item stands there with a symbol
+-- an item is there with a symbol
 pub item_from : (list : List Advance) (j : ℕ) (item : Item) → slice_get (items_of list) j ≡ Some item →
     (a : Advance) × (slice_get list j ≡ Some a) × (a.item ≡ item)
 item_from list j item at =

@@ -1,5 +1,5 @@
 use Rattle.wb_lemmas.proofs.Places.{at_once}
--- A search by binary search in a list, of which a front comes before what is sought and the rest after it.
+-- A binary search in a list, of which a prefix comes before what is sought and the rest after it.
 use Rattle.std.proofs.Common.{◌≡◌, ℕ, ◌+◌, ◌<◌, ◌≤◌, List, length, Some, subst, inl, inr, arith}
 use Rattle.std.specs.Prelude.{slice_get}
 use Rattle.std.proofs.lemmas.Bool.{cases_eq, cases_lt}

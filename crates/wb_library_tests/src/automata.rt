@@ -37,7 +37,7 @@ fn repeated(table: &[u8], node: usize, places: u8) -> u8 {
     ends
 }
 
-// Where a set ends: behind a byte that it holds.
+// Where a set ends: after a byte that it holds.
 fn set_end(words: [u64; 4], text: &[u8], place: usize) -> u8 {
     if place >= LONGEST || place >= text.len() {
         return 0;
@@ -235,7 +235,7 @@ fn sets_of_one(alloc: Global) -> Result<Vec<TermSet>, AllocError> {
     Ok(sets)
 }
 
-// How many states terminals have that stand in no common set.
+// How many states terminals have that are in no common set.
 fn raw_states(alloc: Global) -> Result<usize, RegexRefusal> {
     let terminals = raw_terminals(alloc)?;
     let sets = sets_of_one(alloc)?;

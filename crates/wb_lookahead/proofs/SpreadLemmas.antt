@@ -156,11 +156,11 @@ spread_spreads {kernels} place {old} {new} {added} {b} {w} {v} lt u grew places 
         (subst (λ z. Waits v z item) (sym same.0) (subst (Waits v place.state) (sym same.1) (adds_it places p adds)))
     changes s item (inr other) = inr (λ t h. kept s item other t (lists_new u lt s item t h))
 
--- an element of a front that is one longer
+-- an element of a prefix that is one longer
 pub contains_more : {A : Type 0} (xs : List A) (i : ℕ) (d x : A) → i < length xs → Contains (take (i + 1) xs) x →
     Contains (take i xs) x ⊎ (get_or xs i d ≡ x)
 contains_more xs i d x lt h = Contains-push_cases (take i xs) (get_or xs i d) x (subst (λ z. Contains z x) (take_more xs i d lt) h)
 
--- an element, where the front is the whole list
+-- an element, where the prefix is the whole list
 pub contains_all : {A : Type 0} (xs : List A) (i : ℕ) (x : A) → length xs ≤ i → Contains xs x → Contains (take i xs) x
 contains_all xs i x le h = subst (λ z. Contains z x) (sym (take_all i xs le)) h

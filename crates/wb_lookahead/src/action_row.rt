@@ -1,4 +1,4 @@
-//! Does an action fit into a row? One stands on each terminal, and a second one is a conflict.
+//! Does an action fit into a row? There is one for each terminal, and a second one is a conflict.
 
 ghost use Rattle.std.specs.Prelude.{◌≡◌, ◌≤◌, ◌<◌, ◌↔◌, IsTrue, IfErr, OnOk, length};
 ghost use Rattle.wb_termset.specs.Sets.{IsMember};

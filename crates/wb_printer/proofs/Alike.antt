@@ -30,7 +30,7 @@ pub record Headed (x : Lexeme) (xs ys : List Lexeme) : Type 0 where
 pub headed : (x : Lexeme) (xs ys : List Lexeme) → Alike (x ∷ xs) ys → Headed x xs ys
 headed x xs ys (step {y = y} {ys = rest} q r) = record { head = y; tail = rest; same = q; others = r; whole = refl }
 
--- some of them, and those behind
+-- some of them, and those after
 pub record Halves (u v ys : List Lexeme) : Type 0 where
   pub left : List Lexeme
   pub right : List Lexeme
@@ -45,7 +45,7 @@ halves (x ∷ u) v ys (step {y = y} {ys = rest} q r) =
     let h = halves u v rest r in
     record { left = y ∷ h.left; right = h.right; first = step q h.first; second = h.second; whole = ap (λ l. y ∷ l) h.whole }
 
--- some of them, one, and those behind
+-- some of them, one, and those after
 pub record Parted (u : List Lexeme) (c : Lexeme) (v ys : List Lexeme) : Type 0 where
   pub left : List Lexeme
   pub middle : Lexeme

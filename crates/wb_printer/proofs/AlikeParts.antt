@@ -66,7 +66,7 @@ children_alike xs cs (part.next {x = x} {c = c} {u = u} {v = v} {kind = kind} {r
     part.next (b.same ∙ h) (d.same ∙ j) (kind_alike u kind k f.left f.first) (children_alike v rest s f.right f.second)
     (b.whole ∙ ap (λ l. b.head ∷ l) (d.whole ∙ ap (λ l. d.head ∷ l) f.whole))
 
--- what stands before the expression of an equation
+-- what comes before the expression of an equation
 target_alike : (xs : List Lexeme) (target : Target) → IsTarget xs target → (ys : List Lexeme) → Alike xs ys → IsTarget ys target
 target_alike xs target (part.top h j k l) ys (step q (step r (step s (step u done)))) = part.top (q ∙ h) (r ∙ j) (s ∙ k) (u ∙ l)
 target_alike xs target (part.label h j k l) ys (step q (step r (step s (step u done)))) = part.label (q ∙ h) (r ∙ j) (s ∙ k) (u ∙ l)

@@ -22,7 +22,7 @@ use Rattle.wb_tokens.specs.Words.{word_text, punctuation_text}
 use Rattle.wb_syntax.specs.Canonical.{printed}
 use Rattle.wb_tokens.proofs.NoPieceLemmas.{no_slash}
 
--- a byte with which layout begins, if a slash is behind a slash
+-- a byte with which layout begins, if a slash is after a slash
 abbrev begins_layout : ℕ → Bool
 begins_layout b = is_blank b || eqb b 47
 
@@ -74,7 +74,7 @@ regex_piece text at body rest first second some stands behind (blank within is a
 regex_piece text at [] rest first second some stands behind (comment layout k) = some refl
 regex_piece text at (d ∷ body) rest first second some stands behind (comment layout k) = no_slash d body stands (sym second ∙ k.second.is)
 
--- the first byte behind the front of a text
+-- the first byte after a prefix of a text
 second_byte : (text front y : List ℕ) (at : ℕ) → text ≡ front ++ y → at ≡ length front → get_or text at 0 ≡ get_or y 0 0
 second_byte text front y at e f =
     let same : at ≡ length front + 0 = omega (arith, f) in

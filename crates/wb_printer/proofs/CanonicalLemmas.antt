@@ -19,7 +19,7 @@ use Rattle.wb_printer.specs.Inner.ItemTokens as tokens_of
 use Rattle.wb_printer.specs.Inner.ItemTokens.{AreLinesOf}
 use Rattle.wb_printer.proofs.GrammarTokens.{tokens, of_item}
 
--- the text behind a token on its line
+-- the text after a token on its line
 abbrev pub gap : Token → Token → List ℕ
 gap a b = if leads_closely a || follows_closely b then [] else 32 ∷ []
 
@@ -34,7 +34,7 @@ behind_line a (b ∷ rest) =
     (append_assoc (printed a) (gap a b) (printed b ++ behind b rest) ∙ ap (λ y. printed a ++ y)
     (sym (append_assoc (gap a b) (printed b) (behind b rest))))
 
--- tokens behind one
+-- tokens after one
 after_behind : (o : Output) (a : Token) (ts : List Token) → o.closely ≡ leads_closely a → (after o ts).text ≡ o.text ++ behind a ts
 unfolding put
 after_behind o a [] e = sym (append-nil o.text)

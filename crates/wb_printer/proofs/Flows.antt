@@ -34,14 +34,14 @@ pub data Flows : List ℕ → List Token → Type 0 where
 pub both_blanks : (a b : List ℕ) → AreBlanks a → AreBlanks b → AreBlanks (a ++ b)
 both_blanks a b h k = list_all-append is_blank a b ∙ (ap (λ t. t && list_all is_blank b) h ∙ k)
 
--- further blanks at the front
+-- further blanks at the beginning
 pub more_blanks : (front x : List ℕ) (ts : List Token) → AreBlanks front → Flows x ts → Flows (front ++ x) ts
 more_blanks front x ts h (at_end b) = at_end (both_blanks front x h b)
 more_blanks front x ts h (flow gap rest {b = b} g s ends r e) =
     flow (front ++ gap) rest (both_blanks front gap h g) s ends r
     (ap (λ l. front ++ l) e ∙ sym (append_assoc front gap (printed b ++ rest)))
 
--- blanks are skipped where no layout stands behind them
+-- blanks are skipped where no layout comes after them
 skips : (text before gap rest : List ℕ) (from at : ℕ) → text ≡ before ++ (gap ++ rest) → from ≡ length before → at ≡ from + length gap
     → AreBlanks gap
     → ((behind : ℕ) → ¬ IsLayoutPiece WithComments text at behind) → SkipsLayout WithComments text from at

@@ -1,4 +1,4 @@
--- The tokens of expressions, items and headers that stand in the grammar.
+-- The tokens of expressions, items and headers that are in the grammar.
 use Rattle.std.proofs.Common.{◌≡◌, ℕ, List, [], ◌∷◌, ◌++◌, map, refl, sym, ap, ◌∙◌, subst, Option}
 use Rattle.std.proofs.lemmas.List.{map-append, append_assoc}
 use Rattle.wb_tokens.specs.declared.token.Token.{Token}

@@ -1,4 +1,4 @@
--- Parts of items, one behind the other.
+-- Parts of items, one after the other.
 use Rattle.std.proofs.Common.{◌≡◌, ◌+◌, ◌<◌, ◌≤◌, ℕ, ◌++◌, ◌∷◌, [], List, ap, ◌∙◌, refl, sym, subst, length, get_or, drop}
 use Rattle.wb_tokens.specs.declared.token.Token.{Token}
 use Rattle.wb_tokens.specs.declared.token.Token.TheVariants as t

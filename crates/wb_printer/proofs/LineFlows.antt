@@ -11,7 +11,7 @@ use Rattle.wb_printer.proofs.CanonicalLemmas.{gap, behind, behind_line, text_of}
 use Rattle.wb_printer.proofs.PrintedTokens.{ArePrinted, printed_front, printed_back}
 use Rattle.wb_printer.proofs.Flows.{AreBlanks, Flows, at_end, flow, both_blanks, more_blanks}
 
--- a mark that stands closely behind another token goes on none
+-- a mark that comes directly after another token goes on none
 closely_stops : (test : ℕ → Bool) (b : Token) (rest : List ℕ) → test 59 ≡ false → test 44 ≡ false → test 46 ≡ false → test 40 ≡ false
     → test 41 ≡ false
     → follows_closely b ≡ true → StopsAt test (printed b ++ rest)
@@ -32,7 +32,7 @@ closely_stops test (t.Punctuation p.OpenParenthesis) rest h i j k l c = k
 closely_stops test (t.Punctuation p.CloseParenthesis) rest h i j k l c = l
 closely_stops test (t.Punctuation p.At) rest h i j k l c = absurd (cc)
 
--- a token isn't gone on by one that stands closely behind it
+-- a token isn't gone on by one that comes directly after it
 ends_closely : (a b : Token) (rest : List ℕ) → (leads_closely a || follows_closely b) ≡ true → Ends a (printed b ++ rest)
 ends_closely (t.Name name) b rest c = closely_stops is_name_byte b rest refl refl refl refl refl c
 ends_closely (t.Word word) b rest c = closely_stops is_name_byte b rest refl refl refl refl refl c
@@ -86,16 +86,16 @@ gap_blanks a b = at (leads_closely a || follows_closely b)
     at true = refl
     at false = refl
 
--- the text behind a token, by its first token
+-- the text after a token, by its first token
 behind_parts : (a b : Token) (ts : List Token) (rest : List ℕ) → behind a (b ∷ ts) ++ rest ≡ gap a b ++ (printed b ++ (behind b ts ++ rest))
 behind_parts a b ts rest = append_assoc (gap a b ++ printed b) (behind b ts) rest ∙ append_assoc (gap a b) (printed b) (behind b ts ++ rest)
 
--- a token isn't gone on by what stands behind it on its line, and the end of the line
+-- a token isn't gone on by what comes after it on its line, and the end of the line
 ends_behind : (a : Token) (ts : List Token) (rest : List ℕ) → Ends a (behind a ts ++ 10 ∷ rest)
 ends_behind a [] rest = ends_before a 10 rest refl refl refl
 ends_behind a (b ∷ ts) rest = subst (Ends a) (sym (behind_parts a b ts (10 ∷ rest))) (ends_gap a b (behind b ts ++ 10 ∷ rest))
 
--- the tokens behind one on its line
+-- the tokens after one on its line
 behind_flows : (a : Token) (ts more : List Token) (rest : List ℕ) → ArePrinted ts → Flows (10 ∷ rest) more
     → Flows (behind a ts ++ 10 ∷ rest) (ts ++ more)
 behind_flows a [] more rest h r = r

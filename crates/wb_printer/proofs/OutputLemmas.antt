@@ -1,4 +1,4 @@
--- Tokens added one behind the other.
+-- Tokens added one after the other.
 use Rattle.std.proofs.Common.{◌≡◌, ◌++◌, ◌∷◌, [], List, refl}
 use Rattle.wb_tokens.specs.declared.token.Token.{Token}
 use Rattle.wb_printer.specs.Inner.Output.{Output, put, after}

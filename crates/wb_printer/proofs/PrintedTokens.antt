@@ -22,11 +22,11 @@ use Rattle.wb_printer.proofs.GrammarTokens.{tokens}
 abbrev pub AreBytes : List ℕ → Type 0
 AreBytes x = All (λ b. b < 256) x
 
--- the front of bytes is bytes
+-- a prefix of bytes is bytes
 front_bytes : (x y : List ℕ) → AreBytes (x ++ y) → AreBytes x
 front_bytes x y h = subst AreBytes (take-append_seam x y) (All-take (λ b. b < 256) (length x) (x ++ y) h)
 
--- and what stands behind it
+-- and what comes after it
 back_bytes : (x y : List ℕ) → AreBytes (x ++ y) → AreBytes y
 back_bytes x y h = subst AreBytes (drop-append_seam x y) (All-drop (λ b. b < 256) (length x) (x ++ y) h)
 
@@ -91,7 +91,7 @@ string_bytes x text small s =
     let quoted = subst AreBytes s.quoted small in
     body_bytes s.body text (front_bytes s.body (34 ∷ []) (back_bytes (34 ∷ []) (s.body ++ 34 ∷ []) quoted)) s.stands
 
--- a token that stands in a text of bytes is printed as what it is
+-- a token that is in a text of bytes is printed as what it is
 token_printed : (text : List ℕ) (token : Token) (at behind : ℕ) → AreBytes text → IsTokenAt text token at behind
     → IsToken token (printed token)
 token_printed text (t.Name name) at behind small s =

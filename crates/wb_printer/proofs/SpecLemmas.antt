@@ -35,7 +35,7 @@ format_printed format =
     ap (λ x. codes "format " ++ (x ++ codes ";")) (append-nil (signed_decimal (pos format)))
     ∙ sym (append_assoc (codes "format ") (signed_decimal (pos format)) (codes ";"))
 
--- lines one behind the other
+-- lines one after the other
 three_parts : (a b c : List ℕ) → (([] ++ a ++ 10 ∷ []) ++ b ++ 10 ∷ []) ++ c ≡ a ++ 10 ∷ (b ++ 10 ∷ c)
 three_parts a b c = simp append_assoc
 

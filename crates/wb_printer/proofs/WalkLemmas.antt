@@ -298,7 +298,7 @@ module _ (nodes : List Node) where
     refl,
   )
 
-  -- the whole at the place stands in the nodes
+  -- the whole at the place is in the nodes
   pub visit_within : (e : Expression) (one other : Output) (place : ℕ) (stack : List Waiting) (visited : ℕ)
       → IsVisiting nodes one other place stack visited e
       → (place < length nodes) × (visited < length nodes)

@@ -1,4 +1,4 @@
--- How a canonical text is put together. What it is stands in `wb_syntax`.
+-- How a canonical text is put together. What it is is in `wb_syntax`.
 -- the tokens of expressions, of the parts of items, and of items
 pub mod ExpressionTokens
 pub mod PartTokens

@@ -105,7 +105,7 @@ fn begin_if(
     stack.push(Waiting::Whole(condition))
 }
 
-// A node: all of it, or what stands before its parts, which are then to come.
+// A node: all of it, or what comes before its parts, which are then to come.
 fn visit<'a>(
     line: &mut Line,
     stack: &mut Stack<Waiting<'a>>,
@@ -144,7 +144,7 @@ fn visit<'a>(
     }
 }
 
-// What stands before an argument.
+// What comes before an argument.
 fn write_separator(line: &mut Line, first: bool) -> Result<(), AllocError>
     ensures { OnOk result (line.new ≡ after line.old (separator first)) }
 {
@@ -178,7 +178,7 @@ fn next_argument<'a>(
     Ok(Some(*place))
 }
 
-// Writes what stands before the next whole expression, where there is one, of what is to come first.
+// Writes what comes before the next whole expression, where there is one, of what is to come first.
 fn resume<'a>(
     line: &mut Line,
     stack: &mut Stack<Waiting<'a>>,
@@ -203,7 +203,7 @@ fn resume<'a>(
     }
 }
 
-// Writes what stands before the next whole expression, or all that is to come where there is none.
+// Writes what comes before the next whole expression, or all that is to come where there is none.
 fn next_whole(line: &mut Line, stack: &mut Stack<Waiting<'_>>) -> Result<Option<usize>, AllocError>
     ensures { IfOk result (λ next. (nodes : List Node) → MatchOption next
         (Continues nodes line.old stack.old line.new [] 0)

@@ -29,7 +29,7 @@ pub(crate) fn write_named(line: &mut Line, word: Word, name: &[u8]) -> Result<()
     line.mark(Punctuation::Semicolon)
 }
 
-// Writes two words with a name behind each, and the end of an item.
+// Writes two words with a name after each, and the end of an item.
 pub(crate) fn write_pair(
     line: &mut Line,
     word: Word,
@@ -110,7 +110,7 @@ fn write_forward_on(line: &mut Line, nonterminal: &[u8], needs: &[Bytes]) -> Res
     line.mark(Punctuation::Semicolon)
 }
 
-// Writes a production behind the word that it begins with.
+// Writes a production after the word that it begins with.
 fn write_production(
     alloc: Global,
     line: &mut Line,

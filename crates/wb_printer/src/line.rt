@@ -1,6 +1,6 @@
 //! Where do spaces stand between tokens?
 //!
-//! A text is written token by token, and knows whether the next token stands at its end without a space.
+//! A text is written token by token, and knows whether the next token is at its end without a space.
 
 ghost use Rattle.std.specs.Prelude.{◌≡◌, ◌||◌, [], ◌∷◌, ◌++◌, OnOk, if◌then◌else◌, true};
 ghost use Rattle.wb_tokens.specs.declared.token.Token.TheVariants as t;
@@ -28,7 +28,7 @@ impl Model for Line {
     ghost view = { λ l. record { text = l.text.items; closely = l.closely } };
 }
 
-// Whether no space stands before the mark.
+// Whether no space comes before the mark.
 fn is_close_before(mark: Punctuation) -> bool
     ensures { result ≡ follows_closely (t.Punctuation mark) }
 {
@@ -42,7 +42,7 @@ fn is_close_before(mark: Punctuation) -> bool
     )
 }
 
-// Whether no space stands after the mark.
+// Whether no space comes after the mark.
 fn is_close_after(mark: Punctuation) -> bool
     ensures { result ≡ leads_closely (t.Punctuation mark) }
 {
@@ -71,7 +71,7 @@ impl Line {
         self.text
     }
 
-    // What stands before a token.
+    // What comes before a token.
     fn gap(&mut self, follows: bool, leads: bool) -> Result<(), AllocError>
         ensures { OnOk result (self.new ≡ record {
           text = self.old.text ++ (if self.old.closely || follows then [] else 32 ∷ []);

@@ -78,7 +78,7 @@ pub(crate) fn write_children(line: &mut Line, children: &[Child]) -> Result<(), 
     Ok(())
 }
 
-// Writes an attribute of what stands before it, and what comes before its expression.
+// Writes an attribute of what comes before it, and what comes before its expression.
 fn write_assigned(line: &mut Line, attribute: &[u8]) -> Result<(), AllocError>
     ensures { OnOk result (line.new ≡ after line.old (t.Punctuation p.Dot ∷ t.Name attribute.now ∷ t.Punctuation p.Equals ∷ [])) }
 {
@@ -87,7 +87,7 @@ fn write_assigned(line: &mut Line, attribute: &[u8]) -> Result<(), AllocError>
     line.mark(Punctuation::Equals)
 }
 
-// Writes what stands before the expression of an equation.
+// Writes what comes before the expression of an equation.
 fn write_target(line: &mut Line, target: &Target) -> Result<(), AllocError>
     ensures { OnOk result (line.new ≡ after line.old (target_tokens target.now)) }
 {
@@ -114,7 +114,7 @@ fn write_target(line: &mut Line, target: &Target) -> Result<(), AllocError>
     }
 }
 
-// Writes what stands before the tree of a local.
+// Writes what comes before the tree of a local.
 fn write_local(line: &mut Line, label: &[u8], nonterminal: &[u8]) -> Result<(), AllocError>
     ensures { OnOk result (line.new ≡ after line.old (target_tokens (g.Local label.now nonterminal.now))) }
 {

@@ -119,7 +119,7 @@ module _ (options : List Given) (once : Differ (map (λ o. o.name) options)) whe
   abbrev names : List (List ℕ)
   names = map (λ (o : Given). o.name) options
 
-  -- an option stands among the names
+  -- an option is among the names
   named_at : (name value : List ℕ) (has : HasOption options name value) → slice_get names has.place ≡ Some name
   named_at name value has = slice_get-map (λ (o : Given). o.name) options has.place ∙ ap (option_map (λ (o : Given). o.name)) has.given
 

@@ -30,7 +30,7 @@ targeted a target at = record a { targets = record { target = target; at = at } 
 abbrev listed : SpecBuilder → List (List Equation) → List Equation → SpecBuilder
 listed a others equations = record a { equations = equations ∷ others }
 
--- an expression behind a target, with its semicolon
+-- an expression after a target, with its semicolon
 value_given : (a : SpecBuilder) (others : List (List Equation)) (front : List Equation) (f : Row) (u v : List Lexeme) (b : SpecBuilder)
     (target : Target) (at : ℕ) (s : Lexeme) (e : Expression) → IsExpression u e → IsMark p.Semicolon s
     → Makes f v (listed a others (front ++ record { offset = at; target = target; nodes = nodes_of e } ∷ [])) b

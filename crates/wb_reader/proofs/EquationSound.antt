@@ -1,4 +1,4 @@
--- Equations, blocks and productions that the table's grammar derives stand in the grammar of specifications.
+-- Equations, blocks and productions that the table's grammar derives are in the grammar of specifications.
 use Rattle.std.proofs.Common.{◌≡◌, ℕ, List, [], ◌∷◌, ◌++◌, ◌⊎◌, inl, inr, refl, sym, ap, ◌∙◌, subst, length, arith}
 use Rattle.std.proofs.lemmas.List.{append_assoc}
 use Rattle.wb_predictive.specs.declared.symbol.Symbol.TheVariants.{Token, Nonterminal, Act}
@@ -41,7 +41,7 @@ IsEquation u equation =
 abbrev listed : SpecBuilder → List (List Equation) → List Equation → SpecBuilder
 listed a others equations = record a { equations = equations ∷ others }
 
--- an expression behind a target
+-- an expression after a target
 value_of_rows : (a : SpecBuilder) (others : List (List Equation)) (front : List Equation) (f : Row) (w : List Lexeme) (b : SpecBuilder)
     (target : Target) (at : ℕ) → OneOf (right_sides Part.Value) f w (targeted (listed a others front) target at) b
     → Split (λ u e. (v : List Lexeme) × (s : Lexeme) × IsExpression v e × IsMark p.Semicolon s × (u ≡ v ++ s ∷ []))

@@ -31,7 +31,7 @@ one_split [] (j ∷ v) p q x y e a b h k = let i : p ≡ j = cc in absurd (h (su
 one_split (i ∷ u) [] p q x y e a b h k = let j : i ≡ q = cc in absurd (k (subst IsTaken j (All-head IsTaken i u a)))
 one_split (i ∷ u) (j ∷ v) p q x y e a b h k = one_split u v p q x y (cc) (All-tail IsTaken i u a) (All-tail IsTaken j v b) h k
 
--- an expression that goes wrong, or matches the empty text, isn't taken
+-- an expression with an error, or one that matches the empty text, isn't taken
 fault_untaken : (bytes : List ℕ) (offset o at : ℕ) (name : List ℕ) (role : Role) → IsFirstFault bytes o
     → ¬ IsTaken (lexical_item offset role name bytes at)
 fault_untaken bytes offset o at name role f t = sound bytes t.0 o t.1.text f
@@ -90,7 +90,7 @@ none_refused bytes spec (MatchesEmpty name) a c =
     (no_pattern bytes spec name c.1.bytes c.1.at c.1.pattern a.1)
 none_refused bytes spec (NoMemory e) a c = tt
 
--- two bad expressions are one, and go wrong at one place
+-- two bad expressions are one, and have their first error at one place
 one_bad : (bytes : List ℕ) (at place : ℕ) → IsBadRegex bytes at → IsBadRegex bytes place → at ≡ place
 one_bad bytes at place r s =
     let e = same_pattern bytes r.name s.name r.bytes s.bytes r.at s.at r.pattern s.pattern

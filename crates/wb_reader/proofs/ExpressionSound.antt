@@ -1,4 +1,4 @@
--- Expressions that the table's grammar derives stand in the grammar of specifications.
+-- Expressions that the table's grammar derives are in the grammar of specifications.
 use Rattle.std.proofs.Common.{◌≡◌, ◌<◌, ◌+◌, ◌-◌, ℕ, zero, suc, List, [], ◌∷◌, ◌++◌, inl, inr, refl, sym, ap, ◌∙◌, subst, length, arith}
 use Rattle.std.proofs.lemmas.List.{append_assoc, append-nil, length-append}
 use Rattle.wb_predictive.specs.declared.symbol.Symbol.TheVariants.{Token, Nonterminal, Act}
@@ -27,7 +27,7 @@ use Rattle.wb_lemmas.proofs.Parts.{joined, joined_one}
 abbrev pub begun : SpecBuilder → List Node → List (List Node) → SpecBuilder
 begun a list rest = record a { nodes = list ∷ rest }
 
--- the parts with an expression behind these nodes
+-- the parts with an expression after these nodes
 abbrev pub grown : SpecBuilder → List Node → List (List Node) → Expression → SpecBuilder
 grown a list rest e = record a { nodes = (list ++ nodes_from (length list) e) ∷ rest; roots = (length list + size e - 1) ∷ a.roots }
 
@@ -35,7 +35,7 @@ grown a list rest e = record a { nodes = (list ++ nodes_from (length list) e) �
 abbrev pub collecting : SpecBuilder → List Node → List (List Node) → List ℕ → List (List ℕ) → SpecBuilder
 collecting a list rest front others = record a { nodes = list ∷ rest; arguments = front ∷ others }
 
--- the parts with expressions behind these nodes, and with their places behind these arguments
+-- the parts with expressions after these nodes, and with their places after these arguments
 abbrev pub collected : SpecBuilder → List Node → List (List Node) → List ℕ → List (List ℕ) → Expressions → SpecBuilder
 collected a list rest front others es =
     collecting a (list ++ all_nodes_from (length list) es) rest (front ++ places_from (length list) es) others
@@ -60,7 +60,7 @@ rooted a f v b rest l k x y e h d =
     subst (λ z. Makes f v (record a { nodes = k ∷ rest; roots = z ∷ a.roots }) b) h
     (subst (λ z. Makes f v (record a { nodes = z ∷ rest; roots = x ∷ a.roots }) b) e d)
 
--- behind a token fewer are left
+-- after a token fewer are left
 fewer : (x : Lexeme) (v w : List Lexeme) (m : ℕ) → w ≡ x ∷ v → length w < suc m → length v < m
 fewer x v w m e h = let l : length w ≡ suc (length v) = ap length e in omega (arith, l, h)
 
@@ -133,7 +133,7 @@ arguments_of_rows m E a list rest others f w b g (inr (inl d)) =
     )
 arguments_of_rows m E a list rest others f w b g (inr (inr e)) = absurd e
 
--- what stands behind a name and a dot
+-- what comes after a name and a dot
 read_of_rows : (a : SpecBuilder) (l : List ℕ) (at : ℕ) (list : List Node) (rest : List (List Node)) (x dot : Lexeme) (f : Row)
     (w : List Lexeme) (b : SpecBuilder) → IsName l x → IsMark p.Dot dot → OneOf (right_sides Part.Read) f w
     (with_name l at (begun a list rest)) b → Split (λ u e. IsExpression (x ∷ dot ∷ u) e) (grown a list rest) f w b
@@ -160,7 +160,7 @@ read_of_rows a l at list rest x dot f w b i j (inr (inl d)) =
     )
 read_of_rows a l at list rest x dot f w b i j (inr (inr e)) = absurd e
 
--- what stands behind a name
+-- what comes after a name
 pub tail_of_rows : (m : ℕ) (E : ExpressionBelow m) (a : SpecBuilder) (l : List ℕ) (at : ℕ) (list : List Node) (rest : List (List Node))
     (x : Lexeme) (f : Row) (w : List Lexeme) (b : SpecBuilder) → length w < m → IsName l x
     → OneOf (right_sides Part.Tail) f w (with_name l at (begun a list rest)) b

@@ -15,7 +15,7 @@ use Rattle.wb_tokens.proofs.AgreementLemmas.{EndsLine, kept_layout, kept_tokens}
 use Rattle.wb_tokens.proofs.LinesLemmas.{first_line, lines_read}
 use Rattle.wb_tokens.proofs.PlacedLaws.{layout_forward}
 use Rattle.wb_tokens.proofs.SampleLemmas.{samples, lines_of, lines_sampled, lines_bytes, samples_kinds}
-use Rattle.wb_reader.specs.Inner.Builder.{empty}
+use Rattle.wb_builder.specs.Builder.{empty}
 use Rattle.wb_reader.specs.Inner.Table.{spec_grammar}
 use Rattle.wb_reader.specs.Refusals.{IsSyntaxFault}
 use Rattle.wb_reader.specs.FirstFault.{BeginsText}

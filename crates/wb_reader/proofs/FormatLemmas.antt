@@ -21,14 +21,14 @@ use Rattle.wb_reader.specs.Refusals.{IsOtherNumber, IsOtherFormat}
 use Rattle.wb_reader.specs.Inner.Format.{IsWanted, IsEndWhere, IsNextEnd}
 
 module _ (bytes : List ℕ) where
-  -- this token stands next, and no token does
+  -- this token comes next, and no token does
   abbrev Stands : ℕ → Lexeme → Type 0
   Stands from x = IsNextIn WithComments bytes from (Found x)
 
   abbrev NoneStands : ℕ → Type 0
   NoneStands from = (x : Lexeme) → ¬ Stands from x
 
-  -- where other things stand next no token does
+  -- where other things come next no token does
   pub ended : (from at : ℕ) → IsNextIn WithComments bytes from (End at) → NoneStands from
   ended from at e x h = let i = one_next WithComments bytes from (End at) (Found x) e h in absurd (cc)
 

@@ -1,4 +1,4 @@
--- Items, headers and specifications that the table's grammar derives stand in the grammar of specifications.
+-- Items, headers and specifications that the table's grammar derives are in the grammar of specifications.
 use Rattle.std.proofs.Common.{ℕ, List, [], ◌∷◌, ◌++◌, ◌⊎◌, inl, inr, refl, ap, ◌∙◌, length, arith}
 use Rattle.wb_predictive.specs.declared.symbol.Symbol.TheVariants.{Nonterminal}
 use Rattle.wb_tokens.specs.declared.word.Word.TheVariants as word

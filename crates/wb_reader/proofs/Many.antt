@@ -14,7 +14,7 @@ Element {T} Is n f put front w b =
     (u v : List Lexeme) × (value : T) × Is u value × (0 < length u) × (w ≡ u ++ v)
     × Makes (Nonterminal n ∷ f) v (put (front ++ value ∷ [])) b
 
--- behind an element that has tokens fewer are left
+-- after an element that has tokens fewer are left
 shorter : (u v w : List Lexeme) → 0 < length u → w ≡ u ++ v → suc (length v) ≤ length w
 shorter u v w some e = let l = length-append u v in let k : length w ≡ length (u ++ v) = ap length e in omega (arith, l, k, some)
 
@@ -47,7 +47,7 @@ module _ {T : Type 0} (Is : List Lexeme → T → Type 0) (Are : List Lexeme →
   no_tokens front w h (inl e) = none_left front w e
   no_tokens front w h (inr r) = let s = shorter r.0 r.1 w r.4 r.5 in absurd (omega (arith, s, h))
 
-  -- a list that is read so stands in the grammar
+  -- a list that is read so is in the grammar
   pub many : (fuel : ℕ) (front : List T) (w : List Lexeme) → length w ≤ fuel → Makes (Nonterminal n ∷ f) w (put front) b
       → Split Are (λ values. put (front ++ values)) f w b
   many zero front w h d = no_tokens front w h (one front w d)

@@ -36,12 +36,12 @@ one_written bytes a b r s =
     let h : finished empty a ≡ finished empty b = cc in
     sym (written_finished_of bytes a r) ∙ (ap written_of h ∙ written_finished_of bytes b s)
 
--- what is written goes wrong nowhere
+-- what is written has no error
 pub no_fault : (bytes : List ℕ) (a : WrittenSpec) (at : ℕ) → IsWrittenText bytes a → ¬ IsSyntaxFault bytes at
 no_fault bytes a at r s =
     let e = same_outcome bytes (Whole (finished empty a)) (whole_written bytes a r) (Stopped at) (table_fault bytes at s) in absurd (cc)
 
--- bytes go wrong first at one place
+-- bytes have their first error at one place
 pub one_fault : (bytes : List ℕ) (at place : ℕ) → IsSyntaxFault bytes at → IsSyntaxFault bytes place → at ≡ place
 one_fault bytes at place r s =
     let e = same_outcome bytes (Stopped at) (table_fault bytes at r) (Stopped place) (table_fault bytes place s) in cc

@@ -1,4 +1,4 @@
--- Kinds, flow types and children that the table's grammar derives stand in the grammar of specifications.
+-- Kinds, flow types and children that the table's grammar derives are in the grammar of specifications.
 use Rattle.std.proofs.Common.{◌≡◌, ℕ, List, [], ◌∷◌, ◌++◌, ◌⊎◌, inl, inr, refl, sym, ap, ◌∙◌, subst, length, arith, Some, None}
 use Rattle.wb_predictive.specs.declared.symbol.Symbol.TheVariants.{Token, Nonterminal}
 use Rattle.wb_tokens.specs.declared.word.Word.TheVariants as word

@@ -61,7 +61,7 @@ syntax_no_form (f.Plain plain) at r = r
 syntax_no_form (f.Production role production) at r = r
 syntax_no_form (f.Aspect name equations) at r = r
 
--- the item behind those that were read is the first that is refused
+-- the item after those that were read is the first that is refused
 pub first_refused : (items before : List (Item WrittenPattern)) (item : Item WrittenPattern) (after : List (Item WrittenPattern))
     (read : List (Item Pattern)) (refusal : SpecRefusal) → items ≡ before ++ item ∷ after → AllZip IsReadAs before read
     → OnItem item refusal → OnItems items refusal

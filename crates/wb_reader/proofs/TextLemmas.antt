@@ -67,7 +67,7 @@ written_whole bytes last r =
           subst (λ x. IsSpecification r.tokens x) (sym e) s.1;
     }
 
--- and one that stands in the grammar is read whole
+-- and one that is in the grammar is read whole
 pub whole_written : (bytes : List ℕ) (spec : WrittenSpec) → IsWrittenText bytes spec
     → IsReading spec_grammar (IsNextIn WithComments bytes) empty (finished empty spec)
 whole_written bytes spec r =
@@ -80,7 +80,7 @@ whole_written bytes spec r =
       text = text_of_spec r.tokens spec r.specification;
     }
 
--- some specification begins with tokens exactly where the table's grammar goes on behind them
+-- some specification begins with tokens exactly where the table's grammar goes on after them
 begins : (front : List Lexeme) → CanStartTable spec_grammar empty front → CanBegin front
 begins front c = let s = spec_of_text (front ++ c.rest) c.last c.text in record { rest = c.rest; spec = s.0; specification = s.1 }
 
@@ -97,7 +97,7 @@ follows_table front (Found x) h = λ c. h (begins (front ++ x ∷ []) c)
 follows_table front (End at) h = λ last d. let s = spec_of_text front last d in h s.0 s.1
 follows_table front (NoToken at) h = tt
 
--- where the table goes wrong first the text does
+-- where the table has its first error the text does
 pub syntax_fault : (bytes : List ℕ) (at : ℕ) → IsTableFault spec_grammar (IsNextIn WithComments bytes) empty at → IsSyntaxFault bytes at
 syntax_fault bytes at r =
     record {

@@ -1,4 +1,4 @@
--- Whole expressions that the table's grammar derives stand in the grammar of specifications.
+-- Whole expressions that the table's grammar derives are in the grammar of specifications.
 use Rattle.std.proofs.Common.{◌≡◌, ◌<◌, ◌+◌, ◌-◌, ℕ, zero, suc, List, [], ◌∷◌, ◌++◌, inl, inr, refl, sym, ap, ◌∙◌, subst, length, arith}
 use Rattle.std.proofs.Common.{true, false, pos}
 use Rattle.std.proofs.lemmas.List.{append_assoc, length-append}

@@ -49,7 +49,7 @@ pub record CanBegin (front : List Lexeme) : Type 0 where
   pub spec : WrittenSpec
   pub specification : IsSpecification (front ++ rest) spec
 
--- what stands next can't follow these tokens: a token with which no specification begins, the end where they are none, or no token
+-- what comes next can't follow these tokens: a token with which no specification begins, the end where they are none, or no token
 abbrev pub CannotFollow : List Lexeme → Next Token → Type 0
 CannotFollow front (Found x) = ¬ CanBegin (front ++ x ∷ [])
 CannotFollow front (End at) = (spec : WrittenSpec) → ¬ IsSpecification front spec
@@ -92,7 +92,7 @@ pub record HasPattern (text name bytes : List ℕ) (at : ℕ) : Type 0 where
   pub items : spec.items ≡ before ++ lexical_item offset role name bytes at ∷ after
   pub taken : All IsTaken before
 
--- the first regular expression that isn't taken is none, and at this place of the text it goes wrong
+-- the first regular expression that isn't taken is none, and at this place of the text it has its first error
 pub record IsBadRegex (text : List ℕ) (place : ℕ) : Type 0 where
   pub name : List ℕ
   pub bytes : List ℕ

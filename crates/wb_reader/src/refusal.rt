@@ -16,7 +16,7 @@ pub enum SpecRefusal {
     /// begins. Where the file ends too early, the offset is its length.
     Syntax(usize),
     /// R1: the first regular expression that isn't taken is none. At this offset stands the first symbol of it that can't follow
-    /// those before it, or the slash behind it where it ends too early.
+    /// those before it, or the slash after it where it ends too early.
     BadRegex(usize),
     /// R2: the first regular expression that isn't taken matches the empty text. It is that of the terminal, layout or marking
     /// terminal of this name.

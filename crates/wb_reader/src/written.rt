@@ -1,6 +1,6 @@
 //! What are bytes written as, before their regular expressions are read?
 //!
-//! The table reads them, and what it leaves behind is the written specification.
+//! The table reads them, and what it leaves after is the written specification.
 
 ghost use Rattle.std.specs.Prelude.{◌≡◌, IfOk, IfErr};
 ghost use Rattle.wb_syntax.specs.SpecText.{IsWrittenText};

@@ -1,6 +1,6 @@
 //! Regular expressions over bytes: their trees, what they match, and how they are read from a text.
 //!
-//! A `Regex` is a list of nodes in which parts stand before the whole, so that nothing here recurses. Automata that answer what
+//! A `Regex` is a list of nodes in which parts come before the whole, so that nothing here recurses. Automata that answer what
 //! matches lie in a crate above.
 #![tactic(auto)]
 

@@ -23,7 +23,7 @@ printed (t.Text text) = printed_text text
 printed (t.Regex body) = 47 ∷ (body ++ 47 ∷ [])
 printed (t.Punctuation mark) = punctuation_text mark
 
--- no space stands before `;` `,` `.` `(` `)`
+-- no space comes before `;` `,` `.` `(` `)`
 abbrev pub follows_closely : Token → Bool
 follows_closely (t.Punctuation p.Semicolon) = true
 follows_closely (t.Punctuation p.Comma) = true
@@ -32,7 +32,7 @@ follows_closely (t.Punctuation p.OpenParenthesis) = true
 follows_closely (t.Punctuation p.CloseParenthesis) = true
 follows_closely token = false
 
--- no space stands after `.` `@` `(`
+-- no space comes after `.` `@` `(`
 abbrev pub leads_closely : Token → Bool
 leads_closely (t.Punctuation p.Dot) = true
 leads_closely (t.Punctuation p.At) = true

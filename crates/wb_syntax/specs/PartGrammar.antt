@@ -54,7 +54,7 @@ pub data AreChildren : List Lexeme → List Child → Type 0 where
   next : {x c : Lexeme} {u v y : List Lexeme} {label : List ℕ} {kind : NamedKind} {rest : List Child} → IsName label x → IsMark p.Colon c
       → IsKind u kind → AreChildren v rest → y ≡ x ∷ c ∷ (u ++ v) → AreChildren y (record { label = label; kind = kind } ∷ rest)
 
--- what stands before the expression of an equation
+-- what comes before the expression of an equation
 pub data IsTarget : List Lexeme → Target → Type 0 where
   -- 'top' '.' NAME '='
   top : {x d y e : Lexeme} {a : List ℕ} → IsWord word.Top x → IsMark p.Dot d → IsName a y → IsMark p.Equals e

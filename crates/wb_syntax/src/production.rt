@@ -1,6 +1,6 @@
 //! What does a production keep?
 //!
-//! Its names, children and equations, in the order in which they are written. Whether it is concrete stands in its item.
+//! Its names, children and equations, in the order in which they are written. Whether it is concrete is in its item.
 
 use crate::Equation;
 use wb_base::{Bytes, Sequence};

@@ -43,7 +43,7 @@ module _ (signatures : List Signature) where
       let s = some_at (slice_get signatures f.production) (λ (s : Signature). s.name ≡ name) f.first.named in
       none_has name f.production s.0 s.1 s.2 none
 
-  -- none of the name stands before the first
+  -- none of the name comes before the first
   not_before : (name : List ℕ) (m n : ℕ) → IsFirst signatures name m → IsFirst signatures name n → m < n → ⊥
   not_before name m n a b lt =
       let s = some_at (slice_get signatures m) (λ (s : Signature). s.name ≡ name) a.named in

@@ -67,8 +67,8 @@ fn wrong_child(
     least
 }
 
-/// The least place of a fault of a node: its own, where it has a wrong number of children, or that of a child of a wrong kind.
-/// A node whose production isn't there has none.
+// The least place of a fault of a node: its own, where it has a wrong number of children, or that of a child of a wrong kind.
+// A node whose production isn't there has none.
 pub(crate) fn wrong_in(
     signatures: &Signatures,
     store: &TreeStore,

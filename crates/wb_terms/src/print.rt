@@ -17,10 +17,10 @@ use wb_base::push;
 use wb_tokens::{print_int, print_text};
 use wb_values::{Signatures, TreeStore, Value};
 
-/// The children of a node that are still to be printed.
+// The children of a node that are still to be printed.
 #[derive(Clone, Copy)]
 pub(crate) struct Pending<'a> {
-    /// Whether the next child is the node's first.
+    // Whether the next child is the node's first.
     pub first: bool,
     pub values: &'a [Value],
 }

@@ -6,9 +6,9 @@ use wb_predictive::Rule;
 use wb_predictive::Symbol::{Act, Nonterminal, Token};
 use wb_tokens::{Punctuation, TokenKind, Word};
 
-/// The parts of a text, the grammar's nonterminals.
+// The parts of a text, the grammar's nonterminals.
 #[derive(Clone, Copy, Debug, PartialEq, Eq)]
-pub enum Part {
+pub(crate) enum Part {
     Term,
     Owner,
     Arguments,
@@ -16,17 +16,17 @@ pub enum Part {
     Argument,
 }
 
-/// What is done between the symbols of a right side.
+// What is done between the symbols of a right side.
 #[derive(Clone, Copy, Debug, PartialEq, Eq)]
-pub enum Action {
+pub(crate) enum Action {
     Qualify,
     Close,
 }
 
-/// A rule of the table.
-pub type TermRule = Rule<'static, TokenKind, Part, Action>;
+// A rule of the table.
+pub(crate) type TermRule = Rule<'static, TokenKind, Part, Action>;
 
-pub static TERM: [TermRule; 1] = [Rule {
+pub(crate) static TERM: [TermRule; 1] = [Rule {
     kinds: &[TokenKind::Name],
     right: &[
         Token(TokenKind::Name),
@@ -38,7 +38,7 @@ pub static TERM: [TermRule; 1] = [Rule {
     ],
 }];
 
-pub static OWNER: [TermRule; 2] = [
+pub(crate) static OWNER: [TermRule; 2] = [
     Rule {
         kinds: &[TokenKind::Mark(Punctuation::OpenParenthesis)],
         right: &[],
@@ -53,7 +53,7 @@ pub static OWNER: [TermRule; 2] = [
     },
 ];
 
-pub static ARGUMENTS: [TermRule; 2] = [
+pub(crate) static ARGUMENTS: [TermRule; 2] = [
     Rule {
         kinds: &[TokenKind::Mark(Punctuation::CloseParenthesis)],
         right: &[],
@@ -71,7 +71,7 @@ pub static ARGUMENTS: [TermRule; 2] = [
     },
 ];
 
-pub static MORE: [TermRule; 2] = [
+pub(crate) static MORE: [TermRule; 2] = [
     Rule {
         kinds: &[TokenKind::Mark(Punctuation::CloseParenthesis)],
         right: &[],
@@ -86,7 +86,7 @@ pub static MORE: [TermRule; 2] = [
     },
 ];
 
-pub static ARGUMENT: [TermRule; 6] = [
+pub(crate) static ARGUMENT: [TermRule; 6] = [
     Rule {
         kinds: &[TokenKind::One],
         right: &[Token(TokenKind::One)],

@@ -29,7 +29,7 @@ fn shift_word(word: Word, at: usize, values: &mut Events) -> Result<(), AllocErr
     }
 }
 
-/// The table of terms.
+// The table of terms.
 pub(crate) struct TermTable;
 
 impl Table for TermTable {

@@ -1,6 +1,6 @@
 //! Tests of texts and of the program: what reads and prints a format, and runs of the top call over files in memory.
 //!
-//! Tests of the libraries that know no format are in `wb_grammar_tests` and `wb_library_tests`. Nothing stands on this crate.
+//! Tests of the libraries that know no format are in `wb_grammar_tests` and `wb_library_tests`. Nothing depends on this crate.
 #![tactic(auto)]
 
 #[cfg(test)]

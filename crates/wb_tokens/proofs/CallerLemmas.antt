@@ -1,5 +1,5 @@
 -- What crates above may cite: a spelling is that of one token, one thing comes next, and what is printed is a token. That a spelling
--- stands in a text as its token is in `StandingLemmas`.
+-- is in a text as its token is in `StandingLemmas`.
 use Rattle.std.proofs.Common.{◌≡◌, ℕ, ◌<◌, ◌^◌, List, length, ℤ, get_or, FitsSigned, w64}
 use Rattle.std.specs.Fmt.{signed_decimal}
 use Rattle.wb_tokens.specs.NextToken.{IsTokenAt, IsNextIn}
@@ -16,7 +16,7 @@ use Rattle.wb_tokens.proofs.PrintLemmas.{integer_printed, text_printed}
 pub same_token : (x : List ℕ) (a b : Token) → Spells a x → Spells b x → a ≡ b
 same_token = only.same_token
 
--- one token stands at a place, and ends at one place
+-- one token is at a place, and ends at one place
 pub token_only : (text : List ℕ) (a b : Token) (at i j : ℕ) → IsTokenAt text a at i → IsTokenAt text b at j → (a ≡ b) × (i ≡ j)
 token_only = only.token_only
 

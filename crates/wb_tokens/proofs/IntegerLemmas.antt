@@ -1,4 +1,4 @@
--- The number behind an optional sign, as far as digits go, is the longest integer.
+-- The number after an optional sign, as far as digits go, is the longest integer.
 use Rattle.std.proofs.Common.{◌≡◌, ◌≢◌, ℕ, zero, suc, ◌+◌, ◌<◌, ◌≤◌, ◌⊎◌, List, [], ◌∷◌, ◌++◌, Some, None, Bool, true, false, cond, length}
 use Rattle.std.proofs.Common.{get_or, take, drop, refl, sym, ap, ◌∙◌, subst, arith, length-take, length-append, pos, neg_ℤ, ℤ, ⊎_elim}
 use Rattle.std.proofs.Common.{FitsSigned, w64}
@@ -40,7 +40,7 @@ abbrev pub sign : Bool → List ℕ
 sign true = 45 ∷ []
 sign false = []
 
--- the text is its sign, if it has one, and what stands behind it
+-- the text is its sign, if it has one, and what comes after it
 pub record IsSigned (text : List ℕ) (negative : Bool) (digits : List ℕ) : Type 0 where
   pub joined : text ≡ sign negative ++ digits
   pub plain : negative ≡ false → get_or text 0 0 ≢ 45

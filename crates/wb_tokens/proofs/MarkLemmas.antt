@@ -15,7 +15,7 @@ use Rattle.wb_tokens.specs.declared.token.Token.TheVariants as t
 use Rattle.wb_tokens.proofs.FirstByteLemmas.{punctuation_is}
 use Rattle.wb_tokens.proofs.LongestLemmas.{prefix_some, prefix_kind}
 
--- a mark's bytes stand at the front of the text
+-- a mark's bytes are at the beginning of the text
 abbrev BeginsWith : List ℕ → Punctuation → Type 0
 BeginsWith text mark = (rest : List ℕ) × (text ≡ punctuation_text mark ++ rest)
 
@@ -58,7 +58,7 @@ colon_found (b ∷ c ∷ x) found h = at (eqb b 58 && eqb c 61) refl h
     at true h e = (x, ap (λ l. 58 ∷ (l ++ x)) (both b c h) ∙ ap (λ m. punctuation_text m ++ x) e)
     at false h e = (b ∷ c ∷ x, ap (λ m. punctuation_text m ++ b ∷ c ∷ x) e)
 
--- what is found stands at the front
+-- what is found is at the beginning
 mark_found : (text : List ℕ) (found : Punctuation) → mark_at text ≡ Some found → BeginsWith text found
 mark_found [] found h = cc
 mark_found (b ∷ x) found h = ⊎_elim colon other (cases_Bool (eqb b 58))
@@ -71,7 +71,7 @@ mark_found (b ∷ x) found h = ⊎_elim colon other (cases_Bool (eqb b 58))
     other : eqb b 58 ≡ false → BeginsWith (b ∷ x) found
     other t = single_found b x found (sym (ap (λ s. cond s (Some (colon_at x)) (single_mark b)) t) ∙ h)
 
--- where a mark stands at the front, one as long or longer is found
+-- where a mark is at the beginning, one as long or longer is found
 record Reaches (text : List ℕ) (mark : Punctuation) : Type 0 where
   found : Punctuation
   finds : mark_at text ≡ Some found

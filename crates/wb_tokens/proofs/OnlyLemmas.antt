@@ -73,7 +73,7 @@ same_token x a b s r = by_kind a s (sym (spelled_beginning a x s) ∙ spelled_be
         ap t.Regex (append_cancel_right body i.0 (47 ∷ []) f) ∙ sym i.1
     by_kind (t.Punctuation mark) s k = let i = punctuation_is b x r (sym k) in ap t.Punctuation (same_mark mark i.0 (sym s ∙ i.2)) ∙ sym i.1
 
--- one token stands at a place, and ends at one place
+-- one token is at a place, and ends at one place
 pub token_only : (text : List ℕ) (a b : Token) (at i j : ℕ) → IsTokenAt text a at i → IsTokenAt text b at j → (a ≡ b) × (i ≡ j)
 token_only text a b at i j x y =
     let same : i ≡ j = ⊎_elim (λ e. e) (λ o. ⊎_elim
@@ -108,7 +108,7 @@ next_only layout text from (n.NoToken at) (n.End at') h k =
     let places = skips_only h.skipped k.skipped in absurd (omega (arith, places, k.last, h.within))
 next_only layout text from (n.NoToken at) (n.NoToken at') h k = ap n.NoToken (skips_only h.skipped k.skipped)
 
--- the longest token of what stands from a place on stands there
+-- the longest token of what stands from a place on is there
 pub stands_at : (text : List ℕ) (at count : ℕ) (token : Token) → at ≤ length text → IsLongest (drop at text) token count
     → IsTokenAt text token at (at + count)
 stands_at text at count token le l =

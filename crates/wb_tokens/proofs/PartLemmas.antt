@@ -1,4 +1,4 @@
--- The first part of the body of a string or of a regular expression is the one part that stands at its front, and so a body goes to
+-- The first part of the body of a string or of a regular expression is the one part that is at its beginning, and so a body goes to
 -- one closing byte alone.
 use Rattle.std.proofs.Common.{◌≡◌, ◌≢◌, ℕ, ◌+◌, ◌*◌, ◌<◌, ◌≤◌, List, [], ◌∷◌, ◌++◌, Option, Some, None, Bool, true, false, ◌||◌, cond, eqb}
 use Rattle.std.proofs.Common.{refl, sym, ap, ◌∙◌, subst, ⊎_elim, arith, append_assoc, length, take, drop, length-drop, get_or}
@@ -18,7 +18,7 @@ not_backslash b h = ⊎_elim (λ t. let e = ap is_plain (eqb-true b 92 t) in abs
 not_hexadecimal : (e b : ℕ) → escaped_byte e ≡ Some b → eqb e 120 ≡ false
 not_hexadecimal e b h = ⊎_elim (λ t. let f = ap escaped_byte (eqb-true e 120 t) in absurd (cc)) (λ f. f) (cases_Bool (eqb e 120))
 
--- the part of a string that stands at the front is found
+-- the part of a string that is at the beginning is found
 string_only : {part : List ℕ} {b : ℕ} (r : List ℕ) → IsStringPart part b → string_part (part ++ r) ≡ Some (b, length part)
 string_only r (IsStringPart.plain {x} {b} h e) =
     ap (λ p. string_part (p ++ r)) e ∙ ap (λ t. cond t (escape_at r) (cond (is_plain b) (Some (b, 1)) None)) (not_backslash b h)
@@ -30,7 +30,7 @@ string_only r (IsStringPart.hexadecimal {x} {h} {l} {m} {n} {b} p q g f) =
     ap (λ p. string_part (p ++ r)) f ∙ ap (λ o. counted (byte_of o (hex_value l)) 4) p ∙ ap (λ o. counted (byte_of (Some m) o) 4) q
     ∙ ap (λ a. Some (a, 4)) (sym g) ∙ ap (λ p. Some (b, length p)) (sym f)
 
--- the part of a regular expression that stands at the front is found
+-- the part of a regular expression that is at the beginning is found
 regex_only : {part : List ℕ} (r : List ℕ) → IsRegexPart part → regex_part (part ++ r) ≡ Some (length part)
 regex_only r (IsRegexPart.plain {x} {b} h e) = ap (λ p. regex_part (p ++ r)) e ∙ known b h ∙ ap (λ p. Some (length p)) (sym e)
   where
@@ -126,7 +126,7 @@ counted_some (Some a) count b n h =
 abbrev pub StandsFor : List ℕ → ℕ → ℕ → Type 0
 StandsFor x b n = IsStringPart (take n x) b × (0 < n) × (n ≤ length x)
 
--- behind `\x` two digits are found
+-- after `\x` two digits are found
 found_hexadecimal : (x : List ℕ) (b n : ℕ) → hexadecimal_at x ≡ Some (b, n) → StandsFor (92 ∷ 120 ∷ x) b n
 found_hexadecimal [] b n h = cc
 found_hexadecimal (a ∷ []) b n h = cc
@@ -135,7 +135,7 @@ found_hexadecimal (a ∷ l ∷ x) b n h =
     let m = byte_of_some (hex_value a) (hex_value l) b g.0 in
     subst (λ k. StandsFor (92 ∷ 120 ∷ a ∷ l ∷ x) b k) g.1 (IsStringPart.hexadecimal m.2 m.3 m.4 refl, omega arith, omega arith)
 
--- behind a backslash an escape is found
+-- after a backslash an escape is found
 found_escape : (x : List ℕ) (b n : ℕ) → escape_at x ≡ Some (b, n) → StandsFor (92 ∷ x) b n
 found_escape [] b n h = cc
 found_escape (e ∷ x) b n h = ⊎_elim hexadecimal other (cases_Bool (eqb e 120))
@@ -157,7 +157,7 @@ found_plain b c n x true t h =
     subst (λ (k : ℕ × ℕ). StandsFor (b ∷ x) k.0 k.1) pair (IsStringPart.plain t refl, omega arith, omega arith)
 found_plain b c n x false t h = cc
 
--- what is found stands at the front
+-- what is found is at the beginning
 pub string_found : (x : List ℕ) (b n : ℕ) → string_part x ≡ Some (b, n) → StandsFor x b n
 string_found [] b n h = cc
 string_found (a ∷ x) b n h = ⊎_elim escape other (cases_Bool (eqb a 92))
@@ -173,7 +173,7 @@ string_found (a ∷ x) b n h = ⊎_elim escape other (cases_Bool (eqb a 92))
 abbrev pub IsPartAt : List ℕ → ℕ → Type 0
 IsPartAt x n = IsRegexPart (take n x) × (0 < n) × (n ≤ length x)
 
--- behind a backslash any byte but LF is found
+-- after a backslash any byte but LF is found
 found_regex_escape : (x : List ℕ) (n : ℕ) → regex_escape x ≡ Some n → IsPartAt (92 ∷ x) n
 found_regex_escape [] n h = cc
 found_regex_escape (b ∷ x) n h = at (eqb b 10) refl h
@@ -203,14 +203,14 @@ regex_found (b ∷ x) n h = ⊎_elim escape other (cases_Bool (eqb b 92))
     other t = plain (eqb b 47 || eqb b 10) refl t (sym (ap (λ t. cond t (regex_escape x) (cond (eqb b 47 || eqb b 10) None (Some 1))) t)
         ∙ h)
 
--- what stands at a place begins what is left from there
+-- what is at a place begins what is left from there
 byte_at : (x : List ℕ) (at b : ℕ) (rest : List ℕ) → drop at x ≡ b ∷ rest → HasByte x at b
 byte_at x at b rest e = record {
   within = omega (arith, ap length e, length-drop at x);
   is = let same : at ≡ at + 0 = omega arith in ap (λ n. get_or x n 0) same ∙ sym (get_or-drop at x 0 0) ∙ ap (λ l. get_or l 0 0) e;
 }
 
--- a body goes on with the part behind it
+-- a body goes on with the part after it
 pub string_step : (x text : List ℕ) (at b n : ℕ) → at ≤ length x → IsStringBody (take at x) text → string_part (drop at x) ≡ Some (b, n)
     → (at + n ≤ length x) × IsStringBody (take (at + n) x) (text ++ b ∷ [])
 string_step x text at b n le body part =
@@ -224,13 +224,13 @@ regex_step x at n le body part =
     let f = regex_found (drop at x) n part in
     (omega (arith, f.2, length-drop at x, le), subst (λ l. IsRegexBody l) (sym (take-add at n x)) (regex_more body f.0))
 
--- where neither a part nor a quote stands behind a body, no string ends
+-- where neither a part nor a quote comes after a body, no string ends
 pub string_open : (x text : List ℕ) (at : ℕ) → IsStringBody (take at x) text → string_part (drop at x) ≡ None → ¬ HasByte x at 34
     → (body other rest : List ℕ) → IsStringBody body other → x ≢ body ++ 34 ∷ rest
 string_open x text at front part no_quote body other rest stands e =
     no_quote (byte_at x at 34 rest (same_string (drop at x) rest front part stands (take-append-drop at x ∙ e)).2)
 
--- where neither a part nor a slash stands behind a body, no regular expression ends
+-- where neither a part nor a slash comes after a body, no regular expression ends
 pub regex_open : (x : List ℕ) (at : ℕ) → IsRegexBody (take at x) → regex_part (drop at x) ≡ None → ¬ HasByte x at 47
     → (body rest : List ℕ) → IsRegexBody body → x ≢ body ++ 47 ∷ rest
 regex_open x at front part no_slash body rest stands e =

@@ -1,4 +1,4 @@
--- One thing stands next, and a token ends behind the place from which it was looked for.
+-- One thing comes next, and a token ends after the place from which it was looked for.
 use Rattle.std.proofs.Common.{◌≡◌, ◌<◌, ◌≤◌, ℕ, List, length, arith}
 use Rattle.wb_predictive.specs.declared.table.Placed.{Placed}
 use Rattle.wb_predictive.specs.declared.table.Next.{Next}
@@ -27,7 +27,7 @@ layout_forward layout text from at (skip {behind = behind} piece rest) =
     let there = layout_forward layout text behind at rest in
     omega (arith, here, there)
 
--- a token ends behind the place and within the text
+-- a token ends after the place and within the text
 pub advances : (layout : Layout) (text : List ℕ) (from : ℕ) (x : Placed Token) → from ≤ length text
     → IsNextIn layout text from (Found x) → (from < x.end) × (x.end ≤ length text)
 advances layout text from x h e =

@@ -54,12 +54,12 @@ line_printed : (b : ℕ) → b < 256 → eqb b 34 ≡ false → eqb b 92 ≡ fal
 line_printed b lt q s true l = IsStringPart.escaped (ap Some (sym (eqb-true b 10 l))) refl
 line_printed b lt q s false l = range_printed b lt q s l (leb 32 b && leb b 126)
 
--- a backslash stands behind a backslash
+-- a backslash comes after a backslash
 backslash_printed : (b : ℕ) → b < 256 → eqb b 34 ≡ false → (t : Bool) → eqb b 92 ≡ t → IsStringPart (from_backslash b t) b
 backslash_printed b lt q true s = IsStringPart.escaped (ap Some (sym (eqb-true b 92 s))) refl
 backslash_printed b lt q false s = line_printed b lt q s (eqb b 10) refl
 
--- a quote stands behind a backslash
+-- a quote comes after a backslash
 quote_printed : (b : ℕ) → b < 256 → (t : Bool) → eqb b 34 ≡ t → IsStringPart (cond t (92 ∷ 34 ∷ []) (from_backslash b (eqb b 92))) b
 quote_printed b lt true q = IsStringPart.escaped (ap Some (sym (eqb-true b 34 q))) refl
 quote_printed b lt false q = backslash_printed b lt q (eqb b 92) refl

@@ -122,32 +122,32 @@ quote_first text some begins = sym (headed text 34 some (begins_quote (get_or te
 slash_first : (text : List ℕ) → 0 < length text → first_class (get_or text 0 0) ≡ Slash → 47 ∷ drop 1 text ≡ text
 slash_first text some begins = sym (headed text 47 some (begins_slash (get_or text 0 0) begins))
 
--- a string that was found behind its quote is the longest token
+-- a string that was found after its quote is the longest token
 pub string_found : (text decoded : List ℕ) (place : ℕ) → 0 < length text → first_class (get_or text 0 0) ≡ Quote
     → FindsString (drop 1 text) (Some (decoded, place)) → IsLongest text (t.Text decoded) (place + 2)
 string_found text decoded place some begins found =
     subst (λ l. IsLongest l (t.Text decoded) (place + 2)) (quote_first text some begins) (string_longest (drop 1 text) decoded place found)
 
--- where no string was found behind a quote, no token begins
+-- where no string was found after a quote, no token begins
 pub string_missing : (text : List ℕ) → 0 < length text → first_class (get_or text 0 0) ≡ Quote → FindsString (drop 1 text) None
     → (token : Token) (count : ℕ) → IsLongest text token count → ⊥
 string_missing text some begins none token count l =
     string_none (drop 1 text) none token count (subst (λ x. IsLongest x token count) (sym (quote_first text some begins)) l)
 
--- a regular expression that was found behind its slash is the longest token
+-- a regular expression that was found after its slash is the longest token
 pub regex_found : (text : List ℕ) (place : ℕ) → 0 < length text → first_class (get_or text 0 0) ≡ Slash → 0 < place
     → FindsRegex (drop 1 text) (Some place) → IsLongest text (t.Regex (take place (drop 1 text))) (place + 2)
 regex_found text place some begins more found =
     subst (λ l. IsLongest l (t.Regex (take place (drop 1 text))) (place + 2)) (slash_first text some begins)
     (regex_longest (drop 1 text) place more found)
 
--- where none was found behind a slash, no token begins
+-- where none was found after a slash, no token begins
 pub regex_missing : (text : List ℕ) → 0 < length text → first_class (get_or text 0 0) ≡ Slash → FindsRegex (drop 1 text) None
     → (token : Token) (count : ℕ) → IsLongest text token count → ⊥
 regex_missing text some begins none token count l =
     regex_none (drop 1 text) none token count (subst (λ x. IsLongest x token count) (sym (slash_first text some begins)) l)
 
--- where a slash stands behind a slash, no token begins
+-- where a slash comes after a slash, no token begins
 pub regex_without : (text : List ℕ) → 0 < length text → first_class (get_or text 0 0) ≡ Slash → FindsRegex (drop 1 text) (Some 0)
     → (token : Token) (count : ℕ) → IsLongest text token count → ⊥
 regex_without text some begins found token count l =

@@ -22,7 +22,7 @@ piece_only (IsLayoutPiece.blank w b e) (IsLayoutPiece.comment l c) = absurd (no_
 piece_only (IsLayoutPiece.comment l c) (IsLayoutPiece.blank w b e) = absurd (no_blank_comment b c)
 piece_only (IsLayoutPiece.comment l c) (IsLayoutPiece.comment l' c') = same_comment c c'
 
--- the place behind all layout is one
+-- the place after all layout is one
 pub skips_only : {layout : Layout} {text : List ℕ} {from a b : ℕ} → SkipsLayout layout text from a → SkipsLayout layout text from b → a ≡ b
 skips_only (SkipsLayout.stop n e) (SkipsLayout.stop n' e') = sym e ∙ e'
 skips_only (SkipsLayout.stop n e) (SkipsLayout.skip {behind} p s) = absurd (n behind p)

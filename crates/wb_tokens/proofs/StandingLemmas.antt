@@ -1,4 +1,4 @@
--- A spelling stands in a text as its token where what follows doesn't go on.
+-- A spelling is in a text as its token where what follows doesn't go on.
 use Rattle.std.proofs.Common.{◌≡◌, ◌≢◌, ℕ, ◌+◌, ◌<◌, List, [], ◌∷◌, ◌++◌, Some, Bool, true, false, ◌&&◌, cond, eqb, length, get_or, take}
 use Rattle.std.proofs.Common.{refl, sym, ap, ◌∙◌, subst, arith, append_assoc, length-append, ℤ, FitsSigned, w64}
 use Rattle.std.proofs.Math.Seq.{take-append_seam, drop-append_seam}
@@ -173,7 +173,7 @@ longest (t.Punctuation mark) x rest s ends =
     subst (λ n. IsLongest (x ++ rest) (t.Punctuation mark) n) (sym (ap length s.0))
     (mark_longest (x ++ rest) mark (begins (t.Punctuation mark) x rest s.0) e)
 
--- a spelling stands in a text as its token
+-- a spelling is in a text as its token
 pub stands : (before x rest : List ℕ) (token : Token) → IsToken token x → Ends token rest
     → IsTokenAt (before ++ (x ++ rest)) token (length before) (length before + length x)
 stands before x rest token s ends =

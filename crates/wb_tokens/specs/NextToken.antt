@@ -1,4 +1,4 @@
--- What stands in a text after layout: the longest token, the end, or no token.
+-- What is in a text after layout: the longest token, the end, or no token.
 use Rattle.std.specs.Prelude.{◌≡◌, ℕ, ◌<◌, ◌≤◌, List, length, slice_range}
 use Rattle.wb_tokens.specs.Skipping.{SkipsLayout}
 use Rattle.wb_tokens.specs.Spelling.{Spells, HasValueInRange}
@@ -7,8 +7,8 @@ use Rattle.wb_predictive.specs.declared.table.Next.{Next}
 use Rattle.wb_predictive.specs.declared.table.Next.TheVariants as n
 use Rattle.wb_tokens.specs.declared.token.Token.{Token}
 
--- the longest token at the first place stands before the second. An integer goes on as long as digits do: where it is out of range,
--- no token stands there
+-- the longest token at the first place comes before the second. An integer goes on as long as digits do: where it is out of range,
+-- no token is there
 pub record IsTokenAt (text : List ℕ) (token : Token) (at end : ℕ) : Type 0 where
   pub ordered : at < end
   pub within : end ≤ length text
@@ -35,7 +35,7 @@ pub record IsEnd (layout : Layout) (text : List ℕ) (from at : ℕ) : Type 0 wh
   pub skipped : SkipsLayout layout text from at
   pub last : at ≡ length text
 
--- the text goes on after layout, and no token stands there
+-- the text goes on after layout, and no token is there
 pub record IsNoToken (layout : Layout) (text : List ℕ) (from at : ℕ) : Type 0 where
   pub skipped : SkipsLayout layout text from at
   pub within : at < length text

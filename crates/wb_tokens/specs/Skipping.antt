@@ -7,7 +7,7 @@ use Rattle.wb_tokens.specs.declared.token.Layout.TheVariants.{WithComments}
 abbrev pub is_blank : ℕ → Bool
 is_blank b = b == 32 || b == 9 || b == 10 || b == 13
 
--- this byte stands at this place
+-- this byte is at this place
 pub record HasByte (text : List ℕ) (at byte : ℕ) : Type 0 where
   pub within : at < length text
   pub is : slice_index text at ≡ byte

@@ -18,7 +18,7 @@ pub data IsInteger : List ℕ → ℤ → Type 0 where
 abbrev pub is_plain : ℕ → Bool
 is_plain b = not (b == 34 || b == 92 || b == 10)
 
--- the byte that a byte behind a backslash stands for: `"`, `\`, `n`, `t` and `r`
+-- the byte that a byte after a backslash stands for: `"`, `\`, `n`, `t` and `r`
 abbrev pub escaped_byte : ℕ → Option ℕ
 escaped_byte e =
     if e == 34 then Some 34 else if e == 92 then Some 92 else if e == 110 then Some 10 else if e == 116 then Some 9

@@ -1,6 +1,6 @@
 //! Of what kind is a token, for a grammar?
 //!
-//! Tables decide by kinds, and a kind forgets what a name or a text says. The words and the marks stand in `word` and `punctuation`.
+//! Tables decide by kinds, and a kind forgets what a name or a text says. The words and the marks are in `word` and `punctuation`.
 
 ghost use Rattle.std.specs.Prelude.{◌≡◌};
 ghost use Rattle.wb_tokens.specs.Kinds.{kind_of, integer_kind};

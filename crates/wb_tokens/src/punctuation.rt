@@ -74,7 +74,7 @@ fn single(b: u8) -> Option<Punctuation>
     }
 }
 
-// The mark that a colon with these bytes behind it is.
+// The mark that a colon with these bytes after it is.
 fn colon(after: &[u8]) -> Punctuation
     ensures { result ≡ colon_at after.now }
 {

@@ -31,7 +31,7 @@ fn regex_part(text: &[u8]) -> Option<usize>
     }
 }
 
-// The place of the closing slash, in what stands behind the opening one.
+// The place of the closing slash, in what comes after the opening one.
 fn regex_body(x: &[u8]) -> Option<usize>
     ensures { FindsRegex x.now result }
 {

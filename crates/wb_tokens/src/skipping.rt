@@ -12,14 +12,14 @@ fn is_blank(b: u8) -> bool
     matches!(b, b' ' | b'\t' | b'\n' | b'\r')
 }
 
-/// Whether the byte stands there.
+/// Whether the byte is there.
 pub fn has_byte(text: &[u8], at: usize, byte: u8) -> bool
     ensures { IsTrue result ↔ HasByte text.now at byte }
 {
     at < text.len() && text[at] == byte
 }
 
-// Whether two slashes stand there.
+// Whether two slashes are there.
 fn begins_comment(text: &[u8], at: usize) -> bool
     ensures { IsTrue result ↔ (HasByte text.now at 47 × HasByte text.now (at + 1) 47) }
 {
@@ -45,7 +45,7 @@ fn line_end(text: &[u8], from: usize) -> usize
     at
 }
 
-// The place behind the piece of layout that begins there.
+// The place after the piece of layout that begins there.
 fn layout_piece(text: &[u8], at: usize, layout: Layout) -> Option<usize>
     requires { at ≤ length text.now }
     ensures piece { MatchOption result
@@ -71,7 +71,7 @@ fn layout_piece(text: &[u8], at: usize, layout: Layout) -> Option<usize>
     }
 }
 
-/// The place behind all layout from a place on.
+/// The place after all layout from a place on.
 pub fn skip_layout(text: &[u8], from: usize, layout: Layout) -> usize
     requires { from ≤ length text.now }
     ensures skipped { SkipsLayout layout text.now from result }

@@ -12,7 +12,7 @@ use std::alloc::{AllocError, Global};
 use wb_base::Bytes;
 use wb_base::decimal::hex_value;
 
-// The byte that a byte behind a backslash stands for.
+// The byte that a byte after a backslash stands for.
 fn escaped_byte(e: u8) -> Option<u8>
     ensures { result ≡ escaped_byte e }
 {
@@ -26,7 +26,7 @@ fn escaped_byte(e: u8) -> Option<u8>
     }
 }
 
-// The byte that hexadecimal digits behind `\x` stand for, and the count of bytes from the backslash on.
+// The byte that hexadecimal digits after `\x` stand for, and the count of bytes from the backslash on.
 fn hexadecimal(after: &[u8]) -> Option<(u8, usize)>
     ensures { result ≡ hexadecimal_at after.now }
 {
@@ -65,7 +65,7 @@ fn string_part(text: &[u8]) -> Option<(u8, usize)>
     }
 }
 
-// The text of a string and the place of its closing quote, in what stands behind the opening quote.
+// The text of a string and the place of its closing quote, in what comes after the opening quote.
 fn string_body(alloc: Global, x: &[u8]) -> Result<Option<(Vec<u8>, usize)>, AllocError>
     ensures { IfOk result (λ found. FindsString x.now (option_map (λ pair. (pair.0.items, pair.1)) found)) }
 {

@@ -14,7 +14,7 @@ pub enum Token {
     Int(i64),
     /// A string: the text that stands between the quotes, with escapes replaced by what they stand for.
     Text(Bytes),
-    /// A regular expression: the bytes between the slashes, as they stand there.
+    /// A regular expression: the bytes between the slashes, as they are there.
     Regex(Bytes),
     /// A punctuation mark.
     Punctuation(Punctuation),

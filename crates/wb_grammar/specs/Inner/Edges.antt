@@ -40,7 +40,7 @@ edges_of left [] = []
 edges_of left (Terminal t ∷ symbols) = edges_of left symbols
 edges_of left (Nonterminal b ∷ symbols) = (left, b) ∷ edges_of left symbols
 
--- so many symbols in front are held by the set, and the one after them, if there is one, isn't
+-- so many symbols at the beginning are held by the set, and the one after them, if there is one, isn't
 pub data IsLeading (nullable : List Bool) : List Symbol → ℕ → Type 0 where
   over : IsLeading nullable [] 0
   stops : {x : Symbol} {w : List Symbol} → ¬ Holds false nullable x → IsLeading nullable (x ∷ w) 0

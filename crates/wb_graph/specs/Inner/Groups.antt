@@ -1,4 +1,4 @@
--- A path-based search for strongly connected components: open vertices stand in groups, one after another, and a group is closed
+-- A path-based search for strongly connected components: open vertices are in groups, one after another, and a group is closed
 -- once all its edges are taken.
 use Rattle.std.specs.Prelude.{◌≡◌, ◌<◌, ◌≤◌, ◌+◌, ◌-◌, ◌*◌, ◌⊎◌, ◌++◌, ◌∷◌, ℕ, List, [], Option, Some, None, All, Contains, length}
 use Rattle.std.specs.Prelude.{slice_get, slice_set, slice_index, sum, take, drop}

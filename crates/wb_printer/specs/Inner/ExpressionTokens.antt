@@ -12,7 +12,7 @@ abbrev pub truth_token : Bool → Token
 truth_token true = t.Word w.True
 truth_token false = t.Word w.False
 
--- what stands before an attribute or the word 'lexeme', and that
+-- what comes before an attribute or the word 'lexeme', and that
 abbrev pub dotted : Token → Token → List Token
 dotted before behind = before ∷ t.Punctuation p.Dot ∷ behind ∷ []
 

@@ -40,7 +40,7 @@ named word name = t.Word word ∷ t.Name name ∷ t.Punctuation p.Semicolon ∷ 
 abbrev pub pattern_tokens : Word → List ℕ → List ℕ → List Token
 pattern_tokens word name bytes = t.Word word ∷ t.Name name ∷ t.Regex bytes ∷ t.Punctuation p.Semicolon ∷ []
 
--- two words, with a name behind each
+-- two words, with a name after each
 abbrev pub pair_tokens : Word → List ℕ → Word → List ℕ → List Token
 pair_tokens word name second_word second = t.Word word ∷ t.Name name ∷ named second_word second
 

@@ -1,9 +1,9 @@
--- How tokens are added to a text, one behind the other.
+-- How tokens are added to a text, one after the other.
 use Rattle.std.specs.Prelude.{ℕ, ◌||◌, Bool, true, List, [], ◌∷◌, ◌++◌, if◌then◌else◌}
 use Rattle.wb_tokens.specs.declared.token.Token.{Token}
 use Rattle.wb_syntax.specs.Canonical.{printed, follows_closely, leads_closely}
 
--- a text that is being written, and whether the next token stands at its end without a space, as at the beginning of a line
+-- a text that is being written, and whether the next token is at its end without a space, as at the beginning of a line
 pub record Output : Type 0 where
   pub text : List ℕ
   pub closely : Bool

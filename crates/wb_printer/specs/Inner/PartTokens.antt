@@ -45,7 +45,7 @@ abbrev pub children_tokens : List Child → List Token
 children_tokens [] = []
 children_tokens (child ∷ rest) = t.Name child.label ∷ t.Punctuation p.Colon ∷ kind_token child.kind ∷ children_tokens rest
 
--- what stands before the expression of an equation
+-- what comes before the expression of an equation
 abbrev pub target_tokens : Target → List Token
 target_tokens (g.Top attribute) = t.Word w.Top ∷ t.Punctuation p.Dot ∷ t.Name attribute ∷ t.Punctuation p.Equals ∷ []
 target_tokens (g.Label label attribute) = t.Name label ∷ t.Punctuation p.Dot ∷ t.Name attribute ∷ t.Punctuation p.Equals ∷ []

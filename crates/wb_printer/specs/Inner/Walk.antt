@@ -13,7 +13,7 @@ use Rattle.wb_printer.specs.declared.expressions.Waiting.{Waiting}
 use Rattle.wb_printer.specs.declared.expressions.Waiting.TheVariants.{Whole, Arguments, Then, Else}
 use Rattle.wb_printer.specs.Inner.Output.{Output, after}
 
--- what stands before an argument: nothing before the first one
+-- what comes before an argument: nothing before the first one
 abbrev pub separator : Bool → List Token
 separator true = []
 separator false = t.Punctuation p.Comma ∷ []
@@ -49,7 +49,7 @@ Continues nodes before then_waiting behind waiting visited =
     → (more : List Token) × (left : ℕ) × AreToCome nodes waiting more left × (left + visited ≡ count)
     × (after behind more ≡ after before tokens)
 
--- the whole at this place and what is to come behind it are what is left of the expression, of which this many nodes were visited
+-- the whole at this place and what is to come after it are what is left of the expression, of which this many nodes were visited
 abbrev pub IsVisiting : List Node → Output → Output → ℕ → List Waiting → ℕ → Expression → Type 0
 IsVisiting nodes before behind place stack visited e =
     (tokens : List Token) × (count : ℕ) × AreToCome nodes (Whole place ∷ stack) tokens count × (count + visited ≡ length nodes)

@@ -16,7 +16,7 @@ single_mark b =
     if b == 41 then Some p.CloseParenthesis else
     if b == 64 then Some p.At else None
 
--- the mark that a colon with these bytes behind it is: `::=`, or `:` alone
+-- the mark that a colon with these bytes after it is: `::=`, or `:` alone
 abbrev pub colon_at : List ℕ → Punctuation
 colon_at [] = p.Colon
 colon_at (b ∷ []) = p.Colon

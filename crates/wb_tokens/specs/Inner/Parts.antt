@@ -15,13 +15,13 @@ abbrev pub counted : Option ℕ → ℕ → Option (ℕ × ℕ)
 counted None count = None
 counted (Some b) count = Some (b, count)
 
--- behind `\x`
+-- after `\x`
 abbrev pub hexadecimal_at : List ℕ → Option (ℕ × ℕ)
 hexadecimal_at [] = None
 hexadecimal_at (h ∷ []) = None
 hexadecimal_at (h ∷ l ∷ x) = counted (byte_of (hex_value h) (hex_value l)) 4
 
--- behind `\`
+-- after `\`
 abbrev pub escape_at : List ℕ → Option (ℕ × ℕ)
 escape_at [] = None
 escape_at (e ∷ x) = if e == 120 then hexadecimal_at x else counted (escaped_byte e) 2
@@ -31,7 +31,7 @@ abbrev pub string_part : List ℕ → Option (ℕ × ℕ)
 string_part [] = None
 string_part (b ∷ x) = if b == 92 then escape_at x else if is_plain b then Some (b, 1) else None
 
--- behind `\` in a regular expression
+-- after `\` in a regular expression
 abbrev pub regex_escape : List ℕ → Option ℕ
 regex_escape [] = None
 regex_escape (b ∷ x) = if b == 10 then None else Some 2
@@ -41,12 +41,12 @@ abbrev pub regex_part : List ℕ → Option ℕ
 regex_part [] = None
 regex_part (b ∷ x) = if b == 92 then regex_escape x else if b == 47 || b == 10 then None else Some 1
 
--- a string's text with the place of its closing quote, in what stands behind the opening quote
+-- a string's text with the place of its closing quote, in what comes after the opening quote
 abbrev pub FindsString : List ℕ → Option (List ℕ × ℕ) → Type 0
 FindsString x None = (body text rest : List ℕ) → IsStringBody body text → x ≢ body ++ 34 ∷ rest
 FindsString x (Some found) = IsStringBody (take found.1 x) found.0 × HasByte x found.1 34
 
--- the place of the closing slash, in what stands behind the opening one
+-- the place of the closing slash, in what comes after the opening one
 abbrev pub FindsRegex : List ℕ → Option ℕ → Type 0
 FindsRegex x None = (body rest : List ℕ) → IsRegexBody body → x ≢ body ++ 47 ∷ rest
 FindsRegex x (Some place) = IsRegexBody (take place x) × HasByte x place 47
