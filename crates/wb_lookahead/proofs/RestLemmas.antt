@@ -112,7 +112,7 @@ begins_terminal g w left set new v h len is = record {
       | inr more ↦ (is u).1 (inr (terminal_first v left u more))
     ],
   );
-  empty = (λ t. absurd (true≢false (sym t)), λ r. absurd (Terminal-not_nullable v left (h.empty.0 r)));
+  empty = (λ t. absurd (true≢false (sym t)), λ r. absurd (Terminal-not_nullable (h.empty.0 r)));
 }
 
 -- nothing is left
