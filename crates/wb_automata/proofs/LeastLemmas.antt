@@ -95,7 +95,7 @@ in_all automaton n k r x h lt at m = record {
 }
 
 -- the path of a state that isn't later than a text from the one start has no later text
-at_most : (path : Path) (shared : List ℕ) → IsLatest (record { set = 0; text = shared }) path → IsAtMost path.text shared
+pub at_most : (path : Path) (shared : List ℕ) → IsLatest (record { set = 0; text = shared }) path → IsAtMost path.text shared
 at_most path shared (inl e) = inl (ap (λ z. z.text) e)
 at_most path shared (inr (inl lt)) = absurd (omega arith)
 at_most path shared (inr (inr (same, before))) = inr before

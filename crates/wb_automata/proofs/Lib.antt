@@ -14,6 +14,7 @@ pub mod NodeLemmas
 pub mod OrderLemmas
 pub mod PlaceLemmas
 pub mod PlantLemmas
+pub mod PairLemmas
 pub mod Paths
 pub mod Ranges
 pub mod RepeatedLemmas

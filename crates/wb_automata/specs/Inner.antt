@@ -18,6 +18,8 @@ pub mod Forests
 pub mod Found
 -- nodes in post-order, with tables for them
 pub mod Nodes
+-- pairs of places, and the groups in which they are met
+pub mod Pairs
 -- sets of positions as states
 pub mod PositionSets
 -- expressions whose leaves are positions

@@ -6,10 +6,13 @@ ghost use Rattle.std.specs.Prelude.{◌≡◌, ◌<◌, ◌∷◌, ℕ, [], fals
 ghost use Rattle.wb_regex.specs.Filled.{Filled};
 ghost use Rattle.wb_automata.specs.Automata.{LeadsTo, MatchesIn};
 ghost use Rattle.wb_automata.specs.Inner.SharedStates.{HasAll, IsLeastState};
+ghost use Rattle.wb_automata.specs.Inner.Tables.{AreTables};
 ghost use Rattle.wb_automata.specs.Overlaps.{IsLeastMatch, IsOverlap};
 
 use crate::automaton::Automaton;
+use crate::pairs::least_shared;
 use crate::shared::Overlap;
+use crate::tables::{Tables, tables_of};
 use std::alloc::{AllocError, Global};
 use wb_base::{Bytes, push};
 use wb_regex::Regex;
@@ -17,16 +20,13 @@ use wb_termset::TermSet;
 
 /// The least text that both expressions match, by length and then by bytes, or that there is none.
 ///
-/// The automaton of the two alone is built, whole: it has a state for each two sets of positions that one text leads to. The only
-/// error is want of memory.
+/// Pairs of a place in each expression are met breadth first, each once, so that time grows with the product of the numbers of
+/// follow-ups in both, and memory with the product of their nodes. The only error is want of memory.
 pub fn overlap(alloc: Global, left: &Regex, right: &Regex) -> Result<Overlap, AllocError>
     ensures { IfOk result (IsOverlap left.now right.now) }
 {
-    let automaton = automaton_of_two(alloc, left, right)?;
-    match first_shared(&automaton, 0, 1) {
-        None => Ok(Overlap::Disjoint),
-        Some(state) => Ok(Overlap::Both(automaton.text(alloc, state)?)),
-    }
+    let tables = tables_of_two(alloc, left, right)?;
+    least_shared(alloc, &tables)
 }
 
 /// The shortest text that matches, and of these the first in byte order. The only error is want of memory.
@@ -51,13 +51,12 @@ fn automaton_of_one(alloc: Global, regex: &Regex) -> Result<Automaton, AllocErro
     build_of(alloc, &one)
 }
 
-// The automaton of both, in one set.
-fn automaton_of_two(alloc: Global, left: &Regex, right: &Regex) -> Result<Automaton, AllocError>
-    ensures terminals { IfOk result (λ automaton. automaton.terminals ≡ left.now ∷ right.now ∷ []) }
-    ensures sets { IfOk result (λ automaton. HasAll 2 automaton.sets) }
+// The tables of both, without sets.
+fn tables_of_two(alloc: Global, left: &Regex, right: &Regex) -> Result<Tables, AllocError>
+    ensures { IfOk result (AreTables (left.now ∷ right.now ∷ []) []) }
 {
     let both = pair(alloc, left, right)?;
-    build_of(alloc, &both)
+    tables_of(alloc, &both, &[])
 }
 
 // The automaton of these expressions, in one set.
