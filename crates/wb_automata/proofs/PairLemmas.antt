@@ -9,7 +9,8 @@ use Rattle.std.proofs.lemmas.List.Elements.{Contains-append_left, Contains-push,
 use Rattle.std.proofs.lemmas.Nat.{div-mul-add, mod-mul-add}
 use Rattle.std.proofs.lemmas.Option.{slice_get-get_or, same_Some}
 use Rattle.wb_termset.specs.Sets.{IsMember}
-use Rattle.wb_termset.proofs.CallerLemmas.{IsEmpty-replicate, IsSubset-insert, IsMember-insert, IsMember-insert_same, members_mono, members_grow}
+use Rattle.wb_termset.proofs.CallerLemmas.{IsEmpty-replicate, IsSubset-insert, IsMember-insert, IsMember-insert_same, members_mono}
+use Rattle.wb_termset.proofs.CallerLemmas.{members_grow}
 use Rattle.wb_regex.specs.Tree.{Tree}
 use Rattle.wb_regex.specs.Matches as w
 use Rattle.wb_regex.specs.declared.node.RegexNode.{RegexNode}
@@ -494,14 +495,16 @@ module _ (t : Tables) (bytes : List ℕ) (old : Met) (i k : ℕ) (flags : List B
       | inl early ↦ led_keeps t old grown i (get_or bytes j 0) grown_keeps h.within (h.led j early)
       | inr late' ↦ subst (λ z. IsLed t grown i (get_or bytes z 0)) (let e : k ≡ j = omega arith in e)
           (λ c d has after. subst (λ z. IsMetUpTo grown d (on z byte)) (sym (grown_keeps.paths i h.within))
-          (elim (adds.only d (adds.all d (record { one = c; has = subst (λ z. Contains z c) (grown_keeps.pairs i h.within) has; is = after }))) [
+          (elim (adds.only d (adds.all d
+          (record { one = c; has = subst (λ z. Contains z c) (grown_keeps.pairs i h.within) has; is = after }))) [
             | inl was ↦ up_keeps old grown d to grown_keeps (up_old d was)
             | inr new ↦ up_new d new
           ]))
     ];
     edge = λ b up g less. subst (λ z. IsEarlier (path_at grown_paths g) (on z b)) (sym (grown_keeps.paths i h.within))
         (elim (cases_lt g (length old.paths)) [
-          | inl early ↦ subst (λ z. IsEarlier z (on (path_at old.paths i) b)) (sym (grown_keeps.paths g (omega (arith, h.begun.are_met.len))))
+          | inl early ↦ subst (λ z. IsEarlier z (on (path_at old.paths i) b))
+              (sym (grown_keeps.paths g (omega (arith, h.begun.are_met.len))))
               (h.edge b (λ j low. up j (omega arith)) g early)
           | inr past ↦
               let e : g ≡ length old.pairs = omega (arith, h.begun.are_met.len, length-append old.paths (to ∷ [])) in
@@ -627,7 +630,10 @@ walked_first t flags first two fits adds = record {
     are_met = record {
       has_flags = record { table = two.table; len = adds.len ∙ length-replicate (length t.follow * length t.follow) false; fits = fits };
       len = refl;
-      few = elim adds.grew [ inl none ↦ absurd (none_in (start_pair t) (subst (λ z. Contains z (start_pair t)) none has)) | inr more ↦ omega arith ];
+      few = elim adds.grew [
+        | inl none ↦ absurd (none_in (start_pair t) (subst (λ z. Contains z (start_pair t)) none has))
+        | inr more ↦ omega arith
+      ];
       listed = λ c on'. elim (adds.only c on') [
         | inl was ↦ absurd (IsEmpty-replicate (length t.follow * length t.follow) c was)
         | inr is ↦ record { group = 0; within = omega arith; has = is }

@@ -1,11 +1,12 @@
 //! What is the least text that two expressions share, and the least that one matches?
 //!
-//! States are numbered by their paths, so the first state that accepts has the least text.
+//! For two it is found over pairs of their places (`pairs`). States of one automaton are numbered by their paths, so that the first
+//! one that accepts has the least text.
 
 ghost use Rattle.std.specs.Prelude.{◌≡◌, ◌<◌, ◌∷◌, ℕ, [], false, List, IfOk, IfSome, IsNone, IsTrue, length};
 ghost use Rattle.wb_regex.specs.Filled.{Filled};
 ghost use Rattle.wb_automata.specs.Automata.{LeadsTo, MatchesIn};
-ghost use Rattle.wb_automata.specs.Inner.SharedStates.{HasAll, IsLeastState};
+ghost use Rattle.wb_automata.specs.Inner.LeastStates.{HasAll, IsLeastState};
 ghost use Rattle.wb_automata.specs.Inner.Tables.{AreTables};
 ghost use Rattle.wb_automata.specs.Overlaps.{IsLeastMatch, IsOverlap};
 
@@ -20,8 +21,9 @@ use wb_termset::TermSet;
 
 /// The least text that both expressions match, by length and then by bytes, or that there is none.
 ///
-/// Pairs of a place in each expression are met breadth first, each once, so that time grows with the product of the numbers of
-/// follow-ups in both, and memory with the product of their nodes. The only error is want of memory.
+/// Pairs of a leaf of the one and a leaf of the other are met, each once. So for each class of bytes the time is at most the product of
+/// how many leaves may follow one another in the one and in the other. The memory is a bit for each two nodes of both, and a number for
+/// each pair that is met. The only error is want of memory.
 pub fn overlap(alloc: Global, left: &Regex, right: &Regex) -> Result<Overlap, AllocError>
     ensures { IfOk result (IsOverlap left.now right.now) }
 {
@@ -34,7 +36,7 @@ pub fn least_text(alloc: Global, regex: &Regex) -> Result<Bytes, AllocError>
     ensures { IfOk result (IsLeastMatch regex.now) }
 {
     let automaton = automaton_of_one(alloc, regex)?;
-    match first_shared(&automaton, 0, 0) {
+    match first_accepting(&automaton, 0) {
         // Each set of bytes holds one, so some text matches.
         None => unreachable!(),
         Some(state) => automaton.text(alloc, state),
@@ -99,24 +101,16 @@ fn pair(alloc: Global, left: &Regex, right: &Regex) -> Result<Vec<Regex>, AllocE
     Ok(both)
 }
 
-// The first state that accepts both terminals.
-fn first_shared(automaton: &Automaton, one: usize, other: usize) -> Option<usize>
+// The first state that accepts the terminal.
+fn first_accepting(automaton: &Automaton, terminal: usize) -> Option<usize>
     ensures below { IfSome result (λ state. state < length automaton.now.paths) }
-    ensures some { IfSome result (IsLeastState automaton.now one other) }
-    ensures none { IsNone result → (set : ℕ) (text : List ℕ) → MatchesIn automaton.now set one text → MatchesIn automaton.now set other text → ⊥ }
+    ensures some { IfSome result (IsLeastState automaton.now terminal) }
+    ensures none { IsNone result → (set : ℕ) (text : List ℕ) → ¬ MatchesIn automaton.now set terminal text }
 {
     for state in 0..automaton.states() {
-        if accepts_both(automaton, state, one, other) {
+        if automaton.accepts(state, terminal) {
             return Some(state);
         }
     }
     None
-}
-
-fn accepts_both(automaton: &Automaton, state: usize, one: usize, other: usize) -> bool
-    requires { state < length automaton.now.paths }
-    ensures both { IsTrue result → (set : ℕ) (text : List ℕ) → LeadsTo automaton.now set text state → MatchesIn automaton.now set one text × MatchesIn automaton.now set other text }
-    ensures apart { result ≡ false → (set : ℕ) (text : List ℕ) → LeadsTo automaton.now set text state → MatchesIn automaton.now set one text → MatchesIn automaton.now set other text → ⊥ }
-{
-    automaton.accepts(state, one) && automaton.accepts(state, other)
 }

@@ -16,8 +16,8 @@ loop-right-preserved c =
     let holds : holds_of t.nodes.items q c.args.reading.now.byte ≡ c.holds.result = holds_at t.nodes.items q c.args.reading.now.byte
     c.index.result.now c.holds.result (c.requires.rights i 0 (omega arith)) c.index.ensures c.holds.ensures in
     elim c.if-holds.branch [
-      | then-holds+in_ok-meet w ↦ rw (w.met-is, w.next-is) (adds_more xs i wanted c.args.met.now c.loop-right.met w.meet.new.met c.args.next.now
-          c.loop-right.next w.meet.new.next (omega arith)
+      | then-holds+in_ok-meet w ↦ rw (w.met-is, w.next-is) (adds_more xs i wanted c.args.met.now c.loop-right.met w.meet.new.met
+          c.args.next.now c.loop-right.next w.meet.new.next (omega arith)
           (adds_same (λ d. d ≡ c.args.left * c.len.result + q) (wanted q) c.loop-right.met w.meet.new.met c.loop-right.next w.meet.new.next
           (λ d e. (holds ∙ w.if-holds.true, e ∙ ap (λ z. c.args.left * z + q) c.len.ensures))
           (λ d (h, e). e ∙ ap (λ z. c.args.left * z + q) (sym c.len.ensures)) w.in_ok-meet.ensures) c.loop-right.invariant)
