@@ -6,6 +6,7 @@ pub mod EndLemmas
 pub mod ErasingLemmas
 pub mod FlatLemmas
 pub mod Forests
+pub mod GroupLemmas
 pub mod JoinLemmas
 pub mod KeyLemmas
 pub mod LeastLemmas

@@ -1,6 +1,6 @@
 use Rattle.std.proofs.Common.{arith}
 use Rattle.wb_automata.specs.Inner.Pairs.{met_of}
-use Rattle.wb_automata.proofs.PairLemmas.{passing_begin, passing_more, passing_end}
+use Rattle.wb_automata.proofs.GroupLemmas.{passing_begin, passing_more, passing_end}
 use Rattle.wb_automata.proofs.pairs.go_on.Goals as goal
 
 pub loop-byte-init : goal.loop-byte-init

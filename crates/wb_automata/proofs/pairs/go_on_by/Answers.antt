@@ -1,7 +1,7 @@
 use Rattle.std.proofs.Common.{◌∙◌, sym, arith}
 use Rattle.std.proofs.lemmas.Bool.{true≢false}
 use Rattle.wb_automata.specs.Inner.Pairs.{met_of}
-use Rattle.wb_automata.proofs.PairLemmas.{lefts_below, passed_add}
+use Rattle.wb_automata.proofs.GroupLemmas.{lefts_below, passed_add}
 use Rattle.wb_automata.proofs.pairs.go_on_by.Goals as goal
 
 pub next_group-requires-clause-flags : goal.next_group-requires-clause-flags

@@ -1,4 +1,4 @@
-use Rattle.wb_automata.proofs.PairLemmas.{start_walked}
+use Rattle.wb_automata.proofs.GroupLemmas.{start_walked}
 use Rattle.wb_automata.proofs.pairs.start.Goals as goal
 
 pub returns : goal.returns

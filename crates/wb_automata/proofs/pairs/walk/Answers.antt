@@ -1,7 +1,7 @@
 use Rattle.std.proofs.Common.{arith, subst}
 use Rattle.wb_termset.proofs.CallerLemmas.{members_le}
 use Rattle.wb_automata.specs.Inner.Pairs.{AreApart, HasEnd, met_of}
-use Rattle.wb_automata.proofs.PairLemmas.{least_group, lefts_below, no_group}
+use Rattle.wb_automata.proofs.GroupLemmas.{least_group, lefts_below, no_group}
 use Rattle.wb_automata.proofs.pairs.walk.Goals as goal
 
 pub ends_both-requires-clause-pairs : goal.ends_both-requires-clause-pairs
