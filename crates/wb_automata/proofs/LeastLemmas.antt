@@ -10,8 +10,8 @@ use Rattle.wb_regex.specs.Matches as w
 use Rattle.wb_termset.specs.Sets.{IsMember}
 use Rattle.wb_automata.specs.Order.{IsAtMost}
 use Rattle.wb_automata.specs.Automata.{AutomatonView, Path, IsMatch, MatchesIn, GoesOn, LeadsTo, IsOrdered}
-use Rattle.wb_automata.specs.Inner.SharedStates.{HasAll, IsLeastState, AreApartBelow}
-use Rattle.wb_automata.specs.Overlaps.{IsLeastShared}
+use Rattle.wb_automata.specs.Inner.LeastStates.{HasAll, IsLeastState, AreApartBelow}
+use Rattle.wb_automata.specs.Overlaps.{IsLeastMatch}
 use Rattle.wb_automata.proofs.OrderLemmas.{IsLatest, latest_next}
 use Rattle.wb_automata.proofs.WalkLemmas.{alike_same}
 
@@ -48,37 +48,35 @@ late_path automaton state s path text ordered at g apart =
       ]
     ]
 
--- the first state that accepts both
-pub least_state : (automaton : AutomatonView) (one other state : ℕ) → IsOrdered automaton → state < length automaton.paths
-    → AreApartBelow automaton one other state → ((s : ℕ) (text : List ℕ) → LeadsTo automaton s text state → MatchesIn automaton s one text
-    × MatchesIn automaton s other text) → IsLeastState automaton one other state
-least_state automaton one other state ordered lt apart both =
+-- the first state that accepts
+pub least_state : (automaton : AutomatonView) (terminal state : ℕ) → IsOrdered automaton → state < length automaton.paths
+    → AreApartBelow automaton terminal state →
+    ((s : ℕ) (text : List ℕ) → LeadsTo automaton s text state → MatchesIn automaton s terminal text) → IsLeastState automaton terminal state
+least_state automaton terminal state ordered lt apart accepts =
     let path : Path = get_or automaton.paths state (record { set = 0; text = [] }) in
     let at : slice_get automaton.paths state ≡ Some path = slice_get-get_or automaton.paths state (record { set = 0; text = [] }) lt in
-    let (m, k) = both path.set path.text (path_leads automaton state path at) in
     record {
       path = path;
       at = at;
-      first = m;
-      second = k;
-      least = λ s shared p q. late_path automaton state s path shared ordered at (match_goes automaton s one shared p)
-          (λ early less leads. apart early s shared less leads p q);
+      matches = accepts path.set path.text (path_leads automaton state path at);
+      least = λ s other m. late_path automaton state s path other ordered at (match_goes automaton s terminal other m)
+          (λ early less leads. apart early s other less leads m);
     }
 
--- no state accepts both
-pub none_shared : (automaton : AutomatonView) (one other n : ℕ) → IsOrdered automaton → length automaton.paths ≤ n
-    → AreApartBelow automaton one other n → (s : ℕ) (text : List ℕ) → MatchesIn automaton s one text → MatchesIn automaton s other text → ⊥
-none_shared automaton one other n ordered le apart s text p q =
-    let f = ordered.every s text (match_goes automaton s one text p) in
-    apart f.state s text (omega (arith, slice_get_within automaton.paths f.state f.leads.path f.leads.at)) f.leads p q
+-- no state accepts
+pub none_accepts : (automaton : AutomatonView) (terminal n : ℕ) → IsOrdered automaton → length automaton.paths ≤ n
+    → AreApartBelow automaton terminal n → (s : ℕ) (text : List ℕ) → ¬ MatchesIn automaton s terminal text
+none_accepts automaton terminal n ordered le apart s text m =
+    let f = ordered.every s text (match_goes automaton s terminal text m) in
+    apart f.state s text (omega (arith, slice_get_within automaton.paths f.state f.leads.path f.leads.at)) f.leads m
 
 -- one state more
-pub apart_more : (automaton : AutomatonView) (one other n : ℕ) → AreApartBelow automaton one other n →
-    ((s : ℕ) (text : List ℕ) → LeadsTo automaton s text n → MatchesIn automaton s one text → MatchesIn automaton s other text → ⊥)
-    → AreApartBelow automaton one other (n + 1)
-apart_more automaton one other n before here state s text lt l p q = elim (cases_lt state n) [
-  | inl early ↦ before state s text early l p q
-  | inr late ↦ here s text (subst (LeadsTo automaton s text) (let e : state ≡ n = omega arith in e) l) p q
+pub apart_more : (automaton : AutomatonView) (terminal n : ℕ) → AreApartBelow automaton terminal n →
+    ((s : ℕ) (text : List ℕ) → LeadsTo automaton s text n → ¬ MatchesIn automaton s terminal text)
+    → AreApartBelow automaton terminal (n + 1)
+apart_more automaton terminal n before here state s text lt l m = elim (cases_lt state n) [
+  | inl early ↦ before state s text early l m
+  | inr late ↦ here s text (subst (LeadsTo automaton s text) (let e : state ≡ n = omega arith in e) l) m
 ]
 
 -- what a terminal matches
@@ -95,22 +93,19 @@ in_all automaton n k r x h lt at m = record {
 }
 
 -- the path of a state that isn't later than a text from the one start has no later text
-at_most : (path : Path) (shared : List ℕ) → IsLatest (record { set = 0; text = shared }) path → IsAtMost path.text shared
+pub at_most : (path : Path) (shared : List ℕ) → IsLatest (record { set = 0; text = shared }) path → IsAtMost path.text shared
 at_most path shared (inl e) = inl (ap (λ z. z.text) e)
 at_most path shared (inr (inl lt)) = absurd (omega arith)
 at_most path shared (inr (inr (same, before))) = inr before
 
--- the text of the first state that accepts two terminals is the least that both match
-pub least_of : (automaton : AutomatonView) (n j k : ℕ) (r s : Tree) (state : ℕ) (text : List ℕ) → HasAll n automaton.sets → j < n → k < n
-    → slice_get automaton.terminals j ≡ Some r → slice_get automaton.terminals k ≡ Some s →
-    ((path : Path) → slice_get automaton.paths state ≡ Some path → text ≡ path.text) → IsLeastState automaton j k state
-    → IsLeastShared r s text
-least_of automaton n j k r s state text all lt less at_j at_k at l =
-    subst (IsLeastShared r s) (sym (at l.path l.at)) (record {
-      one = tree_matches automaton.terminals j r l.path.text at_j l.first.is;
-      other = tree_matches automaton.terminals k s l.path.text at_k l.second.is;
-      least = λ shared p q. at_most l.path shared (l.least 0 shared (in_all automaton n j r shared all lt at_j p)
-          (in_all automaton n k s shared all less at_k q));
+-- the text of the first state that accepts a terminal is the least that it matches
+pub least_of : (automaton : AutomatonView) (n k : ℕ) (r : Tree) (state : ℕ) (text : List ℕ) → HasAll n automaton.sets → k < n
+    → slice_get automaton.terminals k ≡ Some r → ((path : Path) → slice_get automaton.paths state ≡ Some path → text ≡ path.text)
+    → IsLeastState automaton k state → IsLeastMatch r text
+least_of automaton n k r state text all lt at is l =
+    subst (IsLeastMatch r) (sym (is l.path l.at)) (record {
+      matches = tree_matches automaton.terminals k r l.path.text at l.matches.is;
+      least = λ other m. at_most l.path other (l.least 0 other (in_all automaton n k r other all lt at m));
     })
 
 -- one set of all numbers below the count, as far as it is made

@@ -6,6 +6,7 @@ pub mod EndLemmas
 pub mod ErasingLemmas
 pub mod FlatLemmas
 pub mod Forests
+pub mod GroupLemmas
 pub mod JoinLemmas
 pub mod KeyLemmas
 pub mod LeastLemmas
@@ -14,6 +15,7 @@ pub mod NodeLemmas
 pub mod OrderLemmas
 pub mod PlaceLemmas
 pub mod PlantLemmas
+pub mod PairLemmas
 pub mod Paths
 pub mod Ranges
 pub mod RepeatedLemmas

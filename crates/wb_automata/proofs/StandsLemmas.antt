@@ -1,13 +1,13 @@
 -- Sets of leaves read exactly the texts that match.
-use Rattle.std.proofs.Common.{◌≡◌, ℕ, ◌+◌, ◌≤◌, Bool, true, List, [], ◌∷◌, ◌++◌, refl, sym, ◌∙◌, ap, subst, arith, inl, inr, append_assoc}
-use Rattle.std.proofs.Common.{append-nil, Some, length}
+use Rattle.std.proofs.Common.{◌≡◌, ℕ, ◌+◌, ◌≤◌, Bool, true, List, [], ◌∷◌, ◌++◌, refl, sym, ◌∙◌, ap, subst, arith, inl, inr, ◌⊎◌}
+use Rattle.std.proofs.Common.{append_assoc, append-nil, Some, length}
 use Rattle.std.specs.Prelude.{slice_get, ◌↔◌, Contains}
 use Rattle.std.proofs.lemmas.Bool.{cases_eq, cases_lt}
 use Rattle.std.proofs.lemmas.Option.{same_Some, slice_get_within}
 use Rattle.wb_automata.specs.Inner.PositionTrees.{PositionTree, Leaf, Sequence, Choice, Star, Plus, Maybe, Matches, one, seq, left, none}
 use Rattle.wb_automata.specs.Inner.PositionTrees.{once, absent}
 use Rattle.wb_automata.specs.Inner.Positions.{First, Follow, After}
-use Rattle.wb_automata.specs.Inner.PositionSets.{Ranges, Filled, Rest, IsNext, IsStartOf, Stands, Ends}
+use Rattle.wb_automata.specs.Inner.PositionSets.{Ranges, Filled, Links, Rest, IsNext, IsStartOf, Stands, Ends}
 use Rattle.wb_automata.proofs.Ranges.{Within, first_within, follow_within, after_within}
 use Rattle.wb_automata.proofs.Paths.{begun, begins, goes, comes, last_after, after_last}
 
@@ -27,61 +27,72 @@ same_tree : (trees : List PositionTree) (bound : ℕ → ℕ) (k l p : ℕ) (s t
     → slice_get trees l ≡ Some t → Within (bound k) (bound (k + 1)) p → Within (bound l) (bound (l + 1)) p → s ≡ t
 same_tree trees bound k l p s t h e f u v = same_Some s t (sym e ∙ ap (slice_get trees) (same_number trees bound k l p h u v) ∙ f)
 
+-- the byte leads from the leaf p to one after which the text completes the expression
+pub record Entered (holds : ℕ → ℕ → Bool) (trees : List PositionTree) (n : ℕ) (t : PositionTree) (p b : ℕ) (w : List ℕ) : Type 0 where
+  pub at : ℕ
+  pub byte : holds at b ≡ true
+  pub links : Links trees n p at
+  pub after : After holds t at w
+
+module _ (holds : ℕ → ℕ → Bool) (trees : List PositionTree) (bound : ℕ → ℕ) (n : ℕ) (h : Ranges trees bound)
+    (outside : (k b : ℕ) → holds (n + k) b ≡ true → ⊥) where
+  -- what completes the expression after a leaf completes it after one before, with the byte
+  pub forth_from : (p q b k : ℕ) (t : PositionTree) (w : List ℕ) → holds q b ≡ true → Links trees n p q → slice_get trees k ≡ Some t
+      → After holds t q w ⊎ ((q ≡ n + k) × Matches holds t w) → After holds t p (b ∷ w) ⊎ ((p ≡ n + k) × Matches holds t (b ∷ w))
+  forth_from p q b k t w byte l at r = elim r [
+    | inr (e, m) ↦ absurd (outside k b (subst (λ o. holds o b ≡ true) e byte))
+    | inl after ↦
+        let spans = h.spans k t at in
+        let here : Within (bound k) (bound (k + 1)) q = after_within holds t (bound k) (bound (k + 1)) q w spans after in
+        elim l.link [
+          | inl f ↦
+              let (u, v) = follow_within l.tree (bound l.number) (bound (l.number + 1)) p q (h.spans l.number l.tree l.at) f in
+              let same : l.tree ≡ t = same_tree trees bound l.number k q l.tree t h l.at at v here in
+              inl (comes holds t (bound k) (bound (k + 1)) p q b w spans (subst (λ s. Follow s p q) same f) byte after)
+          | inr (e, f) ↦
+              let v = first_within l.tree (bound l.number) (bound (l.number + 1)) q (h.spans l.number l.tree l.at) f in
+              let number : l.number ≡ k = same_number trees bound l.number k q h v here in
+              let same : l.tree ≡ t = same_tree trees bound l.number k q l.tree t h l.at at v here in
+              inr (
+                e ∙ ap (λ z. n + z) number,
+                begins holds t (bound k) (bound (k + 1)) b q w spans (subst (λ s. First s q) same f) byte after,
+              )
+        ]
+  ]
+
+-- and back
+pub back_from : (holds : ℕ → ℕ → Bool) (trees : List PositionTree) (n p b k : ℕ) (t : PositionTree) (w : List ℕ)
+    → slice_get trees k ≡ Some t → After holds t p (b ∷ w) ⊎ ((p ≡ n + k) × Matches holds t (b ∷ w)) → Entered holds trees n t p b w
+back_from holds trees n p b k t w at r = elim r [
+  | inl after ↦
+      let d = goes holds t p b (b ∷ w) w after refl in
+      record { at = d.at; byte = d.byte; links = record { number = k; tree = t; at = at; link = inl d.follow }; after = d.after }
+  | inr (e, m) ↦
+      let d = begun holds b w m refl in
+      record { at = d.at; byte = d.byte; links = record { number = k; tree = t; at = at; link = inr (e, d.first) }; after = d.after }
+]
+
 module _ (holds : ℕ → ℕ → Bool) (trees : List PositionTree) (bound : ℕ → ℕ) (n : ℕ) (considered : ℕ → Type 0) (h : Ranges trees bound)
     (outside : (k b : ℕ) → holds (n + k) b ≡ true → ⊥) where
   forth : (set next : List ℕ) (b k : ℕ) (t : PositionTree) (w : List ℕ) → IsNext holds trees n set b next → slice_get trees k ≡ Some t
       → Rest holds n next k t w → Rest holds n set k t (b ∷ w)
   forth set next b k t w is at r =
       let target = (is r.leaf).0 r.has in
-      let l = target.links in
       record {
         leaf = target.from;
         has = target.has;
-        is = elim r.is [
-          | inr (e, m) ↦ absurd (outside k b (subst (λ o. holds o b ≡ true) e target.byte))
-          | inl after ↦
-              let spans = h.spans k t at in
-              let here : Within (bound k) (bound (k + 1)) r.leaf = after_within holds t (bound k) (bound (k + 1)) r.leaf w spans after in
-              elim l.link [
-                | inl f ↦
-                    let (u, v) = follow_within l.tree (bound l.number) (bound (l.number + 1)) target.from r.leaf
-                    (h.spans l.number l.tree l.at) f in
-                    let same : l.tree ≡ t = same_tree trees bound l.number k r.leaf l.tree t h l.at at v here in
-                    inl (comes holds t (bound k) (bound (k + 1)) target.from r.leaf b w spans
-                    (subst (λ s. Follow s target.from r.leaf) same f) target.byte after)
-                | inr (e, f) ↦
-                    let v = first_within l.tree (bound l.number) (bound (l.number + 1)) r.leaf (h.spans l.number l.tree l.at) f in
-                    let number : l.number ≡ k = same_number trees bound l.number k r.leaf h v here in
-                    let same : l.tree ≡ t = same_tree trees bound l.number k r.leaf l.tree t h l.at at v here in
-                    inr (
-                      e ∙ ap (λ z. n + z) number,
-                      begins holds t (bound k) (bound (k + 1)) b r.leaf w spans
-                          (subst (λ s. First s r.leaf) same f) target.byte after,
-                    )
-              ]
-        ];
+        is = forth_from holds trees bound n h outside target.from r.leaf b k t w target.byte target.links at r.is;
       }
 
   back : (set next : List ℕ) (b k : ℕ) (t : PositionTree) (w : List ℕ) → IsNext holds trees n set b next → slice_get trees k ≡ Some t
       → Rest holds n set k t (b ∷ w) → Rest holds n next k t w
-  back set next b k t w is at r = elim r.is [
-    | inl after ↦
-        let d = goes holds t r.leaf b (b ∷ w) w after refl in
-        record {
-          leaf = d.at;
-          has = (is d.at).1
-              (record { byte = d.byte; from = r.leaf; has = r.has; links = record { number = k; tree = t; at = at; link = inl d.follow } });
-          is = inl d.after;
-        }
-    | inr (e, m) ↦
-        let d = begun holds b w m refl in
-        record {
-          leaf = d.at;
-          has = (is d.at).1
-              (record { byte = d.byte; from = r.leaf; has = r.has; links = record { number = k; tree = t; at = at; link = inr (e, d.first) } });
-          is = inl d.after;
-        }
-  ]
+  back set next b k t w is at r =
+      let d = back_from holds trees n r.leaf b k t w at r.is in
+      record {
+        leaf = d.at;
+        has = (is d.at).1 (record { byte = d.byte; from = r.leaf; has = r.has; links = d.links });
+        is = inl d.after;
+      }
 
   -- the starts of the considered expressions
   pub stands_first : (set : List ℕ) → ((p : ℕ) → Contains set p ↔ IsStartOf n (length trees) considered p) →

@@ -26,13 +26,13 @@ use Rattle.wb_automata.proofs.ErasingLemmas.{erased, placed}
 use Rattle.wb_automata.proofs.NodeLemmas.{covers_spans}
 use Rattle.wb_automata.proofs.StandsLemmas.{stands_first, stands_next, accepts, alive, some_text}
 
-forest_ranges : (nodes : List RegexNode) (trees : List PositionTree) (bound : ℕ → ℕ) → IsForest nodes trees bound → Ranges trees bound
+pub forest_ranges : (nodes : List RegexNode) (trees : List PositionTree) (bound : ℕ → ℕ) → IsForest nodes trees bound → Ranges trees bound
 forest_ranges nodes trees bound h = record { spans = λ k t at. covers_spans (h.covers k t at); rises = h.rises }
 
 pub blank : (b : ℕ) → node_holds (n.Set []) b ≡ false
 blank b = elim (cases_Bool (b / 256 == 0)) [ inl e ↦ rw (bit_at-zero, e) refl | inr e ↦ rw (bit_at-zero, e) refl ]
 
-outside : (nodes : List RegexNode) (k b : ℕ) → holds_of nodes (length nodes + k) b ≡ true → ⊥
+pub outside : (nodes : List RegexNode) (k b : ℕ) → holds_of nodes (length nodes + k) b ≡ true → ⊥
 outside nodes k b h =
     true≢false (sym h ∙ ap (λ node. node_holds node b) (get_or_past nodes (length nodes + k) (n.Set []) (omega arith)) ∙ blank b)
 

@@ -16,8 +16,12 @@ pub mod Follows
 pub mod Forests
 -- states as they are found
 pub mod Found
+-- the first state that accepts a terminal
+pub mod LeastStates
 -- nodes in post-order, with tables for them
 pub mod Nodes
+-- pairs of places, and the groups in which they are met
+pub mod Pairs
 -- sets of positions as states
 pub mod PositionSets
 -- expressions whose leaves are positions
@@ -30,8 +34,6 @@ pub mod Projection
 pub mod Repeated
 -- where expressions begin and end
 pub mod Roots
--- the first state that accepts two terminals
-pub mod SharedStates
 -- the tables of several expressions
 pub mod Tables
 -- where a byte leads from a list of positions

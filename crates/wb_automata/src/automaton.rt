@@ -245,7 +245,8 @@ fn set_copies(alloc: Global, sets: &[TermSet]) -> Result<Vec<TermSet>, AllocErro
     Ok(kept)
 }
 
-fn has(numbers: &[usize], number: usize) -> bool
+// Whether the number is one of these.
+pub(crate) fn has(numbers: &[usize], number: usize) -> bool
     ensures { IsTrue result ↔ Contains numbers.now number }
 {
     numbers.contains(&number)

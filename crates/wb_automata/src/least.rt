@@ -1,15 +1,19 @@
 //! What is the least text that two expressions share, and the least that one matches?
 //!
-//! States are numbered by their paths, so the first state that accepts has the least text.
+//! For two it is found over pairs of their places (`pairs`). States of one automaton are numbered by their paths, so that the first
+//! one that accepts has the least text.
 
 ghost use Rattle.std.specs.Prelude.{◌≡◌, ◌<◌, ◌∷◌, ℕ, [], false, List, IfOk, IfSome, IsNone, IsTrue, length};
 ghost use Rattle.wb_regex.specs.Filled.{Filled};
 ghost use Rattle.wb_automata.specs.Automata.{LeadsTo, MatchesIn};
-ghost use Rattle.wb_automata.specs.Inner.SharedStates.{HasAll, IsLeastState};
+ghost use Rattle.wb_automata.specs.Inner.LeastStates.{HasAll, IsLeastState};
+ghost use Rattle.wb_automata.specs.Inner.Tables.{AreTables};
 ghost use Rattle.wb_automata.specs.Overlaps.{IsLeastMatch, IsOverlap};
 
 use crate::automaton::Automaton;
+use crate::pairs::least_shared;
 use crate::shared::Overlap;
+use crate::tables::{Tables, tables_of};
 use std::alloc::{AllocError, Global};
 use wb_base::{Bytes, push};
 use wb_regex::Regex;
@@ -17,16 +21,14 @@ use wb_termset::TermSet;
 
 /// The least text that both expressions match, by length and then by bytes, or that there is none.
 ///
-/// The automaton of the two alone is built, whole: it has a state for each two sets of positions that one text leads to. The only
-/// error is want of memory.
+/// Pairs of a leaf of the one and a leaf of the other are met, each once. So for each class of bytes the time is at most the product of
+/// how many leaves may follow one another in the one and in the other. The memory is a bit for each two nodes of both, and a number for
+/// each pair that is met. The only error is want of memory.
 pub fn overlap(alloc: Global, left: &Regex, right: &Regex) -> Result<Overlap, AllocError>
     ensures { IfOk result (IsOverlap left.now right.now) }
 {
-    let automaton = automaton_of_two(alloc, left, right)?;
-    match first_shared(&automaton, 0, 1) {
-        None => Ok(Overlap::Disjoint),
-        Some(state) => Ok(Overlap::Both(automaton.text(alloc, state)?)),
-    }
+    let tables = tables_of_two(alloc, left, right)?;
+    least_shared(alloc, &tables)
 }
 
 /// The shortest text that matches, and of these the first in byte order. The only error is want of memory.
@@ -34,7 +36,7 @@ pub fn least_text(alloc: Global, regex: &Regex) -> Result<Bytes, AllocError>
     ensures { IfOk result (IsLeastMatch regex.now) }
 {
     let automaton = automaton_of_one(alloc, regex)?;
-    match first_shared(&automaton, 0, 0) {
+    match first_accepting(&automaton, 0) {
         // Each set of bytes holds one, so some text matches.
         None => unreachable!(),
         Some(state) => automaton.text(alloc, state),
@@ -51,13 +53,12 @@ fn automaton_of_one(alloc: Global, regex: &Regex) -> Result<Automaton, AllocErro
     build_of(alloc, &one)
 }
 
-// The automaton of both, in one set.
-fn automaton_of_two(alloc: Global, left: &Regex, right: &Regex) -> Result<Automaton, AllocError>
-    ensures terminals { IfOk result (λ automaton. automaton.terminals ≡ left.now ∷ right.now ∷ []) }
-    ensures sets { IfOk result (λ automaton. HasAll 2 automaton.sets) }
+// The tables of both, without sets.
+fn tables_of_two(alloc: Global, left: &Regex, right: &Regex) -> Result<Tables, AllocError>
+    ensures { IfOk result (AreTables (left.now ∷ right.now ∷ []) []) }
 {
     let both = pair(alloc, left, right)?;
-    build_of(alloc, &both)
+    tables_of(alloc, &both, &[])
 }
 
 // The automaton of these expressions, in one set.
@@ -100,24 +101,16 @@ fn pair(alloc: Global, left: &Regex, right: &Regex) -> Result<Vec<Regex>, AllocE
     Ok(both)
 }
 
-// The first state that accepts both terminals.
-fn first_shared(automaton: &Automaton, one: usize, other: usize) -> Option<usize>
+// The first state that accepts the terminal.
+fn first_accepting(automaton: &Automaton, terminal: usize) -> Option<usize>
     ensures below { IfSome result (λ state. state < length automaton.now.paths) }
-    ensures some { IfSome result (IsLeastState automaton.now one other) }
-    ensures none { IsNone result → (set : ℕ) (text : List ℕ) → MatchesIn automaton.now set one text → MatchesIn automaton.now set other text → ⊥ }
+    ensures some { IfSome result (IsLeastState automaton.now terminal) }
+    ensures none { IsNone result → (set : ℕ) (text : List ℕ) → ¬ MatchesIn automaton.now set terminal text }
 {
     for state in 0..automaton.states() {
-        if accepts_both(automaton, state, one, other) {
+        if automaton.accepts(state, terminal) {
             return Some(state);
         }
     }
     None
-}
-
-fn accepts_both(automaton: &Automaton, state: usize, one: usize, other: usize) -> bool
-    requires { state < length automaton.now.paths }
-    ensures both { IsTrue result → (set : ℕ) (text : List ℕ) → LeadsTo automaton.now set text state → MatchesIn automaton.now set one text × MatchesIn automaton.now set other text }
-    ensures apart { result ≡ false → (set : ℕ) (text : List ℕ) → LeadsTo automaton.now set text state → MatchesIn automaton.now set one text → MatchesIn automaton.now set other text → ⊥ }
-{
-    automaton.accepts(state, one) && automaton.accepts(state, other)
 }

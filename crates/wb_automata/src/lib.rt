@@ -14,6 +14,7 @@ mod explore;
 mod flat_rows;
 mod least;
 mod moves;
+mod pairs;
 mod positions;
 mod post_order;
 mod predecessor;

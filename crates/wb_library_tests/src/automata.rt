@@ -330,6 +330,15 @@ fn a_keyword_overlaps_with_names_and_numbers_do_not(rt: HostRuntime) -> Result<(
     Ok(())
 }
 
+// An automaton of one of these has a state for each choice of the last letters.
+#[test]
+fn letters_far_from_the_end_overlap(rt: HostRuntime) -> Result<(), RegexRefusal> {
+    let left = b"[ab]*a[ab][ab][ab][ab][ab][ab][ab][ab][ab][ab][ab][ab][ab][ab][ab][ab][ab][ab][ab][ab]";
+    let right = b"[ab]*b[ab][ab][ab][ab][ab][ab][ab][ab][ab][ab][ab][ab][ab][ab][ab][ab][ab][ab][ab]";
+    assert!(rt; overlaps(rt.alloc(), left, right, b"abaaaaaaaaaaaaaaaaaaa")?);
+    Ok(())
+}
+
 fn is_least(alloc: Global, text: &[u8], wanted: &[u8]) -> Result<bool, RegexRefusal> {
     let regex = read_regex(alloc, text)?;
     Ok(least_text(alloc, &regex)?.as_slice() == wanted)
