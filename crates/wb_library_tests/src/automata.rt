@@ -333,8 +333,10 @@ fn a_keyword_overlaps_with_names_and_numbers_do_not(rt: HostRuntime) -> Result<(
 // An automaton of one of these has a state for each choice of the last letters.
 #[test]
 fn letters_far_from_the_end_overlap(rt: HostRuntime) -> Result<(), RegexRefusal> {
-    let left = b"[ab]*a[ab][ab][ab][ab][ab][ab][ab][ab][ab][ab][ab][ab][ab][ab][ab][ab][ab][ab][ab][ab]";
-    let right = b"[ab]*b[ab][ab][ab][ab][ab][ab][ab][ab][ab][ab][ab][ab][ab][ab][ab][ab][ab][ab][ab]";
+    let left =
+        b"[ab]*a[ab][ab][ab][ab][ab][ab][ab][ab][ab][ab][ab][ab][ab][ab][ab][ab][ab][ab][ab][ab]";
+    let right =
+        b"[ab]*b[ab][ab][ab][ab][ab][ab][ab][ab][ab][ab][ab][ab][ab][ab][ab][ab][ab][ab][ab]";
     assert!(rt; overlaps(rt.alloc(), left, right, b"abaaaaaaaaaaaaaaaaaaa")?);
     Ok(())
 }
