@@ -1,16 +1,11 @@
 -- What a conjunction, a disjunction and an implication of tests say of their parts.
-use Rattle.std.proofs.Common.{◌≡◌, Bool, true, false, ◌&&◌, ◌||◌, not, cond, Option, Some, ◌⊎◌, refl}
+use Rattle.std.proofs.Common.{◌≡◌, Bool, true, false, ◌&&◌, ◌||◌, cond, Option, Some, ◌⊎◌, refl}
 use Rattle.wb_predictive.specs.Kinds.{implies}
 
 -- an implication, used
 pub implied : (a b : Bool) → implies a b ≡ true → a ≡ true → b ≡ true
 implied true b h k = h
 implied false b h k = cc
-
--- what isn't true is false
-pub not_true : (a : Bool) → not a ≡ true → a ≡ false
-not_true true h = cc
-not_true false h = refl
 
 -- a choice whose test fails
 pub skipped : {X : Type 0} (b : Bool) (x : X) (o : Option X) (y : X) → (b ≡ true → ⊥) → o ≡ Some y → cond b (Some x) o ≡ Some y

@@ -10,11 +10,11 @@ use Rattle.wb_predictive.specs.Entries.{Entry, all_nullable, firsts, is_foreseen
 use Rattle.wb_predictive.specs.Kinds.{implies, is_member, is_subset}
 use Rattle.wb_predictive.specs.Inner.Choice.{choose}
 use Rattle.wb_predictive.specs.Inner.Stack.{lookahead, Foresees, IsFollowed}
-use Rattle.wb_predictive.proofs.Booleans.{implied, not_true}
+use Rattle.wb_predictive.proofs.Booleans.{implied}
 use Rattle.wb_predictive.proofs.Derivations.{act_in, token_in, nil_same}
 use Rattle.wb_predictive.proofs.Members.{member_left, member_right, joined_cases, subset_member, chosen}
 use Rattle.wb_predictive.proofs.Rights.{right_facts, apart}
-use Rattle.wb_lemmas.proofs.Booleans.{and_left, and_right, and_both, or_left}
+use Rattle.wb_lemmas.proofs.Booleans.{and_left, and_right, and_both, or_left, not_true}
 
 module _ {K N A : Type 0} (entries : N → Entry K) where
   -- a row that can be nothing is made of two that can

@@ -11,12 +11,11 @@ use Rattle.wb_predictive.specs.Entries.{Entry, is_below, is_decided, is_foreseen
 use Rattle.wb_predictive.specs.Kinds.{is_member}
 use Rattle.wb_predictive.specs.Inner.Choice.{choose}
 use Rattle.wb_predictive.specs.Inner.Stack.{IsFollowed, Stands, Any, Begins, NoneFits}
-use Rattle.wb_predictive.proofs.Booleans.{not_true}
 use Rattle.wb_predictive.proofs.Members.{chosen_is}
 use Rattle.wb_predictive.proofs.Rights.{right_facts, some_below}
 use Rattle.wb_predictive.proofs.Derivations.{derives_append, act_in, token_in, token_kind, token_not_nil, nil_only_nil}
 use Rattle.wb_predictive.proofs.Decides.{followed_append, decides, start_followed}
-use Rattle.wb_lemmas.proofs.Booleans.{and_left, and_right, and_both}
+use Rattle.wb_lemmas.proofs.Booleans.{and_left, and_right, and_both, not_true}
 
 module _ {K N A : Type 0} (entries : N → Entry K) where
   -- a row that is below a rank is below a higher one
