@@ -3,9 +3,15 @@ use Rattle.std.specs.Prelude.{All}
 use Rattle.std.proofs.lemmas.Bool.{true≢false}
 use Rattle.wb_automata.specs.Inner.Pairs.{Any, IsLeft, IsRight}
 use Rattle.wb_automata.specs.Inner.Transitions.{holds_of}
-use Rattle.wb_automata.proofs.PairLemmas.{adds_more, adds_none, adds_same, holds_at}
+use Rattle.wb_automata.proofs.PairLemmas.{adds_begin, adds_end, adds_more, adds_none, adds_same, holds_at}
 use Rattle.wb_automata.proofs.pairs.meet_after.Goals as goal
 use Rattle.wb_automata.proofs.pairs.meet_after.Goals.{then-holds+in_ok-meet_with, else-holds}
+
+pub loop-left-init : goal.loop-left-init
+loop-left-init c =
+    let t = c.args.reading.now.tables.now in
+    adds_begin c.row-lefts.result.now
+    (IsLeft t.nodes.items (length t.follow) c.args.reading.now.byte c.row-rights.result.now) c.args.met.now c.args.next.now
 
 pub loop-left-preserved : goal.loop-left-preserved
 loop-left-preserved c =
@@ -31,3 +37,10 @@ loop-left-preserved c =
           (adds_none (wanted q) c.loop-left.met c.loop-left.next (λ d (h, x). true≢false (sym h ∙ holds ∙ w.if-holds.false)))
           c.loop-left.invariant)
     ]
+
+pub returns : goal.returns
+returns c =
+    let t = c.args.reading.now.tables.now in
+    rw (c.row-lefts.ensures, c.row-rights.ensures, c.len-count.ensures) at (adds_end c.row-lefts.result.now c.loop-left.left-index
+    (IsLeft t.nodes.items (length t.follow) c.args.reading.now.byte c.row-rights.result.now) c.args.met.now c.loop-left.met c.args.next.now
+    c.loop-left.next (omega arith) c.loop-left.invariant)

@@ -2,9 +2,14 @@ use Rattle.std.proofs.Common.{◌≡◌, ◌+◌, ◌*◌, ◌∙◌, sym, ap, a
 use Rattle.std.proofs.lemmas.Bool.{true≢false}
 use Rattle.wb_automata.specs.Inner.Pairs.{IsRight}
 use Rattle.wb_automata.specs.Inner.Transitions.{holds_of}
-use Rattle.wb_automata.proofs.PairLemmas.{adds_more, adds_none, adds_same, holds_at}
+use Rattle.wb_automata.proofs.PairLemmas.{adds_begin, adds_end, adds_more, adds_none, adds_same, holds_at}
 use Rattle.wb_automata.proofs.pairs.meet_with.Goals as goal
 use Rattle.wb_automata.proofs.pairs.meet_with.Goals.{then-holds+in_ok-meet, else-holds}
+
+pub loop-right-init : goal.loop-right-init
+loop-right-init c = adds_begin c.args.rights.now
+    (IsRight c.args.reading.now.tables.now.nodes.items (length c.args.reading.now.tables.now.follow) c.args.reading.now.byte c.args.left)
+    c.args.met.now c.args.next.now
 
 pub loop-right-preserved : goal.loop-right-preserved
 loop-right-preserved c =
@@ -26,3 +31,8 @@ loop-right-preserved c =
           (adds_none (wanted q) c.loop-right.met c.loop-right.next (λ d (h, e). true≢false (sym h ∙ holds ∙ w.if-holds.false)))
           c.loop-right.invariant)
     ]
+
+pub returns : goal.returns
+returns c = adds_end c.args.rights.now c.loop-right.right-index
+    (IsRight c.args.reading.now.tables.now.nodes.items (length c.args.reading.now.tables.now.follow) c.args.reading.now.byte c.args.left)
+    c.args.met.now c.loop-right.met c.args.next.now c.loop-right.next (omega arith) c.loop-right.invariant
