@@ -2,7 +2,8 @@
 //! the least text of one.
 //!
 //! It is Glushkov's position automaton, made deterministic by the subset construction from the start of each set, with a table
-//! of moves that has a column for each class of bytes that no expression tells apart.
+//! of moves that has a column for each class of bytes that no expression tells apart. What two expressions share is found over pairs
+//! of their places instead, since the automaton of both may be larger than any bound by their sizes' product.
 #![tactic(auto)]
 
 mod accepted;
