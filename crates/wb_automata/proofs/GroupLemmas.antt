@@ -448,16 +448,19 @@ walked_first t flags first two fits adds = record {
     met_first g c e is = subst (λ z. IsMetBy t (path_at (record { set = 0; text = [] } ∷ []) z).text c) e
         (met_start c (subst (λ z. Contains (row (first ∷ []) z) c) (sym e) is))
 
--- the same, where the lists were empty
-pub start_walked : (t : Tables) (new : Groups) (old flags : List Bool) (first : List ℕ) (pairs : List (List ℕ)) (os : List Predecessor)
-    → AreTwo t → length t.follow * length t.follow < 2 ^ 64 → old ≡ replicate (length t.follow * length t.follow) false → pairs ≡ []
-    → os ≡ [] → Adds (λ d. d ≡ start_pair t) old [] flags first → new.met ≡ flags → new.pairs ≡ pairs ++ first ∷ []
-    → new.predecessors.items ≡ os ++ record { set = 0; from = 0; byte = 0 } ∷ [] → IsWalked t (met_of new) 0
-start_walked t new old flags first pairs os two fits blank' none nothing adds e f g =
+-- the same, where there were no groups
+pub start_walked : {E : Type 0} (t : Tables) (old new : Groups) (flags : List Bool) (first : List ℕ) (r : Result (Unit {0}) E) → AreTwo t
+    → length t.follow * length t.follow < 2 ^ 64 → old.met ≡ replicate (length t.follow * length t.follow) false → old.pairs ≡ []
+    → old.predecessors.items ≡ [] → Adds (λ d. d ≡ start_pair t) old.met [] flags first → new.met ≡ flags →
+    IfOk r (λ _. new.pairs ≡ old.pairs ++ first ∷ []) →
+    IfOk r (λ _. new.predecessors.items ≡ old.predecessors.items ++ record { set = 0; from = 0; byte = 0 } ∷ [])
+    → IfOk r (λ _. IsWalked t (met_of new) 0)
+start_walked t old new flags first (Ok _) two fits blank' none nothing adds e f g =
     let o : Predecessor = record { set = 0; from = 0; byte = 0 } in
     let paths : paths_of new.predecessors.items ≡ record { set = 0; text = [] } ∷ [] = ap paths_of
     (g ∙ ap (λ z. z ++ o ∷ []) nothing) ∙ paths_more [] o ∙ ap (λ z. z ++ path_by z o ∷ []) paths_none in
     subst (λ z. IsWalked t z 0)
     (met_same (met_of new) (first ∷ []) (record { set = 0; text = [] } ∷ []) (f ∙ ap (λ z. z ++ first ∷ []) none) paths)
     (walked_first t new.met first two fits (subst (λ z. Adds (λ d. d ≡ start_pair t) z [] new.met first) blank'
-    (subst (λ z. Adds (λ d. d ≡ start_pair t) old [] z first) (sym e) adds)))
+    (subst (λ z. Adds (λ d. d ≡ start_pair t) old.met [] z first) (sym e) adds)))
+start_walked t old new flags first (Err e') two fits blank' none nothing adds e f g = tt

@@ -21,9 +21,9 @@ use wb_termset::TermSet;
 
 /// The least text that both expressions match, by length and then by bytes, or that there is none.
 ///
-/// Pairs of a leaf of the one and a leaf of the other are met, each once. So for each class of bytes the time is at most the product of
-/// how many leaves may follow one another in the one and in the other. The memory is a bit for each two nodes of both, and a number for
-/// each pair that is met. The only error is want of memory.
+/// Pairs of a position of the one and a position of the other are met, each once, and no automaton is built. So beside the tables of
+/// positions the time is, for each class of bytes, at most the product of how many positions may follow one another in the one and in
+/// the other; the memory is a bit for each two nodes of both, and a number for each pair that is met. The only error is want of memory.
 pub fn overlap(alloc: Global, left: &Regex, right: &Regex) -> Result<Overlap, AllocError>
     ensures { IfOk result (IsOverlap left.now right.now) }
 {

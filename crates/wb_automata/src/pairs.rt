@@ -65,17 +65,29 @@ fn start(alloc: Global, tables: &Tables) -> Result<Groups, AllocError>
     ensures { IfOk result (λ groups. IsWalked tables.now (met_of groups) 0) }
 {
     let mut groups = no_groups(alloc, tables.follow.len())?;
+    add_starts(tables, &mut groups)?;
+    Ok(groups)
+}
+
+// Puts the pair of the two starts into a first group.
+fn add_starts(tables: &Tables, groups: &mut Groups) -> Result<(), AllocError>
+    requires two { AreTwo tables.now }
+    requires fits { length tables.now.follow * length tables.now.follow < 2 ^ 64 }
+    requires met { groups.old.met ≡ replicate (length tables.now.follow * length tables.now.follow) false }
+    requires pairs { groups.old.pairs ≡ [] }
+    requires predecessors { groups.old.predecessors.items ≡ [] }
+    ensures { IfOk result (λ _. IsWalked tables.now (met_of groups.new) 0) }
+{
     let place = tables.nodes.len();
     let pair = place * tables.follow.len() + (place + 1);
-    let mut first = Leaves::new(alloc);
+    let mut first = Leaves::new(groups.alloc);
     meet(pair, &mut groups.met, &mut first)?;
     let predecessor = Predecessor {
         set: 0,
         from: 0,
         byte: 0,
     };
-    add(&mut groups, first, predecessor)?;
-    Ok(groups)
+    add(groups, first, predecessor)
 }
 
 // No pairs of this many places.
