@@ -1,7 +1,8 @@
-//! Tests of the libraries that know no format: each public call with ample memory, on values from outside.
+//! Tests of bytes, lists, graphs, sets of terminals, regular expressions and automata: each public call with ample memory, on values from
+//! outside.
 //!
-//! Tests of grammars by number are in `wb_grammar_tests`, those of texts and of the program in `wb_tests`. No crate below these three has
-//! tests, since a crate with tests is proved twice.
+//! Tests of values and kinds are in `wb_value_tests`, of grammars by number in `wb_grammar_tests`, of texts and of the program in
+//! `wb_tests`. No crate below these four has tests, since a crate with tests is proved twice.
 #![tactic(auto)]
 
 #[cfg(test)]
@@ -15,14 +16,6 @@ mod lexical;
 #[cfg(test)]
 mod lists;
 #[cfg(test)]
-mod operation_tables;
-#[cfg(test)]
-mod operations;
-#[cfg(test)]
 mod regex;
 #[cfg(test)]
 mod termset;
-#[cfg(test)]
-mod types;
-#[cfg(test)]
-mod values;

@@ -2,7 +2,7 @@
 //!
 //! Three tables: the standard one, one whose `and` is `or`, and one of two operations of their own.
 
-ghost use Rattle.wb_library_tests.specs.Inner.Odd.{odd, odd_sum};
+ghost use Rattle.wb_value_tests.specs.Inner.Odd.{odd, odd_sum};
 ghost use Rattle.wb_operations.specs.Given.{FitKinds, IsGiven, plains_of};
 ghost use Rattle.wb_operations.specs.Takes.{one_text, two_bools, two_ints, two_texts};
 ghost use Rattle.wb_operations.specs.Standard.{standard};
@@ -78,7 +78,7 @@ fn a_table_answers_its_own_meaning(rt: HostRuntime) -> Result<(), Fail> {
 struct Odd;
 
 impl Meaning for Odd {
-    ghost use Rattle.wb_library_tests.specs.Inner.Odd.{odd};
+    ghost use Rattle.wb_value_tests.specs.Inner.Odd.{odd};
 
     ghost meaning = { odd };
 }

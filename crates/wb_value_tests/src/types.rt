@@ -4,8 +4,8 @@
 //! rules of kinds.
 
 ghost use Rattle.std.specs.Prelude.{◌≡◌, [], ◌∷◌, IfOk};
-ghost use Rattle.wb_library_tests.specs.Inner.Empty.{no_parts};
-ghost use Rattle.wb_library_tests.specs.Inner.Sample.{IsSampleNode, attribute_v, equation_of, nonterminal_n, production_p, sample, signature_p, v_on_n};
+ghost use Rattle.wb_value_tests.specs.Inner.Empty.{no_parts};
+ghost use Rattle.wb_value_tests.specs.Inner.Sample.{IsSampleNode, attribute_v, equation_of, nonterminal_n, production_p, sample, signature_p, v_on_n};
 
 use std::alloc::{AllocError, Global};
 use std::test::Fail;

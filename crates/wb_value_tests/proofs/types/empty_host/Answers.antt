@@ -1,12 +1,12 @@
 use Rattle.std.proofs.Common.{refl, sym, subst}
 use Rattle.wb_base.specs.Identifiers.{IsName}
 use Rattle.wb_resolved.specs.Attribution.{IsAttribution}
-use Rattle.wb_library_tests.proofs.NameLemmas.{h_name}
-use Rattle.wb_library_tests.proofs.SampleLemmas.{sample_resolved}
-use Rattle.wb_library_tests.proofs.types.sample_host.Goals as goal
+use Rattle.wb_value_tests.proofs.NameLemmas.{h_name}
+use Rattle.wb_value_tests.proofs.SampleLemmas.{nothing_resolved}
+use Rattle.wb_value_tests.proofs.types.empty_host.Goals as goal
 
 pub new-requires : goal.new-requires
-new-requires c = sample_resolved _
+new-requires c = nothing_resolved _
     (record {
       host = subst IsName (sym c.in_ok-host.ensures.ok) h_name;
       grammar = refl;
@@ -14,4 +14,4 @@ new-requires c = sample_resolved _
       preferences = c.nothing-2.ensures;
       extensible = c.nothing-3.ensures;
     })
-    (subst IsAttribution c.attributes.view_is c.attributes.invariant) c.args.node c.in_ok-attributes.ensures
+    (subst IsAttribution c.attributes.view_is c.attributes.invariant) c.in_ok-attributes.ensures

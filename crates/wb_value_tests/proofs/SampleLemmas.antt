@@ -30,10 +30,10 @@ use Rattle.wb_resolved.specs.Once.{Entry, NamesDiffer, IsOnce, IsOnceIn, OccursO
 use Rattle.wb_resolved.specs.Owned.{IsOwned, IsOwnOccurrence, IsOwnEquation}
 use Rattle.wb_resolved.specs.Resolved.{IsNamedTerminal, IsNamedPreference, HasGrammarTerminals, IsResolved}
 use Rattle.wb_resolved.specs.Visible.{SeesNonterminal, SeesAttribute, SeesOccurrence}
-use Rattle.wb_library_tests.specs.Inner.Empty.{no_parts}
-use Rattle.wb_library_tests.specs.Inner.Sample.{nonterminal_n, attribute_v, v_on_n, equation_of, production_p, signature_p, sample}
-use Rattle.wb_library_tests.specs.Inner.Sample.{IsSampleNode}
-use Rattle.wb_library_tests.proofs.NameLemmas.{n_name, v_name, p_name, frob_name}
+use Rattle.wb_value_tests.specs.Inner.Empty.{no_parts}
+use Rattle.wb_value_tests.specs.Inner.Sample.{nonterminal_n, attribute_v, v_on_n, equation_of, production_p, signature_p, sample}
+use Rattle.wb_value_tests.specs.Inner.Sample.{IsSampleNode}
+use Rattle.wb_value_tests.proofs.NameLemmas.{n_name, v_name, p_name, frob_name}
 
 -- one element is alone
 one_differs : {X : Type 0} (y : X) → Differ (y ∷ [])
