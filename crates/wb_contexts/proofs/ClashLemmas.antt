@@ -1,10 +1,10 @@
 -- Clashes of sets of what is considered, and clashes at prefixes.
-use Rattle.std.proofs.Common.{◌≡◌, ◌<◌, ◌×◌, ℕ, Bool, List, length, Some, slice_get, sym, subst, arith, slice_get_within}
-use Rattle.std.specs.Prelude.{◌↔◌, ◌⊎◌}
+use Rattle.std.proofs.Common.{◌≡◌, ◌<◌, ℕ, Bool, List, Some, slice_get, arith, inl, inr}
+use Rattle.std.proofs.lemmas.Option.{slice_get_within}
 use Rattle.wb_lemmas.proofs.Places.{at_within}
 use Rattle.wb_base.specs.declared.symbol.Symbol.{Symbol}
 use Rattle.wb_automata.specs.Automata.{IsConsidered}
-use Rattle.wb_grammars.specs.Items.{IsViablePrefix, SameKernel}
+use Rattle.wb_grammars.specs.Items.{SameKernel}
 use Rattle.wb_grammars.proofs.ValidLemmas.{same_valid}
 use Rattle.wb_items.specs.Kernels.{KernelsView, AreKernels, count_of, prefix_of}
 use Rattle.wb_lexical.specs.Clash.{IsClash, HasNoClash}
@@ -29,14 +29,14 @@ pub clash_shown : (kernels : KernelsView) (lexicon : LexiconView) (sets : List (
     → IsClash lexicon.expressions sets lexicon.preferences s left right text
     → IsClashAt kernels.grammar lexicon (prefix_of kernels s) left right text
 clash_shown kernels lexicon sets s left right text exact are clash = record {
-    viable = exact.states.prefixes s (clash_within kernels lexicon sets s left right text are clash);
-    different = clash.different;
-    left_considered = considered left clash.left_in;
-    right_considered = considered right clash.right_in;
-    left_matches = clash.left_matches;
-    right_matches = clash.right_matches;
-    unordered = clash.unordered
-  }
+  viable = exact.states.prefixes s (clash_within kernels lexicon sets s left right text are clash);
+  different = clash.different;
+  left_considered = considered left clash.left_in;
+  right_considered = considered right clash.right_in;
+  left_matches = clash.left_matches;
+  right_matches = clash.right_matches;
+  unordered = clash.unordered;
+}
   where
     considered : (t : ℕ) → IsConsidered sets s t → IsConsideredAt kernels.grammar lexicon (prefix_of kernels s) t
     considered t is = ((are.each s is.flags is.at).each t).0 is.has
@@ -62,13 +62,14 @@ no_clash_shown kernels lexicon sets exact are never prefix left right text clash
       right_in = set_of s flags at right (back s same right clash.right_considered);
       left_matches = clash.left_matches;
       right_matches = clash.right_matches;
-      unordered = clash.unordered
+      unordered = clash.unordered;
     })
   where
     back : (s : ℕ) → SameKernel kernels.grammar (prefix_of kernels s) prefix → (t : ℕ)
         → IsConsideredAt kernels.grammar lexicon prefix t → IsConsideredAt kernels.grammar lexicon (prefix_of kernels s) t
     back s same t is =
         same_considered kernels lexicon prefix (prefix_of kernels s) exact (λ item. ((same item).1, (same item).0)) t is
+
     set_of : (s : ℕ) (flags : List Bool) → slice_get sets s ≡ Some flags → (t : ℕ)
         → IsConsideredAt kernels.grammar lexicon (prefix_of kernels s) t → IsConsidered sets s t
     set_of s flags at t is = record { flags = flags; at = at; has = ((are.each s flags at).each t).1 is }

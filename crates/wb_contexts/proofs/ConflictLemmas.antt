@@ -1,5 +1,5 @@
 -- Conflicts of tables, shown at prefixes.
-use Rattle.std.proofs.Common.{◌≡◌, ◌≢◌, ◌×◌, ◌<◌, ℕ, List, inl, inr, length, arith}
+use Rattle.std.proofs.Common.{ℕ, List, inl, inr, arith}
 use Rattle.wb_base.specs.declared.symbol.Symbol.{Symbol}
 use Rattle.wb_base.specs.Grammar.{GrammarView}
 use Rattle.wb_grammars.specs.Productions.{top_of}
@@ -23,11 +23,11 @@ can_act kernels s t act.None stands = absurd stands
 pub conflict_at : (kernels : KernelsView) (s t : ℕ) (first second : Action) → IsConflict kernels s t first second
     → IsConflictAt kernels.grammar (prefix_of kernels s) t first second
 conflict_at kernels s t first second is = record {
-    terminal = is.terminal;
-    first_can = can_act kernels s t first is.first_stands;
-    second_can = can_act kernels s t second is.second_stands;
-    in_order = is.in_order
-  }
+  terminal = is.terminal;
+  first_can = can_act kernels s t first is.first_stands;
+  second_can = can_act kernels s t second is.second_stands;
+  in_order = is.in_order;
+}
 
 -- a conflict that is shown is one
 pub shown_conflict : (g : GrammarView) (prefix : List Symbol) (t : ℕ) (first second : Action) → IsConflictAt g prefix t first second

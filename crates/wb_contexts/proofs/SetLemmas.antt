@@ -1,11 +1,10 @@
 -- Sets of what is considered at kernels.
-use Rattle.std.proofs.Common.{◌≡◌, ◌<◌, ◌≤◌, ◌+◌, ℕ, Bool, List, [], ◌∷◌, ◌++◌, length, Some, slice_get, refl, sym, subst, arith}
+use Rattle.std.proofs.Common.{◌≡◌, ◌<◌, ◌+◌, ℕ, Bool, List, [], ◌∷◌, ◌++◌, length, Some, slice_get, sym, subst, arith, inl, inr, ◌∙◌, length-append}
 use Rattle.std.specs.Prelude.{◌↔◌, ◌⊎◌}
 use Rattle.wb_lemmas.proofs.Places.{at_push}
 use Rattle.wb_termset.specs.Sets.{IsMember}
-use Rattle.wb_items.specs.Kernels.{KernelsView, prefix_of, count_of}
-use Rattle.wb_lookahead.specs.Contents.{TablesView, valid_of}
-use Rattle.wb_lookahead.specs.Tables.{AreTables, IsValidSet}
+use Rattle.wb_items.specs.Kernels.{KernelsView, prefix_of}
+use Rattle.wb_lookahead.specs.Tables.{IsValidSet}
 use Rattle.wb_contexts.specs.Considered.{LexiconView, IsConsideredAt}
 use Rattle.wb_contexts.specs.Sets.{IsConsideredSet, AreConsideredSets, FitsGrammar}
 
@@ -15,14 +14,15 @@ pub considered_is : (kernels : KernelsView) (lexicon : LexiconView) (s : ℕ) (v
     → ((t : ℕ) → IsMember set t ↔ (((t < lexicon.scanned) × IsMember valid t) ⊎ IsMember lexicon.layout t))
     → IsConsideredSet kernels lexicon s set
 considered_is kernels lexicon s valid set fits is len each = record {
-    len = omega (arith, len, fits.layout);
-    each = λ t. (λ has. there t ((each t).0 has), λ has. (each t).1 (back t has))
-  }
+  len = omega (arith, len, fits.layout);
+  each = λ t. (λ has. there t ((each t).0 has), λ has. (each t).1 (back t has));
+}
   where
     there : (t : ℕ) → ((t < lexicon.scanned) × IsMember valid t) ⊎ IsMember lexicon.layout t
         → IsConsideredAt kernels.grammar lexicon (prefix_of kernels s) t
     there t (inl (below, has)) = inl (below, (is.each t (omega (arith, below, fits.scanned))).0 has)
     there t (inr has) = inr has
+
     back : (t : ℕ) → IsConsideredAt kernels.grammar lexicon (prefix_of kernels s) t
         → ((t < lexicon.scanned) × IsMember valid t) ⊎ IsMember lexicon.layout t
     back t (inl (below, has)) = inl (below, (is.each t (omega (arith, below, fits.scanned))).1 has)
@@ -33,9 +33,9 @@ pub sets_more : (kernels : KernelsView) (lexicon : LexiconView) (s : ℕ) (sets 
     → AreConsideredSets kernels lexicon s sets → IsConsideredSet kernels lexicon s set
     → AreConsideredSets kernels lexicon (s + 1) (sets ++ set ∷ [])
 sets_more kernels lexicon s sets set are is = record {
-    len = omega (arith, length-append sets (set ∷ []), are.len);
-    each = λ k other at. pick k other (at_push sets set other k at)
-  }
+  len = omega (arith, length-append sets (set ∷ []), are.len);
+  each = λ k other at. pick k other (at_push sets set other k at);
+}
   where
     pick : (k : ℕ) (other : List Bool) → (slice_get sets k ≡ Some other) ⊎ ((k ≡ length sets) × (set ≡ other))
         → IsConsideredSet kernels lexicon k other

@@ -5,7 +5,6 @@ use Rattle.wb_items.specs.Kernels.{AreKernels}
 use Rattle.wb_items.specs.LookaheadSets.{AreLookaheads}
 use Rattle.wb_lookahead.specs.Tables.{AreTables}
 use Rattle.wb_contexts.specs.declared.parts.Parts.{Parts}
-use Rattle.wb_contexts.specs.declared.parts.Conflict.{Conflict}
 use Rattle.wb_contexts.specs.declared.parts.PartsRefusal.{PartsRefusal}
 use Rattle.wb_contexts.specs.declared.parts.PartsRefusal.TheVariants as r
 use Rattle.wb_contexts.specs.Conflicts.{IsConflictAt}

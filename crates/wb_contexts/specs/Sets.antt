@@ -1,5 +1,5 @@
 -- The sets of what is considered at each kernel.
-use Rattle.std.specs.Prelude.{◌≡◌, ◌↔◌, ◌<◌, ◌≤◌, ℕ, Bool, List, length, slice_get, Some}
+use Rattle.std.specs.Prelude.{◌≡◌, ◌↔◌, ◌≤◌, ℕ, Bool, List, length, slice_get, Some}
 use Rattle.wb_termset.specs.Sets.{IsMember}
 use Rattle.wb_items.specs.Kernels.{KernelsView, prefix_of}
 use Rattle.wb_contexts.specs.declared.lexicon.Lexicon.{Lexicon}

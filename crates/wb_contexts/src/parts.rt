@@ -112,12 +112,14 @@ fn tables_by(
 {
     match tables(alloc, grammar, kernels, lookaheads) {
         Ok(made) => Ok(made),
-        Err(TableRefusal::Conflict {
-            state,
-            terminal,
-            first,
-            second,
-        }) => {
+        Err(
+            TableRefusal::Conflict {
+                state,
+                terminal,
+                first,
+                second,
+            },
+        ) => {
             let prefix = Sequence::from_vec(kernels.prefix(alloc, state)?);
             Err(PartsRefusal::Conflict(Conflict {
                 prefix,

@@ -1,5 +1,5 @@
 -- Productions of holes as they are added one after another.
-use Rattle.std.proofs.Common.{◌≡◌, ◌∙◌, ◌+◌, ◌-◌, ◌<◌, ◌≤◌, ℕ, zero, suc, List, [], ◌∷◌, ◌++◌, take, length, refl, sym, ap, get_or, arith, subst, IfSome, slice_get}
+use Rattle.std.proofs.Common.{◌≡◌, ◌∙◌, ◌+◌, ◌-◌, ◌<◌, ◌≤◌, ℕ, zero, suc, List, [], ◌∷◌, ◌++◌, take, length, sym, ap, get_or, arith, subst, IfSome, slice_get}
 use Rattle.std.proofs.lemmas.List.{take_more}
 use Rattle.std.proofs.lemmas.Option.{get_or_from_slice_get}
 use Rattle.wb_base.specs.declared.symbol.Symbol.{Symbol}
@@ -22,8 +22,8 @@ holes_more next (x ∷ xs) zero d within =
 holes_more next (x ∷ xs) (suc place) d within =
     let head : Production = (x, Terminal next ∷ []) in
     let step : hole_productions (suc next) (take (place + 1) xs)
-        ≡ hole_productions (suc next) (take place xs) ++ (get_or xs place d, Terminal (suc next + place) ∷ []) ∷ [] =
-      holes_more (suc next) xs place d (omega (arith, within)) in
+    ≡ hole_productions (suc next) (take place xs) ++ (get_or xs place d, Terminal (suc next + place) ∷ []) ∷ [] =
+    holes_more (suc next) xs place d (omega (arith, within)) in
     let same : suc next + place ≡ next + suc place = omega arith in
     let count : suc place + 1 ≡ suc (place + 1) = omega arith in
     ap (λ (k : ℕ). hole_productions next (take k (x ∷ xs))) count
@@ -40,9 +40,9 @@ added_more old made after xs first hole d from within was now =
     let same : first + place ≡ hole = omega (arith, from) in
     let next : hole + 1 - first ≡ place + 1 = omega (arith, from) in
     let step : hole_productions first (take (hole + 1 - first) xs)
-        ≡ hole_productions first (take place xs) ++ (get_or xs place d, Terminal hole ∷ []) ∷ [] =
-      ap (λ k. hole_productions first (take k xs)) next ∙ holes_more first xs place d (omega (arith, from, within))
-      ∙ ap (λ k. hole_productions first (take place xs) ++ (get_or xs place d, Terminal k ∷ []) ∷ []) same in
+    ≡ hole_productions first (take place xs) ++ (get_or xs place d, Terminal hole ∷ []) ∷ [] =
+    ap (λ k. hole_productions first (take k xs)) next ∙ holes_more first xs place d (omega (arith, from, within))
+    ∙ ap (λ k. hole_productions first (take place xs) ++ (get_or xs place d, Terminal k ∷ []) ∷ []) same in
     now ∙ ap (λ (m : GrammarView). record m { productions = m.productions ++ (get_or xs place d, Terminal hole ∷ []) ∷ [] }) was
     ∙ ap (λ ps. record old { productions = ps })
     (append_assoc old.productions (hole_productions first (take place xs)) ((get_or xs place d, Terminal hole ∷ []) ∷ [])
@@ -60,7 +60,7 @@ copied_more old made after g p left right within is_left is_right was now =
     let r : right ≡ q.1 = subst (λ o. IfSome o (λ z. right ≡ z.1)) at is_right in
     let here : get_or g.productions p q ≡ q = get_or_from_slice_get g.productions p q q at in
     let step : take (p + 1) g.productions ≡ take p g.productions ++ (left, right) ∷ [] =
-      take_more g.productions p q within ∙ ap (λ z. take p g.productions ++ z ∷ []) here
-      ∙ ap (λ (z : ℕ). take p g.productions ++ (z, q.1) ∷ []) (sym l) ∙ ap (λ (z : List Symbol). take p g.productions ++ (left, z) ∷ []) (sym r) in
+    take_more g.productions p q within ∙ ap (λ z. take p g.productions ++ z ∷ []) here
+    ∙ ap (λ (z : ℕ). take p g.productions ++ (z, q.1) ∷ []) (sym l) ∙ ap (λ (z : List Symbol). take p g.productions ++ (left, z) ∷ []) (sym r) in
     now ∙ ap (λ (m : GrammarView). record m { productions = m.productions ++ (left, right) ∷ [] }) was
     ∙ ap (λ ps. record old { productions = ps }) (sym step)

@@ -1,8 +1,7 @@
 -- What a grammar derives, it derives with holes too.
-use Rattle.std.proofs.Common.{◌≡◌, ◌<◌, ℕ, List, [], ◌∷◌, ◌++◌, Some, slice_get, refl, subst}
+use Rattle.std.proofs.Common.{ℕ, List}
 use Rattle.wb_base.specs.declared.symbol.Symbol.{Symbol}
-use Rattle.wb_base.specs.declared.symbol.Symbol.TheVariants.{Nonterminal}
-use Rattle.wb_base.specs.Grammar.{GrammarView, Production}
+use Rattle.wb_base.specs.Grammar.{GrammarView}
 use Rattle.wb_grammars.specs.Productions.{IsProduction}
 use Rattle.wb_grammars.specs.Derives.{Derives, done, keep, expand}
 use Rattle.wb_grammars.specs.Shape.{IsReduced}
@@ -24,6 +23,6 @@ lifted g extensible (expand p a right u v is within rest whole) =
 -- a reduced grammar is reduced with holes
 pub lifted_reduced : (g : GrammarView) (extensible : List ℕ) → IsReduced g → IsReduced (with_holes_of g extensible)
 lifted_reduced g extensible is = record {
-    reachable = λ a within. (let (u, v, derives) = is.reachable a within in (u, v, lifted g extensible derives));
-    productive = λ a within. (let (v, derives, text) = is.productive a within in (v, lifted g extensible derives, text))
-  }
+  reachable = λ a within. (let (u, v, derives) = is.reachable a within in (u, v, lifted g extensible derives));
+  productive = λ a within. (let (v, derives, text) = is.productive a within in (v, lifted g extensible derives, text));
+}
