@@ -7,6 +7,7 @@ use wb_termset::TermSet;
 ///
 /// Terminals are numbered by their places in `expressions`. Those of the grammar come first, with the numbers that they have there, but
 /// for those that match no text, which are last in the grammar and not here.
+#[derive(Drop)]
 pub struct Lexicon<'a> {
     /// The expressions, by number.
     pub expressions: &'a [Regex],

@@ -1,2 +1,3 @@
 mod FlagLemmas
+mod HostLemmas
 mod RefusalLemmas

@@ -1,11 +1,9 @@
 -- A true refusal but for want of memory rules determinism out.
-use Rattle.std.proofs.Common.{◌≡◌, ◌×◌, ◌≢◌, ℕ}
 use Rattle.wb_base.specs.Grammar.{GrammarView}
 use Rattle.wb_grammar.specs.declared.refusal.Reason.{Reason}
 use Rattle.wb_grammar.specs.declared.refusal.Reason.TheVariants.{Unreachable, Unproductive}
 use Rattle.wb_grammar.specs.Refusals.{IsTrueReason}
 use Rattle.wb_grammars.specs.Shape.{IsReduced}
-use Rattle.wb_grammars.specs.Cycles.{IsUnitCycle, HasNoUnitCycle, IsHiddenCycle, HasNoHiddenLeftRecursion}
 use Rattle.wb_grammars.proofs.CycleLemmas.{unit_cycle_member, hidden_cycle_above, first_element}
 use Rattle.wb_marking.specs.Holes.{with_holes_of}
 use Rattle.wb_resolved.specs.declared.resolved.ResolvedParts.{ResolvedParts}
@@ -16,7 +14,7 @@ use Rattle.wb_determinism.specs.Refusals.{IsHostRefusal, IsNoMemory}
 use Rattle.wb_contexts.proofs.ConflictLemmas.{shown_conflict}
 
 -- no grammar is reduced that isn't for a reason
-not_reduced : (g : GrammarView) (reason : Reason) → IsTrueReason g reason → IsReduced g → ⊥
+pub not_reduced : (g : GrammarView) (reason : Reason) → IsTrueReason g reason → IsReduced g → ⊥
 not_reduced g (Unreachable a) h is = h.1 (is.reachable a h.0)
 not_reduced g (Unproductive a) h is = h.1 (is.productive a h.0)
 

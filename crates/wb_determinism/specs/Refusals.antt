@@ -1,11 +1,10 @@
 -- Why a host isn't deterministic: each reason with a true example, where no earlier one holds.
-use Rattle.std.specs.Prelude.{◌<◌, ℕ, List}
+use Rattle.std.specs.Prelude.{◌<◌}
 use Rattle.wb_base.specs.Different.{Differ}
 use Rattle.wb_base.specs.Grammar.{GrammarView}
 use Rattle.wb_contexts.specs.Conflicts.{IsConflictAt}
 use Rattle.wb_contexts.specs.Considered.{IsClashAt}
 use Rattle.wb_grammar.specs.Refusals.{IsTrueReason}
-use Rattle.wb_grammar.specs.declared.refusal.Reason.{Reason}
 use Rattle.wb_grammars.specs.Cycles.{HasNoUnitCycle, IsUnitCycle, IsHiddenCycle}
 use Rattle.wb_grammars.specs.Lookaheads.{HasNoConflict}
 use Rattle.wb_graph.specs.Orders.{IsSimpleCycle}

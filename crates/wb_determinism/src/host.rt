@@ -3,7 +3,7 @@
 //! Each test in the order in which refusals are shown. The grammar is reduced without holes, since a hole makes nothing productive; all
 //! else is asked of the grammar with holes.
 
-ghost use Rattle.std.specs.Prelude.{◌≡◌, IfErr, IfOk, IfSome, IsSome, Some};
+ghost use Rattle.std.specs.Prelude.{◌≡◌, IfErr, IfOk, IfSome, IsSome};
 ghost use Rattle.wb_grammar.specs.Facts.{AreFacts};
 ghost use Rattle.wb_grammars.specs.Shape.{IsReduced};
 ghost use Rattle.wb_contexts.specs.Considered.{HasNoClashAt};
@@ -13,7 +13,7 @@ ghost use Rattle.wb_marking.specs.Holes.{with_holes_of};
 ghost use Rattle.wb_determinism.specs.Hosts.{AreAcyclic, AreHostParts, IsDeterministicHost, IsFitForParsing, IsSound};
 ghost use Rattle.wb_determinism.specs.Lexicons.{lexicon_of};
 ghost use Rattle.wb_determinism.specs.Refusals.{IsHostRefusal};
-ghost use Rattle.wb_determinism.specs.Inner.Lists.{AreLists};
+ghost use Rattle.wb_determinism.specs.Inner.Lists.{AreLists, HasGrammar};
 
 use crate::lexicon::{expressions_of, layout_of, pairs_of};
 use crate::{DeterminismRefusal, HostParts};
@@ -30,10 +30,7 @@ use wb_termset::TermSet;
 /// What is made of a host's grammar with holes, or why the host isn't deterministic.
 ///
 /// The reasons that speak of extensions don't come. No clause bounds the time.
-pub fn host_determinism(
-    alloc: Global,
-    resolved: &Resolved,
-) -> Result<HostParts, DeterminismRefusal>
+pub fn host_determinism(alloc: Global, resolved: &Resolved) -> Result<HostParts, DeterminismRefusal>
     requires { IsSome resolved.now.grammar }
     ensures ok { IfOk result (λ parts. IfSome resolved.now.grammar (λ g. IsDeterministicHost resolved.now g × AreHostParts resolved.now g parts)) }
     ensures refused { IfErr result (λ refusal. IfSome resolved.now.grammar (λ g. IsHostRefusal resolved.now g refusal)) }
@@ -45,6 +42,7 @@ pub fn host_determinism(
 }
 
 // A host and its grammar.
+#[derive(Drop)]
 struct Host<'a> {
     resolved: &'a Resolved,
     grammar: &'a Grammar,
@@ -60,7 +58,7 @@ struct Lists {
 
 // The same where the host has this grammar.
 fn with_grammar(alloc: Global, host: &Host) -> Result<HostParts, DeterminismRefusal>
-    requires { host.now.resolved.now.grammar ≡ Some host.now.grammar.now }
+    requires { HasGrammar host.now.resolved.now host.now.grammar.now }
     ensures ok { IfOk result (λ parts. IsDeterministicHost host.now.resolved.now host.now.grammar.now × AreHostParts host.now.resolved.now host.now.grammar.now parts) }
     ensures refused { IfErr result (IsHostRefusal host.now.resolved.now host.now.grammar.now) }
 {
@@ -96,7 +94,7 @@ fn with_lexicon(
     host: &Host,
     lexicon: &Lexicon,
 ) -> Result<HostParts, DeterminismRefusal>
-    requires host { host.now.resolved.now.grammar ≡ Some host.now.grammar.now }
+    requires host { HasGrammar host.now.resolved.now host.now.grammar.now }
     requires lexicon { lent lexicon.now ≡ lexicon_of host.now.resolved.now host.now.grammar.now }
     ensures ok { IfOk result (λ parts. IsDeterministicHost host.now.resolved.now host.now.grammar.now × AreHostParts host.now.resolved.now host.now.grammar.now parts) }
     ensures refused { IfErr result (IsHostRefusal host.now.resolved.now host.now.grammar.now) }
@@ -114,11 +112,7 @@ fn with_lexicon(
 }
 
 // Whether preferences are acyclic.
-fn test_preferences(
-    alloc: Global,
-    host: &Host,
-    lexicon: &Lexicon,
-) -> Result<(), DeterminismRefusal>
+fn test_preferences(alloc: Global, host: &Host, lexicon: &Lexicon) -> Result<(), DeterminismRefusal>
     requires { lent lexicon.now ≡ lexicon_of host.now.resolved.now host.now.grammar.now }
     ensures ok { IfOk result (λ done. AreAcyclic host.now.resolved.now) }
     ensures refused { IfErr result (IsHostRefusal host.now.resolved.now host.now.grammar.now) }
@@ -154,7 +148,7 @@ fn parts_with_holes(
 ) -> Result<Parts, DeterminismRefusal>
     requires sound { IsSound host.now.resolved.now host.now.grammar.now }
     requires holes { holes.now ≡ with_holes_of host.now.grammar.now host.now.resolved.now.extensible }
-    requires host { host.now.resolved.now.grammar ≡ Some host.now.grammar.now }
+    requires host { HasGrammar host.now.resolved.now host.now.grammar.now }
     requires lexicon { lent lexicon.now ≡ lexicon_of host.now.resolved.now host.now.grammar.now }
     ensures ok { IfOk result (λ parts. ArePartsOf holes.now parts × IsDeterministicHost host.now.resolved.now host.now.grammar.now) }
     ensures refused { IfErr result (IsHostRefusal host.now.resolved.now host.now.grammar.now) }
@@ -221,7 +215,7 @@ fn test_clashes(
 ) -> Result<(), DeterminismRefusal>
     requires fit { IsFitForParsing host.now.resolved.now host.now.grammar.now }
     requires parts { ArePartsOf (with_holes_of host.now.grammar.now host.now.resolved.now.extensible) parts.now }
-    requires host { host.now.resolved.now.grammar ≡ Some host.now.grammar.now }
+    requires host { HasGrammar host.now.resolved.now host.now.grammar.now }
     requires lexicon { lent lexicon.now ≡ lexicon_of host.now.resolved.now host.now.grammar.now }
     ensures ok { IfOk result (λ done. HasNoClashAt (with_holes_of host.now.grammar.now host.now.resolved.now.extensible) (lexicon_of host.now.resolved.now host.now.grammar.now)) }
     ensures refused { IfErr result (IsHostRefusal host.now.resolved.now host.now.grammar.now) }

@@ -1,7 +1,6 @@
 //! What is scanned of a resolved specification, as lists of its own?
 
-ghost use Rattle.std.specs.Prelude.{◌≡◌, ◌≤◌, ◌<◌, IfOk, length, map};
-ghost use Rattle.wb_base.specs.Grammar.{GrammarView};
+ghost use Rattle.std.specs.Prelude.{◌≡◌, ◌<◌, IfOk, length, map, true, false, slice_set};
 ghost use Rattle.wb_resolved.specs.declared.terminal.Preference.{Preference};
 ghost use Rattle.wb_resolved.specs.declared.terminal.Terminal.{Terminal};
 ghost use Rattle.wb_determinism.specs.Lexicons.{is_layout};
@@ -13,7 +12,10 @@ use wb_resolved::{Preference, Terminal, TerminalKind};
 use wb_termset::TermSet;
 
 // The expressions of terminals.
-pub(crate) fn expressions_of(alloc: Global, terminals: &[Terminal]) -> Result<Vec<Regex>, AllocError>
+pub(crate) fn expressions_of(
+    alloc: Global,
+    terminals: &[Terminal],
+) -> Result<Vec<Regex>, AllocError>
     ensures { IfOk result (λ made. made.items ≡ map (λ (t : Terminal). t.pattern) terminals.now) }
 {
     let mut expressions = Vec::new(alloc);
@@ -29,11 +31,24 @@ pub(crate) fn layout_of(alloc: Global, terminals: &[Terminal]) -> Result<TermSet
 {
     let mut layout = TermSet::new(alloc, terminals.len())?;
     'terminals: for number in 0..terminals.len() {
-        if matches!(&terminals[number].kind, TerminalKind::Ignore) {
-            layout.insert(number);
-        }
+        put_layout(&mut layout, &terminals[number], number);
     }
     Ok(layout)
+}
+
+// Adds the number of a terminal that is layout.
+fn put_layout(layout: &mut TermSet, terminal: &Terminal, number: usize)
+    requires { number < length layout.old }
+    ensures put { is_layout terminal.now.kind ≡ true → layout.new ≡ slice_set layout.old number true }
+    ensures skipped { is_layout terminal.now.kind ≡ false → layout.new ≡ layout.old }
+{
+    match terminal.kind {
+        TerminalKind::Ignore => {
+            layout.insert(number);
+        }
+        TerminalKind::Plain => {}
+        TerminalKind::Marking => {}
+    }
 }
 
 // The preferences as pairs.

@@ -68,7 +68,10 @@ pub enum DeterminismRefusal {
 #[derive(Drop)]
 pub enum EnvelopeFault {
     /// This terminal is a lookahead of the item.
-    Lookahead { item: Item, terminal: usize },
+    Lookahead {
+        item: Item,
+        terminal: usize,
+    },
     /// Both actions can be taken on the terminal.
     Conflict {
         terminal: usize,
