@@ -16,7 +16,10 @@ pub enum AttributeReason {
     /// E7: this production of an extension on a host's nonterminal doesn't forward.
     NoForward(Bytes),
     /// A1: the production has no equation for the attribute.
-    NoEquation { production: Bytes, attribute: Bytes },
+    NoEquation {
+        production: Bytes,
+        attribute: Bytes,
+    },
     /// A2: the production gives no value to what is read.
     NoInherited {
         production: Bytes,

@@ -77,10 +77,10 @@ pub(crate) fn push_done(out: &mut Vec<u8>, done: &Done) -> Result<(), AllocError
 }
 
 // Appends an attribute and its printed value.
-fn push_value(
+fn push_value<'a>(
     out: &mut Vec<u8>,
-    attribute: &Bytes,
-    value: &Sequence<u8>,
+    attribute: &'a Bytes,
+    value: &'a Sequence<u8>,
 ) -> Result<(), AllocError>
     ensures { OnOk result (out.new.items ≡ out.old.items ++ value_line attribute.now value.now) }
 {

@@ -15,6 +15,7 @@ use wb_base::{Bytes, Sequence};
 use wb_tokens::print_text;
 
 // A piece of a line.
+#[derive(Clone, Copy)]
 pub(crate) enum Piece<'a> {
     // The bytes as they are.
     Plain(&'a [u8]),
@@ -111,10 +112,7 @@ fn push_dotted(out: &mut Vec<u8>, left: &[u8], right: &[u8]) -> Result<(), Alloc
 }
 
 // Appends vertices, each after one space.
-pub(crate) fn push_vertices(
-    out: &mut Vec<u8>,
-    vertices: &[ShownVertex],
-) -> Result<(), AllocError>
+pub(crate) fn push_vertices(out: &mut Vec<u8>, vertices: &[ShownVertex]) -> Result<(), AllocError>
     ensures { OnOk result (out.new.items ≡ out.old.items ++ vertices_text vertices.now) }
 {
     'vertices: for vertex in vertices {
@@ -142,10 +140,10 @@ pub(crate) fn push_conflict(out: &mut Vec<u8>, conflict: &ShownConflict) -> Resu
 }
 
 // Appends an item and a terminal of its lookaheads.
-pub(crate) fn push_lookahead(
+pub(crate) fn push_lookahead<'a>(
     out: &mut Vec<u8>,
-    item: &ShownItem,
-    terminal: &Bytes,
+    item: &'a ShownItem,
+    terminal: &'a Bytes,
 ) -> Result<(), AllocError>
     ensures { OnOk result (out.new.items ≡ out.old.items ++ lookahead_text item.now terminal.now) }
 {
@@ -163,11 +161,11 @@ pub(crate) fn push_lookahead(
 }
 
 // Appends two terminals that match a text.
-pub(crate) fn push_share(
+pub(crate) fn push_share<'a>(
     out: &mut Vec<u8>,
-    left: &Bytes,
-    right: &Bytes,
-    text: &Bytes,
+    left: &'a Bytes,
+    right: &'a Bytes,
+    text: &'a Bytes,
 ) -> Result<(), AllocError>
     ensures { OnOk result (out.new.items ≡ out.old.items ++ share_text left.now right.now text.now) }
 {
@@ -212,7 +210,11 @@ pub(crate) fn push_names(
 }
 
 // Appends a line of a text and a name.
-pub(crate) fn push_line(out: &mut Vec<u8>, text: &[u8], name: &Bytes) -> Result<(), AllocError>
+pub(crate) fn push_line<'a>(
+    out: &mut Vec<u8>,
+    text: &'a [u8],
+    name: &'a Bytes,
+) -> Result<(), AllocError>
     ensures { OnOk result (out.new.items ≡ out.old.items ++ (text.now ++ name.now ++ codes "\n")) }
 {
     push_pieces(
