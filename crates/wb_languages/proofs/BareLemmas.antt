@@ -45,7 +45,7 @@ cycle_three edges a b c ab bc ca = record { nonempty = omega arith; next = next;
         let p : c ≡ u = cc in
         let q : a ≡ v = cc in subst (λ z. Contains edges (z, v)) p (subst (λ z. Contains edges (c, z)) q ca)
 
-layout_bare : (ts : List ℕ) (j : ℕ) (f : Form) → slice_get (map bare ts) j ≡ Some f → f.prefix ≡ []
+pub layout_bare : (ts : List ℕ) (j : ℕ) (f : Form) → slice_get (map bare ts) j ≡ Some f → f.prefix ≡ []
 layout_bare [] j f e = cc
 layout_bare (t ∷ ts) zero f e = let p : bare t ≡ f = cc in sym (ap (λ (z : Form). z.prefix) p)
 layout_bare (t ∷ ts) (suc j) f e = layout_bare ts j f e
