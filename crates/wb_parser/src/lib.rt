@@ -5,13 +5,11 @@
 #![tactic(auto)]
 
 mod leaf;
-
 mod parsed;
 mod parser;
 mod reduce;
 mod stack;
 mod step;
-
 
 pub use parsed::Parsed;
 pub use parser::parse;

@@ -52,6 +52,7 @@ fn read_all(
     ensures parsed { IfOk result (IsParsed language.now.language text.now store.new) }
     ensures extends { Extends store.old store.new }
 {
+    let _tables = language.tables();
     let mut stack = Stack::new(alloc);
     let mut at = 0;
     'leaves: loop {

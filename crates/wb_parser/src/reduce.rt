@@ -6,7 +6,7 @@ ghost use Rattle.wb_values.specs.ValuesIn.{IsIn};
 ghost use Rattle.wb_lookahead.specs.Contents.{size_of, goto_of};
 ghost use Rattle.wb_languages.specs.Parts.{AreTablesOf};
 ghost use Rattle.wb_parser.specs.Parses.{Extends};
-ghost use Rattle.wb_parser.specs.Inner.Stacks.{IsReduction};
+ghost use Rattle.wb_parser.specs.Inner.Stacks.{IsReduction, IsMoved};
 
 use crate::stack::{Stack, top};
 use std::alloc::AllocError;
@@ -30,15 +30,32 @@ pub(crate) fn reduce(
     ensures extends { Extends store.old store.new }
 {
     let grammar = language.grammar();
-    let width = grammar.right(production).len().min(stack.values.len());
     let left = grammar.left(production);
+    let width = grammar.right(production).len().min(stack.values.len());
     let tree = store.build_from(production, &mut stack.values, width)?;
-    let kept = stack.states.len().saturating_sub(width);
-    stack.states.truncate(kept);
-    let below = top(&stack.states);
-    let target = target_of(language.tables(), below, left);
-    stack.states.push(target)?;
+    move_states(language.tables(), &mut stack.states, width, left)?;
     stack.values.push(Value::Tree(tree))?;
+    Ok(())
+}
+
+// Takes the last states, so many of them, and puts the one after a nonterminal there.
+fn move_states(
+    tables: &Tables,
+    states: &mut Vec<usize>,
+    width: usize,
+    left: usize,
+) -> Result<(), AllocError>
+    requires left { left < tables.now.nonterminals }
+    requires states { All (λ s. s < size_of tables.now) states.old.items }
+    requires tables { (g : GrammarView) × AreTablesOf g tables.now }
+    ensures moved { OnOk result (IsMoved tables.now states.old.items width left states.new.items) }
+    ensures below { OnOk result (All (λ s. s < size_of tables.now) states.new.items) }
+{
+    let kept = states.len().saturating_sub(width);
+    states.truncate(kept);
+    let below = top(states);
+    let target = target_of(tables, below, left);
+    states.push(target)?;
     Ok(())
 }
 

@@ -81,6 +81,7 @@ impl Language {
     pub fn tables(&self) -> &Tables
         ensures tables { result.now ≡ self.now.tables }
         ensures of_grammar { AreTablesOf self.now.language.grammar self.now.tables }
+        ensures language { IsLanguage self.now.language }
     {
         &self.tables
     }

@@ -1,5 +1,5 @@
 -- Stacks of states and values, and what a reduction does to them.
-use Rattle.std.specs.Prelude.{◌≡◌, ◌<◌, ◌-◌, ◌++◌, ◌∷◌, ℕ, List, [], Some, length, min, slice_get, take}
+use Rattle.std.specs.Prelude.{◌≡◌, ◌<◌, ◌-◌, ◌^◌, ◌++◌, ◌∷◌, ℕ, List, [], Some, length, min, slice_get, take}
 use Rattle.wb_base.specs.declared.symbol.Symbol.{Symbol}
 use Rattle.wb_base.specs.declared.symbol.Symbol.TheVariants.{Terminal, Nonterminal}
 use Rattle.wb_base.specs.Grammar.{GrammarView}
@@ -31,6 +31,12 @@ AreStates g tables prefix (s ∷ ss) (leaf t text rest) =
 AreStates g tables prefix (s ∷ ss) (node p a children rest) =
     IsPrefixOf g tables s (prefix ++ Nonterminal a ∷ []) × AreStates g tables (prefix ++ Nonterminal a ∷ []) ss rest
 
+-- the last states, so many of them, made way for the one after the nonterminal, where it leads somewhere
+pub record IsMoved (tables : TablesView) (states : List ℕ) (width left : ℕ) (states' : List ℕ) : Type 0 where
+  pub target : ℕ
+  pub target_is : (next : ℕ) → goto_of tables (last_or 0 (take (length states - width) states)) left ≡ Some next → target ≡ next
+  pub states_are : states' ≡ take (length states - width) states ++ target ∷ []
+
 -- what a reduction by a production makes of states, values and trees: the node of the production over the last values is the last tree,
 -- and it and the state after its left side take the places of those values and their states
 pub record IsReduction (parts : LanguageParts) (p : ℕ) (states : List ℕ) (vs : List Value) (trees : List Tree)
@@ -40,10 +46,9 @@ pub record IsReduction (parts : LanguageParts) (p : ℕ) (states : List ℕ) (vs
   pub rule : IsProduction parts.language.grammar p left right
   pub width : ℕ
   pub width_is : width ≡ min (length right) (length vs)
-  pub target : ℕ
-  pub target_is : (next : ℕ) → goto_of parts.tables (last_or 0 (take (length states - width) states)) left ≡ Some next → target ≡ next
-  pub states_are : states' ≡ take (length states - width) states ++ target ∷ []
+  pub moved : IsMoved parts.tables states width left states'
   pub id : TreeId
   pub id_is : id.0 ≡ length trees
+  pub fits : id.0 < 2 ^ 64
   pub values_are : vs' ≡ take (length vs - width) vs ++ stored.Tree id ∷ []
   pub trees_are : trees' ≡ trees ++ values.node p (values_in trees (last width vs)) ∷ []

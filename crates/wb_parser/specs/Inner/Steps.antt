@@ -15,8 +15,9 @@ use Rattle.wb_languages.specs.Languages.{LanguageView}
 use Rattle.wb_languages.specs.Tokens.{Next, NextToken}
 use Rattle.wb_languages.specs.Readings.{Gives}
 use Rattle.wb_languages.specs.Texts.{StopsAt}
+use Rattle.wb_languages.specs.Facts.{IsLanguage}
 use Rattle.wb_languages.specs.Shown.{values_of}
-use Rattle.wb_languages.specs.Parts.{IsPrefixOf}
+use Rattle.wb_languages.specs.Parts.{IsPrefixOf, AreTablesOf}
 use Rattle.wb_languages.specs.Inner.Machine.{Keeps}
 use Rattle.wb_scan.specs.Views.{LanguageParts}
 use Rattle.wb_parser.specs.declared.step.Outcome.{Outcome}
@@ -26,8 +27,10 @@ use Rattle.wb_parser.specs.declared.leaf.Round.TheVariants.{Goes, Done}
 use Rattle.wb_parser.specs.Parses.{IsParsed}
 use Rattle.wb_parser.specs.Inner.Stacks.{AreStates}
 
--- states are those of the tables, and values are in the store
+-- the parts are a language with its tables, states are those of the tables, and values are in the store
 pub record IsSound (parts : LanguageParts) (states : List ℕ) (vs : List Value) (trees : List Tree) : Type 0 where
+  pub language : IsLanguage parts.language
+  pub tables_of : AreTablesOf parts.language.grammar parts.tables
   pub states_below : All (λ s. s < size_of parts.tables) states
   pub values_in_store : All (IsIn (length trees)) vs
 
