@@ -1,0 +1,3 @@
+mod ClashLemmas
+pub mod ConflictLemmas
+mod SetLemmas

@@ -1,0 +1,20 @@
+//! What is scanned, as callers lend it?
+
+use wb_regex::Regex;
+use wb_termset::TermSet;
+
+/// The expressions of terminals and layout, and what a scanner knows of them.
+///
+/// Terminals are numbered by their places in `expressions`. Those of the grammar come first, with the numbers that they have there, but
+/// for those that match no text, which are last in the grammar and not here.
+#[derive(Drop)]
+pub struct Lexicon<'a> {
+    /// The expressions, by number.
+    pub expressions: &'a [Regex],
+    /// How many of the grammar's terminals there are here.
+    pub scanned: usize,
+    /// Which numbers are layout; it has room for all.
+    pub layout: &'a TermSet,
+    /// The first of each pair is preferred to the second.
+    pub preferences: &'a [(usize, usize)],
+}

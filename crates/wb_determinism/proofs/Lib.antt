@@ -1,0 +1,3 @@
+mod FlagLemmas
+mod HostLemmas
+mod RefusalLemmas

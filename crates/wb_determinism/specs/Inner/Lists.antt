@@ -1,0 +1,19 @@
+-- What a host's lists keep.
+use Rattle.std.specs.Prelude.{◌≡◌, Some, map}
+use Rattle.wb_base.specs.Grammar.{GrammarView}
+use Rattle.wb_resolved.specs.declared.resolved.ResolvedParts.{ResolvedParts}
+use Rattle.wb_resolved.specs.declared.terminal.Terminal.{Terminal}
+use Rattle.wb_resolved.specs.Resolved.{IsResolved}
+use Rattle.wb_determinism.specs.declared.host.Lists.{Lists}
+use Rattle.wb_determinism.specs.Lexicons.{is_layout, preference_pairs}
+
+-- the lists are the expressions of the terminals, the set of layout and the preferences
+pub record AreLists (r : ResolvedParts) (lists : Lists) : Type 0 where
+  pub expressions : lists.expressions.items ≡ map (λ (t : Terminal). t.pattern) r.terminals
+  pub layout : lists.layout ≡ map (λ (t : Terminal). is_layout t.kind) r.terminals
+  pub pairs : lists.pairs.items ≡ preference_pairs r
+
+-- a resolved specification has this grammar
+pub record HasGrammar (r : ResolvedParts) (g : GrammarView) : Type 0 where
+  pub resolved : IsResolved r
+  pub grammar : r.grammar ≡ Some g

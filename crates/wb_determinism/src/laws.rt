@@ -1,0 +1,12 @@
+//! What does a refusal rule out?
+
+ghost use Rattle.wb_base.specs.Grammar.{GrammarView};
+ghost use Rattle.wb_resolved.specs.declared.resolved.ResolvedParts.{ResolvedParts};
+ghost use Rattle.wb_determinism.specs.declared.refusal.DeterminismRefusal.{DeterminismRefusal as Refusal};
+ghost use Rattle.wb_determinism.specs.Hosts.{IsDeterministicHost};
+ghost use Rattle.wb_determinism.specs.Refusals.{IsHostRefusal, IsNoMemory};
+
+/// A host that is refused, but for want of memory, isn't deterministic.
+pub fn host_refusals_law()
+    ensures { (r : ResolvedParts) (g : GrammarView) (refusal : Refusal) → IsHostRefusal r g refusal → IsDeterministicHost r g → IsNoMemory refusal }
+{}

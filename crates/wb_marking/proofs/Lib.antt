@@ -1,0 +1,2 @@
+mod HoleLemmas
+pub mod LiftLemmas

@@ -1,0 +1,2 @@
+-- Pieces of lines.
+pub mod Pieces

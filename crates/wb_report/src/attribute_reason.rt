@@ -1,0 +1,148 @@
+//! Why is a file refused whose attributes aren't well-defined?
+
+ghost use Rattle.std.specs.Prelude.{◌≡◌, ◌++◌, OnOk};
+ghost use Rattle.wb_report.specs.Reasons.{attribute_text, reader_text};
+
+use crate::ShownVertex;
+use crate::pieces::{Piece, push_name, push_pieces, push_vertices};
+use std::alloc::AllocError;
+use wb_base::{Bytes, Sequence};
+
+/// Why a host, or an extension with its host, is refused for its attributes.
+#[derive(Drop)]
+pub enum AttributeReason {
+    /// A5: the start has this inherited attribute.
+    StartInherits(Bytes),
+    /// E7: this production of an extension on a host's nonterminal doesn't forward.
+    NoForward(Bytes),
+    /// A1: the production has no equation for the attribute.
+    NoEquation {
+        production: Bytes,
+        attribute: Bytes,
+    },
+    /// A2: the production gives no value to what is read.
+    NoInherited {
+        production: Bytes,
+        vertex: ShownVertex,
+    },
+    /// A6: the attribute of the nonterminal needs less than a forward there.
+    LacksForward {
+        nonterminal: Bytes,
+        attribute: Bytes,
+        inherited: Bytes,
+    },
+    /// A3: the attribute, or the forwarded tree, reads what it doesn't declare.
+    Reads {
+        production: Bytes,
+        attribute: Option<Bytes>,
+        inherited: Bytes,
+    },
+    /// A4: each of these reads the next, and the last the first.
+    Cycle {
+        production: Bytes,
+        vertices: Sequence<ShownVertex>,
+    },
+    /// E8: the equation for what the forwarded tree inherits reads too much.
+    ForwardReads {
+        production: Bytes,
+        attribute: Bytes,
+        inherited: Bytes,
+    },
+}
+
+// Appends why a file is refused for its attributes.
+pub(crate) fn push_attribute_reason(
+    out: &mut Vec<u8>,
+    reason: &AttributeReason,
+) -> Result<(), AllocError>
+    ensures { OnOk result (out.new.items ≡ out.old.items ++ attribute_text reason.now) }
+{
+    match reason {
+        AttributeReason::StartInherits(attribute) => push_name(out, b"A5 ", attribute),
+        AttributeReason::NoForward(production) => push_name(out, b"E7 ", production),
+        AttributeReason::NoEquation {
+            production,
+            attribute,
+        } => push_pieces(
+            out,
+            &[
+                Piece::Plain(b"A1 "),
+                Piece::Plain(production.as_slice()),
+                Piece::Plain(b" "),
+                Piece::Plain(attribute.as_slice()),
+            ],
+        ),
+        AttributeReason::NoInherited { production, vertex } => push_pieces(
+            out,
+            &[
+                Piece::Plain(b"A2 "),
+                Piece::Plain(production.as_slice()),
+                Piece::Plain(b" "),
+                Piece::Vertex(vertex),
+            ],
+        ),
+        AttributeReason::LacksForward {
+            nonterminal,
+            attribute,
+            inherited,
+        } => push_pieces(
+            out,
+            &[
+                Piece::Plain(b"A6 "),
+                Piece::Plain(nonterminal.as_slice()),
+                Piece::Plain(b" "),
+                Piece::Plain(attribute.as_slice()),
+                Piece::Plain(b" lacks "),
+                Piece::Plain(inherited.as_slice()),
+            ],
+        ),
+        AttributeReason::Reads {
+            production,
+            attribute,
+            inherited,
+        } => push_pieces(
+            out,
+            &[
+                Piece::Plain(b"A3 "),
+                Piece::Plain(production.as_slice()),
+                Piece::Plain(b" "),
+                Piece::Plain(reader(attribute)),
+                Piece::Plain(b" reads "),
+                Piece::Plain(inherited.as_slice()),
+            ],
+        ),
+        AttributeReason::Cycle {
+            production,
+            vertices,
+        } => {
+            push_name(out, b"A4 ", production)?;
+            out.extend_from_slice(b":")?;
+            push_vertices(out, vertices.as_slice())
+        }
+        AttributeReason::ForwardReads {
+            production,
+            attribute,
+            inherited,
+        } => push_pieces(
+            out,
+            &[
+                Piece::Plain(b"E8 "),
+                Piece::Plain(production.as_slice()),
+                Piece::Plain(b" forward."),
+                Piece::Plain(attribute.as_slice()),
+                Piece::Plain(b" reads "),
+                Piece::Plain(inherited.as_slice()),
+            ],
+        ),
+    }
+}
+
+// What a read is for, by name.
+fn reader(attribute: &Option<Bytes>) -> &[u8]
+    ensures { result.now ≡ reader_text attribute.now }
+{
+    match attribute {
+        Some(name) => name.as_slice(),
+        None => b"forward",
+    }
+}

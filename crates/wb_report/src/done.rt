@@ -1,0 +1,148 @@
+//! What does a command show that comes to its end?
+
+ghost use Rattle.std.specs.Prelude.{◌≡◌, ◌++◌, OnOk};
+ghost use Rattle.std.specs.Fmt.{decimal};
+ghost use lib.Chars.{codes};
+ghost use Rattle.wb_report.specs.Done.{done_lines, extension_lines, prefix_lines, value_line};
+
+use crate::pieces::{Piece, push_line, push_pieces};
+use std::alloc::AllocError;
+use wb_base::{Bytes, Sequence};
+
+/// What a command that comes to its end shows.
+#[derive(Drop)]
+pub enum Done {
+    /// An attribute with its printed value.
+    Value {
+        attribute: Bytes,
+        value: Sequence<u8>,
+    },
+    /// The canonical text of a specification.
+    Canonical(Sequence<u8>),
+    /// A host is certified, and so are these extensions.
+    Certified {
+        host: Bytes,
+        extensions: Sequence<Bytes>,
+    },
+    /// A host with so many extensions, and the markers that need their prefix.
+    Composed {
+        host: Bytes,
+        extensions: usize,
+        prefixed: Sequence<Bytes>,
+    },
+    /// A printed tree.
+    Tree(Sequence<u8>),
+    /// A generated text with so many leaves and bytes, and an attribute with its printed value.
+    Generated {
+        leaves: u64,
+        bytes: usize,
+        attribute: Bytes,
+        value: Sequence<u8>,
+    },
+}
+
+// Appends the lines of a command that comes to its end.
+pub(crate) fn push_done(out: &mut Vec<u8>, done: &Done) -> Result<(), AllocError>
+    ensures { OnOk result (out.new.items ≡ out.old.items ++ done_lines done.now) }
+{
+    match done {
+        Done::Value { attribute, value } => push_value(out, attribute, value),
+        Done::Canonical(text) => out.extend_from_slice(text.as_slice()),
+        Done::Certified { host, extensions } => {
+            push_line(out, b"certified host ", host)?;
+            push_extensions(out, extensions.as_slice())
+        }
+        Done::Composed {
+            host,
+            extensions,
+            prefixed,
+        } => {
+            push_composed(out, host, *extensions)?;
+            push_prefixed(out, prefixed.as_slice())
+        }
+        Done::Tree(text) => {
+            out.extend_from_slice(text.as_slice())?;
+            out.extend_from_slice(b"\n")
+        }
+        Done::Generated {
+            leaves,
+            bytes,
+            attribute,
+            value,
+        } => {
+            push_size(out, *leaves, *bytes)?;
+            push_value(out, attribute, value)
+        }
+    }
+}
+
+// Appends an attribute and its printed value.
+fn push_value<'a>(
+    out: &mut Vec<u8>,
+    attribute: &'a Bytes,
+    value: &'a Sequence<u8>,
+) -> Result<(), AllocError>
+    ensures { OnOk result (out.new.items ≡ out.old.items ++ value_line attribute.now value.now) }
+{
+    push_pieces(
+        out,
+        &[
+            Piece::Plain(attribute.as_slice()),
+            Piece::Plain(b" = "),
+            Piece::Plain(value.as_slice()),
+            Piece::Plain(b"\n"),
+        ],
+    )
+}
+
+// Appends a line for each certified extension.
+fn push_extensions(out: &mut Vec<u8>, names: &[Bytes]) -> Result<(), AllocError>
+    ensures { OnOk result (out.new.items ≡ out.old.items ++ extension_lines names.now) }
+{
+    'names: for name in names {
+        push_line(out, b"certified extension ", name)?;
+    }
+    Ok(())
+}
+
+// Appends a line for each marker that needs its prefix.
+fn push_prefixed(out: &mut Vec<u8>, markers: &[Bytes]) -> Result<(), AllocError>
+    ensures { OnOk result (out.new.items ≡ out.old.items ++ prefix_lines markers.now) }
+{
+    'markers: for marker in markers {
+        push_line(out, b"prefix ", marker)?;
+    }
+    Ok(())
+}
+
+// Appends the line of a host with so many extensions.
+fn push_composed(out: &mut Vec<u8>, host: &Bytes, extensions: usize) -> Result<(), AllocError>
+    ensures { OnOk result (out.new.items ≡ out.old.items ++ (codes "composed " ++ host.now ++ codes " with " ++ decimal extensions ++ codes " extensions\n")) }
+{
+    push_pieces(
+        out,
+        &[
+            Piece::Plain(b"composed "),
+            Piece::Plain(host.as_slice()),
+            Piece::Plain(b" with "),
+            Piece::Number(extensions as u64),
+            Piece::Plain(b" extensions\n"),
+        ],
+    )
+}
+
+// Appends the lines of a text's leaves and bytes.
+fn push_size(out: &mut Vec<u8>, leaves: u64, bytes: usize) -> Result<(), AllocError>
+    ensures { OnOk result (out.new.items ≡ out.old.items ++ (codes "leaves " ++ decimal leaves ++ codes "\nbytes " ++ decimal bytes ++ codes "\n")) }
+{
+    push_pieces(
+        out,
+        &[
+            Piece::Plain(b"leaves "),
+            Piece::Number(leaves),
+            Piece::Plain(b"\nbytes "),
+            Piece::Number(bytes as u64),
+            Piece::Plain(b"\n"),
+        ],
+    )
+}
