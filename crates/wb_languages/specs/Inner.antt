@@ -1,0 +1,2 @@
+-- the machine that shifts and reduces, on trees
+pub mod Machine

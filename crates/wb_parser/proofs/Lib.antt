@@ -1,0 +1,4 @@
+pub mod LeafLemmas
+pub mod StateLemmas
+pub mod StepLemmas
+pub mod ValueLemmas

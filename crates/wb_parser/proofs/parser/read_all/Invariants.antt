@@ -1,0 +1,15 @@
+use Rattle.std.proofs.Common.{ℕ, ◌-◌, ◌≤◌, length}
+use Rattle.wb_parser.specs.Parses.{Extends}
+use Rattle.wb_parser.specs.Inner.Steps.{IsReady, IsSound}
+use Rattle.wb_parser.proofs.parser.read_all.Given as goal
+
+abbrev pub invariant-leaves : goal.invariant-leaves
+invariant-leaves l = record {
+  within : l.at ≤ length l.text;
+  sound : IsSound l.language l.stack.states.items l.stack.values.items l.store;
+  ready : IsReady l.language l.text l.stack.states.items l.stack.values.items l.store l.at;
+  extends : Extends l.initial.store l.store;
+}
+
+abbrev pub decreases-leaves : goal.decreases-leaves
+decreases-leaves l = length l.text - l.at

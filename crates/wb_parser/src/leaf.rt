@@ -1,0 +1,119 @@
+//! How is one leaf taken? It is scanned at the state behind the one before it, and shifted after the reductions that it asks for.
+
+ghost use Rattle.std.specs.Prelude.{◌≡◌, ◌<◌, ◌≤◌, ◌++◌, ◌∷◌, [], ℕ, List, IfOk, OnOk, length, slice_range};
+ghost use Rattle.wb_base.specs.declared.symbol.Symbol.{Symbol};
+ghost use Rattle.wb_values.specs.declared.value.TreeId.{TreeId};
+ghost use Rattle.wb_values.specs.declared.value.Value.TheVariants.{Text, Tree as Stored};
+ghost use Rattle.wb_languages.specs.Tokens.{NextToken, over};
+ghost use Rattle.wb_parser.specs.declared.parsed.Parsed.TheVariants.{Tree};
+ghost use Rattle.wb_parser.specs.Parses.{Extends, IsParsed};
+ghost use Rattle.wb_parser.specs.Inner.Steps.{IsAt, IsSound, IsRound, IsReady, StaysSound};
+
+use crate::Parsed;
+use crate::stack::{Stack, top};
+use crate::step::{Outcome, reduce_all};
+use std::alloc::{AllocError, Global};
+use wb_base::Bytes;
+use wb_languages::StopKind;
+use wb_scan::{Language, Scanned, scan};
+use wb_values::{TreeStore, Value};
+
+// What became of one leaf.
+#[derive(Clone, Copy)]
+pub(crate) enum Round {
+    // It was shifted, and the text goes on at this place.
+    Goes(usize),
+    // The text was read, or stops.
+    Done(Parsed),
+}
+
+// Takes the next leaf of the text, from a place on.
+pub(crate) fn take_leaf(
+    alloc: Global,
+    language: &Language,
+    text: &[u8],
+    stack: &mut Stack,
+    store: &mut TreeStore,
+    at: usize,
+) -> Result<Round, AllocError>
+    requires at { at ≤ length text.now }
+    requires sound { IsSound language.now stack.old.states.items stack.old.values.items store.old }
+    ensures round { IfOk result (λ round. IsReady language.now text.now stack.old.states.items stack.old.values.items store.old at → IsRound language.now text.now stack.new.states.items stack.new.values.items store.new at round) }
+    ensures sound { IfOk result (λ round. StaysSound language.now (length text.now) at stack.new.states.items stack.new.values.items store.new round) }
+    ensures extends { Extends store.old store.new }
+{
+    match scan(language, top(&stack.states), text, at) {
+        Scanned::NoToken { at: place } => Ok(Round::Done(Parsed::Stopped {
+            at: place,
+            kind: StopKind::NoToken,
+        })),
+        Scanned::End { at: place } => Ok(Round::Done(finish(language, stack, store, place)?)),
+        Scanned::Token {
+            terminal,
+            at: place,
+            lexeme,
+            end,
+        } => {
+            match reduce_all(language, stack, store, terminal)? {
+                Outcome::Shifts(target) => {
+                    push_leaf(alloc, stack, target, &text[lexeme..end])?;
+                    Ok(Round::Goes(end))
+                }
+                _ => Ok(Round::Done(Parsed::Stopped {
+                    at: place,
+                    kind: StopKind::Unexpected(terminal),
+                })),
+            }
+        }
+    }
+}
+
+// Pushes a leaf: its state and its lexeme.
+fn push_leaf(
+    alloc: Global,
+    stack: &mut Stack,
+    state: usize,
+    lexeme: &[u8],
+) -> Result<(), AllocError>
+    ensures states { OnOk result (stack.new.states.items ≡ stack.old.states.items ++ state ∷ []) }
+    ensures values { OnOk result (stack.new.values.items ≡ stack.old.values.items ++ Text lexeme.now ∷ []) }
+{
+    stack.states.push(state)?;
+    let text = Bytes::from_slice(alloc, lexeme)?;
+    stack.values.push(Value::Text(text))?;
+    Ok(())
+}
+
+// What the text is at its end, where this place is: whole, or stopped there.
+fn finish(
+    language: &Language,
+    stack: &mut Stack,
+    store: &mut TreeStore,
+    place: usize,
+) -> Result<Parsed, AllocError>
+    requires sound { IsSound language.now stack.old.states.items stack.old.values.items store.old }
+    ensures parsed { IfOk result (λ parsed. (text : List ℕ) (prefix : List Symbol) (at : ℕ) → NextToken language.now.language text prefix at (over place) → IsAt language.now text stack.old.states.items stack.old.values.items store.old prefix at → IsParsed language.now.language text store.new parsed) }
+    ensures extends { Extends store.old store.new }
+{
+    let end = language.grammar().terminals();
+    match reduce_all(language, stack, store, end)? {
+        Outcome::Accepts => Ok(parsed_of(&stack.values, place, end)),
+        _ => Ok(Parsed::Stopped {
+            at: place,
+            kind: StopKind::Unexpected(end),
+        }),
+    }
+}
+
+// The tree that is the one value of the stack.
+fn parsed_of(values: &[Value], place: usize, end: usize) -> Parsed
+    ensures { (id : TreeId) → values.now ≡ Stored id ∷ [] → result ≡ Tree id }
+{
+    match values.last() {
+        Some(Value::Tree(tree)) => Parsed::Tree(*tree),
+        _ => Parsed::Stopped {
+            at: place,
+            kind: StopKind::Unexpected(end),
+        },
+    }
+}

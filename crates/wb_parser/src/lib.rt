@@ -1,0 +1,16 @@
+//! The one tree or the one stop of a text, by the tables of a language.
+//!
+//! A text has exactly one of the two. The scanner is asked once for each leaf, at the state right behind the shift before it; reductions
+//! come after that and change neither place nor kind of a stop. What a tree and a stop are lies in `wb_languages`.
+#![tactic(auto)]
+
+mod leaf;
+mod parsed;
+mod parser;
+mod reduce;
+mod stack;
+mod step;
+
+pub use parsed::Parsed;
+pub use parser::parse;
+pub use wb_languages::StopKind;

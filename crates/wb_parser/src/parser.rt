@@ -1,0 +1,64 @@
+//! Which tree has a text, or where does it stop?
+//!
+//! Leaf after leaf is taken until the text is read or stops. Whatever was built for a text that stops is taken back.
+
+ghost use Rattle.std.specs.Prelude.{◌≡◌, ◌≤◌, [], ℕ, IfOk, OnErr, length};
+ghost use Rattle.wb_parser.specs.Parses.{Extends, IsParsed, KeepsStore, FitsSignatures};
+
+use crate::Parsed;
+use crate::leaf::{Round, take_leaf};
+use crate::stack::Stack;
+use std::alloc::{AllocError, Global};
+use wb_scan::Language;
+use wb_values::TreeStore;
+
+/// The one tree of a text in a language, or the one stop. The only error is want of memory.
+///
+/// The children of the tree's nodes are its trees and lexemes, in order; a lexeme is without the prefix of its form. After a tree the store
+/// begins with what it held before. After a stop, and after want of memory, it is as before. A stack of states and values, one of each for
+/// each root, is all that is kept beside the store.
+pub fn parse(
+    alloc: Global,
+    language: &Language,
+    text: &[u8],
+    store: &mut TreeStore,
+) -> Result<Parsed, AllocError>
+    ensures parsed { IfOk result (IsParsed language.now.language text.now store.new) }
+    ensures store { IfOk result (λ parsed. KeepsStore parsed store.old store.new) }
+    ensures fits { IfOk result (FitsSignatures language.now.language store.new) }
+    ensures err { OnErr result (store.new ≡ store.old) }
+{
+    let before = store.len();
+    match read_all(alloc, language, text, store) {
+        Ok(Parsed::Tree(tree)) => Ok(Parsed::Tree(tree)),
+        Ok(Parsed::Stopped { at, kind }) => {
+            store.truncate(before);
+            Ok(Parsed::Stopped { at, kind })
+        }
+        Err(error) => {
+            store.truncate(before);
+            Err(error)
+        }
+    }
+}
+
+// The same, with whatever was built left in the store.
+fn read_all(
+    alloc: Global,
+    language: &Language,
+    text: &[u8],
+    store: &mut TreeStore,
+) -> Result<Parsed, AllocError>
+    ensures parsed { IfOk result (IsParsed language.now.language text.now store.new) }
+    ensures extends { Extends store.old store.new }
+{
+    let _tables = language.tables();
+    let mut stack = Stack::new(alloc);
+    let mut at = 0;
+    'leaves: loop {
+        match take_leaf(alloc, language, text, &mut stack, store, at)? {
+            Round::Goes(after) => at = after,
+            Round::Done(parsed) => return Ok(parsed),
+        }
+    }
+}

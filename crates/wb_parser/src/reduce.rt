@@ -1,0 +1,73 @@
+//! What does a reduction do to the stack? It builds the node of a production over the last values.
+
+ghost use Rattle.std.specs.Prelude.{◌≡◌, ◌<◌, ◌≤◌, ◌+◌, ◌^◌, ◌++◌, ◌∷◌, [], ℕ, All, IfOk, OnOk, Some, length};
+ghost use Rattle.wb_base.specs.Grammar.{GrammarView};
+ghost use Rattle.wb_values.specs.ValuesIn.{IsIn};
+ghost use Rattle.wb_lookahead.specs.Contents.{size_of, goto_of};
+ghost use Rattle.wb_languages.specs.Parts.{AreTablesOf};
+ghost use Rattle.wb_parser.specs.Parses.{Extends};
+ghost use Rattle.wb_parser.specs.Inner.Stacks.{IsReduction, IsMoved};
+
+use crate::stack::{Stack, top};
+use std::alloc::AllocError;
+use wb_lookahead::Tables;
+use wb_scan::Language;
+use wb_values::{TreeStore, Value};
+
+// Reduces by a production: its node takes the place of its children.
+pub(crate) fn reduce(
+    language: &Language,
+    stack: &mut Stack,
+    store: &mut TreeStore,
+    production: usize,
+) -> Result<(), AllocError>
+    requires production { production < length language.now.language.grammar.productions }
+    requires states { All (λ s. s < size_of language.now.tables) stack.old.states.items }
+    requires values { All (IsIn (length store.old)) stack.old.values.items }
+    ensures reduction { OnOk result (IsReduction language.now production stack.old.states.items stack.old.values.items store.old stack.new.states.items stack.new.values.items store.new) }
+    ensures states { OnOk result (All (λ s. s < size_of language.now.tables) stack.new.states.items) }
+    ensures values { OnOk result (All (IsIn (length store.new)) stack.new.values.items) }
+    ensures extends { Extends store.old store.new }
+{
+    let grammar = language.grammar();
+    let left = grammar.left(production);
+    let width = grammar.right(production).len().min(stack.values.len());
+    let tree = store.build_from(production, &mut stack.values, width)?;
+    move_states(language.tables(), &mut stack.states, width, left)?;
+    stack.values.push(Value::Tree(tree))?;
+    Ok(())
+}
+
+// Takes the last states, so many of them, and puts the one after a nonterminal there.
+fn move_states(
+    tables: &Tables,
+    states: &mut Vec<usize>,
+    width: usize,
+    left: usize,
+) -> Result<(), AllocError>
+    requires left { left < tables.now.nonterminals }
+    requires states { All (λ s. s < size_of tables.now) states.old.items }
+    requires tables { (g : GrammarView) × AreTablesOf g tables.now }
+    ensures moved { OnOk result (IsMoved tables.now states.old.items width left states.new.items) }
+    ensures below { OnOk result (All (λ s. s < size_of tables.now) states.new.items) }
+{
+    let kept = states.len().saturating_sub(width);
+    states.truncate(kept);
+    let below = top(states);
+    let target = target_of(tables, below, left);
+    states.push(target)?;
+    Ok(())
+}
+
+// The state after a nonterminal, and 0 where it leads nowhere.
+fn target_of(tables: &Tables, state: usize, nonterminal: usize) -> usize
+    requires state { state < size_of tables.now }
+    requires nonterminal { nonterminal < tables.now.nonterminals }
+    ensures next { (next : ℕ) → goto_of tables.now state nonterminal ≡ Some next → result ≡ next }
+    ensures below { (g : GrammarView) → AreTablesOf g tables.now → result < size_of tables.now }
+{
+    match tables.goto(state, nonterminal) {
+        Some(next) => next,
+        None => 0,
+    }
+}

@@ -1,0 +1,37 @@
+//! What is on the parser's stack? A state and a value for each root, in two vectors.
+
+ghost use Rattle.std.specs.Prelude.{◌≡◌, ◌<◌, [], All, length};
+ghost use Rattle.wb_parser.specs.Inner.Stacks.{last_or};
+
+use std::alloc::Global;
+use wb_values::Value;
+
+// The states and the values of the roots, the last one on top. At the bottom is state 0, which isn't listed.
+#[derive(Drop)]
+pub(crate) struct Stack {
+    pub(crate) states: Vec<usize>,
+    pub(crate) values: Vec<Value>,
+}
+
+impl Stack {
+    // No roots. Takes no memory.
+    pub(crate) fn new(alloc: Global) -> Stack
+        ensures states { result.states.items ≡ [] }
+        ensures values { result.values.items ≡ [] }
+    {
+        Stack {
+            states: Vec::new(alloc),
+            values: Vec::new(alloc),
+        }
+    }
+}
+
+// The last of the states, or 0.
+pub(crate) fn top(states: &[usize]) -> usize
+    ensures { result ≡ last_or 0 states.now }
+{
+    if states.len() == 0 {
+        return 0;
+    }
+    states[states.len() - 1]
+}

@@ -1,0 +1,61 @@
+-- What is found is what is next.
+use Rattle.std.proofs.Common.{◌≡◌, ◌<◌, ◌≤◌, ◌+◌, ◌-◌, ℕ, List, ◌++◌, length, refl, sym, ◌∙◌, ap, subst, arith}
+use Rattle.std.specs.Prelude.{Some, slice_get, slice_range}
+use Rattle.wb_scan.proofs.RangeLemmas.{range_length}
+use Rattle.wb_base.specs.declared.symbol.Symbol.{Symbol}
+use Rattle.wb_languages.specs.declared.form.Form.{Form}
+use Rattle.wb_languages.specs.Languages.{IsLayout}
+use Rattle.wb_languages.specs.Winners.{Wins}
+use Rattle.wb_languages.specs.Tokens.{Next, token, over, missing, NextToken, skipped, wins, ends, fails}
+use Rattle.wb_languages.specs.Parts.{IsPrefixOf}
+use Rattle.wb_scan.specs.declared.scanned.Scanned.{Scanned}
+use Rattle.wb_scan.specs.declared.scanned.Scanned.TheVariants.{Token, End, NoToken}
+use Rattle.wb_scan.specs.Views.{LanguageParts}
+use Rattle.wb_scan.specs.Scans.{next_in, IsInside}
+use Rattle.wb_scan.specs.Inner.Found.{IsFound, IsNotFound, IsOver, SkipsTo}
+
+module _ (parts : LanguageParts) (state : ℕ) (text : List ℕ) where
+  piece_end : (at form end : ℕ) → IsFound parts state text at form end → at + length (slice_range text at end) ≡ end
+  piece_end at form end found =
+      let len : length (slice_range text at end) ≡ end - at = range_length text at end found.within in
+      let lt : at < end = found.some in omega arith
+
+  -- layout is skipped
+  pub skips_more : (at place form end : ℕ) → SkipsTo parts state text at place → IsFound parts state text place form end →
+      length parts.language.forms ≤ form → SkipsTo parts state text at end
+  skips_more at place form end skips found le prefix of next n = skips prefix of next
+      (skipped form (slice_range text place end) (le, found.below) (found.wins prefix of)
+      (subst (λ z. NextToken parts.language text prefix z next) (sym (piece_end place form end found)) n))
+
+  -- a form that isn't layout is the token
+  pub token_next : (at place form end : ℕ) (f : Form) (result : Scanned) → SkipsTo parts state text at place →
+      IsFound parts state text place form end → slice_get parts.language.forms form ≡ Some f →
+      result ≡ Token f.terminal place (place + length f.prefix) end → (prefix : List Symbol) →
+      IsPrefixOf parts.language.grammar parts.tables state prefix → NextToken parts.language text prefix at (next_in text result)
+  token_next at place form end f result skips found at_f is prefix of =
+      subst (λ z. NextToken parts.language text prefix at (next_in text z)) (sym is)
+      (skips prefix of _ (wins form f (slice_range text place end) (slice_range text (place + length f.prefix) end) at_f
+      (found.wins prefix of) (found.prefix f at_f).1
+      (ap (token place f.terminal (slice_range text (place + length f.prefix) end)) (sym (piece_end place form end found)))))
+
+  pub token_inside : (at place form end : ℕ) (f : Form) (result : Scanned) → f.terminal < parts.language.grammar.terminals → at ≤ place → IsFound parts state text place form end →
+      slice_get parts.language.forms form ≡ Some f → result ≡ Token f.terminal place (place + length f.prefix) end →
+      IsInside parts.language.grammar.terminals (length text) at result
+  token_inside at place form end f result below le found at_f is =
+      subst (IsInside parts.language.grammar.terminals (length text) at) (sym is)
+      (below, le, omega arith, (found.prefix f at_f).0, found.some, found.within)
+
+  -- where nothing is found, the end is next, or nothing
+  pub over_next : (at place : ℕ) (result : Scanned) → SkipsTo parts state text at place → IsNotFound parts state text place →
+      IsOver (length text) place result → (prefix : List Symbol) → IsPrefixOf parts.language.grammar parts.tables state prefix →
+      NextToken parts.language text prefix at (next_in text result)
+  over_next at place (Token terminal begin lexeme end) skips none is prefix of = absurd is
+  over_next at place (End here) skips none (same, is) prefix of = skips prefix of (over here) (ends is (ap over same))
+  over_next at place (NoToken here) skips none (same, lt) prefix of =
+      skips prefix of (missing here) (fails lt (none prefix of) (ap missing same))
+
+  pub over_inside : (at place : ℕ) (result : Scanned) → at ≤ place → place ≤ length text → IsOver (length text) place result →
+      IsInside parts.language.grammar.terminals (length text) at result
+  over_inside at place (Token terminal begin lexeme end) le within is = absurd is
+  over_inside at place (End here) le within (same, is) = (omega arith, omega arith)
+  over_inside at place (NoToken here) le within (same, lt) = (omega arith, omega arith)

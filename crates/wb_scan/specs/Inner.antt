@@ -1,0 +1,4 @@
+-- the longest match of an automaton
+pub mod Longest
+-- forms that were found
+pub mod Found

@@ -1,0 +1,44 @@
+-- The form that is found to win from a place of a text on.
+use Rattle.std.specs.Prelude.{◌≡◌, ◌≢◌, ◌<◌, ◌≤◌, ◌+◌, ℕ, List, ◌++◌, Contains, Some, length, slice_get, slice_range}
+use Rattle.wb_base.specs.declared.symbol.Symbol.{Symbol}
+use Rattle.wb_languages.specs.declared.form.Form.{Form}
+use Rattle.wb_languages.specs.Languages.{LanguageView, forms_of}
+use Rattle.wb_languages.specs.Winners.{BeatsAt, Wins}
+use Rattle.wb_languages.specs.Parts.{IsPrefixOf}
+use Rattle.wb_languages.specs.Tokens.{Next, NextToken}
+use Rattle.wb_scan.specs.declared.scanned.Scanned.{Scanned}
+use Rattle.wb_scan.specs.declared.scanned.Scanned.TheVariants.{Token, End, NoToken}
+use Rattle.wb_scan.specs.Views.{LanguageParts}
+
+-- the form is one of these, and beats each other
+pub record IsChampion (l : LanguageView) (places : List ℕ) (place : ℕ) : Type 0 where
+  pub listed : Contains places place
+  pub beats : (other : ℕ) → Contains places other → other ≢ place → BeatsAt l place other
+
+-- the form wins at each prefix of the state, with the text up to the end
+pub record IsFound (parts : LanguageParts) (state : ℕ) (text : List ℕ) (at form end : ℕ) : Type 0 where
+  pub some : at < end
+  pub within : end ≤ length text
+  pub below : form < length parts.language.forms + length parts.language.layout
+  pub prefix : (f : Form) → slice_get parts.language.forms form ≡ Some f → (at + length f.prefix ≤ end) ×
+      (slice_range text at end ≡ f.prefix ++ slice_range text (at + length f.prefix) end)
+  pub wins : (prefix : List Symbol) → IsPrefixOf parts.language.grammar parts.tables state prefix →
+      Wins parts.language prefix text at form (slice_range text at end)
+
+-- no form wins, at no prefix of the state
+abbrev pub IsNotFound : LanguageParts → ℕ → List ℕ → ℕ → Type 0
+IsNotFound parts state text at =
+    (prefix : List Symbol) → IsPrefixOf parts.language.grammar parts.tables state prefix → (place : ℕ) (piece : List ℕ) →
+    ¬ Wins parts.language prefix text at place piece
+
+-- the end is next where it is reached, and nothing elsewhere
+abbrev pub IsOver : ℕ → ℕ → Scanned → Type 0
+IsOver size at (Token terminal begin lexeme end) = ⊥
+IsOver size at (End place) = (place ≡ at) × (at ≡ size)
+IsOver size at (NoToken place) = (place ≡ at) × (at < size)
+
+-- what is next at the one place is next at the other, at each prefix of the state
+abbrev pub SkipsTo : LanguageParts → ℕ → List ℕ → ℕ → ℕ → Type 0
+SkipsTo parts state text at place =
+    (prefix : List Symbol) → IsPrefixOf parts.language.grammar parts.tables state prefix → (next : Next) →
+    NextToken parts.language text prefix place next → NextToken parts.language text prefix at next

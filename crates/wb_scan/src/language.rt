@@ -1,0 +1,88 @@
+//! What is kept of a language, so that its texts can be scanned and parsed?
+//!
+//! Its tables, and an automaton with a start for what is considered at each state. What must hold of them is in `wb_languages`.
+
+ghost use Rattle.std.specs.Prelude.{◌≡◌};
+ghost use Rattle.wb_languages.specs.Parts.{AreLanguageParts, AreTablesOf};
+ghost use Rattle.wb_languages.specs.Facts.{IsLanguage};
+ghost use Rattle.wb_scan.specs.Views.{language_in};
+
+use std::marker::Model;
+use wb_automata::Automaton;
+use wb_base::Grammar;
+use wb_languages::Form;
+use wb_lookahead::Tables;
+
+/// A language: a grammar with its tables, and how its terminals and its layout are written.
+///
+/// The grammar is reduced, without unit cycle, hidden left recursion and conflict. At each prefix and each place of a text at most one
+/// form wins, and one does where any that is considered matches. States are those of the tables.
+#[derive(Drop)]
+pub struct Language {
+    pub(crate) grammar: Grammar,
+    pub(crate) tables: Tables,
+    pub(crate) automaton: Automaton,
+    pub(crate) forms: Vec<Form>,
+    pub(crate) layout: Vec<usize>,
+    pub(crate) preferences: Vec<(usize, usize)>,
+}
+
+impl Model for Language {
+    ghost use Rattle.std.specs.Coded.{codes};
+    ghost use Rattle.wb_regex.specs.contracts.regex.Regex as regex;
+    ghost use Rattle.wb_languages.specs.Parts.{AreLanguageParts};
+    ghost use Rattle.wb_scan.specs.Views.{LanguageParts, language_in};
+
+    ghost Value = { LanguageParts };
+
+    ghost coded = { Prim.hlevel (codes, regex.the_row.coded) };
+
+    ghost view = { λ l. record { language = language_in l.grammar l.forms.items l.layout.items l.automaton.terminals l.preferences.items; tables = l.tables } };
+
+    ghost invariant = { λ l. AreLanguageParts (language_in l.grammar l.forms.items l.layout.items l.automaton.terminals l.preferences.items) l.tables l.automaton };
+}
+
+impl Language {
+    /// The language of these parts. Takes no memory.
+    ///
+    /// The expressions of the automaton are one for each form, in order, and then one for each layout terminal, and the set of each state's
+    /// number has the places of the forms that are considered there. Layout is numbered on behind the grammar's terminals, and the pair
+    /// `(t, u)` prefers t to u.
+    pub fn new(
+        grammar: Grammar,
+        tables: Tables,
+        automaton: Automaton,
+        forms: Vec<Form>,
+        layout: Vec<usize>,
+        preferences: Vec<(usize, usize)>,
+    ) -> Language
+        requires { AreLanguageParts (language_in grammar forms.items layout.items automaton.terminals preferences.items) tables automaton }
+        ensures { result ≡ record { language = language_in grammar forms.items layout.items automaton.terminals preferences.items; tables = tables } }
+    {
+        Language {
+            grammar,
+            tables,
+            automaton,
+            forms,
+            layout,
+            preferences,
+        }
+    }
+
+    /// The grammar. Takes no memory.
+    pub fn grammar(&self) -> &Grammar
+        ensures grammar { result.now ≡ self.now.language.grammar }
+        ensures language { IsLanguage self.now.language }
+    {
+        &self.grammar
+    }
+
+    /// The tables of the grammar. Takes no memory.
+    pub fn tables(&self) -> &Tables
+        ensures tables { result.now ≡ self.now.tables }
+        ensures of_grammar { AreTablesOf self.now.language.grammar self.now.tables }
+        ensures language { IsLanguage self.now.language }
+    {
+        &self.tables
+    }
+}

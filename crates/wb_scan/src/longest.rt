@@ -1,0 +1,38 @@
+//! How far does the longest match go from a place of a text on?
+//!
+//! The automaton is followed until no form that is considered can still match, and the last state that accepts one is kept.
+
+ghost use Rattle.std.specs.Prelude.{◌<◌, ◌≤◌, length};
+ghost use Rattle.wb_scan.specs.Inner.Longest.{IsLongest};
+
+use wb_automata::Automaton;
+
+// The state and the end of the longest match. Where nothing matches, the end is where the search began.
+#[derive(Clone, Copy)]
+pub(crate) struct Reach {
+    pub(crate) state: usize,
+    pub(crate) end: usize,
+}
+
+// The longest match of the forms that are considered at a state.
+pub(crate) fn longest(automaton: &Automaton, set: usize, text: &[u8], at: usize) -> Reach
+    requires set { set < length automaton.now.sets }
+    requires at { at ≤ length text.now }
+    ensures longest { IsLongest automaton.now set text.now at (length text.now) result.state result.end }
+    ensures state { result.state < length automaton.now.paths }
+{
+    let mut state = automaton.start(set);
+    let mut place = at;
+    let mut found = Reach { state, end: at };
+    'bytes: while place < text.len() {
+        let Some(next) = automaton.step(state, text[place]) else {
+            return found;
+        };
+        state = next;
+        place += 1;
+        if !automaton.accepted(state).is_empty() {
+            found = Reach { state, end: place };
+        }
+    }
+    found
+}
