@@ -43,13 +43,13 @@ below_place production (place.Local x) m is = is
 
 module _ (a : AttributionParts) (production : Production) where
   -- what an equation is for is a vertex
-  target_is : (owner : ℕ) (t : Target) → IsNamedTarget a production owner t → IsVertex a production (target_vertex t)
+  pub target_is : (owner : ℕ) (t : Target) → IsNamedTarget a production owner t → IsVertex a production (target_vertex t)
   target_is owner (target.Top x) seen = occurs_seen a owner Synthesized x production.left seen
   target_is owner (target.Place at x) (m, there, seen) = (m, below_place production at m there.is, occurs_seen a owner Inherited x m seen)
   target_is owner (target.Forward x) (some, seen) = (production.left, (some, refl), occurs_seen a owner Inherited x production.left seen)
 
   -- what a node reads is a vertex
-  node_is : (owner : ℕ) (node : Node) (w : Vertex) → IsNamedNode a production owner node → node_read node ≡ Some w → IsVertex a production w
+  pub node_is : (owner : ℕ) (node : Node) (w : Vertex) → IsNamedNode a production owner node → node_read node ≡ Some w → IsVertex a production w
   node_is owner (n.Int z) w named is = absurd (cc is)
   node_is owner (n.Text s) w named is = absurd (cc is)
   node_is owner (n.Bool b) w named is = absurd (cc is)
@@ -77,7 +77,7 @@ module _ (a : AttributionParts) (production : Production) where
 
   module _ (named : IsNamedProduction a production) where
     -- some owner sees all that an expression reads
-    rule_named : (v : Vertex) (nodes : List Node) → IsRule production v nodes → (owner : ℕ) × IsNamedExpression a production owner nodes
+    pub rule_named : (v : Vertex) (nodes : List Node) → IsRule production v nodes → (owner : ℕ) × IsNamedExpression a production owner nodes
     rule_named v nodes (rules.by_equation e listed is same) =
         let seen = all_contained (IsNamedEquation a production) production.equations e named.equations listed in
         (e.owner, subst (IsNamedExpression a production e.owner) (sym same) seen.value)
