@@ -87,7 +87,7 @@ below_rule production s x rule = rule_defined production (w.inherited s x) (belo
 
 module _ (a : AttributionParts) where
   -- an attribute of a child or local
-  place_vertex : (at : Place) (d : Direction) (x : ℕ) → Goes a d x → vertex_of a (attribute_at at x) ≡ vertex_below (w.step_to at) d x
+  pub place_vertex : (at : Place) (d : Direction) (x : ℕ) → Goes a d x → vertex_of a (attribute_at at x) ≡ vertex_below (w.step_to at) d x
   place_vertex (place.Child k) d x goes = below_is a (p.Child k) (w.child k) d x refl goes
   place_vertex (place.Local y) d x goes = below_is a (p.Local y) (w.made (w.local y)) d x refl goes
 
