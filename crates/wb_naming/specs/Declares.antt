@@ -161,12 +161,17 @@ module _ (base : ResolvedParts) where
       ++ forward_declarations p.name p.forward
       ++ map (λ (e : resolved_equation.Equation). d.Equation p.name (target_attribute e.target) (target_site p e.target)) p.equations)
 
-  -- what a base declares: all but its start, extensible nonterminals, preferences and flow types of forwards, which don't count for others
-  abbrev pub base_declarations : List Declaration
-  base_declarations =
+  -- the names that a base declares beside its productions
+  abbrev pub base_names : List Declaration
+  base_names =
       map (λ (x : Terminal). d.Symbol x.name (terminal_sort x.kind)) base.terminals
       ++ map (λ (x : Nonterminal). d.Symbol x.name sort.Nonterminal) base.attributes.nonterminals
       ++ map (λ (x : Attribute). d.Attribute x.name x.direction) base.attributes.attributes
+
+  -- what a base declares: all but its start, extensible nonterminals, preferences and flow types of forwards, which don't count for others
+  abbrev pub base_declarations : List Declaration
+  base_declarations =
+      base_names
       ++ map (λ (x : Occurrence). d.Occurrence (attribute_name x.attribute) (nonterminal_name x.nonterminal)) base.attributes.occurrences
       ++ flat_map production_declarations base.attributes.productions
 
