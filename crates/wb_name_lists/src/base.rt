@@ -1,0 +1,303 @@
+//! What does a base declare?
+//!
+//! Its numbers are turned into names again, so that rules compare what is there with what a file writes. What items declare is in `items`.
+
+ghost use Rattle.std.specs.Prelude.{◌≡◌, ◌++◌, ◌∷◌, [], OnOk, IfOk, map, flat_map};
+ghost use Rattle.wb_resolved.specs.declared.attributes.Attribute.{Attribute};
+ghost use Rattle.wb_resolved.specs.declared.attributes.Nonterminal.{Nonterminal};
+ghost use Rattle.wb_resolved.specs.declared.attributes.Occurrence.{Occurrence};
+ghost use Rattle.wb_resolved.specs.declared.equation.Equation.{Equation};
+ghost use Rattle.wb_resolved.specs.declared.production.Child.{Child};
+ghost use Rattle.wb_resolved.specs.declared.production.Local.{Local};
+ghost use Rattle.wb_resolved.specs.declared.terminal.Terminal.{Terminal};
+ghost use Rattle.wb_naming.specs.declared.declaration.Declaration.TheVariants as d;
+ghost use Rattle.wb_naming.specs.declared.declaration.Labelled.TheVariants as label;
+ghost use Rattle.wb_naming.specs.declared.declaration.Sort.TheVariants as sort;
+ghost use Rattle.wb_naming.specs.Declares as spec;
+
+use crate::items::{equation_of, label_of, left_of, symbol_of};
+use std::alloc::AllocError;
+use wb_base::{Bytes, Kind, push};
+use wb_naming::{Declaration, Labelled, Site, Sort};
+use wb_resolved::{
+    Attribute, Child, ChildKind, Equation, Local, Nonterminal, Occurrence, Place, Production,
+    ResolvedParts, Target, Terminal, TerminalKind,
+};
+
+/// Adds what a base declares after the others. The only error is want of memory, and then some of it may be there.
+pub fn add_base_declarations(
+    base: &ResolvedParts,
+    out: &mut Vec<Declaration>,
+) -> Result<(), AllocError>
+    ensures { OnOk result (out.new.items ≡ out.old.items ++ spec.base_declarations base.now) }
+{
+    add_names(base, out)?;
+    let attributes = base.attributes.parts();
+    add_occurrences(base, attributes.occurrences.as_slice(), out)?;
+    add_productions(base, attributes.productions.as_slice(), out)
+}
+
+// Adds the names beside its productions.
+fn add_names(base: &ResolvedParts, out: &mut Vec<Declaration>) -> Result<(), AllocError>
+    ensures { OnOk result (out.new.items ≡ out.old.items ++ spec.base_names base.now) }
+{
+    let attributes = base.attributes.parts();
+    add_terminals(base.terminals.as_slice(), out)?;
+    add_nonterminals(attributes.nonterminals.as_slice(), out)?;
+    add_attributes(attributes.attributes.as_slice(), out)
+}
+
+// Adds the terminals, layout and markers.
+fn add_terminals(terminals: &[Terminal], out: &mut Vec<Declaration>) -> Result<(), AllocError>
+    ensures { OnOk result (out.new.items ≡ out.old.items ++ map (λ (x : Terminal). d.Symbol x.name (spec.terminal_sort x.kind)) terminals.now) }
+{
+    'terminals: for terminal in terminals {
+        let name = terminal.name.copy()?;
+        let sort = terminal_sort(terminal.kind);
+        push(out, Declaration::Symbol { name, sort })?;
+    }
+    Ok(())
+}
+
+// What a resolved terminal is declared as.
+fn terminal_sort(kind: TerminalKind) -> Sort
+    ensures { result ≡ spec.terminal_sort kind }
+{
+    match kind {
+        TerminalKind::Plain => Sort::Terminal,
+        TerminalKind::Ignore => Sort::Layout,
+        TerminalKind::Marking => Sort::Marker,
+    }
+}
+
+// Adds the nonterminals.
+fn add_nonterminals(
+    nonterminals: &[Nonterminal],
+    out: &mut Vec<Declaration>,
+) -> Result<(), AllocError>
+    ensures { OnOk result (out.new.items ≡ out.old.items ++ map (λ (x : Nonterminal). d.Symbol x.name sort.Nonterminal) nonterminals.now) }
+{
+    'nonterminals: for nonterminal in nonterminals {
+        let name = nonterminal.name.copy()?;
+        let sort = Sort::Nonterminal;
+        push(out, Declaration::Symbol { name, sort })?;
+    }
+    Ok(())
+}
+
+// Adds the attributes.
+fn add_attributes(attributes: &[Attribute], out: &mut Vec<Declaration>) -> Result<(), AllocError>
+    ensures { OnOk result (out.new.items ≡ out.old.items ++ map (λ (x : Attribute). d.Attribute x.name x.direction) attributes.now) }
+{
+    'attributes: for attribute in attributes {
+        let name = attribute.name.copy()?;
+        let direction = attribute.direction;
+        push(out, Declaration::Attribute { name, direction })?;
+    }
+    Ok(())
+}
+
+// Adds the occurrences.
+fn add_occurrences(
+    base: &ResolvedParts,
+    occurrences: &[Occurrence],
+    out: &mut Vec<Declaration>,
+) -> Result<(), AllocError>
+    ensures { OnOk result (out.new.items ≡ out.old.items ++ map (λ (x : Occurrence). d.Occurrence (spec.attribute_name base.now x.attribute) (spec.nonterminal_name base.now x.nonterminal)) occurrences.now) }
+{
+    'occurrences: for occurrence in occurrences {
+        let attribute = attribute_name(base, occurrence.attribute)?;
+        let nonterminal = nonterminal_name(base, occurrence.nonterminal)?;
+        push(
+            out,
+            Declaration::Occurrence {
+                attribute,
+                nonterminal,
+            },
+        )?;
+    }
+    Ok(())
+}
+
+// The name of the terminal of a number; none has the empty name.
+fn terminal_name(base: &ResolvedParts, number: usize) -> Result<Bytes, AllocError>
+    ensures { IfOk result (λ name. name ≡ spec.terminal_name base.now number) }
+{
+    match base.terminals.as_slice().get(number) {
+        Some(terminal) => terminal.name.copy(),
+        None => Ok(Bytes::empty()),
+    }
+}
+
+// The name of the nonterminal of a number.
+fn nonterminal_name(base: &ResolvedParts, number: usize) -> Result<Bytes, AllocError>
+    ensures { IfOk result (λ name. name ≡ spec.nonterminal_name base.now number) }
+{
+    match base.attributes.parts().nonterminals.as_slice().get(number) {
+        Some(nonterminal) => nonterminal.name.copy(),
+        None => Ok(Bytes::empty()),
+    }
+}
+
+// The name of the attribute of a number.
+fn attribute_name(base: &ResolvedParts, number: usize) -> Result<Bytes, AllocError>
+    ensures { IfOk result (λ name. name ≡ spec.attribute_name base.now number) }
+{
+    match base.attributes.parts().attributes.as_slice().get(number) {
+        Some(attribute) => attribute.name.copy(),
+        None => Ok(Bytes::empty()),
+    }
+}
+
+// Adds what productions declare.
+fn add_productions(
+    base: &ResolvedParts,
+    productions: &[Production],
+    out: &mut Vec<Declaration>,
+) -> Result<(), AllocError>
+    ensures { OnOk result (out.new.items ≡ out.old.items ++ flat_map (spec.production_declarations base.now) productions.now) }
+{
+    'productions: for production in productions {
+        add_production(base, production, out)?;
+    }
+    Ok(())
+}
+
+// Adds what a production declares.
+fn add_production(
+    base: &ResolvedParts,
+    production: &Production,
+    out: &mut Vec<Declaration>,
+) -> Result<(), AllocError>
+    ensures { OnOk result (out.new.items ≡ out.old.items ++ spec.production_declarations base.now production.now) }
+{
+    push(out, symbol_of(&production.name)?)?;
+    add_left(base, production, out)?;
+    add_children(base, &production.name, production.children.as_slice(), out)?;
+    add_locals(base, &production.name, production.locals.as_slice(), out)?;
+    add_forward(production, out)?;
+    add_equations(base, production, production.equations.as_slice(), out)
+}
+
+// Adds which nonterminal is on its left.
+fn add_left(
+    base: &ResolvedParts,
+    production: &Production,
+    out: &mut Vec<Declaration>,
+) -> Result<(), AllocError>
+    ensures { OnOk result (out.new.items ≡ out.old.items ++ d.Left production.now.name (spec.nonterminal_name base.now production.now.left) ∷ []) }
+{
+    let left = nonterminal_name(base, production.left)?;
+    push(out, left_of(&production.name, &left)?)
+}
+
+// Adds what its children declare.
+fn add_children(
+    base: &ResolvedParts,
+    production: &Bytes,
+    children: &[Child],
+    out: &mut Vec<Declaration>,
+) -> Result<(), AllocError>
+    ensures { OnOk result (out.new.items ≡ out.old.items ++ map (λ (c : Child). d.Label production.now c.label (spec.base_labelled base.now c.kind)) children.now) }
+{
+    'children: for child in children {
+        let is = labelled(base, child.kind)?;
+        push(out, label_of(production, &child.label, is)?)?;
+    }
+    Ok(())
+}
+
+// What a child is.
+fn labelled(base: &ResolvedParts, kind: ChildKind) -> Result<Labelled, AllocError>
+    ensures { IfOk result (λ made. made ≡ spec.base_labelled base.now kind) }
+{
+    match kind {
+        ChildKind::Terminal(number) => Ok(Labelled::Child(terminal_name(base, number)?)),
+        ChildKind::Value(Kind::Tree(number)) => {
+            Ok(Labelled::Child(nonterminal_name(base, number)?))
+        }
+        ChildKind::Value(_) => Ok(Labelled::Plain),
+    }
+}
+
+// Adds what its locals declare.
+fn add_locals(
+    base: &ResolvedParts,
+    production: &Bytes,
+    locals: &[Local],
+    out: &mut Vec<Declaration>,
+) -> Result<(), AllocError>
+    ensures { OnOk result (out.new.items ≡ out.old.items ++ map (λ (l : Local). d.Label production.now l.label (label.Local (spec.nonterminal_name base.now l.nonterminal))) locals.now) }
+{
+    'locals: for local in locals {
+        let nonterminal = nonterminal_name(base, local.nonterminal)?;
+        let is = Labelled::Local(nonterminal);
+        push(out, label_of(production, &local.label, is)?)?;
+    }
+    Ok(())
+}
+
+// Adds that it forwards, where it does.
+fn add_forward(production: &Production, out: &mut Vec<Declaration>) -> Result<(), AllocError>
+    ensures { OnOk result (out.new.items ≡ out.old.items ++ spec.forward_declarations production.now.name production.now.forward) }
+{
+    match &production.forward {
+        None => Ok(()),
+        Some(_) => push(out, Declaration::Forward(production.name.copy()?)),
+    }
+}
+
+// Adds what its equations declare.
+fn add_equations(
+    base: &ResolvedParts,
+    production: &Production,
+    equations: &[Equation],
+    out: &mut Vec<Declaration>,
+) -> Result<(), AllocError>
+    ensures { OnOk result (out.new.items ≡ out.old.items ++ map (λ (e : Equation). d.Equation production.now.name (spec.target_attribute base.now e.target) (spec.target_site production.now e.target)) equations.now) }
+{
+    'equations: for equation in equations {
+        let attribute = target_attribute(base, equation.target)?;
+        let site = target_site(production, equation.target)?;
+        push(out, equation_of(&production.name, &attribute, site)?)?;
+    }
+    Ok(())
+}
+
+// The attribute that an equation is for.
+fn target_attribute(base: &ResolvedParts, target: Target) -> Result<Bytes, AllocError>
+    ensures { IfOk result (λ name. name ≡ spec.target_attribute base.now target) }
+{
+    match target {
+        Target::Top(attribute) => attribute_name(base, attribute),
+        Target::Place { attribute, .. } => attribute_name(base, attribute),
+        Target::Forward(attribute) => attribute_name(base, attribute),
+    }
+}
+
+// The tree of which it is.
+fn target_site(production: &Production, target: Target) -> Result<Site, AllocError>
+    ensures { IfOk result (λ site. site ≡ spec.target_site production.now target) }
+{
+    match target {
+        Target::Top(_) => Ok(Site::Top),
+        Target::Place { place, .. } => Ok(Site::Label(label_at(production, place)?)),
+        Target::Forward(_) => Ok(Site::Forward),
+    }
+}
+
+// The label of a place of a production; none has the empty label.
+fn label_at(production: &Production, place: Place) -> Result<Bytes, AllocError>
+    ensures { IfOk result (λ made. made ≡ spec.label_at production.now place) }
+{
+    match place {
+        Place::Child(number) => match production.children.as_slice().get(number) {
+            Some(child) => child.label.copy(),
+            None => Ok(Bytes::empty()),
+        },
+        Place::Local(number) => match production.locals.as_slice().get(number) {
+            Some(local) => local.label.copy(),
+            None => Ok(Bytes::empty()),
+        },
+    }
+}
