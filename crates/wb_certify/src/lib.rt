@@ -1,0 +1,10 @@
+//! Certified hosts: languages that are deterministic and whose attributes are well defined, whatever certified extensions may come.
+//!
+//! The rules are tested in the order in which they are reported. What each says is in the crates below.
+#![tactic(auto)]
+
+mod refusal;
+mod value;
+
+pub use refusal::CertifyRefusal;
+pub use value::certify_resolved;

@@ -1,0 +1,37 @@
+//! Why is a specification not certified?
+
+use std::alloc::AllocError;
+use wb_determinism::DeterminismRefusal;
+use wb_flow::AttributeRefusal;
+use wb_naming::NameRefusal;
+use wb_types::TypeRefusal;
+
+/// Why a specification isn't certified: the first rule that fails. Which of several examples is shown is left open.
+///
+/// Want of memory is never inside another reason.
+#[derive(Drop)]
+pub enum CertifyRefusal {
+    /// A rule of names fails.
+    Names(NameRefusal),
+    /// A rule of kinds fails.
+    Types(TypeRefusal),
+    /// G1: there is no start.
+    NoStart,
+    /// A rule of grammars and scanners fails.
+    Determinism(DeterminismRefusal),
+    /// A rule of attributes fails.
+    Attributes(AttributeRefusal),
+    /// There was no memory to tell, or a number is too large for a table.
+    NoMemory(AllocError),
+}
+
+impl From<AllocError> for CertifyRefusal {
+    ghost use Rattle.std.specs.Prelude.{◌≡◌};
+    ghost use Rattle.wb_certify.specs.declared.refusal.CertifyRefusal.TheVariants.{NoMemory};
+
+    ghost from_gives = { λ error refusal. refusal ≡ NoMemory error };
+
+    fn from(error: AllocError) -> Self {
+        CertifyRefusal::NoMemory(error)
+    }
+}
