@@ -1,0 +1,12 @@
+-- keys of declarations
+pub mod Keys
+-- what a table knows
+pub mod Indexed
+-- what names and labels mean
+pub mod Reads
+-- what each test answers
+pub mod Tests
+-- whose declarations are
+pub mod Owners
+-- what all tests together answer
+pub mod Passing
