@@ -11,11 +11,13 @@ use Rattle.wb_naming.specs.declared.declaration.Declaration.TheVariants as d
 use Rattle.wb_naming.specs.declared.declaration.Sort.TheVariants as sort
 use Rattle.wb_naming.specs.Duplicate.{AreSame, Counts, FailsDuplicate, shown_name}
 use Rattle.wb_naming.specs.Duplicate as s
+use Rattle.wb_naming.specs.declared.refusal.NameRefusal.{NameRefusal}
+use Rattle.wb_naming.specs.declared.refusal.NameRefusal.TheVariants as r
 use Rattle.wb_naming.specs.Meaning.{IsSymbol}
 use Rattle.wb_name_rules.specs.declared.table.Pass.{Pass}
 use Rattle.wb_name_rules.specs.declared.table.Pass.TheVariants.{Symbols, Others}
 use Rattle.wb_name_rules.specs.Inner.Keys.{key_of}
-use Rattle.wb_name_rules.specs.Inner.Indexed.{IsIndexed, IsCovered, IsIn, IsKept, HasKey, KnowsSymbols, IsProductionAt, is_symbol}
+use Rattle.wb_name_rules.specs.Inner.Indexed.{IsIndexed, IsCovered, IsIn, IsKept, HasKey, KnowsSymbols, IsProductionAt, is_symbol, IsRefusedAs, IsDuplicate}
 use Rattle.wb_name_rules.proofs.KeyLemmas.{key_apart, key_same, rest}
 
 -- symbols count
@@ -302,3 +304,13 @@ module _ (declared : List Declaration) where
             (key_apart (d.Symbol name sort.Production) one key) in
             (name, subst (λ (z : ℕ). slice_get declared z ≡ Some (d.Symbol name sort.Production)) e at_is),
       )
+
+-- a declaration that is refused as one that is there already is declared twice, where that is shown
+pub refused_twice : (declared : List Declaration) (one : Declaration) → FailsDuplicate declared (shown_name one) → (refusal : NameRefusal)
+    → IsRefusedAs one refusal → IsDuplicate declared refusal
+refused_twice declared one fails (r.Duplicate name) is = subst (FailsDuplicate declared) (sym is) fails
+refused_twice declared one fails (r.NoMemory error) is = tt
+refused_twice declared one fails (r.Unknown name) is = absurd is
+refused_twice declared one fails (r.Orphan name) is = absurd is
+refused_twice declared one fails (r.WrongKind name) is = absurd is
+refused_twice declared one fails (r.WrongHost name) is = absurd is

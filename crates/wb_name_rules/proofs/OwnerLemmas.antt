@@ -1,10 +1,9 @@
 -- Whose a declaration is, by its place.
-use Rattle.std.proofs.Common.{◌≡◌, ◌<◌, ◌≤◌, ◌+◌, ◌-◌, ℕ, List, Some, Bool, true, leb, length, take, drop, get_or, slice_get}
+use Rattle.std.proofs.Common.{◌≡◌, ◌<◌, ◌≤◌, ◌+◌, ◌-◌, ℕ, List, Some, Bool, length, take, drop, get_or, slice_get}
 use Rattle.std.proofs.Common.{Contains, sym, ap, ◌∙◌, subst, arith, length-take}
 use Rattle.std.specs.Prelude.{IsTrue, ◌↔◌}
 use Rattle.std.proofs.lemmas.List.{get_or-drop, get_or-take, length-drop, take-append-drop, take_all}
 use Rattle.std.proofs.lemmas.Option.{slice_get-get_or, slice_get_within, get_or_from_slice_get}
-use Rattle.std.proofs.lemmas.Bool.Decides.{nat_tests}
 use Rattle.wb_lemmas.proofs.Members.{contains_at, place_of, contains_take}
 use Rattle.wb_lemmas.proofs.Places.{at_drop, at_take, at_once}
 use Rattle.wb_naming.specs.declared.declaration.Declaration.{Declaration}
@@ -59,15 +58,6 @@ label_place declared place p q l m e f (is, at) =
 pub own_slice : {X : Type 0} (xs ys : List X) (from : ℕ) → xs ≡ ys → take (length xs - from) (drop from xs) ≡ drop from ys
 own_slice {X} xs ys from e =
     take_all (length xs - from) (drop from xs) (omega (arith, length-drop from xs)) ∙ ap (λ (zs : List X). drop from zs) e
-
--- the test of an order
-pub leb_exact : (m n : ℕ) → IsTrue (leb m n) ↔ (m ≤ n)
-leb_exact m n = (λ h. leb_true m n h, λ h. leb_from m n h) where
-  leb_true : (m n : ℕ) → leb m n ≡ true → m ≤ n
-  leb_true m n h = grind (arith, nat_tests)
-
-  leb_from : (m n : ℕ) → m ≤ n → leb m n ≡ true
-  leb_from m n h = grind (arith, nat_tests)
 
 module _ (declared : List Declaration) (from : ℕ) (once : CountOnce declared) where
   -- a thing is declared by an extension exactly where its place says so

@@ -157,6 +157,13 @@ fn check_equation(
     }
 }
 
+// Whether a place is one of an extension's own declarations.
+fn is_own(from: usize, place: usize) -> bool
+    ensures { IsTrue result ↔ (from ≤ place) }
+{
+    place >= from
+}
+
 // Whether an extension declares a symbol of this name.
 fn is_own_symbol(
     alloc: Global,
@@ -168,7 +175,7 @@ fn is_own_symbol(
 {
     match index.symbol(alloc, name)? {
         None => Ok(false),
-        Some(place) => Ok(place >= from),
+        Some(place) => Ok(is_own(from, place)),
     }
 }
 
@@ -183,7 +190,7 @@ fn is_own_attribute(
 {
     match index.attribute(alloc, name)? {
         None => Ok(false),
-        Some(place) => Ok(place >= from),
+        Some(place) => Ok(is_own(from, place)),
     }
 }
 
@@ -199,7 +206,7 @@ fn is_own_occurrence(
 {
     match index.occurrence(alloc, attribute.as_slice(), nonterminal.as_slice())? {
         None => Ok(false),
-        Some(place) => Ok(place >= from),
+        Some(place) => Ok(is_own(from, place)),
     }
 }
 

@@ -109,7 +109,7 @@ fn add_at(
     let key = key_of(alloc, declaration)?;
     match table.add(&key, place)? {
         None => Ok(()),
-        Some(_) => Err(NameRefusal::Duplicate(shown_name(declaration)?)),
+        Some(_) => Err(duplicate(declaration)),
     }
 }
 
@@ -181,6 +181,16 @@ fn is_production_at(declarations: &[Declaration], place: usize) -> bool
             _ => false,
         },
         _ => false,
+    }
+}
+
+// That a declaration is there already.
+fn duplicate(declaration: &Declaration) -> NameRefusal
+    ensures { spec.IsRefusedAs declaration.now result }
+{
+    match shown_name(declaration) {
+        Ok(name) => NameRefusal::Duplicate(name),
+        Err(error) => NameRefusal::NoMemory(error),
     }
 }
 

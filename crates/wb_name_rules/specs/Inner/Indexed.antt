@@ -5,7 +5,7 @@ use Rattle.wb_naming.specs.declared.declaration.Declaration.TheVariants as d
 use Rattle.wb_naming.specs.declared.declaration.Sort.TheVariants as sort
 use Rattle.wb_naming.specs.declared.refusal.NameRefusal.{NameRefusal}
 use Rattle.wb_naming.specs.declared.refusal.NameRefusal.TheVariants as r
-use Rattle.wb_naming.specs.Duplicate.{AreSame, Counts, FailsDuplicate}
+use Rattle.wb_naming.specs.Duplicate.{AreSame, Counts, FailsDuplicate, shown_name}
 use Rattle.wb_name_rules.specs.declared.table.Pass.{Pass}
 use Rattle.wb_name_rules.specs.declared.table.Pass.TheVariants.{Symbols, Others}
 use Rattle.wb_name_rules.specs.Inner.Keys.{key_of}
@@ -70,6 +70,12 @@ pub record IsAtKey (declared : List Declaration) (key : List ℕ) (place : ℕ) 
 -- no declaration that counts has the key
 abbrev pub HasNoKey : List Declaration → List ℕ → Type 0
 HasNoKey declared key = (one : Declaration) → Contains declared one → Counts declared one → key_of one ≡ key → ⊥
+
+-- the refusal shows the declaration as one that is there already, unless memory is wanting
+abbrev pub IsRefusedAs : Declaration → NameRefusal → Type 0
+IsRefusedAs declaration (r.Duplicate name) = name ≡ shown_name declaration
+IsRefusedAs declaration (r.NoMemory error) = Unit {0}
+IsRefusedAs declaration other = ⊥
 
 -- the refusal tells that something is declared twice, unless memory is wanting
 abbrev pub IsDuplicate : List Declaration → NameRefusal → Type 0

@@ -1,7 +1,6 @@
-use Rattle.std.proofs.Common.{Some, sym, ap, ◌∙◌, subst}
+use Rattle.std.proofs.Common.{Some, sym, ap, ◌∙◌}
 use Rattle.std.proofs.lemmas.Option.{slice_get-get_or}
-use Rattle.wb_naming.specs.Duplicate.{FailsDuplicate}
-use Rattle.wb_name_rules.proofs.IndexLemmas.{skips, knows, uncounted, new_there, twice}
+use Rattle.wb_name_rules.proofs.IndexLemmas.{skips, knows, uncounted, new_there, refused_twice, twice}
 use Rattle.wb_name_rules.proofs.table.add_at.Goals as goal
 
 pub returns-then-not-is_in-clause-ok : goal.returns-then-not-is_in-clause-ok
@@ -43,6 +42,7 @@ returns-clause-refused c =
     ∙ ap Some (sym c.index-declarations-place.is) in
     let key = c.deref.ensures.value ∙ c.in_ok-key.ensures in
     let present = rw key at (rw c.in-Some.is at c.in_ok-add.ensures.present) in
-    subst (FailsDuplicate ds) (sym c.in_ok-shown_name-in-Some.ensures)
+    refused_twice ds c.index-declarations-place.result
     (twice ds c.args.table.now.keys c.args.table.now.places.items c.args.pass c.args.place c.index-declarations-place.result c.requires.indexed
     here (c.is_in.ensures.0 c.if-not-is_in.false) c.in-Some.field-0 present.0 (c.in_ok-counts.ensures.0 c.if-not-branch.false))
+    c.duplicate.result c.duplicate.ensures
