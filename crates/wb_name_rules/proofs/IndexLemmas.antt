@@ -16,8 +16,9 @@ use Rattle.wb_naming.specs.declared.refusal.NameRefusal.TheVariants as r
 use Rattle.wb_naming.specs.Meaning.{IsSymbol}
 use Rattle.wb_name_rules.specs.declared.table.Pass.{Pass}
 use Rattle.wb_name_rules.specs.declared.table.Pass.TheVariants.{Symbols, Others}
-use Rattle.wb_name_rules.specs.Inner.Keys.{key_of}
-use Rattle.wb_name_rules.specs.Inner.Indexed.{IsIndexed, IsCovered, IsIn, IsKept, HasKey, KnowsSymbols, IsProductionAt, is_symbol, IsRefusedAs, IsDuplicate}
+use Rattle.wb_name_rules.specs.Keys.{key_of}
+use Rattle.wb_name_rules.specs.Indexed.{IsIndexed, IsCovered, IsKept, HasKey, is_symbol}
+use Rattle.wb_name_rules.specs.Inner.Indexed.{IsIn, KnowsSymbols, IsProductionAt, IsRefusedAs, IsDuplicate}
 use Rattle.wb_name_rules.proofs.KeyLemmas.{key_apart, key_same, rest}
 
 -- symbols count

@@ -8,7 +8,7 @@ use Rattle.wb_naming.specs.declared.declaration.Site.{Site}
 use Rattle.wb_naming.specs.declared.declaration.Site.TheVariants as site
 use Rattle.wb_naming.specs.Duplicate.{AreSame}
 use Rattle.wb_naming.specs.Duplicate as s
-use Rattle.wb_name_rules.specs.Inner.Keys.{key_of, marked, site_key}
+use Rattle.wb_name_rules.specs.Keys.{key_of, marked, site_key}
 
 -- lists that begin differently aren't equal
 apart : {m n : ℕ} {xs ys : List ℕ} → eqb m n ≡ false → m ∷ xs ≡ n ∷ ys → ⊥

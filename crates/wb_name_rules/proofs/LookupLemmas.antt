@@ -10,9 +10,10 @@ use Rattle.wb_naming.specs.declared.declaration.Labelled.TheVariants.{Plain}
 use Rattle.wb_naming.specs.Duplicate.{AreSame, Counts}
 use Rattle.wb_naming.specs.Duplicate as s
 use Rattle.wb_name_rules.specs.declared.table.Pass.TheVariants.{Others}
-use Rattle.wb_name_rules.specs.Inner.Keys.{key_of}
+use Rattle.wb_name_rules.specs.Keys.{key_of}
 use Rattle.wb_name_rules.specs.Index.{CountOnce}
-use Rattle.wb_name_rules.specs.Inner.Indexed.{IsIndexed, IsAtKey, HasNoKey}
+use Rattle.wb_name_rules.specs.Indexed.{IsIndexed}
+use Rattle.wb_name_rules.specs.Inner.Indexed.{IsAtKey, HasNoKey}
 use Rattle.wb_name_rules.proofs.KeyLemmas.{key_apart}
 
 -- a fact of what isn't there, from another

@@ -1,6 +1,4 @@
--- keys of declarations
-pub mod Keys
--- what a table knows
+-- what passes and look-ups say
 pub mod Indexed
 -- what names and labels mean
 pub mod Reads

@@ -30,7 +30,7 @@ impl Model for NameIndex {
     ghost use Rattle.std.specs.Prelude.{List, length};
     ghost use Rattle.wb_naming.specs.declared.declaration.Declaration.{Declaration as Declared};
     ghost use Rattle.wb_name_rules.specs.declared.table.Pass.TheVariants.{Others};
-    ghost use Rattle.wb_name_rules.specs.Inner.Indexed.{IsIndexed};
+    ghost use Rattle.wb_name_rules.specs.Indexed.{IsIndexed};
 
     ghost Value = { List Declared };
 

@@ -3,7 +3,7 @@
 //! Declarations of the same thing have one key, and others have another, whatever bytes their names have. The table is in `index`.
 
 ghost use Rattle.std.specs.Prelude.{◌≡◌, ◌++◌, ◌∷◌, [], OnOk, IfOk};
-ghost use Rattle.wb_name_rules.specs.Inner.Keys as spec;
+ghost use Rattle.wb_name_rules.specs.Keys as spec;
 
 use std::alloc::{AllocError, Global};
 use wb_base::push;

@@ -7,6 +7,7 @@ ghost use Rattle.wb_naming.specs.Duplicate.{Counts, shown_name as shown};
 ghost use Rattle.wb_naming.specs.Meaning.{IsSymbol};
 ghost use Rattle.wb_naming.specs.declared.declaration.Sort.TheVariants as sort;
 ghost use Rattle.wb_name_rules.specs.declared.table.Pass.TheVariants.{Others};
+ghost use Rattle.wb_name_rules.specs.Indexed as indexed;
 ghost use Rattle.wb_name_rules.specs.Inner.Indexed as spec;
 
 use crate::keys::{SYMBOL, key, key_of};
@@ -32,7 +33,7 @@ impl Table {
     // The place that was kept for a key.
     pub(crate) fn place(&self, key: &[u8]) -> Option<usize>
         requires { length self.now.places.items ≡ length self.now.keys }
-        ensures found { IfSome result (λ place. spec.IsKept self.now.keys self.now.places.items key.now place) }
+        ensures found { IfSome result (λ place. indexed.IsKept self.now.keys self.now.places.items key.now place) }
         ensures none { IfNone result (¬ Contains self.now.keys key.now) }
     {
         let number = self.keys.find(key)?;
@@ -42,7 +43,7 @@ impl Table {
     // Keeps a place for a key where it isn't there yet, and answers the place that was kept before.
     fn add(&mut self, key: &[u8], place: usize) -> Result<Option<usize>, AllocError>
         requires { length self.old.places.items ≡ length self.old.keys }
-        ensures present { IfOk result (λ before. IfSome before (λ p. spec.IsKept self.old.keys self.old.places.items key.now p × (self.new.keys ≡ self.old.keys) × (self.new.places.items ≡ self.old.places.items))) }
+        ensures present { IfOk result (λ before. IfSome before (λ p. indexed.IsKept self.old.keys self.old.places.items key.now p × (self.new.keys ≡ self.old.keys) × (self.new.places.items ≡ self.old.places.items))) }
         ensures new { IfOk result (λ before. IfNone before ((¬ Contains self.old.keys key.now) × (self.new.keys ≡ self.old.keys ++ key.now ∷ []) × (self.new.places.items ≡ self.old.places.items ++ place ∷ []))) }
     {
         match self.keys.add(key)? {
@@ -57,7 +58,7 @@ impl Table {
 
 // The table of declarations, where nothing is declared twice.
 pub(crate) fn table_of(alloc: Global, declarations: &[Declaration]) -> Result<Table, NameRefusal>
-    ensures ok { IfOk result (λ table. spec.IsIndexed declarations.now table.keys table.places.items Others (length declarations.now)) }
+    ensures ok { IfOk result (λ table. indexed.IsIndexed declarations.now table.keys table.places.items Others (length declarations.now)) }
     ensures refused { IfErr result (spec.IsDuplicate declarations.now) }
 {
     let mut table = Table {
@@ -76,8 +77,8 @@ fn add_pass(
     pass: Pass,
     table: &mut Table,
 ) -> Result<(), NameRefusal>
-    requires { spec.IsIndexed declarations.now table.old.keys table.old.places.items pass 0 }
-    ensures ok { OnOk result (spec.IsIndexed declarations.now table.new.keys table.new.places.items pass (length declarations.now)) }
+    requires { indexed.IsIndexed declarations.now table.old.keys table.old.places.items pass 0 }
+    ensures ok { OnOk result (indexed.IsIndexed declarations.now table.new.keys table.new.places.items pass (length declarations.now)) }
     ensures refused { IfErr result (spec.IsDuplicate declarations.now) }
 {
     'places: for place in 0..declarations.len() {
@@ -95,8 +96,8 @@ fn add_at(
     table: &mut Table,
 ) -> Result<(), NameRefusal>
     requires within { place < length declarations.now }
-    requires indexed { spec.IsIndexed declarations.now table.old.keys table.old.places.items pass place }
-    ensures ok { OnOk result (spec.IsIndexed declarations.now table.new.keys table.new.places.items pass (place + 1)) }
+    requires indexed { indexed.IsIndexed declarations.now table.old.keys table.old.places.items pass place }
+    ensures ok { OnOk result (indexed.IsIndexed declarations.now table.new.keys table.new.places.items pass (place + 1)) }
     ensures refused { IfErr result (spec.IsDuplicate declarations.now) }
 {
     let declaration = &declarations[place];
@@ -125,7 +126,7 @@ fn is_in(pass: Pass, declaration: &Declaration) -> bool
 
 // Whether it is that of a symbol.
 fn is_symbol(declaration: &Declaration) -> bool
-    ensures { result ≡ spec.is_symbol declaration.now }
+    ensures { result ≡ indexed.is_symbol declaration.now }
 {
     match declaration {
         Declaration::Symbol { .. } => true,
@@ -140,7 +141,7 @@ fn counts(
     declaration: &Declaration,
     table: &Table,
 ) -> Result<bool, AllocError>
-    requires { spec.is_symbol declaration.now ≡ false → spec.KnowsSymbols declarations.now table.now.keys table.now.places.items }
+    requires { indexed.is_symbol declaration.now ≡ false → spec.KnowsSymbols declarations.now table.now.keys table.now.places.items }
     ensures { IfOk result (λ counts. IsTrue counts ↔ Counts declarations.now declaration.now) }
 {
     match declaration {

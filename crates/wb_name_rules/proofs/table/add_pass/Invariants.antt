@@ -1,4 +1,4 @@
-use Rattle.wb_name_rules.specs.Inner.Indexed.{IsIndexed}
+use Rattle.wb_name_rules.specs.Indexed.{IsIndexed}
 use Rattle.wb_name_rules.proofs.table.add_pass.Given as goal
 
 abbrev pub invariant-places : goal.invariant-places

@@ -1,0 +1,2 @@
+-- the attributes of a host that declares none
+pub mod Empty

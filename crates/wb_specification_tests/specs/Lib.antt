@@ -1,0 +1,2 @@
+-- values that tests make
+pub mod Inner
