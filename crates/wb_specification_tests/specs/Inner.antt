@@ -1,2 +1,0 @@
--- the attributes of a host that declares none
-pub mod Empty

@@ -1,2 +1,0 @@
--- values that tests make
-pub mod Inner
