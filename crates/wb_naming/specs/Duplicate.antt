@@ -9,12 +9,13 @@ use Rattle.wb_naming.specs.declared.declaration.Sort.{Sort}
 use Rattle.wb_naming.specs.declared.declaration.Sort.TheVariants as sort
 use Rattle.wb_naming.specs.Meaning.{IsSymbol}
 
--- two declarations are of the same thing: a name of a name space, an occurrence, a label of a production, what an equation of a production
--- is for, that a production forwards, the start, or the same item once more
+-- two declarations are of the same thing: a name of a name space, an occurrence, the left side or a label of a production, what an equation
+-- of a production is for, that a production forwards, the start, or the same item once more
 pub data AreSame : Declaration → Declaration → Type 0 where
   symbol : {name : List ℕ} {is other : Sort} → AreSame (d.Symbol name is) (d.Symbol name other)
   attribute : {name : List ℕ} {is other : Direction} → AreSame (d.Attribute name is) (d.Attribute name other)
   occurrence : {a n : List ℕ} → AreSame (d.Occurrence a n) (d.Occurrence a n)
+  left : {p n m : List ℕ} → AreSame (d.Left p n) (d.Left p m)
   label : {p l : List ℕ} {is other : Labelled} → AreSame (d.Label p l is) (d.Label p l other)
   equation : {p a : List ℕ} {at : Site} → AreSame (d.Equation p a at) (d.Equation p a at)
   forward : {p : List ℕ} → AreSame (d.Forward p) (d.Forward p)

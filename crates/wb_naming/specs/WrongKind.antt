@@ -1,5 +1,5 @@
 -- N4: each name is of the kind that its place asks for. When that fails, and with which name.
-use Rattle.std.specs.Prelude.{◌≡◌, ◌⊎◌, ℕ, zero, suc, List, [], ◌∷◌, Contains, flat_map}
+use Rattle.std.specs.Prelude.{◌≡◌, ◌⊎◌, ℕ, zero, List, [], ◌∷◌, Contains, flat_map}
 use Rattle.wb_resolved.specs.declared.attributes.Direction.{Direction}
 use Rattle.wb_resolved.specs.declared.attributes.Direction.TheVariants.{Synthesized, Inherited}
 use Rattle.wb_syntax.specs.declared.expression.Equation.{Equation}

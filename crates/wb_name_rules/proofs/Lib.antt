@@ -1,0 +1,12 @@
+mod IndexLemmas
+mod KeyLemmas
+mod KindLemmas
+mod LookupLemmas
+mod LoopLemmas
+mod OwnerLemmas
+mod PassLemmas
+mod ReadLemmas
+mod RootLemmas
+mod SiteLemmas
+mod StructureLemmas
+mod UnknownLemmas

@@ -1,0 +1,21 @@
+use Rattle.std.proofs.Common.{ℕ, List, Some, None, subst}
+use Rattle.wb_name_rules.specs.Inner.Reads.{IsDirectionOf}
+use Rattle.wb_name_rules.proofs.KindLemmas.{no_direction, one_direction, shows_direction}
+use Rattle.wb_name_rules.proofs.kinds.check_direction.Goals as goal
+
+pub returns-in-None-clause-ok : goal.returns-in-None-clause-ok
+returns-in-None-clause-ok c =
+    no_direction c.args.index.now c.args.name.now c.args.wanted
+    (subst (λ (z : List ℕ). IsDirectionOf c.args.index.now z None) c.as_slice.ensures (rw c.in-None.is at c.in_ok-direction_of.ensures))
+
+pub returns-then-suits_direction-clause-ok : goal.returns-then-suits_direction-clause-ok
+returns-then-suits_direction-clause-ok c =
+    one_direction c.args.index.now c.args.name.now c.args.wanted c.in-Some.found
+    (subst (λ (z : List ℕ). IsDirectionOf c.args.index.now z (Some c.in-Some.found)) c.as_slice.ensures (rw c.in-Some.is at c.in_ok-direction_of.ensures))
+    (c.suits_direction.ensures.0 c.if-suits_direction.true)
+
+pub returns-in_ok-copy-in-Some-clause-refused : goal.returns-in_ok-copy-in-Some-clause-refused
+returns-in_ok-copy-in-Some-clause-refused c =
+    shows_direction c.args.index.now c.args.name.now c.in_ok-copy-in-Some.field-0 c.args.wanted c.in-Some.found
+    (subst (λ (z : List ℕ). IsDirectionOf c.args.index.now z (Some c.in-Some.found)) c.as_slice.ensures (rw c.in-Some.is at c.in_ok-direction_of.ensures))
+    (λ is. absurd (let t = c.suits_direction.ensures.1 is in let f = c.if-suits_direction.false in cc)) c.in_ok-copy-in-Some.ensures.ok

@@ -1,0 +1,22 @@
+use Rattle.std.proofs.Common.{Some, None}
+use Rattle.wb_name_rules.proofs.KindLemmas.{label_of, one_label, shows_label}
+use Rattle.wb_name_rules.proofs.kinds.check_label.Goals as goal
+
+pub returns-in-None-clause-ok : goal.returns-in-None-clause-ok
+returns-in-None-clause-ok c = λ there is has.
+    absurd (label_of c.args.index.now _ _ _ _ None c.as_slice-2.ensures c.as_slice-3.ensures (rw c.in-None.is at c.in_ok-labelled_as.ensures) is has)
+
+pub returns-then-branch-clause-ok : goal.returns-then-branch-clause-ok
+returns-then-branch-clause-ok c =
+    one_label c.args.index.now c.args.production.now c.args.label.now c.args.wanted c.in-Some.found.now
+    (label_of c.args.index.now _ _ _ _ (Some c.in-Some.found.now) c.as_slice-2.ensures c.as_slice-3.ensures
+    (rw c.in-Some.is at c.in_ok-labelled_as.ensures))
+    (rw c.if-branch.true at c.in_ok-suits_label-in-Some.ensures)
+
+pub returns-in_ok-copy-in-Some-clause-refused : goal.returns-in_ok-copy-in-Some-clause-refused
+returns-in_ok-copy-in-Some-clause-refused c =
+    shows_label c.args.index.now c.args.production.now c.args.label.now c.in_ok-copy-in-Some.field-0 c.args.wanted c.in-Some.found.now
+    (label_of c.args.index.now _ _ _ _ (Some c.in-Some.found.now) c.as_slice-2.ensures c.as_slice-3.ensures
+    (rw c.in-Some.is at c.in_ok-labelled_as.ensures))
+    (rw c.as_slice.ensures at (c.in_ok-is_production.ensures.0 c.if-not-branch.false))
+    (rw c.if-branch.false at c.in_ok-suits_label-in-Some.ensures) c.in_ok-copy-in-Some.ensures.ok

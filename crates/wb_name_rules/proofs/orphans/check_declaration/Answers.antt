@@ -1,0 +1,35 @@
+use Rattle.std.proofs.Common.{drop, sym, subst}
+use Rattle.std.proofs.lemmas.Result.{IfErr-weaker}
+use Rattle.wb_naming.specs.declared.declaration.Declaration.{Declaration}
+use Rattle.wb_naming.specs.Orphan.{IsOwnSymbol}
+use Rattle.wb_name_rules.specs.Inner.Owners.{IsOrphanIf, ShowsOrphan, IsForeignOccurrence, IsForeignPreference, IsForeignEquation}
+use Rattle.wb_name_rules.proofs.OwnerLemmas.{shows_forward_needs, shows_occurrence, shows_preference, shows_equation}
+use Rattle.wb_name_rules.proofs.orphans.check_declaration.Goals as goal
+
+pub returns-in-ForwardNeeds-clause-refused : goal.returns-in-ForwardNeeds-clause-refused
+returns-in-ForwardNeeds-clause-refused c =
+    IfErr-weaker c.check_forward_needs.result (IsOrphanIf (¬ IsOwnSymbol (drop c.args.from c.args.index.now) c.in-ForwardNeeds.name) c.in-ForwardNeeds.name)
+    (ShowsOrphan c.args.index.now c.args.from c.args.declaration.now)
+    (λ refusal shows. subst (λ (z : Declaration). ShowsOrphan c.args.index.now c.args.from z refusal) (sym c.in-ForwardNeeds.is)
+    (shows_forward_needs c.args.index.now c.args.from c.in-ForwardNeeds.name refusal shows)) c.check_forward_needs.ensures.refused
+
+pub returns-in-Occurrence-clause-refused : goal.returns-in-Occurrence-clause-refused
+returns-in-Occurrence-clause-refused c =
+    IfErr-weaker c.check_occurrence.result (IsOrphanIf (IsForeignOccurrence (drop c.args.from c.args.index.now) c.in-Occurrence.attribute c.in-Occurrence.nonterminal) c.in-Occurrence.attribute)
+    (ShowsOrphan c.args.index.now c.args.from c.args.declaration.now)
+    (λ refusal shows. subst (λ (z : Declaration). ShowsOrphan c.args.index.now c.args.from z refusal) (sym c.in-Occurrence.is)
+    (shows_occurrence c.args.index.now c.args.from c.in-Occurrence.attribute c.in-Occurrence.nonterminal refusal shows)) c.check_occurrence.ensures.refused
+
+pub returns-in-Preference-clause-refused : goal.returns-in-Preference-clause-refused
+returns-in-Preference-clause-refused c =
+    IfErr-weaker c.check_preference.result (IsOrphanIf (IsForeignPreference (drop c.args.from c.args.index.now) c.in-Preference.first c.in-Preference.second) c.in-Preference.first)
+    (ShowsOrphan c.args.index.now c.args.from c.args.declaration.now)
+    (λ refusal shows. subst (λ (z : Declaration). ShowsOrphan c.args.index.now c.args.from z refusal) (sym c.in-Preference.is)
+    (shows_preference c.args.index.now c.args.from c.in-Preference.first c.in-Preference.second refusal shows)) c.check_preference.ensures.refused
+
+pub returns-in-Equation-clause-refused : goal.returns-in-Equation-clause-refused
+returns-in-Equation-clause-refused c =
+    IfErr-weaker c.check_equation.result (IsOrphanIf (IsForeignEquation c.args.index.now c.args.from c.in-Equation.production c.in-Equation.attribute c.in-Equation.site) c.in-Equation.attribute)
+    (ShowsOrphan c.args.index.now c.args.from c.args.declaration.now)
+    (λ refusal shows. subst (λ (z : Declaration). ShowsOrphan c.args.index.now c.args.from z refusal) (sym c.in-Equation.is)
+    (shows_equation c.args.index.now c.args.from c.in-Equation.production c.in-Equation.attribute c.in-Equation.site refusal shows)) c.check_equation.ensures.refused

@@ -1,0 +1,9 @@
+-- What an index keeps of its declarations.
+use Rattle.std.specs.Prelude.{◌≡◌, ℕ, List, Some, slice_get}
+use Rattle.wb_naming.specs.declared.declaration.Declaration.{Declaration}
+use Rattle.wb_naming.specs.Duplicate.{AreSame, Counts}
+
+-- declarations of the same thing that count are one
+abbrev pub CountOnce : List Declaration → Type 0
+CountOnce declared = (i j : ℕ) (one other : Declaration) → slice_get declared i ≡ Some one → slice_get declared j ≡ Some other
+    → Counts declared one → AreSame one other → i ≡ j
