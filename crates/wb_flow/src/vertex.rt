@@ -5,7 +5,7 @@
 use wb_base::Sequence;
 
 /// What a production defines or reads: an attribute by its number, or the tree that an expression makes.
-#[derive(Clone, Copy, Debug, PartialEq, Eq, Hash)]
+#[derive(Clone, Copy, PartialEq, Eq, Hash)]
 pub enum Vertex {
     /// An attribute of the production's top.
     Top(usize),

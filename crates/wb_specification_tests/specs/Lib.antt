@@ -1,0 +1,2 @@
+-- what loops keep, and words of private functions
+pub mod Inner
