@@ -1,5 +1,5 @@
 -- The machine has one way.
-use Rattle.std.proofs.Common.{List, [], ap, append_assoc, inl, inr, refl, subst, sym, ℕ, ◌++◌, ◌+◌, ◌-◌, ◌∙◌, ◌∷◌, ◌≡◌}
+use Rattle.std.proofs.Common.{List, [], ap, append_assoc, inl, inr, refl, subst, sym, ℕ, ◌++◌, ◌∙◌, ◌∷◌, ◌≡◌}
 use Rattle.std.proofs.lemmas.Bool.{cases_eq}
 use Rattle.wb_base.specs.Grammar.{GrammarView}
 use Rattle.wb_base.specs.declared.symbol.Symbol.{Symbol}
@@ -10,7 +10,6 @@ use Rattle.wb_grammars.proofs.ProductionLemmas.{production_once}
 use Rattle.wb_grammars.specs.Lookaheads.{CanReduce, CanShift, HasNoConflict}
 use Rattle.wb_grammars.specs.Productions.{IsProduction, end_of, top_of}
 use Rattle.wb_grammars.specs.Trees.{Forest, Leaf, leaf, node, nothing, symbols}
-use Rattle.wb_languages.proofs.BackLemmas.{whole}
 use Rattle.wb_languages.proofs.ForestLemmas.{joined_split, symbols_joined}
 use Rattle.wb_languages.specs.Inner.Machine.{Accepts, accept, ahead, joined, reduce, shift}
 

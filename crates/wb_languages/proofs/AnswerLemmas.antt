@@ -1,9 +1,9 @@
 -- Each text has a tree or a stop.
-use Rattle.std.proofs.Common.{List, [], ap, arith, inl, inr, refl, subst, suc, sym, zero, ℕ, ◌++◌, ◌+◌, ◌-◌, ◌<◌, ◌∙◌, ◌∷◌, ◌≡◌, ◌≤◌}
+use Rattle.std.proofs.Common.{List, [], ap, arith, inl, inr, refl, subst, suc, sym, zero, ℕ, ◌++◌, ◌+◌, ◌<◌, ◌∙◌, ◌∷◌, ◌≡◌, ◌≤◌}
 use Rattle.wb_base.specs.Grammar.{GrammarView}
 use Rattle.wb_base.specs.declared.symbol.Symbol.{Symbol}
 use Rattle.wb_base.specs.declared.symbol.Symbol.TheVariants.{Nonterminal, Terminal}
-use Rattle.wb_grammars.specs.Items.{IsViablePrefix, start}
+use Rattle.wb_grammars.specs.Items.{IsViablePrefix}
 use Rattle.wb_grammars.specs.Lookaheads.{CanShift}
 use Rattle.wb_grammars.specs.Productions.{end_of}
 use Rattle.wb_grammars.specs.Trees.{Forest, leaf, node, nothing, symbols}

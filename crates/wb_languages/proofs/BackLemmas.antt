@@ -1,5 +1,5 @@
 -- Where valid items come from, and trees that begin with a stack.
-use Rattle.std.proofs.Common.{List, [], ap, append_assoc, arith, inl, inr, refl, subst, sym, ℕ, ◌++◌, ◌+◌, ◌-◌, ◌∙◌, ◌∷◌, ◌≡◌, ◌⊎◌}
+use Rattle.std.proofs.Common.{List, [], ap, append_assoc, arith, inl, inr, refl, subst, sym, ℕ, ◌++◌, ◌+◌, ◌∙◌, ◌∷◌, ◌≡◌, ◌⊎◌}
 use Rattle.wb_base.specs.Grammar.{GrammarView}
 use Rattle.wb_base.specs.declared.symbol.Symbol.{Symbol}
 use Rattle.wb_base.specs.declared.symbol.Symbol.TheVariants.{Nonterminal, Terminal}

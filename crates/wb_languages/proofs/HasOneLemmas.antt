@@ -1,6 +1,5 @@
 -- Where forms are decided, one wins.
-use Rattle.std.proofs.Common.{◌≡◌, ℕ, List, inl, inr}
-use Rattle.wb_base.specs.declared.symbol.Symbol.{Symbol}
+use Rattle.std.proofs.Common.{inl, inr}
 use Rattle.wb_lookahead.specs.Contents.{TablesView}
 use Rattle.wb_languages.specs.Languages.{LanguageView}
 use Rattle.wb_languages.specs.Facts.{IsWritten, AreDecided, HasOneWinner}

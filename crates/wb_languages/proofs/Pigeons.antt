@@ -1,5 +1,5 @@
 -- Different numbers below a bound are no more than the bound.
-use Rattle.std.proofs.Common.{List, [], arith, inl, inr, length, suc, zero, ℕ, ◌-◌, ◌<◌, ◌∷◌, ◌≡◌, ◌≢◌, ◌≤◌, ◌⊎◌}
+use Rattle.std.proofs.Common.{List, [], arith, inl, inr, length, suc, zero, ℕ, ◌<◌, ◌∷◌, ◌≡◌, ◌≢◌, ◌≤◌, ◌⊎◌}
 use Rattle.std.proofs.lemmas.Bool.{cases_eq}
 
 abbrev pub Member : ℕ → List ℕ → Type 0

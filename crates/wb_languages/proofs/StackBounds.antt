@@ -1,5 +1,5 @@
 -- How many trees a stack has, where there is no hidden left recursion.
-use Rattle.std.proofs.Common.{List, [], ap, append_assoc, arith, inl, inr, length, refl, subst, suc, sym, zero, ℕ, ◌++◌, ◌+◌, ◌-◌, ◌<◌, ◌∙◌, ◌∷◌, ◌≡◌, ◌≢◌, ◌≤◌, ◌⊎◌}
+use Rattle.std.proofs.Common.{List, [], ap, append_assoc, arith, inl, inr, length, refl, subst, suc, sym, zero, ℕ, ◌++◌, ◌+◌, ◌<◌, ◌∙◌, ◌∷◌, ◌≡◌, ◌≢◌, ◌≤◌, ◌⊎◌}
 use Rattle.std.proofs.lemmas.Bool.{cases_eq}
 use Rattle.wb_base.specs.Grammar.{GrammarView}
 use Rattle.wb_base.specs.declared.symbol.Symbol.{Symbol}
@@ -11,7 +11,7 @@ use Rattle.wb_grammars.specs.Items.{IsValidItem, IsViablePrefix, after_dot, clos
 use Rattle.wb_grammars.specs.Productions.{IsProduction, right_in, top_of}
 use Rattle.wb_grammars.specs.Trees.{Forest, IsDerived, leaf, node, nothing, symbols}
 use Rattle.wb_grammars.specs.declared.item.Item.{Item}
-use Rattle.wb_languages.proofs.BackLemmas.{back, parts_of}
+use Rattle.wb_languages.proofs.BackLemmas.{parts_of}
 use Rattle.wb_languages.proofs.ForestLemmas.{append_nil, derived_left, derived_right, nodes_joined}
 use Rattle.wb_languages.proofs.Pigeons.{AllBelow, Distinct, Fresh, Member, member_or_fresh, pigeons}
 use Rattle.wb_languages.proofs.TreeBounds.{copies_more, count_joined, no_leaves, pred_of, tree_bound}

@@ -1,11 +1,10 @@
 -- Each text has one answer: a tree or a stop.
 use Rattle.std.proofs.Common.{◌≡◌, ℕ, List, length, arith}
-use Rattle.wb_base.specs.declared.symbol.Symbol.{Symbol}
 use Rattle.wb_grammars.specs.Trees.{Forest}
 use Rattle.wb_lookahead.specs.Contents.{TablesView}
 use Rattle.wb_languages.specs.declared.stop_kind.StopKind.{StopKind}
 use Rattle.wb_languages.specs.Languages.{LanguageView}
-use Rattle.wb_languages.specs.Tokens.{Next, NextToken}
+use Rattle.wb_languages.specs.Tokens.{NextToken}
 use Rattle.wb_languages.specs.Texts.{ParsesTo, StopsAt, HasAnswer}
 use Rattle.wb_languages.specs.Facts.{IsLanguage}
 use Rattle.wb_languages.specs.Parts.{AreTablesOf}

@@ -6,7 +6,6 @@ use Rattle.std.proofs.lemmas.Option.{slice_get_within}
 use Rattle.wb_lemmas.proofs.Parts.{append_same_left}
 use Rattle.wb_base.specs.declared.symbol.Symbol.{Symbol}
 use Rattle.wb_grammars.specs.Items.{IsViablePrefix}
-use Rattle.wb_automata.specs.Automata.{IsMatch}
 use Rattle.wb_languages.specs.Languages.{LanguageView}
 use Rattle.wb_languages.specs.Winners.{IsConsideredForm, MatchesAt, BeatsAt, Wins}
 use Rattle.wb_languages.specs.Facts.{HasWinner, AreDecided}

@@ -1,6 +1,6 @@
 -- What becomes of a leaf.
-use Rattle.std.proofs.Common.{◌≡◌, ◌≢◌, ◌<◌, ◌≤◌, ◌+◌, ℕ, List, [], ◌∷◌, ◌++◌, length, refl, sym, ◌∙◌, ap, subst, append_assoc, arith, take}
-use Rattle.std.specs.Prelude.{All, Some, Option, slice_range}
+use Rattle.std.proofs.Common.{◌≡◌, ◌<◌, ℕ, List, [], ◌∷◌, ◌++◌, length, refl, sym, ◌∙◌, ap, subst, arith}
+use Rattle.std.specs.Prelude.{All}
 use Rattle.wb_base.specs.declared.symbol.Symbol.{Symbol}
 use Rattle.wb_base.specs.declared.symbol.Symbol.TheVariants.{Terminal, Nonterminal}
 use Rattle.wb_grammars.specs.Productions.{end_of}
@@ -8,15 +8,15 @@ use Rattle.wb_grammars.specs.Trees.{Forest, nothing, leaf, node, symbols}
 use Rattle.wb_grammars.specs.Lookaheads.{CanShift}
 use Rattle.wb_values.specs.Tree.{Tree, Values, empty, more, plain, text, tree}
 use Rattle.wb_values.specs.Tree as values
-use Rattle.wb_values.specs.ValuesIn.{tree_in, value_in, values_in, IsIn}
+use Rattle.wb_values.specs.ValuesIn.{tree_in, values_in, IsIn}
 use Rattle.wb_values.specs.declared.value.TreeId.{TreeId}
 use Rattle.wb_values.specs.declared.value.Value.{Value}
 use Rattle.wb_values.specs.declared.value.Value.TheVariants as stored
 use Rattle.wb_languages.specs.declared.stop_kind.StopKind.TheVariants.{Unexpected, NoToken}
 use Rattle.wb_languages.specs.Tokens.{Next, NextToken, token, over, missing}
-use Rattle.wb_languages.specs.Texts.{StopsAt, ParsesTo}
+use Rattle.wb_languages.specs.Texts.{StopsAt}
 use Rattle.wb_languages.specs.Facts.{IsLanguage}
-use Rattle.wb_languages.specs.Shown.{values_of, Shows}
+use Rattle.wb_languages.specs.Shown.{values_of}
 use Rattle.wb_languages.specs.Parts.{AreTablesOf, IsPrefixOf}
 use Rattle.wb_languages.specs.Inner.Machine.{joined, Keeps}
 use Rattle.wb_languages.proofs.ForestLemmas.{symbols_joined}
@@ -28,7 +28,7 @@ use Rattle.wb_parser.specs.declared.step.Outcome.{Outcome}
 use Rattle.wb_parser.specs.declared.step.Outcome.TheVariants.{Shifts, Reduced, Accepts, Stops}
 use Rattle.wb_parser.specs.declared.parsed.Parsed.{Parsed}
 use Rattle.wb_parser.specs.declared.parsed.Parsed.TheVariants as parsed
-use Rattle.wb_parser.specs.Parses.{IsTreeOf, IsParsed}
+use Rattle.wb_parser.specs.Parses.{IsParsed}
 use Rattle.wb_parser.specs.Inner.Stacks.{AreStates, last_or}
 use Rattle.wb_parser.specs.Inner.Steps.{IsAt, IsReady, CanGo, IsWhole, IsOutcome, IsReduced}
 use Rattle.wb_parser.proofs.StateLemmas.{at_top, leaf_push}

@@ -1,16 +1,14 @@
 -- What tables say of states, and how states follow a stack.
-use Rattle.std.proofs.Common.{◌≡◌, ◌≢◌, ◌<◌, ◌≤◌, ◌+◌, ◌-◌, ◌⊎◌, ℕ, zero, suc, List, [], ◌∷◌, ◌++◌, length, take, refl, sym, ◌∙◌, ap, subst, append_assoc, inl, inr, arith}
-use Rattle.std.specs.Prelude.{◌↔◌, Some, slice_get, slice_index_or, All}
+use Rattle.std.proofs.Common.{◌≡◌, ◌<◌, ◌≤◌, ◌-◌, ℕ, suc, List, [], ◌∷◌, ◌++◌, length, take, refl, sym, ◌∙◌, ap, subst, append_assoc, inl, inr, arith}
+use Rattle.std.specs.Prelude.{Some, slice_index_or, All}
 use Rattle.std.proofs.lemmas.List.Elements.{All-head, All-tail, All-take, All-push}
-use Rattle.wb_lemmas.proofs.Parts.{take_append}
 use Rattle.wb_base.specs.declared.symbol.Symbol.{Symbol}
 use Rattle.wb_base.specs.declared.symbol.Symbol.TheVariants.{Terminal, Nonterminal}
 use Rattle.wb_base.specs.Grammar.{GrammarView}
 use Rattle.wb_grammars.specs.Productions.{top_of, end_of}
 use Rattle.wb_grammars.specs.Trees.{Forest, nothing, leaf, node, symbols}
 use Rattle.wb_grammars.specs.Items.{IsViablePrefix, SameKernel, start, move, advance, start_item}
-use Rattle.wb_grammars.specs.Lookaheads.{CanShift, CanReduce, IsValidTerminal}
-use Rattle.wb_grammars.specs.States.{IsNext}
+use Rattle.wb_grammars.specs.Lookaheads.{CanShift, CanReduce}
 use Rattle.wb_grammars.proofs.KernelLemmas.{same_move, kernel_decides}
 use Rattle.wb_grammars.proofs.FlowLemmas.{same_then, same_back, same_itself}
 use Rattle.wb_grammars.proofs.ValidLemmas.{same_valid}
@@ -24,7 +22,6 @@ use Rattle.wb_languages.specs.Parts.{AreTablesOf, IsPrefixOf}
 use Rattle.wb_languages.specs.Inner.Machine.{joined}
 use Rattle.wb_languages.proofs.ForestLemmas.{append_nil}
 use Rattle.wb_languages.proofs.FactLemmas.{shift_at, reduce_at}
-use Rattle.wb_languages.proofs.PartLemmas.{state_of}
 use Rattle.wb_parser.specs.Inner.Stacks.{AreStates, last_or}
 
 -- an action of the tables, at a prefix of its state

@@ -1,12 +1,10 @@
 -- What is found is what is next.
-use Rattle.std.proofs.Common.{◌≡◌, ◌<◌, ◌≤◌, ◌+◌, ◌-◌, ℕ, List, ◌++◌, length, refl, sym, ◌∙◌, ap, subst, arith}
+use Rattle.std.proofs.Common.{◌≡◌, ◌<◌, ◌≤◌, ◌+◌, ◌-◌, ℕ, List, length, sym, ap, subst, arith}
 use Rattle.std.specs.Prelude.{Some, slice_get, slice_range}
 use Rattle.wb_scan.proofs.RangeLemmas.{range_length}
 use Rattle.wb_base.specs.declared.symbol.Symbol.{Symbol}
 use Rattle.wb_languages.specs.declared.form.Form.{Form}
-use Rattle.wb_languages.specs.Languages.{IsLayout}
-use Rattle.wb_languages.specs.Winners.{Wins}
-use Rattle.wb_languages.specs.Tokens.{Next, token, over, missing, NextToken, skipped, wins, ends, fails}
+use Rattle.wb_languages.specs.Tokens.{token, over, missing, NextToken, skipped, wins, ends, fails}
 use Rattle.wb_languages.specs.Parts.{IsPrefixOf}
 use Rattle.wb_scan.specs.declared.scanned.Scanned.{Scanned}
 use Rattle.wb_scan.specs.declared.scanned.Scanned.TheVariants.{Token, End, NoToken}
