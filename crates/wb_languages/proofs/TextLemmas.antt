@@ -38,6 +38,7 @@ pub some_answer : (l : LanguageView) (tables : TablesView) → IsLanguage l → 
 some_answer l tables ok tables_of text =
     answer l.grammar l.grammar.nonterminals (widest l.grammar.productions) (parsable l.grammar ok.deterministic)
     (λ prefix t viable le. decision tables_of prefix t viable le) (NextToken l text) (is_one l ok text) (length text)
-    (λ prefix at viable within. some_next ok.written ok.winners prefix text viable (considers ok.written tables_of prefix viable) (length text) at
+    (λ prefix at viable within. some_next ok.written ok.winners prefix text viable (considers ok.written tables_of prefix viable)
+    (length text) at
     within (omega arith))
     (advances ok.written text)

@@ -38,7 +38,8 @@ module _ (parts : LanguageParts) (ok : IsLanguage parts.language) (source : List
   -- what was scanned at the state on top is next
   pub scanned_at : AreTablesOf parts.language.grammar parts.tables → (states slice : List ℕ) (vs : List Value) (trees : List Tree)
       (at top : ℕ) (next : Next) → top ≡ last_or 0 slice → slice ≡ states →
-      ((prefix : List Symbol) → IsPrefixOf parts.language.grammar parts.tables top prefix → NextToken parts.language source prefix at next) →
+      ((prefix : List Symbol) → IsPrefixOf parts.language.grammar parts.tables top prefix →
+      NextToken parts.language source prefix at next) →
       (r : IsReady parts source states vs trees at) → NextToken parts.language source r.0 at next
   scanned_at of states slice vs trees at top next top_is slice_is found (prefix, is, same) =
       found prefix (subst (λ z. IsPrefixOf parts.language.grammar parts.tables z prefix) (sym (top_is ∙ ap (last_or 0) slice_is))
@@ -69,7 +70,8 @@ module _ (parts : LanguageParts) (ok : IsLanguage parts.language) (source : List
           states_are = subst (λ z. AreStates g parts.tables [] z new) (sym pushed_is)
               (leaf_push g parts.tables [] states c.is.stack target t lexeme c.is.states_are c.goes);
           values_are = ap (values_in trees) vs_is ∙ (values_in_append trees vs (stored.Text lexeme ∷ [])
-              ∙ (ap (λ z. appended z (more (plain (text lexeme)) empty)) first ∙ sym (values_of_joined c.is.stack (leaf t lexeme nothing))));
+              ∙ (ap (λ z. appended z (more (plain (text lexeme)) empty)) first
+              ∙ sym (values_of_joined c.is.stack (leaf t lexeme nothing))));
           keeps = subst (λ z. Keeps g (NextToken parts.language source) new z after) (sym named) keeps;
         },
         refl,
@@ -116,7 +118,8 @@ module _ (parts : LanguageParts) (ok : IsLanguage parts.language) (source : List
 
   -- the tree of a text that is accepted
   pub over_whole : (states slice : List ℕ) (vs given : List Value) (trees : List Tree) (prefix : List Symbol) (at place t : ℕ)
-      (result : Parsed) → All (IsIn (length trees)) vs → given ≡ vs → ((id : TreeId) → given ≡ stored.Tree id ∷ [] → result ≡ parsed.Tree id) →
+      (result : Parsed) → All (IsIn (length trees)) vs → given ≡ vs →
+      ((id : TreeId) → given ≡ stored.Tree id ∷ [] → result ≡ parsed.Tree id) →
       NextToken parts.language source prefix at (over place) → IsWhole parts source states vs trees prefix at t →
       IsParsed parts.language source trees result
   over_whole states slice vs given trees prefix at place t result inside given_is shown n whole =
@@ -126,7 +129,8 @@ module _ (parts : LanguageParts) (ok : IsLanguage parts.language) (source : List
       (record {
         held = lone id (subst (All (IsIn (length trees))) vs_is inside);
         tree = whole.is.stack;
-        parses = accept_gives parts.language.grammar (NextToken parts.language source) whole.is.stack prefix at place whole.is.keeps n whole.root;
+        parses = accept_gives parts.language.grammar
+            (NextToken parts.language source) whole.is.stack prefix at place whole.is.keeps n whole.root;
         shows = root ∙ ap (λ z. more (tree z) empty) (sym held);
       })
     where

@@ -1,5 +1,6 @@
 -- What tables say of states, and how states follow a stack.
-use Rattle.std.proofs.Common.{◌≡◌, ◌<◌, ◌≤◌, ◌-◌, ℕ, suc, List, [], ◌∷◌, ◌++◌, length, take, refl, sym, ◌∙◌, ap, subst, append_assoc, inl, inr, arith}
+use Rattle.std.proofs.Common.{◌≡◌, ◌<◌, ◌≤◌, ◌-◌, ℕ, suc, List, [], ◌∷◌, ◌++◌, length, take, refl, sym, ◌∙◌, ap, subst, append_assoc, inl}
+use Rattle.std.proofs.Common.{inr, arith}
 use Rattle.std.specs.Prelude.{Some, slice_index_or, All}
 use Rattle.std.proofs.lemmas.List.Elements.{All-head, All-tail, All-take, All-push}
 use Rattle.wb_base.specs.declared.symbol.Symbol.{Symbol}
@@ -84,7 +85,8 @@ goto_at {g} {tables} {s} {prefix} at b lt viable =
     subst (λ (h : GrammarView). SameKernel h (prefix_of at.numbered.kernels s) prefix → b < h.nonterminals →
     IsViablePrefix h (prefix ++ Nonterminal b ∷ []) →
     (n : ℕ) × (goto_of tables s b ≡ Some n) × IsPrefixOf h tables n (prefix ++ Nonterminal b ∷ [])) at.numbered.same
-    (λ same lt' viable'. go at.numbered.kernels at.numbered.are_kernels at.numbered.are_tables at.within same lt' viable') at.kernel lt viable
+    (λ same lt' viable'. go at.numbered.kernels at.numbered.are_kernels at.numbered.are_tables at.within same lt' viable') at.kernel lt
+    viable
   where
     go : (kernels : KernelsView) → AreKernels kernels → AreTables kernels tables → s < count_of kernels →
         SameKernel kernels.grammar (prefix_of kernels s) prefix → b < kernels.grammar.nonterminals →
@@ -94,7 +96,8 @@ goto_at {g} {tables} {s} {prefix} at b lt viable =
         let (n, below, there) = ok.states.all (prefix ++ Nonterminal b ∷ []) viable' in
         let back : SameKernel kernels.grammar (prefix ++ Nonterminal b ∷ []) (prefix_of kernels s ++ Nonterminal b ∷ []) =
         same_move ok.live prefix (prefix_of kernels s) (Nonterminal b) (same_back same) in
-        let has : IsViablePrefix kernels.grammar (prefix_of kernels s ++ Nonterminal b ∷ []) = viable_there kernels ok s prefix same (Nonterminal b) viable' in
+        let has : IsViablePrefix kernels.grammar (prefix_of kernels s ++ Nonterminal b ∷ []) =
+        viable_there kernels ok s prefix same (Nonterminal b) viable' in
         let leads : LeadsTo kernels s (Nonterminal b) n = (within, below, has, same_then there back) in
         (n, ((are.gotos s b within lt').some n).1 leads, own kernels ok are below viable' there)
       where
@@ -176,10 +179,12 @@ states_split g tables prefix (x ∷ xs) (node p a c r) b (same, h) =
     record { left = x ∷ i.left; right = i.right; is = ap (λ z. x ∷ z) i.is; right_length = i.right_length; of_left = (same, i.of_left) }
 
 -- one state more, for a further root
-pub states_push : (g : GrammarView) (tables : TablesView) (prefix : List Symbol) (states : List ℕ) (stack : Forest) (s p a : ℕ) (c : Forest) →
+pub states_push : (g : GrammarView) (tables : TablesView) (prefix : List Symbol) (states : List ℕ) (stack : Forest) (s p a : ℕ)
+    (c : Forest) →
     AreStates g tables prefix states stack → IsPrefixOf g tables s ((prefix ++ symbols stack) ++ Nonterminal a ∷ []) →
     AreStates g tables prefix (states ++ s ∷ []) (joined stack (node p a c nothing))
-states_push g tables prefix [] nothing s p a c h k = (subst (λ z. IsPrefixOf g tables s (z ++ Nonterminal a ∷ [])) (append_nil prefix) k, tt)
+states_push g tables prefix [] nothing s p a c h k =
+    (subst (λ z. IsPrefixOf g tables s (z ++ Nonterminal a ∷ [])) (append_nil prefix) k, tt)
 states_push g tables prefix [] (leaf t l r) s p a c h k = absurd h
 states_push g tables prefix [] (node q b d r) s p a c h k = absurd h
 states_push g tables prefix (x ∷ xs) nothing s p a c h k = absurd h

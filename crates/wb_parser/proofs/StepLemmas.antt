@@ -1,5 +1,6 @@
 -- What each step of the parser keeps.
-use Rattle.std.proofs.Common.{◌≡◌, ◌<◌, ◌≤◌, ◌+◌, ◌-◌, ◌⊎◌, ℕ, List, [], ◌∷◌, ◌++◌, length, take, drop, refl, sym, ◌∙◌, ap, subst, inl, inr, arith, length-append}
+use Rattle.std.proofs.Common.{◌≡◌, ◌<◌, ◌≤◌, ◌+◌, ◌-◌, ◌⊎◌, ℕ, List, [], ◌∷◌, ◌++◌, length, take, drop, refl, sym, ◌∙◌, ap, subst, inl, inr}
+use Rattle.std.proofs.Common.{arith, length-append}
 use Rattle.std.specs.Prelude.{All, Some, min}
 use Rattle.wb_lemmas.proofs.Parts.{take_append, drop_append}
 use Rattle.wb_lemmas.proofs.Elements.{all_left}
@@ -121,15 +122,18 @@ module _ (parts : LanguageParts) (ok : IsLanguage parts.language) (of : AreTable
         ∙ ((λ k. appended (same_left k) (more (last_is k) empty)) ∙ sym (values_of_joined r.below (node p r.left r.children nothing))) in
         record {
           stack = new;
-          states_are = subst (λ z. AreStates g parts.tables [] z new) ((λ k. sym states_lower k ++ sym target_is k ∷ []) ∙ sym made.moved.states_are)
+          states_are = subst (λ z. AreStates g parts.tables [] z new)
+              ((λ k. sym states_lower k ++ sym target_is k ∷ []) ∙ sym made.moved.states_are)
               (states_push g parts.tables [] sp.left r.below n' p r.left r.children sp.of_left goes);
           values_are = subst (λ z. values_in z vs' ≡ values_of new) (sym trees_is)
               (ap (values_in (trees ++ built ∷ [])) (made.values_are ∙ ap (λ z. z ++ stored.Tree made.id ∷ []) lower) ∙ pushed);
-          keeps = reduce_keeps g (parsable g ok.deterministic).free (NextToken parts.language source) (is_one parts.language ok source) is.stack
+          keeps = reduce_keeps g (parsable g ok.deterministic).free (NextToken parts.language source)
+              (is_one parts.language ok source) is.stack
               prefix at is.keeps p next t place n gives can r;
         }
 
-    pub reduce_case : (source : List ℕ) (prefix : List Symbol) (at place : ℕ) (next : Next) → NextToken parts.language source prefix at next →
+    pub reduce_case : (source : List ℕ) (prefix : List Symbol) (at place : ℕ) (next : Next) →
+        NextToken parts.language source prefix at next →
         Gives parts.language.grammar next t place → IsAt parts source states vs trees prefix at →
         IsAt parts source states' vs' trees' prefix at
     reduce_case source prefix at place next n gives is = go (acts (Reduce p) e is)

@@ -40,7 +40,8 @@ length_values trees (v ∷ vs) nothing e = cc
 length_values trees (v ∷ vs) (leaf t lexeme rest) e = ap suc (length_values trees vs rest (cc))
 length_values trees (v ∷ vs) (node p a children rest) e = ap suc (length_values trees vs rest (cc))
 
-pub values_split : (trees : List Tree) (vs : List Stored) (a b : Forest) → values_in trees vs ≡ values_of (joined a b) → ValueParts trees vs a b
+pub values_split : (trees : List Tree) (vs : List Stored) (a b : Forest) → values_in trees vs ≡ values_of (joined a b) →
+    ValueParts trees vs a b
 values_split trees vs nothing b e =
     record { left = []; right = vs; is = refl; of_left = refl; of_right = e; right_length = length_values trees vs b e }
 values_split trees [] (leaf t lexeme rest) b e = cc

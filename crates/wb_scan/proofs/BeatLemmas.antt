@@ -114,7 +114,8 @@ beats_same l place other one two r t u lt lt' tells tells' same t_is u_is prefer
 abbrev pub BeatsBelow : LanguageView → ℕ → List ℕ → ℕ → Type 0
 BeatsBelow l place places i = (k : ℕ) → k < i → get_or places k 0 ≢ place → BeatsAt l place (get_or places k 0)
 
-pub beats_more : (l : LanguageView) (place : ℕ) (places : List ℕ) (i : ℕ) → (get_or places i 0 ≢ place → BeatsAt l place (get_or places i 0)) →
+pub beats_more : (l : LanguageView) (place : ℕ) (places : List ℕ) (i : ℕ) →
+    (get_or places i 0 ≢ place → BeatsAt l place (get_or places i 0)) →
     BeatsBelow l place places i → BeatsBelow l place places (i + 1)
 beats_more l place places i here before k lt ne = elim (cases_lt k i) [
   | inl early ↦ before k early ne

@@ -1,5 +1,6 @@
 -- What the automaton finds is what wins.
-use Rattle.std.proofs.Common.{◌≡◌, ◌≢◌, ◌<◌, ◌≤◌, ◌+◌, ◌-◌, ℕ, List, ◌++◌, length, take, drop, refl, sym, ◌∙◌, ap, subst, inl, inr, arith, length-append}
+use Rattle.std.proofs.Common.{◌≡◌, ◌≢◌, ◌<◌, ◌≤◌, ◌+◌, ◌-◌, ℕ, List, ◌++◌, length, take, drop, refl, sym, ◌∙◌, ap, subst, inl, inr, arith}
+use Rattle.std.proofs.Common.{length-append}
 use Rattle.std.specs.Prelude.{◌↔◌, Contains, All, slice_range}
 use Rattle.std.proofs.lemmas.Bool.{cases_order}
 use Rattle.std.proofs.lemmas.Option.{slice_get_within}
@@ -85,7 +86,8 @@ module _ {l : LanguageView} {tables : TablesView} {automaton : AutomatonView} (p
     module _ {accepted : List ℕ} (exact : AreAcceptedAt automaton state (slice_range text at end) accepted) where
       -- what wins is accepted, and beats each other form that is
       pub champion_of : {prefix : List Symbol} {p : ℕ} {x : List ℕ} → IsPrefixOf l.grammar tables state prefix →
-          (terminal : ℕ) → MatchesIn automaton state terminal (slice_range text at end) → Wins l prefix text at p x → IsChampion l accepted p
+          (terminal : ℕ) → MatchesIn automaton state terminal (slice_range text at end) → Wins l prefix text at p x →
+          IsChampion l accepted p
       champion_of {prefix} {p} {x} of terminal m w =
           let from : at ≤ end = longest.from in
           let le : at + length x ≤ end = no_later of w.matches in
@@ -156,7 +158,8 @@ matched_at longest ne = elim longest.matched [ inl e ↦ absurd (ne e) | inr is 
 module _ {l : LanguageView} {tables : TablesView} {automaton : AutomatonView} (parts : AreLanguageParts l tables automaton) {state : ℕ}
     (below : state < size_of tables) {text : List ℕ} {at end found : ℕ}
     (longest : IsLongest automaton state text at (length text) found end) (ne : end ≢ at) (accepted : List ℕ)
-    (exact : (terminal s : ℕ) (x : List ℕ) → LeadsTo automaton s x found → Contains accepted terminal ↔ MatchesIn automaton s terminal x) where
+    (exact : (terminal s : ℕ) (x : List ℕ) → LeadsTo automaton s x found →
+    Contains accepted terminal ↔ MatchesIn automaton s terminal x) where
   accepted_at : AreAcceptedAt automaton state (slice_range text at end) accepted
   accepted_at terminal = exact terminal state (slice_range text at end) (matched_at longest ne).1
 

@@ -23,7 +23,13 @@ reading_init automaton set text at state size leads below = record {
   size = size;
   here = subst (λ z. LeadsTo automaton set z state) (sym (range_none text at at (omega arith))) leads;
   below = below;
-  longest = record { from = omega arith; within = omega arith; matched = inl refl; none_after = λ other terminal lt le m. absurd (omega arith) };
+  longest = record {
+    from = omega arith;
+    within = omega arith;
+    matched = inl refl;
+    none_after =
+        λ other terminal lt le m. absurd (omega arith);
+  };
   found_below = below;
 }
 

@@ -36,7 +36,8 @@ module _ (parts : LanguageParts) (state : ℕ) (text : List ℕ) where
       (found.wins prefix of) (found.prefix f at_f).1
       (ap (token place f.terminal (slice_range text (place + length f.prefix) end)) (sym (piece_end place form end found)))))
 
-  pub token_inside : (at place form end : ℕ) (f : Form) (result : Scanned) → f.terminal < parts.language.grammar.terminals → at ≤ place → IsFound parts state text place form end →
+  pub token_inside : (at place form end : ℕ) (f : Form) (result : Scanned) → f.terminal < parts.language.grammar.terminals → at ≤ place →
+      IsFound parts state text place form end →
       slice_get parts.language.forms form ≡ Some f → result ≡ Token f.terminal place (place + length f.prefix) end →
       IsInside parts.language.grammar.terminals (length text) at result
   token_inside at place form end f result below le found at_f is =
