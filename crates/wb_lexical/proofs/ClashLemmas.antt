@@ -1,5 +1,5 @@
 -- A state with an undecided pair is a clash by the text of its path, and without one nothing clashes.
-use Rattle.std.proofs.Common.{◌≡◌, ℕ, ◌+◌, ◌≤◌, ◌<◌, ◌⊎◌, Bool, List, [], refl, sym, ◌∙◌, ap, subst, arith, inl, inr, Some, length, get_or}
+use Rattle.std.proofs.Common.{◌≡◌, ℕ, ◌+◌, ◌≤◌, ◌<◌, ◌⊎◌, Bool, List, [], sym, ◌∙◌, ap, subst, arith, inl, inr, Some, length, get_or}
 use Rattle.std.specs.Prelude.{slice_get, Contains, ◌↔◌}
 use Rattle.std.proofs.lemmas.Bool.{cases_lt}
 use Rattle.std.proofs.lemmas.List.{get_or_default}

@@ -43,10 +43,24 @@ pub fn find_clash(
     ensures none { IfOk result (λ found. IsNone found ↔ HasNoClash terminals.now sets.now preferences.now) }
 {
     let automaton = Automaton::build(alloc, terminals, sets)?;
-    clash_in(alloc, &automaton, preferences)
+    find_clash_in(alloc, &automaton, preferences)
 }
 
-// The same by the automaton of the terminals and sets.
+/// The same where the automaton of the terminals and sets is there already.
+pub fn find_clash_in(
+    alloc: Global,
+    automaton: &Automaton,
+    preferences: &[(usize, usize)],
+) -> Result<Option<Clash>, AllocError>
+    ensures clash { IfOk result (λ found. IfSome found (λ clash. IsClash automaton.now.terminals automaton.now.sets preferences.now clash.set clash.left clash.right clash.text)) }
+    ensures in_order { IfOk result (λ found. IfSome found (λ clash. clash.left < clash.right)) }
+    ensures least { IfOk result (λ found. IfSome found (λ clash. (text : List ℕ) → IsMatch automaton.now.terminals clash.left text → IsMatch automaton.now.terminals clash.right text → IsAtMost clash.text text)) }
+    ensures none { IfOk result (λ found. IsNone found ↔ HasNoClash automaton.now.terminals automaton.now.sets preferences.now) }
+{
+    clash_in(alloc, automaton, preferences)
+}
+
+// The first clash by the order of states.
 fn clash_in(
     alloc: Global,
     automaton: &Automaton,

@@ -5,6 +5,6 @@ mod clash;
 mod cycle;
 mod pair;
 
-pub use clash::{Clash, find_clash};
+pub use clash::{Clash, find_clash, find_clash_in};
 pub use cycle::preference_cycle;
 pub use pair::prefers;

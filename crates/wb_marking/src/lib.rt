@@ -5,5 +5,7 @@
 #![tactic(auto)]
 
 mod holes;
+mod laws;
 
 pub use holes::with_holes;
+pub use laws::holes_law;

@@ -1,0 +1,5 @@
+mod FormLemmas
+mod SetLemmas
+mod ClashLemmas
+mod LanguageLemmas
+mod RefusalLemmas
