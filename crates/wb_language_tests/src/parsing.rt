@@ -50,7 +50,8 @@ fn is_stop(at: usize, kind: StopKind, wanted: Wanted) -> bool {
     match wanted {
         Wanted::Tree(_) => false,
         Wanted::NoToken(place) => at == place && kind == StopKind::NoToken,
-        Wanted::Unexpected(place, terminal) => at == place && kind == StopKind::Unexpected(terminal),
+        Wanted::Unexpected(place, terminal) => at == place
+            && kind == StopKind::Unexpected(terminal),
     }
 }
 
@@ -85,8 +86,16 @@ fn texts_give_their_one_tree_or_stop(rt: HostRuntime) -> Result<(), Fail> {
         (&LISTS, "", Wanted::Tree("none()")),
         (&LISTS, "   ", Wanted::Tree("none()")),
         (&LISTS, "  7 x", Wanted::NoToken(4)),
-        (&LISTS, "7 8", Wanted::Tree("more(more(none(), \"7\"), \"8\")")),
-        (&POINTERS, "*a=b", Wanted::Tree("assign(star(\"*\", ofl(id(\"a\"))), \"=\", ofl(id(\"b\")))")),
+        (
+            &LISTS,
+            "7 8",
+            Wanted::Tree("more(more(none(), \"7\"), \"8\")"),
+        ),
+        (
+            &POINTERS,
+            "*a=b",
+            Wanted::Tree("assign(star(\"*\", ofl(id(\"a\"))), \"=\", ofl(id(\"b\")))"),
+        ),
         (&POINTERS, "a=", Wanted::Unexpected(2, 3)),
         (&POINTERS, "a=b=c", Wanted::Unexpected(3, 1)), // a name has one kernel before and behind the sign
         (&POINTERS, "=a", Wanted::NoToken(0)),

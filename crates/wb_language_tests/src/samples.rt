@@ -8,8 +8,16 @@ pub(crate) static KEYWORDS: Sample = Sample {
     terminals: 2,
     nonterminals: 1,
     rules: &[
-        Rule { name: "one", left: 0, right: &[T(0), T(1)] },
-        Rule { name: "two", left: 0, right: &[T(1)] },
+        Rule {
+            name: "one",
+            left: 0,
+            right: &[T(0), T(1)],
+        },
+        Rule {
+            name: "two",
+            left: 0,
+            right: &[T(1)],
+        },
     ],
     expressions: &["if", "[a-z]+", "[ ]+"],
     preferences: &[(0, 1)],
@@ -20,8 +28,16 @@ pub(crate) static UNDECIDED: Sample = Sample {
     terminals: 2,
     nonterminals: 1,
     rules: &[
-        Rule { name: "one", left: 0, right: &[T(0), T(1)] },
-        Rule { name: "two", left: 0, right: &[T(1)] },
+        Rule {
+            name: "one",
+            left: 0,
+            right: &[T(0), T(1)],
+        },
+        Rule {
+            name: "two",
+            left: 0,
+            right: &[T(1)],
+        },
     ],
     expressions: &["if", "[a-z]+", "[ ]+"],
     preferences: &[],
@@ -32,8 +48,16 @@ pub(crate) static LISTS: Sample = Sample {
     terminals: 1,
     nonterminals: 1,
     rules: &[
-        Rule { name: "none", left: 0, right: &[] },
-        Rule { name: "more", left: 0, right: &[N(0), T(0)] },
+        Rule {
+            name: "none",
+            left: 0,
+            right: &[],
+        },
+        Rule {
+            name: "more",
+            left: 0,
+            right: &[N(0), T(0)],
+        },
     ],
     expressions: &["[0-9]+", "[ \\n]+"],
     preferences: &[],
@@ -44,11 +68,31 @@ pub(crate) static POINTERS: Sample = Sample {
     terminals: 3,
     nonterminals: 3,
     rules: &[
-        Rule { name: "assign", left: 0, right: &[N(1), T(1), N(2)] },
-        Rule { name: "just", left: 0, right: &[N(2)] },
-        Rule { name: "star", left: 1, right: &[T(0), N(2)] },
-        Rule { name: "id", left: 1, right: &[T(2)] },
-        Rule { name: "ofl", left: 2, right: &[N(1)] },
+        Rule {
+            name: "assign",
+            left: 0,
+            right: &[N(1), T(1), N(2)],
+        },
+        Rule {
+            name: "just",
+            left: 0,
+            right: &[N(2)],
+        },
+        Rule {
+            name: "star",
+            left: 1,
+            right: &[T(0), N(2)],
+        },
+        Rule {
+            name: "id",
+            left: 1,
+            right: &[T(2)],
+        },
+        Rule {
+            name: "ofl",
+            left: 2,
+            right: &[N(1)],
+        },
     ],
     expressions: &["\\*", "=", "[a-z]+"],
     preferences: &[],
@@ -59,8 +103,16 @@ pub(crate) static AMBIGUOUS: Sample = Sample {
     terminals: 2,
     nonterminals: 1,
     rules: &[
-        Rule { name: "num", left: 0, right: &[T(0)] },
-        Rule { name: "plus", left: 0, right: &[N(0), T(1), N(0)] },
+        Rule {
+            name: "num",
+            left: 0,
+            right: &[T(0)],
+        },
+        Rule {
+            name: "plus",
+            left: 0,
+            right: &[N(0), T(1), N(0)],
+        },
     ],
     expressions: &["[0-9]+", "\\+"],
     preferences: &[],
@@ -70,7 +122,11 @@ pub(crate) static AMBIGUOUS: Sample = Sample {
 pub(crate) static CONTEXTS: Sample = Sample {
     terminals: 2,
     nonterminals: 1,
-    rules: &[Rule { name: "pair", left: 0, right: &[T(0), T(1)] }],
+    rules: &[Rule {
+        name: "pair",
+        left: 0,
+        right: &[T(0), T(1)],
+    }],
     expressions: &["a", "aa|ab"],
     preferences: &[],
 };
@@ -80,9 +136,21 @@ pub(crate) static LAYOUTS: Sample = Sample {
     terminals: 2,
     nonterminals: 1,
     rules: &[
-        Rule { name: "none", left: 0, right: &[] },
-        Rule { name: "a", left: 0, right: &[N(0), T(0)] },
-        Rule { name: "b", left: 0, right: &[N(0), T(1)] },
+        Rule {
+            name: "none",
+            left: 0,
+            right: &[],
+        },
+        Rule {
+            name: "a",
+            left: 0,
+            right: &[N(0), T(0)],
+        },
+        Rule {
+            name: "b",
+            left: 0,
+            right: &[N(0), T(1)],
+        },
     ],
     expressions: &["-+", "b", "--", "b."],
     preferences: &[(2, 0)],
@@ -92,7 +160,11 @@ pub(crate) static LAYOUTS: Sample = Sample {
 pub(crate) static RING: Sample = Sample {
     terminals: 2,
     nonterminals: 1,
-    rules: &[Rule { name: "pair", left: 0, right: &[T(0), T(1)] }],
+    rules: &[Rule {
+        name: "pair",
+        left: 0,
+        right: &[T(0), T(1)],
+    }],
     expressions: &["a", "b"],
     preferences: &[(0, 1), (1, 0)],
 };
