@@ -1,5 +1,5 @@
-mod FormLemmas
+pub mod FormLemmas
 mod SetLemmas
 mod ClashLemmas
 mod LanguageLemmas
-mod RefusalLemmas
+pub mod RefusalLemmas

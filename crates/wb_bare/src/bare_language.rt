@@ -44,6 +44,7 @@ pub fn language_of(
 ) -> Result<Language, LanguageRefusal>
     requires facts { AreFacts grammar facts.now }
     requires written { AreWrittenFor grammar.terminals regexes.now layout.items preferences.items }
+    ensures in_range { IsGrammar grammar }
     ensures ok { IfOk result (λ made. made.language ≡ language_with grammar regexes.now layout.items preferences.items) }
     ensures free { IfOk result (λ made. IsFree (language_with grammar regexes.now layout.items preferences.items)) }
     ensures refused { IfErr result (IsLanguageRefusal (language_with grammar regexes.now layout.items preferences.items)) }

@@ -1,3 +1,3 @@
 mod FlagLemmas
-mod HostLemmas
+pub mod HostLemmas
 mod RefusalLemmas

@@ -11,11 +11,8 @@ use wb_regex::Regex;
 use wb_resolved::{Preference, Terminal, TerminalKind};
 use wb_termset::TermSet;
 
-// The expressions of terminals.
-pub(crate) fn expressions_of(
-    alloc: Global,
-    terminals: &[Terminal],
-) -> Result<Vec<Regex>, AllocError>
+/// The expressions of terminals, in their order. The only error is want of memory.
+pub fn expressions_of(alloc: Global, terminals: &[Terminal]) -> Result<Vec<Regex>, AllocError>
     ensures { IfOk result (λ made. made.items ≡ map (λ (t : Terminal). t.pattern) terminals.now) }
 {
     let mut expressions = Vec::new(alloc);
@@ -51,8 +48,8 @@ fn put_layout(layout: &mut TermSet, terminal: &Terminal, number: usize)
     }
 }
 
-// The preferences as pairs.
-pub(crate) fn pairs_of(
+/// The preferences as pairs, the preferred terminal first. The only error is want of memory.
+pub fn pairs_of(
     alloc: Global,
     preferences: &[Preference],
 ) -> Result<Vec<(usize, usize)>, AllocError>

@@ -12,5 +12,6 @@ mod refusal;
 
 pub use host::host_determinism;
 pub use laws::host_refusals_law;
+pub use lexicon::{expressions_of, pairs_of};
 pub use parts::HostParts;
 pub use refusal::{DeterminismRefusal, EnvelopeFault};

@@ -1,0 +1,3 @@
+pub mod OccurrenceLemmas
+pub mod EdgeLemmas
+pub mod RuleLemmas

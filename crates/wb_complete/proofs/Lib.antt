@@ -1,0 +1,2 @@
+mod TestLemmas
+mod AnswerLemmas

@@ -1,0 +1,2 @@
+-- What loops keep, and words of private functions.
+pub mod Tests

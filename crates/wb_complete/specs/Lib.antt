@@ -1,0 +1,6 @@
+-- what the tests of completeness ask, and when each refusal is true
+pub mod Refusals
+-- that they have at most one answer
+pub mod OneAnswer
+-- what loops keep, and words of private functions
+pub mod Inner

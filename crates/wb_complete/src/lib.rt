@@ -1,0 +1,13 @@
+//! Whether attributes are complete: each that is needed in a production is defined there, a start inherits nothing, and extensions forward.
+//!
+//! Each production is tested by itself. The rules are defined in `wb_attributes`; whether attributes keep to their flow types and nothing
+//! needs itself is tested in `wb_flow`.
+#![tactic(auto)]
+
+mod below;
+mod check;
+mod laws;
+mod top;
+
+pub use check::check_complete;
+pub use laws::one_answer_law;

@@ -1,0 +1,13 @@
+pub mod AddingLemmas
+pub mod VertexLemmas
+pub mod ArrowLemmas
+pub mod GraphLemmas
+pub mod WalkLemmas
+pub mod CheckLemmas
+pub mod ReadLemmas
+pub mod SetLemmas
+pub mod IndexLemmas
+pub mod TreeLemmas
+pub mod RowLemmas
+pub mod KindLemmas
+pub mod EachLemmas

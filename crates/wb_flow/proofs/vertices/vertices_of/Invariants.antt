@@ -1,0 +1,7 @@
+use Rattle.std.proofs.Common.{[]}
+use Rattle.wb_flow.specs.Inner.Adding.{Adds, SomeBefore}
+use Rattle.wb_flow.specs.Inner.Positions.{IsVertexOf}
+use Rattle.wb_flow.proofs.vertices.vertices_of.Given as goal
+
+abbrev pub invariant-trees : goal.invariant-trees
+invariant-trees l = Adds [] l.vertices (SomeBefore l.trees l.tree-index (IsVertexOf l.scope.attributes.now))

@@ -1,0 +1,85 @@
+-- What has a flow type in a production: a synthesized attribute of its top, or the forwarded tree.
+use Rattle.std.specs.Prelude.{◌≡◌, ℕ, Bool, true, List, Option, None, Some, Contains}
+use Rattle.wb_attributes.specs.Vertices.{top_inherited}
+use Rattle.wb_attributes.specs.Occurrences.{Goes, Needs, ForwardNeeds}
+use Rattle.wb_attributes.specs.Flow.{Reaches}
+use Rattle.wb_attributes.specs.Modular.{IsProduction}
+use Rattle.wb_attributes.specs.WellDefined.{KeepsFlowTypes, KeepsForwardFlowType}
+use Rattle.wb_flow.specs.declared.reads.Tested.{Tested}
+use Rattle.wb_flow.specs.declared.refusal.AttributeRefusal.{AttributeRefusal}
+use Rattle.wb_flow.specs.declared.refusal.AttributeRefusal.TheVariants as r
+use Rattle.wb_flow.specs.declared.vertex.Vertex.{Vertex}
+use Rattle.wb_flow.specs.declared.vertex.Vertex.TheVariants as v
+use Rattle.wb_flow.specs.Graphs.{IsFlowGraph}
+use Rattle.wb_flow.specs.Occurrences.{IsIndexOf}
+use Rattle.wb_flow.specs.Refusals.{LacksForwardNeed, ReachesOutside, IsFlowCycle}
+use Rattle.wb_flow.specs.Vertices.{vertex_of}
+use Rattle.wb_resolved.specs.declared.attributes.Direction.TheVariants.{Synthesized, Inherited}
+use Rattle.wb_resolved.specs.declared.attributes.Occurrence.{Occurrence}
+use Rattle.wb_resolved.specs.declared.attribution.AttributionParts.{AttributionParts}
+use Rattle.wb_resolved.specs.declared.production.Production.{Production}
+use Rattle.wb_resolved.specs.Attribution.{IsAttribution}
+
+-- the vertex is that of the synthesized attribute, or that of the forwarded tree where none is given
+abbrev pub IsSource : AttributionParts → Vertex → Option ℕ → Type 0
+IsSource a vertex (Some attribute) = (vertex ≡ v.Top attribute) × Goes a Synthesized attribute
+IsSource a vertex None = vertex ≡ v.ForwardTree
+
+-- its flow type has the inherited attribute
+abbrev pub Allows : AttributionParts → Production → Option ℕ → ℕ → Type 0
+Allows a production (Some attribute) inherited = Needs a attribute production.left inherited
+Allows a production None inherited = ForwardNeeds a production.left inherited
+
+-- what the vertex reaches is in its flow type, where it has one
+abbrev pub KeepsFrom : AttributionParts → Production → Vertex → Type 0
+KeepsFrom a production vertex = (source : Option ℕ) (i : ℕ) → IsSource a vertex source
+    → Reaches a production (vertex_of a vertex) (top_inherited i) → Allows a production source i
+
+-- the vertex is this inherited attribute of the top, is reached, and isn't allowed
+abbrev pub IsOutside : AttributionParts → Vertex → Bool → List ℕ → ℕ → Type 0
+IsOutside a vertex reached allowed inherited =
+    (vertex ≡ v.Top inherited) × Goes a Inherited inherited × (reached ≡ true) × ¬ Contains allowed inherited
+
+-- the production keeps to its flow types
+abbrev pub KeepsAll : AttributionParts → Production → Type 0
+KeepsAll a production = KeepsFlowTypes a production × KeepsForwardFlowType a production
+
+-- the refusal tells that the production of this number doesn't keep to its flow types, unless memory is wanting
+abbrev pub RefusesReads : AttributionParts → ℕ → Production → AttributeRefusal → Type 0
+RefusesReads a number production (r.Reads shown attribute inherited) =
+    (shown ≡ number) × ReachesOutside a production attribute inherited
+RefusesReads a number production (r.NoMemory error) = Unit {0}
+RefusesReads a number production other = ⊥
+
+-- the refusal tells of a cycle in the production of this number, unless memory is wanting
+abbrev pub RefusesCycle : AttributionParts → ℕ → Production → AttributeRefusal → Type 0
+RefusesCycle a number production (r.Cycle shown vertices) = (shown ≡ number) × IsFlowCycle a production vertices
+RefusesCycle a number production (r.NoMemory error) = Unit {0}
+RefusesCycle a number production other = ⊥
+
+-- the production has this number in the attribution, whose occurrences are indexed, and the graph is its flow graph
+pub record IsTested (tested : Tested) : Type 0 where
+  pub attribution : IsAttribution tested.scope.now.attributes.now
+  pub index : IsIndexOf tested.scope.now.attributes.now.occurrences tested.scope.now.index.now
+  pub there : IsProduction tested.scope.now.attributes.now tested.number tested.production.now
+  pub graph : IsFlowGraph tested.scope.now.attributes.now tested.production.now tested.graph.now
+
+-- the flow type of the occurrence has what that of its nonterminal's forward has, where its attribute is synthesized
+abbrev pub HoldsForward : AttributionParts → Occurrence → Type 0
+HoldsForward a o = Goes a Synthesized o.attribute → (i : ℕ) → ForwardNeeds a o.nonterminal i → Contains o.needs i
+
+-- the refusal tells that a flow type lacks what that of a forward has, unless memory is wanting
+abbrev pub RefusesForward : AttributionParts → AttributeRefusal → Type 0
+RefusesForward a (r.LacksForward nonterminal attribute inherited) = LacksForwardNeed a nonterminal attribute inherited
+RefusesForward a (r.NoMemory error) = Unit {0}
+RefusesForward a other = ⊥
+
+-- the refusal tells of some production that it doesn't keep to its flow types, unless memory is wanting
+abbrev pub RefusesAnyReads : AttributionParts → AttributeRefusal → Type 0
+RefusesAnyReads a refusal =
+    (number : ℕ) × (production : Production) × IsProduction a number production × RefusesReads a number production refusal
+
+-- the refusal tells of a cycle in some production, unless memory is wanting
+abbrev pub RefusesAnyCycle : AttributionParts → AttributeRefusal → Type 0
+RefusesAnyCycle a refusal =
+    (number : ℕ) × (production : Production) × IsProduction a number production × RefusesCycle a number production refusal

@@ -1,0 +1,14 @@
+-- which vertex of the definitions a vertex names
+pub mod Vertices
+-- what is a production's flow graph
+pub mod Graphs
+-- which equations are for a vertex
+pub mod Rules
+-- occurrences by nonterminal
+pub mod Occurrences
+-- what the tests of flow types and cycles ask, and when each refusal is true
+pub mod Refusals
+-- that they have at most one answer
+pub mod OneAnswer
+-- what loops keep, and words of private functions
+pub mod Inner

@@ -1,0 +1,139 @@
+//! Which attributes occur on a nonterminal?
+//!
+//! Occurrences are listed in any order, and each production asks for those on a few nonterminals; so their numbers are kept by nonterminal.
+
+ghost use Rattle.std.specs.Prelude.{◌≡◌, ◌⊎◌, ◌↔◌, ◌<◌, ℕ, Some, Contains, IfOk, OnOk, IsTrue, [], length, slice_get, slice_index_or};
+ghost use Rattle.wb_attributes.specs.Occurrences.{Goes, Needs, ForwardNeeds};
+ghost use Rattle.wb_flow.specs.Occurrences.{IsNumberOn, IsIndexOf};
+ghost use Rattle.wb_resolved.specs.declared.attributes.Direction.TheVariants.{Synthesized, Inherited};
+ghost use Rattle.wb_resolved.specs.Attribution.{IsAttribution};
+
+use std::alloc::{AllocError, Global};
+use std::marker::Model;
+use wb_base::push;
+use wb_resolved::{AttributionParts, Direction, Occurrence};
+
+/// The numbers of occurrences by the nonterminal that they are on.
+#[derive(Drop)]
+pub struct OccurrenceIndex {
+    rows: Vec<Vec<usize>>,
+}
+
+impl Model for OccurrenceIndex {
+    ghost use Rattle.std.specs.Prelude.{List, ℕ, map};
+
+    ghost Value = { List (List ℕ) };
+
+    ghost view = { λ index. map (λ row. row.items) index.rows.items };
+}
+
+impl OccurrenceIndex {
+    /// The index of these occurrences. The only error is want of memory.
+    pub fn new(alloc: Global, attributes: &AttributionParts) -> Result<OccurrenceIndex, AllocError>
+        requires { IsAttribution attributes.now }
+        ensures { IfOk result (IsIndexOf attributes.now.occurrences) }
+    {
+        let mut index = empty_index(alloc, attributes.nonterminals.len())?;
+        let occurrences = attributes.occurrences.as_slice();
+        'occurrences: for number in 0..occurrences.len() {
+            index.add(occurrences[number].nonterminal, number)?;
+        }
+        Ok(index)
+    }
+
+    /// The numbers of the occurrences on a nonterminal, in any order. Takes no memory.
+    pub fn on(&self, nonterminal: usize) -> &[usize]
+        ensures { result.now ≡ slice_index_or self.now nonterminal [] }
+    {
+        if nonterminal < self.rows.len() {
+            &self.rows[nonterminal]
+        } else {
+            &[]
+        }
+    }
+
+    // Adds the number of an occurrence on a nonterminal.
+    fn add(&mut self, nonterminal: usize, number: usize) -> Result<(), AllocError>
+        requires { nonterminal < length self.old }
+        ensures len { length self.new ≡ length self.old }
+        ensures ok { OnOk result ((m k : ℕ) → Contains (slice_index_or self.new m []) k ↔ (Contains (slice_index_or self.old m []) k ⊎ ((m ≡ nonterminal) × (k ≡ number)))) }
+    {
+        push(&mut self.rows[nonterminal], number)
+    }
+}
+
+// An index of no occurrences, with so many rows.
+fn empty_index(alloc: Global, count: usize) -> Result<OccurrenceIndex, AllocError>
+    ensures { IfOk result (λ index. (length index ≡ count) × ((m k : ℕ) → ¬ Contains (slice_index_or index m []) k)) }
+{
+    let mut rows = Vec::new(alloc);
+    'rows: for _ in 0..count {
+        push(&mut rows, Vec::new(alloc))?;
+    }
+    Ok(OccurrenceIndex { rows })
+}
+
+/// An attribution with the index of its occurrences.
+#[derive(Clone, Copy)]
+pub struct Scope<'a> {
+    /// The attribution.
+    pub attributes: &'a AttributionParts,
+    /// The index of its occurrences.
+    pub index: &'a OccurrenceIndex,
+}
+
+impl<'a> Scope<'a> {
+    /// The occurrence of a number. Takes no memory.
+    pub fn occurrence(&self, number: usize) -> &'a Occurrence
+        requires { number < length self.now.attributes.now.occurrences }
+        ensures { slice_get self.now.attributes.now.occurrences number ≡ Some result.now }
+    {
+        &self.attributes.occurrences.as_slice()[number]
+    }
+
+    /// Whether the values of an attribute go up. Takes no memory.
+    pub fn is_synthesized(&self, attribute: usize) -> bool
+        ensures { IsTrue result ↔ Goes self.now.attributes.now Synthesized attribute }
+    {
+        let attributes = self.attributes.attributes.as_slice();
+        attribute < attributes.len()
+            && matches!(attributes[attribute].direction, Direction::Synthesized)
+    }
+
+    /// Whether the values of an attribute go down. Takes no memory.
+    pub fn is_inherited(&self, attribute: usize) -> bool
+        ensures { IsTrue result ↔ Goes self.now.attributes.now Inherited attribute }
+    {
+        let attributes = self.attributes.attributes.as_slice();
+        attribute < attributes.len()
+            && matches!(attributes[attribute].direction, Direction::Inherited)
+    }
+
+    /// The flow type of an attribute on a nonterminal, and nothing where it doesn't occur there. Takes no memory, and time linear in the
+    /// occurrences on the nonterminal.
+    pub fn needs(&self, attribute: usize, nonterminal: usize) -> &'a [usize]
+        requires attribution { IsAttribution self.now.attributes.now }
+        requires index { IsIndexOf self.now.attributes.now.occurrences self.now.index.now }
+        ensures { (i : ℕ) → Contains result.now i ↔ Needs self.now.attributes.now attribute nonterminal i }
+    {
+        'occurrences: for &number in self.index.on(nonterminal) {
+            let occurrence = self.occurrence(number);
+            if occurrence.attribute == attribute {
+                return occurrence.needs.as_slice();
+            }
+        }
+        &[]
+    }
+
+    /// The flow type of the forward of a nonterminal. Takes no memory.
+    pub fn forward_needs(&self, nonterminal: usize) -> &'a [usize]
+        ensures { (i : ℕ) → Contains result.now i ↔ ForwardNeeds self.now.attributes.now nonterminal i }
+    {
+        let nonterminals = self.attributes.nonterminals.as_slice();
+        if nonterminal < nonterminals.len() {
+            nonterminals[nonterminal].forward_needs.as_slice()
+        } else {
+            &[]
+        }
+    }
+}
