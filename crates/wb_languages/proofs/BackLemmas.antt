@@ -1,5 +1,5 @@
 -- Where valid items come from, and trees that begin with a stack.
-use Rattle.std.proofs.Common.{List, [], ap, append_assoc, arith, inl, inr, refl, subst, sym, ℕ, ◌++◌, ◌+◌, ◌-◌, ◌∙◌, ◌∷◌, ◌≡◌, ◌⊎◌}
+use Rattle.std.proofs.Common.{List, [], ap, append_assoc, arith, inl, inr, refl, subst, sym, ℕ, ◌++◌, ◌+◌, ◌∙◌, ◌∷◌, ◌≡◌, ◌⊎◌}
 use Rattle.wb_base.specs.Grammar.{GrammarView}
 use Rattle.wb_base.specs.declared.symbol.Symbol.{Symbol}
 use Rattle.wb_base.specs.declared.symbol.Symbol.TheVariants.{Nonterminal, Terminal}
@@ -12,7 +12,8 @@ use Rattle.wb_grammars.specs.Productions.{IsProduction, end_of, right_in, top_of
 use Rattle.wb_grammars.specs.Shape.{IsLive}
 use Rattle.wb_grammars.specs.Trees.{DerivationTree, Forest, IsDerived, Leaf, leaf, leaves, node, nothing, symbols}
 use Rattle.wb_grammars.specs.declared.item.Item.{Item}
-use Rattle.wb_languages.proofs.ForestLemmas.{append_nil, derived_joined, derived_left, derived_right, joined_assoc, leaves_joined, symbols_joined}
+use Rattle.wb_languages.proofs.ForestLemmas.{append_nil, derived_joined, derived_left, derived_right, joined_assoc, leaves_joined}
+use Rattle.wb_languages.proofs.ForestLemmas.{symbols_joined}
 use Rattle.wb_languages.specs.Inner.Machine.{HasTrees, joined}
 
 -- what stands before the dot is the end of the prefix
@@ -35,7 +36,8 @@ back g (move item x rest prefix {t} {longer} {moved} v e longer_is moved_is) =
       below = b.below;
       before = b.before ++ x ∷ [];
       is = longer_is ∙ ap (λ z. z ++ x ∷ []) b.is ∙ append_assoc b.below b.before (x ∷ []);
-      right_is = append_assoc b.before (x ∷ []) (after_dot g moved) ∙ ap (λ z. b.before ++ x ∷ z) e' ∙ ap (λ z. b.before ++ z) (sym e) ∙ b.right_is
+      right_is = append_assoc b.before (x ∷ []) (after_dot g moved) ∙ ap (λ z. b.before ++ x ∷ z) e' ∙ ap (λ z. b.before ++ z) (sym e)
+          ∙ b.right_is
           ∙ ap (right_in g.productions g.start) (sym p);
       opened = subst (λ z. IsValidItem g b.below (initial_item z) t) (sym p) b.opened;
     }
@@ -51,11 +53,22 @@ pub record OpenedBy (g : GrammarView) (prefix : List Symbol) (q : ℕ) : Type 0 
   pub is_valid : IsValidItem g prefix item t
   pub before_dot : after_dot g item ≡ Nonterminal left ∷ rest
 
-pub opened_by : (g : GrammarView) {prefix : List Symbol} {item : Item} {u : ℕ} (q : ℕ) → IsValidItem g prefix item u → item ≡ initial_item q → ((q ≡ top_of g) × (prefix ≡ [])) ⊎ OpenedBy g prefix q
+pub opened_by : (g : GrammarView) {prefix : List Symbol} {item : Item} {u : ℕ} (q : ℕ) → IsValidItem g prefix item u →
+    item ≡ initial_item q → ((q ≡ top_of g) × (prefix ≡ [])) ⊎ OpenedBy g prefix q
 opened_by g q start e = inl (sym (ap (λ i. i.production) e), refl)
 opened_by g q (close item t b rest p u right v is rule f) e =
     let h : p ≡ q = ap (λ i. i.production) e in
-    inr (record { left = b; right = right; rule = subst (λ z. IsProduction g z b right) h rule; item = item; rest = rest; t = t; is_valid = v; before_dot = is })
+    inr (record {
+      left = b;
+      right = right;
+      rule = subst (λ z. IsProduction g z b right) h rule;
+      item = item;
+      rest = rest;
+      t = t;
+      is_valid =
+          v;
+      before_dot = is;
+    })
 opened_by g q (move item x rest prefix v is longer_is moved_is) e =
     let h : item.dot + 1 ≡ 0 = sym (ap (λ i. i.dot) moved_is) ∙ ap (λ i. i.dot) e in absurd (omega arith)
 
@@ -73,11 +86,25 @@ parts_of nothing (x ∷ u) v e = cc
 parts_of (leaf t l r) (x ∷ u) v e =
     let p = parts_of r u v (cc) in
     let h : Terminal t ≡ x = cc in
-    record { left = leaf t l p.left; right = p.right; is = ap (λ z. leaf t l z) p.is; left_is = ap (λ z. Terminal t ∷ z) p.left_is ∙ ap (λ z. z ∷ u) h; right_is = p.right_is }
+    record {
+      left = leaf t l p.left;
+      right = p.right;
+      is = ap (λ z. leaf t l z) p.is;
+      left_is = ap (λ z. Terminal t ∷ z) p.left_is
+          ∙ ap (λ z. z ∷ u) h;
+      right_is = p.right_is;
+    }
 parts_of (node n a k r) (x ∷ u) v e =
     let p = parts_of r u v (cc) in
     let h : Nonterminal a ≡ x = cc in
-    record { left = node n a k p.left; right = p.right; is = ap (λ z. node n a k z) p.is; left_is = ap (λ z. Nonterminal a ∷ z) p.left_is ∙ ap (λ z. z ∷ u) h; right_is = p.right_is }
+    record {
+      left = node n a k p.left;
+      right = p.right;
+      is = ap (λ z. node n a k z) p.is;
+      left_is = ap (λ z. Nonterminal a ∷ z) p.left_is
+          ∙ ap (λ z. z ∷ u) h;
+      right_is = p.right_is;
+    }
 
 -- what a reduction does to a stack: it accepts, or the right side stands on top_of and the stack stays one of a prefix
 pub record Reduced (g : GrammarView) (stack : Forest) (p : ℕ) : Type 0 where
@@ -88,7 +115,8 @@ pub record Reduced (g : GrammarView) (stack : Forest) (p : ℕ) : Type 0 where
   pub rule : IsProduction g p left (symbols children)
   pub prefix : IsViablePrefix g (symbols (joined below (node p left children nothing)))
 
-pub reduction_finds : (g : GrammarView) → IsLive g → (stack : Forest) (p t : ℕ) → CanReduce g (symbols stack) p t → ((p ≡ top_of g) × (t ≡ end_of g) × (symbols stack ≡ Nonterminal g.start ∷ [])) ⊎ Reduced g stack p
+pub reduction_finds : (g : GrammarView) → IsLive g → (stack : Forest) (p t : ℕ) → CanReduce g (symbols stack) p t →
+    ((p ≡ top_of g) × (t ≡ end_of g) × (symbols stack ≡ Nonterminal g.start ∷ [])) ⊎ Reduced g stack p
 reduction_finds g live stack p t can =
     let item : Item = can.item in
     let p_is : item.production ≡ p = can.production in
@@ -96,7 +124,8 @@ reduction_finds g live stack p t can =
     let (other, same, v) = can.lookahead in
     let (u, v') = kernel_decides live v (symbols stack) (λ i. ((same i).1, (same i).0)) in
     let b = back g v' in
-    let r : b.before ≡ right_in g.productions g.start item.production = sym (append_nil b.before) ∙ ap (λ z. b.before ++ z) (sym complete) ∙ b.right_is in
+    let r : b.before ≡ right_in g.productions g.start item.production = sym (append_nil b.before) ∙ ap (λ z. b.before ++ z) (sym complete)
+    ∙ b.right_is in
     elim (opened_by g item.production b.opened refl) [
       | inl (is_top, empty) ↦ inl (
         sym p_is ∙ is_top,
@@ -117,7 +146,8 @@ reduction_finds g live stack p t can =
               advance o.item,
               o.t,
               move o.item (Nonterminal o.left) o.rest b.below o.is_valid o.before_dot
-                  (symbols_joined parts.left (node p o.left parts.right nothing) ∙ ap (λ z. z ++ Nonterminal o.left ∷ []) parts.left_is) refl,
+                  (symbols_joined parts.left (node p o.left parts.right nothing)
+                  ∙ ap (λ z. z ++ Nonterminal o.left ∷ []) parts.left_is) refl,
             );
           })
     ]
@@ -137,15 +167,19 @@ shorter g stack f w = record {
   is = w.is ∙ ap (λ z. z ++ w.rest) (leaves_joined [] stack f) ∙ append_assoc (leaves [] stack) (leaves (symbols stack) f) w.rest;
 }
 
-pub whole_from : (g : GrammarView) → HasTrees g → {prefix : List Symbol} {item : Item} {t : ℕ} → IsValidItem g prefix item t → (stack f : Forest) → IsDerived g stack → symbols stack ≡ prefix → IsDerived g f → symbols f ≡ after_dot g item → Whole g (joined stack f)
-whole_from g productive start nothing f ds e df is = record { tree = f; is_tree = record { derived = df; root = is ∙ after_start g }; rest = []; is = sym (append_nil (leaves [] f)) }
+pub whole_from : (g : GrammarView) → HasTrees g → {prefix : List Symbol} {item : Item} {t : ℕ} → IsValidItem g prefix item t →
+    (stack f : Forest) → IsDerived g stack → symbols stack ≡ prefix → IsDerived g f → symbols f ≡ after_dot g item →
+    Whole g (joined stack f)
+whole_from g productive start nothing f ds e df is =
+    record { tree = f; is_tree = record { derived = df; root = is ∙ after_start g }; rest = []; is = sym (append_nil (leaves [] f)) }
 whole_from g productive start (leaf t l r) f ds e df is = cc
 whole_from g productive start (node p a k r) f ds e df is = cc
 whole_from g productive (close item t b rest q u right {prefix} v is_b rule first) stack f ds e df is =
     let (later, dl, later_is) = productive (advance item) in
     let named : symbols later ≡ rest = later_is ∙ after_advance g item (Nonterminal b) rest is_b in
     let right_is : symbols f ≡ right = is ∙ after_initial g q b right rule in
-    let w = whole_from g productive v stack (node q b f later) ds e (subst (λ z. IsProduction g q b z) (sym right_is) rule, df, dl) (ap (λ z. Nonterminal b ∷ z) named ∙ sym is_b) in
+    let w = whole_from g productive v stack (node q b f later) ds e (subst (λ z. IsProduction g q b z) (sym right_is) rule, df, dl)
+    (ap (λ z. Nonterminal b ∷ z) named ∙ sym is_b) in
     record {
       tree = w.tree;
       is_tree = w.is_tree;

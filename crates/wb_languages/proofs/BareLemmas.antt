@@ -1,5 +1,6 @@
 -- Where forms are bare and preferences without a cycle order what matches one text, one form beats the other.
-use Rattle.std.proofs.Common.{◌≡◌, ◌≢◌, ◌<◌, ◌≤◌, ◌+◌, ◌-◌, ◌⊎◌, ℕ, zero, suc, List, [], ◌∷◌, ◌++◌, length, length-append, refl, sym, ◌∙◌, ap, subst, inl, inr, arith}
+use Rattle.std.proofs.Common.{◌≡◌, ◌≢◌, ◌<◌, ◌+◌, ◌⊎◌, ℕ, zero, suc, List, [], ◌∷◌, length, length-append, refl, sym, ◌∙◌, ap, subst, inl}
+use Rattle.std.proofs.Common.{inr, arith}
 use Rattle.std.specs.Prelude.{slice_get, Some, Contains, map}
 use Rattle.std.proofs.lemmas.Option.{slice_get_within}
 use Rattle.wb_lemmas.proofs.Places.{at_once, at_within, at_append}

@@ -1,14 +1,13 @@
 -- A deterministic grammar is one on which the machine runs, and tables decide what it does.
-use Rattle.std.proofs.Common.{◌≡◌, ◌≢◌, ◌<◌, ◌≤◌, ◌+◌, ◌⊎◌, ℕ, zero, suc, List, [], ◌∷◌, ◌++◌, length, refl, sym, ◌∙◌, ap, subst, inl, inr, arith}
+use Rattle.std.proofs.Common.{◌≡◌, ◌<◌, ◌≤◌, ◌+◌, ℕ, zero, suc, List, [], ◌∷◌, ◌++◌, length, refl, sym, ◌∙◌, ap, subst, inl, inr, arith}
 use Rattle.std.specs.Prelude.{All, slice_get, Some}
 use Rattle.std.proofs.lemmas.List.Elements.{All-head, All-tail, All-same}
 use Rattle.wb_base.specs.declared.symbol.Symbol.{Symbol}
 use Rattle.wb_base.specs.declared.symbol.Symbol.TheVariants.{Terminal, Nonterminal}
 use Rattle.wb_base.specs.Grammar.{GrammarView, Production, IsGrammar, IsSymbolBelow}
 use Rattle.wb_grammars.specs.declared.item.Item.{Item}
-use Rattle.wb_grammars.specs.Productions.{IsProduction, end_of}
-use Rattle.wb_grammars.specs.Derives.{Derives, IsText}
-use Rattle.wb_grammars.specs.Trees.{Forest, nothing, leaf, node, symbols, IsDerived}
+use Rattle.wb_grammars.specs.Productions.{end_of}
+use Rattle.wb_grammars.specs.Trees.{Forest, nothing, leaf, symbols, IsDerived}
 use Rattle.wb_grammars.specs.Items.{after_dot, HasItem, IsViablePrefix, SameKernel}
 use Rattle.wb_grammars.specs.Shape.{IsProductive, IsLive}
 use Rattle.wb_grammars.specs.Lookaheads.{CanShift, CanReduce}
@@ -18,13 +17,13 @@ use Rattle.wb_grammars.proofs.KernelLemmas.{kernel_decides}
 use Rattle.wb_grammars.proofs.ProductionLemmas.{production_below}
 use Rattle.wb_grammars.proofs.ValidLemmas.{shift_kept, reduction_kept, same_valid}
 use Rattle.wb_grammars.proofs.FlowLemmas.{same_back}
-use Rattle.wb_items.specs.Kernels.{KernelsView, AreKernels, count_of, prefix_of}
+use Rattle.wb_items.specs.Kernels.{KernelsView, AreKernels, prefix_of}
 use Rattle.wb_lookahead.specs.declared.action.Action.{Action}
 use Rattle.wb_lookahead.specs.declared.action.Action.TheVariants as act
 use Rattle.wb_lookahead.specs.declared.action.Action.TheVariants.{Shift, Reduce, Accept}
 use Rattle.wb_lookahead.specs.Contents.{TablesView, action_of}
-use Rattle.wb_lookahead.specs.Tables.{AreTables, IsAction}
-use Rattle.wb_languages.specs.Bounds.{IsSized, HasNoCycle}
+use Rattle.wb_lookahead.specs.Tables.{IsAction}
+use Rattle.wb_languages.specs.Bounds.{IsSized}
 use Rattle.wb_languages.specs.Facts.{IsDeterministic}
 use Rattle.wb_languages.specs.Parts.{AreTablesOf, IsPrefixOf}
 use Rattle.wb_languages.specs.Inner.Machine.{joined, HasTrees, IsParsable, Decision, shifts, reduces, stuck}

@@ -1,5 +1,5 @@
 -- The machine follows each tree.
-use Rattle.std.proofs.Common.{List, [], ap, append_assoc, refl, subst, sym, ℕ, ◌++◌, ◌+◌, ◌-◌, ◌∙◌, ◌∷◌, ◌≡◌}
+use Rattle.std.proofs.Common.{List, [], ap, append_assoc, refl, subst, sym, ℕ, ◌++◌, ◌∙◌, ◌∷◌, ◌≡◌}
 use Rattle.wb_base.specs.Grammar.{GrammarView}
 use Rattle.wb_base.specs.declared.symbol.Symbol.{Symbol}
 use Rattle.wb_base.specs.declared.symbol.Symbol.TheVariants.{Nonterminal, Terminal}
@@ -20,10 +20,13 @@ pub record Along (g : GrammarView) (prefix : List Symbol) (p u : ℕ) (more : Li
   pub is_valid : IsValidItem g prefix item u
   pub after : after_dot g item ≡ more
 
-pub along : (g : GrammarView) (w more prefix : List Symbol) (item : Item) (u : ℕ) → IsValidItem g prefix item u → after_dot g item ≡ w ++ more → Along g (prefix ++ w) item.production u more
-along g [] more prefix item u v e = record { item = item; of_production = refl; is_valid = subst (λ z. IsValidItem g z item u) (sym (append_nil prefix)) v; after = e }
+pub along : (g : GrammarView) (w more prefix : List Symbol) (item : Item) (u : ℕ) → IsValidItem g prefix item u →
+    after_dot g item ≡ w ++ more → Along g (prefix ++ w) item.production u more
+along g [] more prefix item u v e =
+    record { item = item; of_production = refl; is_valid = subst (λ z. IsValidItem g z item u) (sym (append_nil prefix)) v; after = e }
 along g (x ∷ w) more prefix item u v e =
-    let i = along g w more (prefix ++ x ∷ []) (advance item) u (move item x (w ++ more) prefix v e refl refl) (after_advance g item x (w ++ more) e) in
+    let i = along g w more (prefix ++ x ∷ []) (advance item) u (move item x (w ++ more) prefix v e refl refl)
+    (after_advance g item x (w ++ more) e) in
     subst (λ z. Along g z item.production u more) (append_assoc prefix (x ∷ []) w) i
 
 pub can_reduce : (g : GrammarView) (prefix : List Symbol) (p u : ℕ) → Along g prefix p u [] → CanReduce g prefix p u
@@ -35,7 +38,8 @@ can_reduce g prefix p u a = record {
   lookahead = (prefix, same_itself g prefix, a.is_valid);
 }
 
-pub follow : (g : GrammarView) (f stack tree : Forest) (item : Item) (u : ℕ) (xs : List Leaf) → IsDerived g f → IsValidItem g (symbols stack) item u → after_dot g item ≡ symbols f → ahead (end_of g) xs ≡ u
+pub follow : (g : GrammarView) (f stack tree : Forest) (item : Item) (u : ℕ) (xs : List Leaf) → IsDerived g f →
+    IsValidItem g (symbols stack) item u → after_dot g item ≡ symbols f → ahead (end_of g) xs ≡ u
     → Accepts g (joined stack f) xs tree → Accepts g stack (leaves (symbols stack) f ++ xs) tree
 follow g nothing stack tree item u xs d v e next go = subst (λ z. Accepts g z xs tree) (joined_none stack) go
 follow g (leaf t l r) stack tree item u xs d v e next go =
@@ -44,7 +48,8 @@ follow g (leaf t l r) stack tree item u xs d v e next go =
     let v' : IsValidItem g (symbols pushed) (advance item) u = move item (Terminal t) (symbols r) (symbols stack) v e named refl in
     let i = follow g r pushed tree (advance item) u xs d v' (after_advance g item (Terminal t) (symbols r) e) next
     (subst (λ z. Accepts g z xs tree) (sym (joined_assoc stack (leaf t l nothing) r)) go) in
-    shift (record { context = symbols stack; terminal = t; text = l }) (record { item = item; rest = symbols r; has = (u, v); before_dot = e }) refl
+    shift (record { context = symbols stack; terminal = t; text = l })
+    (record { item = item; rest = symbols r; has = (u, v); before_dot = e }) refl
     (subst (λ z. Accepts g pushed (leaves z r ++ xs) tree) named i)
 follow g (node p a k r) stack tree item u xs (rule, dk, dr) v e next go =
     let pushed : Forest = joined stack (node p a k nothing) in

@@ -1,5 +1,5 @@
 -- Laws of forests.
-use Rattle.std.proofs.Common.{List, [], ap, append_assoc, arith, refl, sym, ℕ, ◌++◌, ◌+◌, ◌-◌, ◌∙◌, ◌∷◌, ◌≡◌}
+use Rattle.std.proofs.Common.{List, [], ap, append_assoc, arith, refl, sym, ℕ, ◌++◌, ◌+◌, ◌∙◌, ◌∷◌, ◌≡◌}
 use Rattle.wb_base.specs.Grammar.{GrammarView}
 use Rattle.wb_base.specs.declared.symbol.Symbol.{Symbol}
 use Rattle.wb_base.specs.declared.symbol.Symbol.TheVariants.{Nonterminal, Terminal}
@@ -34,10 +34,12 @@ pub leaves_joined : (prefix : List Symbol) (a b : Forest) → leaves prefix (joi
 leaves_joined prefix nothing b = ap (λ z. leaves z b) (sym (append_nil prefix))
 leaves_joined prefix (leaf t l r) b =
     ap (λ z. record { context = prefix; terminal = t; text = l } ∷ z)
-    (leaves_joined (prefix ++ Terminal t ∷ []) r b ∙ ap (λ z. leaves (prefix ++ Terminal t ∷ []) r ++ leaves z b) (append_assoc prefix (Terminal t ∷ []) (symbols r)))
+    (leaves_joined (prefix ++ Terminal t ∷ []) r b
+    ∙ ap (λ z. leaves (prefix ++ Terminal t ∷ []) r ++ leaves z b) (append_assoc prefix (Terminal t ∷ []) (symbols r)))
 leaves_joined prefix (node p a k r) b =
     ap (λ z. leaves prefix k ++ z)
-    (leaves_joined (prefix ++ Nonterminal a ∷ []) r b ∙ ap (λ z. leaves (prefix ++ Nonterminal a ∷ []) r ++ leaves z b) (append_assoc prefix (Nonterminal a ∷ []) (symbols r)))
+    (leaves_joined (prefix ++ Nonterminal a ∷ []) r b
+    ∙ ap (λ z. leaves (prefix ++ Nonterminal a ∷ []) r ++ leaves z b) (append_assoc prefix (Nonterminal a ∷ []) (symbols r)))
     ∙ sym (append_assoc (leaves prefix k) (leaves (prefix ++ Nonterminal a ∷ []) r) (leaves (prefix ++ Nonterminal a ∷ symbols r) b))
 
 pub derived_joined : (g : GrammarView) (a b : Forest) → IsDerived g a → IsDerived g b → IsDerived g (joined a b)
@@ -81,7 +83,8 @@ joined_split (node p n k r) (node p' n' k' r') b b' s e =
     (let h : r ≡ r' = i.0 in cc, i.1)
 
 -- what is ahead of a forest is in IsFirst of its symbols and what follows
-pub forest_first : (g : GrammarView) (prefix : List Symbol) (f : Forest) (u : ℕ) → IsDerived g f → IsFirst g (symbols f ++ Terminal u ∷ []) (ahead u (leaves prefix f))
+pub forest_first : (g : GrammarView) (prefix : List Symbol) (f : Forest) (u : ℕ) → IsDerived g f →
+    IsFirst g (symbols f ++ Terminal u ∷ []) (ahead u (leaves prefix f))
 forest_first g prefix f u d = go (leaves prefix f) (forest_derives g prefix f d)
   where
     go : (xs : List Leaf) → Derives g (symbols f) (text_of xs) → IsFirst g (symbols f ++ Terminal u ∷ []) (ahead u xs)

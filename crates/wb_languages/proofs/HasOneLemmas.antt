@@ -1,6 +1,5 @@
 -- Where forms are decided, one wins.
-use Rattle.std.proofs.Common.{◌≡◌, ℕ, List, inl, inr}
-use Rattle.wb_base.specs.declared.symbol.Symbol.{Symbol}
+use Rattle.std.proofs.Common.{inl, inr}
 use Rattle.wb_lookahead.specs.Contents.{TablesView}
 use Rattle.wb_languages.specs.Languages.{LanguageView}
 use Rattle.wb_languages.specs.Facts.{IsWritten, AreDecided, HasOneWinner}
@@ -12,8 +11,9 @@ use Rattle.wb_languages.proofs.WinnerLemmas.{one_winner, won_or_none}
 pub has_one : (l : LanguageView) (tables : TablesView) → IsWritten l → AreTablesOf l.grammar tables → AreDecided l → HasOneWinner l
 has_one l tables written tables_of decided = record {
   one = λ prefix text at place other piece same w v. (one_winner decided w v).0;
-  some = λ prefix viable text at place piece m. elim (won_or_none decided prefix viable text at (considers written tables_of prefix viable)) [
-    | inl won ↦ won
-    | inr out ↦ absurd (out place piece m)
-  ];
+  some = λ prefix viable text at place piece m. elim
+      (won_or_none decided prefix viable text at (considers written tables_of prefix viable)) [
+        | inl won ↦ won
+        | inr out ↦ absurd (out place piece m)
+      ];
 }

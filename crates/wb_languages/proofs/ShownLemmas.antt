@@ -1,11 +1,9 @@
 -- A derivation tree fits signatures that agree with its grammar.
 use Rattle.std.proofs.Common.{◌≡◌, ℕ, List, [], ◌∷◌, refl, sym, ◌∙◌, ap, subst}
-use Rattle.std.specs.Prelude.{map, slice_get, Some}
-use Rattle.wb_base.specs.declared.symbol.Symbol.{Symbol}
-use Rattle.wb_base.specs.declared.symbol.Symbol.TheVariants.{Terminal, Nonterminal}
+use Rattle.std.specs.Prelude.{map}
+use Rattle.wb_base.specs.declared.symbol.Symbol.TheVariants.{Nonterminal}
 use Rattle.wb_base.specs.declared.symbol.Kind.TheVariants as kind
 use Rattle.wb_base.specs.Grammar.{GrammarView}
-use Rattle.wb_grammars.specs.Productions.{IsProduction}
 use Rattle.wb_grammars.specs.Trees.{Forest, nothing, leaf, node, symbols, IsDerived, DerivationTree}
 use Rattle.wb_values.specs.Tree.{Tree, Value, Values, empty, more, plain, text, tree}
 use Rattle.wb_values.specs.Tree as values

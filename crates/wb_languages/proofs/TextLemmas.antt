@@ -1,11 +1,10 @@
 -- Each text has one answer: a tree or a stop.
 use Rattle.std.proofs.Common.{◌≡◌, ℕ, List, length, arith}
-use Rattle.wb_base.specs.declared.symbol.Symbol.{Symbol}
 use Rattle.wb_grammars.specs.Trees.{Forest}
 use Rattle.wb_lookahead.specs.Contents.{TablesView}
 use Rattle.wb_languages.specs.declared.stop_kind.StopKind.{StopKind}
 use Rattle.wb_languages.specs.Languages.{LanguageView}
-use Rattle.wb_languages.specs.Tokens.{Next, NextToken}
+use Rattle.wb_languages.specs.Tokens.{NextToken}
 use Rattle.wb_languages.specs.Texts.{ParsesTo, StopsAt, HasAnswer}
 use Rattle.wb_languages.specs.Facts.{IsLanguage}
 use Rattle.wb_languages.specs.Parts.{AreTablesOf}
@@ -39,6 +38,7 @@ pub some_answer : (l : LanguageView) (tables : TablesView) → IsLanguage l → 
 some_answer l tables ok tables_of text =
     answer l.grammar l.grammar.nonterminals (widest l.grammar.productions) (parsable l.grammar ok.deterministic)
     (λ prefix t viable le. decision tables_of prefix t viable le) (NextToken l text) (is_one l ok text) (length text)
-    (λ prefix at viable within. some_next ok.written ok.winners prefix text viable (considers ok.written tables_of prefix viable) (length text) at
+    (λ prefix at viable within. some_next ok.written ok.winners prefix text viable (considers ok.written tables_of prefix viable)
+    (length text) at
     within (omega arith))
     (advances ok.written text)

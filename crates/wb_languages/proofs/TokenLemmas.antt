@@ -1,5 +1,6 @@
 -- One thing is next, and at each place of a text something is.
-use Rattle.std.proofs.Common.{◌≡◌, ◌≢◌, ◌⊎◌, ◌<◌, ◌≤◌, ◌+◌, ◌-◌, ℕ, zero, suc, List, [], ◌∷◌, ◌++◌, length, drop, refl, sym, ◌∙◌, ap, subst, inl, inr, arith, length-drop, length-append}
+use Rattle.std.proofs.Common.{◌≡◌, ◌⊎◌, ◌<◌, ◌≤◌, ◌+◌, ◌-◌, ℕ, zero, suc, List, [], ◌∷◌, ◌++◌, length, drop, refl, sym, ◌∙◌, ap, subst, inl}
+use Rattle.std.proofs.Common.{inr, arith, length-drop, length-append}
 use Rattle.std.specs.Prelude.{slice_get, Some}
 use Rattle.std.proofs.lemmas.Bool.{cases_eq, cases_order}
 use Rattle.std.proofs.lemmas.Option.{slice_get_within}
@@ -11,7 +12,7 @@ use Rattle.wb_languages.specs.declared.form.Form.{Form}
 use Rattle.wb_languages.specs.Languages.{LanguageView, IsLayout}
 use Rattle.wb_languages.specs.Winners.{IsConsideredForm, MatchesAt, Wins}
 use Rattle.wb_languages.specs.Tokens.{Next, token, over, missing, NextToken, skipped, wins, ends, fails}
-use Rattle.wb_languages.specs.Facts.{IsWritten, HasWinner, HasOneWinner, IsLanguage}
+use Rattle.wb_languages.specs.Facts.{IsWritten, HasOneWinner}
 use Rattle.wb_languages.specs.Inner.Machine.{Advances}
 use Rattle.wb_languages.proofs.WinnerLemmas.{piece_same, any_match}
 use Rattle.wb_languages.proofs.UniqueLemmas.{same_token}

@@ -1,5 +1,5 @@
 -- How many nodes a tree has, where no nonterminal derives itself.
-use Rattle.std.proofs.Common.{List, [], ap, arith, inl, inr, length, refl, subst, suc, sym, zero, ℕ, ◌+◌, ◌-◌, ◌<◌, ◌∙◌, ◌∷◌, ◌≡◌, ◌≤◌}
+use Rattle.std.proofs.Common.{List, [], ap, arith, inl, inr, length, refl, subst, suc, sym, zero, ℕ, ◌+◌, ◌<◌, ◌∙◌, ◌∷◌, ◌≡◌, ◌≤◌}
 use Rattle.std.proofs.lemmas.Bool.{cases_eq}
 use Rattle.wb_base.specs.Grammar.{GrammarView}
 use Rattle.wb_base.specs.declared.symbol.Symbol.{Symbol}
@@ -33,7 +33,14 @@ pub record Alone (g : GrammarView) (a b : ℕ) : Type 0 where
   pub derives : Derives g right (Nonterminal b ∷ [])
 
 alone_then : (g : GrammarView) (a b c : ℕ) → Alone g a b → Alone g b c → Alone g a c
-alone_then g a b c x y = record { p = x.p; right = x.right; rule = x.rule; derives = Derives-then x.derives (expand y.p b y.right (Nonterminal c ∷ []) [] y.rule y.derives done refl) }
+alone_then g a b c x y =
+    record {
+      p = x.p;
+      right = x.right;
+      rule = x.rule;
+      derives =
+          Derives-then x.derives (expand y.p b y.right (Nonterminal c ∷ []) [] y.rule y.derives done refl);
+    }
 
 abbrev pub AllAlone : GrammarView → List ℕ → ℕ → Type 0
 AllAlone g [] a = Unit {0}
@@ -49,7 +56,12 @@ member_alone g (c ∷ cs) b (inl e) (x, all) = subst (λ z. Alone g z b) (sym e)
 member_alone g (c ∷ cs) b (inr m) (x, all) = member_alone g cs b m all
 
 pub fresh_of : (g : GrammarView) → HasNoCycle g → (cs : List ℕ) (b : ℕ) → AllAlone g cs b → Fresh b cs
-fresh_of g acyclic cs b all = elim (member_or_fresh b cs) [ inl m ↦ (let x = member_alone g cs b m all in absurd (acyclic.unit b (x.p, x.right, x.rule, x.derives))) | inr f ↦ f ]
+fresh_of g acyclic cs b all =
+    elim (member_or_fresh b cs) [
+      | inl m ↦
+          (let x = member_alone g cs b m all in absurd (acyclic.unit b (x.p, x.right, x.rule, x.derives)))
+      | inr f ↦ f
+    ]
 
 pub pred_of : (d : ℕ) → 1 ≤ d → (e : ℕ) × (d ≡ suc e)
 pred_of zero h = absurd (omega arith)
@@ -61,16 +73,19 @@ copies_more w (suc m) zero h = absurd (omega arith)
 copies_more w (suc m) (suc n) h = let i : copies w m ≤ copies w n = copies_more w m n (omega arith) in omega arith
 
 -- the children of a node, where S are the nonterminals above it with the same leaves
-pub walk : (g : GrammarView) (many wide : ℕ) → IsSized g many wide → HasNoCycle g → (f before : Forest) (p a m d : ℕ) (cs : List ℕ) → IsDerived g before → IsDerived g f → IsProduction g p a (symbols (joined before f))
+pub walk : (g : GrammarView) (many wide : ℕ) → IsSized g many wide → HasNoCycle g → (f before : Forest) (p a m d : ℕ) (cs : List ℕ) →
+    IsDerived g before → IsDerived g f → IsProduction g p a (symbols (joined before f))
     → count before + count f ≤ m → AllBelow many (a ∷ cs) → Distinct (a ∷ cs) → AllAlone g cs a → many ≤ d + suc (length cs)
     → nodes f ≤ copies (fewer many wide m + row wide (fewer many wide m) d) (length (symbols f))
 walk g many wide sized acyclic nothing before p a m d cs db df rule few below distinct all enough = omega arith
 walk g many wide sized acyclic (leaf t l r) before p a m d cs db df rule few below distinct all enough =
     let w : ℕ = fewer many wide m + row wide (fewer many wide m) d in
-    let c : count (joined before (leaf t l nothing)) ≡ count before + 1 = count_joined before (leaf t l nothing) ∙ (let z : count (leaf t l nothing) ≡ 1 = refl in omega arith) in
+    let c : count (joined before (leaf t l nothing)) ≡ count before + 1 = count_joined before (leaf t l nothing)
+    ∙ (let z : count (leaf t l nothing) ≡ 1 = refl in omega arith) in
     let i : nodes r ≤ copies w (length (symbols r)) =
     walk g many wide sized acyclic r (joined before (leaf t l nothing)) p a m d cs (derived_joined g before (leaf t l nothing) db tt) df
-    (subst (λ z. IsProduction g p a (symbols z)) (sym (joined_assoc before (leaf t l nothing) r)) rule) (omega arith) below distinct all enough in
+    (subst (λ z. IsProduction g p a (symbols z)) (sym (joined_assoc before (leaf t l nothing) r)) rule)
+    (omega arith) below distinct all enough in
     omega arith
 walk g many wide sized acyclic (node q b k r) before p a m d cs db (rule_q, dk, dr) rule few below distinct all enough =
     let less : ℕ = fewer many wide m in
@@ -98,7 +113,8 @@ walk g many wide sized acyclic (node q b k r) before p a m d cs db (rule_q, dk, 
           let (d', is) = pred_of d (omega arith) in
           let v : ℕ = less + row wide less d' in
           let h : nodes k ≤ copies v (length (symbols k)) =
-          walk g many wide sized acyclic k nothing q b m d' (a ∷ cs) tt dk rule_q (omega arith) (b_below, below) (fresh, distinct) all' (omega arith) in
+          walk g many wide sized acyclic k nothing q b m d' (a ∷ cs) tt dk rule_q (omega arith) (b_below, below) (fresh, distinct) all'
+          (omega arith) in
           let s : copies v (length (symbols k)) ≤ copies v wide = copies_more v (length (symbols k)) wide k_wide in
           let t : row wide less d ≡ 1 + copies v wide = ap (row wide less) is in
           omega arith
@@ -116,7 +132,8 @@ walk g many wide sized acyclic (node q b k r) before p a m d cs db (rule_q, dk, 
     omega arith
 
 -- a tree with m leaves or fewer
-pub tree_bound : (g : GrammarView) (many wide : ℕ) → IsSized g many wide → HasNoCycle g → (q b : ℕ) (k : Forest) (m : ℕ) → IsProduction g q b (symbols k) → IsDerived g k → count k ≤ m → 1 + nodes k ≤ fewer many wide (suc m)
+pub tree_bound : (g : GrammarView) (many wide : ℕ) → IsSized g many wide → HasNoCycle g → (q b : ℕ) (k : Forest) (m : ℕ) →
+    IsProduction g q b (symbols k) → IsDerived g k → count k ≤ m → 1 + nodes k ≤ fewer many wide (suc m)
 tree_bound g many wide sized acyclic q b k m rule dk few =
     let b_below : b < many = sized.left q b (symbols k) rule in
     let k_wide : length (symbols k) ≤ wide = sized.right q b (symbols k) rule in

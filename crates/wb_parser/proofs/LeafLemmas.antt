@@ -1,6 +1,6 @@
 -- What becomes of a leaf.
-use Rattle.std.proofs.Common.{◌≡◌, ◌≢◌, ◌<◌, ◌≤◌, ◌+◌, ℕ, List, [], ◌∷◌, ◌++◌, length, refl, sym, ◌∙◌, ap, subst, append_assoc, arith, take}
-use Rattle.std.specs.Prelude.{All, Some, Option, slice_range}
+use Rattle.std.proofs.Common.{◌≡◌, ◌<◌, ℕ, List, [], ◌∷◌, ◌++◌, length, refl, sym, ◌∙◌, ap, subst, arith}
+use Rattle.std.specs.Prelude.{All}
 use Rattle.wb_base.specs.declared.symbol.Symbol.{Symbol}
 use Rattle.wb_base.specs.declared.symbol.Symbol.TheVariants.{Terminal, Nonterminal}
 use Rattle.wb_grammars.specs.Productions.{end_of}
@@ -8,15 +8,15 @@ use Rattle.wb_grammars.specs.Trees.{Forest, nothing, leaf, node, symbols}
 use Rattle.wb_grammars.specs.Lookaheads.{CanShift}
 use Rattle.wb_values.specs.Tree.{Tree, Values, empty, more, plain, text, tree}
 use Rattle.wb_values.specs.Tree as values
-use Rattle.wb_values.specs.ValuesIn.{tree_in, value_in, values_in, IsIn}
+use Rattle.wb_values.specs.ValuesIn.{tree_in, values_in, IsIn}
 use Rattle.wb_values.specs.declared.value.TreeId.{TreeId}
 use Rattle.wb_values.specs.declared.value.Value.{Value}
 use Rattle.wb_values.specs.declared.value.Value.TheVariants as stored
 use Rattle.wb_languages.specs.declared.stop_kind.StopKind.TheVariants.{Unexpected, NoToken}
 use Rattle.wb_languages.specs.Tokens.{Next, NextToken, token, over, missing}
-use Rattle.wb_languages.specs.Texts.{StopsAt, ParsesTo}
+use Rattle.wb_languages.specs.Texts.{StopsAt}
 use Rattle.wb_languages.specs.Facts.{IsLanguage}
-use Rattle.wb_languages.specs.Shown.{values_of, Shows}
+use Rattle.wb_languages.specs.Shown.{values_of}
 use Rattle.wb_languages.specs.Parts.{AreTablesOf, IsPrefixOf}
 use Rattle.wb_languages.specs.Inner.Machine.{joined, Keeps}
 use Rattle.wb_languages.proofs.ForestLemmas.{symbols_joined}
@@ -28,7 +28,7 @@ use Rattle.wb_parser.specs.declared.step.Outcome.{Outcome}
 use Rattle.wb_parser.specs.declared.step.Outcome.TheVariants.{Shifts, Reduced, Accepts, Stops}
 use Rattle.wb_parser.specs.declared.parsed.Parsed.{Parsed}
 use Rattle.wb_parser.specs.declared.parsed.Parsed.TheVariants as parsed
-use Rattle.wb_parser.specs.Parses.{IsTreeOf, IsParsed}
+use Rattle.wb_parser.specs.Parses.{IsParsed}
 use Rattle.wb_parser.specs.Inner.Stacks.{AreStates, last_or}
 use Rattle.wb_parser.specs.Inner.Steps.{IsAt, IsReady, CanGo, IsWhole, IsOutcome, IsReduced}
 use Rattle.wb_parser.proofs.StateLemmas.{at_top, leaf_push}
@@ -38,7 +38,8 @@ module _ (parts : LanguageParts) (ok : IsLanguage parts.language) (source : List
   -- what was scanned at the state on top is next
   pub scanned_at : AreTablesOf parts.language.grammar parts.tables → (states slice : List ℕ) (vs : List Value) (trees : List Tree)
       (at top : ℕ) (next : Next) → top ≡ last_or 0 slice → slice ≡ states →
-      ((prefix : List Symbol) → IsPrefixOf parts.language.grammar parts.tables top prefix → NextToken parts.language source prefix at next) →
+      ((prefix : List Symbol) → IsPrefixOf parts.language.grammar parts.tables top prefix →
+      NextToken parts.language source prefix at next) →
       (r : IsReady parts source states vs trees at) → NextToken parts.language source r.0 at next
   scanned_at of states slice vs trees at top next top_is slice_is found (prefix, is, same) =
       found prefix (subst (λ z. IsPrefixOf parts.language.grammar parts.tables z prefix) (sym (top_is ∙ ap (last_or 0) slice_is))
@@ -69,7 +70,8 @@ module _ (parts : LanguageParts) (ok : IsLanguage parts.language) (source : List
           states_are = subst (λ z. AreStates g parts.tables [] z new) (sym pushed_is)
               (leaf_push g parts.tables [] states c.is.stack target t lexeme c.is.states_are c.goes);
           values_are = ap (values_in trees) vs_is ∙ (values_in_append trees vs (stored.Text lexeme ∷ [])
-              ∙ (ap (λ z. appended z (more (plain (text lexeme)) empty)) first ∙ sym (values_of_joined c.is.stack (leaf t lexeme nothing))));
+              ∙ (ap (λ z. appended z (more (plain (text lexeme)) empty)) first
+              ∙ sym (values_of_joined c.is.stack (leaf t lexeme nothing))));
           keeps = subst (λ z. Keeps g (NextToken parts.language source) new z after) (sym named) keeps;
         },
         refl,
@@ -116,7 +118,8 @@ module _ (parts : LanguageParts) (ok : IsLanguage parts.language) (source : List
 
   -- the tree of a text that is accepted
   pub over_whole : (states slice : List ℕ) (vs given : List Value) (trees : List Tree) (prefix : List Symbol) (at place t : ℕ)
-      (result : Parsed) → All (IsIn (length trees)) vs → given ≡ vs → ((id : TreeId) → given ≡ stored.Tree id ∷ [] → result ≡ parsed.Tree id) →
+      (result : Parsed) → All (IsIn (length trees)) vs → given ≡ vs →
+      ((id : TreeId) → given ≡ stored.Tree id ∷ [] → result ≡ parsed.Tree id) →
       NextToken parts.language source prefix at (over place) → IsWhole parts source states vs trees prefix at t →
       IsParsed parts.language source trees result
   over_whole states slice vs given trees prefix at place t result inside given_is shown n whole =
@@ -126,7 +129,8 @@ module _ (parts : LanguageParts) (ok : IsLanguage parts.language) (source : List
       (record {
         held = lone id (subst (All (IsIn (length trees))) vs_is inside);
         tree = whole.is.stack;
-        parses = accept_gives parts.language.grammar (NextToken parts.language source) whole.is.stack prefix at place whole.is.keeps n whole.root;
+        parses = accept_gives parts.language.grammar
+            (NextToken parts.language source) whole.is.stack prefix at place whole.is.keeps n whole.root;
         shows = root ∙ ap (λ z. more (tree z) empty) (sym held);
       })
     where

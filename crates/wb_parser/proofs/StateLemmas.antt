@@ -1,16 +1,15 @@
 -- What tables say of states, and how states follow a stack.
-use Rattle.std.proofs.Common.{◌≡◌, ◌≢◌, ◌<◌, ◌≤◌, ◌+◌, ◌-◌, ◌⊎◌, ℕ, zero, suc, List, [], ◌∷◌, ◌++◌, length, take, refl, sym, ◌∙◌, ap, subst, append_assoc, inl, inr, arith}
-use Rattle.std.specs.Prelude.{◌↔◌, Some, slice_get, slice_index_or, All}
+use Rattle.std.proofs.Common.{◌≡◌, ◌<◌, ◌≤◌, ◌-◌, ℕ, suc, List, [], ◌∷◌, ◌++◌, length, take, refl, sym, ◌∙◌, ap, subst, append_assoc, inl}
+use Rattle.std.proofs.Common.{inr, arith}
+use Rattle.std.specs.Prelude.{Some, slice_index_or, All}
 use Rattle.std.proofs.lemmas.List.Elements.{All-head, All-tail, All-take, All-push}
-use Rattle.wb_lemmas.proofs.Parts.{take_append}
 use Rattle.wb_base.specs.declared.symbol.Symbol.{Symbol}
 use Rattle.wb_base.specs.declared.symbol.Symbol.TheVariants.{Terminal, Nonterminal}
 use Rattle.wb_base.specs.Grammar.{GrammarView}
 use Rattle.wb_grammars.specs.Productions.{top_of, end_of}
 use Rattle.wb_grammars.specs.Trees.{Forest, nothing, leaf, node, symbols}
 use Rattle.wb_grammars.specs.Items.{IsViablePrefix, SameKernel, start, move, advance, start_item}
-use Rattle.wb_grammars.specs.Lookaheads.{CanShift, CanReduce, IsValidTerminal}
-use Rattle.wb_grammars.specs.States.{IsNext}
+use Rattle.wb_grammars.specs.Lookaheads.{CanShift, CanReduce}
 use Rattle.wb_grammars.proofs.KernelLemmas.{same_move, kernel_decides}
 use Rattle.wb_grammars.proofs.FlowLemmas.{same_then, same_back, same_itself}
 use Rattle.wb_grammars.proofs.ValidLemmas.{same_valid}
@@ -24,7 +23,6 @@ use Rattle.wb_languages.specs.Parts.{AreTablesOf, IsPrefixOf}
 use Rattle.wb_languages.specs.Inner.Machine.{joined}
 use Rattle.wb_languages.proofs.ForestLemmas.{append_nil}
 use Rattle.wb_languages.proofs.FactLemmas.{shift_at, reduce_at}
-use Rattle.wb_languages.proofs.PartLemmas.{state_of}
 use Rattle.wb_parser.specs.Inner.Stacks.{AreStates, last_or}
 
 -- an action of the tables, at a prefix of its state
@@ -87,7 +85,8 @@ goto_at {g} {tables} {s} {prefix} at b lt viable =
     subst (λ (h : GrammarView). SameKernel h (prefix_of at.numbered.kernels s) prefix → b < h.nonterminals →
     IsViablePrefix h (prefix ++ Nonterminal b ∷ []) →
     (n : ℕ) × (goto_of tables s b ≡ Some n) × IsPrefixOf h tables n (prefix ++ Nonterminal b ∷ [])) at.numbered.same
-    (λ same lt' viable'. go at.numbered.kernels at.numbered.are_kernels at.numbered.are_tables at.within same lt' viable') at.kernel lt viable
+    (λ same lt' viable'. go at.numbered.kernels at.numbered.are_kernels at.numbered.are_tables at.within same lt' viable') at.kernel lt
+    viable
   where
     go : (kernels : KernelsView) → AreKernels kernels → AreTables kernels tables → s < count_of kernels →
         SameKernel kernels.grammar (prefix_of kernels s) prefix → b < kernels.grammar.nonterminals →
@@ -97,7 +96,8 @@ goto_at {g} {tables} {s} {prefix} at b lt viable =
         let (n, below, there) = ok.states.all (prefix ++ Nonterminal b ∷ []) viable' in
         let back : SameKernel kernels.grammar (prefix ++ Nonterminal b ∷ []) (prefix_of kernels s ++ Nonterminal b ∷ []) =
         same_move ok.live prefix (prefix_of kernels s) (Nonterminal b) (same_back same) in
-        let has : IsViablePrefix kernels.grammar (prefix_of kernels s ++ Nonterminal b ∷ []) = viable_there kernels ok s prefix same (Nonterminal b) viable' in
+        let has : IsViablePrefix kernels.grammar (prefix_of kernels s ++ Nonterminal b ∷ []) =
+        viable_there kernels ok s prefix same (Nonterminal b) viable' in
         let leads : LeadsTo kernels s (Nonterminal b) n = (within, below, has, same_then there back) in
         (n, ((are.gotos s b within lt').some n).1 leads, own kernels ok are below viable' there)
       where
@@ -179,10 +179,12 @@ states_split g tables prefix (x ∷ xs) (node p a c r) b (same, h) =
     record { left = x ∷ i.left; right = i.right; is = ap (λ z. x ∷ z) i.is; right_length = i.right_length; of_left = (same, i.of_left) }
 
 -- one state more, for a further root
-pub states_push : (g : GrammarView) (tables : TablesView) (prefix : List Symbol) (states : List ℕ) (stack : Forest) (s p a : ℕ) (c : Forest) →
+pub states_push : (g : GrammarView) (tables : TablesView) (prefix : List Symbol) (states : List ℕ) (stack : Forest) (s p a : ℕ)
+    (c : Forest) →
     AreStates g tables prefix states stack → IsPrefixOf g tables s ((prefix ++ symbols stack) ++ Nonterminal a ∷ []) →
     AreStates g tables prefix (states ++ s ∷ []) (joined stack (node p a c nothing))
-states_push g tables prefix [] nothing s p a c h k = (subst (λ z. IsPrefixOf g tables s (z ++ Nonterminal a ∷ [])) (append_nil prefix) k, tt)
+states_push g tables prefix [] nothing s p a c h k =
+    (subst (λ z. IsPrefixOf g tables s (z ++ Nonterminal a ∷ [])) (append_nil prefix) k, tt)
 states_push g tables prefix [] (leaf t l r) s p a c h k = absurd h
 states_push g tables prefix [] (node q b d r) s p a c h k = absurd h
 states_push g tables prefix (x ∷ xs) nothing s p a c h k = absurd h

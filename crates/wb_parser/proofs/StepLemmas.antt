@@ -1,46 +1,44 @@
 -- What each step of the parser keeps.
-use Rattle.std.proofs.Common.{◌≡◌, ◌≢◌, ◌<◌, ◌≤◌, ◌+◌, ◌-◌, ◌⊎◌, ℕ, List, [], ◌∷◌, ◌++◌, length, take, drop, refl, sym, ◌∙◌, ap, subst, append_assoc, inl, inr, arith, length-append, take-append-drop}
-use Rattle.std.specs.Prelude.{All, Some, min, slice_get, slice_range}
-use Rattle.std.proofs.lemmas.List.Elements.{All-take, All-push, All-weaker}
+use Rattle.std.proofs.Common.{◌≡◌, ◌<◌, ◌≤◌, ◌+◌, ◌-◌, ◌⊎◌, ℕ, List, [], ◌∷◌, ◌++◌, length, take, drop, refl, sym, ◌∙◌, ap, subst, inl, inr}
+use Rattle.std.proofs.Common.{arith, length-append}
+use Rattle.std.specs.Prelude.{All, Some, min}
 use Rattle.wb_lemmas.proofs.Parts.{take_append, drop_append}
 use Rattle.wb_lemmas.proofs.Elements.{all_left}
 use Rattle.wb_base.specs.declared.symbol.Symbol.{Symbol}
-use Rattle.wb_base.specs.declared.symbol.Symbol.TheVariants.{Terminal, Nonterminal}
-use Rattle.wb_base.specs.Grammar.{GrammarView}
-use Rattle.wb_grammars.specs.Productions.{IsProduction, end_of, top_of}
-use Rattle.wb_grammars.specs.Trees.{Forest, nothing, leaf, node, symbols}
+use Rattle.wb_base.specs.declared.symbol.Symbol.TheVariants.{Nonterminal}
+use Rattle.wb_grammars.specs.Productions.{end_of, top_of}
+use Rattle.wb_grammars.specs.Trees.{Forest, nothing, node, symbols}
 use Rattle.wb_grammars.specs.Items.{IsViablePrefix}
 use Rattle.wb_grammars.specs.Lookaheads.{CanReduce}
 use Rattle.wb_grammars.proofs.ProductionLemmas.{production_once, production_below}
 use Rattle.wb_lookahead.specs.declared.action.Action.{Action}
 use Rattle.wb_lookahead.specs.declared.action.Action.TheVariants as act
 use Rattle.wb_lookahead.specs.declared.action.Action.TheVariants.{Shift, Reduce, Accept}
-use Rattle.wb_lookahead.specs.Contents.{TablesView, size_of, action_of, goto_of}
+use Rattle.wb_lookahead.specs.Contents.{action_of, goto_of}
 use Rattle.wb_values.specs.Tree.{Tree, Values, empty, more, plain, text, tree}
 use Rattle.wb_values.specs.Tree as values
 use Rattle.wb_values.specs.ValuesIn.{tree_in, value_in, values_in, IsIn, last}
-use Rattle.wb_values.specs.declared.value.TreeId.{TreeId}
 use Rattle.wb_values.specs.declared.value.Value.{Value}
 use Rattle.wb_values.specs.declared.value.Value.TheVariants as stored
-use Rattle.wb_values.proofs.CallerLemmas.{tree_in_push, all_in_more, is_in_more}
+use Rattle.wb_values.proofs.CallerLemmas.{tree_in_push}
 use Rattle.wb_values.proofs.Grown.{values-stable}
-use Rattle.wb_languages.specs.declared.stop_kind.StopKind.TheVariants.{Unexpected, NoToken}
-use Rattle.wb_languages.specs.Tokens.{Next, NextToken, token, over, missing}
+use Rattle.wb_languages.specs.declared.stop_kind.StopKind.TheVariants.{Unexpected}
+use Rattle.wb_languages.specs.Tokens.{Next, NextToken}
 use Rattle.wb_languages.specs.Readings.{Gives}
 use Rattle.wb_languages.specs.Texts.{StopsAt}
 use Rattle.wb_languages.specs.Facts.{IsLanguage}
 use Rattle.wb_languages.specs.Shown.{values_of}
 use Rattle.wb_languages.specs.Parts.{AreTablesOf, IsPrefixOf}
-use Rattle.wb_languages.specs.Inner.Machine.{joined, Keeps, IsParsable}
+use Rattle.wb_languages.specs.Inner.Machine.{joined}
 use Rattle.wb_languages.proofs.ForestLemmas.{symbols_joined}
 use Rattle.wb_languages.proofs.AgreeLemmas.{not_top}
 use Rattle.wb_languages.proofs.BackLemmas.{Reduced, reduction_finds}
 use Rattle.wb_languages.proofs.StepLemmas.{reduce_keeps, no_action_stops}
-use Rattle.wb_languages.proofs.FactLemmas.{parsable, widest}
+use Rattle.wb_languages.proofs.FactLemmas.{parsable}
 use Rattle.wb_languages.proofs.TextLemmas.{is_one}
 use Rattle.wb_scan.specs.Views.{LanguageParts}
 use Rattle.wb_parser.specs.Inner.Stacks.{AreStates, IsReduction, last_or}
-use Rattle.wb_parser.specs.Inner.Steps.{IsSound, IsAt, IsReady, CanGo, IsWhole}
+use Rattle.wb_parser.specs.Inner.Steps.{IsSound, IsAt, CanGo, IsWhole}
 use Rattle.wb_parser.proofs.StateLemmas.{ActsAt, acts_at, at_top, goto_at, states_split, states_push}
 use Rattle.wb_parser.proofs.ValueLemmas.{appended, values_in_append, values_of_joined, values_split}
 
@@ -124,15 +122,18 @@ module _ (parts : LanguageParts) (ok : IsLanguage parts.language) (of : AreTable
         ∙ ((λ k. appended (same_left k) (more (last_is k) empty)) ∙ sym (values_of_joined r.below (node p r.left r.children nothing))) in
         record {
           stack = new;
-          states_are = subst (λ z. AreStates g parts.tables [] z new) ((λ k. sym states_lower k ++ sym target_is k ∷ []) ∙ sym made.moved.states_are)
+          states_are = subst (λ z. AreStates g parts.tables [] z new)
+              ((λ k. sym states_lower k ++ sym target_is k ∷ []) ∙ sym made.moved.states_are)
               (states_push g parts.tables [] sp.left r.below n' p r.left r.children sp.of_left goes);
           values_are = subst (λ z. values_in z vs' ≡ values_of new) (sym trees_is)
               (ap (values_in (trees ++ built ∷ [])) (made.values_are ∙ ap (λ z. z ++ stored.Tree made.id ∷ []) lower) ∙ pushed);
-          keeps = reduce_keeps g (parsable g ok.deterministic).free (NextToken parts.language source) (is_one parts.language ok source) is.stack
+          keeps = reduce_keeps g (parsable g ok.deterministic).free (NextToken parts.language source)
+              (is_one parts.language ok source) is.stack
               prefix at is.keeps p next t place n gives can r;
         }
 
-    pub reduce_case : (source : List ℕ) (prefix : List Symbol) (at place : ℕ) (next : Next) → NextToken parts.language source prefix at next →
+    pub reduce_case : (source : List ℕ) (prefix : List Symbol) (at place : ℕ) (next : Next) →
+        NextToken parts.language source prefix at next →
         Gives parts.language.grammar next t place → IsAt parts source states vs trees prefix at →
         IsAt parts source states' vs' trees' prefix at
     reduce_case source prefix at place next n gives is = go (acts (Reduce p) e is)

@@ -1,17 +1,10 @@
 -- Values on a stack, and the trees that they stand for.
-use Rattle.std.proofs.Common.{◌≡◌, ◌<◌, ◌≤◌, ◌+◌, ◌-◌, ℕ, zero, suc, List, [], ◌∷◌, ◌++◌, length, take, drop, refl, sym, ◌∙◌, ap, subst, arith, length-append}
-use Rattle.std.specs.Prelude.{All, slice_index_or, min}
-use Rattle.std.proofs.lemmas.List.Elements.{All-head, All-tail}
-use Rattle.wb_lemmas.proofs.Parts.{take_append, drop_append}
-use Rattle.wb_base.specs.declared.symbol.Symbol.{Symbol}
-use Rattle.wb_base.specs.declared.symbol.Symbol.TheVariants.{Terminal, Nonterminal}
+use Rattle.std.proofs.Common.{◌≡◌, suc, List, [], ◌∷◌, ◌++◌, length, refl, ap}
 use Rattle.wb_grammars.specs.Trees.{Forest, nothing, leaf, node, symbols}
 use Rattle.wb_values.specs.Tree.{Tree, Value, Values, empty, more, plain, text, tree}
 use Rattle.wb_values.specs.Tree as values
-use Rattle.wb_values.specs.ValuesIn.{tree_in, value_in, values_in, IsIn, last}
-use Rattle.wb_values.specs.declared.value.TreeId.{TreeId}
+use Rattle.wb_values.specs.ValuesIn.{value_in, values_in}
 use Rattle.wb_values.specs.declared.value.Value.{Value as Stored}
-use Rattle.wb_values.specs.declared.value.Value.TheVariants as stored
 use Rattle.wb_languages.specs.Shown.{values_of}
 use Rattle.wb_languages.specs.Inner.Machine.{joined}
 
@@ -47,7 +40,8 @@ length_values trees (v ∷ vs) nothing e = cc
 length_values trees (v ∷ vs) (leaf t lexeme rest) e = ap suc (length_values trees vs rest (cc))
 length_values trees (v ∷ vs) (node p a children rest) e = ap suc (length_values trees vs rest (cc))
 
-pub values_split : (trees : List Tree) (vs : List Stored) (a b : Forest) → values_in trees vs ≡ values_of (joined a b) → ValueParts trees vs a b
+pub values_split : (trees : List Tree) (vs : List Stored) (a b : Forest) → values_in trees vs ≡ values_of (joined a b) →
+    ValueParts trees vs a b
 values_split trees vs nothing b e =
     record { left = []; right = vs; is = refl; of_left = refl; of_right = e; right_length = length_values trees vs b e }
 values_split trees [] (leaf t lexeme rest) b e = cc

@@ -1,11 +1,11 @@
 -- Which form beats which, as it is tested.
 use Rattle.std.proofs.Common.{◌≡◌, ◌≢◌, ◌<◌, ◌≤◌, ◌+◌, ◌⊎◌, ℕ, List, [], ◌∷◌, length, get_or, refl, sym, ◌∙◌, ap, subst, inl, inr, arith}
-use Rattle.std.specs.Prelude.{◌↔◌, Bool, true, false, not, Contains, All, Some, slice_get, map}
-use Rattle.std.proofs.lemmas.Bool.{cases_lt, cases_eq}
+use Rattle.std.specs.Prelude.{◌↔◌, Bool, true, false, not, Contains, Some, slice_get, map}
+use Rattle.std.proofs.lemmas.Bool.{cases_lt}
 use Rattle.std.proofs.Math.Bool.{beq}
 use Rattle.std.proofs.lemmas.List.{get_or_default}
 use Rattle.std.proofs.lemmas.Option.{slice_get_within}
-use Rattle.wb_lemmas.proofs.Places.{at_within, at_append, at_once}
+use Rattle.wb_lemmas.proofs.Places.{at_within, at_append}
 use Rattle.wb_languages.specs.declared.form.Form.{Form}
 use Rattle.wb_languages.specs.Languages.{LanguageView, forms_of, bare}
 use Rattle.wb_languages.specs.Winners.{Beats, by_prefix, both_bare, both_prefixed, BeatsAt}
@@ -114,7 +114,8 @@ beats_same l place other one two r t u lt lt' tells tells' same t_is u_is prefer
 abbrev pub BeatsBelow : LanguageView → ℕ → List ℕ → ℕ → Type 0
 BeatsBelow l place places i = (k : ℕ) → k < i → get_or places k 0 ≢ place → BeatsAt l place (get_or places k 0)
 
-pub beats_more : (l : LanguageView) (place : ℕ) (places : List ℕ) (i : ℕ) → (get_or places i 0 ≢ place → BeatsAt l place (get_or places i 0)) →
+pub beats_more : (l : LanguageView) (place : ℕ) (places : List ℕ) (i : ℕ) →
+    (get_or places i 0 ≢ place → BeatsAt l place (get_or places i 0)) →
     BeatsBelow l place places i → BeatsBelow l place places (i + 1)
 beats_more l place places i here before k lt ne = elim (cases_lt k i) [
   | inl early ↦ before k early ne

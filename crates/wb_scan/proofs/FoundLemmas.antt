@@ -1,23 +1,23 @@
 -- What the automaton finds is what wins.
-use Rattle.std.proofs.Common.{◌≡◌, ◌≢◌, ◌<◌, ◌≤◌, ◌+◌, ◌-◌, ◌⊎◌, ℕ, List, [], ◌∷◌, ◌++◌, length, take, drop, refl, sym, ◌∙◌, ap, subst, append_assoc, inl, inr, arith, length-append, length-drop, take-append-drop}
-use Rattle.std.specs.Prelude.{◌↔◌, Contains, All, IsNone, Option, None, Some, slice_get, slice_range, true, false}
-use Rattle.std.proofs.lemmas.Bool.{cases_order, cases_eq}
+use Rattle.std.proofs.Common.{◌≡◌, ◌≢◌, ◌<◌, ◌≤◌, ◌+◌, ◌-◌, ℕ, List, ◌++◌, length, take, drop, refl, sym, ◌∙◌, ap, subst, inl, inr, arith}
+use Rattle.std.proofs.Common.{length-append}
+use Rattle.std.specs.Prelude.{◌↔◌, Contains, All, slice_range}
+use Rattle.std.proofs.lemmas.Bool.{cases_order}
 use Rattle.std.proofs.lemmas.Option.{slice_get_within}
-use Rattle.wb_scan.proofs.RangeLemmas.{range_none, range_split, range_length}
+use Rattle.wb_scan.proofs.RangeLemmas.{range_split, range_length}
 use Rattle.std.proofs.lemmas.List.Folds.{drop_split}
 use Rattle.wb_lemmas.proofs.Elements.{all_from_contained}
-use Rattle.wb_lemmas.proofs.Parts.{append_same_left, append_same_right, take_append}
+use Rattle.wb_lemmas.proofs.Parts.{append_same_left, take_append}
 use Rattle.wb_base.specs.declared.symbol.Symbol.{Symbol}
-use Rattle.wb_automata.specs.Automata.{AutomatonView, LeadsTo, MatchesIn, IsMatch, IsConsidered}
+use Rattle.wb_automata.specs.Automata.{AutomatonView, LeadsTo, MatchesIn, IsMatch}
 use Rattle.wb_lookahead.specs.Contents.{TablesView, size_of}
 use Rattle.wb_languages.specs.declared.form.Form.{Form}
-use Rattle.wb_languages.specs.Languages.{LanguageView, forms_of, IsLayout, bare}
-use Rattle.wb_languages.specs.Winners.{IsConsideredForm, MatchesAt, BeatsAt, Wins}
-use Rattle.wb_languages.specs.Parts.{AreLanguageParts, IsPrefixOf, IsConsideredAt}
+use Rattle.wb_languages.specs.Languages.{LanguageView, forms_of}
+use Rattle.wb_languages.specs.Winners.{MatchesAt, Wins}
+use Rattle.wb_languages.specs.Parts.{AreLanguageParts, IsPrefixOf}
 use Rattle.wb_languages.proofs.PartLemmas.{considered_at}
 use Rattle.wb_languages.proofs.BareLemmas.{forms_count}
 use Rattle.wb_languages.proofs.TokenLemmas.{piece_some}
-use Rattle.wb_scan.specs.Views.{LanguageParts}
 use Rattle.wb_scan.specs.Inner.Longest.{IsLongest}
 use Rattle.wb_scan.specs.Inner.Found.{IsChampion, IsFound, IsNotFound}
 
@@ -86,7 +86,8 @@ module _ {l : LanguageView} {tables : TablesView} {automaton : AutomatonView} (p
     module _ {accepted : List ℕ} (exact : AreAcceptedAt automaton state (slice_range text at end) accepted) where
       -- what wins is accepted, and beats each other form that is
       pub champion_of : {prefix : List Symbol} {p : ℕ} {x : List ℕ} → IsPrefixOf l.grammar tables state prefix →
-          (terminal : ℕ) → MatchesIn automaton state terminal (slice_range text at end) → Wins l prefix text at p x → IsChampion l accepted p
+          (terminal : ℕ) → MatchesIn automaton state terminal (slice_range text at end) → Wins l prefix text at p x →
+          IsChampion l accepted p
       champion_of {prefix} {p} {x} of terminal m w =
           let from : at ≤ end = longest.from in
           let le : at + length x ≤ end = no_later of w.matches in
@@ -157,7 +158,8 @@ matched_at longest ne = elim longest.matched [ inl e ↦ absurd (ne e) | inr is 
 module _ {l : LanguageView} {tables : TablesView} {automaton : AutomatonView} (parts : AreLanguageParts l tables automaton) {state : ℕ}
     (below : state < size_of tables) {text : List ℕ} {at end found : ℕ}
     (longest : IsLongest automaton state text at (length text) found end) (ne : end ≢ at) (accepted : List ℕ)
-    (exact : (terminal s : ℕ) (x : List ℕ) → LeadsTo automaton s x found → Contains accepted terminal ↔ MatchesIn automaton s terminal x) where
+    (exact : (terminal s : ℕ) (x : List ℕ) → LeadsTo automaton s x found →
+    Contains accepted terminal ↔ MatchesIn automaton s terminal x) where
   accepted_at : AreAcceptedAt automaton state (slice_range text at end) accepted
   accepted_at terminal = exact terminal state (slice_range text at end) (matched_at longest ne).1
 

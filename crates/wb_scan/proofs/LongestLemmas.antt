@@ -1,13 +1,13 @@
 -- How an automaton is followed along a text.
-use Rattle.std.proofs.Common.{◌≡◌, ◌<◌, ◌≤◌, ◌+◌, ◌⊎◌, ℕ, List, [], ◌∷◌, ◌++◌, length, get_or, refl, sym, ◌∙◌, ap, subst, append_assoc, inl, inr, arith}
-use Rattle.std.specs.Prelude.{◌↔◌, ◌==◌, Bool, true, false, Contains, IsNone, Option, None, slice_range}
-use Rattle.std.proofs.lemmas.Bool.{cases_order, cases_lt}
+use Rattle.std.proofs.Common.{◌≡◌, ◌<◌, ◌≤◌, ◌+◌, ℕ, List, [], ◌∷◌, ◌++◌, length, get_or, refl, sym, ◌∙◌, ap, subst, inl, inr, arith}
+use Rattle.std.specs.Prelude.{◌↔◌, ◌==◌, Bool, true, false, Contains, IsNone, Option, slice_range}
+use Rattle.std.proofs.lemmas.Bool.{cases_lt}
 use Rattle.wb_scan.proofs.RangeLemmas.{range_none, range_snoc, range_split}
 use Rattle.wb_lemmas.proofs.Numbers.{eqb_true, eqb_false}
 use Rattle.wb_lemmas.proofs.Parts.{no_elements}
 use Rattle.wb_lemmas.proofs.Members.{nothing_in, contains_first}
 use Rattle.wb_automata.specs.Automata.{AutomatonView, LeadsTo, MatchesIn, GoesOn}
-use Rattle.wb_scan.specs.Inner.Longest.{HasNoneAfter, IsMatchedTo, IsLongest}
+use Rattle.wb_scan.specs.Inner.Longest.{IsLongest}
 
 -- the text up to a place was read, from the start of the set to a state, with the longest match so far
 pub record IsReading (automaton : AutomatonView) (set : ℕ) (text : List ℕ) (at place state found end : ℕ) : Type 0 where
@@ -23,7 +23,13 @@ reading_init automaton set text at state size leads below = record {
   size = size;
   here = subst (λ z. LeadsTo automaton set z state) (sym (range_none text at at (omega arith))) leads;
   below = below;
-  longest = record { from = omega arith; within = omega arith; matched = inl refl; none_after = λ other terminal lt le m. absurd (omega arith) };
+  longest = record {
+    from = omega arith;
+    within = omega arith;
+    matched = inl refl;
+    none_after =
+        λ other terminal lt le m. absurd (omega arith);
+  };
   found_below = below;
 }
 

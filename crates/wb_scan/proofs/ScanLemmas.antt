@@ -1,12 +1,10 @@
 -- What is found is what is next.
-use Rattle.std.proofs.Common.{◌≡◌, ◌<◌, ◌≤◌, ◌+◌, ◌-◌, ℕ, List, ◌++◌, length, refl, sym, ◌∙◌, ap, subst, arith}
+use Rattle.std.proofs.Common.{◌≡◌, ◌<◌, ◌≤◌, ◌+◌, ◌-◌, ℕ, List, length, sym, ap, subst, arith}
 use Rattle.std.specs.Prelude.{Some, slice_get, slice_range}
 use Rattle.wb_scan.proofs.RangeLemmas.{range_length}
 use Rattle.wb_base.specs.declared.symbol.Symbol.{Symbol}
 use Rattle.wb_languages.specs.declared.form.Form.{Form}
-use Rattle.wb_languages.specs.Languages.{IsLayout}
-use Rattle.wb_languages.specs.Winners.{Wins}
-use Rattle.wb_languages.specs.Tokens.{Next, token, over, missing, NextToken, skipped, wins, ends, fails}
+use Rattle.wb_languages.specs.Tokens.{token, over, missing, NextToken, skipped, wins, ends, fails}
 use Rattle.wb_languages.specs.Parts.{IsPrefixOf}
 use Rattle.wb_scan.specs.declared.scanned.Scanned.{Scanned}
 use Rattle.wb_scan.specs.declared.scanned.Scanned.TheVariants.{Token, End, NoToken}
@@ -38,7 +36,8 @@ module _ (parts : LanguageParts) (state : ℕ) (text : List ℕ) where
       (found.wins prefix of) (found.prefix f at_f).1
       (ap (token place f.terminal (slice_range text (place + length f.prefix) end)) (sym (piece_end place form end found)))))
 
-  pub token_inside : (at place form end : ℕ) (f : Form) (result : Scanned) → f.terminal < parts.language.grammar.terminals → at ≤ place → IsFound parts state text place form end →
+  pub token_inside : (at place form end : ℕ) (f : Form) (result : Scanned) → f.terminal < parts.language.grammar.terminals → at ≤ place →
+      IsFound parts state text place form end →
       slice_get parts.language.forms form ≡ Some f → result ≡ Token f.terminal place (place + length f.prefix) end →
       IsInside parts.language.grammar.terminals (length text) at result
   token_inside at place form end f result below le found at_f is =

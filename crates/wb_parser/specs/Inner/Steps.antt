@@ -2,7 +2,6 @@
 use Rattle.std.specs.Prelude.{◌≡◌, ◌<◌, ◌≤◌, ◌++◌, ◌∷◌, ℕ, List, [], All, length}
 use Rattle.wb_base.specs.declared.symbol.Symbol.{Symbol}
 use Rattle.wb_base.specs.declared.symbol.Symbol.TheVariants.{Terminal, Nonterminal}
-use Rattle.wb_base.specs.Grammar.{GrammarView}
 use Rattle.wb_grammars.specs.Productions.{end_of}
 use Rattle.wb_grammars.specs.Trees.{Forest, symbols}
 use Rattle.wb_grammars.specs.Lookaheads.{CanShift}
@@ -11,7 +10,6 @@ use Rattle.wb_values.specs.Tree.{Tree}
 use Rattle.wb_values.specs.ValuesIn.{values_in, IsIn}
 use Rattle.wb_values.specs.declared.value.Value.{Value}
 use Rattle.wb_languages.specs.declared.stop_kind.StopKind.TheVariants.{Unexpected}
-use Rattle.wb_languages.specs.Languages.{LanguageView}
 use Rattle.wb_languages.specs.Tokens.{Next, NextToken}
 use Rattle.wb_languages.specs.Readings.{Gives}
 use Rattle.wb_languages.specs.Texts.{StopsAt}

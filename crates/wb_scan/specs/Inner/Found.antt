@@ -2,7 +2,7 @@
 use Rattle.std.specs.Prelude.{◌≡◌, ◌≢◌, ◌<◌, ◌≤◌, ◌+◌, ℕ, List, ◌++◌, Contains, Some, length, slice_get, slice_range}
 use Rattle.wb_base.specs.declared.symbol.Symbol.{Symbol}
 use Rattle.wb_languages.specs.declared.form.Form.{Form}
-use Rattle.wb_languages.specs.Languages.{LanguageView, forms_of}
+use Rattle.wb_languages.specs.Languages.{LanguageView}
 use Rattle.wb_languages.specs.Winners.{BeatsAt, Wins}
 use Rattle.wb_languages.specs.Parts.{IsPrefixOf}
 use Rattle.wb_languages.specs.Tokens.{Next, NextToken}

@@ -1,5 +1,5 @@
 -- The longest match of the terminals of a set, from a place of a text on.
-use Rattle.std.specs.Prelude.{◌≡◌, ◌<◌, ◌≤◌, ◌+◌, ◌⊎◌, ℕ, List, slice_range}
+use Rattle.std.specs.Prelude.{◌≡◌, ◌<◌, ◌≤◌, ◌⊎◌, ℕ, List, slice_range}
 use Rattle.wb_automata.specs.Automata.{AutomatonView, LeadsTo, MatchesIn}
 
 -- no terminal of the set matches a text that ends after the one place and not after the other

@@ -1,4 +1,4 @@
-use Rattle.std.proofs.Common.{subst, sym, refl, ◌∙◌, ap, ◌≡◌, ◌<◌, slice_range}
+use Rattle.std.proofs.Common.{subst, sym, refl, ◌∙◌, ap, ◌<◌, slice_range}
 use Rattle.wb_lookahead.specs.Contents.{size_of}
 use Rattle.wb_languages.specs.Tokens.{token, over, missing}
 use Rattle.wb_parser.specs.Inner.Stacks.{last_or}

@@ -1,4 +1,4 @@
-use Rattle.std.proofs.Common.{ℕ, ◌-◌, ◌≤◌, length}
+use Rattle.std.proofs.Common.{◌-◌, ◌≤◌, length}
 use Rattle.wb_parser.specs.Parses.{Extends}
 use Rattle.wb_parser.specs.Inner.Steps.{IsReady, IsSound}
 use Rattle.wb_parser.proofs.parser.read_all.Given as goal

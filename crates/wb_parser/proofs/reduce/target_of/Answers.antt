@@ -1,5 +1,4 @@
-use Rattle.std.proofs.Common.{◌≡◌, ◌<◌, sym, ap, ◌∙◌, subst, ℕ}
-use Rattle.wb_base.specs.Grammar.{GrammarView}
+use Rattle.std.proofs.Common.{◌<◌, sym, subst, ℕ}
 use Rattle.wb_parser.proofs.StateLemmas.{goto_below, nonterminals_of}
 use Rattle.wb_parser.proofs.reduce.target_of.Goals as goal
 

@@ -1,7 +1,6 @@
-use Rattle.std.proofs.Common.{refl, sym, ◌∙◌, arith, ◌≡◌}
-use Rattle.std.proofs.lemmas.Bool.{true≢false}
+use Rattle.std.proofs.Common.{refl}
 use Rattle.std.specs.Prelude.{None}
-use Rattle.wb_scan.proofs.LongestLemmas.{reading_init, reading_passes, reading_finds, reading_stops, reading_ends, nothing_listed, some_listed}
+use Rattle.wb_scan.proofs.LongestLemmas.{reading_passes, reading_finds, reading_stops, reading_ends, nothing_listed, some_listed}
 use Rattle.wb_scan.proofs.longest.longest.Goals as goal
 
 pub returns-in_default-clause-longest : goal.returns-in_default-clause-longest

@@ -1,7 +1,4 @@
-use Rattle.std.proofs.Common.{refl, sym, ◌∙◌, arith, ◌≡◌, ◌≢◌, ◌↔◌, subst, ℕ, List}
-use Rattle.std.specs.Prelude.{All, length, ◌<◌, Contains}
-use Rattle.wb_automata.specs.Automata.{LeadsTo, MatchesIn}
-use Rattle.wb_languages.specs.Languages.{forms_of}
+use Rattle.std.proofs.Common.{refl, subst}
 use Rattle.wb_languages.specs.Parts.{AreLanguageParts}
 use Rattle.wb_scan.proofs.FoundLemmas.{none_wins, all_below, is_found, is_not_found}
 use Rattle.wb_scan.proofs.next_token.found_at.Goals as goal

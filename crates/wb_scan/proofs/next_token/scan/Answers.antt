@@ -1,4 +1,4 @@
-use Rattle.std.proofs.Common.{◌≡◌, ◌<◌, ◌≤◌, ℕ, List, length, refl, sym, ◌∙◌, ap, subst, arith}
+use Rattle.std.proofs.Common.{◌<◌, ◌≤◌, length, refl, subst, arith}
 use Rattle.wb_lemmas.proofs.Places.{at_within}
 use Rattle.wb_languages.specs.Parts.{AreLanguageParts}
 use Rattle.wb_scan.proofs.ScanLemmas.{skips_more, token_next, token_inside, over_next}

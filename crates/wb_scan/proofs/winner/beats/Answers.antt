@@ -1,4 +1,4 @@
-use Rattle.std.proofs.Common.{◌≡◌, List, subst, sym, ◌∙◌, ap, ℕ}
+use Rattle.std.proofs.Common.{◌≡◌, List, subst, ◌∙◌, ap, ℕ}
 use Rattle.std.specs.Prelude.{true, Contains, ◌↔◌}
 use Rattle.wb_scan.proofs.BeatLemmas.{beats_differ, beats_same, beq_differs, beq_same}
 use Rattle.wb_scan.proofs.winner.beats.Goals as goal

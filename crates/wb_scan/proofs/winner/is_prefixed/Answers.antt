@@ -1,5 +1,4 @@
-use Rattle.std.proofs.Common.{◌≡◌, ◌≤◌, ℕ, List, [], length, ap, subst, arith, sym, ◌∙◌}
-use Rattle.std.specs.Prelude.{true, false}
+use Rattle.std.proofs.Common.{◌≤◌, length, subst, arith, sym}
 use Rattle.std.proofs.lemmas.Bool.{true≢false}
 use Rattle.wb_scan.proofs.BeatLemmas.{layout_form}
 use Rattle.wb_scan.proofs.winner.is_prefixed.Goals as goal

@@ -1,0 +1,170 @@
+//! Small languages.
+
+use crate::sample::{Rule, Sample};
+use wb_base::Symbol::{Nonterminal as N, Terminal as T};
+
+// A keyword that is also a name, and blanks: S -> If Id | Id.
+pub(crate) static KEYWORDS: Sample = Sample {
+    terminals: 2,
+    nonterminals: 1,
+    rules: &[
+        Rule {
+            name: "one",
+            left: 0,
+            right: &[T(0), T(1)],
+        },
+        Rule {
+            name: "two",
+            left: 0,
+            right: &[T(1)],
+        },
+    ],
+    expressions: &["if", "[a-z]+", "[ ]+"],
+    preferences: &[(0, 1)],
+};
+
+// The same without the preference.
+pub(crate) static UNDECIDED: Sample = Sample {
+    terminals: 2,
+    nonterminals: 1,
+    rules: &[
+        Rule {
+            name: "one",
+            left: 0,
+            right: &[T(0), T(1)],
+        },
+        Rule {
+            name: "two",
+            left: 0,
+            right: &[T(1)],
+        },
+    ],
+    expressions: &["if", "[a-z]+", "[ ]+"],
+    preferences: &[],
+};
+
+// Lists of numbers: L -> | L Num.
+pub(crate) static LISTS: Sample = Sample {
+    terminals: 1,
+    nonterminals: 1,
+    rules: &[
+        Rule {
+            name: "none",
+            left: 0,
+            right: &[],
+        },
+        Rule {
+            name: "more",
+            left: 0,
+            right: &[N(0), T(0)],
+        },
+    ],
+    expressions: &["[0-9]+", "[ \\n]+"],
+    preferences: &[],
+};
+
+// Assignments through pointers: S -> L = R | R, L -> * R | Id, R -> L.
+pub(crate) static POINTERS: Sample = Sample {
+    terminals: 3,
+    nonterminals: 3,
+    rules: &[
+        Rule {
+            name: "assign",
+            left: 0,
+            right: &[N(1), T(1), N(2)],
+        },
+        Rule {
+            name: "just",
+            left: 0,
+            right: &[N(2)],
+        },
+        Rule {
+            name: "star",
+            left: 1,
+            right: &[T(0), N(2)],
+        },
+        Rule {
+            name: "id",
+            left: 1,
+            right: &[T(2)],
+        },
+        Rule {
+            name: "ofl",
+            left: 2,
+            right: &[N(1)],
+        },
+    ],
+    expressions: &["\\*", "=", "[a-z]+"],
+    preferences: &[],
+};
+
+// Sums that can be read in two ways: E -> Num | E + E.
+pub(crate) static AMBIGUOUS: Sample = Sample {
+    terminals: 2,
+    nonterminals: 1,
+    rules: &[
+        Rule {
+            name: "num",
+            left: 0,
+            right: &[T(0)],
+        },
+        Rule {
+            name: "plus",
+            left: 0,
+            right: &[N(0), T(1), N(0)],
+        },
+    ],
+    expressions: &["[0-9]+", "\\+"],
+    preferences: &[],
+};
+
+// A short terminal where a longer one of the language isn't considered: S -> A B.
+pub(crate) static CONTEXTS: Sample = Sample {
+    terminals: 2,
+    nonterminals: 1,
+    rules: &[Rule {
+        name: "pair",
+        left: 0,
+        right: &[T(0), T(1)],
+    }],
+    expressions: &["a", "aa|ab"],
+    preferences: &[],
+};
+
+// Layout that is preferred over a terminal, and one that isn't: S -> | S A | S B.
+pub(crate) static LAYOUTS: Sample = Sample {
+    terminals: 2,
+    nonterminals: 1,
+    rules: &[
+        Rule {
+            name: "none",
+            left: 0,
+            right: &[],
+        },
+        Rule {
+            name: "a",
+            left: 0,
+            right: &[N(0), T(0)],
+        },
+        Rule {
+            name: "b",
+            left: 0,
+            right: &[N(0), T(1)],
+        },
+    ],
+    expressions: &["-+", "b", "--", "b."],
+    preferences: &[(2, 0)],
+};
+
+// Preferences in a ring.
+pub(crate) static RING: Sample = Sample {
+    terminals: 2,
+    nonterminals: 1,
+    rules: &[Rule {
+        name: "pair",
+        left: 0,
+        right: &[T(0), T(1)],
+    }],
+    expressions: &["a", "b"],
+    preferences: &[(0, 1), (1, 0)],
+};
