@@ -5,3 +5,5 @@
 
 #[cfg(test)]
 mod attributes;
+#[cfg(test)]
+mod reports;
