@@ -13,7 +13,9 @@ use Rattle.wb_resolved.specs.declared.resolved.ResolvedParts.{ResolvedParts}
 use Rattle.wb_resolved.specs.declared.terminal.Preference.{Preference}
 use Rattle.wb_resolved.specs.Resolved.{IsResolved}
 use Rattle.wb_types.specs.Rules.{KindsOk}
-use Rattle.wb_certify.specs.Hosts.{IsCertifiedValue}
+use Rattle.wb_determinism.specs.Hosts.{AreHostParts}
+use Rattle.wb_determinism.specs.declared.parts.HostParts.{HostParts}
+use Rattle.wb_certify.specs.Hosts.{IsCertified, IsCertifiedValue}
 use Rattle.wb_certify.specs.Refusals.{IsAttributeRefusal, IsDeterministic, start_of}
 use Rattle.wb_certify.specs.Inner.Complete.{AreComplete}
 
@@ -77,3 +79,13 @@ certified r operations kinds is complete flows = record {
   where
     started : CompleteOk r.attributes (Some is.grammar.start) None
     started = subst (λ (o : Option GrammarView). CompleteOk r.attributes (option_map (λ (g : GrammarView). g.start) o) None) is.start complete
+
+-- what is kept of it, with copies
+pub kept_of : (r copied : ResolvedParts) (operations kept : List OperationSignature) (parts : HostParts) → copied ≡ r → kept ≡ operations
+    → IsCertifiedValue r operations → ((g : GrammarView) → r.grammar ≡ Some g → AreHostParts r g parts)
+    → IsCertified (record { resolved = copied; parts = parts; operations = kept })
+kept_of r copied operations kept parts same also is of_grammar = record {
+  certified = subst (λ (q : ResolvedParts). IsCertifiedValue q kept) (sym same)
+      (subst (λ (os : List OperationSignature). IsCertifiedValue r os) (sym also) is);
+  parts = subst (λ (q : ResolvedParts). (g : GrammarView) → q.grammar ≡ Some g → AreHostParts q g parts) (sym same) of_grammar;
+}

@@ -2,7 +2,8 @@
 use Rattle.std.specs.Prelude.{◌≡◌, Some, None, List}
 use Rattle.wb_attributes.specs.Modular.{AreWellDefinedAttributes}
 use Rattle.wb_base.specs.Grammar.{GrammarView}
-use Rattle.wb_determinism.specs.Hosts.{IsDeterministicHost}
+use Rattle.wb_determinism.specs.Hosts.{IsDeterministicHost, AreHostParts}
+use Rattle.wb_determinism.specs.declared.parts.HostParts.{HostParts}
 use Rattle.wb_operations.specs.Operations.{OperationSignature}
 use Rattle.wb_resolved.specs.declared.resolved.ResolvedParts.{ResolvedParts}
 use Rattle.wb_types.specs.Rules.{KindsOk}
@@ -15,3 +16,14 @@ pub record IsCertifiedValue (r : ResolvedParts) (operations : List OperationSign
   pub start : r.grammar ≡ Some grammar
   pub deterministic : IsDeterministicHost r grammar
   pub attributes : AreWellDefinedAttributes r.attributes (Some grammar.start) None
+
+-- a host by numbers, what is made of its grammar with holes, and the signatures of operations
+pub record CertifiedView : Type 0 where
+  pub resolved : ResolvedParts
+  pub parts : HostParts
+  pub operations : List OperationSignature
+
+-- the host is certified over these operations, and the parts are those of its grammar
+pub record IsCertified (h : CertifiedView) : Type 0 where
+  pub certified : IsCertifiedValue h.resolved h.operations
+  pub parts : (g : GrammarView) → h.resolved.grammar ≡ Some g → AreHostParts h.resolved g h.parts

@@ -3,8 +3,10 @@
 //! The rules are tested in the order in which they are reported. What each says is in the crates below.
 #![tactic(auto)]
 
+mod certified;
 mod refusal;
 mod value;
 
+pub use certified::CertifiedHost;
 pub use refusal::CertifyRefusal;
 pub use value::certify_resolved;

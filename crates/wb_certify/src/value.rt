@@ -11,7 +11,7 @@ ghost use Rattle.wb_certify.specs.Hosts.{IsCertifiedValue};
 ghost use Rattle.wb_certify.specs.Refusals.{IsAttributeRefusal, IsDeterministic, IsValueRefusal, start_of};
 ghost use Rattle.wb_certify.specs.Inner.Complete.{AreComplete};
 
-use crate::CertifyRefusal;
+use crate::{CertifiedHost, CertifyRefusal};
 use std::alloc::{AllocError, Global};
 use wb_base::Sequence;
 use wb_complete::check_complete;
@@ -22,11 +22,32 @@ use wb_operations::{Meaning, OperationTable};
 use wb_resolved::Resolved;
 use wb_types::{TypeRefusal, check_types};
 
-/// What is made of a resolved host that is certified over a table of operations, or the first rule that fails.
+/// A resolved host as a certified one over a table of operations, or the first rule that fails.
 ///
 /// Rules of names don't come, since they hold. Others go by rule, each on the whole host: kinds, then preferences, a start, the grammar and
 /// the scanner, and attributes at last. No clause bounds the time.
 pub fn certify_resolved<M: Meaning>(
+    alloc: Global,
+    resolved: &Resolved,
+    operations: &OperationTable<M>,
+) -> Result<CertifiedHost, CertifyRefusal>
+    ensures resolved { IfOk result (λ host. host.resolved ≡ resolved.now) }
+    ensures operations { IfOk result (λ host. host.operations ≡ operations.now.signatures) }
+    ensures certified { IfOk result (λ host. IsCertifiedValue resolved.now operations.now.signatures) }
+    ensures refused { IfErr result (IsValueRefusal resolved.now operations.now.signatures) }
+{
+    let kept = operations.signatures().copy()?;
+    let copied = resolved.copy()?;
+    let parts = certified_parts(alloc, resolved, operations)?;
+    Ok(CertifiedHost {
+        resolved: copied,
+        parts,
+        operations: kept,
+    })
+}
+
+// What is made of a resolved host that is certified.
+fn certified_parts<M: Meaning>(
     alloc: Global,
     resolved: &Resolved,
     operations: &OperationTable<M>,

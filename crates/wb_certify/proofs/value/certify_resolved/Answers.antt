@@ -1,7 +1,8 @@
-use Rattle.wb_certify.proofs.ValueLemmas.{certified}
+use Rattle.std.proofs.Common.{◌∙◌}
+use Rattle.wb_certify.proofs.ValueLemmas.{kept_of}
 use Rattle.wb_certify.proofs.value.certify_resolved.Goals as goal
 
-pub returns-clause-certified : goal.returns-clause-certified
-returns-clause-certified g c =
-    certified c.args.resolved.now c.args.operations.now.signatures c.in_ok-check_kinds.ensures.ok c.in_ok-parts.ensures.ok
-    c.in_ok-check_attributes.ensures.ok.0 c.in_ok-check_attributes.ensures.ok.1
+pub invariant_of-result : goal.invariant_of-result
+invariant_of-result g c =
+    kept_of c.args.resolved.now c.in_ok-copied.copied c.args.operations.now.signatures c.in_ok-kept.kept c.in_ok-parts.parts
+    c.in_ok-copied.ensures (c.in_ok-kept.ensures ∙ c.signatures.ensures) c.in_ok-parts.ensures.certified c.in_ok-parts.ensures.parts
