@@ -1,0 +1,4 @@
+pub mod SightLemmas
+pub mod StayLemmas
+pub mod WalkLemmas
+pub mod UnionLemmas
