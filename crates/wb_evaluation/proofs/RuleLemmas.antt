@@ -40,11 +40,11 @@ step_again : (s : Step) → same_step s s ≡ true
 step_again (child k) = eq-eqb k k refl
 step_again (made k) = made_again k
 
-both : (first second : Bool) → (first && second) ≡ true → (first ≡ true) × (second ≡ true)
+pub both : (first second : Bool) → (first && second) ≡ true → (first ≡ true) × (second ≡ true)
 both true second is = (refl, is)
 both false second is = absurd (cc is)
 
-vertex_equal : (v w : Vertex) → same_vertex v w ≡ true → v ≡ w
+pub vertex_equal : (v w : Vertex) → same_vertex v w ≡ true → v ≡ w
 vertex_equal (top_synthesized y) (top_synthesized z) is = ap top_synthesized (eqb-true y z is)
 vertex_equal (top_inherited y) (top_inherited z) is = ap top_inherited (eqb-true y z is)
 vertex_equal (synthesized s y) (synthesized t z) is =
@@ -56,7 +56,7 @@ vertex_equal (inherited s y) (inherited t z) is =
 vertex_equal (tree_of k) (tree_of l) is = ap tree_of (made_equal k l is)
 vertex_equal _ _ is = absurd (cc is)
 
-vertex_again : (v : Vertex) → same_vertex v v ≡ true
+pub vertex_again : (v : Vertex) → same_vertex v v ≡ true
 vertex_again (top_synthesized y) = eq-eqb y y refl
 vertex_again (top_inherited y) = eq-eqb y y refl
 vertex_again (synthesized s y) = ap (λ b. b && nat_eq y y) (step_again s) ∙ eq-eqb y y refl

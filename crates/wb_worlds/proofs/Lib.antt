@@ -2,3 +2,4 @@ pub mod SightLemmas
 pub mod StayLemmas
 pub mod WalkLemmas
 pub mod UnionLemmas
+pub mod AttributionLemmas

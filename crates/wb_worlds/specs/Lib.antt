@@ -4,5 +4,7 @@ pub mod Worlds
 pub mod Named
 -- when the attributes of a part of a world are well defined
 pub mod Parts
+-- the world of an attribution
+pub mod Attributions
 -- what the laws say
 pub mod Laws

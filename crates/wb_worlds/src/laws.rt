@@ -1,5 +1,9 @@
 //! Laws of the definitions: what each says is proved, and there is nothing to run.
 
+ghost use Rattle.std.specs.Prelude.{ℕ};
+ghost use Rattle.wb_resolved.specs.declared.attribution.AttributionParts.{AttributionParts};
+ghost use Rattle.wb_resolved.specs.Attribution.{IsAttribution};
+ghost use Rattle.wb_worlds.specs.Attributions.{IsUnion};
 ghost use Rattle.wb_worlds.specs.Laws.{IsUnionWellDefined, IsWrittenOnce};
 ghost use Rattle.wb_worlds.specs.Named.{IsNamed};
 ghost use Rattle.wb_worlds.specs.Worlds.{World};
@@ -12,4 +16,9 @@ pub fn union_law()
 /// No two owners declare one occurrence, and no two rules are for one vertex.
 pub fn once_law()
     ensures { (w : World) → IsNamed w → IsWrittenOnce w }
+{}
+
+/// A production's attributes are well defined in the union of an attribution's world exactly if they are in the attribution.
+pub fn attribution_law()
+    ensures { (a : AttributionParts) → IsAttribution a → (start : ℕ) → IsUnion a start }
 {}
