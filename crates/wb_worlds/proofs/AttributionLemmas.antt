@@ -44,11 +44,11 @@ use Rattle.wb_worlds.specs.Worlds.{Owner, host, extension, owner_of, World, Part
 use Rattle.wb_worlds.specs.Parts.{HasEdgeIn, by_rule, by_flow_type, by_tree, by_copy_up, by_copy_down, IsWellDefinedIn}
 use Rattle.wb_worlds.proofs.StayLemmas.{forward_below}
 
-has_owner : (n k : ℕ) → k ≤ n → Has (union n) (owner_of k)
+pub has_owner : (n k : ℕ) → k ≤ n → Has (union n) (owner_of k)
 has_owner n zero le = tt
 has_owner n (suc k) le = omega (arith, le)
 
-owner_again : (o : Owner) → same_owner o o ≡ true
+pub owner_again : (o : Owner) → same_owner o o ≡ true
 owner_again host = refl
 owner_again (extension k) = eq-eqb k k refl
 
@@ -63,16 +63,16 @@ direction_again Synthesized = refl
 direction_again Inherited = refl
 
 -- which way an attribute goes
-goes_to : (d : Direction) (r : Option Attribute) → option_map (λ (z : Attribute). z.direction) r ≡ Some d → goes_so d r ≡ true
+pub goes_to : (d : Direction) (r : Option Attribute) → option_map (λ (z : Attribute). z.direction) r ≡ Some d → goes_so d r ≡ true
 goes_to d None is = absurd (cc is)
 goes_to d (Some r) is = ap (same_direction d) (same_Some r.direction d is) ∙ direction_again d
 
-goes_from : (d : Direction) (r : Option Attribute) → goes_so d r ≡ true → option_map (λ (z : Attribute). z.direction) r ≡ Some d
+pub goes_from : (d : Direction) (r : Option Attribute) → goes_so d r ≡ true → option_map (λ (z : Attribute). z.direction) r ≡ Some d
 goes_from d None is = absurd (cc is)
 goes_from d (Some r) is = ap Some (sym (direction_equal d r.direction is))
 
 -- the occurrence that is found, and that one is
-abbrev IsFor : ℕ → ℕ → Occurrence → Type 0
+abbrev pub IsFor : ℕ → ℕ → Occurrence → Type 0
 IsFor m x r = (m ≡ r.nonterminal) × (x ≡ r.attribute)
 
 is_for : (m x : ℕ) (r : Occurrence) → is_occurrence m x r ≡ true → IsFor m x r
@@ -87,7 +87,7 @@ for_is m x r (nonterminal, attribute) =
 abbrev from_occurrence : ℕ → ℕ → Occurrence → List Occurrence → Bool → Option Occurrence
 from_occurrence m x r rest is = elim is [ true ↦ Some r | false ↦ occurrence_at m x rest ]
 
-found_occurrence : (m x : ℕ) (r : Occurrence) (rs : List Occurrence) → occurrence_at m x rs ≡ Some r → Contains rs r × IsFor m x r
+pub found_occurrence : (m x : ℕ) (r : Occurrence) (rs : List Occurrence) → occurrence_at m x rs ≡ Some r → Contains rs r × IsFor m x r
 found_occurrence m x r [] is = absurd (cc is)
 found_occurrence m x r (s ∷ rest) is = cases (is_occurrence m x s) refl is (found_occurrence m x r rest) where
   cases : (same : Bool) → is_occurrence m x s ≡ same → from_occurrence m x s rest same ≡ Some r
@@ -112,7 +112,7 @@ some_occurrence m x r (s ∷ rest) listed for only =
       ]
 
 -- the trees that are there
-tree_from : (m : ℕ) (k : Option ChildKind) → tree_in k ≡ Some m → k ≡ Some (child_kind.Value (kind.Tree m))
+pub tree_from : (m : ℕ) (k : Option ChildKind) → tree_in k ≡ Some m → k ≡ Some (child_kind.Value (kind.Tree m))
 tree_from m None is = absurd (cc is)
 tree_from m (Some (child_kind.Terminal t)) is = absurd (cc is)
 tree_from m (Some (child_kind.Value kind.Int)) is = absurd (cc is)
@@ -126,7 +126,7 @@ leads_map each (one {v = v} {w = x} e) = one (each v x e)
 leads_map each (more {w = y} {x = x} s e) = more (leads_map each s) (each y x e)
 
 module _ (a : AttributionParts) (is : IsAttribution a) (start : ℕ) where
-  abbrev w : World
+  abbrev pub w : World
   w = world_of a start
 
   abbrev part : Part
@@ -139,10 +139,10 @@ module _ (a : AttributionParts) (is : IsAttribution a) (start : ℕ) where
       let equal = is.once.occurrences i j s r at there (sym also.1 ∙ for.1) (sym also.0 ∙ for.0) in
       at_once a.occurrences j s r (subst (λ k. slice_get a.occurrences k ≡ Some s) equal at) there
 
-  occurrence_found : (m x : ℕ) (r : Occurrence) → Contains a.occurrences r → IsFor m x r → occurrence_at m x a.occurrences ≡ Some r
+  pub occurrence_found : (m x : ℕ) (r : Occurrence) → Contains a.occurrences r → IsFor m x r → occurrence_at m x a.occurrences ≡ Some r
   occurrence_found m x r has for = some_occurrence m x r a.occurrences has for (λ s listed also. only_occurrence m x r s has for listed also)
 
-  occurs_to : (d : Direction) (m x : ℕ) → Occurs a d x m → OccursIn w part d m x
+  pub occurs_to : (d : Direction) (m x : ℕ) → Occurs a d x m → OccursIn w part d m x
   occurs_to d m x occurs =
       let (needs, flow_type) = occurs.on in
       let r = flow_type.occurrence in
@@ -178,7 +178,7 @@ module _ (a : AttributionParts) (is : IsAttribution a) (start : ℕ) where
       let (listed, for) = found_occurrence m x r a.occurrences at in
       (r.needs, record { occurrence = r; listed = listed; of_attribute = sym for.1; on_nonterminal = sym for.0; needs_are = refl }, has)
 
-  needs_from : (m x i : ℕ) → Contains (w.needs m x) i → Needs a x m i
+  pub needs_from : (m x i : ℕ) → Contains (w.needs m x) i → Needs a x m i
   needs_from m x i has = needs_in m x i (occurrence_at m x a.occurrences) refl has
 
   forward_needs_to : (m i : ℕ) → ForwardNeeds a m i → Contains (w.forward_needs m) i
@@ -188,23 +188,23 @@ module _ (a : AttributionParts) (is : IsAttribution a) (start : ℕ) where
   forward_needs_in m i None at has = absurd (nothing_in i has)
   forward_needs_in m i (Some r) at has = (r, at, has)
 
-  forward_needs_from : (m i : ℕ) → Contains (w.forward_needs m) i → ForwardNeeds a m i
+  pub forward_needs_from : (m i : ℕ) → Contains (w.forward_needs m) i → ForwardNeeds a m i
   forward_needs_from m i has = forward_needs_in m i (slice_get a.nonterminals m) refl has
 
   module _ (p : ℕ) (production : Production) (at : slice_get a.productions p ≡ Some production) where
-    listed : Contains a.productions production
+    pub listed : Contains a.productions production
     listed = contains_at a.productions production p at
 
-    named : IsNamedProduction a production
+    pub named : IsNamedProduction a production
     named = all_contained (IsNamedProduction a) a.productions production is.named.productions listed
 
     once : IsOnceIn production
     once = all_contained IsOnceIn a.productions production is.once.productions listed
 
-    left_is : w.left p ≡ production.left
+    pub left_is : w.left p ≡ production.left
     left_is = ap (left_in start) at
 
-    owner_is : w.production_owner p ≡ owner_of production.owner
+    pub owner_is : w.production_owner p ≡ owner_of production.owner
     owner_is = ap (λ z. owner_in (option_map (λ (r : Production). r.owner) z)) at
 
     has_production : Has part (w.production_owner p)
@@ -225,7 +225,7 @@ module _ (a : AttributionParts) (is : IsAttribution a) (start : ℕ) where
         (has_owner (length a.extensions) (place_owner production (place.Local x)) (local_owner_listed x (slice_get production.locals x) refl))
 
     -- what the production writes
-    written_is : (o : Owner) (v : Vertex) → w.writes o p v ≡ written_by o (rule_at production v)
+    pub written_is : (o : Owner) (v : Vertex) → w.writes o p v ≡ written_by o (rule_at production v)
     written_is o v = ap (λ z. written_by o (rule_in v z)) at
 
     abbrev from_written : Owner → ℕ × List Node → Bool → Option (List Node)
@@ -241,13 +241,13 @@ module _ (a : AttributionParts) (is : IsAttribution a) (start : ℕ) where
     some_written o nodes r false found = absurd (cc found)
 
     -- the equation that is found for a vertex
-    abbrev IsEquationFor : Vertex → Written → List Equation → Type 0
+    abbrev pub IsEquationFor : Vertex → Written → List Equation → Type 0
     IsEquationFor v r equations = (e : Equation) × Contains equations e × (v ≡ target_vertex e.target) × (r ≡ (e.owner, e.nodes))
 
     abbrev from_equation : Vertex → Equation → List Equation → Bool → Option Written
     from_equation v e rest same = elim same [ true ↦ Some (e.owner, e.nodes) | false ↦ equation_at v rest ]
 
-    found_equation : (v : Vertex) (r : Written) (equations : List Equation) → equation_at v equations ≡ Some r → IsEquationFor v r equations
+    pub found_equation : (v : Vertex) (r : Written) (equations : List Equation) → equation_at v equations ≡ Some r → IsEquationFor v r equations
     found_equation v r [] found = absurd (cc found)
     found_equation v r (e ∷ rest) found = cases (same_vertex v (target_vertex e.target)) refl found (found_equation v r rest) where
       cases : (same : Bool) → same_vertex v (target_vertex e.target) ≡ same → from_equation v e rest same ≡ Some r
@@ -354,10 +354,10 @@ module _ (a : AttributionParts) (is : IsAttribution a) (start : ℕ) where
         let written = written_to (tree_of forward) production.owner f.nodes (ap (forward_rule production.owner) there) in
         (f.nodes, ap (λ o. w.writes o p (tree_of forward)) owner_is ∙ written)
 
-    forwarding_to : Forwards production → IsForwarding w p
+    pub forwarding_to : Forwards production → IsForwarding w p
     forwarding_to forwards = forwarding_in production.forward refl forwards
 
-    forward_in : (nodes : List Node) (f : Option Forward) → production.forward ≡ f → IsRule production (tree_of forward) nodes → IsSome f
+    pub forward_in : (nodes : List Node) (f : Option Forward) → production.forward ≡ f → IsRule production (tree_of forward) nodes → IsSome f
     forward_in nodes (Some f) there rule = refl
     forward_in nodes None there (rules.by_equation e has same known) = absurd (no_tree e.target forward (sym same))
     forward_in nodes None there (rules.by_local x l has same known) = absurd (cc same)

@@ -3,3 +3,4 @@ pub mod StayLemmas
 pub mod WalkLemmas
 pub mod UnionLemmas
 pub mod AttributionLemmas
+pub mod NamedLemmas

@@ -3,7 +3,8 @@
 ghost use Rattle.std.specs.Prelude.{ℕ};
 ghost use Rattle.wb_resolved.specs.declared.attribution.AttributionParts.{AttributionParts};
 ghost use Rattle.wb_resolved.specs.Attribution.{IsAttribution};
-ghost use Rattle.wb_worlds.specs.Attributions.{IsUnion};
+ghost use Rattle.wb_attributes.specs.Modular.{IsHosts};
+ghost use Rattle.wb_worlds.specs.Attributions.{world_of, IsUnion};
 ghost use Rattle.wb_worlds.specs.Laws.{IsUnionWellDefined, IsWrittenOnce};
 ghost use Rattle.wb_worlds.specs.Named.{IsNamed};
 ghost use Rattle.wb_worlds.specs.Worlds.{World};
@@ -21,4 +22,9 @@ pub fn once_law()
 /// A production's attributes are well defined in the union of an attribution's world exactly if they are in the attribution.
 pub fn attribution_law()
     ensures { (a : AttributionParts) → IsAttribution a → (start : ℕ) → IsUnion a start }
+{}
+
+/// In the world of an attribution whose start is the host's, owners see what they name, and declare and write only what they may.
+pub fn names_law()
+    ensures { (a : AttributionParts) → IsAttribution a → (start : ℕ) → IsHosts a start → IsNamed (world_of a start) }
 {}
