@@ -10,10 +10,12 @@ use Rattle.wb_lemmas.proofs.Places.{at_once}
 use Rattle.wb_attributes.proofs.RuleLemmas.{one_target, no_tree}
 use Rattle.wb_attributes.specs.Flow as flow
 use Rattle.wb_attributes.specs.Flow.{HasFlowEdge, Leads, one, more}
+use Rattle.wb_attributes.specs.Modular.{EachProduction, AreWellDefinedAttributes}
 use Rattle.wb_attributes.specs.Occurrences.{IsOn, Occurs, Needs, ForwardNeeds}
 use Rattle.wb_attributes.specs.Rules as rules
 use Rattle.wb_attributes.specs.Rules.{Forwards, IsBelow, IsRule, HasRule, Reads, target_vertex}
-use Rattle.wb_attributes.specs.Vertices.{local, forward, Step, child, made, Vertex, top_synthesized, top_inherited, synthesized, inherited, tree_of}
+use Rattle.wb_attributes.specs.Vertices.{local, forward, Step, child, made, Vertex, top_synthesized, top_inherited, synthesized}
+use Rattle.wb_attributes.specs.Vertices.{inherited, tree_of}
 use Rattle.wb_attributes.specs.WellDefined.{IsWellDefinedProduction}
 use Rattle.wb_base.specs.declared.symbol.Kind.TheVariants as kind
 use Rattle.wb_evaluation.proofs.RuleLemmas.{both, vertex_equal, vertex_again}
@@ -38,10 +40,13 @@ use Rattle.wb_resolved.specs.Expression.{Node}
 use Rattle.wb_resolved.specs.Named.{IsNamedOccurrence, IsNamedProduction, IsNamedLocal, IsNamedEquation}
 use Rattle.wb_resolved.specs.Once.{IsOnceIn}
 use Rattle.wb_resolved.specs.Visible.{kind_at, owner_of_local, place_owner}
-use Rattle.wb_worlds.specs.Attributions.{same_owner, same_direction, owner_in, goes_so, is_occurrence, occurrence_at, declared_by, needs_of, forward_needs_of, left_in, kind_in, tree_in, place_owner_in}
+use Rattle.wb_worlds.specs.Attributions.{same_owner, same_direction, goes_so, is_occurrence, occurrence_at, declared_by, needs_of}
+use Rattle.wb_worlds.specs.Attributions.{forward_needs_of, maker_in, left_in, kind_in, tree_in, place_owner_in}
 use Rattle.wb_worlds.specs.Attributions.{Written, equation_at, local_rule, forward_rule, rule_at, rule_in, written_by, world_of, IsUnion}
-use Rattle.wb_worlds.specs.Worlds.{Owner, host, extension, owner_of, World, Part, union, Has, forwarded, IsForwarding, IsBelowIn, OccursIn, IsRuleIn, HasRuleIn}
-use Rattle.wb_worlds.specs.Parts.{HasEdgeIn, by_rule, by_flow_type, by_tree, by_copy_up, by_copy_down, IsWellDefinedIn}
+use Rattle.wb_worlds.specs.Attributions.{AreUnion}
+use Rattle.wb_worlds.specs.Worlds.{Owner, host, extension, owner_of, World, Part, union, Has, forwarded, IsForwarding, IsBelowIn}
+use Rattle.wb_worlds.specs.Worlds.{OccursIn, IsRuleIn, HasRuleIn}
+use Rattle.wb_worlds.specs.Parts.{HasEdgeIn, by_rule, by_flow_type, by_tree, by_copy_up, by_copy_down, IsWellDefinedIn, IsWellDefinedPart}
 use Rattle.wb_worlds.proofs.StayLemmas.{forward_below}
 
 pub has_owner : (n k : ℕ) → k ≤ n → Has (union n) (owner_of k)
@@ -102,7 +107,8 @@ some_occurrence : (m x : ℕ) (r : Occurrence) (rs : List Occurrence) → Contai
 some_occurrence m x r [] listed for only = absurd (nothing_in r listed)
 some_occurrence m x r (s ∷ rest) listed for only =
     cases (is_occurrence m x s) refl (λ later. some_occurrence m x r rest later for (λ z has. only z (contains_later s z rest has))) where
-      cases : (same : Bool) → is_occurrence m x s ≡ same → (Contains rest r → occurrence_at m x rest ≡ Some r) → occurrence_at m x (s ∷ rest) ≡ Some r
+      cases : (same : Bool) → is_occurrence m x s ≡ same → (Contains rest r → occurrence_at m x rest ≡ Some r)
+          → occurrence_at m x (s ∷ rest) ≡ Some r
       cases true same later = ap (from_occurrence m x s rest) same ∙ ap Some (only s (contains_first s rest) (is_for m x s same))
       cases false same later = elim (contains_cases s r rest listed) [
         | inl first ↦
@@ -140,7 +146,8 @@ module _ (a : AttributionParts) (is : IsAttribution a) (start : ℕ) where
       at_once a.occurrences j s r (subst (λ k. slice_get a.occurrences k ≡ Some s) equal at) there
 
   pub occurrence_found : (m x : ℕ) (r : Occurrence) → Contains a.occurrences r → IsFor m x r → occurrence_at m x a.occurrences ≡ Some r
-  occurrence_found m x r has for = some_occurrence m x r a.occurrences has for (λ s listed also. only_occurrence m x r s has for listed also)
+  occurrence_found m x r has for =
+      some_occurrence m x r a.occurrences has for (λ s listed also. only_occurrence m x r s has for listed also)
 
   pub occurs_to : (d : Direction) (m x : ℕ) → Occurs a d x m → OccursIn w part d m x
   occurs_to d m x occurs =
@@ -184,7 +191,8 @@ module _ (a : AttributionParts) (is : IsAttribution a) (start : ℕ) where
   forward_needs_to : (m i : ℕ) → ForwardNeeds a m i → Contains (w.forward_needs m) i
   forward_needs_to m i (r, at, has) = subst (λ z. Contains z i) (sym (ap forward_needs_of at)) has
 
-  forward_needs_in : (m i : ℕ) (r : Option Nonterminal) → slice_get a.nonterminals m ≡ r → Contains (forward_needs_of r) i → ForwardNeeds a m i
+  forward_needs_in : (m i : ℕ) (r : Option Nonterminal) → slice_get a.nonterminals m ≡ r → Contains (forward_needs_of r) i
+      → ForwardNeeds a m i
   forward_needs_in m i None at has = absurd (nothing_in i has)
   forward_needs_in m i (Some r) at has = (r, at, has)
 
@@ -205,7 +213,7 @@ module _ (a : AttributionParts) (is : IsAttribution a) (start : ℕ) where
     left_is = ap (left_in start) at
 
     pub owner_is : w.production_owner p ≡ owner_of production.owner
-    owner_is = ap (λ z. owner_in (option_map (λ (r : Production). r.owner) z)) at
+    owner_is = ap (maker_in (length a.extensions)) at
 
     has_production : Has part (w.production_owner p)
     has_production = subst (Has part) (sym owner_is) (has_owner (length a.extensions) production.owner named.owner)
@@ -247,7 +255,8 @@ module _ (a : AttributionParts) (is : IsAttribution a) (start : ℕ) where
     abbrev from_equation : Vertex → Equation → List Equation → Bool → Option Written
     from_equation v e rest same = elim same [ true ↦ Some (e.owner, e.nodes) | false ↦ equation_at v rest ]
 
-    pub found_equation : (v : Vertex) (r : Written) (equations : List Equation) → equation_at v equations ≡ Some r → IsEquationFor v r equations
+    pub found_equation : (v : Vertex) (r : Written) (equations : List Equation) → equation_at v equations ≡ Some r
+        → IsEquationFor v r equations
     found_equation v r [] found = absurd (cc found)
     found_equation v r (e ∷ rest) found = cases (same_vertex v (target_vertex e.target)) refl found (found_equation v r rest) where
       cases : (same : Bool) → same_vertex v (target_vertex e.target) ≡ same → from_equation v e rest same ≡ Some r
@@ -256,14 +265,16 @@ module _ (a : AttributionParts) (is : IsAttribution a) (start : ℕ) where
           (e, contains_first e rest, vertex_equal v (target_vertex e.target) same, sym (same_Some (e.owner, e.nodes) r here))
       cases false same here later = let (f, has, target, written) = later here in (f, contains_later e f rest has, target, written)
 
-    some_equation : (v : Vertex) (f : Equation) (r : Written) (equations : List Equation) → Contains equations f → v ≡ target_vertex f.target
+    some_equation : (v : Vertex) (f : Equation) (r : Written) (equations : List Equation) → Contains equations f
+        → v ≡ target_vertex f.target
         → ((g : Equation) → Contains equations g → v ≡ target_vertex g.target → (g.owner, g.nodes) ≡ r) → equation_at v equations ≡ Some r
     some_equation v f r [] has target each = absurd (nothing_in f has)
     some_equation v f r (g ∷ rest) has target each =
         cases (same_vertex v (target_vertex g.target)) refl (λ later. some_equation v f r rest later target (λ h there. each h (contains_later g h rest there))) where
           cases : (same : Bool) → same_vertex v (target_vertex g.target) ≡ same → (Contains rest f → equation_at v rest ≡ Some r)
               → equation_at v (g ∷ rest) ≡ Some r
-          cases true same later = ap (from_equation v g rest) same ∙ ap Some (each g (contains_first g rest) (vertex_equal v (target_vertex g.target) same))
+          cases true same later =
+              ap (from_equation v g rest) same ∙ ap Some (each g (contains_first g rest) (vertex_equal v (target_vertex g.target) same))
           cases false same later = elim (contains_cases g f rest has) [
             | inl first ↦
                 let again = vertex_again v in
@@ -287,7 +298,8 @@ module _ (a : AttributionParts) (is : IsAttribution a) (start : ℕ) where
         at_once production.equations j e f (subst (λ k. slice_get production.equations k ≡ Some e) equal first) second
 
     -- a vertex that an equation defines is looked for among the equations
-    rule_at_target : (e : Equation) → rule_at production (target_vertex e.target) ≡ equation_at (target_vertex e.target) production.equations
+    rule_at_target : (e : Equation)
+        → rule_at production (target_vertex e.target) ≡ equation_at (target_vertex e.target) production.equations
     rule_at_target e = go e.target where
       go : (t : Target) → rule_at production (target_vertex t) ≡ equation_at (target_vertex t) production.equations
       go (target.Top y) = refl
@@ -317,7 +329,8 @@ module _ (a : AttributionParts) (is : IsAttribution a) (start : ℕ) where
     by_forward_in : (r : Written) (f : Option Forward) → production.forward ≡ f → forward_rule production.owner f ≡ Some r
         → IsRule production (tree_of forward) r.1
     by_forward_in r None there found = absurd (cc found)
-    by_forward_in r (Some f) there found = rules.by_forward f there refl (ap (λ z. z.1) (sym (same_Some (production.owner, f.nodes) r found)))
+    by_forward_in r (Some f) there found =
+        rules.by_forward f there refl (ap (λ z. z.1) (sym (same_Some (production.owner, f.nodes) r found)))
 
     by_equation_in : (v : Vertex) (r : Written) → equation_at v production.equations ≡ Some r → IsRule production v r.1
     by_equation_in v r found =
@@ -332,7 +345,8 @@ module _ (a : AttributionParts) (is : IsAttribution a) (start : ℕ) where
     rule_found (synthesized s y) r found = by_equation_in (synthesized s y) r found
     rule_found (inherited s y) r found = by_equation_in (inherited s y) r found
 
-    rule_in_written : (o : Owner) (v : Vertex) (nodes : List Node) (r : Option Written) → rule_at production v ≡ r → written_by o r ≡ Some nodes
+    rule_in_written : (o : Owner) (v : Vertex) (nodes : List Node) (r : Option Written) → rule_at production v ≡ r
+        → written_by o r ≡ Some nodes
         → IsRule production v nodes
     rule_in_written o v nodes None found writes = absurd (cc writes)
     rule_in_written o v nodes (Some r) found writes =
@@ -357,7 +371,8 @@ module _ (a : AttributionParts) (is : IsAttribution a) (start : ℕ) where
     pub forwarding_to : Forwards production → IsForwarding w p
     forwarding_to forwards = forwarding_in production.forward refl forwards
 
-    pub forward_in : (nodes : List Node) (f : Option Forward) → production.forward ≡ f → IsRule production (tree_of forward) nodes → IsSome f
+    pub forward_in : (nodes : List Node) (f : Option Forward) → production.forward ≡ f → IsRule production (tree_of forward) nodes
+        → IsSome f
     forward_in nodes (Some f) there rule = refl
     forward_in nodes None there (rules.by_equation e has same known) = absurd (no_tree e.target forward (sym same))
     forward_in nodes None there (rules.by_local x l has same known) = absurd (cc same)
@@ -374,7 +389,8 @@ module _ (a : AttributionParts) (is : IsAttribution a) (start : ℕ) where
     below_to (made forward) m (forwards, left) =
         (forward_below w p (forwarding_to forwards) ∙ ap Some (left_is ∙ left), has_production)
 
-    forwarded_in : (left m : ℕ) (nodes : Option (List Node)) → forwarded left nodes ≡ Some m → (left ≡ m) × ((e : List Node) × (nodes ≡ Some e))
+    forwarded_in : (left m : ℕ) (nodes : Option (List Node)) → forwarded left nodes ≡ Some m
+        → (left ≡ m) × ((e : List Node) × (nodes ≡ Some e))
     forwarded_in left m None there = absurd (cc there)
     forwarded_in left m (Some e) there = (same_Some left m there, (e, refl))
 
@@ -409,7 +425,8 @@ module _ (a : AttributionParts) (is : IsAttribution a) (start : ℕ) where
     edge_from v x (by_rule {e = nodes} rule reads) = flow.by_rule (rule_from v nodes rule) reads
     edge_from v x (by_flow_type {s = s} {a = y} {i = i} {m = m} there occurs needs) =
         flow.by_flow_type (below_from s m there) (occurs_from Synthesized m y occurs) (needs_from m y i needs)
-    edge_from v x (by_tree {k = k} {a = y} {m = m} there occurs) = flow.by_tree (below_from (made k) m there) (occurs_from Synthesized m y occurs)
+    edge_from v x (by_tree {k =
+        k} {a = y} {m = m} there occurs) = flow.by_tree (below_from (made k) m there) (occurs_from Synthesized m y occurs)
     edge_from v x (by_copy_up {a = y} occurs free forwards) =
         flow.by_copy_up (left_from Synthesized y occurs) (λ has. free (has_rule_to (top_synthesized y) has)) (forwarding_from forwards)
     edge_from v x (by_copy_down {i = i} occurs free forwards) =
@@ -448,7 +465,8 @@ module _ (a : AttributionParts) (is : IsAttribution a) (start : ℕ) where
         | inl has ↦ inl (has_rule_from (top_synthesized x) has)
         | inr forwards ↦ inr (forwarding_from forwards)
       ];
-      below = λ s i read. elim (good.below read.vertex read.nodes s read.attribute read.nonterminal i (rule_to read.vertex read.nodes read.rule)
+      below =
+          λ s i read. elim (good.below read.vertex read.nodes s read.attribute read.nonterminal i (rule_to read.vertex read.nodes read.rule)
           read.reads (below_to s read.nonterminal read.below) (needs_to read.nonterminal read.attribute i read.needs)) [
             | inl has ↦ inl (has_rule_from (inherited s i) has)
             | inr forwarded ↦ inr forwarded
@@ -463,3 +481,30 @@ module _ (a : AttributionParts) (is : IsAttribution a) (start : ℕ) where
   -- the attribution is the union of its world
   pub is_union : IsUnion a start
   is_union p production at = (well_defined_to p production at, well_defined_from p production at)
+
+  -- what isn't a production is in no part
+  production_to : (p : ℕ) (r : Option Production) → slice_get a.productions p ≡ r → Has part (maker_in (length a.extensions) r)
+      → EachProduction a (IsWellDefinedProduction a) → IsWellDefinedIn w part p
+  production_to p None at has each = absurd (omega (arith, has))
+  production_to p (Some production) at has each = (is_union p production at).0 (each p production at)
+
+  part_to : AreWellDefinedAttributes a (Some start) None → IsWellDefinedPart w part
+  part_to good = record {
+    productions = λ p has. production_to p (slice_get a.productions p) refl has good.productions;
+    forward_needs =
+        λ m x i occurs has. needs_to m x i (good.forward_needs m x i (occurs_from Synthesized m x occurs) (forward_needs_from m i has));
+    start_inherits = λ i occurs. good.start_inherits i (occurs_from Inherited start i occurs);
+  }
+
+  part_from : IsWellDefinedPart w part → AreWellDefinedAttributes a (Some start) None
+  part_from good = record {
+    productions = λ p production at. (is_union p production at).1 (good.productions p (has_production p production at));
+    forward_needs =
+        λ m x i occurs has. needs_from m x i (good.forward_needs m x i (occurs_to Synthesized m x occurs) (forward_needs_to m i has));
+    start_inherits = λ i occurs. good.start_inherits i (occurs_to Inherited start i occurs);
+    forwards = tt;
+    forward_equations = tt;
+  }
+
+  pub are_union : AreUnion a start
+  are_union = (part_to, part_from)

@@ -1,6 +1,6 @@
 -- In the world of an attribution owners declare and write what they may.
-use Rattle.std.proofs.Common.{◌≡◌, ◌⊎◌, ◌∙◌, ◌&&◌, ℕ, zero, suc, List, Option, Some, None, Bool, true, false, nat_eq, IsTrue, Contains}
-use Rattle.std.proofs.Common.{refl, sym, subst, ap, inl, inr, slice_get, option_map, All}
+use Rattle.std.proofs.Common.{◌≡◌, ◌⊎◌, ◌∙◌, ◌&&◌, ℕ, List, Option, Some, None, Bool, true, false, IsTrue, Contains}
+use Rattle.std.proofs.Common.{refl, sym, subst, ap, inl, inr, slice_get, option_map, length, All}
 use Rattle.std.specs.Prelude.{IsSome, IfSome}
 use Rattle.std.proofs.lemmas.Bool.{eqb-true}
 use Rattle.std.proofs.lemmas.Option.{same_Some}
@@ -10,7 +10,8 @@ use Rattle.wb_attributes.proofs.OccurrenceLemmas.{goes_seen}
 use Rattle.wb_attributes.specs.Modular.{IsHosts}
 use Rattle.wb_attributes.specs.Occurrences.{Goes}
 use Rattle.wb_attributes.specs.Rules.{Reads, target_vertex, node_read}
-use Rattle.wb_attributes.specs.Vertices.{Made, local, forward, Step, child, made, Vertex, top_synthesized, top_inherited, synthesized, inherited, tree_of, step_to}
+use Rattle.wb_attributes.specs.Vertices.{local, forward, made, Vertex, top_synthesized, top_inherited, synthesized, inherited, tree_of}
+use Rattle.wb_attributes.specs.Vertices.{step_to}
 use Rattle.wb_base.specs.declared.symbol.Kind.{Kind}
 use Rattle.wb_base.specs.declared.symbol.Kind.TheVariants as kind
 use Rattle.wb_evaluation.proofs.RuleLemmas.{both}
@@ -27,7 +28,6 @@ use Rattle.wb_resolved.specs.declared.equation.Place.TheVariants as place
 use Rattle.wb_resolved.specs.declared.equation.Target.{Target}
 use Rattle.wb_resolved.specs.declared.equation.Target.TheVariants as target
 use Rattle.wb_resolved.specs.declared.production.Child.{Child}
-use Rattle.wb_resolved.specs.declared.production.ChildKind.{ChildKind}
 use Rattle.wb_resolved.specs.declared.production.ChildKind.TheVariants as child_kind
 use Rattle.wb_resolved.specs.declared.production.Forward.{Forward}
 use Rattle.wb_resolved.specs.declared.production.Local.{Local}
@@ -36,16 +36,21 @@ use Rattle.wb_resolved.specs.declared.production.ProductionRole.{ProductionRole}
 use Rattle.wb_resolved.specs.declared.production.ProductionRole.TheVariants.{Concrete, Abstract}
 use Rattle.wb_resolved.specs.Attribution.{IsAttribution}
 use Rattle.wb_resolved.specs.Expression.{Node}
-use Rattle.wb_resolved.specs.Named.{IsNamedExpression, IsNamedChild, IsChildKindOf, IsNamedOccurrence, IsNamedLocal, IsNamedEquation, IsNamedTarget, IsNamedNode}
+use Rattle.wb_resolved.specs.Named.{IsNamedExpression, IsNamedChild, IsChildKindOf, IsNamedOccurrence, IsNamedLocal, IsNamedEquation}
+use Rattle.wb_resolved.specs.Named.{IsNamedTarget, IsNamedNode}
 use Rattle.wb_resolved.specs.Owned.{IsOwnOccurrence, IsOwnEquation, IsForOwnLocal, IsForOwnOccurrence}
 use Rattle.wb_resolved.specs.Owners as numbers
 use Rattle.wb_resolved.specs.Visible.{SeesNonterminal, SeesAttribute, SeesOccurrence, SeesPlace, kind_at, owner_of_local, place_owner}
-use Rattle.wb_worlds.specs.Attributions.{same_owner, owner_in, goes_so, occurrence_at, declared_by, needs_of, forward_needs_of, left_in, kind_in, tree_in, place_owner_in}
-use Rattle.wb_worlds.specs.Attributions.{Written, equation_at, local_rule, forward_rule, rule_at, rule_in, written_by, world_of}
-use Rattle.wb_worlds.specs.Worlds.{Owner, host, extension, owner_of, World, part_of, Has, Sees, below, step_owner, IsForwarding, IsBelowIn, OccursIn, IsVertexIn}
-use Rattle.wb_worlds.specs.Named.{IsNamed, MayWrite, IsOwnLocal, DeclaresBelow}
-use Rattle.wb_worlds.proofs.AttributionLemmas.{IsFor, IsEquationFor, owner_again, goes_to, goes_from, found_occurrence, occurrence_found, tree_from, left_is, owner_is, named, found_equation}
-use Rattle.wb_worlds.proofs.AttributionLemmas.{forwarding_to}
+use Rattle.wb_worlds.specs.Attributions.{same_owner, owner_in, goes_so, occurrence_at, declared_by, needs_of, forward_needs_of, left_in}
+use Rattle.wb_worlds.specs.Attributions.{kind_in, tree_in, place_owner_in}
+use Rattle.wb_worlds.specs.Attributions.{Written, equation_at, local_rule, forward_rule, rule_at, rule_in, written_by, world_of, maker_in}
+use Rattle.wb_worlds.specs.Attributions.{IsComposed}
+use Rattle.wb_worlds.specs.Worlds.{Owner, host, extension, owner_of, World, part_of, Sees, below, IsBelowIn, OccursIn, IsVertexIn}
+use Rattle.wb_worlds.specs.Named.{IsNamed, MayWrite, IsOwnLocal}
+use Rattle.wb_worlds.proofs.AttributionLemmas.{IsFor, owner_again, goes_to, found_occurrence, occurrence_found, tree_from, left_is}
+use Rattle.wb_worlds.proofs.AttributionLemmas.{owner_is, named, found_equation}
+use Rattle.wb_worlds.proofs.AttributionLemmas.{forwarding_to, are_union}
+use Rattle.wb_worlds.proofs.UnionLemmas.{union_is_well_defined}
 use Rattle.wb_worlds.proofs.SightLemmas.{sees_itself}
 use Rattle.wb_worlds.proofs.StayLemmas.{forward_below}
 
@@ -97,7 +102,8 @@ module _ (a : AttributionParts) (is : IsAttribution a) (start : ℕ) (first : Is
   IsDeclared o m x = (r : Occurrence) × Contains a.occurrences r × (m ≡ r.nonterminal) × (x ≡ r.attribute) × (o ≡ owner_of r.owner)
       × (occurrence_at m x a.occurrences ≡ Some r)
 
-  declared_in : (o : Owner) (m x : ℕ) (r : Option Occurrence) → occurrence_at m x a.occurrences ≡ r → declared_by o r ≡ true → IsDeclared o m x
+  declared_in : (o : Owner) (m x : ℕ) (r : Option Occurrence) → occurrence_at m x a.occurrences ≡ r → declared_by o r ≡ true
+      → IsDeclared o m x
   declared_in o m x None there declared = absurd (cc declared)
   declared_in o m x (Some r) there declared =
       let (has, for) = found_occurrence m x r a.occurrences there in
@@ -112,9 +118,11 @@ module _ (a : AttributionParts) (is : IsAttribution a) (start : ℕ) (first : Is
   occurrence_named r has = all_contained (IsNamedOccurrence a) a.occurrences r is.named.occurrences has
 
   occurs_seen : (owner : ℕ) (d : Direction) (x m : ℕ) → SeesOccurrence a owner d x m → OccursIn w (part_of (owner_of owner)) d m x
-  occurs_seen owner d x m seen =
-      (owner_of seen.occurrence.owner, sees_to owner seen.occurrence.owner seen.seen,
-          declares_to d m x seen.occurrence seen.listed (sym seen.on_nonterminal, sym seen.of_attribute) (goes_seen a owner d x seen.attribute))
+  occurs_seen owner d x m seen = (
+    owner_of seen.occurrence.owner,
+    sees_to owner seen.occurrence.owner seen.seen,
+    declares_to d m x seen.occurrence seen.listed (sym seen.on_nonterminal, sym seen.of_attribute) (goes_seen a owner d x seen.attribute),
+  )
 
   nonterminal : (d : Direction) (o : Owner) (m x : ℕ) → IsTrue (w.declares d o m x) → Sees o (w.nonterminal_owner m)
   nonterminal d o m x declares =
@@ -133,11 +141,12 @@ module _ (a : AttributionParts) (is : IsAttribution a) (start : ℕ) (first : Is
   own d o m x declares =
       let (r, has, on, of, owner, there) = declared_from d o m x declares in
       elim (all_contained (IsOwnOccurrence a) a.occurrences r is.owned.occurrences has) [
-        inl mine ↦ inr (ap w.attribute_owner of ∙ ap owner_in mine ∙ sym owner)
+        | inl mine ↦ inr (ap w.attribute_owner of ∙ ap owner_in mine ∙ sym owner)
         | inr mine ↦ inl (ap w.nonterminal_owner on ∙ ap owner_in mine ∙ sym owner)
       ]
 
-  needs_named : (o : Owner) (m x i : ℕ) → IsTrue (w.declares Synthesized o m x) → Contains (w.needs m x) i → OccursIn w (part_of o) Inherited m i
+  needs_named : (o : Owner) (m x i : ℕ) → IsTrue (w.declares Synthesized o m x) → Contains (w.needs m x) i
+      → OccursIn w (part_of o) Inherited m i
   needs_named o m x i declares has =
       let (r, listed, on, of, owner, there) = declared_from Synthesized o m x declares in
       let inside = subst (λ z. Contains z i) (ap needs_of there) has in
@@ -154,15 +163,17 @@ module _ (a : AttributionParts) (is : IsAttribution a) (start : ℕ) (first : Is
       subst (λ z. OccursIn w (part_of z) Inherited m i) (sym equal) (occurs_seen r.owner Inherited i m seen)
 
   -- what is seen from a production, and of nothing the host sees the start
-  left_seen_in : (r : Option Production) → ((production : Production) → r ≡ Some production → SeesNonterminal a production.owner production.left)
-      → Sees (owner_in (option_map (λ (z : Production). z.owner) r)) (w.nonterminal_owner (left_in start r))
-  left_seen_in None each = subst (Sees host) (sym start_is) tt
+  left_seen_in : (r : Option Production)
+      → ((production : Production) → r ≡ Some production → SeesNonterminal a production.owner production.left)
+      → Sees (maker_in (length a.extensions) r) (w.nonterminal_owner (left_in start r))
+  left_seen_in None each = subst (Sees (extension (length a.extensions))) (sym start_is) tt
   left_seen_in (Some production) each = nonterminal_seen production.owner production.left (each production refl)
 
   left_seen : (p : ℕ) → Sees (w.production_owner p) (w.nonterminal_owner (w.left p))
   left_seen p = left_seen_in (slice_get a.productions p) (λ production at. (named a is start p production at).left)
 
-  child_kind_seen : (owner m : ℕ) (role : ProductionRole) → IsChildKindOf a owner role (child_kind.Value (kind.Tree m)) → SeesNonterminal a owner m
+  child_kind_seen : (owner m : ℕ) (role : ProductionRole) → IsChildKindOf a owner role (child_kind.Value (kind.Tree m))
+      → SeesNonterminal a owner m
   child_kind_seen owner m Concrete (k, same, seen) = let equal : k ≡ m = cc same in subst (SeesNonterminal a owner) equal seen
   child_kind_seen owner m Abstract seen = seen
 
@@ -176,12 +187,12 @@ module _ (a : AttributionParts) (is : IsAttribution a) (start : ℕ) (first : Is
       child_kind_seen production.owner m production.role (subst (IsChildKindOf a production.owner production.role) equal seen)
 
   child_seen_in : (p k m : ℕ) (r : Option Production) → slice_get a.productions p ≡ r → tree_in (kind_in (place.Child k) r) ≡ Some m
-      → Sees (owner_in (option_map (λ (z : Production). z.owner) r)) (w.nonterminal_owner m)
+      → Sees (maker_in (length a.extensions) r) (w.nonterminal_owner m)
   child_seen_in p k m None at there = absurd (cc there)
   child_seen_in p k m (Some production) at there =
       let good = named a is start p production at in
       let each : (z : Child) → slice_get production.children k ≡ Some z → IsNamedChild a production z
-              = λ z has. all_contained (IsNamedChild a production) production.children z good.children (contains_at production.children z k has) in
+      = λ z has. all_contained (IsNamedChild a production) production.children z good.children (contains_at production.children z k has) in
       let same = tree_from m (kind_at production (place.Child k)) there in
       nonterminal_seen production.owner m (child_at production m (slice_get production.children k) each same)
 
@@ -228,12 +239,14 @@ module _ (a : AttributionParts) (is : IsAttribution a) (start : ℕ) (first : Is
     -- what is seen at a place is one step down
     place_seen : (owner m : ℕ) (s : Place) → SeesPlace production owner s (child_kind.Value (kind.Tree m))
         → IsBelowIn w (part_of (owner_of owner)) p (step_to s) m
-    place_seen owner m (place.Child k) seen =
-        (ap (λ z. tree_in (kind_in (place.Child k) z)) at ∙ ap tree_in seen.is,
-            subst (Sees (owner_of owner)) (sym (owner_is a is start p production at)) (sees_to owner production.owner seen.seen))
-    place_seen owner m (place.Local x) seen =
-        (ap (λ z. tree_in (kind_in (place.Local x) z)) at ∙ ap tree_in seen.is,
-            subst (Sees (owner_of owner)) (sym (place_owner_is x)) (sees_to owner (place_owner production (place.Local x)) seen.seen))
+    place_seen owner m (place.Child k) seen = (
+      ap (λ z. tree_in (kind_in (place.Child k) z)) at ∙ ap tree_in seen.is,
+      subst (Sees (owner_of owner)) (sym (owner_is a is start p production at)) (sees_to owner production.owner seen.seen),
+    )
+    place_seen owner m (place.Local x) seen = (
+      ap (λ z. tree_in (kind_in (place.Local x) z)) at ∙ ap tree_in seen.is,
+      subst (Sees (owner_of owner)) (sym (place_owner_is x)) (sees_to owner (place_owner production (place.Local x)) seen.seen),
+    )
 
     left_occurs : (owner : ℕ) (d : Direction) (x : ℕ) → SeesOccurrence a owner d x production.left
         → OccursIn w (part_of (owner_of owner)) d (w.left p) x
@@ -243,15 +256,18 @@ module _ (a : AttributionParts) (is : IsAttribution a) (start : ℕ) (first : Is
     -- who sees the production sees what is forwarded to
     forward_seen : (owner : ℕ) → numbers.Sees owner production.owner → IsSome production.forward
         → IsBelowIn w (part_of (owner_of owner)) p (made forward) (w.left p)
-    forward_seen owner there forwards =
-        (forward_below w p (forwarding_to a is start p production at forwards),
-            subst (Sees (owner_of owner)) (sym (owner_is a is start p production at)) (sees_to owner production.owner there))
+    forward_seen owner there forwards = (
+      forward_below w p (forwarding_to a is start p production at forwards),
+      subst (Sees (owner_of owner)) (sym (owner_is a is start p production at)) (sees_to owner production.owner there),
+    )
 
     target_seen : (owner : ℕ) (t : Target) → numbers.Sees owner production.owner → IsNamedTarget a production owner t
         → IsVertexIn w (part_of (owner_of owner)) p (target_vertex t)
     target_seen owner (target.Top y) there seen = left_occurs owner Synthesized y seen
-    target_seen owner (target.Place s y) there (m, below_there, seen) = (m, place_seen owner m s below_there, occurs_seen owner Inherited y m seen)
-    target_seen owner (target.Forward y) there (forwards, seen) = (w.left p, forward_seen owner there forwards, left_occurs owner Inherited y seen)
+    target_seen owner (target.Place s y) there (m, below_there, seen) =
+        (m, place_seen owner m s below_there, occurs_seen owner Inherited y m seen)
+    target_seen owner (target.Forward y) there (forwards, seen) =
+        (w.left p, forward_seen owner there forwards, left_occurs owner Inherited y seen)
 
     local_kind_in : (x : ℕ) (k : Kind) (l : Option Local)
         → option_map (λ (z : Local). child_kind.Value (kind.Tree z.nonterminal)) l ≡ Some (child_kind.Value k) → (m : ℕ) × (k ≡ kind.Tree m)
@@ -323,7 +339,7 @@ module _ (a : AttributionParts) (is : IsAttribution a) (start : ℕ) (first : Is
         (subst (λ z. IsVertexIn w (part_of (owner_of z)) p (target_vertex e.target)) (sym same) seen)
     seen_of v owner nodes (of_local x l has target same known) =
         let kinds = ap (λ z. tree_in (kind_in (place.Local x) z)) at
-                ∙ ap (λ z. tree_in (option_map (λ (k : Local). child_kind.Value (kind.Tree k.nonterminal)) z)) has in
+        ∙ ap (λ z. tree_in (option_map (λ (k : Local). child_kind.Value (kind.Tree k.nonterminal)) z)) has in
         let mine : owner_of owner ≡ w.local_owner p x = ap owner_of same ∙ sym (local_owner_is x l has) in
         subst (IsVertexIn w (part_of (owner_of owner)) p) (sym target)
         (l.nonterminal, (kinds, subst (Sees (owner_of owner)) mine (sees_itself (owner_of owner))))
@@ -332,12 +348,14 @@ module _ (a : AttributionParts) (is : IsAttribution a) (start : ℕ) (first : Is
         (w.left p, forward_seen owner (inr (sym same)) (subst IsSome (sym has) refl))
 
     -- who may write for a target
-    declares_at : (owner : ℕ) (d : Direction) (m y : ℕ) (s : Place) (o : Occurrence) → Contains a.occurrences o → IsFor m y o → o.owner ≡ owner
+    declares_at : (owner : ℕ) (d : Direction) (m y : ℕ) (s : Place) (o : Occurrence) → Contains a.occurrences o → IsFor m y o
+        → o.owner ≡ owner
         → Goes a d y → w.declares d (owner_of owner) m y ≡ true
     declares_at owner d m y s o has for mine goes =
         subst (λ z. w.declares d (owner_of z) m y ≡ true) mine (declares_to d m y o has for goes)
 
-    local_owner_in : (owner : ℕ) (l : Option Local) → option_map (λ (z : Local). z.owner) l ≡ Some owner → owner_of_local production l ≡ owner
+    local_owner_in : (owner : ℕ) (l : Option Local) → option_map (λ (z : Local). z.owner) l ≡ Some owner
+        → owner_of_local production l ≡ owner
     local_owner_in owner None same = absurd (cc same)
     local_owner_in owner (Some l) same = same_Some l.owner owner same
 
@@ -376,15 +394,18 @@ module _ (a : AttributionParts) (is : IsAttribution a) (start : ℕ) (first : Is
         let (of, on) = mine.is_target in
         let goes = goes_seen a owner Inherited y seen.attribute in
         let declares = declares_at owner Inherited production.left y (place.Child 0) mine.occurrence mine.listed (sym on, sym of) mine.declared goes in
-        inr (inr (w.left p, forward_below w p (forwarding_to a is start p production at forwards),
-            subst (λ z. w.declares Inherited (owner_of owner) z y ≡ true) (sym (left_is a is start p production at)) declares))
+        inr (inr (
+          w.left p,
+          forward_below w p (forwarding_to a is start p production at forwards),
+          subst (λ z. w.declares Inherited (owner_of owner) z y ≡ true) (sym (left_is a is start p production at)) declares,
+        ))
 
     may_of : (v : Vertex) (owner : ℕ) (nodes : List Node) → IsRuleOf production v owner nodes → MayWrite w (owner_of owner) p v
     may_of v owner nodes (of_equation e has target same known) =
         let equation = all_contained (IsNamedEquation a production) production.equations e (named a is start p production at).equations has in
         let mine = all_contained (IsOwnEquation a production) production.equations e
-                (all_contained (λ (r : Production). All (IsOwnEquation a r) r.equations) a.productions production is.owned.equations
-                (contains_at a.productions production p at)) has in
+        (all_contained (λ (r : Production). All (IsOwnEquation a r) r.equations) a.productions production is.owned.equations
+        (contains_at a.productions production p at)) has in
         subst (MayWrite w (owner_of owner) p) (sym target)
         (subst (λ z. MayWrite w (owner_of z) p (target_vertex e.target)) (sym same) (target_may e.owner e.target mine equation.target))
     may_of v owner nodes (of_local x l has target same known) =
@@ -403,7 +424,7 @@ module _ (a : AttributionParts) (is : IsAttribution a) (start : ℕ) (first : Is
         subst (AreNamed owner) (sym known) (subst (λ z. AreNamed z l.nodes) (sym same) (local_named x l has).value.named)
     named_of v owner nodes (of_forward f has target same known) =
         let seen = subst (λ o. IfSome o (λ (g : Forward). IsNamedExpression a production production.owner g.nodes)) has
-                (named a is start p production at).forward in
+        (named a is start p production at).forward in
         subst (AreNamed owner) (sym known) (subst (λ z. AreNamed z f.nodes) (sym same) seen.named)
 
     reads_of : (v x : Vertex) (owner : ℕ) (nodes : List Node) → IsRuleOf production v owner nodes → Reads nodes x
@@ -448,7 +469,7 @@ module _ (a : AttributionParts) (is : IsAttribution a) (start : ℕ) (first : Is
 
   local_seen_in : (p x m : ℕ) (r : Option Production) → slice_get a.productions p ≡ r → w.local_at p x ≡ Some m
       → Sees (w.local_owner p x) (w.nonterminal_owner m) × Sees (w.local_owner p x) (w.production_owner p)
-  local_seen_in p x m None at there = let none = ap (λ z. tree_in (kind_in (place.Local x) z)) at in absurd (cc (none, there))
+  local_seen_in p x m None at there = absurd (cc (sym (ap (λ z. tree_in (kind_in (place.Local x) z)) at) ∙ there))
   local_seen_in p x m (Some production) at there = (local_seen_at p production at x m there, local_there_at p production at x m there)
 
   pub is_named : IsNamed w
@@ -478,3 +499,7 @@ module _ (a : AttributionParts) (is : IsAttribution a) (start : ℕ) (first : Is
         let s = source o p v e writes in
         subst (λ z. IsVertexIn w (part_of z) p x) (sym s.same) (reads_of p s.production s.at v x s.owner e s.rule reads);
   }
+
+  -- the union of what is well defined apart
+  pub is_composed : IsComposed a start
+  is_composed apart = (are_union a is start).1 (union_is_well_defined w (length a.extensions) is_named apart)

@@ -43,13 +43,15 @@ module _ (w : World) (named : IsNamed w) where
 abbrev pub Inside : Part → Part → Type 0
 Inside part other = (o : Owner) → Has part o → Has other o
 
-pub occurs_more : (w : World) (d : Direction) (m a : ℕ) (part other : Part) → Inside part other → OccursIn w part d m a → OccursIn w other d m a
+pub occurs_more : (w : World) (d : Direction) (m a : ℕ) (part other : Part) → Inside part other → OccursIn w part d m a
+    → OccursIn w other d m a
 occurs_more w d m a part other more (o, h, declared) = (o, more o h, declared)
 
 pub defined_more : (w : World) (p : ℕ) (v : Vertex) (part other : Part) → Inside part other → HasRuleIn w part p v → HasRuleIn w other p v
 defined_more w p v part other more (e, r) = (e, (r.0, more r.0 r.1, r.2))
 
-pub vertex_more : (w : World) (p : ℕ) (part other : Part) → Inside part other → (v : Vertex) → IsVertexIn w part p v → IsVertexIn w other p v
+pub vertex_more : (w : World) (p : ℕ) (part other : Part) → Inside part other → (v : Vertex) → IsVertexIn w part p v
+    → IsVertexIn w other p v
 vertex_more w p part other more (top_synthesized a) (o, h, d) = (o, more o h, d)
 vertex_more w p part other more (top_inherited i) (o, h, d) = (o, more o h, d)
 vertex_more w p part other more (synthesized s a) (m, b, (o, h, d)) = (m, (b.0, more (step_owner w p s) b.1), (o, more o h, d))

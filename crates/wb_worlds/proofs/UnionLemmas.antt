@@ -5,10 +5,12 @@ use Rattle.wb_attributes.specs.Flow.{Leads}
 use Rattle.wb_attributes.specs.Rules.{Reads}
 use Rattle.wb_resolved.specs.declared.attributes.Direction.TheVariants.{Synthesized}
 use Rattle.wb_resolved.specs.Expression.{Node}
-use Rattle.wb_worlds.specs.Worlds.{Owner, host, extension, World, union, Has, part_of, Sees, IsForwarding, IsBelowIn, OccursIn, IsRuleIn, HasRuleIn, IsVertexIn}
+use Rattle.wb_worlds.specs.Worlds.{Owner, host, extension, World, union, Has, part_of, Sees, IsForwarding, IsBelowIn, OccursIn, IsRuleIn}
+use Rattle.wb_worlds.specs.Worlds.{HasRuleIn, IsVertexIn}
 use Rattle.wb_worlds.specs.Named.{IsNamed}
 use Rattle.wb_worlds.specs.Parts.{HasEdgeIn, IsWellDefinedIn, IsWellDefinedPart, AreWellDefinedApart}
-use Rattle.wb_worlds.proofs.SightLemmas.{sees_itself, has_seen, unique, defined_more, apart, one_seen, sees_extension, Meeting, first_sees, second_sees, strangers, meeting}
+use Rattle.wb_worlds.proofs.SightLemmas.{sees_itself, has_seen, unique, defined_more, apart, one_seen, sees_extension, Meeting}
+use Rattle.wb_worlds.proofs.SightLemmas.{first_sees, second_sees, strangers, meeting}
 use Rattle.wb_worlds.proofs.StayLemmas.{forward_below, walk_stays}
 use Rattle.wb_worlds.proofs.WalkLemmas.{Walks, append1, first_edge, moved, from_top, from_syn, from_inh, from_top_inh, from_tree_of, passes}
 
@@ -44,14 +46,23 @@ module _ (w : World) (named : IsNamed w) (n : ℕ) (ok : AreWellDefinedApart w n
       go (first_sees s) = known (w.production_owner p) there (sees_itself (w.production_owner p)) (o, s, d)
       go (second_sees s) = known o has s (o, sees_itself o, d)
       go (strangers j k made_by is differ) =
-          strange (record { maker = j; other = k; made_by = made_by; declared = subst (λ z. IsTrue (w.declares Synthesized z (w.left p) a)) is d; listed = subst (Has (union n)) is has; differ = differ })
+          strange (record {
+            maker =
+                j;
+            other = k;
+            made_by = made_by;
+            declared = subst (λ z. IsTrue (w.declares Synthesized z (w.left p) a)) is d;
+            listed = subst (Has (union n)) is has;
+            differ = differ;
+          })
 
   module _ (a : ℕ) (x : Strange a) where
     maker_listed : x.maker < n
     maker_listed = subst (Has (union n)) x.made_by there
 
     left_host : w.nonterminal_owner (w.left p) ≡ host
-    left_host = apart x.maker x.other (w.nonterminal_owner (w.left p)) x.differ (subst (λ z. Sees z (w.nonterminal_owner (w.left p))) x.made_by (named.left_seen p)) (named.nonterminal Synthesized (extension x.other) (w.left p) a x.declared)
+    left_host =
+        apart x.maker x.other (w.nonterminal_owner (w.left p)) x.differ (subst (λ z. Sees z (w.nonterminal_owner (w.left p))) x.made_by (named.left_seen p)) (named.nonterminal Synthesized (extension x.other) (w.left p) a x.declared)
 
     strange_forwards : IsForwarding w p
     strange_forwards = (ok.extensions x.maker maker_listed).forwards p x.made_by left_host
@@ -73,7 +84,8 @@ module _ (w : World) (named : IsNamed w) (n : ℕ) (ok : AreWellDefinedApart w n
         from_forward i ((ok_at o there (sees_itself o)).forward_flow_type i ((walk_stays w named (union n) p o there (sees_itself o) (w.left p, (forward_below w p strange_forwards, sees_itself o)) s).0))
 
     -- an equation of the maker for what the forward inherits
-    from_written : (i j : ℕ) → Contains (w.needs (w.left p) a) i → HasRuleIn w (union n) p (inherited (made forward) i) → Leads E (inherited (made forward) i) (top_inherited j) → Contains (w.needs (w.left p) a) j
+    from_written : (i j : ℕ) → Contains (w.needs (w.left p) a) i → HasRuleIn w (union n) p (inherited (made forward) i)
+        → Leads E (inherited (made forward) i) (top_inherited j) → Contains (w.needs (w.left p) a) j
     from_written i j c (e, (q, h, is)) s =
         let v = inherited (made forward) i in
         let same : q ≡ extension x.maker = sees_extension q x.maker (subst (λ z. Sees q z) x.made_by (named.writes_there q p v e is)) in
@@ -85,7 +97,8 @@ module _ (w : World) (named : IsNamed w) (n : ℕ) (ok : AreWellDefinedApart w n
           | inr f ↦ subst (λ z. Contains (w.needs (w.left p) a) z) (sym f) c
         ]
 
-    from_below : (i j : ℕ) → Contains (w.needs (w.left p) a) i → Leads E (inherited (made forward) i) (top_inherited j) → Contains (w.needs (w.left p) a) j
+    from_below : (i j : ℕ) → Contains (w.needs (w.left p) a) i → Leads E (inherited (made forward) i) (top_inherited j)
+        → Contains (w.needs (w.left p) a) j
     from_below i j c s = let f = first_edge s in elim (from_inh w named (union n) p f.1) [
       | inl d ↦ from_written i j c d s
       | inr is ↦ elim (moved (subst (λ z. Walks E z (top_inherited j)) is f.2)) [
@@ -136,10 +149,12 @@ module _ (w : World) (named : IsNamed w) (n : ℕ) (ok : AreWellDefinedApart w n
       defined_back o has v d = defined_more w p v (part_of o) (union n) (λ q s. has_seen (union n) o q has s) d
 
       top_at : (a : ℕ) → Place a → HasRuleIn w (union n) p (top_synthesized a) ⊎ IsForwarding w p
-      top_at a (known o has sees at) = elim ((ok_at o has sees).top a at) [ inl d ↦ inl (defined_back o has (top_synthesized a) d) | inr f ↦ inr f ]
+      top_at a (known o has sees at) =
+          elim ((ok_at o has sees).top a at) [ inl d ↦ inl (defined_back o has (top_synthesized a) d) | inr f ↦ inr f ]
       top_at a (strange x) = inr (strange_forwards a x)
 
-      below_at : (v : Vertex) (e : List Node) (s : Step) (a m i : ℕ) → IsRuleIn w (union n) p v e → Reads e (synthesized s a) → IsBelowIn w (union n) p s m → Contains (w.needs m a) i → HasRuleIn w (union n) p (inherited s i) ⊎ (s ≡ made forward)
+      below_at : (v : Vertex) (e : List Node) (s : Step) (a m i : ℕ) → IsRuleIn w (union n) p v e → Reads e (synthesized s a)
+          → IsBelowIn w (union n) p s m → Contains (w.needs m a) i → HasRuleIn w (union n) p (inherited s i) ⊎ (s ≡ made forward)
       below_at v e s a m i (q, has, is) reads b c =
           let seen = named.reads_seen q p v e (synthesized s a) is reads in
           let is_m = b.0 in

@@ -36,16 +36,19 @@ rank (top_inherited i) = 0
 rank (tree_of k) = 0
 
 module _ (w : World) (named : IsNamed w) (part : Part) (p : ℕ) where
-  pub from_top : {a : ℕ} {y : Vertex} → HasEdgeIn w part p (top_synthesized a) y → HasRuleIn w part p (top_synthesized a) ⊎ (y ≡ synthesized (made forward) a)
+  pub from_top : {a : ℕ} {y : Vertex} → HasEdgeIn w part p (top_synthesized a) y
+      → HasRuleIn w part p (top_synthesized a) ⊎ (y ≡ synthesized (made forward) a)
   from_top (by_rule {e = e} r reads) = inl (e, r)
   from_top (by_copy_up at free f) = inr refl
 
-  pub from_syn : {s : Step} {a : ℕ} {y : Vertex} → HasEdgeIn w part p (synthesized s a) y → ((i m : ℕ) × IsBelowIn w part p s m × Contains (w.needs m a) i × (y ≡ inherited s i)) ⊎ ((k : Made) × (s ≡ made k) × (y ≡ tree_of k))
+  pub from_syn : {s : Step} {a : ℕ} {y : Vertex} → HasEdgeIn w part p (synthesized s a) y
+      → ((i m : ℕ) × IsBelowIn w part p s m × Contains (w.needs m a) i × (y ≡ inherited s i)) ⊎ ((k : Made) × (s ≡ made k) × (y ≡ tree_of k))
   from_syn {s} {a} (by_rule {e = e} r reads) = absurd (named.writes_may r.0 p (synthesized s a) e r.2)
   from_syn (by_flow_type {i = i} {m = m} b at c) = inl (i, m, b, c, refl)
   from_syn (by_tree {k = k} b at) = inr (k, refl, refl)
 
-  pub from_inh : {s : Step} {i : ℕ} {y : Vertex} → HasEdgeIn w part p (inherited s i) y → HasRuleIn w part p (inherited s i) ⊎ (y ≡ top_inherited i)
+  pub from_inh : {s : Step} {i : ℕ} {y : Vertex} → HasEdgeIn w part p (inherited s i) y
+      → HasRuleIn w part p (inherited s i) ⊎ (y ≡ top_inherited i)
   from_inh (by_rule {e = e} r reads) = inl (e, r)
   from_inh (by_copy_down at free f) = inr refl
 
@@ -63,7 +66,8 @@ module _ (w : World) (named : IsNamed w) (part : Part) (p : ℕ) where
   down (by_copy_down at free f) = inl (omega arith)
 
   -- a walk leads down, or goes through a vertex that has a rule
-  pub passes : {v x : Vertex} → Leads (HasEdgeIn w part p) v x → (rank x < rank v) ⊎ ((y : Vertex) × HasRuleIn w part p y × Walks (HasEdgeIn w part p) v y × Leads (HasEdgeIn w part p) y x)
+  pub passes : {v x : Vertex} → Leads (HasEdgeIn w part p) v x
+      → (rank x < rank v) ⊎ ((y : Vertex) × HasRuleIn w part p y × Walks (HasEdgeIn w part p) v y × Leads (HasEdgeIn w part p) y x)
   passes (one {v = v} e) = elim (down e) [ inl lt ↦ inl lt | inr d ↦ inr (v, d, nil, one e) ]
   passes (more {w = y} s e) = elim (passes s) [
     | inl lt ↦ elim (down e) [ inl below ↦ inl (omega (arith, lt, below)) | inr d ↦ inr (y, d, still s, one e) ]

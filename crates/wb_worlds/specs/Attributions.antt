@@ -1,5 +1,7 @@
 -- The world of an attribution, in the attribution's numbers.
-use Rattle.std.specs.Prelude.{◌≡◌, ◌↔◌, ℕ, Bool, true, false, ◌&&◌, nat_eq, List, [], ◌∷◌, Option, Some, None, length, option_map, slice_get}
+use Rattle.std.specs.Prelude.{◌≡◌, ◌↔◌, ℕ, Bool, true, false, ◌&&◌, nat_eq, List, [], ◌∷◌, Option, Some, None, length, option_map}
+use Rattle.std.specs.Prelude.{slice_get}
+use Rattle.wb_attributes.specs.Modular.{AreWellDefinedAttributes}
 use Rattle.wb_attributes.specs.Rules.{target_vertex}
 use Rattle.wb_attributes.specs.Vertices.{local, forward, Vertex, tree_of}
 use Rattle.wb_attributes.specs.WellDefined.{IsWellDefinedProduction}
@@ -22,7 +24,7 @@ use Rattle.wb_resolved.specs.declared.production.Production.{Production}
 use Rattle.wb_resolved.specs.Expression.{Node}
 use Rattle.wb_resolved.specs.Visible.{kind_at, place_owner}
 use Rattle.wb_worlds.specs.Worlds.{Owner, host, extension, owner_of, World, union}
-use Rattle.wb_worlds.specs.Parts.{IsWellDefinedIn}
+use Rattle.wb_worlds.specs.Parts.{IsWellDefinedIn, IsWellDefinedPart, AreWellDefinedApart}
 
 -- the owner of what may be there; of nothing, the host
 abbrev pub owner_in : Option ℕ → Owner
@@ -63,6 +65,11 @@ needs_of (Some r) = r.needs
 abbrev pub forward_needs_of : Option Nonterminal → List ℕ
 forward_needs_of None = []
 forward_needs_of (Some r) = r.forward_needs
+
+-- who makes what may be a production; one that isn't there is of an extension that isn't
+abbrev pub maker_in : ℕ → Option Production → Owner
+maker_in extensions None = extension extensions
+maker_in extensions (Some r) = owner_of r.owner
 
 -- what stands on the left of what may be a production, and below it; a production that isn't there has the start on its left
 abbrev pub left_in : ℕ → Option Production → ℕ
@@ -120,7 +127,7 @@ world_of a start = record {
   declares = λ d o m x. goes_so d (slice_get a.attributes x) && declared_by o (occurrence_at m x a.occurrences);
   needs = λ m x. needs_of (occurrence_at m x a.occurrences);
   forward_needs = λ m. forward_needs_of (slice_get a.nonterminals m);
-  production_owner = λ p. owner_in (option_map (λ (r : Production). r.owner) (slice_get a.productions p));
+  production_owner = λ p. maker_in (length a.extensions) (slice_get a.productions p);
   left = λ p. left_in start (slice_get a.productions p);
   child_at = λ p k. tree_in (kind_in (place.Child k) (slice_get a.productions p));
   local_at = λ p x. tree_in (kind_in (place.Local x) (slice_get a.productions p));
@@ -132,3 +139,11 @@ world_of a start = record {
 abbrev pub IsUnion : AttributionParts → ℕ → Type 0
 IsUnion a start = (p : ℕ) (production : Production) → slice_get a.productions p ≡ Some production
     → IsWellDefinedProduction a production ↔ IsWellDefinedIn (world_of a start) (union (length a.extensions)) p
+
+-- the attribution's attributes are well defined exactly if those of the union are
+abbrev pub AreUnion : AttributionParts → ℕ → Type 0
+AreUnion a start = AreWellDefinedAttributes a (Some start) None ↔ IsWellDefinedPart (world_of a start) (union (length a.extensions))
+
+-- where the host is well defined, and each extension is with the host alone, the attribution is
+abbrev pub IsComposed : AttributionParts → ℕ → Type 0
+IsComposed a start = AreWellDefinedApart (world_of a start) (length a.extensions) → AreWellDefinedAttributes a (Some start) None

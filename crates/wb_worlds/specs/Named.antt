@@ -1,7 +1,8 @@
 -- Who sees which names, and who may declare and write what.
 use Rattle.std.specs.Prelude.{◌≡◌, ◌⊎◌, ℕ, List, Some, IsTrue, Contains}
 use Rattle.wb_attributes.specs.Rules.{Reads}
-use Rattle.wb_attributes.specs.Vertices.{local, forward, Step, child, made, Vertex, top_synthesized, top_inherited, synthesized, inherited, tree_of}
+use Rattle.wb_attributes.specs.Vertices.{local, forward, Step, child, made, Vertex, top_synthesized, top_inherited, synthesized}
+use Rattle.wb_attributes.specs.Vertices.{inherited, tree_of}
 use Rattle.wb_resolved.specs.declared.attributes.Direction.{Direction}
 use Rattle.wb_resolved.specs.declared.attributes.Direction.TheVariants.{Synthesized, Inherited}
 use Rattle.wb_resolved.specs.Expression.{Node}
