@@ -127,7 +127,7 @@ tree_from m (Some (child_kind.Value kind.Text)) is = absurd (cc is)
 tree_from m (Some (child_kind.Value (kind.Tree k))) is = ap (λ z. Some (child_kind.Value (kind.Tree z))) (same_Some k m is)
 
 -- a walk by edges that are edges of another graph
-leads_map : {V : Type 0} {E F : V → V → Type 0} → ((v x : V) → E v x → F v x) → {v x : V} → Leads E v x → Leads F v x
+pub leads_map : {V : Type 0} {E F : V → V → Type 0} → ((v x : V) → E v x → F v x) → {v x : V} → Leads E v x → Leads F v x
 leads_map each (one {v = v} {w = x} e) = one (each v x e)
 leads_map each (more {w = y} {x = x} s e) = more (leads_map each s) (each y x e)
 
@@ -135,7 +135,7 @@ module _ (a : AttributionParts) (is : IsAttribution a) (start : ℕ) where
   abbrev pub w : World
   w = world_of a start
 
-  abbrev part : Part
+  abbrev pub part : Part
   part = union (length a.extensions)
 
   only_occurrence : (m x : ℕ) (r s : Occurrence) → Contains a.occurrences r → IsFor m x r → Contains a.occurrences s → IsFor m x s → s ≡ r
@@ -188,7 +188,7 @@ module _ (a : AttributionParts) (is : IsAttribution a) (start : ℕ) where
   pub needs_from : (m x i : ℕ) → Contains (w.needs m x) i → Needs a x m i
   needs_from m x i has = needs_in m x i (occurrence_at m x a.occurrences) refl has
 
-  forward_needs_to : (m i : ℕ) → ForwardNeeds a m i → Contains (w.forward_needs m) i
+  pub forward_needs_to : (m i : ℕ) → ForwardNeeds a m i → Contains (w.forward_needs m) i
   forward_needs_to m i (r, at, has) = subst (λ z. Contains z i) (sym (ap forward_needs_of at)) has
 
   forward_needs_in : (m i : ℕ) (r : Option Nonterminal) → slice_get a.nonterminals m ≡ r → Contains (forward_needs_of r) i
@@ -355,10 +355,10 @@ module _ (a : AttributionParts) (is : IsAttribution a) (start : ℕ) where
     rule_from : (v : Vertex) (nodes : List Node) → IsRuleIn w part p v nodes → IsRule production v nodes
     rule_from v nodes (o, has, writes) = rule_in_written o v nodes (rule_at production v) refl (sym (written_is o v) ∙ writes)
 
-    has_rule_to : (v : Vertex) → HasRule production v → HasRuleIn w part p v
+    pub has_rule_to : (v : Vertex) → HasRule production v → HasRuleIn w part p v
     has_rule_to v (nodes, rule) = (nodes, rule_to v nodes rule)
 
-    has_rule_from : (v : Vertex) → HasRuleIn w part p v → HasRule production v
+    pub has_rule_from : (v : Vertex) → HasRuleIn w part p v → HasRule production v
     has_rule_from v (nodes, rule) = (nodes, rule_from v nodes rule)
 
     -- the forward
@@ -378,7 +378,7 @@ module _ (a : AttributionParts) (is : IsAttribution a) (start : ℕ) where
     forward_in nodes None there (rules.by_local x l has same known) = absurd (cc same)
     forward_in nodes None there (rules.by_forward f has same known) = absurd (cc (there, has))
 
-    forwarding_from : IsForwarding w p → Forwards production
+    pub forwarding_from : IsForwarding w p → Forwards production
     forwarding_from (nodes, writes) =
         forward_in nodes production.forward refl (rule_from (tree_of forward) nodes (w.production_owner p, has_production, writes))
 
@@ -411,7 +411,7 @@ module _ (a : AttributionParts) (is : IsAttribution a) (start : ℕ) where
     left_from d x occurs = subst (λ z. Occurs a d x z) left_is (occurs_from d (w.left p) x occurs)
 
     -- the edges
-    edge_to : (v x : Vertex) → HasFlowEdge a production v x → HasEdgeIn w part p v x
+    pub edge_to : (v x : Vertex) → HasFlowEdge a production v x → HasEdgeIn w part p v x
     edge_to v x (flow.by_rule {nodes = nodes} rule reads) = by_rule (rule_to v nodes rule) reads
     edge_to v x (flow.by_flow_type {s = s} {x = y} {i = i} {m = m} there occurs needs) =
         by_flow_type (below_to s m there) (occurs_to Synthesized m y occurs) (needs_to m y i needs)
@@ -421,7 +421,7 @@ module _ (a : AttributionParts) (is : IsAttribution a) (start : ℕ) where
     edge_to v x (flow.by_copy_down {i = i} occurs free forwards) =
         by_copy_down (left_to Inherited i occurs) (λ has. free (has_rule_from (inherited (made forward) i) has)) (forwarding_to forwards)
 
-    edge_from : (v x : Vertex) → HasEdgeIn w part p v x → HasFlowEdge a production v x
+    pub edge_from : (v x : Vertex) → HasEdgeIn w part p v x → HasFlowEdge a production v x
     edge_from v x (by_rule {e = nodes} rule reads) = flow.by_rule (rule_from v nodes rule) reads
     edge_from v x (by_flow_type {s = s} {a = y} {i = i} {m = m} there occurs needs) =
         flow.by_flow_type (below_from s m there) (occurs_from Synthesized m y occurs) (needs_from m y i needs)
@@ -488,7 +488,7 @@ module _ (a : AttributionParts) (is : IsAttribution a) (start : ℕ) where
   production_to p None at has each = absurd (omega (arith, has))
   production_to p (Some production) at has each = (is_union p production at).0 (each p production at)
 
-  part_to : AreWellDefinedAttributes a (Some start) None → IsWellDefinedPart w part
+  pub part_to : AreWellDefinedAttributes a (Some start) None → IsWellDefinedPart w part
   part_to good = record {
     productions = λ p has. production_to p (slice_get a.productions p) refl has good.productions;
     forward_needs =
@@ -496,7 +496,7 @@ module _ (a : AttributionParts) (is : IsAttribution a) (start : ℕ) where
     start_inherits = λ i occurs. good.start_inherits i (occurs_from Inherited start i occurs);
   }
 
-  part_from : IsWellDefinedPart w part → AreWellDefinedAttributes a (Some start) None
+  pub part_from : IsWellDefinedPart w part → AreWellDefinedAttributes a (Some start) None
   part_from good = record {
     productions = λ p production at. (is_union p production at).1 (good.productions p (has_production p production at));
     forward_needs =

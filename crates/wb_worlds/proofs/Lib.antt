@@ -4,3 +4,4 @@ pub mod WalkLemmas
 pub mod UnionLemmas
 pub mod AttributionLemmas
 pub mod NamedLemmas
+pub mod PartLemmas

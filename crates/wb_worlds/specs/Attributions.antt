@@ -23,8 +23,8 @@ use Rattle.wb_resolved.specs.declared.production.Local.{Local}
 use Rattle.wb_resolved.specs.declared.production.Production.{Production}
 use Rattle.wb_resolved.specs.Expression.{Node}
 use Rattle.wb_resolved.specs.Visible.{kind_at, place_owner}
-use Rattle.wb_worlds.specs.Worlds.{Owner, host, extension, owner_of, World, union}
-use Rattle.wb_worlds.specs.Parts.{IsWellDefinedIn, IsWellDefinedPart, AreWellDefinedApart}
+use Rattle.wb_worlds.specs.Worlds.{Owner, host, extension, owner_of, World, plain, union}
+use Rattle.wb_worlds.specs.Parts.{IsWellDefinedIn, IsWellDefinedPart, IsWellDefinedExtension, AreWellDefinedApart}
 
 -- the owner of what may be there; of nothing, the host
 abbrev pub owner_in : Option ℕ → Owner
@@ -147,3 +147,12 @@ AreUnion a start = AreWellDefinedAttributes a (Some start) None ↔ IsWellDefine
 -- where the host is well defined, and each extension is with the host alone, the attribution is
 abbrev pub IsComposed : AttributionParts → ℕ → Type 0
 IsComposed a start = AreWellDefinedApart (world_of a start) (length a.extensions) → AreWellDefinedAttributes a (Some start) None
+
+-- without extensions the attribution's attributes are well defined exactly if those of the host are
+abbrev pub IsHostTested : AttributionParts → ℕ → Type 0
+IsHostTested a start = length a.extensions ≡ 0 → AreWellDefinedAttributes a (Some start) None ↔ IsWellDefinedPart (world_of a start) plain
+
+-- with one extension they are, as its own with the host, exactly if those of the extension are
+abbrev pub IsExtensionTested : AttributionParts → ℕ → Type 0
+IsExtensionTested a start = length a.extensions ≡ 1
+    → AreWellDefinedAttributes a (Some start) (Some 1) ↔ IsWellDefinedExtension (world_of a start) 0

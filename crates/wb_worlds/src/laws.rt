@@ -4,7 +4,7 @@ ghost use Rattle.std.specs.Prelude.{ℕ};
 ghost use Rattle.wb_resolved.specs.declared.attribution.AttributionParts.{AttributionParts};
 ghost use Rattle.wb_resolved.specs.Attribution.{IsAttribution};
 ghost use Rattle.wb_attributes.specs.Modular.{IsHosts};
-ghost use Rattle.wb_worlds.specs.Attributions.{world_of, IsUnion, AreUnion, IsComposed};
+ghost use Rattle.wb_worlds.specs.Attributions.{world_of, IsUnion, AreUnion, IsComposed, IsHostTested, IsExtensionTested};
 ghost use Rattle.wb_worlds.specs.Laws.{IsUnionWellDefined, IsWrittenOnce};
 ghost use Rattle.wb_worlds.specs.Named.{IsNamed};
 ghost use Rattle.wb_worlds.specs.Worlds.{World};
@@ -33,4 +33,10 @@ pub fn names_law()
 /// Where the attributes of the host are well defined, and those of each extension with the host alone, those of the attribution are.
 pub fn composition_law()
     ensures { (a : AttributionParts) → IsAttribution a → (start : ℕ) → IsHosts a start → IsComposed a start }
+{}
+
+/// What is tested of an attribution without extensions, or with one, is that of its world's host, or of the extension with the host.
+pub fn tested_law()
+    ensures host { (a : AttributionParts) → IsAttribution a → (start : ℕ) → IsHostTested a start }
+    ensures extension { (a : AttributionParts) → IsAttribution a → (start : ℕ) → IsExtensionTested a start }
 {}
