@@ -1,0 +1,7 @@
+pub mod SightLemmas
+pub mod StayLemmas
+pub mod WalkLemmas
+pub mod UnionLemmas
+pub mod AttributionLemmas
+pub mod NamedLemmas
+pub mod PartLemmas
