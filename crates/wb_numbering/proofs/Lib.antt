@@ -1,0 +1,11 @@
+pub mod BaseCarried
+pub mod Carrying
+pub mod CarryingNamed
+pub mod NumberLemmas
+pub mod OneMoved
+pub mod OneProduction
+pub mod OneRow
+pub mod OneValue
+pub mod RenamingLemmas
+pub mod RowLemmas
+pub mod SourceLemmas
