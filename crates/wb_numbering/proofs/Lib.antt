@@ -1,6 +1,10 @@
 pub mod BaseCarried
 pub mod Carrying
 pub mod CarryingNamed
+pub mod DeclaredBy
+pub mod Found
+pub mod Ground
+pub mod LabelsFound
 pub mod NumberLemmas
 pub mod OneMoved
 pub mod OneProduction
@@ -8,4 +12,6 @@ pub mod OneRow
 pub mod OneValue
 pub mod RenamingLemmas
 pub mod RowLemmas
+pub mod Selected
+pub mod SidesFound
 pub mod SourceLemmas
