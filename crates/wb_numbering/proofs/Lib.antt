@@ -10,8 +10,10 @@ pub mod OneMoved
 pub mod OneProduction
 pub mod OneRow
 pub mod OneValue
+pub mod OwnNamed
 pub mod RenamingLemmas
 pub mod RowLemmas
 pub mod Selected
 pub mod SidesFound
 pub mod SourceLemmas
+pub mod Used

@@ -100,7 +100,7 @@ module _ (n : Numbering) (distinct : AreDistinct n) where
   productions_differ = differ_right n.nonterminals n.productions others_differ
 
   -- a terminal isn't a nonterminal
-  not_both : (owner : ℕ) (name : List ℕ) (k j : ℕ) → IsNumber n.terminals owner name k → IsNumber n.nonterminals owner name j → ⊥
+  pub not_both : (owner : ℕ) (name : List ℕ) (k j : ℕ) → IsNumber n.terminals owner name k → IsNumber n.nonterminals owner name j → ⊥
   not_both owner name k j x y = not_in_both n.terminals (n.nonterminals ++ n.productions) distinct.symbols owner name k j x
       (record { other = y.other; is = append_keeps n.nonterminals n.productions j (y.other, name) y.is; seen = y.seen })
 
@@ -195,7 +195,7 @@ module _ (n : Numbering) (distinct : AreDistinct n) where
       }) f
 
       -- a label names one place
-      one_place : (label : List ℕ) (x y : Place) → IsPlace labels owner label x → IsPlace labels owner label y → x ≡ y
+      pub one_place : (label : List ℕ) (x y : Place) → IsPlace labels owner label x → IsPlace labels owner label y → x ≡ y
       one_place label (place.Child k) (place.Child j) e f =
           ap place.Child (one_number (map entry_of labels.children ++ labels.locals) differ.differ owner label k j (child_number label k e)
           (child_number label j f))
