@@ -1,7 +1,9 @@
 pub mod BaseCarried
 pub mod Carrying
 pub mod CarryingNamed
+pub mod Counts
 pub mod DeclaredBy
+pub mod Distinct
 pub mod Found
 pub mod Ground
 pub mod LabelsFound
@@ -16,4 +18,5 @@ pub mod RowLemmas
 pub mod Selected
 pub mod SidesFound
 pub mod SourceLemmas
+pub mod Times
 pub mod Used
