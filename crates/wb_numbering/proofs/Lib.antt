@@ -7,6 +7,7 @@ pub mod Distinct
 pub mod Found
 pub mod Ground
 pub mod LabelsFound
+pub mod LabelsOnce
 pub mod NumberLemmas
 pub mod OneMoved
 pub mod OneProduction

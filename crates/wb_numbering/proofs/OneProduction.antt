@@ -55,7 +55,7 @@ labels_differ row owner differ sees = record {
 }
 
 -- the label of a local that an equation makes
-pub local_label : is_for.Target → List ℕ
+abbrev pub local_label : is_for.Target → List ℕ
 local_label (g.Local label nonterminal) = label
 local_label (g.Top attribute) = []
 local_label (g.Label label attribute) = []
@@ -70,9 +70,8 @@ abbrev pub written_name : ℕ → written.Equation → Entry
 written_name owner w = (owner, local_label w.target)
 
 module _ (n : Numbering) (owner : ℕ) where
-  target_label : (from : is_for.Target) (label : List ℕ) (number : ℕ) → IsWrittenLocalTarget n owner from label number
+  pub target_label : (from : is_for.Target) (label : List ℕ) (number : ℕ) → IsWrittenLocalTarget n owner from label number
       → label ≡ local_label from
-  unfolding local_label
   target_label (g.Local written nonterminal) label number e = e.0
   target_label (g.Top attribute) label number e = absurd e
   target_label (g.Label other attribute) label number e = absurd e
