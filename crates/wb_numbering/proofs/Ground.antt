@@ -8,11 +8,12 @@ use Rattle.wb_lemmas.proofs.Places.{at_once}
 use Rattle.wb_resolved.specs.declared.attributes.Attribute.{Attribute}
 use Rattle.wb_resolved.specs.declared.attributes.Nonterminal.{Nonterminal}
 use Rattle.wb_resolved.specs.declared.attributes.Occurrence.{Occurrence}
+use Rattle.wb_resolved.specs.declared.equation.Equation.{Equation}
 use Rattle.wb_resolved.specs.declared.production.Local.{Local}
 use Rattle.wb_resolved.specs.declared.production.Production.{Production}
 use Rattle.wb_resolved.specs.declared.resolved.ResolvedParts.{ResolvedParts}
 use Rattle.wb_resolved.specs.declared.terminal.Terminal.{Terminal}
-use Rattle.wb_resolved.specs.Named.{IsNamedLocal, IsNamedProduction, IsNamedOccurrence, IsNamedAttribute}
+use Rattle.wb_resolved.specs.Named.{IsNamedLocal, IsNamedEquation, IsNamedProduction, IsNamedOccurrence, IsNamedAttribute}
 use Rattle.wb_resolved.specs.Once.{Entry, NamesDiffer}
 use Rattle.wb_resolved.specs.Owners.{Sees, IsOwner}
 use Rattle.wb_resolved.specs.Resolved.{IsResolved, IsNamedTerminal}
@@ -37,6 +38,7 @@ pub record IsHosts (base : ResolvedParts) : Type 0 where
   pub occurrences : (x : Occurrence) → Contains base.attributes.occurrences x → x.owner ≡ 0
   pub productions : (p : Production) → Contains base.attributes.productions p → p.owner ≡ 0
   pub locals : (p : Production) → Contains base.attributes.productions p → (l : Local) → Contains p.locals l → l.owner ≡ 0
+  pub equations : (p : Production) → Contains base.attributes.productions p → (e : Equation) → Contains p.equations e → e.owner ≡ 0
 
 no_other : (extensions : List (List ℕ)) (owner : ℕ) → extensions ≡ [] → IsOwner extensions owner → owner ≡ 0
 no_other extensions owner none_there is =
@@ -57,6 +59,9 @@ hosts base is alone = record {
   locals = λ p has l more. no_other base.attributes.extensions l.owner alone
       (all_contained (IsNamedLocal base.attributes p) p.locals l
       (all_contained (IsNamedProduction base.attributes) base.attributes.productions p is.attributes.named.productions has).locals more).owner;
+  equations = λ p has e more. no_other base.attributes.extensions e.owner alone
+      (all_contained (IsNamedEquation base.attributes p) p.equations e
+      (all_contained (IsNamedProduction base.attributes) base.attributes.productions p is.attributes.named.productions has).equations more).owner;
 }
 
 -- a moved number is that of the host's name

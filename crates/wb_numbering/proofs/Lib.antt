@@ -19,5 +19,6 @@ pub mod RowLemmas
 pub mod Selected
 pub mod SidesFound
 pub mod SourceLemmas
+pub mod TargetsOnce
 pub mod Times
 pub mod Used
