@@ -9,6 +9,7 @@ pub mod Ground
 pub mod LabelsFound
 pub mod LabelsOnce
 pub mod NumberLemmas
+pub mod OccurrencesOnce
 pub mod OneMoved
 pub mod OneProduction
 pub mod OneRow
@@ -16,6 +17,7 @@ pub mod OneValue
 pub mod OwnNamed
 pub mod RenamingLemmas
 pub mod RowLemmas
+pub mod RowsNamed
 pub mod Selected
 pub mod SidesFound
 pub mod SourceLemmas

@@ -90,10 +90,10 @@ module _ (file : File) (r : ResolvedParts) (known : Known file r) where
   all = declarations file.base file.items
 
   -- the attribute that a place asks for goes that way
-  goes : (name : List ℕ) → AttributeFor all w.Synthesized name → Contains all (d.Attribute name Synthesized)
+  pub goes : (name : List ℕ) → AttributeFor all w.Synthesized name → Contains all (d.Attribute name Synthesized)
   goes name a = subst (λ z. Contains all (d.Attribute name z)) a.suits a.there
 
-  comes : (name : List ℕ) → AttributeFor all w.Inherited name → Contains all (d.Attribute name Inherited)
+  pub comes : (name : List ℕ) → AttributeFor all w.Inherited name → Contains all (d.Attribute name Inherited)
   comes name a = subst (λ z. Contains all (d.Attribute name z)) a.suits a.there
 
   -- a tree, a value and a lexeme by their labels
