@@ -82,6 +82,7 @@ pub record Ground (file : File) (r : ResolvedParts) : Type 0 where
   pub resolves : Resolves file r
   pub distinct : AreDistinct (numbering_of r)
   pub base : IsResolved file.base
+  pub alone : file.base.attributes.extensions ≡ []
   pub host : IsHosts file.base
 
 module _ (file : File) (r : ResolvedParts) (g : Ground file r) where

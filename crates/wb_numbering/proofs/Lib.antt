@@ -15,6 +15,7 @@ pub mod OneProduction
 pub mod OneRow
 pub mod OneValue
 pub mod OwnNamed
+pub mod ProductionsNamed
 pub mod RenamingLemmas
 pub mod RowLemmas
 pub mod RowsNamed

@@ -88,10 +88,10 @@ module _ (file : File) (r : ResolvedParts) (known : Known file r) (owners : IsOw
   ground = known.ground
 
   -- owners are there
-  is_owner : (o : ℕ) → o ≡ file.owner → IsOwner a.extensions o
+  pub is_owner : (o : ℕ) → o ≡ file.owner → IsOwner a.extensions o
   is_owner o e = subst (λ z. o ≤ length z) (sym ground.resolves.extensions) (subst (λ z. z ≤ length file.extensions) (sym e) owners.owner)
 
-  is_host : (o : ℕ) → o ≡ 0 → IsOwner a.extensions o
+  pub is_host : (o : ℕ) → o ≡ 0 → IsOwner a.extensions o
   is_host o e = omega (arith, e)
 
   -- names in flow types: each is used as inherited and as one that occurs
@@ -189,7 +189,7 @@ module _ (file : File) (r : ResolvedParts) (known : Known file r) (owners : IsOw
       }
 
   -- attributes
-  own_kind : (named : NamedKind) (is : Kind) → IsWrittenKind n file.owner named is → SeesKind a file.owner is
+  pub own_kind : (named : NamedKind) (is : Kind) → IsWrittenKind n file.owner named is → SeesKind a file.owner is
   own_kind k.Int is e = subst (SeesKind a file.owner) (sym e) tt
   own_kind k.Bool is e = subst (SeesKind a file.owner) (sym e) tt
   own_kind k.Text is e = subst (SeesKind a file.owner) (sym e) tt
