@@ -33,48 +33,8 @@ use Rattle.wb_naming.specs.Declares.{attribute_name, base_labelled, target_attri
 use Rattle.wb_numbering.specs.Files.{Block, blocks, block_of}
 use Rattle.wb_numbering.proofs.RowLemmas.{contains_map}
 
--- an element of the lists of the elements of a list
-pub contains_flat_map : {X Y : Type 0} (g : X → List Y) (xs : List X) (y : Y) → Contains (flat_map g xs) y
-    → (x : X) × Contains xs x × Contains (g x) y
-contains_flat_map g [] y has = absurd (nothing_in y has)
-contains_flat_map g (z ∷ xs) y has =
-    elim (contains_append (g z) (flat_map g xs) y has) [
-      inl here ↦ (z, contains_first z xs, here)
-    | inr more ↦ let r = contains_flat_map g xs y more in (r.0, contains_later z r.0 xs r.1, r.2)
-    ]
-
-pub flat_map_contains : {X Y : Type 0} (g : X → List Y) (xs : List X) (x : X) (y : Y) → Contains xs x → Contains (g x) y
-    → Contains (flat_map g xs) y
-flat_map_contains g [] x y has more = absurd (nothing_in x has)
-flat_map_contains g (z ∷ xs) x y has more =
-    elim (contains_cases z x xs has) [
-      inl is ↦ append_contains_left (g z) (flat_map g xs) y (subst (λ k. Contains (g k) y) (sym is) more)
-    | inr rest ↦ append_contains_right (g z) (flat_map g xs) y (flat_map_contains g xs x y rest more)
-    ]
-
--- what is kept comes first, where the first element is kept
-skipped : {X Y : Type 0} (g : X → Option Y) (z : X) (xs : List X) → g z ≡ None → filter_map g (z ∷ xs) ≡ filter_map g xs
-skipped g z xs e = ap (λ o. cons_option o (filter_map g xs)) e
-
-took : {X Y : Type 0} (g : X → Option Y) (z : X) (xs : List X) (w : Y) → g z ≡ Some w → filter_map g (z ∷ xs) ≡ w ∷ filter_map g xs
-took g z xs w e = ap (λ o. cons_option o (filter_map g xs)) e
-
-kept_first : {X Y : Type 0} (g : X → Option Y) (z : X) (xs : List X) (y : Y) → g z ≡ Some y → Contains (filter_map g (z ∷ xs)) y
-kept_first g z xs y e = subst (λ k. Contains k y) (sym (took g z xs y e)) (contains_first y (filter_map g xs))
-
-kept_later : {X Y : Type 0} (g : X → Option Y) (z : X) (xs : List X) (y : Y) (o : Option Y) → g z ≡ o → Contains (filter_map g xs) y
-    → Contains (filter_map g (z ∷ xs)) y
-kept_later g z xs y None e more = subst (λ k. Contains k y) (sym (skipped g z xs e)) more
-kept_later g z xs y (Some w) e more = subst (λ k. Contains k y) (sym (took g z xs w e)) (contains_later w y (filter_map g xs) more)
-
--- what some element is kept as is kept
-pub kept : {X Y : Type 0} (g : X → Option Y) (xs : List X) (x : X) (y : Y) → Contains xs x → g x ≡ Some y → Contains (filter_map g xs) y
-kept g [] x y has is = absurd (nothing_in x has)
-kept g (z ∷ xs) x y has is =
-    elim (contains_cases z x xs has) [
-      inl same ↦ kept_first g z xs y (ap g same ∙ is)
-    | inr more ↦ kept_later g z xs y (g z) refl (kept g xs x y more is)
-    ]
+use Rattle.wb_numbering.proofs.OwnDeclared.{IsOwnDeclared, own_declared, contains_flat_map}
+use Rattle.wb_numbering.proofs.OwnDeclared as own
 
 -- what a declaration comes from
 pub data IsDeclaredBy (base : ResolvedParts) (items : Items) (it : Declaration) : Type 0 where
@@ -195,50 +155,18 @@ module _ (base : ResolvedParts) (items : Items) (it : Declaration) where
           from_production base items it x.0 x.1 x.2
       ]
 
-  -- the parts of an item
-  in_block : (b : Block) → Contains (blocks items) b → Contains (equation_declarations b.name b.equations) it → IsDeclaredBy base items it
-  in_block b there h =
-      let x = contains_map (λ (e : written.Equation). target_declaration b.name e.target) b.equations it h in
-      equation b there x.0 x.1 x.2
-
-  from_form : (item : Item Pattern) → Contains items item → (form : ItemForm Pattern) → item.form ≡ form
-      → Contains (form_declarations form) it → IsDeclaredBy base items it
-  from_form item there (f.Lexical role name pattern) e h =
-      elim (contains_cases (d.Symbol name (role_sort role)) it [] h) [
-        inl is ↦ lexical (record { role = role; name = name; pattern = pattern })
-            (kept (λ (x : Item Pattern). lexical_of x.form) items item _ there (ap lexical_of e)) is
-      | inr more ↦ absurd (nothing_in it more)
-      ]
-  from_form item there (f.Plain x) e h =
-      elim (contains_cases (plain_declaration x) it [] h) [
-        inl is ↦ plain x (kept (λ (x : Item Pattern). plain_of x.form) items item x there (ap plain_of e)) is
-      | inr more ↦ absurd (nothing_in it more)
-      ]
-  from_form item there (f.Production role p) e h =
-      let declared = kept (λ (x : Item Pattern). production_of x.form) items item _ there (ap production_of e) in
-      let block = kept (λ (x : Item Pattern). block_of x.form) items item _ there (ap block_of e) in
-      let children = map (child_declaration p.name) p.children in
-      let rest = children ++ equation_declarations p.name p.equations in
-      elim (contains_cases (d.Symbol p.name sort.Production) it (d.Left p.name p.left ∷ rest) h) [
-        inl is ↦ production (record { role = role; production = p }) declared is
-      | inr more ↦ elim (contains_cases (d.Left p.name p.left) it rest more) [
-          inl is ↦ left (record { role = role; production = p }) declared is
-        | inr last ↦ elim (contains_append children (equation_declarations p.name p.equations) it last) [
-            inl one ↦ let x = contains_map (child_declaration p.name) p.children it one in
-                child (record { role = role; production = p }) declared x.0 x.1 x.2
-          | inr one ↦ in_block (record { name = p.name; equations = p.equations }) block one
-          ]
-        ]
-      ]
-  from_form item there (f.Aspect name es) e h =
-      in_block (record { name = name; equations = es })
-      (kept (λ (x : Item Pattern). block_of x.form) items item _ there (ap block_of e)) h
+  -- what items declare
+  from_own : IsOwnDeclared items it → IsDeclaredBy base items it
+  from_own (own.lexical x has e) = lexical x has e
+  from_own (own.plain x has e) = plain x has e
+  from_own (own.production x has e) = production x has e
+  from_own (own.left x has e) = left x has e
+  from_own (own.child x has c more e) = child x has c more e
+  from_own (own.equation b has q more e) = equation b has q more e
 
   pub declared_by : Contains (declarations base items) it → IsDeclaredBy base items it
   declared_by h =
       elim (contains_append (base_declarations base) (item_declarations items) it h) [
         inl one ↦ from_base one
-      | inr one ↦
-          let x = contains_flat_map (λ (item : Item Pattern). form_declarations item.form) items it one in
-          from_form x.0 x.1 x.0.form refl x.2
+      | inr one ↦ from_own (own_declared items it one)
       ]

@@ -37,7 +37,8 @@ use Rattle.wb_numbering.specs.Numbering.{Numbering, numbering_of, IsNumber}
 use Rattle.wb_numbering.specs.Resolves.{Resolves, move_of, IsTerminal, IsNonterminal, IsAttribute, IsOccurrence, IsScanned, IsInGrammarOf}
 use Rattle.wb_numbering.specs.Sources.{sources}
 use Rattle.wb_numbering.proofs.Carrying.{row_at, name_at, Row}
-use Rattle.wb_numbering.proofs.DeclaredBy.{IsDeclaredBy, declared_by, kept}
+use Rattle.wb_numbering.proofs.DeclaredBy.{IsDeclaredBy, declared_by}
+use Rattle.wb_numbering.proofs.OwnDeclared.{kept}
 use Rattle.wb_numbering.proofs.DeclaredBy as by
 use Rattle.wb_numbering.proofs.Ground.{Ground, moved_number}
 use Rattle.wb_numbering.proofs.NumberLemmas.{one_number}

@@ -14,6 +14,7 @@ pub mod OneMoved
 pub mod OneProduction
 pub mod OneRow
 pub mod OneValue
+pub mod OwnDeclared
 pub mod OwnNamed
 pub mod ProductionsNamed
 pub mod RenamingLemmas

@@ -64,7 +64,7 @@ use Rattle.wb_numbering.specs.Carried.{IsCarriedProduction}
 use Rattle.wb_numbering.proofs.BaseCarried.{base_carried, extended_carried}
 use Rattle.wb_numbering.proofs.Carrying.{carried_nonterminal}
 use Rattle.wb_numbering.proofs.CarryingNamed.{carried_all, carried_child, carried_local, carried_equation, carried_expression}
-use Rattle.wb_numbering.proofs.DeclaredBy.{flat_map_contains}
+use Rattle.wb_numbering.proofs.OwnDeclared.{flat_map_contains}
 use Rattle.wb_numbering.proofs.Found.{sees_nonterminal, nonterminal_found}
 use Rattle.wb_numbering.proofs.Ground.{Ground, production_seen}
 use Rattle.wb_numbering.proofs.LabelsFound.{ChildrenScanned, IsScannedName}

@@ -59,7 +59,7 @@ use Rattle.wb_numbering.specs.Written.{local_equations, forward_equations, attri
 use Rattle.wb_numbering.proofs.BaseCarried.{base_carried, extended_carried}
 use Rattle.wb_numbering.proofs.Carrying.{carried_nonterminal, carried_attribute, carried_occurrence, carried_kind, name_at}
 use Rattle.wb_numbering.proofs.CarryingNamed.{carried_all, carried_child, carried_local, carried_equation, carried_expression}
-use Rattle.wb_numbering.proofs.DeclaredBy.{contains_flat_map, flat_map_contains}
+use Rattle.wb_numbering.proofs.OwnDeclared.{contains_flat_map, flat_map_contains}
 use Rattle.wb_numbering.proofs.Found.{sees_nonterminal, sees_attribute, sees_occurrence}
 use Rattle.wb_numbering.proofs.Ground.{Ground, production_seen}
 use Rattle.wb_numbering.proofs.NumberLemmas.{differ_right}

@@ -8,7 +8,7 @@ use Rattle.wb_lemmas.proofs.Members.{contains_cases, contains_first, contains_la
 use Rattle.wb_syntax.specs.declared.expression.Equation.{Equation}
 use Rattle.wb_naming.specs.Declarations.{Items}
 use Rattle.wb_numbering.specs.Files.{Block, blocks, equations_on}
-use Rattle.wb_numbering.proofs.DeclaredBy.{contains_flat_map, flat_map_contains}
+use Rattle.wb_numbering.proofs.OwnDeclared.{contains_flat_map, flat_map_contains}
 
 -- texts are the same exactly where the test holds
 pub same_bytes : (x y : List ℕ) → bytes_eq x y ≡ true → x ≡ y

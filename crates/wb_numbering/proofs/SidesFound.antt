@@ -31,7 +31,8 @@ use Rattle.wb_numbering.specs.Moved.{IsMovedForward}
 use Rattle.wb_numbering.specs.Resolves.{move_of}
 use Rattle.wb_numbering.specs.Written.{IsWrittenForward, forward_equations, makes_forward}
 use Rattle.wb_numbering.proofs.CarryingNamed.{something}
-use Rattle.wb_numbering.proofs.DeclaredBy.{IsDeclaredBy, declared_by, kept, flat_map_contains}
+use Rattle.wb_numbering.proofs.DeclaredBy.{IsDeclaredBy, declared_by}
+use Rattle.wb_numbering.proofs.OwnDeclared.{kept, flat_map_contains}
 use Rattle.wb_numbering.proofs.DeclaredBy as by
 use Rattle.wb_numbering.proofs.Found.{moved_nonterminal}
 use Rattle.wb_numbering.proofs.Ground.{Ground, base_row, own_row}

@@ -22,7 +22,7 @@ use Rattle.wb_naming.specs.Declarations.{Items, ProductionDeclaration, LexicalDe
 use Rattle.wb_naming.specs.Declarations.{lexical_of}
 use Rattle.wb_naming.specs.Uses.{uses, form_uses, plain_uses, production_uses, equation_uses, target_uses, node_uses, kind_uses, child_wanted}
 use Rattle.wb_numbering.specs.Files.{Block, blocks, block_of}
-use Rattle.wb_numbering.proofs.DeclaredBy.{flat_map_contains}
+use Rattle.wb_numbering.proofs.OwnDeclared.{flat_map_contains}
 use Rattle.wb_numbering.proofs.Selected.{kept_from}
 
 -- what an item uses is used
