@@ -277,7 +277,7 @@ module _ (file : File) (r : ResolvedParts) (ground : Ground file r) where
   nonterminal_found name has = nonterminal_by name (declared_by file.base file.items (d.Symbol name sort.Nonterminal) has)
 
   -- terminals, layout and markers
-  own_terminal : (x : LexicalDeclaration) → Contains (lexicals file.items) x → NameFound n.terminals file.owner x.name
+  pub own_terminal : (x : LexicalDeclaration) → Contains (lexicals file.items) x → NameFound n.terminals file.owner x.name
   own_terminal x has =
       let f = row_of IsScanned (IsTerminal file n) (sources file.base.terminals (lexicals file.items)) r.terminals
           ground.resolves.terminals (inr x) (there_declared file.base.terminals (lexicals file.items) x has) in

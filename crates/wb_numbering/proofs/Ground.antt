@@ -105,7 +105,7 @@ module _ (file : File) (r : ResolvedParts) (g : Ground file r) where
       seen_source s.source row s.listed s.is_row
 
   -- the number of a production is that of its name
-  production_number : (k : ℕ) (row : Production) → slice_get r.attributes.productions k ≡ Some row
+  pub production_number : (k : ℕ) (row : Production) → slice_get r.attributes.productions k ≡ Some row
       → IsNumber n.productions file.owner row.name k
   production_number k row at = record {
     other = row.owner;

@@ -193,7 +193,7 @@ module _ (file : File) (r : ResolvedParts) (ground : Ground file r) (scanned : C
     }
 
     -- the local that an equation makes
-    written_local : (q : written.Equation) → Contains (local_equations (equations_on row.name file.items)) q
+    pub written_local : (q : written.Equation) → Contains (local_equations (equations_on row.name file.items)) q
         → RowOf (IsWrittenLocal n file.owner (labels_in row)) row.locals q
     written_local q has =
         let s = source_of IsConcrete (IsProduction file n) (sources b.productions (productions file.items)) r.attributes.productions

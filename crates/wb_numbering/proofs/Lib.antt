@@ -20,6 +20,7 @@ pub mod ProductionsNamed
 pub mod RenamingLemmas
 pub mod RowLemmas
 pub mod RowsNamed
+pub mod RowsOwned
 pub mod Selected
 pub mod SidesFound
 pub mod SourceLemmas

@@ -90,7 +90,7 @@ module _ (n : Numbering) (distinct : AreDistinct n) where
   pub terminals_differ : NamesDiffer n.terminals
   terminals_differ = differ_left n.terminals (n.nonterminals ++ n.productions) distinct.symbols
 
-  others_differ : NamesDiffer (n.nonterminals ++ n.productions)
+  pub others_differ : NamesDiffer (n.nonterminals ++ n.productions)
   others_differ = differ_right n.terminals (n.nonterminals ++ n.productions) distinct.symbols
 
   pub nonterminals_differ : NamesDiffer n.nonterminals

@@ -97,7 +97,7 @@ module _ (file : File) (r : ResolvedParts) (known : Known file r) where
   comes name a = subst (λ z. Contains all (d.Attribute name z)) a.suits a.there
 
   -- a tree, a value and a lexeme by their labels
-  tree_of : (is : Labelled) (m : List ℕ) (at : ChildKind) → IsTree all is m → Means file n is at
+  pub tree_of : (is : Labelled) (m : List ℕ) (at : ChildKind) → IsTree all is m → Means file n is at
       → (k : ℕ) × (at ≡ child.Value (kind.Tree k)) × IsNumber n.nonterminals file.owner m k
   tree_of is m at tree means =
       elim tree.0 [
@@ -132,7 +132,7 @@ module _ (file : File) (r : ResolvedParts) (known : Known file r) where
   module _ (at_row : ℕ) (row : Production) (is_there : slice_get r.attributes.productions at_row ≡ Some row)
       (differ : LabelsDiffer (labels_in row) row.owner file.owner) where
     -- the place of a label
-    placed : (l : List ℕ) (is : Labelled) (at : Place) → (f : LabelFound file n row l is) → IsPlace (labels_in row) file.owner l at
+    pub placed : (l : List ℕ) (is : Labelled) (at : Place) → (f : LabelFound file n row l is) → IsPlace (labels_in row) file.owner l at
         → SeesPlace row file.owner at f.to_kind
     placed l is at f here =
         subst (λ z. SeesPlace row file.owner z f.to_kind)
