@@ -33,7 +33,7 @@ use Rattle.wb_naming.specs.Declares.{attribute_name, base_labelled, target_attri
 use Rattle.wb_numbering.specs.Files.{Block, blocks, block_of}
 use Rattle.wb_numbering.proofs.RowLemmas.{contains_map}
 
-use Rattle.wb_numbering.proofs.OwnDeclared.{IsOwnDeclared, own_declared, contains_flat_map}
+use Rattle.wb_numbering.proofs.OwnDeclared.{IsOwnDeclared, own_declared, contains_flat_map, flat_map_contains}
 use Rattle.wb_numbering.proofs.OwnDeclared as own
 
 -- what a declaration comes from
@@ -170,3 +170,19 @@ module _ (base : ResolvedParts) (items : Items) (it : Declaration) where
         inl one ↦ from_base one
       | inr one ↦ from_own (own_declared items it one)
       ]
+
+-- a production of the base is declared in it
+pub production_declared : (base : ResolvedParts) (p : Production) → Contains base.attributes.productions p
+    → Contains (base_declarations base) (d.Symbol p.name sort.Production)
+production_declared base p has =
+    let it = d.Symbol p.name sort.Production in
+    let items : Items = [] in
+    let front = map (λ (x : Terminal). d.Symbol x.name (terminal_sort x.kind)) base.terminals
+        ++ map (λ (x : Nonterminal). d.Symbol x.name sort.Nonterminal) base.attributes.nonterminals
+        ++ map (λ (x : Attribute). d.Attribute x.name x.direction) base.attributes.attributes
+        ++ map (λ (x : Occurrence). d.Occurrence (attribute_name base x.attribute) (nonterminal_name base x.nonterminal))
+        base.attributes.occurrences in
+    append_contains_right front (flat_map (production_declarations base) base.attributes.productions) it
+    (flat_map_contains (production_declarations base) base.attributes.productions p it has
+    (contains_first it (d.Left p.name (nonterminal_name base p.left) ∷ (children base items it p has ++ locals base items it p has
+    ++ forwards base items it p has ++ equations base items it p has))))

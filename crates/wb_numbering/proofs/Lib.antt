@@ -4,6 +4,7 @@ pub mod CarryingNamed
 pub mod Counts
 pub mod DeclaredBy
 pub mod Distinct
+pub mod EquationsOwned
 pub mod Found
 pub mod Ground
 pub mod LabelsFound

@@ -65,13 +65,13 @@ one_of_one x = contains_first x []
 one_of_two : {X : Type 0} (x y : X) → Contains (x ∷ y ∷ []) x
 one_of_two x y = contains_first x (y ∷ [])
 
-two_of_two : {X : Type 0} (x y : X) → Contains (x ∷ y ∷ []) y
+pub two_of_two : {X : Type 0} (x y : X) → Contains (x ∷ y ∷ []) y
 two_of_two x y = contains_later x y (y ∷ []) (contains_first y [])
 
 one_of_three : {X : Type 0} (x y z : X) → Contains (x ∷ y ∷ z ∷ []) x
 one_of_three x y z = contains_first x (y ∷ z ∷ [])
 
-three_of_three : {X : Type 0} (x y z : X) → Contains (x ∷ y ∷ z ∷ []) z
+pub three_of_three : {X : Type 0} (x y z : X) → Contains (x ∷ y ∷ z ∷ []) z
 three_of_three x y z = contains_later x z (y ∷ z ∷ []) (two_of_two y z)
 
 -- what is known of a file whose names are right

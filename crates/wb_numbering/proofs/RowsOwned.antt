@@ -89,7 +89,7 @@ plain_declares items x has =
   from (f.Production role p) e = absurd (cc e)
   from (f.Aspect name es) e = absurd (cc e)
 
-block_declares : (items : Items) (b : Block) → Contains (blocks items) b → (q : written.Equation) → Contains b.equations q
+pub block_declares : (items : Items) (b : Block) → Contains (blocks items) b → (q : written.Equation) → Contains b.equations q
     → Contains (item_declarations items) (target_declaration b.name q.target)
 block_declares items b has q inside =
     let k = kept_from (λ (y : Item Pattern). block_of y.form) items b has in
@@ -159,7 +159,7 @@ plain_no_label (i.Occurs a m needs) = refl
 plain_no_label (i.ForwardOn m needs) = refl
 
 -- a child isn't declared as a local
-child_no_local : (from : NamedKind) (m : List ℕ) → labelled from ≡ label.Local m → ⊥
+pub child_no_local : (from : NamedKind) (m : List ℕ) → labelled from ≡ label.Local m → ⊥
 child_no_local k.Int m e = absurd (cc e)
 child_no_local k.Bool m e = absurd (cc e)
 child_no_local k.Text m e = absurd (cc e)
