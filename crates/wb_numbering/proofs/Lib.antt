@@ -7,6 +7,7 @@ pub mod Distinct
 pub mod EquationsOwned
 pub mod Found
 pub mod Ground
+pub mod Grouped
 pub mod LabelsFound
 pub mod LabelsOnce
 pub mod NumberLemmas
