@@ -6,6 +6,7 @@ pub mod DeclaredBy
 pub mod Distinct
 pub mod EquationsOwned
 pub mod Found
+pub mod GrammarFound
 pub mod Ground
 pub mod Grouped
 pub mod LabelsFound
