@@ -1,3 +1,4 @@
+pub mod AllResolved
 pub mod BaseCarried
 pub mod Carrying
 pub mod CarryingNamed

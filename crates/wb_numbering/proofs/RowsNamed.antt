@@ -157,7 +157,7 @@ module _ (file : File) (r : ResolvedParts) (known : Known file r) (owners : IsOw
     from (i.Occurs m l needs) e names = absurd (cc e)
     from (i.ForwardOn m needs) e names = absurd (cc e)
 
-  named_nonterminal : (number : ℕ) (row : Nonterminal) → slice_get a.nonterminals number ≡ Some row → (x : Nonterminal ⊎ List ℕ)
+  pub named_nonterminal : (number : ℕ) (row : Nonterminal) → slice_get a.nonterminals number ≡ Some row → (x : Nonterminal ⊎ List ℕ)
       → Contains (sources b.nonterminals (nonterminals file.items)) x → IsNonterminal file n x row → IsNamedNonterminal a number row
   named_nonterminal number row at (inl x) has e =
       let inside = source_before b.nonterminals (nonterminals file.items) x has in
@@ -213,7 +213,7 @@ module _ (file : File) (r : ResolvedParts) (known : Known file r) (owners : IsOw
     from (i.Occurs m l needs) e names = absurd (cc e)
     from (i.ForwardOn m needs) e names = absurd (cc e)
 
-  named_attribute : (x : Attribute ⊎ AttributeDeclaration) (row : Attribute) → Contains (sources b.attributes (attributes file.items)) x
+  pub named_attribute : (x : Attribute ⊎ AttributeDeclaration) (row : Attribute) → Contains (sources b.attributes (attributes file.items)) x
       → Contains a.attributes row → IsAttribute file n x row → IsNamedAttribute a row
   named_attribute (inl x) row has listed e =
       let inside = source_before b.attributes (attributes file.items) x has in
@@ -297,7 +297,7 @@ module _ (file : File) (r : ResolvedParts) (known : Known file r) (owners : IsOw
     from (i.Inherited m its) there e = absurd (cc e)
     from (i.ForwardOn m needs) there e = absurd (cc e)
 
-  named_occurrence : (x : Occurrence ⊎ OccurrenceDeclaration) (row : Occurrence) → Contains (sources b.occurrences (occurrences file.items)) x
+  pub named_occurrence : (x : Occurrence ⊎ OccurrenceDeclaration) (row : Occurrence) → Contains (sources b.occurrences (occurrences file.items)) x
       → Contains a.occurrences row → IsOccurrence file n x row → IsNamedOccurrence a row
   named_occurrence (inl x) row has listed e =
       let inside = source_before b.occurrences (occurrences file.items) x has in

@@ -79,7 +79,7 @@ use Rattle.wb_numbering.proofs.SidesFound.{left_found}
 use Rattle.wb_numbering.proofs.Used.{equation_used, target_used}
 
 -- what an item of names alone declares, and an equation
-plain_declares : (items : Items) (x : PlainForm) → Contains (plain_items items) x → Contains (item_declarations items) (plain_declaration x)
+pub plain_declares : (items : Items) (x : PlainForm) → Contains (plain_items items) x → Contains (item_declarations items) (plain_declaration x)
 plain_declares items x has =
     let k = kept_from (λ (y : Item Pattern). plain_of y.form) items x has in
     flat_map_contains (λ (y : Item Pattern). form_declarations y.form) items k.0 (plain_declaration x) k.1 (from k.0.form k.2) where

@@ -18,3 +18,5 @@ pub mod Resolves
 pub mod OneValue
 -- that one resolved specification is in another
 pub mod Carried
+-- what is given with a file, and that each value that it stands for is a resolved specification
+pub mod Given

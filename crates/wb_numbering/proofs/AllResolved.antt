@@ -1,0 +1,337 @@
+-- A value that a file stands for is a resolved specification, where the names of the file are right.
+use Rattle.std.proofs.Common.{◌≡◌, ◌≢◌, ◌≤◌, ◌<◌, ◌+◌, ◌++◌, ◌∷◌, ◌⊎◌, ◌↔◌, inl, inr, [], ℕ, zero, suc, Bool, true, false, List, Option, Some, None}
+use Rattle.std.proofs.Common.{Contains, All, map, take, length, slice_get, ap, sym, refl, subst, ◌∙◌, arith, length-append}
+use Rattle.std.specs.Prelude.{IfSome, option_map, option_to_list, filter_map, flat_map}
+use Rattle.std.specs.List.{AllZip}
+use Rattle.std.proofs.lemmas.Bool.{false≢true}
+use Rattle.std.proofs.lemmas.List.Elements.{All-head}
+use Rattle.std.proofs.lemmas.Option.{slice_get_within, slice_get-map}
+use Rattle.wb_lemmas.proofs.Elements.{all_contained, all_from_places, all_from_contained, all_at}
+use Rattle.wb_lemmas.proofs.Members.{contains_at, place_of, contains_first, contains_later, nothing_in}
+use Rattle.wb_lemmas.proofs.Places.{at_once, at_append, at_take, at_within}
+use Rattle.wb_lemmas.proofs.Zips.{zip_at, beside, zip_both_at}
+use Rattle.wb_base.specs.Different.{Differ}
+use Rattle.wb_base.specs.Grammar.{GrammarView}
+use Rattle.wb_base.specs.Identifiers.{IsName}
+use Rattle.wb_base.specs.declared.symbol.Symbol.{Symbol}
+use Rattle.wb_base.specs.declared.symbol.Kind.TheVariants as kind
+use Rattle.wb_resolved.specs.declared.attributes.Attribute.{Attribute}
+use Rattle.wb_resolved.specs.declared.attributes.Nonterminal.{Nonterminal}
+use Rattle.wb_resolved.specs.declared.attribution.AttributionParts.{AttributionParts}
+use Rattle.wb_resolved.specs.declared.production.Child.{Child}
+use Rattle.wb_resolved.specs.declared.production.ChildKind.{ChildKind}
+use Rattle.wb_resolved.specs.declared.production.ChildKind.TheVariants as child
+use Rattle.wb_resolved.specs.declared.production.Production.{Production}
+use Rattle.wb_resolved.specs.declared.production.ProductionRole.TheVariants.{Concrete}
+use Rattle.wb_resolved.specs.declared.resolved.ResolvedParts.{ResolvedParts}
+use Rattle.wb_resolved.specs.declared.terminal.Preference.{Preference}
+use Rattle.wb_resolved.specs.declared.terminal.Terminal.{Terminal}
+use Rattle.wb_resolved.specs.declared.terminal.TerminalKind.{TerminalKind}
+use Rattle.wb_resolved.specs.declared.terminal.TerminalKind.TheVariants as t
+use Rattle.wb_resolved.specs.Attribution.{IsAttribution}
+use Rattle.wb_resolved.specs.Grammar.{IsOfGrammar, IsGrammarOf, IsNumberedAll, IsGrammarProduction}
+use Rattle.wb_resolved.specs.Named.{IsNamed, IsNamedAttribute, IsNamedOccurrence}
+use Rattle.wb_resolved.specs.Numbered.{IsNumbered, signature_of, IsGrouped}
+use Rattle.wb_resolved.specs.Once.{IsOnce, symbol_names}
+use Rattle.wb_resolved.specs.Owned.{IsOwned}
+use Rattle.wb_resolved.specs.Owners.{Sees, IsOwner}
+use Rattle.wb_resolved.specs.Resolved.{IsResolved, IsNamedTerminal, SeesTerminal, IsNamedPreference, IsTerminalChild, HasGrammarTerminals, IsOnceAll}
+use Rattle.wb_resolved.specs.Visible.{SeesNonterminal}
+use Rattle.wb_syntax.specs.declared.item.Item.{Item}
+use Rattle.wb_syntax.specs.declared.item.ItemForm.{ItemForm}
+use Rattle.wb_syntax.specs.declared.item.ItemForm.TheVariants as f
+use Rattle.wb_syntax.specs.declared.item.PlainForm.{PlainForm}
+use Rattle.wb_syntax.specs.declared.item.PlainForm.TheVariants as i
+use Rattle.wb_syntax.specs.declared.pattern.Pattern.{Pattern}
+use Rattle.wb_syntax.specs.declared.pattern.Role.{Role}
+use Rattle.wb_syntax.specs.declared.pattern.Role.TheVariants as lexical_role
+use Rattle.wb_syntax.specs.declared.production.Child as named
+use Rattle.wb_syntax.specs.declared.production.NamedKind.{NamedKind}
+use Rattle.wb_syntax.specs.declared.production.NamedKind.TheVariants as kinds
+use Rattle.wb_naming.specs.declared.declaration.Declaration.{Declaration}
+use Rattle.wb_naming.specs.declared.declaration.Declaration.TheVariants as d
+use Rattle.wb_naming.specs.declared.declaration.Sort.{Sort}
+use Rattle.wb_naming.specs.declared.declaration.Sort.TheVariants as sort
+use Rattle.wb_naming.specs.Declarations.{LexicalDeclaration, AttributeDeclaration, PreferenceDeclaration, ProductionDeclaration, lexicals}
+use Rattle.wb_naming.specs.Declarations.{attributes, occurrences, nonterminals, productions, preferences, extensibles, starts, plain_items, lexical_of}
+use Rattle.wb_naming.specs.Declarations.{start_of, extensible_of, preference_of}
+use Rattle.wb_naming.specs.Declares.{declarations, item_declarations, role_sort, terminal_sort, plain_declaration}
+use Rattle.wb_naming.specs.Hold.{NamesHold}
+use Rattle.wb_naming.specs.NamesOk.{scope_of}
+use Rattle.wb_naming.specs.WrongKind.{misplaced, form_misplaced, misplaced_marker}
+use Rattle.wb_numbering.specs.Files.{File}
+use Rattle.wb_numbering.specs.Given.{IsFile, GivesResolved}
+use Rattle.wb_numbering.specs.Moved.{IsMovedTerminalNumber, IsMovedChild, IsMovedNonterminalNumber}
+use Rattle.wb_numbering.specs.Numbering.{Numbering, numbering_of, IsNumber}
+use Rattle.wb_numbering.specs.Resolves.{Resolves, move_of, starts_of, IsTerminal, IsNonterminal, IsAttribute, IsOccurrence, IsProduction, IsPreference}
+use Rattle.wb_numbering.specs.Resolves.{IsScanned, IsInGrammarOf, IsConcrete, IsNonterminalNumber, IsGrammarRow}
+use Rattle.wb_numbering.specs.Rows.{terminal_kind, production_role}
+use Rattle.wb_numbering.specs.Sources.{sources}
+use Rattle.wb_numbering.specs.Written.{IsWrittenChild, IsWrittenChildKind}
+use Rattle.wb_numbering.proofs.Carrying.{row_at, name_at}
+use Rattle.wb_numbering.proofs.Distinct.{distinct}
+use Rattle.wb_numbering.proofs.EquationsOwned.{owned_equations}
+use Rattle.wb_numbering.proofs.GrammarFound.{grammar_number, name_grammar, start_listed}
+use Rattle.wb_numbering.proofs.Ground.{Ground, IsHosts, hosts}
+use Rattle.wb_numbering.proofs.Grouped.{Rising, rising_sources, is_grouped, goes_by_owner, leads_below, both_at}
+use Rattle.wb_numbering.proofs.LabelsFound.{ChildrenScanned, IsScannedName}
+use Rattle.wb_numbering.proofs.NumberLemmas.{differ_right}
+use Rattle.wb_numbering.proofs.OccurrencesOnce.{occurs_once}
+use Rattle.wb_numbering.proofs.OwnNamed.{Known}
+use Rattle.wb_numbering.proofs.ProductionsNamed.{children_scanned, all_named, all_once}
+use Rattle.wb_numbering.proofs.RowLemmas.{all_rows, all_zipped, row_of, source_of, source_before, source_declared}
+use Rattle.wb_numbering.proofs.RowsNamed.{IsOwners, is_owner, is_host, named_nonterminal, named_attribute, named_occurrence}
+use Rattle.wb_numbering.proofs.OwnDeclared.{flat_map_contains}
+use Rattle.wb_numbering.proofs.Selected.{kept_from}
+use Rattle.wb_numbering.proofs.Used.{lexical_name}
+use Rattle.wb_numbering.proofs.RowsOwned.{owned_occurrences, plain_declares}
+
+-- what is known where the names of a file are right
+pub known : (file : File) (r : ResolvedParts) → IsFile file → NamesHold (scope_of file.base file.owner file.items) → Resolves file r
+    → Known file r
+known file r is hold resolves =
+    let ground : Ground file r = record {
+      resolves = resolves;
+      distinct = distinct file r resolves hold.once;
+      base = is.base;
+      alone = is.alone;
+      host = hosts file.base is.base is.alone;
+    } in
+    record { ground = ground; hold = hold; scanned = children_scanned file hold; names = is.names; whole = is.whole }
+
+-- the owner of what a row comes from
+abbrev terminal_owner : ℕ → Terminal ⊎ LexicalDeclaration → ℕ
+terminal_owner owner (inl x) = x.owner
+terminal_owner owner (inr x) = owner
+
+abbrev nonterminal_owner : ℕ → Nonterminal ⊎ List ℕ → ℕ
+nonterminal_owner owner (inl x) = x.owner
+nonterminal_owner owner (inr x) = owner
+
+abbrev attribute_owner : ℕ → Attribute ⊎ AttributeDeclaration → ℕ
+attribute_owner owner (inl x) = x.owner
+attribute_owner owner (inr x) = owner
+
+abbrev production_owner : ℕ → Production ⊎ ProductionDeclaration → ℕ
+production_owner owner (inl x) = x.owner
+production_owner owner (inr x) = owner
+
+module _ (file : File) (r : ResolvedParts) (given : IsFile file) (k : Known file r) where
+  abbrev n : Numbering
+  n = numbering_of r
+
+  abbrev a : AttributionParts
+  a = r.attributes
+
+  abbrev b : AttributionParts
+  b = file.base.attributes
+
+  abbrev ground : Ground file r
+  ground = k.ground
+
+  owners : IsOwners file
+  owners = record { owner = given.owner }
+
+  all_names : IsNamed a
+  all_names = record {
+    extensions = subst (All IsName) (sym ground.resolves.extensions) given.extensions;
+    nonterminals = λ number row at.
+        let s = source_of (IsInGrammarOf file) (IsNonterminal file n) (sources b.nonterminals (nonterminals file.items)) a.nonterminals
+            ground.resolves.nonterminals number row at in
+        named_nonterminal file r k owners number row at s.source s.listed s.is_row;
+    attributes = all_zipped (IsAttribute file n) (IsNamedAttribute a) (sources b.attributes (attributes file.items)) a.attributes ground.resolves.attributes
+        (named_attribute file r k owners);
+    occurrences = all_zipped (IsOccurrence file n) (IsNamedOccurrence a) (sources b.occurrences (occurrences file.items)) a.occurrences ground.resolves.occurrences
+        (named_occurrence file r k owners);
+    productions = all_named file r k owners;
+  }
+
+  once : IsOnce a
+  once = record {
+    extensions = subst Differ (sym ground.resolves.extensions) given.differ;
+    symbols = differ_right n.terminals (symbol_names a) ground.distinct.symbols;
+    attributes = ground.distinct.attributes;
+    occurrences = occurs_once file r ground k.hold.once;
+    productions = all_once file r k owners;
+  }
+
+  -- numbering
+  production_leads : (j : ℕ) (x : Production ⊎ ProductionDeclaration) (row : Production)
+      → Contains (sources b.productions (productions file.items)) x → slice_get a.productions j ≡ Some row → IsProduction file n x row
+      → (row.role ≡ Concrete → IsConcrete x) × (IsConcrete x → row.role ≡ Concrete)
+  production_leads j (inl p) row has at e = (λ q. sym e.role ∙ q, λ q. e.role ∙ q)
+  production_leads j (inr x) row has at e = (λ q. sym e.role ∙ q, λ q. e.role ∙ q)
+
+  owner_of_production : (x : Production ⊎ ProductionDeclaration) (row : Production) → Contains (sources b.productions (productions file.items)) x
+      → IsProduction file n x row → row.owner ≡ production_owner file.owner x
+  owner_of_production (inl p) row has e = e.owner_is
+  owner_of_production (inr x) row has e = e.owner_is
+
+  owner_of_attribute : (x : Attribute ⊎ AttributeDeclaration) (row : Attribute) → Contains (sources b.attributes (attributes file.items)) x
+      → IsAttribute file n x row → row.owner ≡ attribute_owner file.owner x
+  owner_of_attribute (inl p) row has e = e.owner
+  owner_of_attribute (inr x) row has e = e.owner_is
+
+  numbered : IsNumbered a
+  numbered = record {
+    signatures = ground.resolves.signatures ∙ ap (λ z. map (signature_of z) a.productions) (sym ground.resolves.extensions);
+    productions = is_grouped IsConcrete (IsProduction file n) (sources b.productions (productions file.items)) a.productions
+        ground.resolves.productions (production_owner file.owner) (λ (y : Production). y.owner) (λ j y. y.role ≡ Concrete)
+        (rising_sources (production_owner file.owner) file.owner b.productions (productions file.items) ground.host.productions (λ y. refl))
+        owner_of_production production_leads;
+    attributes = goes_by_owner (IsAttribute file n) (sources b.attributes (attributes file.items)) a.attributes ground.resolves.attributes
+        (attribute_owner file.owner) (λ (y : Attribute). y.owner)
+        (rising_sources (attribute_owner file.owner) file.owner b.attributes (attributes file.items) ground.host.attributes (λ y. refl))
+        owner_of_attribute;
+  }
+
+  attribution : IsAttribution a
+  attribution = record {
+    named = all_names;
+    owned = record { occurrences = owned_occurrences file r k; equations = owned_equations file r k };
+    once = once;
+    numbered = numbered;
+  }
+
+  -- terminals
+  marker_of_host : (x : LexicalDeclaration) → Contains (lexicals file.items) x → x.role ≡ lexical_role.Marking → (o : ℕ) → file.owner ≡ o → o ≡ 0 → ⊥
+  marker_of_host x has marking (suc o) is zero_is = absurd (omega (arith, zero_is))
+  marker_of_host x has marking zero is zero_is =
+      let m = kept_from (λ (y : Item Pattern). lexical_of y.form) file.items x has in
+      let inside = flat_map_contains (λ (y : Item Pattern). form_misplaced file.owner y.form) file.items m.0 x.name m.1 (from m.0.form m.2) in
+      nothing_in x.name (subst (λ z. Contains z x.name) k.hold.placed inside) where
+    from : (form : ItemForm Pattern) → lexical_of form ≡ Some x → Contains (form_misplaced file.owner form) x.name
+    from (f.Plain y) e = absurd (cc e)
+    from (f.Production role p) e = absurd (cc e)
+    from (f.Aspect name es) e = absurd (cc e)
+    from (f.Lexical role name pattern) e =
+        let same : record { role = role; name = name; pattern = pattern } ≡ x = cc in
+        let named_is : name ≡ x.name = ap (λ (z : LexicalDeclaration). z.name) same in
+        let role_is : role ≡ lexical_role.Marking = ap (λ (z : LexicalDeclaration). z.role) same ∙ marking in
+        subst (λ z. Contains (misplaced_marker file.owner role name) z) named_is
+        (subst (λ z. Contains (misplaced_marker file.owner z name) name) (sym role_is)
+        (subst (λ z. Contains (misplaced_marker z lexical_role.Marking name) name) (sym is) (contains_first name [])))
+
+  marking_role : (role : Role) → terminal_kind role ≡ t.Marking → role ≡ lexical_role.Marking
+  marking_role lexical_role.Terminal e = absurd (cc e)
+  marking_role lexical_role.Ignore e = absurd (cc e)
+  marking_role lexical_role.Marking e = refl
+
+  named_terminal : (x : Terminal ⊎ LexicalDeclaration) (row : Terminal) → Contains (sources file.base.terminals (lexicals file.items)) x
+      → Contains r.terminals row → IsTerminal file n x row → IsNamedTerminal r row
+  named_terminal (inl x) row has listed e =
+      let inside = source_before file.base.terminals (lexicals file.items) x has in
+      let before = all_contained (IsNamedTerminal file.base) file.base.terminals x ground.base.terminals inside in
+      record {
+        owner = is_host file r k owners row.owner (e.owner ∙ ground.host.terminals x inside);
+        name = subst IsName (sym e.name) before.name;
+        marking = λ q z. before.marking (sym e.kind ∙ q) (sym e.owner ∙ z);
+      }
+  named_terminal (inr x) row has listed e =
+      let inside = source_declared file.base.terminals (lexicals file.items) x has in
+      record {
+        owner = is_owner file r k owners row.owner e.owner_is;
+        name = subst IsName (sym e.name) (lexical_name file.items k.names x inside);
+        marking = λ q z. marker_of_host x inside (marking_role x.role (sym e.kind ∙ q)) file.owner refl (sym e.owner_is ∙ z);
+      }
+
+  -- a number of a terminal is seen
+  sees_terminal : (owner : ℕ) (name : List ℕ) (j : ℕ) → IsNumber n.terminals owner name j → SeesTerminal r owner j
+  sees_terminal owner name j is =
+      let row = row_at (λ (x : Terminal). (x.owner, x.name)) r.terminals j is.other name is.is in
+      record { terminal = row.row; is = row.is; seen = subst (Sees owner) (sym row.owner_is) is.seen }
+
+  moved_terminal_number : (j i : ℕ) → IsMovedTerminalNumber (move_of file n) j i → (owner : ℕ) → SeesTerminal r owner i
+  moved_terminal_number j i m owner =
+      let before = row_at (λ (x : Terminal). (x.owner, x.name)) file.base.terminals j m.owner m.name m.before in
+      let zero_is : m.owner ≡ 0 =
+          sym before.owner_is ∙ ground.host.terminals before.row (contains_at file.base.terminals before.row j before.is) in
+      sees_terminal owner m.name i (record { other = m.owner; is = m.after; seen = inl zero_is })
+
+  named_preference : (x : Preference ⊎ PreferenceDeclaration) (row : Preference) → Contains (sources file.base.preferences (preferences file.items)) x
+      → Contains r.preferences row → IsPreference file n x row → IsNamedPreference r row
+  named_preference (inl x) row has listed e = record {
+    owner = 0;
+    is_owner = is_host file r k owners 0 refl;
+    first = moved_terminal_number x.first row.first e.first 0;
+    second = moved_terminal_number x.second row.second e.second 0;
+  }
+  named_preference (inr x) row has listed e = record {
+    owner = file.owner;
+    is_owner = is_owner file r k owners file.owner refl;
+    first = sees_terminal file.owner x.first row.first e.first;
+    second = sees_terminal file.owner x.second row.second e.second;
+  }
+
+  -- start and extensible nonterminals are the host's
+  plain_own : (name : List ℕ) (it : Declaration) (form : PlainForm) → Contains (plain_items file.items) form → plain_declaration form ≡ it
+      → Contains (item_declarations file.items) it
+  plain_own name it form has e = subst (Contains (item_declarations file.items)) e (plain_declares file.items form has)
+
+  start_own : (name : List ℕ) → Contains (starts file.items) name → Contains (item_declarations file.items) (d.Start name)
+  start_own name has = let z = kept_from start_of (plain_items file.items) name has in from z.0 z.1 z.2 where
+    from : (form : PlainForm) → Contains (plain_items file.items) form → start_of form ≡ Some name
+        → Contains (item_declarations file.items) (d.Start name)
+    from (i.Start m) there e = let same : m ≡ name = cc in plain_own name (d.Start name) (i.Start m) there (ap d.Start same)
+    from (i.Prefer first second) there e = absurd (cc e)
+    from (i.Nonterminal m) there e = absurd (cc e)
+    from (i.Extensible m) there e = absurd (cc e)
+    from (i.Synthesized m its) there e = absurd (cc e)
+    from (i.Inherited m its) there e = absurd (cc e)
+    from (i.Occurs m l needs) there e = absurd (cc e)
+    from (i.ForwardOn m needs) there e = absurd (cc e)
+
+  extensible_own : (name : List ℕ) → Contains (extensibles file.items) name → Contains (item_declarations file.items) (d.Extensible name)
+  extensible_own name has = let z = kept_from extensible_of (plain_items file.items) name has in from z.0 z.1 z.2 where
+    from : (form : PlainForm) → Contains (plain_items file.items) form → extensible_of form ≡ Some name
+        → Contains (item_declarations file.items) (d.Extensible name)
+    from (i.Extensible m) there e = let same : m ≡ name = cc in plain_own name (d.Extensible name) (i.Extensible m) there (ap d.Extensible same)
+    from (i.Prefer first second) there e = absurd (cc e)
+    from (i.Nonterminal m) there e = absurd (cc e)
+    from (i.Start m) there e = absurd (cc e)
+    from (i.Synthesized m its) there e = absurd (cc e)
+    from (i.Inherited m its) there e = absurd (cc e)
+    from (i.Occurs m l needs) there e = absurd (cc e)
+    from (i.ForwardOn m needs) there e = absurd (cc e)
+
+  -- an owner that isn't the host says neither
+  not_host : (o : ℕ) → file.owner ≡ suc o → file.owner ≡ 0 → ⊥
+  not_host o is zero_is = let both : suc o ≡ 0 = sym is ∙ zero_is in absurd (omega (arith, both))
+
+  no_start : (o : ℕ) → file.owner ≡ suc o → (name : List ℕ) → Contains (starts file.items) name → ⊥
+  no_start o is name has = (k.hold.owned (not_host o is)).start name (start_own name has)
+
+  no_extensible : (o : ℕ) → file.owner ≡ suc o → (name : List ℕ) → Contains (extensibles file.items) name → ⊥
+  no_extensible o is name has = (k.hold.owned (not_host o is)).extensible name (extensible_own name has)
+
+  host_number : (j i : ℕ) → IsMovedNonterminalNumber (move_of file n) j i → SeesNonterminal a 0 i
+  host_number j i m =
+      let before = row_at (λ (x : Nonterminal). (x.owner, x.name)) b.nonterminals j m.owner m.name m.before in
+      let after = row_at (λ (x : Nonterminal). (x.owner, x.name)) a.nonterminals i m.owner m.name m.after in
+      let zero_is : m.owner ≡ 0 =
+          sym before.owner_is ∙ ground.host.nonterminals before.row (contains_at b.nonterminals before.row j before.is) in
+      record { nonterminal = after.row; is = after.is; seen = inl (after.owner_is ∙ zero_is) }
+
+  own_number : (o : ℕ) → file.owner ≡ o → (name : List ℕ) (i : ℕ) → IsNumber n.nonterminals file.owner name i
+      → ((q : ℕ) → file.owner ≡ suc q → ⊥) → SeesNonterminal a 0 i
+  own_number zero is name i number never =
+      let row = row_at (λ (x : Nonterminal). (x.owner, x.name)) a.nonterminals i number.other name number.is in
+      record { nonterminal = row.row; is = row.is; seen = inl (row.owner_is ∙ seen_zero number.seen) } where
+    seen_zero : Sees file.owner number.other → number.other ≡ 0
+    seen_zero (inl z) = z
+    seen_zero (inr same) = same ∙ is
+  own_number (suc o) is name i number never = absurd (never o is)
+
+  host_numbers : (before : List ℕ) (declared : List (List ℕ)) (numbers : List ℕ)
+      → AllZip (IsNonterminalNumber file n) (sources before declared) numbers
+      → ((o : ℕ) → file.owner ≡ suc o → (name : List ℕ) → Contains declared name → ⊥) → All (SeesNonterminal a 0) numbers
+  host_numbers before declared numbers all never =
+      all_zipped (IsNonterminalNumber file n) (SeesNonterminal a 0) (sources before declared) numbers all (λ x i has listed e. from x i has e) where
+    from : (x : ℕ ⊎ List ℕ) (i : ℕ) → Contains (sources before declared) x → IsNonterminalNumber file n x i → SeesNonterminal a 0 i
+    from (inl j) i has e = host_number j i e
+    from (inr name) i has e = own_number file.owner refl name i e (λ o is. never o is name (source_declared before declared name has))
+
+  start_seen : (o : Option GrammarView) → All (SeesNonterminal a 0) (option_to_list (option_map (λ (g : GrammarView). g.start) o))
+      → IfSome o (λ (g : GrammarView). SeesNonterminal a 0 g.start)
+  start_seen None all = tt
+  start_seen (Some g) all = All-head (SeesNonterminal a 0) g.start [] all
