@@ -20,6 +20,7 @@ pub mod OneRow
 pub mod OneValue
 pub mod OwnDeclared
 pub mod OwnNamed
+pub mod PreferencesOnce
 pub mod ProductionsNamed
 pub mod RenamingLemmas
 pub mod RowLemmas

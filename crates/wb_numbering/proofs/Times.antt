@@ -49,6 +49,8 @@ is_same (d.Attribute a s) (d.Attribute b t) = bytes_eq a b
 is_same (d.Occurrence a m) (d.Occurrence b k) = bytes_eq a b && bytes_eq m k
 is_same (d.Label p l s) (d.Label q m t) = bytes_eq p q && bytes_eq l m
 is_same (d.Equation p a s) (d.Equation q b t) = bytes_eq p q && (bytes_eq a b && same_site s t)
+is_same (d.Extensible a) (d.Extensible b) = bytes_eq a b
+is_same (d.Preference a m) (d.Preference b k) = bytes_eq a b && bytes_eq m k
 is_same one other = false
 
 symbol_same : (a : List ℕ) (s : Sort) (x : Declaration) → is_same (d.Symbol a s) x ≡ true → (t : Sort) × (x ≡ d.Symbol a t)
@@ -116,6 +118,32 @@ equation_same q b s (d.Extensible y0) e = absurd (false≢true e)
 equation_same q b s (d.ForwardNeeds y0) e = absurd (false≢true e)
 equation_same q b s (d.Preference y0 y1) e = absurd (false≢true e)
 
+extensible_same : (b : List ℕ) (x : Declaration) → is_same (d.Extensible b) x ≡ true → x ≡ d.Extensible b
+extensible_same b (d.Extensible name) e = ap d.Extensible (sym (same_bytes b name e))
+extensible_same b (d.Symbol y0 y1) e = absurd (false≢true e)
+extensible_same b (d.Attribute y0 y1) e = absurd (false≢true e)
+extensible_same b (d.Occurrence y0 y1) e = absurd (false≢true e)
+extensible_same b (d.Left y0 y1) e = absurd (false≢true e)
+extensible_same b (d.Label y0 y1 y2) e = absurd (false≢true e)
+extensible_same b (d.Equation y0 y1 y2) e = absurd (false≢true e)
+extensible_same b (d.Forward y0) e = absurd (false≢true e)
+extensible_same b (d.Start y0) e = absurd (false≢true e)
+extensible_same b (d.ForwardNeeds y0) e = absurd (false≢true e)
+extensible_same b (d.Preference y0 y1) e = absurd (false≢true e)
+
+preference_same : (b k : List ℕ) (x : Declaration) → is_same (d.Preference b k) x ≡ true → x ≡ d.Preference b k
+preference_same b k (d.Preference a m) e = let p = and_parts (bytes_eq b a) (bytes_eq k m) e in λ j. d.Preference (sym (same_bytes b a p.0) j) (sym (same_bytes k m p.1) j)
+preference_same b k (d.Symbol y0 y1) e = absurd (false≢true e)
+preference_same b k (d.Attribute y0 y1) e = absurd (false≢true e)
+preference_same b k (d.Occurrence y0 y1) e = absurd (false≢true e)
+preference_same b k (d.Left y0 y1) e = absurd (false≢true e)
+preference_same b k (d.Label y0 y1 y2) e = absurd (false≢true e)
+preference_same b k (d.Equation y0 y1 y2) e = absurd (false≢true e)
+preference_same b k (d.Forward y0) e = absurd (false≢true e)
+preference_same b k (d.Start y0) e = absurd (false≢true e)
+preference_same b k (d.Extensible y0) e = absurd (false≢true e)
+preference_same b k (d.ForwardNeeds y0) e = absurd (false≢true e)
+
 -- two that are the same as a third
 pub same_both : (x y z : Declaration) → is_same x y ≡ true → is_same x z ≡ true → AreSame y z
 same_both (d.Symbol a s) y z e f =
@@ -137,9 +165,11 @@ same_both (d.Equation p a at) y z e f =
 same_both (d.Left p m) y z e f = absurd (false≢true e)
 same_both (d.Forward p) y z e f = absurd (false≢true e)
 same_both (d.Start name) y z e f = absurd (false≢true e)
-same_both (d.Extensible name) y z e f = absurd (false≢true e)
+same_both (d.Extensible a) y z e f =
+    subst (λ k. AreSame k z) (sym (extensible_same a y e)) (subst (AreSame (d.Extensible a)) (sym (extensible_same a z f)) same.extensible)
 same_both (d.ForwardNeeds name) y z e f = absurd (false≢true e)
-same_both (d.Preference one other) y z e f = absurd (false≢true e)
+same_both (d.Preference a m) y z e f =
+    subst (λ k. AreSame k z) (sym (preference_same a m y e)) (subst (AreSame (d.Preference a m)) (sym (preference_same a m z f)) same.preference)
 
 -- how often something is declared
 abbrev pub once_where : Bool → ℕ
