@@ -68,7 +68,7 @@ use Rattle.wb_numbering.specs.Numbering.{Numbering, numbering_of, IsNumber}
 use Rattle.wb_numbering.specs.Resolves.{Resolves, move_of, starts_of, IsTerminal, IsNonterminal, IsAttribute, IsOccurrence, IsProduction, IsPreference}
 use Rattle.wb_numbering.specs.Resolves.{IsScanned, IsInGrammarOf, IsConcrete, IsNonterminalNumber, IsGrammarRow}
 use Rattle.wb_numbering.specs.Rows.{terminal_kind, production_role}
-use Rattle.wb_numbering.specs.Sources.{sources}
+use Rattle.wb_numbering.specs.Sources.{sources, AreGrouped}
 use Rattle.wb_numbering.specs.Written.{IsWrittenChild, IsWrittenChildKind}
 use Rattle.wb_numbering.proofs.Carrying.{row_at, name_at, terminal_there}
 use Rattle.wb_numbering.proofs.Distinct.{distinct}
@@ -82,7 +82,8 @@ use Rattle.wb_numbering.proofs.OccurrencesOnce.{occurs_once}
 use Rattle.wb_numbering.proofs.OwnNamed.{Known}
 use Rattle.wb_numbering.proofs.ProductionsNamed.{children_scanned, all_named, all_once}
 use Rattle.wb_numbering.proofs.RowLemmas.{all_rows, all_zipped, row_of, source_of, source_before, source_declared, there_before}
-use Rattle.wb_numbering.proofs.RowLemmas.{there_declared}
+use Rattle.wb_numbering.proofs.RowLemmas.{there_declared, contains_split}
+use Rattle.wb_numbering.proofs.PreferencesOnce.{preferences_differ, extensible_differ}
 use Rattle.wb_numbering.proofs.RowsNamed.{IsOwners, is_owner, is_host, named_nonterminal, named_attribute, named_occurrence}
 use Rattle.wb_numbering.proofs.BaseCarried.{base_carried}
 use Rattle.wb_numbering.proofs.DeclaredBy.{IsDeclaredBy, declared_by}
@@ -536,3 +537,142 @@ module _ (file : File) (r : ResolvedParts) (given : IsFile file) (k : Known file
       → IsNonterminal file n x row → row.owner ≡ nonterminal_owner file.owner x
   owner_of_nonterminal (inl y) row has e = e.owner
   owner_of_nonterminal (inr y) row has e = e.owner_is
+
+  -- as many as are taken
+  length_take : {X : Type 0} (c : ℕ) (xs : List X) → c ≤ length xs → length (take c xs) ≡ c
+  length_take zero xs few = refl
+  length_take (suc c) [] few = absurd (omega (arith, few))
+  length_take (suc c) (x ∷ xs) few = ap suc (length_take c xs (omega (arith, few)))
+
+  -- as many rows as elements
+  zip_len : {X Y : Type 0} (R : X → Y → Type 0) (xs : List X) (ys : List Y) → AllZip R xs ys → length ys ≡ length xs
+  zip_len R [] [] all = refl
+  zip_len R [] (y ∷ ys) all = absurd all
+  zip_len R (x ∷ xs) [] all = absurd all
+  zip_len R (x ∷ xs) (y ∷ ys) all = ap suc (zip_len R xs ys all.1)
+
+  module _ (g : GrammarView) (e : IsGrammarRow (length ground.resolves.terminals.leading) (length ground.resolves.nonterminals.leading)
+      (length ground.resolves.productions.leading) a.productions g) where
+    abbrev tg : AreGrouped IsScanned (IsTerminal file n) (sources file.base.terminals (lexicals file.items)) r.terminals
+    tg = ground.resolves.terminals
+
+    abbrev ng : AreGrouped (IsInGrammarOf file) (IsNonterminal file n) (sources b.nonterminals (nonterminals file.items)) a.nonterminals
+    ng = ground.resolves.nonterminals
+
+    abbrev pg : AreGrouped IsConcrete (IsProduction file n) (sources b.productions (productions file.items)) a.productions
+    pg = ground.resolves.productions
+
+    count_terminals : length tg.leading ≤ length r.terminals
+    count_terminals =
+        let z = zip_len (IsTerminal file n) (tg.leading ++ tg.following) r.terminals tg.are_rows in
+        let l = length-append tg.leading tg.following in
+        omega (arith, z, l)
+
+    count_nonterminals : length ng.leading ≤ length a.nonterminals
+    count_nonterminals =
+        let z = zip_len (IsNonterminal file n) (ng.leading ++ ng.following) a.nonterminals ng.are_rows in
+        let l = length-append ng.leading ng.following in
+        omega (arith, z, l)
+
+    count_productions : length pg.leading ≤ length a.productions
+    count_productions =
+        let z = zip_len (IsProduction file n) (pg.leading ++ pg.following) a.productions pg.are_rows in
+        let l = length-append pg.leading pg.following in
+        omega (arith, z, l)
+
+    plain_count : length g.productions ≡ length pg.leading
+    plain_count = zip_len IsGrammarProduction (take (length pg.leading) a.productions) g.productions e.productions_are
+        ∙ length_take (length pg.leading) a.productions count_productions
+
+    -- a row leads exactly where it is among the first
+    terminal_iff : (j : ℕ) (row : Terminal) → slice_get r.terminals j ≡ Some row → (j < g.terminals) ↔ (row.kind ≢ t.Ignore)
+    terminal_iff j row at =
+        let s = both_at IsScanned (IsTerminal file n) _ r.terminals tg j row at in
+        let lead = terminal_leads j s.source row
+            (contains_split IsScanned _ tg.leading tg.following tg.splits s.source (contains_at (tg.leading ++ tg.following) s.source j s.at)) at s.is_row in
+        let below = leads_below IsScanned _ tg.leading tg.following tg.splits j s.source s.at in (
+          λ lt. lead.1 (below.0 (subst (λ z. j < z) e.terminals_are lt)),
+          λ q. subst (λ z. j < z) (sym e.terminals_are) (below.1 (lead.0 q)),
+        )
+
+    nonterminal_iff : (j : ℕ) (row : Nonterminal) → slice_get a.nonterminals j ≡ Some row → (j < g.nonterminals) ↔ IsOfGrammar r j
+    nonterminal_iff j row at =
+        let s = both_at (IsInGrammarOf file) (IsNonterminal file n) _ a.nonterminals ng j row at in
+        let lead = nonterminal_leads j s.source row (contains_split (IsInGrammarOf file) _ ng.leading ng.following ng.splits s.source
+            (contains_at (ng.leading ++ ng.following) s.source j s.at)) at s.is_row in
+        let below = leads_below (IsInGrammarOf file) _ ng.leading ng.following ng.splits j s.source s.at in (
+          λ lt. lead.1 (below.0 (subst (λ z. j < z) e.nonterminals_are lt)),
+          λ q. subst (λ z. j < z) (sym e.nonterminals_are) (below.1 (lead.0 q)),
+        )
+
+    production_iff : (j : ℕ) (row : Production) → slice_get a.productions j ≡ Some row → (j < length g.productions) ↔ (row.role ≡ Concrete)
+    production_iff j row at =
+        let s = both_at IsConcrete (IsProduction file n) _ a.productions pg j row at in
+        let lead = production_leads j s.source row
+            (contains_split IsConcrete _ pg.leading pg.following pg.splits s.source (contains_at (pg.leading ++ pg.following) s.source j s.at)) at s.is_row in
+        let below = leads_below IsConcrete _ pg.leading pg.following pg.splits j s.source s.at in (
+          λ lt. lead.1 (below.0 (subst (λ z. j < z) plain_count lt)),
+          λ q. subst (λ z. j < z) (sym plain_count) (below.1 (lead.0 q)),
+        )
+
+    grammar_of : IsGrammarOf r g
+    grammar_of = record {
+      terminals_len = subst (λ z. z ≤ length r.terminals) (sym e.terminals_are) count_terminals;
+      terminals = terminal_iff;
+      nonterminals_len = subst (λ z. z ≤ length a.nonterminals) (sym e.nonterminals_are) count_nonterminals;
+      nonterminals = λ j. (
+        λ lt.
+            let some : j < length a.nonterminals = omega (arith, lt, e.nonterminals_are, count_nonterminals) in
+            let (row, at) = at_within a.nonterminals j some in
+            (nonterminal_iff j row at).0 lt,
+        λ q.
+            let h = grammar_number file r ground j q in
+            let row = row_at (λ (z : Nonterminal). (z.owner, z.name)) a.nonterminals j h.number.other h.name h.number.is in
+            (nonterminal_iff j row.row row.is).1 q,
+      );
+      productions_len = subst (λ z. z ≤ length a.productions) (sym plain_count) count_productions;
+      productions = production_iff;
+      productions_are = λ j row plain at there.
+          let other = beside IsGrammarProduction (take (length pg.leading) a.productions) g.productions j plain e.productions_are there in
+          let taken = at_take a.productions (length pg.leading) j other.other other.at in
+          subst (λ z. IsGrammarProduction z plain) (at_once a.productions j other.other row taken.1 at) other.related;
+    }
+
+  grammar_if : (o : Option GrammarView) → IfSome o (IsGrammarRow (length ground.resolves.terminals.leading)
+      (length ground.resolves.nonterminals.leading) (length ground.resolves.productions.leading) a.productions) → IfSome o (IsGrammarOf r)
+  grammar_if None e = tt
+  grammar_if (Some g) e = grammar_of g e
+
+  pub resolved : IsResolved r
+  resolved = record {
+    attributes = attribution;
+    host = subst IsName (sym ground.resolves.host) given.base.host;
+    terminals = all_rows IsScanned (IsTerminal file n) (IsNamedTerminal r) (sources file.base.terminals (lexicals file.items)) r.terminals
+        ground.resolves.terminals named_terminal;
+    preferences = all_zipped (IsPreference file n) (IsNamedPreference r) (sources file.base.preferences (preferences file.items)) r.preferences
+        ground.resolves.preferences named_preference;
+    start = start_seen r.grammar (host_numbers (starts_of file.base) (starts file.items) (starts_of r) ground.resolves.start no_start);
+    extensible = host_numbers file.base.extensible (extensibles file.items) r.extensible ground.resolves.extensible no_extensible;
+    children = all_rows IsConcrete (IsProduction file n) (HasGrammarTerminals r) (sources b.productions (productions file.items)) a.productions
+        ground.resolves.productions children_of;
+    once = record {
+      symbols = ground.distinct.symbols;
+      preferences = preferences_differ file r given k;
+      extensible = extensible_differ file r given k;
+    };
+    numbered = record {
+      terminals = is_grouped IsScanned (IsTerminal file n) (sources file.base.terminals (lexicals file.items)) r.terminals
+          ground.resolves.terminals (terminal_owner file.owner) (λ (y : Terminal). y.owner) (λ j y. y.kind ≢ t.Ignore)
+          (rising_sources (terminal_owner file.owner) file.owner file.base.terminals (lexicals file.items) ground.host.terminals (λ y. refl))
+          owner_of_terminal terminal_leads;
+      nonterminals = is_grouped (IsInGrammarOf file) (IsNonterminal file n) (sources b.nonterminals (nonterminals file.items)) a.nonterminals
+          ground.resolves.nonterminals (nonterminal_owner file.owner) (λ (y : Nonterminal). y.owner) (λ j y. IsOfGrammar r j)
+          (rising_sources (nonterminal_owner file.owner) file.owner b.nonterminals (nonterminals file.items) ground.host.nonterminals (λ y. refl))
+          owner_of_nonterminal nonterminal_leads;
+      grammar = grammar_if r.grammar ground.resolves.grammar;
+    };
+  }
+
+-- each value of a file whose names are right is resolved
+pub gives_resolved : (file : File) (r : ResolvedParts) → GivesResolved file r
+gives_resolved file r given hold resolves = resolved file r given (known file r given hold resolves)
