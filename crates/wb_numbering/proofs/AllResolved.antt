@@ -1,20 +1,18 @@
 -- A value that a file stands for is a resolved specification, where the names of the file are right.
-use Rattle.std.proofs.Common.{◌≡◌, ◌≢◌, ◌≤◌, ◌<◌, ◌+◌, ◌++◌, ◌∷◌, ◌⊎◌, ◌↔◌, inl, inr, [], ℕ, zero, suc, Bool, true, false, List, Option, Some, None}
+use Rattle.std.proofs.Common.{◌≡◌, ◌≢◌, ◌≤◌, ◌<◌, ◌++◌, ◌∷◌, ◌⊎◌, ◌↔◌, inl, inr, [], ℕ, zero, suc, Bool, true, false, List, Option, Some, None}
 use Rattle.std.proofs.Common.{Contains, All, map, take, length, slice_get, ap, sym, refl, subst, ◌∙◌, arith, length-append}
-use Rattle.std.specs.Prelude.{IfSome, option_map, option_to_list, filter_map, flat_map}
+use Rattle.std.specs.Prelude.{IfSome, option_map, option_to_list}
 use Rattle.std.specs.List.{AllZip}
 use Rattle.std.proofs.lemmas.Bool.{false≢true}
+use Rattle.std.proofs.lemmas.List.{length-take-le}
 use Rattle.std.proofs.lemmas.List.Elements.{All-head}
-use Rattle.std.proofs.lemmas.Option.{slice_get_within, slice_get-map}
-use Rattle.wb_lemmas.proofs.Elements.{all_contained, all_from_places, all_from_contained, all_at}
-use Rattle.wb_lemmas.proofs.Members.{contains_at, place_of, contains_first, contains_later, nothing_in}
-use Rattle.wb_lemmas.proofs.Places.{at_once, at_append, at_take, at_within}
-use Rattle.wb_lemmas.proofs.Zips.{zip_at, beside, zip_both_at}
+use Rattle.wb_lemmas.proofs.Elements.{all_contained}
+use Rattle.wb_lemmas.proofs.Members.{contains_at, contains_first, nothing_in}
+use Rattle.wb_lemmas.proofs.Places.{at_once, at_take, at_within}
+use Rattle.wb_lemmas.proofs.Zips.{beside}
 use Rattle.wb_base.specs.Different.{Differ}
 use Rattle.wb_base.specs.Grammar.{GrammarView}
 use Rattle.wb_base.specs.Identifiers.{IsName}
-use Rattle.wb_base.specs.declared.symbol.Symbol.{Symbol}
-use Rattle.wb_base.specs.declared.symbol.Kind.TheVariants as kind
 use Rattle.wb_resolved.specs.declared.attributes.Attribute.{Attribute}
 use Rattle.wb_resolved.specs.declared.attributes.Nonterminal.{Nonterminal}
 use Rattle.wb_resolved.specs.declared.attribution.AttributionParts.{AttributionParts}
@@ -29,13 +27,12 @@ use Rattle.wb_resolved.specs.declared.terminal.Terminal.{Terminal}
 use Rattle.wb_resolved.specs.declared.terminal.TerminalKind.{TerminalKind}
 use Rattle.wb_resolved.specs.declared.terminal.TerminalKind.TheVariants as t
 use Rattle.wb_resolved.specs.Attribution.{IsAttribution}
-use Rattle.wb_resolved.specs.Grammar.{IsOfGrammar, IsGrammarOf, IsNumberedAll, IsGrammarProduction}
+use Rattle.wb_resolved.specs.Grammar.{IsOfGrammar, IsGrammarOf, IsGrammarProduction}
 use Rattle.wb_resolved.specs.Named.{IsNamed, IsNamedAttribute, IsNamedOccurrence}
-use Rattle.wb_resolved.specs.Numbered.{IsNumbered, signature_of, IsGrouped}
+use Rattle.wb_resolved.specs.Numbered.{IsNumbered, signature_of}
 use Rattle.wb_resolved.specs.Once.{IsOnce, symbol_names}
-use Rattle.wb_resolved.specs.Owned.{IsOwned}
-use Rattle.wb_resolved.specs.Owners.{Sees, IsOwner}
-use Rattle.wb_resolved.specs.Resolved.{IsResolved, IsNamedTerminal, SeesTerminal, IsNamedPreference, IsTerminalChild, HasGrammarTerminals, IsOnceAll}
+use Rattle.wb_resolved.specs.Owners.{Sees}
+use Rattle.wb_resolved.specs.Resolved.{IsResolved, IsNamedTerminal, SeesTerminal, IsNamedPreference, IsTerminalChild, HasGrammarTerminals}
 use Rattle.wb_resolved.specs.Visible.{SeesNonterminal}
 use Rattle.wb_syntax.specs.declared.expression.Target as is_for
 use Rattle.wb_syntax.specs.declared.expression.Target.TheVariants as g
@@ -56,27 +53,27 @@ use Rattle.wb_naming.specs.declared.declaration.Sort.{Sort}
 use Rattle.wb_naming.specs.declared.declaration.Sort.TheVariants as sort
 use Rattle.wb_naming.specs.Declarations.{LexicalDeclaration, AttributeDeclaration, PreferenceDeclaration, ProductionDeclaration, lexicals}
 use Rattle.wb_naming.specs.Declarations.{attributes, occurrences, nonterminals, productions, preferences, extensibles, starts, plain_items, lexical_of}
-use Rattle.wb_naming.specs.Declarations.{start_of, extensible_of, preference_of}
-use Rattle.wb_naming.specs.Declares.{declarations, item_declarations, role_sort, terminal_sort, plain_declaration, target_declaration}
+use Rattle.wb_naming.specs.Declarations.{start_of, extensible_of}
+use Rattle.wb_naming.specs.Declares.{item_declarations, role_sort, terminal_sort, plain_declaration, target_declaration}
 use Rattle.wb_naming.specs.Hold.{NamesHold}
 use Rattle.wb_naming.specs.NamesOk.{scope_of}
-use Rattle.wb_naming.specs.WrongKind.{misplaced, form_misplaced, misplaced_marker}
+use Rattle.wb_naming.specs.WrongKind.{form_misplaced, misplaced_marker}
 use Rattle.wb_numbering.specs.Files.{File, IsInGrammar}
 use Rattle.wb_numbering.specs.Given.{IsFile, GivesResolved}
 use Rattle.wb_numbering.specs.Moved.{IsMovedTerminalNumber, IsMovedChild, IsMovedChildKind, IsMovedNonterminalNumber}
 use Rattle.wb_numbering.specs.Numbering.{Numbering, numbering_of, IsNumber}
 use Rattle.wb_numbering.specs.Resolves.{Resolves, move_of, starts_of, IsTerminal, IsNonterminal, IsAttribute, IsOccurrence, IsProduction, IsPreference}
 use Rattle.wb_numbering.specs.Resolves.{IsScanned, IsInGrammarOf, IsConcrete, IsNonterminalNumber, IsGrammarRow}
-use Rattle.wb_numbering.specs.Rows.{terminal_kind, production_role}
+use Rattle.wb_numbering.specs.Rows.{terminal_kind}
 use Rattle.wb_numbering.specs.Sources.{sources, AreGrouped}
 use Rattle.wb_numbering.specs.Written.{IsWrittenChild, IsWrittenChildKind}
 use Rattle.wb_numbering.proofs.Carrying.{row_at, name_at, terminal_there}
 use Rattle.wb_numbering.proofs.Distinct.{distinct}
 use Rattle.wb_numbering.proofs.EquationsOwned.{owned_equations}
-use Rattle.wb_numbering.proofs.GrammarFound.{grammar_number, name_grammar, start_listed}
-use Rattle.wb_numbering.proofs.Ground.{Ground, IsHosts, hosts}
-use Rattle.wb_numbering.proofs.Grouped.{Rising, rising_sources, is_grouped, goes_by_owner, leads_below, both_at}
-use Rattle.wb_numbering.proofs.LabelsFound.{ChildrenScanned, IsScannedName}
+use Rattle.wb_numbering.proofs.GrammarFound.{grammar_number, name_grammar}
+use Rattle.wb_numbering.proofs.Ground.{Ground, hosts}
+use Rattle.wb_numbering.proofs.Grouped.{rising_sources, is_grouped, goes_by_owner, leads_below, both_at}
+use Rattle.wb_numbering.proofs.LabelsFound.{IsScannedName}
 use Rattle.wb_numbering.proofs.NumberLemmas.{differ_right, one_number}
 use Rattle.wb_numbering.proofs.OccurrencesOnce.{occurs_once}
 use Rattle.wb_numbering.proofs.OwnNamed.{Known}
@@ -146,7 +143,7 @@ module _ (file : File) (r : ResolvedParts) (given : IsFile file) (k : Known file
     extensions = subst (All IsName) (sym ground.resolves.extensions) given.extensions;
     nonterminals = λ number row at.
         let s = source_of (IsInGrammarOf file) (IsNonterminal file n) (sources b.nonterminals (nonterminals file.items)) a.nonterminals
-            ground.resolves.nonterminals number row at in
+        ground.resolves.nonterminals number row at in
         named_nonterminal file r k owners number row at s.source s.listed s.is_row;
     attributes = all_zipped (IsAttribute file n) (IsNamedAttribute a) (sources b.attributes (attributes file.items)) a.attributes ground.resolves.attributes
         (named_attribute file r k owners);
@@ -209,17 +206,17 @@ module _ (file : File) (r : ResolvedParts) (given : IsFile file) (k : Known file
       let m = kept_from (λ (y : Item Pattern). lexical_of y.form) file.items x has in
       let inside = flat_map_contains (λ (y : Item Pattern). form_misplaced file.owner y.form) file.items m.0 x.name m.1 (from m.0.form m.2) in
       nothing_in x.name (subst (λ z. Contains z x.name) k.hold.placed inside) where
-    from : (form : ItemForm Pattern) → lexical_of form ≡ Some x → Contains (form_misplaced file.owner form) x.name
-    from (f.Plain y) e = absurd (cc e)
-    from (f.Production role p) e = absurd (cc e)
-    from (f.Aspect name es) e = absurd (cc e)
-    from (f.Lexical role name pattern) e =
-        let same : record { role = role; name = name; pattern = pattern } ≡ x = cc in
-        let named_is : name ≡ x.name = ap (λ (z : LexicalDeclaration). z.name) same in
-        let role_is : role ≡ lexical_role.Marking = ap (λ (z : LexicalDeclaration). z.role) same ∙ marking in
-        subst (λ z. Contains (misplaced_marker file.owner role name) z) named_is
-        (subst (λ z. Contains (misplaced_marker file.owner z name) name) (sym role_is)
-        (subst (λ z. Contains (misplaced_marker z lexical_role.Marking name) name) (sym is) (contains_first name [])))
+        from : (form : ItemForm Pattern) → lexical_of form ≡ Some x → Contains (form_misplaced file.owner form) x.name
+        from (f.Plain y) e = absurd (cc e)
+        from (f.Production role p) e = absurd (cc e)
+        from (f.Aspect name es) e = absurd (cc e)
+        from (f.Lexical role name pattern) e =
+            let same : record { role = role; name = name; pattern = pattern } ≡ x = cc in
+            let named_is : name ≡ x.name = ap (λ (z : LexicalDeclaration). z.name) same in
+            let role_is : role ≡ lexical_role.Marking = ap (λ (z : LexicalDeclaration). z.role) same ∙ marking in
+            subst (λ z. Contains (misplaced_marker file.owner role name) z) named_is
+            (subst (λ z. Contains (misplaced_marker file.owner z name) name) (sym role_is)
+            (subst (λ z. Contains (misplaced_marker z lexical_role.Marking name) name) (sym is) (contains_first name [])))
 
   marking_role : (role : Role) → terminal_kind role ≡ t.Marking → role ≡ lexical_role.Marking
   marking_role lexical_role.Terminal e = absurd (cc e)
@@ -254,7 +251,7 @@ module _ (file : File) (r : ResolvedParts) (given : IsFile file) (k : Known file
   moved_terminal_number j i m owner =
       let before = row_at (λ (x : Terminal). (x.owner, x.name)) file.base.terminals j m.owner m.name m.before in
       let zero_is : m.owner ≡ 0 =
-          sym before.owner_is ∙ ground.host.terminals before.row (contains_at file.base.terminals before.row j before.is) in
+      sym before.owner_is ∙ ground.host.terminals before.row (contains_at file.base.terminals before.row j before.is) in
       sees_terminal owner m.name i (record { other = m.owner; is = m.after; seen = inl zero_is })
 
   named_preference : (x : Preference ⊎ PreferenceDeclaration) (row : Preference) → Contains (sources file.base.preferences (preferences file.items)) x
@@ -318,7 +315,7 @@ module _ (file : File) (r : ResolvedParts) (given : IsFile file) (k : Known file
       let before = row_at (λ (x : Nonterminal). (x.owner, x.name)) b.nonterminals j m.owner m.name m.before in
       let after = row_at (λ (x : Nonterminal). (x.owner, x.name)) a.nonterminals i m.owner m.name m.after in
       let zero_is : m.owner ≡ 0 =
-          sym before.owner_is ∙ ground.host.nonterminals before.row (contains_at b.nonterminals before.row j before.is) in
+      sym before.owner_is ∙ ground.host.nonterminals before.row (contains_at b.nonterminals before.row j before.is) in
       record { nonterminal = after.row; is = after.is; seen = inl (after.owner_is ∙ zero_is) }
 
   own_number : (o : ℕ) → file.owner ≡ o → (name : List ℕ) (i : ℕ) → IsNumber n.nonterminals file.owner name i
@@ -326,9 +323,9 @@ module _ (file : File) (r : ResolvedParts) (given : IsFile file) (k : Known file
   own_number zero is name i number never =
       let row = row_at (λ (x : Nonterminal). (x.owner, x.name)) a.nonterminals i number.other name number.is in
       record { nonterminal = row.row; is = row.is; seen = inl (row.owner_is ∙ seen_zero number.seen) } where
-    seen_zero : Sees file.owner number.other → number.other ≡ 0
-    seen_zero (inl z) = z
-    seen_zero (inr same) = same ∙ is
+        seen_zero : Sees file.owner number.other → number.other ≡ 0
+        seen_zero (inl z) = z
+        seen_zero (inr same) = same ∙ is
   own_number (suc o) is name i number never = absurd (never o is)
 
   host_numbers : (before : List ℕ) (declared : List (List ℕ)) (numbers : List ℕ)
@@ -336,9 +333,9 @@ module _ (file : File) (r : ResolvedParts) (given : IsFile file) (k : Known file
       → ((o : ℕ) → file.owner ≡ suc o → (name : List ℕ) → Contains declared name → ⊥) → All (SeesNonterminal a 0) numbers
   host_numbers before declared numbers all never =
       all_zipped (IsNonterminalNumber file n) (SeesNonterminal a 0) (sources before declared) numbers all (λ x i has listed e. from x i has e) where
-    from : (x : ℕ ⊎ List ℕ) (i : ℕ) → Contains (sources before declared) x → IsNonterminalNumber file n x i → SeesNonterminal a 0 i
-    from (inl j) i has e = host_number j i e
-    from (inr name) i has e = own_number file.owner refl name i e (λ o is. never o is name (source_declared before declared name has))
+        from : (x : ℕ ⊎ List ℕ) (i : ℕ) → Contains (sources before declared) x → IsNonterminalNumber file n x i → SeesNonterminal a 0 i
+        from (inl j) i has e = host_number j i e
+        from (inr name) i has e = own_number file.owner refl name i e (λ o is. never o is name (source_declared before declared name has))
 
   start_seen : (o : Option GrammarView) → All (SeesNonterminal a 0) (option_to_list (option_map (λ (g : GrammarView). g.start) o))
       → IfSome o (λ (g : GrammarView). SeesNonterminal a 0 g.start)
@@ -452,9 +449,9 @@ module _ (file : File) (r : ResolvedParts) (given : IsFile file) (k : Known file
       let same_terminal : child.Terminal m.0 ≡ child.Terminal number = sym m.2 ∙ q in
       let same : m.0 ≡ number = cc in
       let base = all_contained (λ (c : Child). (number : ℕ) → c.kind ≡ child.Terminal number → IsTerminalChild file.base p.owner number) p.children c
-          (all_contained (HasGrammarTerminals file.base) b.productions p ground.base.children has) listed j e in
+      (all_contained (HasGrammarTerminals file.base) b.productions p ground.base.children has) listed j e in
       let there = terminal_there (λ (o : ℕ). o) file.base r ground.distinct (base_carried file r ground.resolves) j number
-          (subst (IsMovedTerminalNumber (move_of file n) j) same m.1) in
+      (subst (IsMovedTerminalNumber (move_of file n) j) same m.1) in
       let one = at_once file.base.terminals j base.terminal there.row base.is there.is in
       record {
         terminal = there.there;
@@ -538,12 +535,6 @@ module _ (file : File) (r : ResolvedParts) (given : IsFile file) (k : Known file
   owner_of_nonterminal (inl y) row has e = e.owner
   owner_of_nonterminal (inr y) row has e = e.owner_is
 
-  -- as many as are taken
-  length_take : {X : Type 0} (c : ℕ) (xs : List X) → c ≤ length xs → length (take c xs) ≡ c
-  length_take zero xs few = refl
-  length_take (suc c) [] few = absurd (omega (arith, few))
-  length_take (suc c) (x ∷ xs) few = ap suc (length_take c xs (omega (arith, few)))
-
   -- as many rows as elements
   zip_len : {X Y : Type 0} (R : X → Y → Type 0) (xs : List X) (ys : List Y) → AllZip R xs ys → length ys ≡ length xs
   zip_len R [] [] all = refl
@@ -582,14 +573,14 @@ module _ (file : File) (r : ResolvedParts) (given : IsFile file) (k : Known file
 
     plain_count : length g.productions ≡ length pg.leading
     plain_count = zip_len IsGrammarProduction (take (length pg.leading) a.productions) g.productions e.productions_are
-        ∙ length_take (length pg.leading) a.productions count_productions
+        ∙ length-take-le (length pg.leading) a.productions count_productions
 
     -- a row leads exactly where it is among the first
     terminal_iff : (j : ℕ) (row : Terminal) → slice_get r.terminals j ≡ Some row → (j < g.terminals) ↔ (row.kind ≢ t.Ignore)
     terminal_iff j row at =
         let s = both_at IsScanned (IsTerminal file n) _ r.terminals tg j row at in
         let lead = terminal_leads j s.source row
-            (contains_split IsScanned _ tg.leading tg.following tg.splits s.source (contains_at (tg.leading ++ tg.following) s.source j s.at)) at s.is_row in
+        (contains_split IsScanned _ tg.leading tg.following tg.splits s.source (contains_at (tg.leading ++ tg.following) s.source j s.at)) at s.is_row in
         let below = leads_below IsScanned _ tg.leading tg.following tg.splits j s.source s.at in (
           λ lt. lead.1 (below.0 (subst (λ z. j < z) e.terminals_are lt)),
           λ q. subst (λ z. j < z) (sym e.terminals_are) (below.1 (lead.0 q)),
@@ -599,7 +590,7 @@ module _ (file : File) (r : ResolvedParts) (given : IsFile file) (k : Known file
     nonterminal_iff j row at =
         let s = both_at (IsInGrammarOf file) (IsNonterminal file n) _ a.nonterminals ng j row at in
         let lead = nonterminal_leads j s.source row (contains_split (IsInGrammarOf file) _ ng.leading ng.following ng.splits s.source
-            (contains_at (ng.leading ++ ng.following) s.source j s.at)) at s.is_row in
+        (contains_at (ng.leading ++ ng.following) s.source j s.at)) at s.is_row in
         let below = leads_below (IsInGrammarOf file) _ ng.leading ng.following ng.splits j s.source s.at in (
           λ lt. lead.1 (below.0 (subst (λ z. j < z) e.nonterminals_are lt)),
           λ q. subst (λ z. j < z) (sym e.nonterminals_are) (below.1 (lead.0 q)),
@@ -609,7 +600,7 @@ module _ (file : File) (r : ResolvedParts) (given : IsFile file) (k : Known file
     production_iff j row at =
         let s = both_at IsConcrete (IsProduction file n) _ a.productions pg j row at in
         let lead = production_leads j s.source row
-            (contains_split IsConcrete _ pg.leading pg.following pg.splits s.source (contains_at (pg.leading ++ pg.following) s.source j s.at)) at s.is_row in
+        (contains_split IsConcrete _ pg.leading pg.following pg.splits s.source (contains_at (pg.leading ++ pg.following) s.source j s.at)) at s.is_row in
         let below = leads_below IsConcrete _ pg.leading pg.following pg.splits j s.source s.at in (
           λ lt. lead.1 (below.0 (subst (λ z. j < z) plain_count lt)),
           λ q. subst (λ z. j < z) (sym plain_count) (below.1 (lead.0 q)),

@@ -1,7 +1,6 @@
 -- What is seen in a resolved specification is seen in one that has it, in whose numbers it is given.
-use Rattle.std.proofs.Common.{◌≡◌, ◌≢◌, ◌++◌, ◌⊎◌, inl, inr, ℕ, List, Option, Some, None, map, All, Contains, slice_get, ap, sym, refl, subst, ◌∙◌}
-use Rattle.std.specs.Prelude.{option_map, option_to_list, IsSome}
-use Rattle.std.specs.List.{AllZip}
+use Rattle.std.proofs.Common.{◌≡◌, inl, inr, ℕ, List, Option, Some, None, map, Contains, slice_get, ap, sym, refl, subst, ◌∙◌}
+use Rattle.std.specs.Prelude.{option_map}
 use Rattle.std.proofs.lemmas.Option.{slice_get-map}
 use Rattle.wb_lemmas.proofs.Members.{contains_at, place_of}
 use Rattle.wb_lemmas.proofs.Places.{at_once}
@@ -11,7 +10,6 @@ use Rattle.wb_base.specs.declared.symbol.Kind.TheVariants as kind
 use Rattle.wb_resolved.specs.declared.attributes.Attribute.{Attribute}
 use Rattle.wb_resolved.specs.declared.attributes.Direction.{Direction}
 use Rattle.wb_resolved.specs.declared.attributes.Nonterminal.{Nonterminal}
-use Rattle.wb_resolved.specs.declared.attributes.Occurrence.{Occurrence}
 use Rattle.wb_resolved.specs.declared.equation.Place.{Place}
 use Rattle.wb_resolved.specs.declared.equation.Place.TheVariants as place
 use Rattle.wb_resolved.specs.declared.production.Child.{Child}
@@ -23,10 +21,10 @@ use Rattle.wb_resolved.specs.declared.resolved.ResolvedParts.{ResolvedParts}
 use Rattle.wb_resolved.specs.declared.terminal.Terminal.{Terminal}
 use Rattle.wb_resolved.specs.Once.{Entry, NamesDiffer}
 use Rattle.wb_resolved.specs.Owners.{Sees}
-use Rattle.wb_resolved.specs.Visible.{SeesNonterminal, SeesProduction, SeesAttribute, SeesOccurrence, SeesKind, SeesPlace, kind_at, owner_of_local}
-use Rattle.wb_numbering.specs.Numbering.{Numbering, numbering_of, Labels, labels_in}
+use Rattle.wb_resolved.specs.Visible.{SeesNonterminal, SeesProduction, SeesAttribute, SeesOccurrence, SeesKind, SeesPlace, owner_of_local}
+use Rattle.wb_numbering.specs.Numbering.{numbering_of, labels_in}
 use Rattle.wb_numbering.specs.Moved.{Move, IsMovedNumber, IsMovedKind, IsMovedChildKind, IsMovedChild, IsMovedPlace, IsMovedLocal}
-use Rattle.wb_numbering.specs.Moved.{IsMovedNonterminal, IsMovedAttribute, IsMovedOccurrence, IsMovedTerminal}
+use Rattle.wb_numbering.specs.Moved.{IsMovedNonterminal, IsMovedAttribute, IsMovedTerminal}
 use Rattle.wb_numbering.specs.Moved.{IsMovedNonterminalNumber, IsMovedTerminalNumber, IsMovedAttributeNumber, IsMovedProductionNumber}
 use Rattle.wb_numbering.specs.Carried.{IsThere, IsCarriedProduction, IsCarried, move_between}
 use Rattle.wb_numbering.proofs.NumberLemmas.{one_moved}
@@ -80,7 +78,7 @@ row_there entry IsMoved f rows others named differ each k j m =
     let there = each before.row (contains_at rows before.row k before.is) in
     let (i, at) = place_of others there.there there.listed in
     let same : entry there.there ≡ (f m.owner, m.name) =
-        named before.row there.there there.moved ∙ λ h. (f (before.owner_is h), before.name_is h) in
+    named before.row there.there there.moved ∙ λ h. (f (before.owner_is h), before.name_is h) in
     let place : i ≡ j = differ i j (f m.owner) (f m.owner) m.name (name_at entry others i there.there at ∙ ap Some same) m.after (inr refl) in
     record {
       row = before.row;
@@ -211,7 +209,7 @@ module _ (f : ℕ → ℕ) (r s : ResolvedParts) (distinct : AreDistinct (number
     carried_place owner (place.Local k) to is sees e =
         let t = local_there k e.0 e.1 in
         let kinds : Some (child.Value (kind.Tree t.row.nonterminal)) ≡ Some is =
-            sym (ap (option_map (λ (l : Local). child.Value (kind.Tree l.nonterminal))) t.is) ∙ sees.is in
+        sym (ap (option_map (λ (l : Local). child.Value (kind.Tree l.nonterminal))) t.is) ∙ sees.is in
         let kind_is : child.Value (kind.Tree t.row.nonterminal) ≡ is = cc in
         let owner_sees : Sees owner t.row.owner = subst (λ o. Sees owner (owner_of_local p o)) t.is sees.seen in
         subst (λ z. PlaceThere owner z is) (sym e.2) (record {

@@ -1,20 +1,14 @@
 -- What is named in a resolved specification is named in one that has it, in whose numbers it is given.
-use Rattle.std.proofs.Common.{◌≡◌, ◌≢◌, ◌++◌, ◌∷◌, [], ◌⊎◌, inl, inr, ℕ, List, Option, Some, None, map, All, Contains, slice_get, ap, sym, refl, subst, ◌∙◌}
-use Rattle.std.specs.Prelude.{option_map, option_to_list, IsSome, IfSome}
+use Rattle.std.proofs.Common.{◌≡◌, ◌∷◌, [], ℕ, List, Option, Some, None, All, ap, sym, refl, subst, ◌∙◌}
+use Rattle.std.specs.Prelude.{option_to_list, IsSome}
 use Rattle.std.specs.List.{AllZip}
 use Rattle.std.proofs.lemmas.List.Elements.{All-nil, All-cons, All-head, All-tail}
-use Rattle.wb_lemmas.proofs.Members.{contains_at}
-use Rattle.wb_lemmas.proofs.Elements.{all_contained}
 use Rattle.wb_base.specs.declared.symbol.Kind.{Kind}
 use Rattle.wb_base.specs.declared.symbol.Kind.TheVariants as kind
 use Rattle.wb_base.specs.Identifiers.{IsName}
 use Rattle.wb_expressions.specs.declared.node.Node.TheVariants as n
-use Rattle.wb_expressions.specs.Expression.{IsWhole}
-use Rattle.wb_resolved.specs.declared.attributes.Attribute.{Attribute}
 use Rattle.wb_resolved.specs.declared.attributes.Direction.{Direction}
 use Rattle.wb_resolved.specs.declared.attributes.Direction.TheVariants.{Synthesized, Inherited}
-use Rattle.wb_resolved.specs.declared.attributes.Nonterminal.{Nonterminal}
-use Rattle.wb_resolved.specs.declared.attributes.Occurrence.{Occurrence}
 use Rattle.wb_resolved.specs.declared.equation.Equation.{Equation}
 use Rattle.wb_resolved.specs.declared.equation.Place.{Place}
 use Rattle.wb_resolved.specs.declared.equation.Target.{Target}
@@ -22,7 +16,6 @@ use Rattle.wb_resolved.specs.declared.equation.Target.TheVariants as target
 use Rattle.wb_resolved.specs.declared.production.Child.{Child}
 use Rattle.wb_resolved.specs.declared.production.ChildKind.{ChildKind}
 use Rattle.wb_resolved.specs.declared.production.ChildKind.TheVariants as child
-use Rattle.wb_resolved.specs.declared.production.Forward.{Forward}
 use Rattle.wb_resolved.specs.declared.production.Local.{Local}
 use Rattle.wb_resolved.specs.declared.production.Production.{Production}
 use Rattle.wb_resolved.specs.declared.production.ProductionRole.{ProductionRole}
@@ -38,8 +31,8 @@ use Rattle.wb_numbering.specs.Numbering.{numbering_of, labels_in}
 use Rattle.wb_numbering.specs.Renaming.{IsRenamedNode}
 use Rattle.wb_numbering.specs.Moved.{IsMovedKind, IsMovedChildKind, IsMovedChild, IsMovedPlace, IsMovedTarget, IsMovedEquation, IsMovedLocal}
 use Rattle.wb_numbering.specs.Moved.{AreMovedNodes, IsMovedAttributeNumber, IsMovedProductionNumber, IsMovedNonterminalNumber}
-use Rattle.wb_numbering.specs.Carried.{IsThere, IsCarriedProduction, IsCarried, move_between}
-use Rattle.wb_numbering.proofs.Carrying.{carried_nonterminal, carried_production, carried_occurrence, carried_kind, carried_place, PlaceThere}
+use Rattle.wb_numbering.specs.Carried.{IsCarriedProduction, IsCarried, move_between}
+use Rattle.wb_numbering.proofs.Carrying.{carried_nonterminal, carried_production, carried_occurrence, carried_kind, carried_place}
 use Rattle.wb_numbering.proofs.Carrying.{sees_moved}
 use Rattle.wb_numbering.proofs.OneRow.{AreDistinct}
 use Rattle.wb_numbering.proofs.RenamingLemmas.{renamed_whole}

@@ -1,9 +1,8 @@
 -- How often the parts of a file and of its base are declared: no more often than all declarations say.
-use Rattle.std.proofs.Common.{◌≡◌, ◌≤◌, ◌<◌, ◌+◌, ◌++◌, ◌∷◌, ◌⊎◌, inl, inr, [], ℕ, zero, suc, Bool, true, false, List, Option, Some, None, Contains}
-use Rattle.std.proofs.Common.{map, cond, ap, sym, refl, subst, ◌∙◌, arith}
+use Rattle.std.proofs.Common.{◌≡◌, ◌≤◌, ◌+◌, ◌++◌, ◌∷◌, ◌⊎◌, inl, inr, [], ℕ, Bool, true, false, List, Option, Some, None}
+use Rattle.std.proofs.Common.{map, cond, ap, refl, ◌∙◌, arith}
 use Rattle.std.specs.Prelude.{flat_map, filter, filter_map, option_to_list}
 use Rattle.std.specs.List.{AllZip, cons_option}
-use Rattle.std.specs.Str.{bytes_eq}
 use Rattle.wb_resolved.specs.declared.attributes.Attribute.{Attribute}
 use Rattle.wb_resolved.specs.declared.attributes.Nonterminal.{Nonterminal}
 use Rattle.wb_resolved.specs.declared.attributes.Occurrence.{Occurrence}
@@ -20,11 +19,11 @@ use Rattle.wb_naming.specs.declared.declaration.Declaration.{Declaration}
 use Rattle.wb_naming.specs.declared.declaration.Declaration.TheVariants as d
 use Rattle.wb_naming.specs.declared.declaration.Labelled.TheVariants as label
 use Rattle.wb_naming.specs.declared.declaration.Sort.TheVariants as sort
-use Rattle.wb_naming.specs.Declarations.{Items, plain_items}
+use Rattle.wb_naming.specs.Declarations.{Items}
 use Rattle.wb_naming.specs.Declares.{base_declarations, item_declarations, form_declarations, terminal_sort, attribute_name, nonterminal_name}
 use Rattle.wb_naming.specs.Declares.{production_declarations, base_labelled, forward_declarations, target_attribute, target_site}
 use Rattle.wb_numbering.specs.Sources.{sources, Splits, nothing, leads, follows, AreGrouped}
-use Rattle.wb_numbering.proofs.Times.{is_same, once_where, times, times_append, times_flat_map}
+use Rattle.wb_numbering.proofs.Times.{is_same, once_where, times, times_append}
 
 module _ (x : Declaration) where
   -- in what order doesn't matter
@@ -123,7 +122,7 @@ module _ (x : Declaration) where
       let n = map (λ (y : Nonterminal). d.Symbol y.name sort.Nonterminal) base.attributes.nonterminals in
       let a = map (λ (y : Attribute). d.Attribute y.name y.direction) base.attributes.attributes in
       let o = map (λ (y : Occurrence). d.Occurrence (attribute_name base y.attribute) (nonterminal_name base y.nonterminal))
-          base.attributes.occurrences in
+      base.attributes.occurrences in
       let r = flat_map (production_declarations base) base.attributes.productions in
       let one = times_append x (t ++ n ++ a ++ o) r in
       let two = times_append x (t ++ n ++ a) o in

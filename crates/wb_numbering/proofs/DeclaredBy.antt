@@ -1,9 +1,8 @@
 -- What a declaration comes from: a row of the base, or an item.
-use Rattle.std.proofs.Common.{◌≡◌, ◌++◌, ◌∷◌, ◌⊎◌, inl, inr, [], ℕ, List, Option, Some, None, Contains, map, ap, sym, refl, subst, ◌∙◌}
-use Rattle.std.specs.Prelude.{flat_map, filter_map}
-use Rattle.std.specs.List.{cons_option}
-use Rattle.wb_lemmas.proofs.Members.{contains_cases, contains_first, contains_later, contains_append, nothing_in}
-use Rattle.wb_lemmas.proofs.Members.{append_contains_left, append_contains_right}
+use Rattle.std.proofs.Common.{◌≡◌, ◌++◌, ◌∷◌, inl, inr, [], List, Option, Some, None, Contains, map, refl}
+use Rattle.std.specs.Prelude.{flat_map}
+use Rattle.wb_lemmas.proofs.Members.{contains_cases, contains_first, contains_append, nothing_in}
+use Rattle.wb_lemmas.proofs.Members.{append_contains_right}
 use Rattle.wb_resolved.specs.declared.attributes.Attribute.{Attribute}
 use Rattle.wb_resolved.specs.declared.attributes.Nonterminal.{Nonterminal}
 use Rattle.wb_resolved.specs.declared.attributes.Occurrence.{Occurrence}
@@ -15,24 +14,18 @@ use Rattle.wb_resolved.specs.declared.production.Production.{Production}
 use Rattle.wb_resolved.specs.declared.resolved.ResolvedParts.{ResolvedParts}
 use Rattle.wb_resolved.specs.declared.terminal.Terminal.{Terminal}
 use Rattle.wb_syntax.specs.declared.expression.Equation as written
-use Rattle.wb_syntax.specs.declared.item.Item.{Item}
-use Rattle.wb_syntax.specs.declared.item.ItemForm.{ItemForm}
-use Rattle.wb_syntax.specs.declared.item.ItemForm.TheVariants as f
 use Rattle.wb_syntax.specs.declared.item.PlainForm.{PlainForm}
-use Rattle.wb_syntax.specs.declared.pattern.Pattern.{Pattern}
 use Rattle.wb_syntax.specs.declared.production.Child as named
 use Rattle.wb_naming.specs.declared.declaration.Declaration.{Declaration}
 use Rattle.wb_naming.specs.declared.declaration.Declaration.TheVariants as d
 use Rattle.wb_naming.specs.declared.declaration.Labelled.TheVariants as label
 use Rattle.wb_naming.specs.declared.declaration.Sort.TheVariants as sort
-use Rattle.wb_naming.specs.Declarations.{Items, LexicalDeclaration, ProductionDeclaration, lexicals, productions, plain_items, lexical_of}
-use Rattle.wb_naming.specs.Declarations.{production_of, plain_of}
-use Rattle.wb_naming.specs.Declares.{base_declarations, item_declarations, declarations, form_declarations, plain_declaration, role_sort}
-use Rattle.wb_naming.specs.Declares.{child_declaration, target_declaration, equation_declarations, terminal_sort, nonterminal_name}
+use Rattle.wb_naming.specs.Declarations.{Items, LexicalDeclaration, ProductionDeclaration, lexicals, productions, plain_items}
+use Rattle.wb_naming.specs.Declares.{base_declarations, item_declarations, declarations, plain_declaration, role_sort}
+use Rattle.wb_naming.specs.Declares.{child_declaration, target_declaration, terminal_sort, nonterminal_name}
 use Rattle.wb_naming.specs.Declares.{attribute_name, base_labelled, target_attribute, target_site, forward_declarations, production_declarations}
-use Rattle.wb_numbering.specs.Files.{Block, blocks, block_of}
+use Rattle.wb_numbering.specs.Files.{Block, blocks}
 use Rattle.wb_numbering.proofs.RowLemmas.{contains_map}
-
 use Rattle.wb_numbering.proofs.OwnDeclared.{IsOwnDeclared, own_declared, contains_flat_map, flat_map_contains}
 use Rattle.wb_numbering.proofs.OwnDeclared as own
 
@@ -88,28 +81,28 @@ module _ (base : ResolvedParts) (items : Items) (it : Declaration) (p : Producti
   in_equations : Contains (children ++ locals ++ forwards ++ equations) it → IsDeclaredBy base items it
   in_equations h =
       elim (contains_append (children ++ locals ++ forwards) equations it h) [
-        inl one ↦ elim (contains_append (children ++ locals) forwards it one) [
-          inl two ↦ elim (contains_append children locals it two) [
-            inl three ↦ let x = contains_map (λ (c : Child). d.Label p.name c.label (base_labelled base c.kind)) p.children it three in
+        | inl one ↦ elim (contains_append (children ++ locals) forwards it one) [
+          | inl two ↦ elim (contains_append children locals it two) [
+            | inl three ↦ let x = contains_map (λ (c : Child). d.Label p.name c.label (base_labelled base c.kind)) p.children it three in
                 base_child p there x.0 x.1 x.2
-          | inr three ↦
-              let x = contains_map (λ (l : Local). d.Label p.name l.label (label.Local (nonterminal_name base l.nonterminal))) p.locals it three in
-              base_local p there x.0 x.1 x.2
+            | inr three ↦
+                let x = contains_map (λ (l : Local). d.Label p.name l.label (label.Local (nonterminal_name base l.nonterminal))) p.locals it three in
+                base_local p there x.0 x.1 x.2
           ]
-        | inr two ↦ in_forward p.forward refl two
+          | inr two ↦ in_forward p.forward refl two
         ]
-      | inr one ↦ let x = contains_map (λ (e : Equation). d.Equation p.name (target_attribute base e.target) (target_site p e.target)) p.equations it one in
-          base_equation p there x.0 x.1 x.2
+        | inr one ↦ let x = contains_map (λ (e : Equation). d.Equation p.name (target_attribute base e.target) (target_site p e.target)) p.equations it one in
+            base_equation p there x.0 x.1 x.2
       ]
 
   from_production : Contains (production_declarations base p) it → IsDeclaredBy base items it
   from_production has =
       let rest = children ++ locals ++ forwards ++ equations in
       elim (contains_cases (d.Symbol p.name sort.Production) it (d.Left p.name (nonterminal_name base p.left) ∷ rest) has) [
-        inl is ↦ base_symbol p there is
-      | inr more ↦ elim (contains_cases (d.Left p.name (nonterminal_name base p.left)) it rest more) [
-          inl is ↦ base_left p there is
-        | inr last ↦ in_equations last
+        | inl is ↦ base_symbol p there is
+        | inr more ↦ elim (contains_cases (d.Left p.name (nonterminal_name base p.left)) it rest more) [
+          | inl is ↦ base_left p there is
+          | inr last ↦ in_equations last
         ]
       ]
 
@@ -134,25 +127,25 @@ module _ (base : ResolvedParts) (items : Items) (it : Declaration) where
   from_base : Contains (base_declarations base) it → IsDeclaredBy base items it
   from_base h =
       elim (contains_append (terminals ++ nonterminals ++ attributes ++ occurrences) rules it h) [
-        inl one ↦ elim (contains_append (terminals ++ nonterminals ++ attributes) occurrences it one) [
-          inl two ↦ elim (contains_append (terminals ++ nonterminals) attributes it two) [
-            inl three ↦ elim (contains_append terminals nonterminals it three) [
-              inl four ↦ let x = contains_map (λ (x : Terminal). d.Symbol x.name (terminal_sort x.kind)) base.terminals it four in
+        | inl one ↦ elim (contains_append (terminals ++ nonterminals ++ attributes) occurrences it one) [
+          | inl two ↦ elim (contains_append (terminals ++ nonterminals) attributes it two) [
+            | inl three ↦ elim (contains_append terminals nonterminals it three) [
+              | inl four ↦ let x = contains_map (λ (x : Terminal). d.Symbol x.name (terminal_sort x.kind)) base.terminals it four in
                   base_terminal x.0 x.1 x.2
-            | inr four ↦
-                let x = contains_map (λ (x : Nonterminal). d.Symbol x.name sort.Nonterminal) base.attributes.nonterminals it four in
-                base_nonterminal x.0 x.1 x.2
+              | inr four ↦
+                  let x = contains_map (λ (x : Nonterminal). d.Symbol x.name sort.Nonterminal) base.attributes.nonterminals it four in
+                  base_nonterminal x.0 x.1 x.2
             ]
-          | inr three ↦ let x = contains_map (λ (x : Attribute). d.Attribute x.name x.direction) base.attributes.attributes it three in
-              base_attribute x.0 x.1 x.2
+            | inr three ↦ let x = contains_map (λ (x : Attribute). d.Attribute x.name x.direction) base.attributes.attributes it three in
+                base_attribute x.0 x.1 x.2
           ]
-        | inr two ↦
-            let x = contains_map (λ (x : Occurrence). d.Occurrence (attribute_name base x.attribute) (nonterminal_name base x.nonterminal))
-                base.attributes.occurrences it two in
-            base_occurrence x.0 x.1 x.2
+          | inr two ↦
+              let x = contains_map (λ (x : Occurrence). d.Occurrence (attribute_name base x.attribute) (nonterminal_name base x.nonterminal))
+              base.attributes.occurrences it two in
+              base_occurrence x.0 x.1 x.2
         ]
-      | inr one ↦ let x = contains_flat_map (production_declarations base) base.attributes.productions it one in
-          from_production base items it x.0 x.1 x.2
+        | inr one ↦ let x = contains_flat_map (production_declarations base) base.attributes.productions it one in
+            from_production base items it x.0 x.1 x.2
       ]
 
   -- what items declare
@@ -167,8 +160,8 @@ module _ (base : ResolvedParts) (items : Items) (it : Declaration) where
   pub declared_by : Contains (declarations base items) it → IsDeclaredBy base items it
   declared_by h =
       elim (contains_append (base_declarations base) (item_declarations items) it h) [
-        inl one ↦ from_base one
-      | inr one ↦ from_own (own_declared items it one)
+        | inl one ↦ from_base one
+        | inr one ↦ from_own (own_declared items it one)
       ]
 
 -- a production of the base is declared in it
@@ -178,10 +171,10 @@ production_declared base p has =
     let it = d.Symbol p.name sort.Production in
     let items : Items = [] in
     let front = map (λ (x : Terminal). d.Symbol x.name (terminal_sort x.kind)) base.terminals
-        ++ map (λ (x : Nonterminal). d.Symbol x.name sort.Nonterminal) base.attributes.nonterminals
-        ++ map (λ (x : Attribute). d.Attribute x.name x.direction) base.attributes.attributes
-        ++ map (λ (x : Occurrence). d.Occurrence (attribute_name base x.attribute) (nonterminal_name base x.nonterminal))
-        base.attributes.occurrences in
+    ++ map (λ (x : Nonterminal). d.Symbol x.name sort.Nonterminal) base.attributes.nonterminals
+    ++ map (λ (x : Attribute). d.Attribute x.name x.direction) base.attributes.attributes
+    ++ map (λ (x : Occurrence). d.Occurrence (attribute_name base x.attribute) (nonterminal_name base x.nonterminal))
+    base.attributes.occurrences in
     append_contains_right front (flat_map (production_declarations base) base.attributes.productions) it
     (flat_map_contains (production_declarations base) base.attributes.productions p it has
     (contains_first it (d.Left p.name (nonterminal_name base p.left) ∷ (children base items it p has ++ locals base items it p has

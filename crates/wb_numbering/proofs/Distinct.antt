@@ -1,7 +1,7 @@
 -- No name of a value is there twice.
-use Rattle.std.proofs.Common.{◌≡◌, ◌≤◌, ◌<◌, ◌+◌, ◌++◌, ◌∷◌, ◌⊎◌, inl, inr, [], ℕ, Bool, true, List, Option, Some, None, map, slice_get, ap, sym}
-use Rattle.std.proofs.Common.{refl, subst, ◌∙◌, arith}
-use Rattle.std.specs.Prelude.{flat_map, filter, filter_map, option_map, option_to_list}
+use Rattle.std.proofs.Common.{◌≡◌, ◌≤◌, ◌+◌, ◌++◌, ◌∷◌, ◌⊎◌, inl, inr, ℕ, true, List, map, ap}
+use Rattle.std.proofs.Common.{refl, ◌∙◌, arith}
+use Rattle.std.specs.Prelude.{filter_map, option_map, option_to_list}
 use Rattle.std.proofs.lemmas.Option.{slice_get-map}
 use Rattle.wb_resolved.specs.declared.attributes.Attribute.{Attribute}
 use Rattle.wb_resolved.specs.declared.attributes.Direction.TheVariants.{Synthesized}
@@ -10,7 +10,6 @@ use Rattle.wb_resolved.specs.declared.production.Production.{Production}
 use Rattle.wb_resolved.specs.declared.resolved.ResolvedParts.{ResolvedParts}
 use Rattle.wb_resolved.specs.declared.terminal.Terminal.{Terminal}
 use Rattle.wb_resolved.specs.Once.{Entry, NamesDiffer}
-use Rattle.wb_resolved.specs.Owners.{Sees}
 use Rattle.wb_syntax.specs.declared.item.Item.{Item}
 use Rattle.wb_syntax.specs.declared.item.ItemForm.{ItemForm}
 use Rattle.wb_syntax.specs.declared.item.ItemForm.TheVariants as f
@@ -21,7 +20,7 @@ use Rattle.wb_naming.specs.declared.declaration.Declaration.TheVariants as d
 use Rattle.wb_naming.specs.declared.declaration.Sort.TheVariants as sort
 use Rattle.wb_naming.specs.Declarations.{Items, LexicalDeclaration, AttributeDeclaration, ProductionDeclaration, lexicals, nonterminals}
 use Rattle.wb_naming.specs.Declarations.{productions, attributes, plain_items, lexical_of, plain_of, production_of, nonterminal_of, attribute_of}
-use Rattle.wb_naming.specs.Declares.{base_declarations, item_declarations, form_declarations, declarations, terminal_sort, production_declarations}
+use Rattle.wb_naming.specs.Declares.{base_declarations, item_declarations, form_declarations, declarations, terminal_sort}
 use Rattle.wb_naming.specs.Hold.{AreOnce}
 use Rattle.wb_numbering.specs.Files.{File}
 use Rattle.wb_numbering.specs.Numbering.{Numbering, numbering_of}
@@ -68,7 +67,7 @@ module _ (a : List ℕ) where
       let one = times_kept (symbol a) (λ (x : LexicalDeclaration). symbol x.name) (lexical_of item.form) (lexicals items) in
       let two = times_nested (symbol a) symbol nonterminal_of (plain_of item.form) (plain_items items) in
       let three = times_kept (symbol a) (λ (x : ProductionDeclaration). symbol x.production.name) (production_of item.form)
-          (productions items) in
+      (productions items) in
       omega (arith, one, two, three)
 
   symbols_each : (form : ItemForm Pattern) → symbols_of form ≤ times (symbol a) (form_declarations form)
@@ -156,11 +155,11 @@ module _ (a : List ℕ) where
         let x = symbol a in
         let mark : Entry → Declaration = λ e. symbol e.1 in
         let t = times_grouped x IsScanned (IsTerminal file n) terminal_symbol (λ (v : Terminal). symbol v.name) terminal_row
-            (sources file.base.terminals (lexicals file.items)) r.terminals resolves.terminals in
+        (sources file.base.terminals (lexicals file.items)) r.terminals resolves.terminals in
         let u = times_grouped x (IsInGrammarOf file) (IsNonterminal file n) nonterminal_symbol (λ (v : Nonterminal). symbol v.name) nonterminal_row
-            (sources b.nonterminals (nonterminals file.items)) r.attributes.nonterminals resolves.nonterminals in
+        (sources b.nonterminals (nonterminals file.items)) r.attributes.nonterminals resolves.nonterminals in
         let p = times_grouped x IsConcrete (IsProduction file n) production_symbol (λ (v : Production). symbol v.name) production_row
-            (sources b.productions (productions file.items)) r.attributes.productions resolves.productions in
+        (sources b.productions (productions file.items)) r.attributes.productions resolves.productions in
         let t_in = times_sources x terminal_symbol file.base.terminals (lexicals file.items) in
         let u_in = times_sources x nonterminal_symbol b.nonterminals (nonterminals file.items) in
         let p_in = times_sources x production_symbol b.productions (productions file.items) in
@@ -173,11 +172,11 @@ module _ (a : List ℕ) where
         let base = count_base x file.base in
         let rules = count_rules x file.base b.productions in
         let t_base = times_map x (λ (y : Terminal). d.Symbol y.name (terminal_sort y.kind)) (λ (y : Terminal). symbol y.name) (λ y. refl)
-            file.base.terminals in
+        file.base.terminals in
         let u_base = times_map x (λ (y : Nonterminal). d.Symbol y.name sort.Nonterminal) (λ (y : Nonterminal). symbol y.name) (λ y. refl)
-            b.nonterminals in
+        b.nonterminals in
         let p_base = times_map x (λ (y : Production). d.Symbol y.name sort.Production) (λ (y : Production). symbol y.name) (λ y. refl)
-            b.productions in
+        b.productions in
         let both = times_append x (base_declarations file.base) (item_declarations file.items) in
         let few = times_once x (declarations file.base file.items) once in
         omega (arith, t, u, p, t_in, u_in, p_in, t_map, u_map, p_map, outer, inner, items, base, rules, t_base, u_base, p_base, both, few)
@@ -188,13 +187,13 @@ module _ (a : List ℕ) where
         let x = attribute a in
         let mark : Entry → Declaration = λ e. attribute e.1 in
         let t = times_zip x (IsAttribute file n) attribute_symbol (λ (v : Attribute). attribute v.name) attribute_row
-            (sources b.attributes (attributes file.items)) r.attributes.attributes resolves.attributes in
+        (sources b.attributes (attributes file.items)) r.attributes.attributes resolves.attributes in
         let t_in = times_sources x attribute_symbol b.attributes (attributes file.items) in
         let t_map = times_map_map x mark (λ (v : Attribute). (v.owner, v.name)) r.attributes.attributes in
         let items = count_items x attributes_of attributes_total refl attributes_step attributes_each file.items in
         let base = count_base x file.base in
         let t_base = times_map x (λ (y : Attribute). d.Attribute y.name y.direction) (λ (y : Attribute). attribute y.name) (λ y. refl)
-            b.attributes in
+        b.attributes in
         let both = times_append x (base_declarations file.base) (item_declarations file.items) in
         let few = times_once x (declarations file.base file.items) once in
         omega (arith, t, t_in, t_map, items, base, t_base, both, few)

@@ -1,15 +1,10 @@
 -- Equations of a value are their owners', where the names of its file are right.
-use Rattle.std.proofs.Common.{◌≡◌, ◌≢◌, ◌≤◌, ◌++◌, ◌∷◌, ◌⊎◌, inl, inr, [], ℕ, zero, suc, Bool, true, false, List, Option, Some, None, Contains, All}
-use Rattle.std.proofs.Common.{map, slice_get, ap, sym, refl, subst, ◌∙◌, arith}
-use Rattle.std.specs.Prelude.{option_map, option_to_list, filter, flat_map, filter_map}
-use Rattle.std.specs.List.{AllZip}
+use Rattle.std.proofs.Common.{◌≡◌, ◌⊎◌, inl, inr, ℕ, zero, suc, Bool, true, false, List, Some, Contains, All}
+use Rattle.std.proofs.Common.{slice_get, ap, sym, refl, subst, ◌∙◌, arith}
+use Rattle.std.specs.Prelude.{option_map}
 use Rattle.std.proofs.lemmas.Bool.{false≢true}
-use Rattle.wb_lemmas.proofs.Members.{contains_at, contains_first, contains_later, place_of, append_contains_left, append_contains_right}
+use Rattle.wb_lemmas.proofs.Members.{contains_at, place_of}
 use Rattle.wb_base.specs.declared.symbol.Kind.TheVariants as kind
-use Rattle.wb_resolved.specs.declared.attributes.Attribute.{Attribute}
-use Rattle.wb_resolved.specs.declared.attributes.Direction.{Direction}
-use Rattle.wb_resolved.specs.declared.attributes.Direction.TheVariants.{Synthesized, Inherited}
-use Rattle.wb_resolved.specs.declared.attributes.Nonterminal.{Nonterminal}
 use Rattle.wb_resolved.specs.declared.attributes.Occurrence.{Occurrence}
 use Rattle.wb_resolved.specs.declared.attribution.AttributionParts.{AttributionParts}
 use Rattle.wb_resolved.specs.declared.equation.Equation.{Equation}
@@ -22,65 +17,48 @@ use Rattle.wb_resolved.specs.declared.production.Local.{Local}
 use Rattle.wb_resolved.specs.declared.production.Production.{Production}
 use Rattle.wb_resolved.specs.declared.resolved.ResolvedParts.{ResolvedParts}
 use Rattle.wb_resolved.specs.Once.{NamesDiffer, labels_of}
-use Rattle.wb_resolved.specs.Owned.{IsOwned, IsOwnOccurrence, IsOwnEquation, IsForOwnLocal, IsForOwnOccurrence, IsTargetOf}
-use Rattle.wb_resolved.specs.Owners.{Sees}
-use Rattle.wb_resolved.specs.Visible.{kind_at}
+use Rattle.wb_resolved.specs.Owned.{IsOwnEquation, IsForOwnLocal, IsForOwnOccurrence, IsTargetOf}
 use Rattle.wb_syntax.specs.declared.expression.Equation as written
 use Rattle.wb_syntax.specs.declared.expression.Target as is_for
 use Rattle.wb_syntax.specs.declared.expression.Target.TheVariants as g
-use Rattle.wb_syntax.specs.declared.item.Item.{Item}
-use Rattle.wb_syntax.specs.declared.item.ItemForm.{ItemForm}
-use Rattle.wb_syntax.specs.declared.item.ItemForm.TheVariants as f
 use Rattle.wb_syntax.specs.declared.item.PlainForm.{PlainForm}
 use Rattle.wb_syntax.specs.declared.item.PlainForm.TheVariants as i
-use Rattle.wb_syntax.specs.declared.pattern.Pattern.{Pattern}
-use Rattle.wb_syntax.specs.declared.production.NamedKind.{NamedKind}
-use Rattle.wb_syntax.specs.declared.production.NamedKind.TheVariants as k
 use Rattle.wb_naming.specs.declared.declaration.Declaration.{Declaration}
 use Rattle.wb_naming.specs.declared.declaration.Declaration.TheVariants as d
-use Rattle.wb_naming.specs.declared.declaration.Labelled.{Labelled}
 use Rattle.wb_naming.specs.declared.declaration.Labelled.TheVariants as label
-use Rattle.wb_naming.specs.declared.declaration.Site.{Site}
 use Rattle.wb_naming.specs.declared.declaration.Site.TheVariants as site
-use Rattle.wb_naming.specs.declared.declaration.Sort.{Sort}
 use Rattle.wb_naming.specs.declared.declaration.Sort.TheVariants as sort
 use Rattle.wb_naming.specs.declared.usage.Usage.{Usage}
 use Rattle.wb_naming.specs.declared.usage.Usage.TheVariants as u
 use Rattle.wb_naming.specs.declared.usage.LabelWanted.TheVariants as read
 use Rattle.wb_naming.specs.declared.usage.Wanted.TheVariants as wanted
-use Rattle.wb_naming.specs.Declarations.{Items, AttributeDeclaration, OccurrenceDeclaration, ProductionDeclaration, attributes, occurrences}
-use Rattle.wb_naming.specs.Declarations.{nonterminals, productions, plain_items, plain_of, attribute_of, occurrence_of, nonterminal_of}
-use Rattle.wb_naming.specs.Declares.{declarations, base_declarations, item_declarations, form_declarations, plain_declaration, target_declaration}
-use Rattle.wb_naming.specs.Declares.{equation_declarations, production_declarations, child_declaration, labelled}
+use Rattle.wb_naming.specs.Declarations.{OccurrenceDeclaration, ProductionDeclaration, occurrences}
+use Rattle.wb_naming.specs.Declarations.{productions, plain_items, occurrence_of}
+use Rattle.wb_naming.specs.Declares.{base_declarations, item_declarations, plain_declaration, target_declaration}
+use Rattle.wb_naming.specs.Declares.{labelled}
 use Rattle.wb_naming.specs.Hold.{AreOwned}
-use Rattle.wb_naming.specs.Meaning.{HasSite}
-use Rattle.wb_naming.specs.Orphan.{IsOwnLocal}
 use Rattle.wb_naming.specs.Uses.{uses, target_uses}
-use Rattle.wb_numbering.specs.Files.{File, Block, blocks, block_of, equations_on}
+use Rattle.wb_numbering.specs.Files.{File, equations_on}
 use Rattle.wb_numbering.specs.Moved.{IsMovedEquation}
 use Rattle.wb_numbering.specs.Numbering.{Numbering, numbering_of, IsNumber, IsPlace, labels_in}
-use Rattle.wb_numbering.specs.Resolves.{move_of, IsOccurrence, IsProduction, IsConcrete, IsAttribute, IsNonterminal, IsInGrammarOf}
-use Rattle.wb_numbering.specs.Rows.{IsProductionRow, IsExtendedProduction}
+use Rattle.wb_numbering.specs.Resolves.{move_of, IsOccurrence, IsProduction, IsConcrete}
 use Rattle.wb_numbering.specs.Sources.{sources, IsFrom}
-use Rattle.wb_numbering.specs.Written.{IsWrittenEquation, IsWrittenTarget, IsWrittenLocalTarget, attribute_equations, local_equations, makes_attribute, makes_local}
-use Rattle.wb_numbering.proofs.Carrying.{row_at, name_at}
+use Rattle.wb_numbering.specs.Written.{IsWrittenEquation, IsWrittenTarget, IsWrittenLocalTarget, attribute_equations, makes_attribute, makes_local}
+use Rattle.wb_numbering.proofs.Carrying.{name_at}
 use Rattle.wb_numbering.proofs.DeclaredBy.{production_declared}
-use Rattle.wb_numbering.proofs.Found.{own_terminal}
-use Rattle.wb_numbering.proofs.Ground.{Ground, production_seen, own_row}
+use Rattle.wb_numbering.proofs.Ground.{Ground, production_seen}
 use Rattle.wb_numbering.proofs.LabelsFound.{label_found, written_local}
 use Rattle.wb_numbering.proofs.LabelsOnce.{base_labels}
-use Rattle.wb_numbering.proofs.NumberLemmas.{one_number, not_in_both}
+use Rattle.wb_numbering.proofs.NumberLemmas.{one_number}
 use Rattle.wb_numbering.proofs.OneProduction.{labels_differ}
-use Rattle.wb_numbering.proofs.OneRow.{LabelsDiffer, not_both, nonterminals_differ, others_differ, one_place}
+use Rattle.wb_numbering.proofs.OneRow.{LabelsDiffer, nonterminals_differ, one_place}
 use Rattle.wb_numbering.proofs.OwnDeclared.{IsOwnDeclared, own_declared, kept, flat_map_contains}
 use Rattle.wb_numbering.proofs.OwnDeclared as own
 use Rattle.wb_numbering.proofs.OwnNamed.{Known, tree_of, placed, two_of_two, three_of_three}
-use Rattle.wb_numbering.proofs.RowLemmas.{all_rows, all_zipped, row_of, row_of_zip, source_before, source_declared, there_before, there_declared}
-use Rattle.wb_numbering.proofs.RowLemmas.{map_contains}
-use Rattle.wb_numbering.proofs.Selected.{kept_from, contains_filter, filter_contains, equations_of_block, block_of_equation}
+use Rattle.wb_numbering.proofs.RowLemmas.{all_rows, all_zipped, row_of_zip, source_before, source_declared, there_declared}
+use Rattle.wb_numbering.proofs.Selected.{contains_filter, filter_contains, equations_of_block, block_of_equation}
 use Rattle.wb_numbering.proofs.SidesFound.{left_found}
 use Rattle.wb_numbering.proofs.Used.{equation_used, target_used}
-
 use Rattle.wb_numbering.proofs.RowsOwned.{block_declares, child_no_local}
 
 abbrev is_label : Declaration → Bool
@@ -135,7 +113,7 @@ module _ (file : File) (r : ResolvedParts) (known : Known file r) where
   own_row_of : (x : OccurrenceDeclaration) → Contains (occurrences file.items) x → OwnRow x.attribute x.nonterminal
   own_row_of x has =
       let h = row_of_zip (IsOccurrence file n) (sources b.occurrences (occurrences file.items)) a.occurrences ground.resolves.occurrences (inr x)
-          (there_declared b.occurrences (occurrences file.items) x has) in
+      (there_declared b.occurrences (occurrences file.items) x has) in
       record {
         row = h.row;
         listed = contains_at a.occurrences h.row h.place h.at;
@@ -184,10 +162,10 @@ module _ (file : File) (r : ResolvedParts) (known : Known file r) where
           let same : y.name ≡ row.name = cc in
           let called : one ≡ l = cc in
           let h = written_local file r ground known.scanned at_row row is_there q
-              (filter_contains (λ (z : written.Equation). makes_local z.target) (equations_on row.name file.items) q
-              (equations_of_block row.name file.items y has same q more) (ap makes_local is)) in
+          (filter_contains (λ (z : written.Equation). makes_local z.target) (equations_on row.name file.items) q
+          (equations_of_block row.name file.items y has same q more) (ap makes_local is)) in
           let t : IsWrittenLocalTarget n file.owner (g.Local one other) h.row.label h.row.nonterminal =
-              subst (λ z. IsWrittenLocalTarget n file.owner z h.row.label h.row.nonterminal) is h.is_row.target in
+          subst (λ z. IsWrittenLocalTarget n file.owner z h.row.label h.row.nonterminal) is h.is_row.target in
           record { place_of_it = h.place; row_of_it = h.row; at = h.at; owner = h.is_row.owner_is; named = t.0 ∙ called }
       from (g.Top c) is e = absurd (false≢true (ap is_label e))
       from (g.Label c k) is e = absurd (false≢true (ap is_label e))
@@ -227,41 +205,44 @@ module _ (file : File) (r : ResolvedParts) (known : Known file r) where
           let x = known.hold.meant.attributes row.name c site.Top (used (u.Attribute row.name c site.Top) (two_of_two (u.Name c wanted.Synthesized) (u.Attribute row.name c site.Top))) in
           let left = left_found file r ground known.hold.placed at_row row is_there x.nonterminal x.there.0 in
           elim (owned.equations row.name c x.nonterminal site.Top declares of_host x.there) [
-            inl is ↦ let h = own_occurrence c x.nonterminal (own_declared file.items (d.Occurrence c x.nonterminal) is) in
-                inr (for_occurrence to c x.nonterminal h (subst (λ z. IsTargetOf row z h.row) (sym t.2)
-                (one_number n.attributes ground.distinct.attributes file.owner c h.row.attribute t.0 h.of_attribute t.1,
-                one_number n.nonterminals (nonterminals_differ n ground.distinct) file.owner x.nonterminal h.row.nonterminal row.left h.on_nonterminal
-                left)))
-          | inr never ↦ absurd never
+            | inl is ↦ let h = own_occurrence c x.nonterminal (own_declared file.items (d.Occurrence c x.nonterminal) is) in
+                inr (for_occurrence to c x.nonterminal h (subst (λ z. IsTargetOf row z h.row) (sym t.2) (
+                  one_number n.attributes ground.distinct.attributes file.owner c h.row.attribute t.0 h.of_attribute t.1,
+                  one_number n.nonterminals (nonterminals_differ n ground.distinct) file.owner x.nonterminal h.row.nonterminal row.left h.on_nonterminal
+                      left,
+                )))
+            | inr never ↦ absurd never
           ]
       own_target (g.Forward c) to declares used t =
           let x = known.hold.meant.attributes row.name c site.Forward
-              (used (u.Attribute row.name c site.Forward) (two_of_two (u.Name c wanted.Inherited) (u.Attribute row.name c site.Forward))) in
+          (used (u.Attribute row.name c site.Forward) (two_of_two (u.Name c wanted.Inherited) (u.Attribute row.name c site.Forward))) in
           let left = left_found file r ground known.hold.placed at_row row is_there x.nonterminal x.there.0 in
           elim (owned.equations row.name c x.nonterminal site.Forward declares of_host x.there) [
-            inl is ↦ let h = own_occurrence c x.nonterminal (own_declared file.items (d.Occurrence c x.nonterminal) is) in
-                inr (for_occurrence to c x.nonterminal h (subst (λ z. IsTargetOf row z h.row) (sym t.2)
-                (one_number n.attributes ground.distinct.attributes file.owner c h.row.attribute t.0 h.of_attribute t.1,
-                one_number n.nonterminals (nonterminals_differ n ground.distinct) file.owner x.nonterminal h.row.nonterminal row.left h.on_nonterminal
-                left)))
-          | inr never ↦ absurd never
+            | inl is ↦ let h = own_occurrence c x.nonterminal (own_declared file.items (d.Occurrence c x.nonterminal) is) in
+                inr (for_occurrence to c x.nonterminal h (subst (λ z. IsTargetOf row z h.row) (sym t.2) (
+                  one_number n.attributes ground.distinct.attributes file.owner c h.row.attribute t.0 h.of_attribute t.1,
+                  one_number n.nonterminals (nonterminals_differ n ground.distinct) file.owner x.nonterminal h.row.nonterminal row.left h.on_nonterminal
+                      left,
+                )))
+            | inr never ↦ absurd never
           ]
       own_target (g.Label l c) to declares used t =
           let x = known.hold.meant.attributes row.name c (site.Label l)
-              (used (u.Attribute row.name c (site.Label l)) (three_of_three (u.Name c wanted.Inherited) (u.Label row.name l read.Tree) (u.Attribute row.name c (site.Label l)))) in
+          (used (u.Attribute row.name c (site.Label l)) (three_of_three (u.Name c wanted.Inherited) (u.Label row.name l read.Tree) (u.Attribute row.name c (site.Label l)))) in
           elim (owned.equations row.name c x.nonterminal (site.Label l) declares of_host x.there) [
-            inl is ↦ let h = own_occurrence c x.nonterminal (own_declared file.items (d.Occurrence c x.nonterminal) is) in
+            | inl is ↦ let h = own_occurrence c x.nonterminal (own_declared file.items (d.Occurrence c x.nonterminal) is) in
                 let found = label_found file r ground known.scanned at_row row is_there l x.there.0 x.there.1 in
                 let tree = tree_of file r known x.there.0 x.nonterminal found.to_kind x.there.2 found.means in
                 let here = placed file r known at_row row is_there differ l x.there.0 t.0 found t.2 in
                 let same = one_number n.nonterminals (nonterminals_differ n ground.distinct) file.owner x.nonterminal tree.0 h.row.nonterminal tree.2
-                    h.on_nonterminal in
-                inr (for_occurrence to c x.nonterminal h (subst (λ z. IsTargetOf row z h.row) (sym t.4)
-                (one_number n.attributes ground.distinct.attributes file.owner c h.row.attribute t.1 h.of_attribute t.3,
-                here.is ∙ (ap Some tree.1 ∙ ap (λ (z : ℕ). Some (child.Value (kind.Tree z))) same))))
-          | inr is ↦
-              inl (subst (IsForOwnLocal row file.owner) (sym t.4) (for_local l t.0 t.1 t.2
-              (own_local l is.0 (own_declared file.items (d.Label row.name l (label.Local is.0)) is.1))))
+                h.on_nonterminal in
+                inr (for_occurrence to c x.nonterminal h (subst (λ z. IsTargetOf row z h.row) (sym t.4) (
+                  one_number n.attributes ground.distinct.attributes file.owner c h.row.attribute t.1 h.of_attribute t.3,
+                  here.is ∙ (ap Some tree.1 ∙ ap (λ (z : ℕ). Some (child.Value (kind.Tree z))) same),
+                )))
+            | inr is ↦
+                inl (subst (IsForOwnLocal row file.owner) (sym t.4) (for_local l t.0 t.1 t.2
+                (own_local l is.0 (own_declared file.items (d.Label row.name l (label.Local is.0)) is.1))))
           ]
       own_target (g.Local l m) to declares used t = absurd t
       own_target g.ForwardsTo to declares used t = absurd t
@@ -276,13 +257,13 @@ module _ (file : File) (r : ResolvedParts) (known : Known file r) where
         let on = block_of_equation p.name file.items q has in
         let called : on.0.name ≡ row.name = on.2 ∙ sym same in
         let declares : Contains owns (target_declaration row.name q.target) =
-            subst (λ z. Contains owns (target_declaration z q.target)) called (block_declares file.items on.0 on.1 q on.3) in
+        subst (λ z. Contains owns (target_declaration z q.target)) called (block_declares file.items on.0 on.1 q on.3) in
         let of_host = subst (λ z. Contains (base_declarations file.base) (d.Symbol z sort.Production)) (sym same) (production_declared file.base p inside) in
         inr (subst (λ z. IsForOwnLocal row z v.target ⊎ IsForOwnOccurrence a row z v.target) (sym e.owner_is)
         (own_target owned of_host q.target v.target declares (λ it used. equation_used file.items on.0 on.1 q on.3 it
         (target_used on.0.name q it (subst (λ z. Contains (target_uses z q.target) it) (sym called) used))) e.target)) where
-      not_zero : 0 ≡ suc o → ⊥
-      not_zero z = absurd (omega (arith, z))
+          not_zero : 0 ≡ suc o → ⊥
+          not_zero z = absurd (omega (arith, z))
 
   -- the equations of each production
   owned_equations_of : (x : Production ⊎ ProductionDeclaration) (row : Production) → Contains (sources b.productions (productions file.items)) x
@@ -296,18 +277,18 @@ module _ (file : File) (r : ResolvedParts) (known : Known file r) where
       all_zipped (IsFrom (IsMovedEquation (move_of file n) (labels_in p) (labels_in row)) (IsWrittenEquation n file.owner (labels_in row)))
       (IsOwnEquation a row) (sources p.equations own_equations) row.equations e.equations
       (λ x v more there t. by_source j row at labels p inside e.name zero_is x v more t) where
-    by_source : (j : ℕ) (row : Production) → slice_get a.productions j ≡ Some row → NamesDiffer (labels_of row) → (p : Production)
-        → Contains b.productions p → row.name ≡ p.name → row.owner ≡ 0 → (x : Equation ⊎ written.Equation) (v : Equation)
-        → Contains (sources p.equations (attribute_equations (equations_on p.name file.items))) x
-        → IsFrom (IsMovedEquation (move_of file n) (labels_in p) (labels_in row)) (IsWrittenEquation n file.owner (labels_in row)) x v
-        → IsOwnEquation a row v
-    by_source j row at labels p inside same zero_is (inl x) v more t =
-        inl (zero_is ∙ sym (t.owner ∙ ground.host.equations p inside x
-        (source_before p.equations (attribute_equations (equations_on p.name file.items)) x more)))
-    by_source j row at labels p inside same zero_is (inr q) v more t =
-        written_owned j row at labels p inside same zero_is file.owner refl q
-        (contains_filter (λ (z : written.Equation). makes_attribute z.target) (equations_on p.name file.items) q
-        (source_declared p.equations (attribute_equations (equations_on p.name file.items)) q more)).0 v t
+        by_source : (j : ℕ) (row : Production) → slice_get a.productions j ≡ Some row → NamesDiffer (labels_of row) → (p : Production)
+            → Contains b.productions p → row.name ≡ p.name → row.owner ≡ 0 → (x : Equation ⊎ written.Equation) (v : Equation)
+            → Contains (sources p.equations (attribute_equations (equations_on p.name file.items))) x
+            → IsFrom (IsMovedEquation (move_of file n) (labels_in p) (labels_in row)) (IsWrittenEquation n file.owner (labels_in row)) x v
+            → IsOwnEquation a row v
+        by_source j row at labels p inside same zero_is (inl x) v more t =
+            inl (zero_is ∙ sym (t.owner ∙ ground.host.equations p inside x
+            (source_before p.equations (attribute_equations (equations_on p.name file.items)) x more)))
+        by_source j row at labels p inside same zero_is (inr q) v more t =
+            written_owned j row at labels p inside same zero_is file.owner refl q
+            (contains_filter (λ (z : written.Equation). makes_attribute z.target) (equations_on p.name file.items) q
+            (source_declared p.equations (attribute_equations (equations_on p.name file.items)) q more)).0 v t
   owned_equations_of (inr x) row has listed e =
       all_zipped (IsWrittenEquation n file.owner (labels_in row)) (IsOwnEquation a row)
       (attribute_equations (equations_on x.production.name file.items)) row.equations e.equations

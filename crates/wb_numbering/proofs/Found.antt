@@ -1,5 +1,5 @@
 -- What is declared by name is in the value, under its number.
-use Rattle.std.proofs.Common.{◌≡◌, ◌≢◌, ◌++◌, ◌∷◌, ◌⊎◌, inl, inr, [], ℕ, Bool, true, false, List, Option, Some, None, Contains, map, slice_get, ap}
+use Rattle.std.proofs.Common.{◌≡◌, ◌⊎◌, inl, inr, ℕ, Bool, true, false, List, Some, Contains, slice_get, ap}
 use Rattle.std.proofs.Common.{sym, refl, subst, ◌∙◌}
 use Rattle.std.proofs.lemmas.Bool.{false≢true}
 use Rattle.wb_lemmas.proofs.Members.{contains_at}
@@ -27,22 +27,22 @@ use Rattle.wb_naming.specs.declared.declaration.Declaration.{Declaration}
 use Rattle.wb_naming.specs.declared.declaration.Declaration.TheVariants as d
 use Rattle.wb_naming.specs.declared.declaration.Sort.{Sort}
 use Rattle.wb_naming.specs.declared.declaration.Sort.TheVariants as sort
-use Rattle.wb_naming.specs.Declarations.{Items, AttributeDeclaration, OccurrenceDeclaration, LexicalDeclaration, plain_items, attributes}
+use Rattle.wb_naming.specs.Declarations.{AttributeDeclaration, OccurrenceDeclaration, LexicalDeclaration, plain_items, attributes}
 use Rattle.wb_naming.specs.Declarations.{occurrences, nonterminals, lexicals, attribute_of, occurrence_of, nonterminal_of}
 use Rattle.wb_naming.specs.Declares.{declarations, plain_declaration, attribute_name, nonterminal_name, terminal_name}
 use Rattle.wb_naming.specs.Declares.{role_sort, terminal_sort, target_declaration}
 use Rattle.wb_numbering.specs.Files.{File}
 use Rattle.wb_numbering.specs.Moved.{IsMovedNonterminalNumber, IsMovedAttributeNumber, IsMovedTerminalNumber}
 use Rattle.wb_numbering.specs.Numbering.{Numbering, numbering_of, IsNumber}
-use Rattle.wb_numbering.specs.Resolves.{Resolves, move_of, IsTerminal, IsNonterminal, IsAttribute, IsOccurrence, IsScanned, IsInGrammarOf}
+use Rattle.wb_numbering.specs.Resolves.{move_of, IsTerminal, IsNonterminal, IsAttribute, IsOccurrence, IsScanned, IsInGrammarOf}
 use Rattle.wb_numbering.specs.Sources.{sources}
-use Rattle.wb_numbering.proofs.Carrying.{row_at, name_at, Row}
+use Rattle.wb_numbering.proofs.Carrying.{row_at, name_at}
 use Rattle.wb_numbering.proofs.DeclaredBy.{IsDeclaredBy, declared_by}
 use Rattle.wb_numbering.proofs.OwnDeclared.{kept}
 use Rattle.wb_numbering.proofs.DeclaredBy as by
 use Rattle.wb_numbering.proofs.Ground.{Ground, moved_number}
 use Rattle.wb_numbering.proofs.NumberLemmas.{one_number}
-use Rattle.wb_numbering.proofs.OneRow.{AreDistinct, nonterminals_differ}
+use Rattle.wb_numbering.proofs.OneRow.{nonterminals_differ}
 use Rattle.wb_numbering.proofs.RowLemmas.{row_of, row_of_zip, RowOf, there_before, there_declared}
 
 -- a declaration isn't of two forms
@@ -214,7 +214,7 @@ module _ (file : File) (r : ResolvedParts) (ground : Ground file r) where
   own_nonterminal : (name : List ℕ) → Contains (nonterminals file.items) name → NameFound n.nonterminals file.owner name
   own_nonterminal name has =
       let f = row_of (IsInGrammarOf file) (IsNonterminal file n) (sources b.nonterminals (nonterminals file.items)) r.attributes.nonterminals
-          ground.resolves.nonterminals (inr name) (there_declared b.nonterminals (nonterminals file.items) name has) in
+      ground.resolves.nonterminals (inr name) (there_declared b.nonterminals (nonterminals file.items) name has) in
       record {
         number = f.place;
         is = record {
@@ -228,7 +228,7 @@ module _ (file : File) (r : ResolvedParts) (ground : Ground file r) where
   base_nonterminal : (x : Nonterminal) → Contains b.nonterminals x → NameFound n.nonterminals file.owner x.name
   base_nonterminal x has =
       let f = row_of (IsInGrammarOf file) (IsNonterminal file n) (sources b.nonterminals (nonterminals file.items)) r.attributes.nonterminals
-          ground.resolves.nonterminals (inl x) (there_before b.nonterminals (nonterminals file.items) x has) in
+      ground.resolves.nonterminals (inl x) (there_before b.nonterminals (nonterminals file.items) x has) in
       record {
         number = f.place;
         is = record {
@@ -280,7 +280,7 @@ module _ (file : File) (r : ResolvedParts) (ground : Ground file r) where
   pub own_terminal : (x : LexicalDeclaration) → Contains (lexicals file.items) x → NameFound n.terminals file.owner x.name
   own_terminal x has =
       let f = row_of IsScanned (IsTerminal file n) (sources file.base.terminals (lexicals file.items)) r.terminals
-          ground.resolves.terminals (inr x) (there_declared file.base.terminals (lexicals file.items) x has) in
+      ground.resolves.terminals (inr x) (there_declared file.base.terminals (lexicals file.items) x has) in
       record {
         number = f.place;
         is = record {
@@ -294,7 +294,7 @@ module _ (file : File) (r : ResolvedParts) (ground : Ground file r) where
   base_terminal : (x : Terminal) → Contains file.base.terminals x → NameFound n.terminals file.owner x.name
   base_terminal x has =
       let f = row_of IsScanned (IsTerminal file n) (sources file.base.terminals (lexicals file.items)) r.terminals
-          ground.resolves.terminals (inl x) (there_before file.base.terminals (lexicals file.items) x has) in
+      ground.resolves.terminals (inl x) (there_before file.base.terminals (lexicals file.items) x has) in
       record {
         number = f.place;
         is = record {
@@ -345,7 +345,7 @@ module _ (file : File) (r : ResolvedParts) (ground : Ground file r) where
   own_occurrence : (x : OccurrenceDeclaration) → Contains (occurrences file.items) x → OccurrenceFound file r x.attribute x.nonterminal
   own_occurrence x has =
       let f = row_of_zip (IsOccurrence file n) (sources b.occurrences (occurrences file.items)) r.attributes.occurrences
-          ground.resolves.occurrences (inr x) (there_declared b.occurrences (occurrences file.items) x has) in
+      ground.resolves.occurrences (inr x) (there_declared b.occurrences (occurrences file.items) x has) in
       record {
         row = f.row;
         listed = contains_at r.attributes.occurrences f.row f.place f.at;
@@ -358,7 +358,7 @@ module _ (file : File) (r : ResolvedParts) (ground : Ground file r) where
       → OccurrenceFound file r (attribute_name file.base x.attribute) (nonterminal_name file.base x.nonterminal)
   base_occurrence x has =
       let f = row_of_zip (IsOccurrence file n) (sources b.occurrences (occurrences file.items)) r.attributes.occurrences
-          ground.resolves.occurrences (inl x) (there_before b.occurrences (occurrences file.items) x has) in
+      ground.resolves.occurrences (inl x) (there_before b.occurrences (occurrences file.items) x has) in
       record {
         row = f.row;
         listed = contains_at r.attributes.occurrences f.row f.place f.at;

@@ -1,12 +1,11 @@
 -- A nonterminal of a value is of its grammar exactly where base and items say so of its name.
-use Rattle.std.proofs.Common.{◌≡◌, ◌≢◌, ◌≤◌, ◌<◌, ◌++◌, ◌∷◌, ◌⊎◌, inl, inr, [], ℕ, List, Option, Some, None, Contains, map, slice_get, ap, sym, refl}
-use Rattle.std.proofs.Common.{subst, ◌∙◌, arith}
+use Rattle.std.proofs.Common.{◌≡◌, ◌++◌, ◌⊎◌, inl, inr, [], ℕ, List, Option, Some, None, Contains, map, ap, sym, refl}
+use Rattle.std.proofs.Common.{subst, ◌∙◌}
 use Rattle.std.specs.Prelude.{option_map, option_to_list, flat_map}
 use Rattle.std.specs.List.{AllZip}
 use Rattle.wb_lemmas.proofs.Members.{contains_at, place_of, contains_first, contains_later, contains_cases, contains_append, append_contains_left}
 use Rattle.wb_lemmas.proofs.Members.{append_contains_right, nothing_in}
 use Rattle.wb_lemmas.proofs.Zips.{zip_at, beside}
-use Rattle.wb_base.specs.declared.symbol.Kind.{Kind}
 use Rattle.wb_base.specs.declared.symbol.Kind.TheVariants as kind
 use Rattle.wb_base.specs.Grammar.{GrammarView}
 use Rattle.wb_resolved.specs.declared.attributes.Nonterminal.{Nonterminal}
@@ -26,7 +25,7 @@ use Rattle.wb_syntax.specs.declared.production.ProductionRole.TheVariants as w
 use Rattle.wb_syntax.specs.Names.{kind_names}
 use Rattle.wb_naming.specs.Declarations.{ProductionDeclaration, productions, starts, extensibles}
 use Rattle.wb_naming.specs.Declares.{nonterminal_name, name_in}
-use Rattle.wb_numbering.specs.Files.{File, IsInGrammar, IsInBaseGrammar, grammar_names, names_in_concrete}
+use Rattle.wb_numbering.specs.Files.{File, IsInGrammar, grammar_names, names_in_concrete}
 use Rattle.wb_numbering.specs.Moved.{IsMovedNonterminalNumber, IsMovedChild, IsMovedChildKind}
 use Rattle.wb_numbering.specs.Numbering.{Numbering, numbering_of, IsNumber}
 use Rattle.wb_numbering.specs.Resolves.{move_of, starts_of, IsNonterminalNumber, IsProduction, IsConcrete}
@@ -119,9 +118,9 @@ module _ (file : File) (r : ResolvedParts) (ground : Ground file r) where
       let (i, at) = place_of numbers k has in
       let s = source_of_zip (IsNonterminalNumber file n) (sources before declared) numbers all i k at in
       from s.source s.listed s.is_row where
-    from : (x : ℕ ⊎ List ℕ) → Contains (sources before declared) x → IsNonterminalNumber file n x k → GrammarNumber file n k
-    from (inl j) listed m = from_base j k m (host j (source_before before declared j listed))
-    from (inr name) listed m = from_items name k m (own name (source_declared before declared name listed))
+        from : (x : ℕ ⊎ List ℕ) → Contains (sources before declared) x → IsNonterminalNumber file n x k → GrammarNumber file n k
+        from (inl j) listed m = from_base j k m (host j (source_before before declared j listed))
+        from (inr name) listed m = from_items name k m (own name (source_declared before declared name listed))
 
   -- the nonterminals in concrete productions
   moved_tree : (from : ChildKind) (k : ℕ) → IsMovedChildKind (move_of file n) from (child.Value (kind.Tree k))
@@ -176,8 +175,8 @@ module _ (file : File) (r : ResolvedParts) (ground : Ground file r) where
       let old = beside (IsWrittenChild n file.owner) x.production.children row.children i c.0 e.children at in
       let t = written_tree old.other.kind k (subst (IsWrittenChildKind n file.owner old.other.kind) c.2 old.related.is_kind) in
       let inner : Contains (flat_map (λ (c : named.Child). kind_names c.kind) x.production.children) t.0 =
-          flat_map_contains (λ (c : named.Child). kind_names c.kind) x.production.children old.other t.0
-          (contains_at x.production.children old.other i old.at) (subst (λ z. Contains (kind_names z) t.0) (sym t.1) (contains_first t.0 [])) in
+      flat_map_contains (λ (c : named.Child). kind_names c.kind) x.production.children old.other t.0
+      (contains_at x.production.children old.other i old.at) (subst (λ z. Contains (kind_names z) t.0) (sym t.1) (contains_first t.0 [])) in
       from_items t.0 k t.2 (in_concrete x t.0 inside (subst (λ z. Contains (names_in_concrete z x.production) t.0) (sym written)
       (contains_later x.production.left t.0 (flat_map (λ (c : named.Child). kind_names c.kind) x.production.children) inner)))
 
@@ -192,7 +191,7 @@ module _ (file : File) (r : ResolvedParts) (ground : Ground file r) where
   grammar_number k (inr (inr c)) =
       let (i, at) = place_of a.productions c.production c.listed in
       let s = source_of IsConcrete (IsProduction file n) (sources b.productions (productions file.items)) a.productions
-          ground.resolves.productions i c.production at in
+      ground.resolves.productions i c.production at in
       in_row s.source c.production s.listed s.is_row c.concrete k c.occurs
 
   -- and a name of the grammar has such a number
@@ -224,94 +223,97 @@ module _ (file : File) (r : ResolvedParts) (ground : Ground file r) where
       → IsNumber n.nonterminals file.owner name k → IsInConcrete a k
   base_concrete j c name same k is =
       let h = row_of IsConcrete (IsProduction file n) (sources b.productions (productions file.items)) a.productions ground.resolves.productions
-          (inl c.production) (there_before b.productions (productions file.items) c.production c.listed) in
+      (inl c.production) (there_before b.productions (productions file.items) c.production c.listed) in
       record {
         production = h.row;
         listed = contains_at a.productions h.row h.place h.at;
         concrete = h.is_row.role ∙ c.concrete;
         occurs = by_side h.row h.is_row c.occurs;
       } where
-    number_of : (i : ℕ) → IsMovedNonterminalNumber (move_of file n) j i → i ≡ k
-    number_of i m = same_number name i k (subst (λ z. IsNumber n.nonterminals file.owner z i) same (moved_nonterminal file r ground j i m)) is
-    by_side : (row : Production) → IsExtendedProduction n file.owner file.items (move_of file n) c.production row → IsIn c.production j → IsIn row k
-    by_side row e (inl left) = inl (number_of row.left (subst (λ z. IsMovedNonterminalNumber (move_of file n) z row.left) left e.left))
-    by_side row e (inr listed) =
-        let y = contains_map (λ (z : Child). z.kind) c.production.children (child.Value (kind.Tree j)) listed in
-        let (i, at) = place_of c.production.children y.0 y.1 in
-        let new = zip_at (IsMovedChild (move_of file n)) c.production.children row.children i y.0 e.children at in
-        let t = tree_moved y.0.kind new.other.kind j y.2 new.related.is_kind in
-        inr (subst (Contains (map (λ (z : Child). z.kind) row.children))
-        (t.1 ∙ ap (λ (z : ℕ). child.Value (kind.Tree z)) (number_of t.0 t.2))
-        (map_contains (λ (z : Child). z.kind) row.children new.other (contains_at row.children new.other i new.there)))
+        number_of : (i : ℕ) → IsMovedNonterminalNumber (move_of file n) j i → i ≡ k
+        number_of i m = same_number name i k (subst (λ z. IsNumber n.nonterminals file.owner z i) same (moved_nonterminal file r ground j i m)) is
+
+        by_side : (row : Production) → IsExtendedProduction n file.owner file.items (move_of file n) c.production row → IsIn c.production j → IsIn row k
+        by_side row e (inl left) = inl (number_of row.left (subst (λ z. IsMovedNonterminalNumber (move_of file n) z row.left) left e.left))
+        by_side row e (inr listed) =
+            let y = contains_map (λ (z : Child). z.kind) c.production.children (child.Value (kind.Tree j)) listed in
+            let (i, at) = place_of c.production.children y.0 y.1 in
+            let new = zip_at (IsMovedChild (move_of file n)) c.production.children row.children i y.0 e.children at in
+            let t = tree_moved y.0.kind new.other.kind j y.2 new.related.is_kind in
+            inr (subst (Contains (map (λ (z : Child). z.kind) row.children))
+            (t.1 ∙ ap (λ (z : ℕ). child.Value (kind.Tree z)) (number_of t.0 t.2))
+            (map_contains (λ (z : Child). z.kind) row.children new.other (contains_at row.children new.other i new.there)))
 
   own_concrete : (x : ProductionDeclaration) → Contains (productions file.items) x → (name : List ℕ)
       → Contains (names_in_concrete x.role x.production) name → (k : ℕ) → IsNumber n.nonterminals file.owner name k → IsInConcrete a k
   own_concrete x has name inside k is =
       let h = row_of IsConcrete (IsProduction file n) (sources b.productions (productions file.items)) a.productions ground.resolves.productions
-          (inr x) (there_declared b.productions (productions file.items) x has) in
+      (inr x) (there_declared b.productions (productions file.items) x has) in
       by_role x.role refl h.row (contains_at a.productions h.row h.place h.at) h.is_row inside where
-    by_kind : (from : NamedKind) (to : ChildKind) → IsWrittenChildKind n file.owner from to → Contains (kind_names from) name
-        → to ≡ child.Value (kind.Tree k)
-    by_kind kinds.Int to t listed = absurd (nothing_in name listed)
-    by_kind kinds.Bool to t listed = absurd (nothing_in name listed)
-    by_kind kinds.Text to t listed = absurd (nothing_in name listed)
-    by_kind (kinds.Name other) (child.Terminal number) t listed =
-        elim (contains_cases other name [] listed) [
-          inl same ↦ absurd (not_both n ground.distinct file.owner name number k (subst (λ z. IsNumber n.terminals file.owner z number) same t) is)
-        | inr more ↦ absurd (nothing_in name more)
-        ]
-    by_kind (kinds.Name other) (child.Value to) t listed =
-        elim (contains_cases other name [] listed) [
-          inl same ↦ ap child.Value (t.2 ∙ ap kind.Tree
-              (same_number name t.0 k (subst (λ z. IsNumber n.nonterminals file.owner z t.0) same t.1) is))
-        | inr more ↦ absurd (nothing_in name more)
-        ]
-    by_side : (row : Production) → IsProductionRow n file.owner file.items x row
-        → (x.production.left ≡ name) ⊎ Contains (flat_map (λ (c : named.Child). kind_names c.kind) x.production.children) name → IsIn row k
-    by_side row e (inl left) = inl (same_number name row.left k (subst (λ z. IsNumber n.nonterminals file.owner z row.left) left e.left) is)
-    by_side row e (inr listed) =
-        let y = contains_flat_map (λ (c : named.Child). kind_names c.kind) x.production.children name listed in
-        let (i, at) = place_of x.production.children y.0 y.1 in
-        let new = zip_at (IsWrittenChild n file.owner) x.production.children row.children i y.0 e.children at in
-        inr (subst (Contains (map (λ (z : Child). z.kind) row.children)) (by_kind y.0.kind new.other.kind new.related.is_kind y.2)
-        (map_contains (λ (z : Child). z.kind) row.children new.other (contains_at row.children new.other i new.there)))
-    by_role : (of : written_role.ProductionRole) → x.role ≡ of → (row : Production) → Contains a.productions row
-        → IsProductionRow n file.owner file.items x row → Contains (names_in_concrete x.role x.production) name → IsInConcrete a k
-    by_role w.Concrete same row there e listed =
-        let here : Contains (names_in_concrete w.Concrete x.production) name =
+        by_kind : (from : NamedKind) (to : ChildKind) → IsWrittenChildKind n file.owner from to → Contains (kind_names from) name
+            → to ≡ child.Value (kind.Tree k)
+        by_kind kinds.Int to t listed = absurd (nothing_in name listed)
+        by_kind kinds.Bool to t listed = absurd (nothing_in name listed)
+        by_kind kinds.Text to t listed = absurd (nothing_in name listed)
+        by_kind (kinds.Name other) (child.Terminal number) t listed =
+            elim (contains_cases other name [] listed) [
+              | inl same ↦ absurd (not_both n ground.distinct file.owner name number k (subst (λ z. IsNumber n.terminals file.owner z number) same t) is)
+              | inr more ↦ absurd (nothing_in name more)
+            ]
+        by_kind (kinds.Name other) (child.Value to) t listed =
+            elim (contains_cases other name [] listed) [
+              | inl same ↦ ap child.Value (t.2 ∙ ap kind.Tree
+                  (same_number name t.0 k (subst (λ z. IsNumber n.nonterminals file.owner z t.0) same t.1) is))
+              | inr more ↦ absurd (nothing_in name more)
+            ]
+
+        by_side : (row : Production) → IsProductionRow n file.owner file.items x row
+            → (x.production.left ≡ name) ⊎ Contains (flat_map (λ (c : named.Child). kind_names c.kind) x.production.children) name → IsIn row k
+        by_side row e (inl left) = inl (same_number name row.left k (subst (λ z. IsNumber n.nonterminals file.owner z row.left) left e.left) is)
+        by_side row e (inr listed) =
+            let y = contains_flat_map (λ (c : named.Child). kind_names c.kind) x.production.children name listed in
+            let (i, at) = place_of x.production.children y.0 y.1 in
+            let new = zip_at (IsWrittenChild n file.owner) x.production.children row.children i y.0 e.children at in
+            inr (subst (Contains (map (λ (z : Child). z.kind) row.children)) (by_kind y.0.kind new.other.kind new.related.is_kind y.2)
+            (map_contains (λ (z : Child). z.kind) row.children new.other (contains_at row.children new.other i new.there)))
+
+        by_role : (of : written_role.ProductionRole) → x.role ≡ of → (row : Production) → Contains a.productions row
+            → IsProductionRow n file.owner file.items x row → Contains (names_in_concrete x.role x.production) name → IsInConcrete a k
+        by_role w.Concrete same row there e listed =
+            let here : Contains (names_in_concrete w.Concrete x.production) name =
             subst (λ z. Contains (names_in_concrete z x.production) name) same listed in
-        record {
-          production = row;
-          listed = there;
-          concrete = e.role ∙ ap production_role same;
-          occurs = by_side row e (contains_cases x.production.left name
-              (flat_map (λ (c : named.Child). kind_names c.kind) x.production.children) here);
-        }
-    by_role w.Abstract same row there e listed =
-        let here : Contains (names_in_concrete w.Abstract x.production) name =
+            record {
+              production = row;
+              listed = there;
+              concrete = e.role ∙ ap production_role same;
+              occurs = by_side row e (contains_cases x.production.left name
+                  (flat_map (λ (c : named.Child). kind_names c.kind) x.production.children) here);
+            }
+        by_role w.Abstract same row there e listed =
+            let here : Contains (names_in_concrete w.Abstract x.production) name =
             subst (λ z. Contains (names_in_concrete z x.production) name) same listed in
-        absurd (nothing_in name here)
+            absurd (nothing_in name here)
 
   pub name_grammar : (name : List ℕ) (k : ℕ) → IsNumber n.nonterminals file.owner name k → IsInGrammar file name → IsOfGrammar r k
   name_grammar name k is (inl h) =
       let same : nonterminal_name file.base h.number ≡ name = ap (name_in (λ (x : Nonterminal). x.name)) h.listed ∙ h.named in
       by_base h.number same h.of_grammar where
-    by_base : (j : ℕ) → nonterminal_name file.base j ≡ name → IsOfGrammar file.base j → IsOfGrammar r k
-    by_base j same (inl start) =
-        inl (start_listed (option_map (λ (g : GrammarView). g.start) r.grammar) k (base_place (starts_of file.base) (starts file.items) (starts_of r)
-        ground.resolves.start j (listed_start (option_map (λ (g : GrammarView). g.start) file.base.grammar) j start) name same k is))
-    by_base j same (inr (inl has)) =
-        inr (inl (base_place file.base.extensible (extensibles file.items) r.extensible ground.resolves.extensible j has name same k is))
-    by_base j same (inr (inr c)) = inr (inr (base_concrete j c name same k is))
+        by_base : (j : ℕ) → nonterminal_name file.base j ≡ name → IsOfGrammar file.base j → IsOfGrammar r k
+        by_base j same (inl start) =
+            inl (start_listed (option_map (λ (g : GrammarView). g.start) r.grammar) k (base_place (starts_of file.base) (starts file.items) (starts_of r)
+            ground.resolves.start j (listed_start (option_map (λ (g : GrammarView). g.start) file.base.grammar) j start) name same k is))
+        by_base j same (inr (inl has)) =
+            inr (inl (base_place file.base.extensible (extensibles file.items) r.extensible ground.resolves.extensible j has name same k is))
+        by_base j same (inr (inr c)) = inr (inr (base_concrete j c name same k is))
   name_grammar name k is (inr has) =
       elim (contains_append (starts file.items ++ extensibles file.items) concrete_names name has) [
-        inl some ↦ elim (contains_append (starts file.items) (extensibles file.items) name some) [
-          inl start ↦ inl (start_listed (option_map (λ (g : GrammarView). g.start) r.grammar) k
+        | inl some ↦ elim (contains_append (starts file.items) (extensibles file.items) name some) [
+          | inl start ↦ inl (start_listed (option_map (λ (g : GrammarView). g.start) r.grammar) k
               (own_place (starts_of file.base) (starts file.items) (starts_of r) ground.resolves.start name start k is))
-        | inr extensible ↦
-            inr (inl (own_place file.base.extensible (extensibles file.items) r.extensible ground.resolves.extensible name extensible k is))
+          | inr extensible ↦
+              inr (inl (own_place file.base.extensible (extensibles file.items) r.extensible ground.resolves.extensible name extensible k is))
         ]
-      | inr concrete ↦
-          let y = contains_flat_map (λ (d : ProductionDeclaration). names_in_concrete d.role d.production) (productions file.items) name concrete in
-          inr (inr (own_concrete y.0 y.1 name y.2 k is))
+        | inr concrete ↦
+            let y = contains_flat_map (λ (d : ProductionDeclaration). names_in_concrete d.role d.production) (productions file.items) name concrete in
+            inr (inr (own_concrete y.0 y.1 name y.2 k is))
       ]

@@ -1,7 +1,6 @@
 -- What is known where a file stands for a value over a host or nothing: rows by name, and numbers of the host's names.
-use Rattle.std.proofs.Common.{◌≡◌, ◌≢◌, ◌≤◌, ◌++◌, ◌∷◌, ◌⊎◌, inl, inr, [], ℕ, List, Option, Some, None, Contains, map, slice_get, ap, sym, refl}
-use Rattle.std.proofs.Common.{subst, ◌∙◌, arith, All, length}
-use Rattle.std.specs.Prelude.{option_map}
+use Rattle.std.proofs.Common.{◌≡◌, ◌≤◌, ◌⊎◌, inl, inr, [], ℕ, List, Some, Contains, map, slice_get, ap, sym}
+use Rattle.std.proofs.Common.{subst, ◌∙◌, arith, length}
 use Rattle.wb_lemmas.proofs.Members.{contains_at, place_of}
 use Rattle.wb_lemmas.proofs.Elements.{all_contained}
 use Rattle.wb_lemmas.proofs.Places.{at_once}
@@ -14,10 +13,10 @@ use Rattle.wb_resolved.specs.declared.production.Production.{Production}
 use Rattle.wb_resolved.specs.declared.resolved.ResolvedParts.{ResolvedParts}
 use Rattle.wb_resolved.specs.declared.terminal.Terminal.{Terminal}
 use Rattle.wb_resolved.specs.Named.{IsNamedLocal, IsNamedEquation, IsNamedProduction, IsNamedOccurrence, IsNamedAttribute}
-use Rattle.wb_resolved.specs.Once.{Entry, NamesDiffer}
+use Rattle.wb_resolved.specs.Once.{Entry}
 use Rattle.wb_resolved.specs.Owners.{Sees, IsOwner}
 use Rattle.wb_resolved.specs.Resolved.{IsResolved, IsNamedTerminal}
-use Rattle.wb_naming.specs.Declarations.{Items, ProductionDeclaration, productions, nonterminals, lexicals}
+use Rattle.wb_naming.specs.Declarations.{ProductionDeclaration, productions}
 use Rattle.wb_naming.specs.Declares.{name_in}
 use Rattle.wb_numbering.specs.Files.{File}
 use Rattle.wb_numbering.specs.Moved.{IsMovedNumber}
@@ -28,7 +27,7 @@ use Rattle.wb_numbering.specs.Sources.{sources}
 use Rattle.wb_numbering.proofs.Carrying.{row_at, name_at}
 use Rattle.wb_numbering.proofs.NumberLemmas.{one_number}
 use Rattle.wb_numbering.proofs.OneRow.{AreDistinct, productions_differ}
-use Rattle.wb_numbering.proofs.RowLemmas.{row_of, source_of, RowOf, SourceOf, there_before, there_declared, source_before}
+use Rattle.wb_numbering.proofs.RowLemmas.{row_of, source_of, there_before, there_declared, source_before}
 
 -- all of it is the host's
 pub record IsHosts (base : ResolvedParts) : Type 0 where
@@ -118,7 +117,7 @@ module _ (file : File) (r : ResolvedParts) (g : Ground file r) where
       → slice_get r.attributes.productions j ≡ Some other → row.name ≡ other.name → row ≡ other
   one_production i j row other at there same =
       let place : i ≡ j = one_number n.productions (productions_differ n g.distinct) file.owner other.name i j
-          (subst (λ z. IsNumber n.productions file.owner z i) same (production_number i row at)) (production_number j other there) in
+      (subst (λ z. IsNumber n.productions file.owner z i) same (production_number i row at)) (production_number j other there) in
       at_once r.attributes.productions j row other (subst (λ z. slice_get r.attributes.productions z ≡ Some row) place at) there
 
   -- the row of a production of the base, and of a declared one, by name
@@ -127,7 +126,7 @@ module _ (file : File) (r : ResolvedParts) (g : Ground file r) where
       → IsExtendedProduction n file.owner file.items (move_of file n) p row
   base_row p has k row at same =
       let x = row_of IsConcrete (IsProduction file n) there r.attributes.productions g.resolves.productions (inl p)
-          (there_before file.base.attributes.productions (productions file.items) p has) in
+      (there_before file.base.attributes.productions (productions file.items) p has) in
       subst (IsExtendedProduction n file.owner file.items (move_of file n) p)
       (one_production x.place k x.row row x.at at (x.is_row.name ∙ same)) x.is_row
 
@@ -135,5 +134,5 @@ module _ (file : File) (r : ResolvedParts) (g : Ground file r) where
       → slice_get r.attributes.productions k ≡ Some row → d.production.name ≡ row.name → IsProductionRow n file.owner file.items d row
   own_row d has k row at same =
       let x = row_of IsConcrete (IsProduction file n) there r.attributes.productions g.resolves.productions (inr d)
-          (there_declared file.base.attributes.productions (productions file.items) d has) in
+      (there_declared file.base.attributes.productions (productions file.items) d has) in
       subst (IsProductionRow n file.owner file.items d) (one_production x.place k x.row row x.at at (x.is_row.name ∙ same)) x.is_row

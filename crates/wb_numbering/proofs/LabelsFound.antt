@@ -1,22 +1,17 @@
 -- A label that is declared on a production names a place of its row, and what is there is what it is declared as.
-use Rattle.std.proofs.Common.{◌≡◌, ◌≢◌, ◌++◌, ◌∷◌, ◌⊎◌, inl, inr, [], ℕ, Bool, true, false, List, Option, Some, None, Contains, map, slice_get, ap}
+use Rattle.std.proofs.Common.{◌≡◌, ◌≢◌, ◌⊎◌, inl, inr, ℕ, Bool, true, false, List, Some, Contains, map, slice_get, ap}
 use Rattle.std.proofs.Common.{sym, refl, subst, ◌∙◌}
-use Rattle.std.specs.Prelude.{option_map, filter, flat_map, filter_map}
-use Rattle.std.specs.Str.{bytes_eq}
+use Rattle.std.specs.Prelude.{option_map}
 use Rattle.std.proofs.lemmas.Bool.{false≢true}
 use Rattle.std.proofs.lemmas.Option.{slice_get-map}
 use Rattle.wb_lemmas.proofs.Elements.{all_contained}
-use Rattle.wb_lemmas.proofs.Members.{contains_at, place_of, append_contains_left, append_contains_right}
-use Rattle.wb_lemmas.proofs.Places.{at_once}
+use Rattle.wb_lemmas.proofs.Members.{contains_at, place_of, append_contains_left}
 use Rattle.wb_lemmas.proofs.Zips.{zip_at}
 use Rattle.wb_base.specs.declared.symbol.Kind.{Kind}
 use Rattle.wb_base.specs.declared.symbol.Kind.TheVariants as kind
 use Rattle.wb_resolved.specs.declared.attribution.AttributionParts.{AttributionParts}
 use Rattle.wb_resolved.specs.declared.equation.Place.{Place}
 use Rattle.wb_resolved.specs.declared.equation.Place.TheVariants as place
-use Rattle.wb_resolved.specs.declared.attributes.Attribute.{Attribute}
-use Rattle.wb_resolved.specs.declared.attributes.Nonterminal.{Nonterminal}
-use Rattle.wb_resolved.specs.declared.attributes.Occurrence.{Occurrence}
 use Rattle.wb_resolved.specs.declared.production.Child.{Child}
 use Rattle.wb_resolved.specs.declared.production.ChildKind.{ChildKind}
 use Rattle.wb_resolved.specs.declared.production.ChildKind.TheVariants as child
@@ -28,7 +23,7 @@ use Rattle.wb_resolved.specs.declared.terminal.TerminalKind.{TerminalKind}
 use Rattle.wb_resolved.specs.declared.terminal.TerminalKind.TheVariants as t
 use Rattle.wb_resolved.specs.Resolved.{IsTerminalChild, HasGrammarTerminals}
 use Rattle.wb_resolved.specs.Owners.{Sees}
-use Rattle.wb_resolved.specs.Visible.{SeesPlace, kind_at, owner_of_local}
+use Rattle.wb_resolved.specs.Visible.{SeesPlace, owner_of_local}
 use Rattle.wb_syntax.specs.declared.expression.Equation as written
 use Rattle.wb_syntax.specs.declared.expression.Target.{Target}
 use Rattle.wb_syntax.specs.declared.expression.Target.TheVariants as g
@@ -44,13 +39,12 @@ use Rattle.wb_naming.specs.declared.declaration.Labelled.TheVariants as label
 use Rattle.wb_naming.specs.declared.declaration.Sort.TheVariants as sort
 use Rattle.wb_naming.specs.Declarations.{ProductionDeclaration, productions}
 use Rattle.wb_naming.specs.Declares.{declarations, base_declarations, item_declarations, base_labelled, labelled, terminal_name}
-use Rattle.wb_naming.specs.Declares.{nonterminal_name, terminal_sort, plain_declaration, target_declaration, child_declaration, name_in}
+use Rattle.wb_naming.specs.Declares.{nonterminal_name, terminal_sort, plain_declaration, target_declaration, name_in}
 use Rattle.wb_naming.specs.Meaning.{IsSymbol, HasLabel}
-use Rattle.wb_numbering.specs.Files.{File, Block, blocks, equations_on}
-use Rattle.wb_numbering.specs.Moved.{IsMovedChildKind, IsMovedKind, IsMovedChild, IsMovedLocal}
+use Rattle.wb_numbering.specs.Files.{File, equations_on}
+use Rattle.wb_numbering.specs.Moved.{IsMovedChildKind, IsMovedChild, IsMovedLocal}
 use Rattle.wb_numbering.specs.Numbering.{Numbering, numbering_of, IsNumber, IsPlace, labels_in}
 use Rattle.wb_numbering.specs.Resolves.{move_of, IsConcrete, IsProduction}
-use Rattle.wb_numbering.specs.Rows.{IsProductionRow, IsExtendedProduction}
 use Rattle.wb_numbering.specs.Sources.{sources, IsFrom}
 use Rattle.wb_numbering.specs.Written.{IsWrittenChild, IsWrittenChildKind, IsWrittenLocal, IsWrittenLocalTarget, local_equations, makes_local}
 use Rattle.wb_numbering.proofs.Carrying.{name_at}
@@ -58,8 +52,8 @@ use Rattle.wb_numbering.proofs.DeclaredBy.{IsDeclaredBy, declared_by}
 use Rattle.wb_numbering.proofs.DeclaredBy as by
 use Rattle.wb_numbering.proofs.Found.{moved_nonterminal, moved_terminal}
 use Rattle.wb_numbering.proofs.Ground.{Ground, base_row, own_row, production_seen}
-use Rattle.wb_numbering.proofs.RowLemmas.{row_of_zip, RowOf, there_before, there_declared, map_contains, source_of, source_before, source_declared}
-use Rattle.wb_numbering.proofs.Selected.{contains_filter, filter_contains, equations_of_block}
+use Rattle.wb_numbering.proofs.RowLemmas.{row_of_zip, RowOf, there_before, there_declared, map_contains, source_of}
+use Rattle.wb_numbering.proofs.Selected.{filter_contains, equations_of_block}
 
 -- a terminal or marker is declared under this name
 abbrev pub IsScannedName : File → List ℕ → Type 0
@@ -135,7 +129,7 @@ module _ (file : File) (r : ResolvedParts) (ground : Ground file r) (scanned : C
       → c.kind ≡ child.Terminal number → IsScannedName file (terminal_name file.base number)
   base_scanned p has c more number e =
       let t = all_contained (λ (c : Child). (number : ℕ) → c.kind ≡ child.Terminal number → IsTerminalChild file.base p.owner number)
-          p.children c (all_contained (HasGrammarTerminals file.base) b.productions p ground.base.children has) more number e in
+      p.children c (all_contained (HasGrammarTerminals file.base) b.productions p ground.base.children has) more number e in
       subst (IsScannedName file) (ap (name_in (λ (x : Terminal). x.name)) (sym t.is))
       (scanned_sort t.terminal.name t.terminal.kind t.plain (base_symbol t.terminal (contains_at file.base.terminals t.terminal number t.is)))
 
@@ -197,19 +191,19 @@ module _ (file : File) (r : ResolvedParts) (ground : Ground file r) (scanned : C
         → RowOf (IsWrittenLocal n file.owner (labels_in row)) row.locals q
     written_local q has =
         let s = source_of IsConcrete (IsProduction file n) (sources b.productions (productions file.items)) r.attributes.productions
-            ground.resolves.productions at_row row is_there in
+        ground.resolves.productions at_row row is_there in
         from s.source s.listed s.is_row where
-      from : (x : Production ⊎ ProductionDeclaration) → Contains (sources b.productions (productions file.items)) x
-          → IsProduction file n x row → RowOf (IsWrittenLocal n file.owner (labels_in row)) row.locals q
-      from (inl p) more e =
-          let equations = local_equations (equations_on p.name file.items) in
-          let f = row_of_zip (IsFrom (IsMovedLocal (move_of file n) (labels_in p) (labels_in row)) (IsWrittenLocal n file.owner (labels_in row)))
+          from : (x : Production ⊎ ProductionDeclaration) → Contains (sources b.productions (productions file.items)) x
+              → IsProduction file n x row → RowOf (IsWrittenLocal n file.owner (labels_in row)) row.locals q
+          from (inl p) more e =
+              let equations = local_equations (equations_on p.name file.items) in
+              let f = row_of_zip (IsFrom (IsMovedLocal (move_of file n) (labels_in p) (labels_in row)) (IsWrittenLocal n file.owner (labels_in row)))
               (sources p.locals equations) row.locals e.locals (inr q) (there_declared p.locals equations q
               (subst (λ z. Contains (local_equations (equations_on z file.items)) q) e.name has)) in
-          record { place = f.place; row = f.row; at = f.at; is_row = f.is_row }
-      from (inr x) more e =
-          row_of_zip (IsWrittenLocal n file.owner (labels_in row)) (local_equations (equations_on x.production.name file.items)) row.locals
-          e.locals q (subst (λ z. Contains (local_equations (equations_on z file.items)) q) e.name has)
+              record { place = f.place; row = f.row; at = f.at; is_row = f.is_row }
+          from (inr x) more e =
+              row_of_zip (IsWrittenLocal n file.owner (labels_in row)) (local_equations (equations_on x.production.name file.items)) row.locals
+              e.locals q (subst (λ z. Contains (local_equations (equations_on z file.items)) q) e.name has)
 
     -- an equation that makes a local declares its label
     from_target : (q : written.Equation) → Contains (equations_on row.name file.items) q → (to : Target) → q.target ≡ to → (l : List ℕ)
@@ -218,9 +212,9 @@ module _ (file : File) (r : ResolvedParts) (ground : Ground file r) (scanned : C
         let called : own ≡ l = cc in
         let what : label.Local nonterminal ≡ is = cc in
         let f = written_local q (filter_contains (λ (e : written.Equation). makes_local e.target) (equations_on row.name file.items) q has
-            (ap makes_local e)) in
+        (ap makes_local e)) in
         let t : IsWrittenLocalTarget n file.owner (g.Local own nonterminal) f.row.label f.row.nonterminal =
-            subst (λ z. IsWrittenLocalTarget n file.owner z f.row.label f.row.nonterminal) e f.is_row.target in
+        subst (λ z. IsWrittenLocalTarget n file.owner z f.row.label f.row.nonterminal) e f.is_row.target in
         local_place f.place f.row f.at (inr f.is_row.owner_is) l is (t.0 ∙ called)
         (subst (λ z. Means file n z (child.Value (kind.Tree f.row.nonterminal))) what (f.row.nonterminal, refl, t.1))
     from_target q has (g.Top a) e l is p same = absurd (false≢true (ap is_label same))
@@ -243,8 +237,8 @@ module _ (file : File) (r : ResolvedParts) (ground : Ground file r) (scanned : C
         let what : label.Local (nonterminal_name file.base y.nonterminal) ≡ is = cc in
         let equations = local_equations (equations_on p.name file.items) in
         let f = row_of_zip (IsFrom (IsMovedLocal (move_of file n) (labels_in p) (labels_in row)) (IsWrittenLocal n file.owner (labels_in row)))
-            (sources p.locals equations) row.locals (base_row file r ground p has at_row row is_there same).locals (inl y)
-            (there_before p.locals equations y more) in
+        (sources p.locals equations) row.locals (base_row file r ground p has at_row row is_there same).locals (inl y)
+        (there_before p.locals equations y more) in
         local_place f.place f.row f.at (inl (f.is_row.owner ∙ ground.host.locals p has y more)) l is (f.is_row.label ∙ called)
         (subst (λ z. Means file n z (child.Value (kind.Tree f.row.nonterminal))) what
         (f.row.nonterminal, refl, moved_nonterminal file r ground y.nonterminal f.row.nonterminal f.is_row.nonterminal))

@@ -1,6 +1,6 @@
 -- No label of a production is there twice, where declarations are once.
-use Rattle.std.proofs.Common.{◌≡◌, ◌≤◌, ◌<◌, ◌+◌, ◌++◌, ◌∷◌, ◌⊎◌, inl, inr, [], ℕ, Bool, true, false, List, Option, Some, None, Contains, map, cond, slice_get}
-use Rattle.std.proofs.Common.{ap, sym, refl, subst, ◌∙◌, arith, ◌&&◌}
+use Rattle.std.proofs.Common.{◌≡◌, ◌≤◌, ◌+◌, ◌++◌, ◌∷◌, ◌⊎◌, inl, inr, [], ℕ, Bool, true, false, List, Some, Contains, map, cond}
+use Rattle.std.proofs.Common.{ap, sym, refl, subst, arith}
 use Rattle.std.specs.Prelude.{flat_map, filter, option_to_list}
 use Rattle.std.specs.List.{AllZip}
 use Rattle.std.specs.Str.{bytes_eq}
@@ -19,11 +19,9 @@ use Rattle.wb_syntax.specs.declared.item.ItemForm.{ItemForm}
 use Rattle.wb_syntax.specs.declared.item.ItemForm.TheVariants as f
 use Rattle.wb_syntax.specs.declared.pattern.Pattern.{Pattern}
 use Rattle.wb_syntax.specs.declared.production.Child as named
-use Rattle.wb_syntax.specs.declared.production.Production as syntax
 use Rattle.wb_naming.specs.declared.declaration.Declaration.{Declaration}
 use Rattle.wb_naming.specs.declared.declaration.Declaration.TheVariants as d
 use Rattle.wb_naming.specs.declared.declaration.Labelled.TheVariants as label
-use Rattle.wb_naming.specs.declared.declaration.Sort.TheVariants as sort
 use Rattle.wb_naming.specs.Declarations.{Items, ProductionDeclaration, productions, production_of}
 use Rattle.wb_naming.specs.Declares.{base_declarations, item_declarations, form_declarations, declarations, production_declarations, child_declaration}
 use Rattle.wb_naming.specs.Declares.{equation_declarations, target_declaration, base_labelled, nonterminal_name}
@@ -66,7 +64,7 @@ module _ (p l : List ℕ) where
       → times x (cond (makes_local to) (mark p (local_label to) ∷ ms) ms) ≤ once_where (is_same x (target_declaration name to)) + k
   target_counts name same (g.Local one m) ms k le =
       let e : is_same x (d.Label p one (label.Local m)) ≡ is_same x (d.Label name one (label.Local m)) =
-          ap (λ z. is_same x (d.Label z one (label.Local m))) (sym same) in
+      ap (λ z. is_same x (d.Label z one (label.Local m))) (sym same) in
       let f : once_where (is_same x (mark p one)) ≡ once_where (is_same x (d.Label name one (label.Local m))) = ap once_where e in
       omega (arith, le, f)
   target_counts name same (g.Top a) ms k le = omega (arith, le)
@@ -79,7 +77,7 @@ module _ (p l : List ℕ) where
   locals_count name same [] = omega arith
   locals_count name same (e ∷ es) =
       let r = target_counts name same e.target (map local_mark (local_equations es)) (times x (equation_declarations name es))
-          (locals_count name same es) in
+      (locals_count name same es) in
       let c = ap (times x) (map_cond local_mark (makes_local e.target) e (local_equations es)) in
       omega (arith, r, c)
 
@@ -143,14 +141,14 @@ module _ (p l : List ℕ) where
       let k = kept_from (λ (y : Item Pattern). production_of y.form) items v has in
       let r = times_flat_map x (λ (item : Item Pattern). children_of item.form) items k.0 k.1 in
       subst (λ z. times x z ≤ times x (flat_map (λ (item : Item Pattern). children_of item.form) items)) (from k.0.form k.2) r where
-    from : (form : ItemForm Pattern) → production_of form ≡ Some v → children_of form
-        ≡ map (child_declaration v.production.name) v.production.children
-    from (f.Lexical role name pattern) o = absurd (cc o)
-    from (f.Plain plain) o = absurd (cc o)
-    from (f.Aspect name es) o = absurd (cc o)
-    from (f.Production role q) o =
-        let same : record { role = role; production = q } ≡ v = cc in
-        ap (λ (z : ProductionDeclaration). map (child_declaration z.production.name) z.production.children) same
+        from : (form : ItemForm Pattern) → production_of form ≡ Some v → children_of form
+            ≡ map (child_declaration v.production.name) v.production.children
+        from (f.Lexical role name pattern) o = absurd (cc o)
+        from (f.Plain plain) o = absurd (cc o)
+        from (f.Aspect name es) o = absurd (cc o)
+        from (f.Production role q) o =
+            let same : record { role = role; production = q } ≡ v = cc in
+            ap (λ (z : ProductionDeclaration). map (child_declaration z.production.name) z.production.children) same
 
   module _ (file : File) (r : ResolvedParts) (once : AreOnce (declarations file.base file.items)) where
     abbrev n : Numbering
@@ -166,18 +164,18 @@ module _ (p l : List ℕ) where
     own_few v row same has e =
         let tag : Entry → Declaration = λ e. mark p e.1 in
         let children = times_zip x (IsWrittenChild n file.owner) (λ (c : named.Child). mark p c.label) (λ (c : Child). mark p c.label)
-            (λ u w q. ap (λ k. is_same x (mark p k)) q.label) v.production.children row.children e.children in
+        (λ u w q. ap (λ k. is_same x (mark p k)) q.label) v.production.children row.children e.children in
         let here : AllZip (IsWrittenLocal n file.owner (labels_in row)) equations row.locals =
-            subst (λ z. AllZip (IsWrittenLocal n file.owner (labels_in row)) (local_equations (equations_on z file.items)) row.locals) same
-            e.locals in
+        subst (λ z. AllZip (IsWrittenLocal n file.owner (labels_in row)) (local_equations (equations_on z file.items)) row.locals) same
+        e.locals in
         let locals = times_zip x (IsWrittenLocal n file.owner (labels_in row)) local_mark (λ (y : Local). mark p y.label)
-            (λ u w q. ap (λ k. is_same x (mark p k)) (target_label n file.owner u.target w.label w.nonterminal q.target)) equations row.locals here in
+        (λ u w q. ap (λ k. is_same x (mark p k)) (target_label n file.owner u.target w.label w.nonterminal q.target)) equations row.locals here in
         let outer = times_map_append x tag (map (λ (c : Child). (row.owner, c.label)) row.children)
-            (map (λ (y : Local). (y.owner, y.label)) row.locals) in
+        (map (λ (y : Local). (y.owner, y.label)) row.locals) in
         let c_map = times_map_map x tag (λ (c : Child). (row.owner, c.label)) row.children in
         let l_map = times_map_map x tag (λ (y : Local). (y.owner, y.label)) row.locals in
         let called = times_map x (child_declaration v.production.name) (λ (c : named.Child). mark p c.label)
-            (λ c. ap (λ z. is_same x (d.Label z c.label label.Plain)) same) v.production.children in
+        (λ c. ap (λ z. is_same x (d.Label z c.label label.Plain)) same) v.production.children in
         let there = own_children file.items v has in
         let items = items_count file.items in
         let both = times_append x (base_declarations file.base) (item_declarations file.items) in
@@ -203,21 +201,21 @@ module _ (p l : List ℕ) where
         let tag : Entry → Declaration = λ e. mark p e.1 in
         let m = move_of file n in
         let children = times_zip x (IsMovedChild m) (λ (c : Child). mark p c.label) (λ (c : Child). mark p c.label)
-            (λ u w z. ap (λ k. is_same x (mark p k)) z.label) q.children row.children e.children in
+        (λ u w z. ap (λ k. is_same x (mark p k)) z.label) q.children row.children e.children in
         let own = local_equations (equations_on q.name file.items) in
         let locals = times_zip x (IsFrom (IsMovedLocal m (labels_in q) (labels_in row)) (IsWrittenLocal n file.owner (labels_in row)))
-            source_mark (λ (y : Local). mark p y.label) (base_local q row) (sources q.locals own) row.locals e.locals in
+        source_mark (λ (y : Local). mark p y.label) (base_local q row) (sources q.locals own) row.locals e.locals in
         let l_in = times_sources x source_mark q.locals own in
         let own_is : times x (map local_mark own) ≡ times x (map local_mark equations) =
-            ap (λ z. times x (map local_mark (local_equations (equations_on z file.items)))) same in
+        ap (λ z. times x (map local_mark (local_equations (equations_on z file.items)))) same in
         let outer = times_map_append x tag (map (λ (c : Child). (row.owner, c.label)) row.children)
-            (map (λ (y : Local). (y.owner, y.label)) row.locals) in
+        (map (λ (y : Local). (y.owner, y.label)) row.locals) in
         let c_map = times_map_map x tag (λ (c : Child). (row.owner, c.label)) row.children in
         let l_map = times_map_map x tag (λ (y : Local). (y.owner, y.label)) row.locals in
         let c_base = times_map x (λ (c : Child). d.Label q.name c.label (base_labelled file.base c.kind)) (λ (c : Child). mark p c.label)
-            (λ c. ap (λ z. is_same x (d.Label z c.label label.Plain)) same) q.children in
+        (λ c. ap (λ z. is_same x (d.Label z c.label label.Plain)) same) q.children in
         let l_base = times_map x (λ (y : Local). d.Label q.name y.label (label.Local (nonterminal_name file.base y.nonterminal)))
-            (λ (y : Local). mark p y.label) (λ y. ap (λ z. is_same x (d.Label z y.label label.Plain)) same) q.locals in
+        (λ (y : Local). mark p y.label) (λ y. ap (λ z. is_same x (d.Label z y.label label.Plain)) same) q.locals in
         let rules = times_flat_map x (production_declarations file.base) file.base.attributes.productions q has in
         let parts = count_production x file.base q in
         let base = count_base x file.base in

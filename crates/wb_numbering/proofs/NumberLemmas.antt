@@ -1,13 +1,11 @@
 -- A name has one number at most, where no name is there twice; and so have a moved number and a place.
-use Rattle.std.proofs.Common.{◌≡◌, ◌<◌, ◌+◌, ◌++◌, ◌⊎◌, inl, inr, ℕ, List, Some, map, length, slice_get, ap, sym, refl, subst, ◌∙◌, arith}
+use Rattle.std.proofs.Common.{◌≡◌, ◌+◌, ◌++◌, ◌⊎◌, inl, inr, ℕ, List, Some, length, ap, sym, ◌∙◌, arith}
 use Rattle.std.proofs.lemmas.Option.{slice_get_within}
 use Rattle.wb_lemmas.proofs.Places.{at_once, append_keeps, append_after}
-use Rattle.wb_resolved.specs.declared.equation.Place.{Place}
-use Rattle.wb_resolved.specs.declared.equation.Place.TheVariants as place
 use Rattle.wb_resolved.specs.Once.{Entry, NamesDiffer}
 use Rattle.wb_resolved.specs.Owners.{Sees}
-use Rattle.wb_numbering.specs.Numbering.{Labels, IsNumber, IsPlace}
-use Rattle.wb_numbering.specs.Moved.{Move, IsMovedNumber, IsMovedPlace}
+use Rattle.wb_numbering.specs.Numbering.{IsNumber}
+use Rattle.wb_numbering.specs.Moved.{IsMovedNumber}
 
 -- of two owners whom a third sees, one sees the other
 pub meeting : (owner one other : ℕ) → Sees owner one → Sees owner other → Sees one other ⊎ Sees other one
@@ -39,7 +37,7 @@ differ_left xs ys differ i j owner other name a b sees =
 pub differ_right : (xs ys : List Entry) → NamesDiffer (xs ++ ys) → NamesDiffer ys
 differ_right xs ys differ i j owner other name a b sees =
     let same : length xs + i ≡ length xs + j = differ (length xs + i) (length xs + j) owner other name (append_after xs ys i ∙ a)
-        (append_after xs ys j ∙ b) sees in
+    (append_after xs ys j ∙ b) sees in
     omega (arith, same)
 
 -- no name has a number in both parts
@@ -47,7 +45,7 @@ pub not_in_both : (xs ys : List Entry) → NamesDiffer (xs ++ ys) → (owner : �
     → IsNumber ys owner name j → ⊥
 not_in_both xs ys differ owner name k j x y =
     let same : k ≡ length xs + j = one_number (xs ++ ys) differ owner name k (length xs + j)
-        (record { other = x.other; is = append_keeps xs ys k (x.other, name) x.is; seen = x.seen })
-        (record { other = y.other; is = append_after xs ys j ∙ y.is; seen = y.seen }) in
+    (record { other = x.other; is = append_keeps xs ys k (x.other, name) x.is; seen = x.seen })
+    (record { other = y.other; is = append_after xs ys j ∙ y.is; seen = y.seen }) in
     let within = slice_get_within xs k (x.other, name) x.is in
     omega (arith, same, within)

@@ -1,13 +1,12 @@
 -- No attribute occurs twice on a nonterminal, where declarations are once.
-use Rattle.std.proofs.Common.{◌≡◌, ◌≤◌, ◌<◌, ◌+◌, ◌++◌, ◌∷◌, ◌⊎◌, inl, inr, [], ℕ, Bool, true, List, Option, Some, None, Contains, map, slice_get}
-use Rattle.std.proofs.Common.{ap, sym, refl, subst, ◌∙◌, arith, ◌&&◌}
+use Rattle.std.proofs.Common.{◌≡◌, ◌≤◌, ◌+◌, ◌∷◌, ◌⊎◌, inl, inr, ℕ, true, List, map}
+use Rattle.std.proofs.Common.{ap, sym, refl, subst, ◌∙◌, arith}
 use Rattle.std.specs.Prelude.{filter_map, option_to_list, option_map}
 use Rattle.std.specs.Str.{bytes_eq}
 use Rattle.std.proofs.lemmas.Option.{slice_get-map}
 use Rattle.wb_lemmas.proofs.Booleans.{and_both}
 use Rattle.wb_lemmas.proofs.Zips.{beside}
 use Rattle.wb_resolved.specs.declared.attributes.Occurrence.{Occurrence}
-use Rattle.wb_resolved.specs.declared.attribution.AttributionParts.{AttributionParts}
 use Rattle.wb_resolved.specs.declared.resolved.ResolvedParts.{ResolvedParts}
 use Rattle.wb_resolved.specs.Once.{OccursOnce}
 use Rattle.wb_syntax.specs.declared.item.Item.{Item}
@@ -22,7 +21,7 @@ use Rattle.wb_naming.specs.Declares.{base_declarations, item_declarations, form_
 use Rattle.wb_naming.specs.Hold.{AreOnce}
 use Rattle.wb_numbering.specs.Files.{File}
 use Rattle.wb_numbering.specs.Numbering.{Numbering, numbering_of, IsNumber}
-use Rattle.wb_numbering.specs.Resolves.{move_of, IsOccurrence}
+use Rattle.wb_numbering.specs.Resolves.{IsOccurrence}
 use Rattle.wb_numbering.specs.Sources.{sources}
 use Rattle.wb_numbering.proofs.Counts.{times_sources, times_nested, count_items, count_base}
 use Rattle.wb_numbering.proofs.Found.{moved_attribute, moved_nonterminal}
@@ -117,9 +116,9 @@ module _ (file : File) (r : ResolvedParts) (ground : Ground file r) (once : AreO
       let c = called x.other s x.related in
       let k = called y.other t y.related in
       let a = number_name n.attributes file.owner c.attribute k.attribute t.attribute
-          (subst (IsNumber n.attributes file.owner c.attribute) same_attribute c.of_attribute) k.of_attribute in
+      (subst (IsNumber n.attributes file.owner c.attribute) same_attribute c.of_attribute) k.of_attribute in
       let m = number_name n.nonterminals file.owner c.nonterminal k.nonterminal t.nonterminal
-          (subst (IsNumber n.nonterminals file.owner c.nonterminal) same_nonterminal c.on_nonterminal) k.on_nonterminal in
+      (subst (IsNumber n.nonterminals file.owner c.nonterminal) same_nonterminal c.on_nonterminal) k.on_nonterminal in
       one_place (d.Occurrence c.attribute c.nonterminal) (map mark xs) (occurrences_few c.attribute c.nonterminal) i j (mark x.other)
       (mark y.other)
       (slice_get-map mark xs i ∙ ap (option_map mark) x.at) (slice_get-map mark xs j ∙ ap (option_map mark) y.at)

@@ -1,5 +1,5 @@
 -- What is beside a moved row is one, where no name is there twice.
-use Rattle.std.proofs.Common.{◌≡◌, ◌++◌, ◌⊎◌, inl, inr, ℕ, List, map, ap, sym, refl, ◌∙◌}
+use Rattle.std.proofs.Common.{◌≡◌, ℕ, List, ap, sym, ◌∙◌}
 use Rattle.wb_lemmas.proofs.Zips.{one_zip}
 use Rattle.wb_base.specs.declared.symbol.Kind.{Kind}
 use Rattle.wb_base.specs.declared.symbol.Kind.TheVariants as kind
@@ -20,9 +20,9 @@ use Rattle.wb_resolved.specs.declared.terminal.Preference.{Preference}
 use Rattle.wb_resolved.specs.declared.terminal.Terminal.{Terminal}
 use Rattle.wb_resolved.specs.Expression.{Node}
 use Rattle.wb_resolved.specs.Once.{NamesDiffer}
-use Rattle.wb_numbering.specs.Numbering.{Numbering, Labels}
+use Rattle.wb_numbering.specs.Numbering.{Labels}
 use Rattle.wb_numbering.specs.Renaming.{IsRenamedNode}
-use Rattle.wb_numbering.specs.Moved.{Move, IsMovedNumber, IsMovedKind, IsMovedChildKind, IsMovedChild, IsMovedPlace, IsMovedTarget}
+use Rattle.wb_numbering.specs.Moved.{Move, IsMovedKind, IsMovedChildKind, IsMovedChild, IsMovedPlace, IsMovedTarget}
 use Rattle.wb_numbering.specs.Moved.{IsMovedEquation, IsMovedLocal, IsMovedForward, IsMovedNonterminal, IsMovedAttribute, IsMovedOccurrence}
 use Rattle.wb_numbering.specs.Moved.{IsMovedTerminal, IsMovedPreference, AreMovedNodes, IsMovedNonterminalNumber, IsMovedTerminalNumber}
 use Rattle.wb_numbering.specs.Moved.{IsMovedAttributeNumber, IsMovedProductionNumber}

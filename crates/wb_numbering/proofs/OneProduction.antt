@@ -1,12 +1,10 @@
 -- What is beside a production is one, where no name and no label is there twice.
-use Rattle.std.proofs.Common.{◌≡◌, ◌++◌, ◌∷◌, [], ◌⊎◌, inl, inr, ℕ, List, Option, Some, None, map, ap, sym, refl, subst, ◌∙◌}
+use Rattle.std.proofs.Common.{◌≡◌, ◌++◌, [], ◌⊎◌, inl, inr, ℕ, List, Option, Some, None, map, sym, refl, subst, ◌∙◌}
 use Rattle.std.specs.Prelude.{option_to_list}
 use Rattle.std.specs.List.{AllZip}
 use Rattle.std.proofs.lemmas.Simd.{map-map}
 use Rattle.wb_lemmas.proofs.Zips.{one_zip, zip_map}
-use Rattle.wb_resolved.specs.declared.equation.Equation.{Equation}
 use Rattle.wb_resolved.specs.declared.production.Child.{Child}
-use Rattle.wb_resolved.specs.declared.production.Forward.{Forward}
 use Rattle.wb_resolved.specs.declared.production.Local.{Local}
 use Rattle.wb_resolved.specs.declared.production.Production.{Production}
 use Rattle.wb_resolved.specs.Once.{Entry, NamesDiffer, labels_of}
@@ -14,7 +12,6 @@ use Rattle.wb_resolved.specs.Owners.{Sees}
 use Rattle.wb_syntax.specs.declared.expression.Equation as written
 use Rattle.wb_syntax.specs.declared.expression.Target as is_for
 use Rattle.wb_syntax.specs.declared.expression.Target.TheVariants as g
-use Rattle.wb_syntax.specs.declared.production.Child as named
 use Rattle.wb_naming.specs.Declarations.{Items, ProductionDeclaration}
 use Rattle.wb_numbering.specs.Files.{equations_on}
 use Rattle.wb_numbering.specs.Numbering.{Numbering, Labels, labels_in}
@@ -89,14 +86,14 @@ module _ (n : Numbering) (owner : ℕ) where
     one_production_row d y z differ e f =
         let equations = equations_on d.production.name items in
         let children : y.children ≡ z.children = one_zip (IsWrittenChild n owner) (one_written_child n distinct owner) d.production.children
-            y.children z.children e.children f.children in
+        y.children z.children e.children f.children in
         let entries : map local_name y.locals ≡ map local_name z.locals =
-            zip_map (IsWrittenLocal n owner (labels_in y)) (written_name owner) local_name
-            (written_entry (labels_in y)) (local_equations equations) y.locals e.locals
-            ∙ sym (zip_map (IsWrittenLocal n owner (labels_in z)) (written_name owner) local_name
-            (written_entry (labels_in z)) (local_equations equations) z.locals f.locals) in
+        zip_map (IsWrittenLocal n owner (labels_in y)) (written_name owner) local_name
+        (written_entry (labels_in y)) (local_equations equations) y.locals e.locals
+        ∙ sym (zip_map (IsWrittenLocal n owner (labels_in z)) (written_name owner) local_name
+        (written_entry (labels_in z)) (local_equations equations) z.locals f.locals) in
         let same : labels_in z ≡ labels_in y =
-            λ j. record { children = map (λ (c : Child). c.label) (sym children j); locals = sym entries j } in
+        λ j. record { children = map (λ (c : Child). c.label) (sym children j); locals = sym entries j } in
         same_production y z (e.name ∙ sym f.name) (e.owner_is ∙ sym f.owner_is) (e.role ∙ sym f.role)
         (one_nonterminal_number n distinct owner d.production.left y.left z.left e.left f.left) children
         (one_zip (IsWrittenLocal n owner (labels_in y)) (one_written_local n distinct owner (labels_in y) y.owner differ)
@@ -132,16 +129,16 @@ module _ (n : Numbering) (owner : ℕ) where
           let old = labels_in p in
           let new = labels_in y in
           let locals_differ : NamesDiffer new.locals =
-              differ_right (map (λ (l : List ℕ). (y.owner, l)) new.children) new.locals differ.differ in
+          differ_right (map (λ (l : List ℕ). (y.owner, l)) new.children) new.locals differ.differ in
           let children : y.children ≡ z.children = one_zip (IsMovedChild m) (one_moved_child m to_distinct) p.children y.children z.children
-              e.children f.children in
+          e.children f.children in
           let entries : map local_name y.locals ≡ map local_name z.locals =
-              zip_map (IsFrom (IsMovedLocal m old new) (IsWrittenLocal n owner new)) from_entry local_name
-              (local_entry old new) there y.locals e.locals
-              ∙ sym (zip_map (IsFrom (IsMovedLocal m old (labels_in z)) (IsWrittenLocal n owner (labels_in z))) from_entry
-              local_name (local_entry old (labels_in z)) there z.locals f.locals) in
+          zip_map (IsFrom (IsMovedLocal m old new) (IsWrittenLocal n owner new)) from_entry local_name
+          (local_entry old new) there y.locals e.locals
+          ∙ sym (zip_map (IsFrom (IsMovedLocal m old (labels_in z)) (IsWrittenLocal n owner (labels_in z))) from_entry
+          local_name (local_entry old (labels_in z)) there z.locals f.locals) in
           let same : labels_in z ≡ new =
-              λ j. record { children = map (λ (c : Child). c.label) (sym children j); locals = sym entries j } in
+          λ j. record { children = map (λ (c : Child). c.label) (sym children j); locals = sym entries j } in
           same_production y z (e.name ∙ sym f.name) (e.owner_is ∙ sym f.owner_is) (e.role ∙ sym f.role)
           (one_moved_nonterminal m to_distinct p.left y.left z.left e.left f.left) children
           (one_zip (IsFrom (IsMovedLocal m old new) (IsWrittenLocal n owner new))

@@ -1,8 +1,7 @@
 -- What is beside a row of the base or a declaration is one, where no name is there twice.
-use Rattle.std.proofs.Common.{◌≡◌, ◌<◌, ◌+◌, ◌++◌, ◌∷◌, ◌⊎◌, inl, inr, ℕ, List, Option, Some, None, map, length, slice_get, ap, sym, refl}
-use Rattle.std.proofs.Common.{subst, ◌∙◌, arith}
+use Rattle.std.proofs.Common.{◌≡◌, ◌++◌, ℕ, List, Some, map, slice_get, ap, sym}
+use Rattle.std.proofs.Common.{◌∙◌}
 use Rattle.std.specs.Prelude.{option_map}
-use Rattle.std.specs.List.{AllZip}
 use Rattle.std.proofs.lemmas.Option.{slice_get-map}
 use Rattle.wb_lemmas.proofs.Places.{append_keeps}
 use Rattle.wb_lemmas.proofs.Zips.{one_zip}
@@ -38,11 +37,8 @@ use Rattle.wb_numbering.specs.Numbering.{Numbering, Labels, IsNumber, IsPlace}
 use Rattle.wb_numbering.specs.Renaming.{IsRenamedNode}
 use Rattle.wb_numbering.specs.Written.{IsWrittenKind, IsWrittenTerminal, IsWrittenChildKind, IsWrittenChild, IsWrittenTarget}
 use Rattle.wb_numbering.specs.Written.{IsWrittenEquation, IsWrittenLocal, IsWrittenLocalTarget, IsWrittenForward, AreWrittenNodes}
-use Rattle.wb_numbering.specs.Moved.{Move, IsMovedNumber, IsMovedKind, IsMovedChildKind, IsMovedChild, IsMovedPlace, IsMovedTarget}
-use Rattle.wb_numbering.specs.Moved.{IsMovedEquation, IsMovedLocal, IsMovedForward, IsMovedNonterminal, IsMovedAttribute, IsMovedOccurrence}
-use Rattle.wb_numbering.specs.Moved.{IsMovedTerminal, IsMovedPreference, AreMovedNodes}
 use Rattle.wb_numbering.specs.Rows.{IsTerminalRow, IsNonterminalRow, IsAttributeRow, IsOccurrenceRow, IsPreferenceRow}
-use Rattle.wb_numbering.proofs.NumberLemmas.{one_number, one_moved, differ_left, differ_right, not_in_both}
+use Rattle.wb_numbering.proofs.NumberLemmas.{one_number, differ_left, differ_right, not_in_both}
 use Rattle.wb_numbering.proofs.RenamingLemmas.{one_node}
 
 -- no name of a numbering is there twice where one owner sees it

@@ -1,40 +1,32 @@
 -- A file stands for one value at most.
-use Rattle.std.proofs.Common.{◌≡◌, ◌<◌, ◌++◌, ◌∷◌, [], ◌⊎◌, inl, inr, ℕ, List, Option, Some, None, All, map, take, length, get_or, ap, sym, refl}
+use Rattle.std.proofs.Common.{◌≡◌, ◌∷◌, [], ◌⊎◌, inl, inr, ℕ, List, Option, Some, None, All, map, take, length, get_or, ap, sym, refl}
 use Rattle.std.proofs.Common.{subst, ◌∙◌}
 use Rattle.std.specs.Prelude.{IfSome, option_map, option_to_list}
-use Rattle.std.specs.List.{AllZip}
-use Rattle.wb_lemmas.proofs.Elements.{all_weaker}
-use Rattle.wb_lemmas.proofs.Zips.{one_zip, zip_map, zip_both}
+use Rattle.wb_lemmas.proofs.Zips.{one_zip, zip_map}
 use Rattle.wb_base.specs.declared.symbol.Symbol.{Symbol}
 use Rattle.wb_base.specs.Grammar.{GrammarView}
 use Rattle.wb_resolved.specs.declared.attributes.Attribute.{Attribute}
 use Rattle.wb_resolved.specs.declared.attributes.Nonterminal.{Nonterminal}
 use Rattle.wb_resolved.specs.declared.attributes.Occurrence.{Occurrence}
-use Rattle.wb_resolved.specs.declared.production.Child.{Child}
 use Rattle.wb_resolved.specs.declared.production.Production.{Production}
-use Rattle.wb_resolved.specs.declared.attribution.AttributionParts.{AttributionParts}
 use Rattle.wb_resolved.specs.declared.resolved.ResolvedParts.{ResolvedParts}
 use Rattle.wb_resolved.specs.declared.terminal.Preference.{Preference}
 use Rattle.wb_resolved.specs.declared.terminal.Terminal.{Terminal}
 use Rattle.wb_resolved.specs.Grammar.{IsGrammarProduction}
 use Rattle.wb_resolved.specs.Numbered.{signature_of}
-use Rattle.wb_resolved.specs.Once.{Entry, IsOnceIn}
-use Rattle.wb_resolved.specs.Owners.{Sees}
+use Rattle.wb_resolved.specs.Once.{Entry}
 use Rattle.wb_resolved.specs.Resolved.{IsResolved}
-use Rattle.wb_values.specs.Signature.{Signature}
 use Rattle.wb_naming.specs.Declarations.{LexicalDeclaration, AttributeDeclaration, OccurrenceDeclaration, PreferenceDeclaration}
-use Rattle.wb_naming.specs.Declarations.{ProductionDeclaration, lexicals, nonterminals, attributes, occurrences, productions, preferences}
-use Rattle.wb_naming.specs.Declarations.{extensibles, starts}
+use Rattle.wb_naming.specs.Declarations.{ProductionDeclaration, lexicals, nonterminals, attributes, productions}
 use Rattle.wb_numbering.specs.Files.{File}
-use Rattle.wb_numbering.specs.Moved.{Move, IsMovedNonterminal, IsMovedAttribute, IsMovedOccurrence, IsMovedTerminal, IsMovedPreference}
+use Rattle.wb_numbering.specs.Moved.{IsMovedNonterminal, IsMovedAttribute, IsMovedOccurrence, IsMovedTerminal, IsMovedPreference}
 use Rattle.wb_numbering.specs.Moved.{IsMovedNonterminalNumber}
 use Rattle.wb_numbering.specs.Numbering.{Numbering, numbering_of, IsNumber, labels_in}
 use Rattle.wb_numbering.specs.Resolves.{ResolvesIn, Resolves, move_of, starts_of, IsTerminal, IsNonterminal, IsAttribute, IsOccurrence}
 use Rattle.wb_numbering.specs.Resolves.{IsProduction, IsPreference, IsNonterminalNumber, IsScanned, IsInGrammarOf, IsConcrete, IsGrammarRow}
-use Rattle.wb_numbering.specs.Rows.{IsTerminalRow, IsNonterminalRow, IsAttributeRow, IsOccurrenceRow, IsPreferenceRow, IsProductionRow}
-use Rattle.wb_numbering.specs.Rows.{IsExtendedProduction}
-use Rattle.wb_numbering.specs.Sources.{sources, IsFrom}
-use Rattle.wb_numbering.specs.OneValue.{SeesAll, IsOnlyValue}
+use Rattle.wb_numbering.specs.Rows.{IsTerminalRow, IsNonterminalRow, IsAttributeRow, IsOccurrenceRow, IsPreferenceRow}
+use Rattle.wb_numbering.specs.Sources.{sources}
+use Rattle.wb_numbering.specs.OneValue.{IsOnlyValue}
 use Rattle.wb_numbering.proofs.OneRow.{AreDistinct, LabelsDiffer, one_terminal_row, one_nonterminal_row, one_attribute_row}
 use Rattle.wb_numbering.proofs.OneRow.{one_occurrence_row, one_preference_row, one_nonterminal_number}
 use Rattle.wb_numbering.proofs.OneMoved.{one_moved_nonterminal, one_moved_terminal_row, one_moved_nonterminal_row, one_moved_attribute_row}
@@ -91,22 +83,22 @@ same_numbering file r s a b =
     let n = numbering_of r in
     let o = numbering_of s in
     let terminals : n.terminals ≡ o.terminals = grouped_map IsScanned (IsTerminal file n) (IsTerminal file o) (terminal_entry file)
-        (λ (t : Terminal). (t.owner, t.name)) (terminal_names file n) (terminal_names file o)
-        (sources file.base.terminals (lexicals file.items)) r.terminals s.terminals a.terminals b.terminals in
+    (λ (t : Terminal). (t.owner, t.name)) (terminal_names file n) (terminal_names file o)
+    (sources file.base.terminals (lexicals file.items)) r.terminals s.terminals a.terminals b.terminals in
     let symbols : n.nonterminals ≡ o.nonterminals = grouped_map (IsInGrammarOf file) (IsNonterminal file n) (IsNonterminal file o)
-        (nonterminal_entry file) (λ (t : Nonterminal). (t.owner, t.name)) (nonterminal_names file n) (nonterminal_names file o)
-        (sources file.base.attributes.nonterminals (nonterminals file.items)) r.attributes.nonterminals s.attributes.nonterminals
-        a.nonterminals b.nonterminals in
+    (nonterminal_entry file) (λ (t : Nonterminal). (t.owner, t.name)) (nonterminal_names file n) (nonterminal_names file o)
+    (sources file.base.attributes.nonterminals (nonterminals file.items)) r.attributes.nonterminals s.attributes.nonterminals
+    a.nonterminals b.nonterminals in
     let rules : n.productions ≡ o.productions = grouped_map IsConcrete (IsProduction file n) (IsProduction file o)
-        (production_entry file) (λ (t : Production). (t.owner, t.name)) (production_names file n) (production_names file o)
-        (sources file.base.attributes.productions (productions file.items)) r.attributes.productions s.attributes.productions
-        a.productions b.productions in
+    (production_entry file) (λ (t : Production). (t.owner, t.name)) (production_names file n) (production_names file o)
+    (sources file.base.attributes.productions (productions file.items)) r.attributes.productions s.attributes.productions
+    a.productions b.productions in
     let entry : Attribute → Entry = λ t. (t.owner, t.name) in
     let given : n.attributes ≡ o.attributes =
-        zip_map (IsAttribute file n) (attribute_entry file) entry (attribute_names file n)
-        (sources file.base.attributes.attributes (attributes file.items)) r.attributes.attributes a.attributes
-        ∙ sym (zip_map (IsAttribute file o) (attribute_entry file) entry (attribute_names file o)
-        (sources file.base.attributes.attributes (attributes file.items)) s.attributes.attributes b.attributes) in
+    zip_map (IsAttribute file n) (attribute_entry file) entry (attribute_names file n)
+    (sources file.base.attributes.attributes (attributes file.items)) r.attributes.attributes a.attributes
+    ∙ sym (zip_map (IsAttribute file o) (attribute_entry file) entry (attribute_names file o)
+    (sources file.base.attributes.attributes (attributes file.items)) s.attributes.attributes b.attributes) in
     λ j. record { terminals = terminals j; nonterminals = symbols j; attributes = given j; productions = rules j }
 
 -- the names of a resolved specification are distinct
@@ -198,24 +190,24 @@ only_value file r is sees a s b =
     let distinct = distinct_names r is in
     let c : ResolvesIn n file s = subst (λ o. ResolvesIn o file s) (sym (same_numbering file r s a b)) b in
     let fit : All (IsFit file n distinct) r.attributes.productions = λ i d within.
-        labels_differ (get_or r.attributes.productions i d) file.owner (is.attributes.once.productions i d within).labels (sees i d within) in
+    labels_differ (get_or r.attributes.productions i d) file.owner (is.attributes.once.productions i d within).labels (sees i d within) in
     let rules = one_grouped IsConcrete (IsProduction file n) (IsFit file n distinct) (one_production file n distinct) _ r.attributes.productions
-        s.attributes.productions fit a.productions c.productions in
+    s.attributes.productions fit a.productions c.productions in
     let terminals = one_grouped IsScanned (IsTerminal file n) (λ (x : Terminal). Unit {0}) (one_terminal file n distinct) _ r.terminals
-        s.terminals (trivial r.terminals) a.terminals c.terminals in
+    s.terminals (trivial r.terminals) a.terminals c.terminals in
     let symbols = one_grouped (IsInGrammarOf file) (IsNonterminal file n) (λ (x : Nonterminal). Unit {0}) (one_nonterminal file n distinct) _
-        r.attributes.nonterminals s.attributes.nonterminals (trivial r.attributes.nonterminals) a.nonterminals c.nonterminals in
+    r.attributes.nonterminals s.attributes.nonterminals (trivial r.attributes.nonterminals) a.nonterminals c.nonterminals in
     let scanned = one_split IsScanned (sources file.base.terminals (lexicals file.items)) a.terminals.leading a.terminals.following
-        c.terminals.leading c.terminals.following a.terminals.splits c.terminals.splits in
+    c.terminals.leading c.terminals.following a.terminals.splits c.terminals.splits in
     let of_grammar = one_split (IsInGrammarOf file) (sources file.base.attributes.nonterminals (nonterminals file.items))
-        a.nonterminals.leading a.nonterminals.following c.nonterminals.leading c.nonterminals.following a.nonterminals.splits
-        c.nonterminals.splits in
+    a.nonterminals.leading a.nonterminals.following c.nonterminals.leading c.nonterminals.following a.nonterminals.splits
+    c.nonterminals.splits in
     let concrete = one_split IsConcrete (sources file.base.attributes.productions (productions file.items)) a.productions.leading
-        a.productions.following c.productions.leading c.productions.following a.productions.splits c.productions.splits in
+    a.productions.following c.productions.leading c.productions.following a.productions.splits c.productions.splits in
     let grammar : r.grammar ≡ s.grammar =
-        same_grammar r.grammar s.grammar (one_zip (IsNonterminalNumber file n) (one_number_of file n distinct) _ (starts_of r) (starts_of s) a.start c.start)
-        _ _ _ _ _ _ r.attributes.productions s.attributes.productions
-        (ap length scanned.0) (ap length of_grammar.0) (ap length concrete.0) rules a.grammar c.grammar in
+    same_grammar r.grammar s.grammar (one_zip (IsNonterminalNumber file n) (one_number_of file n distinct) _ (starts_of r) (starts_of s) a.start c.start)
+    _ _ _ _ _ _ r.attributes.productions s.attributes.productions
+    (ap length scanned.0) (ap length of_grammar.0) (ap length concrete.0) rules a.grammar c.grammar in
     let attributes : r.attributes ≡ s.attributes = λ j. record {
       extensions = (a.extensions ∙ sym c.extensions) j;
       nonterminals = symbols j;

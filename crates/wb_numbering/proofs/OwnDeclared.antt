@@ -1,19 +1,9 @@
 -- What a declaration of items comes from.
-use Rattle.std.proofs.Common.{◌≡◌, ◌++◌, ◌∷◌, ◌⊎◌, inl, inr, [], ℕ, List, Option, Some, None, Contains, map, ap, sym, refl, subst, ◌∙◌}
+use Rattle.std.proofs.Common.{◌≡◌, ◌++◌, ◌∷◌, inl, inr, [], List, Option, Some, None, Contains, map, ap, sym, refl, subst, ◌∙◌}
 use Rattle.std.specs.Prelude.{flat_map, filter_map}
 use Rattle.std.specs.List.{cons_option}
 use Rattle.wb_lemmas.proofs.Members.{contains_cases, contains_first, contains_later, contains_append, nothing_in}
 use Rattle.wb_lemmas.proofs.Members.{append_contains_left, append_contains_right}
-use Rattle.wb_resolved.specs.declared.attributes.Attribute.{Attribute}
-use Rattle.wb_resolved.specs.declared.attributes.Nonterminal.{Nonterminal}
-use Rattle.wb_resolved.specs.declared.attributes.Occurrence.{Occurrence}
-use Rattle.wb_resolved.specs.declared.equation.Equation.{Equation}
-use Rattle.wb_resolved.specs.declared.production.Child.{Child}
-use Rattle.wb_resolved.specs.declared.production.Forward.{Forward}
-use Rattle.wb_resolved.specs.declared.production.Local.{Local}
-use Rattle.wb_resolved.specs.declared.production.Production.{Production}
-use Rattle.wb_resolved.specs.declared.resolved.ResolvedParts.{ResolvedParts}
-use Rattle.wb_resolved.specs.declared.terminal.Terminal.{Terminal}
 use Rattle.wb_syntax.specs.declared.expression.Equation as written
 use Rattle.wb_syntax.specs.declared.item.Item.{Item}
 use Rattle.wb_syntax.specs.declared.item.ItemForm.{ItemForm}
@@ -23,13 +13,11 @@ use Rattle.wb_syntax.specs.declared.pattern.Pattern.{Pattern}
 use Rattle.wb_syntax.specs.declared.production.Child as named
 use Rattle.wb_naming.specs.declared.declaration.Declaration.{Declaration}
 use Rattle.wb_naming.specs.declared.declaration.Declaration.TheVariants as d
-use Rattle.wb_naming.specs.declared.declaration.Labelled.TheVariants as label
 use Rattle.wb_naming.specs.declared.declaration.Sort.TheVariants as sort
 use Rattle.wb_naming.specs.Declarations.{Items, LexicalDeclaration, ProductionDeclaration, lexicals, productions, plain_items, lexical_of}
 use Rattle.wb_naming.specs.Declarations.{production_of, plain_of}
-use Rattle.wb_naming.specs.Declares.{base_declarations, item_declarations, declarations, form_declarations, plain_declaration, role_sort}
-use Rattle.wb_naming.specs.Declares.{child_declaration, target_declaration, equation_declarations, terminal_sort, nonterminal_name}
-use Rattle.wb_naming.specs.Declares.{attribute_name, base_labelled, target_attribute, target_site, forward_declarations, production_declarations}
+use Rattle.wb_naming.specs.Declares.{item_declarations, form_declarations, plain_declaration, role_sort}
+use Rattle.wb_naming.specs.Declares.{child_declaration, target_declaration, equation_declarations}
 use Rattle.wb_numbering.specs.Files.{Block, blocks, block_of}
 use Rattle.wb_numbering.proofs.RowLemmas.{contains_map}
 
@@ -39,8 +27,8 @@ pub contains_flat_map : {X Y : Type 0} (g : X → List Y) (xs : List X) (y : Y) 
 contains_flat_map g [] y has = absurd (nothing_in y has)
 contains_flat_map g (z ∷ xs) y has =
     elim (contains_append (g z) (flat_map g xs) y has) [
-      inl here ↦ (z, contains_first z xs, here)
-    | inr more ↦ let r = contains_flat_map g xs y more in (r.0, contains_later z r.0 xs r.1, r.2)
+      | inl here ↦ (z, contains_first z xs, here)
+      | inr more ↦ let r = contains_flat_map g xs y more in (r.0, contains_later z r.0 xs r.1, r.2)
     ]
 
 pub flat_map_contains : {X Y : Type 0} (g : X → List Y) (xs : List X) (x : X) (y : Y) → Contains xs x → Contains (g x) y
@@ -48,8 +36,8 @@ pub flat_map_contains : {X Y : Type 0} (g : X → List Y) (xs : List X) (x : X) 
 flat_map_contains g [] x y has more = absurd (nothing_in x has)
 flat_map_contains g (z ∷ xs) x y has more =
     elim (contains_cases z x xs has) [
-      inl is ↦ append_contains_left (g z) (flat_map g xs) y (subst (λ k. Contains (g k) y) (sym is) more)
-    | inr rest ↦ append_contains_right (g z) (flat_map g xs) y (flat_map_contains g xs x y rest more)
+      | inl is ↦ append_contains_left (g z) (flat_map g xs) y (subst (λ k. Contains (g k) y) (sym is) more)
+      | inr rest ↦ append_contains_right (g z) (flat_map g xs) y (flat_map_contains g xs x y rest more)
     ]
 
 -- what is kept comes first, where the first element is kept
@@ -72,8 +60,8 @@ pub kept : {X Y : Type 0} (g : X → Option Y) (xs : List X) (x : X) (y : Y) →
 kept g [] x y has is = absurd (nothing_in x has)
 kept g (z ∷ xs) x y has is =
     elim (contains_cases z x xs has) [
-      inl same ↦ kept_first g z xs y (ap g same ∙ is)
-    | inr more ↦ kept_later g z xs y (g z) refl (kept g xs x y more is)
+      | inl same ↦ kept_first g z xs y (ap g same ∙ is)
+      | inr more ↦ kept_later g z xs y (g z) refl (kept g xs x y more is)
     ]
 
 -- what it comes from
@@ -100,14 +88,14 @@ module _ (items : Items) (it : Declaration) where
       → Contains (form_declarations form) it → IsOwnDeclared items it
   from_form item there (f.Lexical role name pattern) e h =
       elim (contains_cases (d.Symbol name (role_sort role)) it [] h) [
-        inl is ↦ lexical (record { role = role; name = name; pattern = pattern })
+        | inl is ↦ lexical (record { role = role; name = name; pattern = pattern })
             (kept (λ (x : Item Pattern). lexical_of x.form) items item _ there (ap lexical_of e)) is
-      | inr more ↦ absurd (nothing_in it more)
+        | inr more ↦ absurd (nothing_in it more)
       ]
   from_form item there (f.Plain x) e h =
       elim (contains_cases (plain_declaration x) it [] h) [
-        inl is ↦ plain x (kept (λ (x : Item Pattern). plain_of x.form) items item x there (ap plain_of e)) is
-      | inr more ↦ absurd (nothing_in it more)
+        | inl is ↦ plain x (kept (λ (x : Item Pattern). plain_of x.form) items item x there (ap plain_of e)) is
+        | inr more ↦ absurd (nothing_in it more)
       ]
   from_form item there (f.Production role p) e h =
       let declared = kept (λ (x : Item Pattern). production_of x.form) items item _ there (ap production_of e) in
@@ -115,13 +103,13 @@ module _ (items : Items) (it : Declaration) where
       let children = map (child_declaration p.name) p.children in
       let rest = children ++ equation_declarations p.name p.equations in
       elim (contains_cases (d.Symbol p.name sort.Production) it (d.Left p.name p.left ∷ rest) h) [
-        inl is ↦ production (record { role = role; production = p }) declared is
-      | inr more ↦ elim (contains_cases (d.Left p.name p.left) it rest more) [
-          inl is ↦ left (record { role = role; production = p }) declared is
-        | inr last ↦ elim (contains_append children (equation_declarations p.name p.equations) it last) [
-            inl one ↦ let x = contains_map (child_declaration p.name) p.children it one in
+        | inl is ↦ production (record { role = role; production = p }) declared is
+        | inr more ↦ elim (contains_cases (d.Left p.name p.left) it rest more) [
+          | inl is ↦ left (record { role = role; production = p }) declared is
+          | inr last ↦ elim (contains_append children (equation_declarations p.name p.equations) it last) [
+            | inl one ↦ let x = contains_map (child_declaration p.name) p.children it one in
                 child (record { role = role; production = p }) declared x.0 x.1 x.2
-          | inr one ↦ in_block (record { name = p.name; equations = p.equations }) block one
+            | inr one ↦ in_block (record { name = p.name; equations = p.equations }) block one
           ]
         ]
       ]

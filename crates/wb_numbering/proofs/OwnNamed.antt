@@ -1,6 +1,6 @@
 -- What a file writes on a production is named in its value.
-use Rattle.std.proofs.Common.{◌≡◌, ◌≢◌, ◌++◌, ◌∷◌, ◌⊎◌, inl, inr, [], ℕ, List, Option, Some, None, Contains, All, map, slice_get, ap}
-use Rattle.std.proofs.Common.{sym, refl, subst, ◌∙◌}
+use Rattle.std.proofs.Common.{◌≡◌, ◌∷◌, inl, inr, [], ℕ, List, Some, Contains, All, slice_get}
+use Rattle.std.proofs.Common.{sym, refl, subst}
 use Rattle.std.specs.Prelude.{IsSome}
 use Rattle.wb_lemmas.proofs.Elements.{all_contained}
 use Rattle.std.proofs.lemmas.List.Elements.{All-head}
@@ -13,7 +13,6 @@ use Rattle.wb_resolved.specs.declared.attributes.Direction.{Direction}
 use Rattle.wb_resolved.specs.declared.attributes.Direction.TheVariants.{Synthesized, Inherited}
 use Rattle.wb_resolved.specs.declared.equation.Place.{Place}
 use Rattle.wb_resolved.specs.declared.equation.Target.{Target}
-use Rattle.wb_resolved.specs.declared.equation.Target.TheVariants as target
 use Rattle.wb_resolved.specs.declared.production.ChildKind.{ChildKind}
 use Rattle.wb_resolved.specs.declared.production.ChildKind.TheVariants as child
 use Rattle.wb_resolved.specs.declared.production.Production.{Production}
@@ -44,7 +43,7 @@ use Rattle.wb_naming.specs.Hold.{NamesHold, AttributeFor}
 use Rattle.wb_naming.specs.Meaning.{IsTree, IsLexeme}
 use Rattle.wb_naming.specs.NamesOk.{scope_of}
 use Rattle.wb_naming.specs.Uses.{uses, node_uses, target_uses}
-use Rattle.wb_numbering.specs.Files.{File, Block, blocks, equations_on}
+use Rattle.wb_numbering.specs.Files.{File, equations_on}
 use Rattle.wb_numbering.specs.Numbering.{Numbering, numbering_of, IsNumber, IsPlace, labels_in}
 use Rattle.wb_numbering.specs.Renaming.{IsRenamedNode}
 use Rattle.wb_numbering.specs.Written.{IsWrittenTarget, AreWrittenNodes}
@@ -101,14 +100,14 @@ module _ (file : File) (r : ResolvedParts) (known : Known file r) where
       → (k : ℕ) × (at ≡ child.Value (kind.Tree k)) × IsNumber n.nonterminals file.owner m k
   tree_of is m at tree means =
       elim tree.0 [
-        inl e ↦ of_child (subst (λ z. Means file n z at) e means)
-      | inr e ↦ subst (λ z. Means file n z at) e means
+        | inl e ↦ of_child (subst (λ z. Means file n z at) e means)
+        | inr e ↦ subst (λ z. Means file n z at) e means
       ] where
-    of_child : Means file n (label.Child m) at → (k : ℕ) × (at ≡ child.Value (kind.Tree k)) × IsNumber n.nonterminals file.owner m k
-    of_child (inl x) =
-        let f = nonterminal_found file r known.ground m tree.1 in
-        absurd (not_both n known.ground.distinct file.owner m x.0 f.number x.2 f.is)
-    of_child (inr x) = x
+        of_child : Means file n (label.Child m) at → (k : ℕ) × (at ≡ child.Value (kind.Tree k)) × IsNumber n.nonterminals file.owner m k
+        of_child (inl x) =
+            let f = nonterminal_found file r known.ground m tree.1 in
+            absurd (not_both n known.ground.distinct file.owner m x.0 f.number x.2 f.is)
+        of_child (inr x) = x
 
   value_of : (is : Labelled) (at : ChildKind) → ¬ IsLexeme all is → Means file n is at → (k : Kind) × (at ≡ child.Value k)
   value_of label.Plain at free means = means
@@ -121,10 +120,11 @@ module _ (file : File) (r : ResolvedParts) (known : Known file r) where
     there : (k : ℕ) → IsNumber n.nonterminals file.owner lexeme.0 k → ⊥
     there k x =
         let f : NameFound n.terminals file.owner lexeme.0 = elim lexeme.2 [
-          inl has ↦ terminal_found file r known.ground lexeme.0 sort.Terminal refl has
-        | inr has ↦ terminal_found file r known.ground lexeme.0 sort.Marker refl has
+          | inl has ↦ terminal_found file r known.ground lexeme.0 sort.Terminal refl has
+          | inr has ↦ terminal_found file r known.ground lexeme.0 sort.Marker refl has
         ] in
         not_both n known.ground.distinct file.owner lexeme.0 f.number k f.is x
+
     of_child : Means file n (label.Child lexeme.0) at → (k : ℕ) × (at ≡ child.Terminal k)
     of_child (inl x) = (x.0, x.1)
     of_child (inr x) = absurd (there x.0 x.2)
@@ -168,7 +168,7 @@ module _ (file : File) (r : ResolvedParts) (known : Known file r) where
         let x = known.hold.meant.attributes row.name a site.Forward used in (
           forward_found file r known.ground known.hold.placed at_row row is_there (known.hold.meant.forward row.name a used),
           sees_occurrence file r known.ground a x.nonterminal direction k row.left number
-          (left_found file r known.ground known.hold.placed at_row row is_there x.nonterminal x.there.0) goes x.occurs,
+              (left_found file r known.ground known.hold.placed at_row row is_there x.nonterminal x.there.0) goes x.occurs,
         )
 
     -- a node
@@ -227,12 +227,12 @@ module _ (file : File) (r : ResolvedParts) (known : Known file r) where
               (subst (λ z. Contains (node_uses z node) it) (sym same) used)))
               (equation_names file.items known.names b there q inside).nodes all_renamed;
         } where
-      own_nodes : (xs : List by_name.Node) (ys : List by_number.Node)
-          → ((node : by_name.Node) → Contains xs node → (it : Usage) → Contains (node_uses row.name node) it → Contains (uses file.items) it)
-          → All (λ node. All IsName (node_names node)) xs
-          → AreWrittenNodes n file.owner (labels_in row) xs ys → All (IsNamedNode r.attributes row file.owner) ys
-      own_nodes xs ys used names zipped = all_zipped _ (IsNamedNode r.attributes row file.owner) xs ys zipped
-          (λ x y has_x has_y e. own_node x y (used x has_x) (all_contained (λ node. All IsName (node_names node)) xs x names has_x) e)
+          own_nodes : (xs : List by_name.Node) (ys : List by_number.Node)
+              → ((node : by_name.Node) → Contains xs node → (it : Usage) → Contains (node_uses row.name node) it → Contains (uses file.items) it)
+              → All (λ node. All IsName (node_names node)) xs
+              → AreWrittenNodes n file.owner (labels_in row) xs ys → All (IsNamedNode r.attributes row file.owner) ys
+          own_nodes xs ys used names zipped = all_zipped _ (IsNamedNode r.attributes row file.owner) xs ys zipped
+              (λ x y has_x has_y e. own_node x y (used x has_x) (all_contained (λ node. All IsName (node_names node)) xs x names has_x) e)
 
     -- what an equation is for
     own_target : (to : is_for.Target) (is : Target) → ((it : Usage) → Contains (target_uses row.name to) it → Contains (uses file.items) it)

@@ -1,18 +1,15 @@
 -- No preference and no extensible nonterminal of a value is there twice.
-use Rattle.std.proofs.Common.{◌≡◌, ◌≢◌, ◌≤◌, ◌<◌, ◌+◌, ◌++◌, ◌∷◌, ◌⊎◌, ◌&&◌, inl, inr, [], ℕ, zero, suc, Bool, true, false, List, Option, Some, None}
-use Rattle.std.proofs.Common.{Contains, All, map, length, slice_get, ap, sym, refl, subst, ◌∙◌, arith}
+use Rattle.std.proofs.Common.{◌≡◌, ◌≤◌, ◌+◌, ◌++◌, ◌∷◌, ◌⊎◌, inl, inr, ℕ, zero, suc, List, Option, Some, None}
+use Rattle.std.proofs.Common.{Contains, map, length, slice_get, ap, sym, refl, subst, ◌∙◌, arith}
 use Rattle.std.specs.Prelude.{option_map, option_to_list, filter_map}
-use Rattle.std.specs.List.{AllZip}
 use Rattle.std.specs.Str.{bytes_eq}
-use Rattle.std.proofs.lemmas.Bool.{false≢true}
-use Rattle.std.proofs.lemmas.Option.{slice_get_within, slice_get-map}
+use Rattle.std.proofs.lemmas.Option.{slice_get-map}
 use Rattle.std.proofs.lemmas.List.{length-map}
 use Rattle.wb_lemmas.proofs.Booleans.{and_both}
 use Rattle.wb_lemmas.proofs.Members.{contains_at, append_contains_right}
 use Rattle.wb_lemmas.proofs.Places.{at_once, at_append, append_after, nothing_at}
 use Rattle.wb_lemmas.proofs.Zips.{beside}
 use Rattle.wb_base.specs.Different.{Differ}
-use Rattle.wb_resolved.specs.declared.attributes.Nonterminal.{Nonterminal}
 use Rattle.wb_resolved.specs.declared.production.Production.{Production}
 use Rattle.wb_resolved.specs.declared.resolved.ResolvedParts.{ResolvedParts}
 use Rattle.wb_resolved.specs.declared.terminal.Preference.{Preference}
@@ -30,13 +27,12 @@ use Rattle.wb_naming.specs.declared.declaration.Declaration.{Declaration}
 use Rattle.wb_naming.specs.declared.declaration.Declaration.TheVariants as d
 use Rattle.wb_naming.specs.declared.declaration.Sort.{Sort}
 use Rattle.wb_naming.specs.declared.declaration.Sort.TheVariants as sort
-use Rattle.wb_naming.specs.Declarations.{Items, PreferenceDeclaration, ProductionDeclaration, LexicalDeclaration, preferences, extensibles}
-use Rattle.wb_naming.specs.Declarations.{plain_items, plain_of, preference_of, extensible_of, lexicals, nonterminals, productions, nonterminal_of}
+use Rattle.wb_naming.specs.Declarations.{Items, PreferenceDeclaration, LexicalDeclaration, preferences, extensibles}
+use Rattle.wb_naming.specs.Declarations.{plain_items, plain_of, preference_of, extensible_of, lexicals, productions}
 use Rattle.wb_naming.specs.Declares.{declarations, base_declarations, item_declarations, form_declarations, plain_declaration, target_declaration}
-use Rattle.wb_naming.specs.Hold.{AreOwned}
 use Rattle.wb_numbering.specs.Files.{File}
 use Rattle.wb_numbering.specs.Given.{IsFile}
-use Rattle.wb_numbering.specs.Moved.{IsMovedNumber, IsMovedTerminalNumber, IsMovedNonterminalNumber}
+use Rattle.wb_numbering.specs.Moved.{IsMovedNumber, IsMovedTerminalNumber}
 use Rattle.wb_numbering.specs.Numbering.{Numbering, numbering_of, IsNumber}
 use Rattle.wb_numbering.specs.Resolves.{move_of, IsPreference, IsNonterminalNumber, IsTerminal, IsScanned, IsConcrete, IsProduction}
 use Rattle.wb_numbering.specs.Sources.{sources}
@@ -53,7 +49,7 @@ use Rattle.wb_numbering.proofs.RowLemmas.{row_of, there_declared}
 use Rattle.wb_numbering.proofs.RowsOwned.{plain_declares}
 use Rattle.wb_numbering.proofs.Selected.{bytes_same, kept_from}
 use Rattle.wb_numbering.proofs.TargetsOnce.{number_name}
-use Rattle.wb_numbering.proofs.Times.{is_same, times, times_append, times_once, one_place}
+use Rattle.wb_numbering.proofs.Times.{times, times_append, times_once, one_place}
 
 -- where a number is moved from
 from_one : (names others : List Entry) → NamesDiffer names → (k j to : ℕ) → IsMovedNumber (λ (o : ℕ). o) names others k to
@@ -139,11 +135,11 @@ at_source {A} {B} before declared i x at =
     let left : A → A ⊎ B = inl in
     let right : B → A ⊎ B = inr in
     elim (at_append (map left before) (map right declared) x i at) [
-      inl h ↦ let o = mapped_option left (slice_get before i) x (sym (slice_get-map left before i) ∙ h) in
+      | inl h ↦ let o = mapped_option left (slice_get before i) x (sym (slice_get-map left before i) ∙ h) in
           subst (IsAtSource before declared i) o.2 (old o.1)
-    | inr h ↦ let o = mapped_option right (slice_get declared h.0) x (sym (slice_get-map right declared h.0) ∙ h.2) in
-        let count : length (map left before) ≡ length before = length-map before left in
-        subst (IsAtSource before declared i) o.2 (new h.0 (h.1 ∙ ap (λ z. z + h.0) count) o.1)
+      | inr h ↦ let o = mapped_option right (slice_get declared h.0) x (sym (slice_get-map right declared h.0) ∙ h.2) in
+          let count : length (map left before) ≡ length before = length-map before left in
+          subst (IsAtSource before declared i) o.2 (new h.0 (h.1 ∙ ap (λ z. z + h.0) count) o.1)
     ]
 
 module _ (file : File) (r : ResolvedParts) (given : IsFile file) (k : Known file r) where
@@ -169,13 +165,13 @@ module _ (file : File) (r : ResolvedParts) (given : IsFile file) (k : Known file
       → is.other ≡ file.owner
   own_terminal_row y has t is =
       let h = row_of IsScanned (IsTerminal file n) (sources file.base.terminals (lexicals file.items)) r.terminals ground.resolves.terminals (inr y)
-          (there_declared file.base.terminals (lexicals file.items) y has) in
+      (there_declared file.base.terminals (lexicals file.items) y has) in
       let entry : slice_get n.terminals h.place ≡ Some (h.row.owner, y.name) =
-          name_at (λ (z : Terminal). (z.owner, z.name)) r.terminals h.place h.row h.at ∙ ap (λ (z : List ℕ). Some (h.row.owner, z)) h.is_row.name in
+      name_at (λ (z : Terminal). (z.owner, z.name)) r.terminals h.place h.row h.at ∙ ap (λ (z : List ℕ). Some (h.row.owner, z)) h.is_row.name in
       let number : IsNumber n.terminals file.owner y.name h.place = record { other = h.row.owner; is = entry; seen = inr h.is_row.owner_is } in
       let same = one_number n.terminals (terminals_differ n ground.distinct) file.owner y.name h.place t number is in
       let both = at_once n.terminals t (h.row.owner, y.name) (is.other, y.name)
-          (subst (λ z. slice_get n.terminals z ≡ Some (h.row.owner, y.name)) same entry) is.is in
+      (subst (λ z. slice_get n.terminals z ≡ Some (h.row.owner, y.name)) same entry) is.is in
       sym (ap (λ (e : Entry). e.0) both) ∙ h.is_row.owner_is
 
   own_symbol : (name : List ℕ) (of : Sort) → IsOwnDeclared file.items (d.Symbol name of) → (t : ℕ)
@@ -183,14 +179,14 @@ module _ (file : File) (r : ResolvedParts) (given : IsFile file) (k : Known file
   own_symbol name of (own.lexical y has e) t is =
       let same : name ≡ y.name = cc in
       let moved : IsNumber n.terminals file.owner y.name t =
-          record { other = is.other; is = is.is ∙ ap (λ (z : List ℕ). Some (is.other, z)) same; seen = is.seen } in
+      record { other = is.other; is = is.is ∙ ap (λ (z : List ℕ). Some (is.other, z)) same; seen = is.seen } in
       own_terminal_row y has t moved
   own_symbol name of (own.plain y has e) t is = from y has e where
     from : (y : PlainForm) → Contains (plain_items file.items) y → plain_declaration y ≡ d.Symbol name of → is.other ≡ file.owner
     from (i.Nonterminal one) has e =
         let same : one ≡ name = cc in
         let f = nonterminal_found file r ground one (append_contains_right (base_declarations file.base) (item_declarations file.items)
-            (d.Symbol one sort.Nonterminal) (plain_declares file.items (i.Nonterminal one) has)) in
+        (d.Symbol one sort.Nonterminal) (plain_declares file.items (i.Nonterminal one) has)) in
         absurd (not_both n ground.distinct file.owner name t f.number is (subst (λ z. IsNumber n.nonterminals file.owner z f.number) same f.is))
     from (i.Prefer first second) has e = absurd (cc e)
     from (i.Start one) has e = absurd (cc e)
@@ -203,7 +199,7 @@ module _ (file : File) (r : ResolvedParts) (given : IsFile file) (k : Known file
       let same : y.production.name ≡ name = cc in
       let b = file.base.attributes in
       let h = row_of IsConcrete (IsProduction file n) (sources b.productions (productions file.items)) r.attributes.productions
-          ground.resolves.productions (inr y) (there_declared b.productions (productions file.items) y has) in
+      ground.resolves.productions (inr y) (there_declared b.productions (productions file.items) y has) in
       let number : IsNumber (n.nonterminals ++ n.productions) file.owner name (length n.nonterminals + h.place) = record {
         other = h.row.owner;
         is = append_after n.nonterminals n.productions h.place
@@ -259,11 +255,11 @@ module _ (file : File) (r : ResolvedParts) (given : IsFile file) (k : Known file
   apart (suc o) is p at there y has row e f =
       let owned = (k.hold.owned (λ z. not_zero (sym z ∙ is))).preferences y.first y.second (preference_own y has) in
       elim owned [
-        inl h ↦ not_own o is p.first row.first e.first y.first f.first h.0 h.1
-      | inr h ↦ not_own o is p.second row.second e.second y.second f.second h.0 h.1
+        | inl h ↦ not_own o is p.first row.first e.first y.first f.first h.0 h.1
+        | inr h ↦ not_own o is p.second row.second e.second y.second f.second h.0 h.1
       ] where
-    not_zero : 0 ≡ suc o → ⊥
-    not_zero z = absurd (omega (arith, z))
+        not_zero : 0 ≡ suc o → ⊥
+        not_zero z = absurd (omega (arith, z))
 
   pub preferences_differ : Differ r.preferences
   preferences_differ p i j at_i at_j =
@@ -272,31 +268,31 @@ module _ (file : File) (r : ResolvedParts) (given : IsFile file) (k : Known file
       let v = beside (IsPreference file n) xs r.preferences j p ground.resolves.preferences at_j in
       by_source u.other v.other (at_source file.base.preferences (preferences file.items) i u.other u.at)
       (at_source file.base.preferences (preferences file.items) j v.other v.at) u.related v.related where
-    by_source : (u v : Preference ⊎ PreferenceDeclaration) → IsAtSource file.base.preferences (preferences file.items) i u
-        → IsAtSource file.base.preferences (preferences file.items) j v → IsPreference file n u p → IsPreference file n v p → i ≡ j
-    by_source u v (old {x = q} a) (old {x = s} c) e f =
-        let first = from_one (numbering_of file.base).terminals n.terminals base_terminals_differ q.first s.first p.first e.first f.first in
-        let second = from_one (numbering_of file.base).terminals n.terminals base_terminals_differ q.second s.second p.second e.second f.second in
-        ground.base.once.preferences s i j (a ∙ ap Some (same_preference q s first second)) c
-    by_source u v (old {x = q} a) (new {x = s} b same c) e f =
-        absurd (apart file.owner refl q i a s (contains_at (preferences file.items) s b c) p e f)
-    by_source u v (new {x = s} b same c) (old {x = q} a) e f =
-        absurd (apart file.owner refl q j a s (contains_at (preferences file.items) s b c) p f e)
-    by_source u v (new {x = q} b same a) (new {x = s} c same_too e_at) e f =
-        let first = number_name n.terminals file.owner q.first s.first p.first e.first f.first in
-        let second = number_name n.terminals file.owner q.second s.second p.second e.second f.second in
-        let z = d.Preference q.first q.second in
-        let items = preferences_count q.first q.second file.items in
-        let both = times_append z (base_declarations file.base) (item_declarations file.items) in
-        let few = times_once z (declarations file.base file.items) k.hold.once in
-        let one : times z (map mark_of (preferences file.items)) ≤ 1 = omega (arith, items, both, few) in
-        let place = one_place z (map mark_of (preferences file.items)) one b c (mark_of q) (mark_of s)
+        by_source : (u v : Preference ⊎ PreferenceDeclaration) → IsAtSource file.base.preferences (preferences file.items) i u
+            → IsAtSource file.base.preferences (preferences file.items) j v → IsPreference file n u p → IsPreference file n v p → i ≡ j
+        by_source u v (old {x = q} a) (old {x = s} c) e f =
+            let first = from_one (numbering_of file.base).terminals n.terminals base_terminals_differ q.first s.first p.first e.first f.first in
+            let second = from_one (numbering_of file.base).terminals n.terminals base_terminals_differ q.second s.second p.second e.second f.second in
+            ground.base.once.preferences s i j (a ∙ ap Some (same_preference q s first second)) c
+        by_source u v (old {x = q} a) (new {x = s} b same c) e f =
+            absurd (apart file.owner refl q i a s (contains_at (preferences file.items) s b c) p e f)
+        by_source u v (new {x = s} b same c) (old {x = q} a) e f =
+            absurd (apart file.owner refl q j a s (contains_at (preferences file.items) s b c) p f e)
+        by_source u v (new {x = q} b same a) (new {x = s} c same_too e_at) e f =
+            let first = number_name n.terminals file.owner q.first s.first p.first e.first f.first in
+            let second = number_name n.terminals file.owner q.second s.second p.second e.second f.second in
+            let z = d.Preference q.first q.second in
+            let items = preferences_count q.first q.second file.items in
+            let both = times_append z (base_declarations file.base) (item_declarations file.items) in
+            let few = times_once z (declarations file.base file.items) k.hold.once in
+            let one : times z (map mark_of (preferences file.items)) ≤ 1 = omega (arith, items, both, few) in
+            let place = one_place z (map mark_of (preferences file.items)) one b c (mark_of q) (mark_of s)
             (slice_get-map mark_of (preferences file.items) b ∙ ap (option_map mark_of) a)
             (slice_get-map mark_of (preferences file.items) c ∙ ap (option_map mark_of) e_at)
             (and_both (bytes_eq q.first q.first) (bytes_eq q.second q.second) (bytes_same q.first q.first refl) (bytes_same q.second q.second refl))
             (and_both (bytes_eq q.first s.first) (bytes_eq q.second s.second) (bytes_same q.first s.first first)
             (bytes_same q.second s.second second)) in
-        omega (arith, same, same_too, place)
+            omega (arith, same, same_too, place)
 
   -- extensible nonterminals
   extensible_own : (name : List ℕ) → Contains (extensibles file.items) name → Contains (item_declarations file.items) (d.Extensible name)
@@ -327,24 +323,24 @@ module _ (file : File) (r : ResolvedParts) (given : IsFile file) (k : Known file
       let v = beside (IsNonterminalNumber file n) xs r.extensible j p ground.resolves.extensible at_j in
       by_source u.other v.other (at_source file.base.extensible (extensibles file.items) i u.other u.at)
       (at_source file.base.extensible (extensibles file.items) j v.other v.at) u.related v.related where
-    by_source : (u v : ℕ ⊎ List ℕ) → IsAtSource file.base.extensible (extensibles file.items) i u
-        → IsAtSource file.base.extensible (extensibles file.items) j v → IsNonterminalNumber file n u p → IsNonterminalNumber file n v p → i ≡ j
-    by_source u v (old {x = q} a) (old {x = s} c) e f =
-        let same = from_one (numbering_of file.base).nonterminals n.nonterminals base_nonterminals_differ q s p e f in
-        ground.base.once.extensible s i j (a ∙ ap Some same) c
-    by_source u v (old {x = q} a) (new {x = s} b same c) e f =
-        absurd (extensible_apart file.owner refl q i a s (contains_at (extensibles file.items) s b c))
-    by_source u v (new {x = s} b same c) (old {x = q} a) e f =
-        absurd (extensible_apart file.owner refl q j a s (contains_at (extensibles file.items) s b c))
-    by_source u v (new {x = q} b same a) (new {x = s} c same_too e_at) e f =
-        let named = number_name n.nonterminals file.owner q s p e f in
-        let z = d.Extensible q in
-        let items = extensibles_count q file.items in
-        let both = times_append z (base_declarations file.base) (item_declarations file.items) in
-        let few = times_once z (declarations file.base file.items) k.hold.once in
-        let one : times z (map d.Extensible (extensibles file.items)) ≤ 1 = omega (arith, items, both, few) in
-        let place = one_place z (map d.Extensible (extensibles file.items)) one b c (d.Extensible q) (d.Extensible s)
+        by_source : (u v : ℕ ⊎ List ℕ) → IsAtSource file.base.extensible (extensibles file.items) i u
+            → IsAtSource file.base.extensible (extensibles file.items) j v → IsNonterminalNumber file n u p → IsNonterminalNumber file n v p → i ≡ j
+        by_source u v (old {x = q} a) (old {x = s} c) e f =
+            let same = from_one (numbering_of file.base).nonterminals n.nonterminals base_nonterminals_differ q s p e f in
+            ground.base.once.extensible s i j (a ∙ ap Some same) c
+        by_source u v (old {x = q} a) (new {x = s} b same c) e f =
+            absurd (extensible_apart file.owner refl q i a s (contains_at (extensibles file.items) s b c))
+        by_source u v (new {x = s} b same c) (old {x = q} a) e f =
+            absurd (extensible_apart file.owner refl q j a s (contains_at (extensibles file.items) s b c))
+        by_source u v (new {x = q} b same a) (new {x = s} c same_too e_at) e f =
+            let named = number_name n.nonterminals file.owner q s p e f in
+            let z = d.Extensible q in
+            let items = extensibles_count q file.items in
+            let both = times_append z (base_declarations file.base) (item_declarations file.items) in
+            let few = times_once z (declarations file.base file.items) k.hold.once in
+            let one : times z (map d.Extensible (extensibles file.items)) ≤ 1 = omega (arith, items, both, few) in
+            let place = one_place z (map d.Extensible (extensibles file.items)) one b c (d.Extensible q) (d.Extensible s)
             (slice_get-map d.Extensible (extensibles file.items) b ∙ ap (option_map d.Extensible) a)
             (slice_get-map d.Extensible (extensibles file.items) c ∙ ap (option_map d.Extensible) e_at) (bytes_same q q refl)
             (bytes_same q s named) in
-        omega (arith, same, same_too, place)
+            omega (arith, same, same_too, place)

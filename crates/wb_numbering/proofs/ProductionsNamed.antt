@@ -1,14 +1,11 @@
 -- The productions of a value are named, where the names of its file are right.
-use Rattle.std.proofs.Common.{◌≡◌, ◌≢◌, ◌≤◌, ◌++◌, ◌∷◌, ◌⊎◌, inl, inr, [], ℕ, Bool, List, Option, Some, None, Contains, All, map, slice_get, ap, length}
+use Rattle.std.proofs.Common.{◌≡◌, ◌≤◌, ◌∷◌, ◌⊎◌, inl, inr, [], ℕ, Bool, List, Option, Some, None, Contains, All, map, slice_get, length}
 use Rattle.std.proofs.Common.{sym, refl, subst, ◌∙◌, arith}
-use Rattle.std.specs.Prelude.{IsSome, IfSome, option_to_list, option_map, flat_map, filter}
+use Rattle.std.specs.Prelude.{IfSome, option_to_list, flat_map, filter}
 use Rattle.std.specs.List.{AllZip}
-use Rattle.std.proofs.lemmas.List.Elements.{All-nil, All-head, All-tail}
-use Rattle.wb_lemmas.proofs.Elements.{all_contained, all_at, all_from_places}
-use Rattle.wb_lemmas.proofs.Members.{contains_at, contains_first, contains_later, place_of, append_contains_left, nothing_in}
-use Rattle.wb_base.specs.declared.symbol.Kind.{Kind}
-use Rattle.wb_base.specs.declared.symbol.Kind.TheVariants as kind
-use Rattle.wb_base.specs.Different.{Differ}
+use Rattle.std.proofs.lemmas.List.Elements.{All-head}
+use Rattle.wb_lemmas.proofs.Elements.{all_contained}
+use Rattle.wb_lemmas.proofs.Members.{contains_first, contains_later, place_of, append_contains_left, nothing_in}
 use Rattle.wb_base.specs.Identifiers.{IsName}
 use Rattle.wb_resolved.specs.declared.attribution.AttributionParts.{AttributionParts}
 use Rattle.wb_resolved.specs.declared.equation.Equation.{Equation}
@@ -18,10 +15,8 @@ use Rattle.wb_resolved.specs.declared.production.ChildKind.TheVariants as child
 use Rattle.wb_resolved.specs.declared.production.Forward.{Forward}
 use Rattle.wb_resolved.specs.declared.production.Local.{Local}
 use Rattle.wb_resolved.specs.declared.production.Production.{Production}
-use Rattle.wb_resolved.specs.declared.production.ProductionRole as resolved_role
-use Rattle.wb_resolved.specs.declared.production.ProductionRole.TheVariants as role
 use Rattle.wb_resolved.specs.declared.resolved.ResolvedParts.{ResolvedParts}
-use Rattle.wb_resolved.specs.Named.{IsNamed, IsNamedNonterminal, IsNamedAttribute, IsNamedOccurrence, IsNamedProduction, IsNamedLocal}
+use Rattle.wb_resolved.specs.Named.{IsNamedProduction, IsNamedLocal}
 use Rattle.wb_resolved.specs.Named.{IsNamedEquation, IsNamedExpression, IsNamedChild, IsChildKindOf, IsNamedTarget}
 use Rattle.wb_resolved.specs.Once.{NamesDiffer, labels_of, IsOnceIn}
 use Rattle.wb_resolved.specs.Owners.{Sees, IsOwner}
@@ -41,20 +36,18 @@ use Rattle.wb_syntax.specs.declared.production.ProductionRole.TheVariants as w
 use Rattle.wb_syntax.specs.Names.{EquationHasNames, target_names, child_names}
 use Rattle.wb_naming.specs.declared.declaration.Declaration.TheVariants as d
 use Rattle.wb_naming.specs.declared.declaration.Sort.TheVariants as sort
-use Rattle.wb_naming.specs.declared.usage.Usage.{Usage}
 use Rattle.wb_naming.specs.declared.usage.Usage.TheVariants as u
-use Rattle.wb_naming.specs.declared.usage.Wanted.{Wanted}
 use Rattle.wb_naming.specs.declared.usage.Wanted.TheVariants as wanted
-use Rattle.wb_naming.specs.Declarations.{Items, ProductionDeclaration, productions, production_of, nonterminals, attributes, occurrences}
+use Rattle.wb_naming.specs.Declarations.{Items, ProductionDeclaration, productions, production_of}
 use Rattle.wb_naming.specs.Declares.{declarations}
-use Rattle.wb_naming.specs.Hold.{NamesHold, SymbolFor, AreMeant, AreOnce}
+use Rattle.wb_naming.specs.Hold.{NamesHold, SymbolFor, AreOnce}
 use Rattle.wb_naming.specs.NamesOk.{scope_of}
 use Rattle.wb_naming.specs.Uses.{uses, kind_uses, child_wanted, equation_uses}
 use Rattle.wb_naming.specs.WrongKind.{misplaced, form_misplaced, misplaced_child}
 use Rattle.wb_numbering.specs.Files.{File, equations_on}
 use Rattle.wb_numbering.specs.Moved.{IsMovedChild, IsMovedForward, IsMovedLocal, IsMovedEquation}
 use Rattle.wb_numbering.specs.Numbering.{Numbering, numbering_of, IsNumber, labels_in}
-use Rattle.wb_numbering.specs.Resolves.{Resolves, move_of, IsProduction, IsConcrete}
+use Rattle.wb_numbering.specs.Resolves.{move_of, IsProduction, IsConcrete}
 use Rattle.wb_numbering.specs.Rows.{IsProductionRow, IsExtendedProduction, production_role}
 use Rattle.wb_numbering.specs.Sources.{sources, IsFrom}
 use Rattle.wb_numbering.specs.Written.{IsWrittenChild, IsWrittenChildKind, IsWrittenLocal, IsWrittenLocalTarget, IsWrittenEquation}
@@ -73,7 +66,7 @@ use Rattle.wb_numbering.proofs.NumberLemmas.{differ_right}
 use Rattle.wb_numbering.proofs.OneProduction.{labels_differ}
 use Rattle.wb_numbering.proofs.OneRow.{LabelsDiffer, not_both}
 use Rattle.wb_numbering.proofs.OwnNamed.{Known, own_expression, own_equation_target}
-use Rattle.wb_numbering.proofs.RowLemmas.{all_rows, all_zipped, source_of, source_before, source_declared}
+use Rattle.wb_numbering.proofs.RowLemmas.{all_rows, all_zipped, source_before, source_declared}
 use Rattle.wb_numbering.proofs.RowsNamed.{IsOwners, is_owner, is_host, own_kind}
 use Rattle.wb_numbering.proofs.Selected.{kept_from, contains_filter, block_of_equation}
 use Rattle.wb_numbering.proofs.TargetsOnce.{own_targets, base_targets}
@@ -85,7 +78,7 @@ child_used : (items : Items) (x : ProductionDeclaration) (c : named.Child) (name
 child_used items x c name has inside e =
     let it = u.Name name (child_wanted x.role) in
     let one : Contains (kind_uses (child_wanted x.role) c.kind) it =
-        subst (λ z. Contains (kind_uses (child_wanted x.role) z) it) (sym e) (contains_first it []) in
+    subst (λ z. Contains (kind_uses (child_wanted x.role) z) it) (sym e) (contains_first it []) in
     production_used items x has it (contains_later (u.Name x.production.left wanted.Nonterminal) it _
     (append_contains_left (flat_map (λ (c : named.Child). kind_uses (child_wanted x.role) c.kind) x.production.children)
     (flat_map (equation_uses x.production.name) x.production.equations) it
@@ -95,22 +88,23 @@ child_used items x c name has inside e =
 pub children_scanned : (file : File) → NamesHold (scope_of file.base file.owner file.items) → ChildrenScanned file
 children_scanned file hold x c name number has inside e r ground is =
     from x.role (child_used file.items x c name has inside e) where
-  neither : (k : ℕ) → IsNumber (numbering_of r).nonterminals file.owner name k → ⊥
-  neither k other = not_both (numbering_of r) ground.distinct file.owner name number k is other
-  from : (role : written_role.ProductionRole) → Contains (uses file.items) (u.Name name (child_wanted role)) → IsScannedName file name
-  from w.Concrete used = symbol (hold.meant.names name wanted.GrammarSymbol used) where
-    symbol : SymbolFor (declarations file.base file.items) wanted.GrammarSymbol name → IsScannedName file name
-    symbol s = by_sort s.suits where
-      by_sort : (s.is ≡ sort.Terminal) ⊎ (s.is ≡ sort.Marker) ⊎ (s.is ≡ sort.Nonterminal) → IsScannedName file name
-      by_sort (inl terminal) = inl (subst (λ z. Contains (declarations file.base file.items) (d.Symbol name z)) terminal s.there)
-      by_sort (inr (inl marker)) = inr (subst (λ z. Contains (declarations file.base file.items) (d.Symbol name z)) marker s.there)
-      by_sort (inr (inr other)) =
-          let f = nonterminal_found file r ground name (subst (λ z. Contains (declarations file.base file.items) (d.Symbol name z)) other s.there) in
+      neither : (k : ℕ) → IsNumber (numbering_of r).nonterminals file.owner name k → ⊥
+      neither k other = not_both (numbering_of r) ground.distinct file.owner name number k is other
+
+      from : (role : written_role.ProductionRole) → Contains (uses file.items) (u.Name name (child_wanted role)) → IsScannedName file name
+      from w.Concrete used = symbol (hold.meant.names name wanted.GrammarSymbol used) where
+        symbol : SymbolFor (declarations file.base file.items) wanted.GrammarSymbol name → IsScannedName file name
+        symbol s = by_sort s.suits where
+          by_sort : (s.is ≡ sort.Terminal) ⊎ (s.is ≡ sort.Marker) ⊎ (s.is ≡ sort.Nonterminal) → IsScannedName file name
+          by_sort (inl terminal) = inl (subst (λ z. Contains (declarations file.base file.items) (d.Symbol name z)) terminal s.there)
+          by_sort (inr (inl marker)) = inr (subst (λ z. Contains (declarations file.base file.items) (d.Symbol name z)) marker s.there)
+          by_sort (inr (inr other)) =
+              let f = nonterminal_found file r ground name (subst (λ z. Contains (declarations file.base file.items) (d.Symbol name z)) other s.there) in
+              absurd (neither f.number f.is)
+      from w.Abstract used =
+          let s = hold.meant.names name wanted.Nonterminal used in
+          let f = nonterminal_found file r ground name (subst (λ z. Contains (declarations file.base file.items) (d.Symbol name z)) s.suits s.there) in
           absurd (neither f.number f.is)
-  from w.Abstract used =
-      let s = hold.meant.names name wanted.Nonterminal used in
-      let f = nonterminal_found file r ground name (subst (λ z. Contains (declarations file.base file.items) (d.Symbol name z)) s.suits s.there) in
-      absurd (neither f.number f.is)
 
 module _ (file : File) (r : ResolvedParts) (known : Known file r) (owners : IsOwners file) where
   abbrev n : Numbering
@@ -276,24 +270,24 @@ module _ (file : File) (r : ResolvedParts) (known : Known file r) (owners : IsOw
       plain_child s c listed {from} q plain =
           let it = kept_from (λ (y : Item Pattern). production_of y.form) file.items x inside in
           let one : Contains (misplaced_child x.role c.label c.kind) c.label =
-              subst (λ z. Contains (misplaced_child z c.label c.kind) c.label) (sym s)
-              (subst (λ z. Contains (misplaced_child w.Concrete c.label z) c.label) (sym q) plain) in
+          subst (λ z. Contains (misplaced_child z c.label c.kind) c.label) (sym s)
+          (subst (λ z. Contains (misplaced_child w.Concrete c.label z) c.label) (sym q) plain) in
           let two : Contains (flat_map (λ (y : named.Child). misplaced_child x.role y.label y.kind) x.production.children) c.label =
-              flat_map_contains (λ (y : named.Child). misplaced_child x.role y.label y.kind) x.production.children c c.label listed one in
+          flat_map_contains (λ (y : named.Child). misplaced_child x.role y.label y.kind) x.production.children c c.label listed one in
           let three : Contains (form_misplaced file.owner it.0.form) c.label = in_form it.0.form it.2 c.label two in
           let four : Contains (misplaced file.owner file.items) c.label =
-              flat_map_contains (λ (y : Item Pattern). form_misplaced file.owner y.form) file.items it.0 c.label it.1 three in
+          flat_map_contains (λ (y : Item Pattern). form_misplaced file.owner y.form) file.items it.0 c.label it.1 three in
           nothing_in c.label (subst (λ z. Contains z c.label) known.hold.placed four) where
-        in_form : (form : ItemForm Pattern) → production_of form ≡ Some x → (l : List ℕ)
-            → Contains (flat_map (λ (y : named.Child). misplaced_child x.role y.label y.kind) x.production.children) l
-            → Contains (form_misplaced file.owner form) l
-        in_form (f.Lexical kind name pattern) o l has = absurd (cc o)
-        in_form (f.Plain plain) o l has = absurd (cc o)
-        in_form (f.Aspect name es) o l has = absurd (cc o)
-        in_form (f.Production kind q) o l has =
-            let same : record { role = kind; production = q } ≡ x = cc in
-            subst (λ (z : ProductionDeclaration). Contains (flat_map (λ (y : named.Child). misplaced_child z.role y.label y.kind) z.production.children) l)
-            (sym same) has
+            in_form : (form : ItemForm Pattern) → production_of form ≡ Some x → (l : List ℕ)
+                → Contains (flat_map (λ (y : named.Child). misplaced_child x.role y.label y.kind) x.production.children) l
+                → Contains (form_misplaced file.owner form) l
+            in_form (f.Lexical kind name pattern) o l has = absurd (cc o)
+            in_form (f.Plain plain) o l has = absurd (cc o)
+            in_form (f.Aspect name es) o l has = absurd (cc o)
+            in_form (f.Production kind q) o l has =
+                let same : record { role = kind; production = q } ≡ x = cc in
+                subst (λ (z : ProductionDeclaration). Contains (flat_map (λ (y : named.Child). misplaced_child z.role y.label y.kind) z.production.children) l)
+                (sym same) has
 
       abstract_terminal : x.role ≡ w.Abstract → (c : named.Child) → Contains x.production.children c → (from : NamedKind) → c.kind ≡ from
           → (number : ℕ) → IsWrittenChildKind n file.owner from (child.Terminal number) → ⊥
@@ -304,7 +298,7 @@ module _ (file : File) (r : ResolvedParts) (known : Known file r) (owners : IsOw
           let used = subst (λ z. Contains (uses file.items) (u.Name name (child_wanted z))) s (child_used file.items x c name inside listed q) in
           let meant = known.hold.meant.names name wanted.Nonterminal used in
           let found = nonterminal_found file r ground name
-              (subst (λ z. Contains (declarations file.base file.items) (d.Symbol name z)) meant.suits meant.there) in
+          (subst (λ z. Contains (declarations file.base file.items) (d.Symbol name z)) meant.suits meant.there) in
           not_both n ground.distinct file.owner name number found.number t found.is
 
       child_kind : (role : written_role.ProductionRole) → x.role ≡ role → (c : named.Child) → Contains x.production.children c
@@ -322,7 +316,7 @@ module _ (file : File) (r : ResolvedParts) (known : Known file r) (owners : IsOw
       named_child : (c : named.Child) (to : Child) → Contains x.production.children c → IsWrittenChild n file.owner c to → IsNamedChild a row to
       named_child c to listed t =
           let names = all_contained (λ (c : named.Child). All IsName (child_names c)) x.production.children c
-              (production_names file.items known.names x inside).children listed in
+          (production_names file.items known.names x inside).children listed in
           record {
             label = subst IsName (sym t.label) (all_contained IsName (child_names c) c.label names (contains_first c.label _));
             is_kind = subst (λ o. IsChildKindOf a o row.role to.kind) (sym e.owner_is)
@@ -336,11 +330,11 @@ module _ (file : File) (r : ResolvedParts) (known : Known file r) (owners : IsOw
       forward_named (Some y) all = subst (λ o. IsNamedExpression a row o y.nodes) (sym e.owner_is)
           (first (forward_equations (equations_on x.production.name file.items)) all
           (λ q has. kept_on x.production.name e.name (λ (z : written.Equation). makes_forward z.target) q has)) where
-        first : (qs : List written.Equation) → AllZip (IsWrittenForward n file.owner (labels_in row)) qs (y ∷ [])
-            → ((q : written.Equation) → Contains qs q → Contains (equations_on row.name file.items) q)
-            → IsNamedExpression a row file.owner y.nodes
-        first [] all on = absurd all
-        first (q ∷ qs) all on = own_forward q y (on q (contains_first q qs)) all.0
+            first : (qs : List written.Equation) → AllZip (IsWrittenForward n file.owner (labels_in row)) qs (y ∷ [])
+                → ((q : written.Equation) → Contains qs q → Contains (equations_on row.name file.items) q)
+                → IsNamedExpression a row file.owner y.nodes
+            first [] all on = absurd all
+            first (q ∷ qs) all on = own_forward q y (on q (contains_first q qs)) all.0
 
       named_own : IsNamedProduction a row
       named_own =

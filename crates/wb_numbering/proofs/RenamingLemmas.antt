@@ -1,12 +1,11 @@
 -- Renamed nodes: one for each node, and those of a whole expression are one.
 use Rattle.std.proofs.Common.{◌≡◌, ◌+◌, ◌-◌, ◌++◌, ◌∷◌, [], ℕ, suc, List, length, take, drop, ap, sym, refl, subst, ◌∙◌, arith}
-use Rattle.std.specs.List.{AllZip}
 use Rattle.std.proofs.lemmas.List.{take-append-drop}
-use Rattle.wb_lemmas.proofs.Zips.{zip_take, zip_drop, one_zip}
+use Rattle.wb_lemmas.proofs.Zips.{zip_take, zip_drop}
 use Rattle.wb_expressions.specs.declared.node.Node.{Node}
 use Rattle.wb_expressions.specs.declared.node.Node.TheVariants as n
 use Rattle.wb_expressions.specs.Expression.{Expression, Expressions, Int, Text, Truth, Label, Read, Lexeme, Top, Forward, Build, Call, If}
-use Rattle.wb_expressions.specs.Expression.{none, more, size, size_of_all, nodes_from, all_nodes_from, places_from, nodes_of, IsWhole}
+use Rattle.wb_expressions.specs.Expression.{none, more, size, size_of_all, nodes_from, all_nodes_from, places_from, IsWhole}
 use Rattle.wb_numbering.specs.Renaming.{IsRenamedNode, AreRenamedNodes}
 
 module _ {L M A B P Q O : Type 0} (R : L → M → Type 0) (S : A → B → Type 0) (T : P → Q → Type 0) where
@@ -59,8 +58,8 @@ module _ {L M A B P Q O : Type 0} (R : L → M → Type 0) (S : A → B → Type
       → w ≡ n.If (at + size c - 1) (at + size c + size h - 1) (at + size c + size h + size g - 1) ∷ [] → From at (If c h g) others
   joined at c h g others one two {x} {y} {z} {w} a b d first second third last =
       let sizes : (at + size a.to ≡ at + size c) × (at + size a.to + size b.to ≡ at + size c + size h)
-          × (at + size a.to + size b.to + size d.to ≡ at + size c + size h + size g) =
-          (ap (λ k. at + k) a.same, omega (arith, a.same, b.same), omega (arith, a.same, b.same, d.same)) in
+      × (at + size a.to + size b.to + size d.to ≡ at + size c + size h + size g) =
+      (ap (λ k. at + k) a.same, omega (arith, a.same, b.same), omega (arith, a.same, b.same, d.same)) in
       record {
         to = If a.to b.to d.to;
         is = third ∙ (ap (λ k. k ++ w) (second ∙ ap (λ k. k ++ z) (first ∙ (ap (λ k. k ++ y) a.is ∙ ap (λ k. nodes_from at a.to ++ k)

@@ -1,5 +1,5 @@
 -- Which row is of which element, in lists of rows.
-use Rattle.std.proofs.Common.{◌≡◌, ◌++◌, ◌∷◌, ◌⊎◌, inl, inr, [], ℕ, List, Some, All, Contains, map, slice_get, ap, sym, refl, subst, ◌∙◌}
+use Rattle.std.proofs.Common.{◌≡◌, ◌++◌, ◌∷◌, ◌⊎◌, inl, inr, [], ℕ, List, Some, All, Contains, map, slice_get, subst}
 use Rattle.std.specs.List.{AllZip}
 use Rattle.wb_lemmas.proofs.Members.{contains_at, place_of, contains_cases, contains_first, contains_later, contains_append, nothing_in}
 use Rattle.wb_lemmas.proofs.Members.{append_contains_left, append_contains_right}
@@ -12,16 +12,16 @@ pub contains_map : {X Y : Type 0} (f : X → Y) (xs : List X) (y : Y) → Contai
 contains_map f [] y has = absurd (nothing_in y has)
 contains_map f (z ∷ xs) y has =
     elim (contains_cases (f z) y (map f xs) has) [
-      inl is ↦ (z, contains_first z xs, is)
-    | inr more ↦ let r = contains_map f xs y more in (r.0, contains_later z r.0 xs r.1, r.2)
+      | inl is ↦ (z, contains_first z xs, is)
+      | inr more ↦ let r = contains_map f xs y more in (r.0, contains_later z r.0 xs r.1, r.2)
     ]
 
 pub map_contains : {X Y : Type 0} (f : X → Y) (xs : List X) (x : X) → Contains xs x → Contains (map f xs) (f x)
 map_contains f [] x has = absurd (nothing_in x has)
 map_contains f (z ∷ xs) x has =
     elim (contains_cases z x xs has) [
-      inl is ↦ subst (λ k. Contains (map f (z ∷ xs)) (f k)) is (contains_first (f z) (map f xs))
-    | inr more ↦ contains_later (f z) (f x) (map f xs) (map_contains f xs x more)
+      | inl is ↦ subst (λ k. Contains (map f (z ∷ xs)) (f k)) is (contains_first (f z) (map f xs))
+      | inr more ↦ contains_later (f z) (f x) (map f xs) (map_contains f xs x more)
     ]
 
 -- the elements of both parts are those of the whole
@@ -29,33 +29,33 @@ pub split_contains : {X : Type 0} (P : X → Type 0) (xs a b : List X) → Split
 split_contains P xs a b nothing x has = has
 split_contains P xs a b (leads {x = y} {xs = ys} {leading = c} p s) x has =
     from (contains_cases y x ys has) (split_contains P ys c b s x) where
-  from : (y ≡ x) ⊎ Contains ys x → (Contains ys x → Contains (c ++ b) x) → Contains ((y ∷ c) ++ b) x
-  from (inl is) rest = subst (Contains ((y ∷ c) ++ b)) is (contains_first y (c ++ b))
-  from (inr more) rest = contains_later y x (c ++ b) (rest more)
+      from : (y ≡ x) ⊎ Contains ys x → (Contains ys x → Contains (c ++ b) x) → Contains ((y ∷ c) ++ b) x
+      from (inl is) rest = subst (Contains ((y ∷ c) ++ b)) is (contains_first y (c ++ b))
+      from (inr more) rest = contains_later y x (c ++ b) (rest more)
 split_contains P xs a b (follows {x = y} {xs = ys} {following = d} p s) x has =
     from (contains_cases y x ys has) (split_contains P ys a d s x) where
-  from : (y ≡ x) ⊎ Contains ys x → (Contains ys x → Contains (a ++ d) x) → Contains (a ++ y ∷ d) x
-  from (inl is) rest = append_contains_right a (y ∷ d) x (subst (Contains (y ∷ d)) is (contains_first y d))
-  from (inr more) rest = by_part (contains_append a d x (rest more)) where
-    by_part : Contains a x ⊎ Contains d x → Contains (a ++ y ∷ d) x
-    by_part (inl left) = append_contains_left a (y ∷ d) x left
-    by_part (inr right) = append_contains_right a (y ∷ d) x (contains_later y x d right)
+      from : (y ≡ x) ⊎ Contains ys x → (Contains ys x → Contains (a ++ d) x) → Contains (a ++ y ∷ d) x
+      from (inl is) rest = append_contains_right a (y ∷ d) x (subst (Contains (y ∷ d)) is (contains_first y d))
+      from (inr more) rest = by_part (contains_append a d x (rest more)) where
+        by_part : Contains a x ⊎ Contains d x → Contains (a ++ y ∷ d) x
+        by_part (inl left) = append_contains_left a (y ∷ d) x left
+        by_part (inr right) = append_contains_right a (y ∷ d) x (contains_later y x d right)
 
 pub contains_split : {X : Type 0} (P : X → Type 0) (xs a b : List X) → Splits P xs a b → (x : X) → Contains (a ++ b) x → Contains xs x
 contains_split P xs a b nothing x has = has
 contains_split P xs a b (leads {x = y} {xs = ys} {leading = c} p s) x has =
     from (contains_cases y x (c ++ b) has) (contains_split P ys c b s x) where
-  from : (y ≡ x) ⊎ Contains (c ++ b) x → (Contains (c ++ b) x → Contains ys x) → Contains (y ∷ ys) x
-  from (inl is) rest = subst (Contains (y ∷ ys)) is (contains_first y ys)
-  from (inr more) rest = contains_later y x ys (rest more)
+      from : (y ≡ x) ⊎ Contains (c ++ b) x → (Contains (c ++ b) x → Contains ys x) → Contains (y ∷ ys) x
+      from (inl is) rest = subst (Contains (y ∷ ys)) is (contains_first y ys)
+      from (inr more) rest = contains_later y x ys (rest more)
 contains_split P xs a b (follows {x = y} {xs = ys} {following = d} p s) x has =
     from (contains_append a (y ∷ d) x has) (contains_split P ys a d s x) where
-  from : Contains a x ⊎ Contains (y ∷ d) x → (Contains (a ++ d) x → Contains ys x) → Contains (y ∷ ys) x
-  from (inl left) rest = contains_later y x ys (rest (append_contains_left a d x left))
-  from (inr right) rest = by_place (contains_cases y x d right) where
-    by_place : (y ≡ x) ⊎ Contains d x → Contains (y ∷ ys) x
-    by_place (inl is) = subst (Contains (y ∷ ys)) is (contains_first y ys)
-    by_place (inr more) = contains_later y x ys (rest (append_contains_right a d x more))
+      from : Contains a x ⊎ Contains (y ∷ d) x → (Contains (a ++ d) x → Contains ys x) → Contains (y ∷ ys) x
+      from (inl left) rest = contains_later y x ys (rest (append_contains_left a d x left))
+      from (inr right) rest = by_place (contains_cases y x d right) where
+        by_place : (y ≡ x) ⊎ Contains d x → Contains (y ∷ ys) x
+        by_place (inl is) = subst (Contains (y ∷ ys)) is (contains_first y ys)
+        by_place (inr more) = contains_later y x ys (rest (append_contains_right a d x more))
 
 -- the row of an element, and its place
 pub record RowOf {X Y : Type 0} (R : X → Y → Type 0) (rows : List Y) (x : X) : Type 0 where
@@ -118,11 +118,11 @@ source_before {A} {B} before declared x has =
     let left : A → A ⊎ B = inl in
     let right : B → A ⊎ B = inr in
     elim (contains_append (map left before) (map right declared) (left x) has) [
-      inl h ↦ let r = contains_map left before (left x) h in
+      | inl h ↦ let r = contains_map left before (left x) h in
           let e : left r.0 ≡ left x = r.2 in
           let same : r.0 ≡ x = cc in
           subst (Contains before) same r.1
-    | inr h ↦ let r = contains_map right declared (left x) h in
+      | inr h ↦ let r = contains_map right declared (left x) h in
           let e : right r.0 ≡ left x = r.2 in
           absurd (cc e)
     ]
@@ -133,10 +133,10 @@ source_declared {A} {B} before declared x has =
     let left : A → A ⊎ B = inl in
     let right : B → A ⊎ B = inr in
     elim (contains_append (map left before) (map right declared) (right x) has) [
-      inl h ↦ let r = contains_map left before (right x) h in
+      | inl h ↦ let r = contains_map left before (right x) h in
           let e : left r.0 ≡ right x = r.2 in
           absurd (cc e)
-    | inr h ↦ let r = contains_map right declared (right x) h in
+      | inr h ↦ let r = contains_map right declared (right x) h in
           let e : right r.0 ≡ right x = r.2 in
           let same : r.0 ≡ x = cc in
           subst (Contains declared) same r.1

@@ -1,74 +1,52 @@
 -- What a value has is named, where the names of its file are right.
-use Rattle.std.proofs.Common.{◌≡◌, ◌≢◌, ◌≤◌, ◌++◌, ◌∷◌, ◌⊎◌, inl, inr, [], ℕ, List, Option, Some, None, Contains, All, map, slice_get, ap, length}
+use Rattle.std.proofs.Common.{◌≡◌, ◌≤◌, ◌∷◌, ◌⊎◌, inl, inr, [], ℕ, List, Option, Some, None, Contains, All, slice_get, ap, length}
 use Rattle.std.proofs.Common.{sym, refl, subst, ◌∙◌, arith}
-use Rattle.std.specs.Prelude.{IsSome, IfSome, option_to_list, option_map, flat_map, filter}
+use Rattle.std.specs.Prelude.{flat_map, filter}
 use Rattle.std.specs.List.{AllZip}
 use Rattle.std.specs.Str.{bytes_eq}
-use Rattle.std.proofs.lemmas.List.Elements.{All-nil, All-head, All-tail}
-use Rattle.wb_lemmas.proofs.Elements.{all_contained, all_at, all_from_places}
-use Rattle.wb_lemmas.proofs.Members.{contains_at, contains_first, contains_later, place_of}
+use Rattle.std.proofs.lemmas.List.Elements.{All-nil, All-head}
+use Rattle.wb_lemmas.proofs.Elements.{all_contained}
+use Rattle.wb_lemmas.proofs.Members.{contains_first, contains_later, place_of}
 use Rattle.wb_base.specs.declared.symbol.Kind.{Kind}
-use Rattle.wb_base.specs.declared.symbol.Kind.TheVariants as kind
 use Rattle.wb_base.specs.Identifiers.{IsName}
 use Rattle.wb_resolved.specs.declared.attributes.Attribute.{Attribute}
-use Rattle.wb_resolved.specs.declared.attributes.Direction.{Direction}
 use Rattle.wb_resolved.specs.declared.attributes.Direction.TheVariants.{Synthesized, Inherited}
 use Rattle.wb_resolved.specs.declared.attributes.Nonterminal.{Nonterminal}
 use Rattle.wb_resolved.specs.declared.attributes.Occurrence.{Occurrence}
 use Rattle.wb_resolved.specs.declared.attribution.AttributionParts.{AttributionParts}
-use Rattle.wb_resolved.specs.declared.equation.Equation.{Equation}
-use Rattle.wb_resolved.specs.declared.production.Child.{Child}
-use Rattle.wb_resolved.specs.declared.production.ChildKind.{ChildKind}
-use Rattle.wb_resolved.specs.declared.production.ChildKind.TheVariants as child
-use Rattle.wb_resolved.specs.declared.production.Forward.{Forward}
-use Rattle.wb_resolved.specs.declared.production.Local.{Local}
-use Rattle.wb_resolved.specs.declared.production.Production.{Production}
-use Rattle.wb_resolved.specs.declared.production.ProductionRole as resolved_role
-use Rattle.wb_resolved.specs.declared.production.ProductionRole.TheVariants.{Concrete, Abstract}
 use Rattle.wb_resolved.specs.declared.resolved.ResolvedParts.{ResolvedParts}
-use Rattle.wb_resolved.specs.Named.{IsNamed, IsNamedNonterminal, IsNamedAttribute, IsNamedOccurrence, IsNamedProduction, IsNamedLocal}
-use Rattle.wb_resolved.specs.Named.{IsNamedEquation, IsNamedExpression, IsNamedChild, IsChildKindOf}
+use Rattle.wb_resolved.specs.Named.{IsNamedNonterminal, IsNamedAttribute, IsNamedOccurrence}
 use Rattle.wb_resolved.specs.Owners.{Sees, IsOwner}
 use Rattle.wb_resolved.specs.Visible.{SeesNonterminal, SeesAttribute, SeesOccurrence, SeesKind}
-use Rattle.wb_syntax.specs.declared.expression.Equation as written
-use Rattle.wb_syntax.specs.declared.expression.Target as is_for
-use Rattle.wb_syntax.specs.declared.expression.Target.TheVariants as g
 use Rattle.wb_syntax.specs.declared.item.PlainForm.{PlainForm}
 use Rattle.wb_syntax.specs.declared.item.PlainForm.TheVariants as i
-use Rattle.wb_syntax.specs.declared.production.Child as named
 use Rattle.wb_syntax.specs.declared.production.NamedKind.{NamedKind}
 use Rattle.wb_syntax.specs.declared.production.NamedKind.TheVariants as k
-use Rattle.wb_syntax.specs.Names.{EquationHasNames, target_names, child_names, needs_names, plain_names}
-use Rattle.wb_naming.specs.declared.declaration.Declaration.TheVariants as d
+use Rattle.wb_syntax.specs.Names.{needs_names, plain_names}
 use Rattle.wb_naming.specs.declared.usage.Usage.{Usage}
 use Rattle.wb_naming.specs.declared.usage.Usage.TheVariants as u
 use Rattle.wb_naming.specs.declared.usage.Wanted.TheVariants as w
-use Rattle.wb_naming.specs.Declarations.{Items, AttributeDeclaration, OccurrenceDeclaration, ForwardDeclaration, ProductionDeclaration}
-use Rattle.wb_naming.specs.Declarations.{nonterminals, attributes, occurrences, forwards, productions, plain_items, occurrence_of, forward_of}
+use Rattle.wb_naming.specs.Declarations.{AttributeDeclaration, OccurrenceDeclaration, ForwardDeclaration}
+use Rattle.wb_naming.specs.Declarations.{nonterminals, attributes, occurrences, forwards, plain_items, occurrence_of, forward_of}
 use Rattle.wb_naming.specs.Declarations.{attribute_of, nonterminal_of}
-use Rattle.wb_naming.specs.Declares.{declarations}
-use Rattle.wb_naming.specs.Uses.{uses, plain_uses, occurs_uses, needs_uses, kind_uses}
-use Rattle.wb_numbering.specs.Files.{File, equations_on, forward_needs_of}
-use Rattle.wb_numbering.specs.Moved.{IsMovedAttributeNumber, IsMovedChild, IsMovedForward, IsMovedLocal, IsMovedEquation, IsMovedNonterminal, IsMovedNumber}
-use Rattle.wb_numbering.specs.Numbering.{Numbering, numbering_of, IsNumber, labels_in}
-use Rattle.wb_numbering.specs.Resolves.{Resolves, move_of, IsNonterminal, IsAttribute, IsOccurrence, IsProduction, IsInGrammarOf, IsConcrete}
-use Rattle.wb_numbering.specs.Rows.{IsProductionRow, IsExtendedProduction, IsNonterminalRow, IsAttributeRow, IsOccurrenceRow, production_role}
-use Rattle.wb_numbering.specs.Sources.{sources, IsFrom}
-use Rattle.wb_numbering.specs.Written.{IsWrittenKind, IsWrittenChild, IsWrittenLocal, IsWrittenLocalTarget, IsWrittenEquation, IsWrittenForward}
-use Rattle.wb_numbering.specs.Written.{local_equations, forward_equations, attribute_equations, makes_local, makes_forward, makes_attribute}
-use Rattle.wb_numbering.proofs.BaseCarried.{base_carried, extended_carried}
+use Rattle.wb_naming.specs.Uses.{uses, occurs_uses, needs_uses}
+use Rattle.wb_numbering.specs.Files.{File, forward_needs_of}
+use Rattle.wb_numbering.specs.Moved.{IsMovedAttributeNumber, IsMovedNumber}
+use Rattle.wb_numbering.specs.Numbering.{Numbering, numbering_of, IsNumber}
+use Rattle.wb_numbering.specs.Resolves.{move_of, IsNonterminal, IsAttribute, IsOccurrence}
+use Rattle.wb_numbering.specs.Rows.{IsOccurrenceRow}
+use Rattle.wb_numbering.specs.Sources.{sources}
+use Rattle.wb_numbering.specs.Written.{IsWrittenKind}
+use Rattle.wb_numbering.proofs.BaseCarried.{base_carried}
 use Rattle.wb_numbering.proofs.Carrying.{carried_nonterminal, carried_attribute, carried_occurrence, carried_kind, name_at}
-use Rattle.wb_numbering.proofs.CarryingNamed.{carried_all, carried_child, carried_local, carried_equation, carried_expression}
+use Rattle.wb_numbering.proofs.CarryingNamed.{carried_all}
 use Rattle.wb_numbering.proofs.OwnDeclared.{contains_flat_map, flat_map_contains}
 use Rattle.wb_numbering.proofs.Found.{sees_nonterminal, sees_attribute, sees_occurrence}
-use Rattle.wb_numbering.proofs.Ground.{Ground, production_seen}
-use Rattle.wb_numbering.proofs.NumberLemmas.{differ_right}
-use Rattle.wb_numbering.proofs.OneProduction.{labels_differ}
-use Rattle.wb_numbering.proofs.OneRow.{LabelsDiffer}
-use Rattle.wb_numbering.proofs.OwnNamed.{Known, own_expression, own_equation_target, goes, comes}
-use Rattle.wb_numbering.proofs.RowLemmas.{all_rows, all_zipped, source_of, source_before, source_declared}
-use Rattle.wb_numbering.proofs.Selected.{kept_from, contains_filter, same_bytes, block_of_equation}
-use Rattle.wb_numbering.proofs.Used.{plain_used, production_names, plain_item_names, equation_names}
+use Rattle.wb_numbering.proofs.Ground.{Ground}
+use Rattle.wb_numbering.proofs.OwnNamed.{Known, goes, comes}
+use Rattle.wb_numbering.proofs.RowLemmas.{all_zipped, source_before, source_declared}
+use Rattle.wb_numbering.proofs.Selected.{kept_from, contains_filter, same_bytes}
+use Rattle.wb_numbering.proofs.Used.{plain_used, plain_item_names}
 
 -- what is known of the file beside its names: whose it is
 pub record IsOwners (file : File) : Type 0 where
@@ -102,10 +80,10 @@ module _ (file : File) (r : ResolvedParts) (known : Known file r) (owners : IsOw
       all_zipped (IsNumber n.attributes file.owner) (λ i. SeesOccurrence a file.owner Inherited i number) needs numbers all
       (λ one j has listed e.
       let name : Contains (uses file.items) (u.Name one w.Inherited) =
-          used one has (u.Name one w.Inherited) (contains_first (u.Name one w.Inherited) (u.Needs one m ∷ [])) in
+      used one has (u.Name one w.Inherited) (contains_first (u.Name one w.Inherited) (u.Needs one m ∷ [])) in
       let occurs : Contains (uses file.items) (u.Needs one m) =
-          used one has (u.Needs one m) (contains_later (u.Name one w.Inherited) (u.Needs one m) (u.Needs one m ∷ [])
-          (contains_first (u.Needs one m) [])) in
+      used one has (u.Needs one m) (contains_later (u.Name one w.Inherited) (u.Needs one m) (u.Needs one m ∷ [])
+      (contains_first (u.Needs one m) [])) in
       sees_occurrence file r ground one m Inherited j number e is (comes file r known one (known.hold.meant.names one w.Inherited name))
       (known.hold.meant.needs one m occurs))
 
@@ -123,39 +101,39 @@ module _ (file : File) (r : ResolvedParts) (known : Known file r) (owners : IsOw
       → Contains (uses file.items) it
   forward_used name one has it more =
       let x = contains_flat_map (λ (x : ForwardDeclaration). x.needs)
-          (filter (λ (x : ForwardDeclaration). bytes_eq x.nonterminal name) (forwards file.items)) one has in
+      (filter (λ (x : ForwardDeclaration). bytes_eq x.nonterminal name) (forwards file.items)) one has in
       let y = contains_filter (λ (x : ForwardDeclaration). bytes_eq x.nonterminal name) (forwards file.items) x.0 x.1 in
       let z = kept_from forward_of (plain_items file.items) x.0 y.0 in
       from x.0 z.0 z.1 z.2 x.2 (same_bytes x.0.nonterminal name y.1) where
-    from : (x : ForwardDeclaration) (form : PlainForm) → Contains (plain_items file.items) form → forward_of form ≡ Some x
-        → Contains x.needs one → x.nonterminal ≡ name → Contains (uses file.items) it
-    from x (i.ForwardOn m needs) there e inside same =
-        let is : record { nonterminal = m; needs = needs } ≡ x = cc in
-        let here : Contains needs one = subst (λ (z : ForwardDeclaration). Contains z.needs one) (sym is) inside in
-        let called : m ≡ name = ap (λ (z : ForwardDeclaration). z.nonterminal) is ∙ same in
-        plain_used file.items (i.ForwardOn m needs) there it (contains_later (u.Name m w.Nonterminal) it (flat_map (needs_uses m) needs)
-        (flat_map_contains (needs_uses m) needs one it here (subst (λ z. Contains (needs_uses z one) it) (sym called) more)))
-    from x (i.Prefer first second) there e inside same = absurd (cc e)
-    from x (i.Nonterminal m) there e inside same = absurd (cc e)
-    from x (i.Start m) there e inside same = absurd (cc e)
-    from x (i.Extensible m) there e inside same = absurd (cc e)
-    from x (i.Synthesized m its) there e inside same = absurd (cc e)
-    from x (i.Inherited m its) there e inside same = absurd (cc e)
-    from x (i.Occurs m l needs) there e inside same = absurd (cc e)
+        from : (x : ForwardDeclaration) (form : PlainForm) → Contains (plain_items file.items) form → forward_of form ≡ Some x
+            → Contains x.needs one → x.nonterminal ≡ name → Contains (uses file.items) it
+        from x (i.ForwardOn m needs) there e inside same =
+            let is : record { nonterminal = m; needs = needs } ≡ x = cc in
+            let here : Contains needs one = subst (λ (z : ForwardDeclaration). Contains z.needs one) (sym is) inside in
+            let called : m ≡ name = ap (λ (z : ForwardDeclaration). z.nonterminal) is ∙ same in
+            plain_used file.items (i.ForwardOn m needs) there it (contains_later (u.Name m w.Nonterminal) it (flat_map (needs_uses m) needs)
+            (flat_map_contains (needs_uses m) needs one it here (subst (λ z. Contains (needs_uses z one) it) (sym called) more)))
+        from x (i.Prefer first second) there e inside same = absurd (cc e)
+        from x (i.Nonterminal m) there e inside same = absurd (cc e)
+        from x (i.Start m) there e inside same = absurd (cc e)
+        from x (i.Extensible m) there e inside same = absurd (cc e)
+        from x (i.Synthesized m its) there e inside same = absurd (cc e)
+        from x (i.Inherited m its) there e inside same = absurd (cc e)
+        from x (i.Occurs m l needs) there e inside same = absurd (cc e)
 
   nonterminal_name : (name : List ℕ) → Contains (nonterminals file.items) name → IsName name
   nonterminal_name name has =
       let z = kept_from nonterminal_of (plain_items file.items) name has in
       from z.0 z.2 (plain_item_names file.items known.names z.0 z.1) where
-    from : (form : PlainForm) → nonterminal_of form ≡ Some name → All IsName (plain_names form) → IsName name
-    from (i.Nonterminal m) e names = let same : m ≡ name = cc in subst IsName same (All-head IsName m [] names)
-    from (i.Prefer first second) e names = absurd (cc e)
-    from (i.Start m) e names = absurd (cc e)
-    from (i.Extensible m) e names = absurd (cc e)
-    from (i.Synthesized m its) e names = absurd (cc e)
-    from (i.Inherited m its) e names = absurd (cc e)
-    from (i.Occurs m l needs) e names = absurd (cc e)
-    from (i.ForwardOn m needs) e names = absurd (cc e)
+        from : (form : PlainForm) → nonterminal_of form ≡ Some name → All IsName (plain_names form) → IsName name
+        from (i.Nonterminal m) e names = let same : m ≡ name = cc in subst IsName same (All-head IsName m [] names)
+        from (i.Prefer first second) e names = absurd (cc e)
+        from (i.Start m) e names = absurd (cc e)
+        from (i.Extensible m) e names = absurd (cc e)
+        from (i.Synthesized m its) e names = absurd (cc e)
+        from (i.Inherited m its) e names = absurd (cc e)
+        from (i.Occurs m l needs) e names = absurd (cc e)
+        from (i.ForwardOn m needs) e names = absurd (cc e)
 
   pub named_nonterminal : (number : ℕ) (row : Nonterminal) → slice_get a.nonterminals number ≡ Some row → (x : Nonterminal ⊎ List ℕ)
       → Contains (sources b.nonterminals (nonterminals file.items)) x → IsNonterminal file n x row → IsNamedNonterminal a number row
@@ -199,19 +177,19 @@ module _ (file : File) (r : ResolvedParts) (known : Known file r) (owners : IsOw
   attribute_name x has =
       let z = kept_from attribute_of (plain_items file.items) x has in
       from z.0 z.2 (plain_item_names file.items known.names z.0 z.1) where
-    from : (form : PlainForm) → attribute_of form ≡ Some x → All IsName (plain_names form) → IsName x.name
-    from (i.Synthesized m its) e names =
-        let same : record { name = m; direction = Synthesized; kind = its } ≡ x = cc in
-        subst (λ (z : AttributeDeclaration). IsName z.name) same (all_contained IsName (plain_names (i.Synthesized m its)) m names (contains_first m _))
-    from (i.Inherited m its) e names =
-        let same : record { name = m; direction = Inherited; kind = its } ≡ x = cc in
-        subst (λ (z : AttributeDeclaration). IsName z.name) same (all_contained IsName (plain_names (i.Inherited m its)) m names (contains_first m _))
-    from (i.Prefer first second) e names = absurd (cc e)
-    from (i.Start m) e names = absurd (cc e)
-    from (i.Extensible m) e names = absurd (cc e)
-    from (i.Nonterminal m) e names = absurd (cc e)
-    from (i.Occurs m l needs) e names = absurd (cc e)
-    from (i.ForwardOn m needs) e names = absurd (cc e)
+        from : (form : PlainForm) → attribute_of form ≡ Some x → All IsName (plain_names form) → IsName x.name
+        from (i.Synthesized m its) e names =
+            let same : record { name = m; direction = Synthesized; kind = its } ≡ x = cc in
+            subst (λ (z : AttributeDeclaration). IsName z.name) same (all_contained IsName (plain_names (i.Synthesized m its)) m names (contains_first m _))
+        from (i.Inherited m its) e names =
+            let same : record { name = m; direction = Inherited; kind = its } ≡ x = cc in
+            subst (λ (z : AttributeDeclaration). IsName z.name) same (all_contained IsName (plain_names (i.Inherited m its)) m names (contains_first m _))
+        from (i.Prefer first second) e names = absurd (cc e)
+        from (i.Start m) e names = absurd (cc e)
+        from (i.Extensible m) e names = absurd (cc e)
+        from (i.Nonterminal m) e names = absurd (cc e)
+        from (i.Occurs m l needs) e names = absurd (cc e)
+        from (i.ForwardOn m needs) e names = absurd (cc e)
 
   pub named_attribute : (x : Attribute ⊎ AttributeDeclaration) (row : Attribute) → Contains (sources b.attributes (attributes file.items)) x
       → Contains a.attributes row → IsAttribute file n x row → IsNamedAttribute a row
@@ -265,7 +243,7 @@ module _ (file : File) (r : ResolvedParts) (known : Known file r) (owners : IsOw
       let name = used (u.Name x.attribute w.Synthesized) (contains_first (u.Name x.attribute w.Synthesized) rest) in
       let up = known.hold.meant.names x.attribute w.Synthesized name in
       let zipped : AllZip (IsNumber n.attributes file.owner) needs row.needs =
-          subst (λ z. AllZip (IsNumber n.attributes file.owner) (needs_names z) row.needs) same e.needs in
+      subst (λ z. AllZip (IsNumber n.attributes file.owner) (needs_names z) row.needs) same e.needs in
       record {
         owner = is_owner row.owner e.owner_is;
         direction = Synthesized;
@@ -284,18 +262,18 @@ module _ (file : File) (r : ResolvedParts) (known : Known file r) (owners : IsOw
       → Contains (occurs_uses x.attribute x.nonterminal x.needs) it → Contains (uses file.items) it
   occurrence_used x has it more =
       let z = kept_from occurrence_of (plain_items file.items) x has in from z.0 z.1 z.2 where
-    from : (form : PlainForm) → Contains (plain_items file.items) form → occurrence_of form ≡ Some x → Contains (uses file.items) it
-    from (i.Occurs m l needs) there e =
-        let same : record { attribute = m; nonterminal = l; needs = needs } ≡ x = cc in
-        plain_used file.items (i.Occurs m l needs) there it
-        (subst (λ (z : OccurrenceDeclaration). Contains (occurs_uses z.attribute z.nonterminal z.needs) it) (sym same) more)
-    from (i.Prefer first second) there e = absurd (cc e)
-    from (i.Start m) there e = absurd (cc e)
-    from (i.Extensible m) there e = absurd (cc e)
-    from (i.Nonterminal m) there e = absurd (cc e)
-    from (i.Synthesized m its) there e = absurd (cc e)
-    from (i.Inherited m its) there e = absurd (cc e)
-    from (i.ForwardOn m needs) there e = absurd (cc e)
+        from : (form : PlainForm) → Contains (plain_items file.items) form → occurrence_of form ≡ Some x → Contains (uses file.items) it
+        from (i.Occurs m l needs) there e =
+            let same : record { attribute = m; nonterminal = l; needs = needs } ≡ x = cc in
+            plain_used file.items (i.Occurs m l needs) there it
+            (subst (λ (z : OccurrenceDeclaration). Contains (occurs_uses z.attribute z.nonterminal z.needs) it) (sym same) more)
+        from (i.Prefer first second) there e = absurd (cc e)
+        from (i.Start m) there e = absurd (cc e)
+        from (i.Extensible m) there e = absurd (cc e)
+        from (i.Nonterminal m) there e = absurd (cc e)
+        from (i.Synthesized m its) there e = absurd (cc e)
+        from (i.Inherited m its) there e = absurd (cc e)
+        from (i.ForwardOn m needs) there e = absurd (cc e)
 
   pub named_occurrence : (x : Occurrence ⊎ OccurrenceDeclaration) (row : Occurrence) → Contains (sources b.occurrences (occurrences file.items)) x
       → Contains a.occurrences row → IsOccurrence file n x row → IsNamedOccurrence a row

@@ -1,30 +1,19 @@
 -- What a value declares and writes is what its owners may, where the names of its file are right.
-use Rattle.std.proofs.Common.{◌≡◌, ◌≢◌, ◌≤◌, ◌++◌, ◌∷◌, ◌⊎◌, inl, inr, [], ℕ, zero, suc, Bool, true, false, List, Option, Some, None, Contains, All}
+use Rattle.std.proofs.Common.{◌≡◌, ◌++◌, ◌∷◌, ◌⊎◌, inl, inr, [], ℕ, zero, suc, Bool, true, false, List, Some, Contains, All}
 use Rattle.std.proofs.Common.{map, slice_get, ap, sym, refl, subst, ◌∙◌, arith}
-use Rattle.std.specs.Prelude.{option_map, option_to_list, filter, flat_map, filter_map}
-use Rattle.std.specs.List.{AllZip}
+use Rattle.std.specs.Prelude.{option_map}
 use Rattle.std.proofs.lemmas.Bool.{false≢true}
-use Rattle.wb_lemmas.proofs.Members.{contains_at, contains_first, contains_later, place_of, append_contains_left, append_contains_right}
-use Rattle.wb_base.specs.declared.symbol.Kind.TheVariants as kind
+use Rattle.wb_lemmas.proofs.Members.{contains_at, contains_first, contains_later, append_contains_right}
 use Rattle.wb_resolved.specs.declared.attributes.Attribute.{Attribute}
 use Rattle.wb_resolved.specs.declared.attributes.Direction.{Direction}
 use Rattle.wb_resolved.specs.declared.attributes.Direction.TheVariants.{Synthesized, Inherited}
 use Rattle.wb_resolved.specs.declared.attributes.Nonterminal.{Nonterminal}
 use Rattle.wb_resolved.specs.declared.attributes.Occurrence.{Occurrence}
 use Rattle.wb_resolved.specs.declared.attribution.AttributionParts.{AttributionParts}
-use Rattle.wb_resolved.specs.declared.equation.Equation.{Equation}
-use Rattle.wb_resolved.specs.declared.equation.Place.{Place}
-use Rattle.wb_resolved.specs.declared.equation.Place.TheVariants as place
-use Rattle.wb_resolved.specs.declared.equation.Target.{Target}
-use Rattle.wb_resolved.specs.declared.equation.Target.TheVariants as target
-use Rattle.wb_resolved.specs.declared.production.ChildKind.TheVariants as child
-use Rattle.wb_resolved.specs.declared.production.Local.{Local}
 use Rattle.wb_resolved.specs.declared.production.Production.{Production}
 use Rattle.wb_resolved.specs.declared.resolved.ResolvedParts.{ResolvedParts}
-use Rattle.wb_resolved.specs.Once.{NamesDiffer, labels_of}
-use Rattle.wb_resolved.specs.Owned.{IsOwned, IsOwnOccurrence, IsOwnEquation, IsForOwnLocal, IsForOwnOccurrence, IsTargetOf}
+use Rattle.wb_resolved.specs.Owned.{IsOwnOccurrence}
 use Rattle.wb_resolved.specs.Owners.{Sees}
-use Rattle.wb_resolved.specs.Visible.{kind_at}
 use Rattle.wb_syntax.specs.declared.expression.Equation as written
 use Rattle.wb_syntax.specs.declared.expression.Target as is_for
 use Rattle.wb_syntax.specs.declared.expression.Target.TheVariants as g
@@ -38,77 +27,61 @@ use Rattle.wb_syntax.specs.declared.production.NamedKind.{NamedKind}
 use Rattle.wb_syntax.specs.declared.production.NamedKind.TheVariants as k
 use Rattle.wb_naming.specs.declared.declaration.Declaration.{Declaration}
 use Rattle.wb_naming.specs.declared.declaration.Declaration.TheVariants as d
-use Rattle.wb_naming.specs.declared.declaration.Labelled.{Labelled}
 use Rattle.wb_naming.specs.declared.declaration.Labelled.TheVariants as label
-use Rattle.wb_naming.specs.declared.declaration.Site.{Site}
-use Rattle.wb_naming.specs.declared.declaration.Site.TheVariants as site
 use Rattle.wb_naming.specs.declared.declaration.Sort.{Sort}
 use Rattle.wb_naming.specs.declared.declaration.Sort.TheVariants as sort
-use Rattle.wb_naming.specs.declared.usage.Usage.{Usage}
-use Rattle.wb_naming.specs.declared.usage.Usage.TheVariants as u
-use Rattle.wb_naming.specs.Declarations.{Items, AttributeDeclaration, OccurrenceDeclaration, ProductionDeclaration, attributes, occurrences}
+use Rattle.wb_naming.specs.Declarations.{Items, AttributeDeclaration, OccurrenceDeclaration, attributes, occurrences}
 use Rattle.wb_naming.specs.Declarations.{nonterminals, productions, plain_items, plain_of, attribute_of, occurrence_of, nonterminal_of}
-use Rattle.wb_naming.specs.Declares.{declarations, base_declarations, item_declarations, form_declarations, plain_declaration, target_declaration}
-use Rattle.wb_naming.specs.Declares.{equation_declarations, production_declarations, child_declaration, labelled}
-use Rattle.wb_naming.specs.Hold.{AreOwned}
-use Rattle.wb_naming.specs.Meaning.{HasSite}
-use Rattle.wb_naming.specs.Orphan.{IsOwnLocal}
-use Rattle.wb_naming.specs.Uses.{uses, target_uses}
-use Rattle.wb_numbering.specs.Files.{File, Block, blocks, block_of, equations_on}
-use Rattle.wb_numbering.specs.Moved.{IsMovedEquation}
-use Rattle.wb_numbering.specs.Numbering.{Numbering, numbering_of, IsNumber, IsPlace, labels_in}
-use Rattle.wb_numbering.specs.Resolves.{move_of, IsOccurrence, IsProduction, IsConcrete, IsAttribute, IsNonterminal, IsInGrammarOf}
-use Rattle.wb_numbering.specs.Rows.{IsProductionRow, IsExtendedProduction}
-use Rattle.wb_numbering.specs.Sources.{sources, IsFrom}
-use Rattle.wb_numbering.specs.Written.{IsWrittenEquation, IsWrittenTarget, attribute_equations, local_equations, makes_attribute, makes_local}
+use Rattle.wb_naming.specs.Declares.{item_declarations, form_declarations, plain_declaration, target_declaration}
+use Rattle.wb_naming.specs.Declares.{equation_declarations, child_declaration, labelled}
+use Rattle.wb_numbering.specs.Files.{File, Block, blocks, block_of}
+use Rattle.wb_numbering.specs.Numbering.{Numbering, numbering_of, IsNumber}
+use Rattle.wb_numbering.specs.Resolves.{IsOccurrence, IsProduction, IsConcrete, IsAttribute, IsNonterminal, IsInGrammarOf}
+use Rattle.wb_numbering.specs.Sources.{sources}
 use Rattle.wb_numbering.proofs.Carrying.{row_at, name_at}
 use Rattle.wb_numbering.proofs.Found.{own_terminal}
-use Rattle.wb_numbering.proofs.Ground.{Ground, production_seen, own_row}
-use Rattle.wb_numbering.proofs.LabelsFound.{label_found, written_local}
-use Rattle.wb_numbering.proofs.LabelsOnce.{base_labels}
+use Rattle.wb_numbering.proofs.Ground.{Ground}
 use Rattle.wb_numbering.proofs.NumberLemmas.{one_number, not_in_both}
-use Rattle.wb_numbering.proofs.OneProduction.{labels_differ}
-use Rattle.wb_numbering.proofs.OneRow.{LabelsDiffer, not_both, nonterminals_differ, others_differ, one_place}
+use Rattle.wb_numbering.proofs.OneRow.{not_both, nonterminals_differ, others_differ}
 use Rattle.wb_numbering.proofs.OwnDeclared.{IsOwnDeclared, own_declared, kept, flat_map_contains}
 use Rattle.wb_numbering.proofs.OwnDeclared as own
-use Rattle.wb_numbering.proofs.OwnNamed.{Known, tree_of, placed}
-use Rattle.wb_numbering.proofs.RowLemmas.{all_rows, all_zipped, row_of, row_of_zip, source_before, source_declared, there_before, there_declared}
+use Rattle.wb_numbering.proofs.OwnNamed.{Known}
+use Rattle.wb_numbering.proofs.RowLemmas.{all_zipped, row_of, row_of_zip, source_before, source_declared, there_declared}
 use Rattle.wb_numbering.proofs.RowLemmas.{map_contains}
-use Rattle.wb_numbering.proofs.Selected.{kept_from, contains_filter, filter_contains, equations_of_block, block_of_equation}
-use Rattle.wb_numbering.proofs.SidesFound.{left_found}
-use Rattle.wb_numbering.proofs.Used.{equation_used, target_used}
+use Rattle.wb_numbering.proofs.Selected.{kept_from}
 
 -- what an item of names alone declares, and an equation
 pub plain_declares : (items : Items) (x : PlainForm) → Contains (plain_items items) x → Contains (item_declarations items) (plain_declaration x)
 plain_declares items x has =
     let k = kept_from (λ (y : Item Pattern). plain_of y.form) items x has in
     flat_map_contains (λ (y : Item Pattern). form_declarations y.form) items k.0 (plain_declaration x) k.1 (from k.0.form k.2) where
-  from : (form : ItemForm Pattern) → plain_of form ≡ Some x → Contains (form_declarations form) (plain_declaration x)
-  from (f.Plain y) e = let same : y ≡ x = cc in subst (λ z. Contains (form_declarations (f.Plain y)) (plain_declaration z)) same (contains_first (plain_declaration y) [])
-  from (f.Lexical role name pattern) e = absurd (cc e)
-  from (f.Production role p) e = absurd (cc e)
-  from (f.Aspect name es) e = absurd (cc e)
+      from : (form : ItemForm Pattern) → plain_of form ≡ Some x → Contains (form_declarations form) (plain_declaration x)
+      from (f.Plain y) e = let same : y ≡ x = cc in subst (λ z. Contains (form_declarations (f.Plain y)) (plain_declaration z)) same (contains_first (plain_declaration y) [])
+      from (f.Lexical role name pattern) e = absurd (cc e)
+      from (f.Production role p) e = absurd (cc e)
+      from (f.Aspect name es) e = absurd (cc e)
 
 pub block_declares : (items : Items) (b : Block) → Contains (blocks items) b → (q : written.Equation) → Contains b.equations q
     → Contains (item_declarations items) (target_declaration b.name q.target)
 block_declares items b has q inside =
     let k = kept_from (λ (y : Item Pattern). block_of y.form) items b has in
     flat_map_contains (λ (y : Item Pattern). form_declarations y.form) items k.0 (target_declaration b.name q.target) k.1 (from k.0.form k.2) where
-  here : Contains (equation_declarations b.name b.equations) (target_declaration b.name q.target)
-  here = map_contains (λ (e : written.Equation). target_declaration b.name e.target) b.equations q inside
-  from : (form : ItemForm Pattern) → block_of form ≡ Some b → Contains (form_declarations form) (target_declaration b.name q.target)
-  from (f.Plain y) e = absurd (cc e)
-  from (f.Lexical role name pattern) e = absurd (cc e)
-  from (f.Production role p) e =
-      let same : record { name = p.name; equations = p.equations } ≡ b = cc in
-      let it = target_declaration b.name q.target in
-      let rest = map (child_declaration p.name) p.children ++ equation_declarations p.name p.equations in
-      contains_later (d.Symbol p.name sort.Production) it (d.Left p.name p.left ∷ rest) (contains_later (d.Left p.name p.left) it rest
-      (append_contains_right (map (child_declaration p.name) p.children) (equation_declarations p.name p.equations) it
-      (subst (λ (z : Block). Contains (equation_declarations z.name z.equations) it) (sym same) here)))
-  from (f.Aspect name es) e =
-      let same : record { name = name; equations = es } ≡ b = cc in
-      subst (λ (z : Block). Contains (equation_declarations z.name z.equations) (target_declaration b.name q.target)) (sym same) here
+      here : Contains (equation_declarations b.name b.equations) (target_declaration b.name q.target)
+      here = map_contains (λ (e : written.Equation). target_declaration b.name e.target) b.equations q inside
+
+      from : (form : ItemForm Pattern) → block_of form ≡ Some b → Contains (form_declarations form) (target_declaration b.name q.target)
+      from (f.Plain y) e = absurd (cc e)
+      from (f.Lexical role name pattern) e = absurd (cc e)
+      from (f.Production role p) e =
+          let same : record { name = p.name; equations = p.equations } ≡ b = cc in
+          let it = target_declaration b.name q.target in
+          let rest = map (child_declaration p.name) p.children ++ equation_declarations p.name p.equations in
+          contains_later (d.Symbol p.name sort.Production) it (d.Left p.name p.left ∷ rest) (contains_later (d.Left p.name p.left) it rest
+          (append_contains_right (map (child_declaration p.name) p.children) (equation_declarations p.name p.equations) it
+          (subst (λ (z : Block). Contains (equation_declarations z.name z.equations) it) (sym same) here)))
+      from (f.Aspect name es) e =
+          let same : record { name = name; equations = es } ≡ b = cc in
+          subst (λ (z : Block). Contains (equation_declarations z.name z.equations) (target_declaration b.name q.target)) (sym same) here
 
 -- forms of declarations
 abbrev is_attribute : Declaration → Bool
@@ -186,7 +159,7 @@ module _ (file : File) (r : ResolvedParts) (known : Known file r) where
       → option_map (λ (y : Attribute). y.owner) (slice_get a.attributes k) ≡ Some file.owner
   attribute_owner x has k is =
       let h = row_of_zip (IsAttribute file n) (sources b.attributes (attributes file.items)) a.attributes ground.resolves.attributes (inr x)
-          (there_declared b.attributes (attributes file.items) x has) in
+      (there_declared b.attributes (attributes file.items) x has) in
       let number : IsNumber n.attributes file.owner x.name h.place = record {
         other = h.row.owner;
         is = name_at (λ (y : Attribute). (y.owner, y.name)) a.attributes h.place h.row h.at ∙ ap (λ (z : List ℕ). Some (h.row.owner, z)) h.is_row.name;
@@ -225,7 +198,7 @@ module _ (file : File) (r : ResolvedParts) (known : Known file r) where
       → option_map (λ (y : Nonterminal). y.owner) (slice_get a.nonterminals k) ≡ Some file.owner
   nonterminal_owner name has k is =
       let h = row_of (IsInGrammarOf file) (IsNonterminal file n) (sources b.nonterminals (nonterminals file.items)) a.nonterminals
-          ground.resolves.nonterminals (inr name) (there_declared b.nonterminals (nonterminals file.items) name has) in
+      ground.resolves.nonterminals (inr name) (there_declared b.nonterminals (nonterminals file.items) name has) in
       let number : IsNumber n.nonterminals file.owner name h.place = record {
         other = h.row.owner;
         is = name_at (λ (y : Nonterminal). (y.owner, y.name)) a.nonterminals h.place h.row h.at
@@ -258,7 +231,7 @@ module _ (file : File) (r : ResolvedParts) (known : Known file r) where
   own_symbol m is (own.production x has e) k number =
       let same : x.production.name ≡ m = cc in
       let h = row_of IsConcrete (IsProduction file n) (sources b.productions (productions file.items)) a.productions ground.resolves.productions
-          (inr x) (there_declared b.productions (productions file.items) x has) in
+      (inr x) (there_declared b.productions (productions file.items) x has) in
       let other : IsNumber n.productions file.owner m h.place = record {
         other = h.row.owner;
         is = name_at (λ (y : Production). (y.owner, y.name)) a.productions h.place h.row h.at
@@ -276,9 +249,9 @@ module _ (file : File) (r : ResolvedParts) (known : Known file r) where
   host_attribute zero_is name k is =
       let row = row_at (λ (y : Attribute). (y.owner, y.name)) a.attributes k is.other name is.is in
       ap (option_map (λ (y : Attribute). y.owner)) row.is ∙ ap Some (row.owner_is ∙ seen_by is.seen) where
-    seen_by : Sees file.owner is.other → is.other ≡ file.owner
-    seen_by (inl zero_too) = zero_too ∙ sym zero_is
-    seen_by (inr same) = same
+        seen_by : Sees file.owner is.other → is.other ≡ file.owner
+        seen_by (inl zero_too) = zero_too ∙ sym zero_is
+        seen_by (inr same) = same
 
   -- an occurrence that the file declares
   occurrence_own : (x : OccurrenceDeclaration) (row : Occurrence) → Contains (occurrences file.items) x → IsOccurrence file n (inr x) row
@@ -290,29 +263,31 @@ module _ (file : File) (r : ResolvedParts) (known : Known file r) where
       let owned = known.hold.owned (λ z. not_zero (sym z ∙ is)) in
       let k = kept_from occurrence_of (plain_items file.items) x has in
       by_own (owned.occurrences x.attribute x.nonterminal (from k.0 k.1 k.2)) where
-    not_zero : 0 ≡ suc o → ⊥
-    not_zero z = absurd (omega (arith, z))
-    from : (form : PlainForm) → Contains (plain_items file.items) form → occurrence_of form ≡ Some x
-        → Contains owns (d.Occurrence x.attribute x.nonterminal)
-    from (i.Occurs c m needs) there q =
-        let same : record { attribute = c; nonterminal = m; needs = needs } ≡ x = cc in
-        subst (λ (z : OccurrenceDeclaration). Contains owns (d.Occurrence z.attribute z.nonterminal)) same
-        (plain_declares file.items (i.Occurs c m needs) there)
-    from (i.Prefer first second) there q = absurd (cc q)
-    from (i.Nonterminal one) there q = absurd (cc q)
-    from (i.Start one) there q = absurd (cc q)
-    from (i.Extensible one) there q = absurd (cc q)
-    from (i.Synthesized one its) there q = absurd (cc q)
-    from (i.Inherited one its) there q = absurd (cc q)
-    from (i.ForwardOn m needs) there q = absurd (cc q)
-    by_own : ((direction : Direction) × Contains owns (d.Attribute x.attribute direction)) ⊎ ((is : Sort) × Contains owns (d.Symbol x.nonterminal is))
-        → IsOwnOccurrence a row
-    by_own (inl (direction, listed)) =
-        inl (subst (λ z. option_map (λ (y : Attribute). y.owner) (slice_get a.attributes row.attribute) ≡ Some z) (sym e.owner_is)
-        (own_attribute x.attribute direction (own_declared file.items (d.Attribute x.attribute direction) listed) row.attribute e.attribute))
-    by_own (inr (is, listed)) =
-        inr (subst (λ z. option_map (λ (y : Nonterminal). y.owner) (slice_get a.nonterminals row.nonterminal) ≡ Some z) (sym e.owner_is)
-        (own_symbol x.nonterminal is (own_declared file.items (d.Symbol x.nonterminal is) listed) row.nonterminal e.nonterminal))
+        not_zero : 0 ≡ suc o → ⊥
+        not_zero z = absurd (omega (arith, z))
+
+        from : (form : PlainForm) → Contains (plain_items file.items) form → occurrence_of form ≡ Some x
+            → Contains owns (d.Occurrence x.attribute x.nonterminal)
+        from (i.Occurs c m needs) there q =
+            let same : record { attribute = c; nonterminal = m; needs = needs } ≡ x = cc in
+            subst (λ (z : OccurrenceDeclaration). Contains owns (d.Occurrence z.attribute z.nonterminal)) same
+            (plain_declares file.items (i.Occurs c m needs) there)
+        from (i.Prefer first second) there q = absurd (cc q)
+        from (i.Nonterminal one) there q = absurd (cc q)
+        from (i.Start one) there q = absurd (cc q)
+        from (i.Extensible one) there q = absurd (cc q)
+        from (i.Synthesized one its) there q = absurd (cc q)
+        from (i.Inherited one its) there q = absurd (cc q)
+        from (i.ForwardOn m needs) there q = absurd (cc q)
+
+        by_own : ((direction : Direction) × Contains owns (d.Attribute x.attribute direction)) ⊎ ((is : Sort) × Contains owns (d.Symbol x.nonterminal is))
+            → IsOwnOccurrence a row
+        by_own (inl (direction, listed)) =
+            inl (subst (λ z. option_map (λ (y : Attribute). y.owner) (slice_get a.attributes row.attribute) ≡ Some z) (sym e.owner_is)
+            (own_attribute x.attribute direction (own_declared file.items (d.Attribute x.attribute direction) listed) row.attribute e.attribute))
+        by_own (inr (is, listed)) =
+            inr (subst (λ z. option_map (λ (y : Nonterminal). y.owner) (slice_get a.nonterminals row.nonterminal) ≡ Some z) (sym e.owner_is)
+            (own_symbol x.nonterminal is (own_declared file.items (d.Symbol x.nonterminal is) listed) row.nonterminal e.nonterminal))
 
   -- one of the base is of the host's attribute
   owned_occurrence : (x : Occurrence ⊎ OccurrenceDeclaration) (row : Occurrence) → Contains (sources b.occurrences (occurrences file.items)) x
@@ -322,7 +297,7 @@ module _ (file : File) (r : ResolvedParts) (known : Known file r) where
       let before = row_at (λ (y : Attribute). (y.owner, y.name)) b.attributes x.attribute e.attribute.owner e.attribute.name e.attribute.before in
       let after = row_at (λ (y : Attribute). (y.owner, y.name)) a.attributes row.attribute e.attribute.owner e.attribute.name e.attribute.after in
       let zero_is : e.attribute.owner ≡ 0 =
-          sym before.owner_is ∙ ground.host.attributes before.row (contains_at b.attributes before.row x.attribute before.is) in
+      sym before.owner_is ∙ ground.host.attributes before.row (contains_at b.attributes before.row x.attribute before.is) in
       inl (ap (option_map (λ (y : Attribute). y.owner)) after.is ∙ ap Some (after.owner_is ∙ (zero_is ∙ sym (e.owner ∙ ground.host.occurrences x inside))))
   owned_occurrence (inr x) row has listed e =
       occurrence_own x row (source_declared b.occurrences (occurrences file.items) x has) e file.owner refl

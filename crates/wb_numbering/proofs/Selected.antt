@@ -1,6 +1,6 @@
 -- Which equations are on a production, and what is kept of a list.
-use Rattle.std.proofs.Common.{◌≡◌, ◌++◌, ◌∷◌, ◌⊎◌, inl, inr, [], ℕ, Bool, true, false, List, Option, Some, None, Contains, cond, ap, sym, refl, subst, ◌∙◌}
-use Rattle.std.specs.Prelude.{filter, filter_map, flat_map}
+use Rattle.std.proofs.Common.{◌≡◌, ◌∷◌, ◌⊎◌, inl, inr, [], ℕ, Bool, true, false, List, Option, Some, None, Contains, cond, ap, sym, refl, subst, ◌∙◌}
+use Rattle.std.specs.Prelude.{filter, filter_map}
 use Rattle.std.specs.List.{cons_option}
 use Rattle.std.specs.Str.{bytes_eq}
 use Rattle.std.proofs.lemmas.Slice.Eq.{bytes_eq-Decides}
@@ -38,16 +38,16 @@ module _ {X : Type 0} (test : X → Bool) where
   filter_contains [] x has e = absurd (nothing_in x has)
   filter_contains (z ∷ xs) x has e =
       elim (contains_cases z x xs has) [
-        inl same ↦ kept_first z x xs same e
-      | inr more ↦ kept_later z x xs (test z) refl (filter_contains xs x more e)
+        | inl same ↦ kept_first z x xs same e
+        | inr more ↦ kept_later z x xs (test z) refl (filter_contains xs x more e)
       ]
 
   first_or_later : (z x : X) (xs : List X) (b : Bool) → test z ≡ b → Contains (filter test (z ∷ xs)) x
       → ((z ≡ x) × (test z ≡ true)) ⊎ Contains (filter test xs) x
   first_or_later z x xs true e has =
       elim (contains_cases z x (filter test xs) (subst (λ k. Contains k x) (passes z xs e) has)) [
-        inl same ↦ inl (same, e)
-      | inr more ↦ inr more
+        | inl same ↦ inl (same, e)
+        | inr more ↦ inr more
       ]
   first_or_later z x xs false e has = inr (subst (λ k. Contains k x) (fails z xs e) has)
 
@@ -55,8 +55,8 @@ module _ {X : Type 0} (test : X → Bool) where
   contains_filter [] x has = absurd (nothing_in x has)
   contains_filter (z ∷ xs) x has =
       elim (first_or_later z x xs (test z) refl has) [
-        inl first ↦ (subst (Contains (z ∷ xs)) first.0 (contains_first z xs), subst (λ k. test k ≡ true) first.0 first.1)
-      | inr more ↦ let rest = contains_filter xs x more in (contains_later z x xs rest.0, rest.1)
+        | inl first ↦ (subst (Contains (z ∷ xs)) first.0 (contains_first z xs), subst (λ k. test k ≡ true) first.0 first.1)
+        | inr more ↦ let rest = contains_filter xs x more in (contains_later z x xs rest.0, rest.1)
       ]
 
 -- what is kept of a list comes from an element
@@ -71,8 +71,8 @@ kept_from {X} {Y} g (z ∷ xs) y has = from (g z) refl (λ more. kept_from g xs 
       (more.0, contains_later z more.0 xs more.1, more.2)
   from (Some w) e rest =
       elim (contains_cases w y (filter_map g xs) (subst (λ k. Contains k y) (ap (λ o. cons_option o (filter_map g xs)) e) has)) [
-        inl same ↦ (z, contains_first z xs, e ∙ ap Some same)
-      | inr more ↦ let found = rest more in (found.0, contains_later z found.0 xs found.1, found.2)
+        | inl same ↦ (z, contains_first z xs, e ∙ ap Some same)
+        | inr more ↦ let found = rest more in (found.0, contains_later z found.0 xs found.1, found.2)
       ]
 
 -- the equations on a production are those of its blocks

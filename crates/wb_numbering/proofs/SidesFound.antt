@@ -1,13 +1,10 @@
 -- The left side that is declared of a production, and that it forwards, are in its row.
-use Rattle.std.proofs.Common.{◌≡◌, ◌≢◌, ◌++◌, ◌∷◌, ◌⊎◌, inl, inr, [], ℕ, Bool, true, false, List, Option, Some, None, Contains, map, slice_get, ap}
+use Rattle.std.proofs.Common.{◌≡◌, ◌∷◌, [], ℕ, Bool, true, false, List, Option, Some, None, Contains, slice_get, ap}
 use Rattle.std.proofs.Common.{sym, refl, subst, ◌∙◌}
-use Rattle.std.specs.Prelude.{option_to_list, IsSome, flat_map}
+use Rattle.std.specs.Prelude.{option_to_list, IsSome}
 use Rattle.std.specs.List.{AllZip}
 use Rattle.std.proofs.lemmas.Bool.{false≢true}
-use Rattle.wb_lemmas.proofs.Members.{nothing_in, place_of, contains_first}
-use Rattle.wb_lemmas.proofs.Zips.{zip_at}
-use Rattle.wb_resolved.specs.declared.attribution.AttributionParts.{AttributionParts}
-use Rattle.wb_resolved.specs.declared.production.Forward.{Forward}
+use Rattle.wb_lemmas.proofs.Members.{nothing_in, contains_first}
 use Rattle.wb_resolved.specs.declared.production.Production.{Production}
 use Rattle.wb_resolved.specs.declared.resolved.ResolvedParts.{ResolvedParts}
 use Rattle.wb_syntax.specs.declared.expression.Equation as written
@@ -21,7 +18,7 @@ use Rattle.wb_syntax.specs.declared.item.PlainForm.TheVariants as i
 use Rattle.wb_syntax.specs.declared.pattern.Pattern.{Pattern}
 use Rattle.wb_naming.specs.declared.declaration.Declaration.{Declaration}
 use Rattle.wb_naming.specs.declared.declaration.Declaration.TheVariants as d
-use Rattle.wb_naming.specs.Declarations.{ProductionDeclaration, productions, production_of}
+use Rattle.wb_naming.specs.Declarations.{production_of}
 use Rattle.wb_naming.specs.Declares.{declarations, nonterminal_name, plain_declaration, target_declaration}
 use Rattle.wb_naming.specs.Meaning.{HasLeft, Forwards}
 use Rattle.wb_naming.specs.WrongKind.{misplaced, form_misplaced, misplaced_forward}
@@ -117,12 +114,12 @@ module _ (file : File) (r : ResolvedParts) (ground : Ground file r) (placed : mi
       → (q : written.Equation) → Contains es q → q.target ≡ g.ForwardsTo → ⊥
   no_forward item has name es e q more is =
       let one : Contains (misplaced_forward name q.target) name =
-          subst (λ z. Contains (misplaced_forward name z) name) (sym is) (contains_first name []) in
+      subst (λ z. Contains (misplaced_forward name z) name) (sym is) (contains_first name []) in
       let two : Contains (form_misplaced file.owner (f.Aspect name es)) name =
-          flat_map_contains (λ (e : written.Equation). misplaced_forward name e.target) es q name more one in
+      flat_map_contains (λ (e : written.Equation). misplaced_forward name e.target) es q name more one in
       let three : Contains (misplaced file.owner file.items) name =
-          flat_map_contains (λ (x : Item Pattern). form_misplaced file.owner x.form) file.items item name has
-          (subst (λ z. Contains (form_misplaced file.owner z) name) (sym e) two) in
+      flat_map_contains (λ (x : Item Pattern). form_misplaced file.owner x.form) file.items item name has
+      (subst (λ z. Contains (form_misplaced file.owner z) name) (sym e) two) in
       nothing_in name (subst (λ z. Contains z name) placed three)
 
   forward_of_block : (b : Block) → Contains (blocks file.items) b → b.name ≡ row.name → (q : written.Equation) → Contains b.equations q
@@ -130,21 +127,21 @@ module _ (file : File) (r : ResolvedParts) (ground : Ground file r) (placed : mi
   forward_of_block b has same q more is =
       let x = kept_from (λ (x : Item Pattern). block_of x.form) file.items b has in
       from x.0 x.1 x.0.form refl x.2 where
-    from : (item : Item Pattern) → Contains file.items item → (form : ItemForm Pattern) → item.form ≡ form → block_of form ≡ Some b
-        → IsSome row.forward
-    from item there (f.Lexical role name pattern) e o = absurd (cc o)
-    from item there (f.Plain plain) e o = absurd (cc o)
-    from item there (f.Production role p) e o =
-        let declared = kept (λ (x : Item Pattern). production_of x.form) file.items item (record { role = role; production = p }) there (ap production_of e) in
-        let block : record { name = p.name; equations = p.equations } ≡ b = cc in
-        let named : p.name ≡ row.name = ap (λ (z : Block). z.name) block ∙ same in
-        let own = own_row file r ground (record { role = role; production = p }) declared at_row row is_there named in
-        beside_one (IsWrittenForward n file.owner (labels_in row)) (forward_equations (equations_on p.name file.items)) q row.forward
-        (filter_contains (λ (z : written.Equation). makes_forward z.target) (equations_on p.name file.items) q
-        (equations_of_block p.name file.items b has (ap (λ (z : Block). z.name) (sym block)) q more) (ap makes_forward is)) own.forward
-    from item there (f.Aspect name es) e o =
-        let block : record { name = name; equations = es } ≡ b = cc in
-        absurd (no_forward item there name es e q (subst (λ (z : Block). Contains z.equations q) (sym block) more) is)
+        from : (item : Item Pattern) → Contains file.items item → (form : ItemForm Pattern) → item.form ≡ form → block_of form ≡ Some b
+            → IsSome row.forward
+        from item there (f.Lexical role name pattern) e o = absurd (cc o)
+        from item there (f.Plain plain) e o = absurd (cc o)
+        from item there (f.Production role p) e o =
+            let declared = kept (λ (x : Item Pattern). production_of x.form) file.items item (record { role = role; production = p }) there (ap production_of e) in
+            let block : record { name = p.name; equations = p.equations } ≡ b = cc in
+            let named : p.name ≡ row.name = ap (λ (z : Block). z.name) block ∙ same in
+            let own = own_row file r ground (record { role = role; production = p }) declared at_row row is_there named in
+            beside_one (IsWrittenForward n file.owner (labels_in row)) (forward_equations (equations_on p.name file.items)) q row.forward
+            (filter_contains (λ (z : written.Equation). makes_forward z.target) (equations_on p.name file.items) q
+            (equations_of_block p.name file.items b has (ap (λ (z : Block). z.name) (sym block)) q more) (ap makes_forward is)) own.forward
+        from item there (f.Aspect name es) e o =
+            let block : record { name = name; equations = es } ≡ b = cc in
+            absurd (no_forward item there name es e q (subst (λ (z : Block). Contains z.equations q) (sym block) more) is)
 
   forward_target : (b : Block) → Contains (blocks file.items) b → (q : written.Equation) → Contains b.equations q → (to : Target)
       → q.target ≡ to → target_declaration b.name to ≡ d.Forward row.name → IsSome row.forward

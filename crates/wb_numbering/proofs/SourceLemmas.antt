@@ -1,7 +1,7 @@
 -- Numbered lists by what they come from: there is one, and what it keeps.
-use Rattle.std.proofs.Common.{◌≡◌, ◌++◌, ◌∷◌, ◌⊎◌, inl, inr, [], ℕ, zero, suc, List, Some, All, map, length, slice_get, ap, sym, refl, subst, ◌∙◌}
+use Rattle.std.proofs.Common.{◌≡◌, ◌++◌, ◌∷◌, [], List, All, map, ap, sym, refl, subst, ◌∙◌}
 use Rattle.std.specs.List.{AllZip}
-use Rattle.std.proofs.lemmas.List.Elements.{All-nil, All-cons, All-head, All-tail}
+use Rattle.std.proofs.lemmas.List.Elements.{All-head, All-tail}
 use Rattle.wb_lemmas.proofs.Zips.{zip_map}
 use Rattle.wb_numbering.specs.Sources.{Splits, nothing, leads, follows, AreGrouped}
 

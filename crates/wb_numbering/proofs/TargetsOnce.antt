@@ -1,7 +1,7 @@
 -- No two equations of a production have one target, and no attribute occurs twice on a nonterminal, where declarations are once.
-use Rattle.std.proofs.Common.{◌≡◌, ◌≤◌, ◌<◌, ◌+◌, ◌++◌, ◌∷◌, ◌⊎◌, inl, inr, [], ℕ, Bool, true, false, List, Option, Some, None, Contains, map, cond, slice_get}
+use Rattle.std.proofs.Common.{◌≡◌, ◌≤◌, ◌+◌, ◌++◌, ◌∷◌, ◌⊎◌, inl, inr, [], ℕ, Bool, true, false, List, Option, Some, None, Contains, map, cond, slice_get}
 use Rattle.std.proofs.Common.{ap, sym, refl, subst, ◌∙◌, arith, ◌&&◌}
-use Rattle.std.specs.Prelude.{flat_map, filter, filter_map, option_to_list, option_map}
+use Rattle.std.specs.Prelude.{flat_map, filter, option_to_list, option_map}
 use Rattle.std.specs.List.{AllZip}
 use Rattle.std.specs.Str.{bytes_eq}
 use Rattle.std.proofs.lemmas.List.{append-nil}
@@ -13,8 +13,6 @@ use Rattle.wb_lemmas.proofs.Places.{at_once}
 use Rattle.wb_lemmas.proofs.Zips.{zip_at, beside}
 use Rattle.wb_base.specs.Different.{Differ}
 use Rattle.wb_base.specs.declared.symbol.Kind.TheVariants as kind
-use Rattle.wb_resolved.specs.declared.attributes.Occurrence.{Occurrence}
-use Rattle.wb_resolved.specs.declared.attribution.AttributionParts.{AttributionParts}
 use Rattle.wb_resolved.specs.declared.equation.Equation.{Equation}
 use Rattle.wb_resolved.specs.declared.equation.Place.{Place}
 use Rattle.wb_resolved.specs.declared.equation.Place.TheVariants as place
@@ -27,40 +25,37 @@ use Rattle.wb_resolved.specs.declared.production.Local.{Local}
 use Rattle.wb_resolved.specs.declared.production.Production.{Production}
 use Rattle.wb_resolved.specs.declared.resolved.ResolvedParts.{ResolvedParts}
 use Rattle.wb_resolved.specs.Named.{IsNamedEquation, IsNamedProduction, IsNamedTarget}
-use Rattle.wb_resolved.specs.Once.{Entry, OccursOnce}
-use Rattle.wb_resolved.specs.Visible.{SeesPlace, kind_at}
+use Rattle.wb_resolved.specs.Once.{Entry}
+use Rattle.wb_resolved.specs.Visible.{kind_at}
 use Rattle.wb_syntax.specs.declared.expression.Equation as written
 use Rattle.wb_syntax.specs.declared.expression.Target as is_for
 use Rattle.wb_syntax.specs.declared.expression.Target.TheVariants as g
 use Rattle.wb_syntax.specs.declared.item.Item.{Item}
 use Rattle.wb_syntax.specs.declared.item.ItemForm.{ItemForm}
 use Rattle.wb_syntax.specs.declared.item.ItemForm.TheVariants as f
-use Rattle.wb_syntax.specs.declared.item.PlainForm.TheVariants as i
 use Rattle.wb_syntax.specs.declared.pattern.Pattern.{Pattern}
 use Rattle.wb_naming.specs.declared.declaration.Declaration.{Declaration}
 use Rattle.wb_naming.specs.declared.declaration.Declaration.TheVariants as d
 use Rattle.wb_naming.specs.declared.declaration.Site.{Site}
 use Rattle.wb_naming.specs.declared.declaration.Site.TheVariants as site
-use Rattle.wb_naming.specs.Declarations.{Items, ProductionDeclaration, OccurrenceDeclaration, productions, occurrences, plain_items, plain_of}
-use Rattle.wb_naming.specs.Declarations.{occurrence_of}
+use Rattle.wb_naming.specs.Declarations.{Items, ProductionDeclaration}
 use Rattle.wb_naming.specs.Declares.{base_declarations, item_declarations, form_declarations, declarations, production_declarations, child_declaration}
 use Rattle.wb_naming.specs.Declares.{equation_declarations, target_declaration, target_attribute, target_site, label_at, name_in, attribute_name}
-use Rattle.wb_naming.specs.Declares.{nonterminal_name}
 use Rattle.wb_naming.specs.Hold.{AreOnce}
 use Rattle.wb_numbering.specs.Files.{File, Block, blocks, block_of, equations_on}
 use Rattle.wb_numbering.specs.Numbering.{Numbering, numbering_of, labels_in, IsNumber, IsPlace}
-use Rattle.wb_numbering.specs.Moved.{IsMovedChild, IsMovedEquation, IsMovedPlace, IsMovedTarget, IsMovedNumber}
-use Rattle.wb_numbering.specs.Resolves.{move_of, IsOccurrence}
+use Rattle.wb_numbering.specs.Moved.{IsMovedChild, IsMovedEquation, IsMovedPlace, IsMovedTarget}
+use Rattle.wb_numbering.specs.Resolves.{move_of}
 use Rattle.wb_numbering.specs.Rows.{IsProductionRow, IsExtendedProduction}
 use Rattle.wb_numbering.specs.Sources.{sources, IsFrom}
 use Rattle.wb_numbering.specs.Written.{IsWrittenEquation, IsWrittenTarget, attribute_equations, makes_attribute}
-use Rattle.wb_numbering.proofs.Counts.{times_sources, times_blocks, times_nested, count_items, count_base, count_production}
-use Rattle.wb_numbering.proofs.Found.{moved_attribute, moved_nonterminal}
+use Rattle.wb_numbering.proofs.Counts.{times_sources, times_blocks, count_items, count_base, count_production}
+use Rattle.wb_numbering.proofs.Found.{moved_attribute}
 use Rattle.wb_numbering.proofs.Ground.{Ground, moved_number}
 use Rattle.wb_numbering.proofs.LabelsOnce.{map_cond}
 use Rattle.wb_numbering.proofs.RowLemmas.{source_before}
 use Rattle.wb_numbering.proofs.Selected.{bytes_same, same_bytes}
-use Rattle.wb_numbering.proofs.Times.{is_same, same_site, same_site_itself, once_where, times, times_append, times_map, times_flat_map, times_once}
+use Rattle.wb_numbering.proofs.Times.{is_same, same_site, same_site_itself, once_where, times, times_append, times_flat_map, times_once}
 use Rattle.wb_numbering.proofs.Times.{one_place}
 
 -- a number has one name
@@ -101,7 +96,7 @@ module _ (p a : List ℕ) (s : Site) where
   equations_count name same [] = omega arith
   equations_count name same (e ∷ es) =
       let r = target_counts name same e.target (map written_mark (attribute_equations es)) (times x (equation_declarations name es))
-          (equations_count name same es) in
+      (equations_count name same es) in
       let c = ap (times x) (map_cond written_mark (makes_attribute e.target) e (attribute_equations es)) in
       omega (arith, r, c)
 
@@ -206,7 +201,7 @@ module _ (n : Numbering) (owner : ℕ) (row : Production) where
       let c = calls x.other u.0 (contains_at xs x.other i x.at) x.related in
       let k = calls y.other v.0 (contains_at xs y.other j y.at) y.related in
       let same = one_call to c.attribute k.attribute c.at k.at
-          (subst (λ z. IsCalled z c.attribute c.at) u.2 c.called) (subst (λ z. IsCalled z k.attribute k.at) v.2 k.called) in
+      (subst (λ z. IsCalled z c.attribute c.at) u.2 c.called) (subst (λ z. IsCalled z k.attribute k.at) v.2 k.called) in
       one_place (given p c.attribute c.at) (map mark xs) (few c.attribute c.at) i j (mark x.other) (mark y.other)
       (slice_get-map mark xs i ∙ ap (option_map mark) x.at) (slice_get-map mark xs j ∙ ap (option_map mark) y.at)
       (subst (λ z. is_same (given p c.attribute c.at) z ≡ true) (sym c.is)
@@ -243,9 +238,9 @@ module _ (file : File) (r : ResolvedParts) (ground : Ground file r) (once : AreO
         subst (IsPlace (labels_in row) file.owner (label_at q (place.Child k))) (sym m)
         (slice_get-map (λ (c : Child). c.label) row.children k ∙ (ap (option_map (λ (c : Child). c.label)) t.there
         ∙ ap Some (t.related.label ∙ sym (ap (name_in (λ (c : Child). c.label)) c.1)))) where
-      child_at : (o : Option Child) → option_map (λ (c : Child). c.kind) o ≡ Some is → (c : Child) × (o ≡ Some c)
-      child_at None never = absurd (cc never)
-      child_at (Some c) some = (c, refl)
+          child_at : (o : Option Child) → option_map (λ (c : Child). c.kind) o ≡ Some is → (c : Child) × (o ≡ Some c)
+          child_at None never = absurd (cc never)
+          child_at (Some c) some = (c, refl)
     moved_label (place.Local k) to is there m =
         subst (IsPlace (labels_in row) file.owner (label_at q (place.Local k))) (sym m.2)
         (moved_number (λ (y : Local). (y.owner, y.label)) q.locals (labels_in row).locals (ground.host.locals q has) file.owner k m.0 m.1)
@@ -288,7 +283,7 @@ module _ (file : File) (r : ResolvedParts) (ground : Ground file r) (once : AreO
     source_called (inl y) v listed t =
         let inside = source_before q.equations own y listed in
         let named = all_contained (IsNamedEquation file.base.attributes q) q.equations y
-            (all_contained (IsNamedProduction file.base.attributes) file.base.attributes.productions q ground.base.attributes.named.productions has).equations inside in
+        (all_contained (IsNamedProduction file.base.attributes) file.base.attributes.productions q ground.base.attributes.named.productions has).equations inside in
         base_called y.target v.target (subst (λ o. IsNamedTarget file.base.attributes q o y.target) (ground.host.equations q has y inside) named.target)
         t.target
     source_called (inr y) v listed t = written_called n file.owner row q.name y.target v.target t.target

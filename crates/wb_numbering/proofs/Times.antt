@@ -1,10 +1,10 @@
 -- How often something is declared: once at most, where declarations are once.
-use Rattle.std.proofs.Common.{◌≡◌, ◌≢◌, ◌≤◌, ◌<◌, ◌+◌, ◌++◌, ◌∷◌, [], ℕ, zero, suc, Bool, true, false, List, Some, Contains, map, cond, slice_get, ap, inl, inr}
+use Rattle.std.proofs.Common.{◌≡◌, ◌≤◌, ◌<◌, ◌+◌, ◌++◌, ◌∷◌, [], ℕ, zero, suc, Bool, true, false, List, Some, Contains, map, slice_get, ap, inl, inr}
 use Rattle.std.proofs.Common.{sym, refl, subst, ◌∙◌, arith, ◌&&◌}
 use Rattle.std.specs.Prelude.{flat_map}
 use Rattle.std.specs.Str.{bytes_eq}
 use Rattle.std.proofs.lemmas.Bool.{false≢true, cases_lt}
-use Rattle.wb_lemmas.proofs.Booleans.{and_parts, and_both}
+use Rattle.wb_lemmas.proofs.Booleans.{and_parts}
 use Rattle.wb_lemmas.proofs.Members.{contains_cases, nothing_in}
 use Rattle.wb_lemmas.proofs.Places.{nothing_at}
 use Rattle.wb_resolved.specs.declared.attributes.Direction.{Direction}
@@ -198,8 +198,8 @@ times_flat_map x f [] y has = absurd (nothing_in y has)
 times_flat_map {X} x f (z ∷ ys) y has =
     let both = times_append x (f z) (flat_map f ys) in
     elim (contains_cases z y ys has) [
-      inl is ↦ let first : times x (f z) ≡ times x (f y) = ap (λ k. times x (f k)) is in omega (arith, both, first)
-    | inr more ↦ let r = times_flat_map x f ys y more in omega (arith, both, r)
+      | inl is ↦ let first : times x (f z) ≡ times x (f y) = ap (λ k. times x (f k)) is in omega (arith, both, first)
+      | inr more ↦ let r = times_flat_map x f ys y more in omega (arith, both, r)
     ]
 
 -- something that is there is at a place
@@ -260,9 +260,9 @@ pub one_place : (x : Declaration) (ys : List Declaration) → times x ys ≤ 1 �
     → slice_get ys j ≡ Some z → is_same x y ≡ true → is_same x z ≡ true → i ≡ j
 one_place x ys few i j y z a b e f =
     elim (cases_lt i j) [
-      inl before ↦ let r = at_two x ys i j y z before a b e f in absurd (omega (arith, few, r))
-    | inr not_before ↦ elim (cases_lt j i) [
-        inl after ↦ let r = at_two x ys j i z y after b a f e in absurd (omega (arith, few, r))
-      | inr not_after ↦ omega (arith, not_before, not_after)
+      | inl before ↦ let r = at_two x ys i j y z before a b e f in absurd (omega (arith, few, r))
+      | inr not_before ↦ elim (cases_lt j i) [
+        | inl after ↦ let r = at_two x ys j i z y after b a f e in absurd (omega (arith, few, r))
+        | inr not_after ↦ omega (arith, not_before, not_after)
       ]
     ]

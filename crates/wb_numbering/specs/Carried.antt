@@ -1,5 +1,5 @@
 -- That one resolved specification is in another, in whose numbers all of it is found again.
-use Rattle.std.specs.Prelude.{◌≡◌, ℕ, List, Some, Contains, slice_get, option_to_list}
+use Rattle.std.specs.Prelude.{◌≡◌, ℕ, List, Contains, option_to_list}
 use Rattle.std.specs.List.{AllZip}
 use Rattle.wb_resolved.specs.declared.attributes.Attribute.{Attribute}
 use Rattle.wb_resolved.specs.declared.attributes.Nonterminal.{Nonterminal}

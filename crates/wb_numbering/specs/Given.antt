@@ -1,5 +1,5 @@
 -- What is given with a file, and that it then stands for a resolved specification.
-use Rattle.std.specs.Prelude.{◌≡◌, ℕ, [], All}
+use Rattle.std.specs.Prelude.{◌≡◌, [], All}
 use Rattle.wb_base.specs.Different.{Differ}
 use Rattle.wb_base.specs.Identifiers.{IsName}
 use Rattle.wb_resolved.specs.declared.resolved.ResolvedParts.{ResolvedParts}

@@ -1,5 +1,5 @@
 -- That a file stands for one value at most.
-use Rattle.std.specs.Prelude.{◌≡◌, ◌⊎◌, ℕ, All}
+use Rattle.std.specs.Prelude.{◌≡◌, All}
 use Rattle.wb_resolved.specs.declared.production.Production.{Production}
 use Rattle.wb_resolved.specs.declared.resolved.ResolvedParts.{ResolvedParts}
 use Rattle.wb_resolved.specs.Owners.{Sees}

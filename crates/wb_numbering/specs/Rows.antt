@@ -1,5 +1,5 @@
 -- The rows of what a file declares, and of the base's productions with what the file writes on them.
-use Rattle.std.specs.Prelude.{◌≡◌, ◌≢◌, ◌⊎◌, ℕ, List, map, option_to_list}
+use Rattle.std.specs.Prelude.{◌≡◌, ℕ, List, option_to_list}
 use Rattle.std.specs.List.{AllZip}
 use Rattle.wb_resolved.specs.declared.attributes.Attribute.{Attribute}
 use Rattle.wb_resolved.specs.declared.attributes.Nonterminal.{Nonterminal}

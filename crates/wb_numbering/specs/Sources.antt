@@ -1,5 +1,5 @@
 -- Numbered lists by what they come from: what was there before, and then what a file declares.
-use Rattle.std.specs.Prelude.{◌≡◌, ◌⊎◌, ◌++◌, List, [], ◌∷◌, map}
+use Rattle.std.specs.Prelude.{◌⊎◌, ◌++◌, List, [], ◌∷◌, map}
 use Rattle.std.proofs.Common.{inl, inr}
 use Rattle.std.specs.List.{AllZip}
 
