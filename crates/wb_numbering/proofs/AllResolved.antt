@@ -1,5 +1,6 @@
 -- A value that a file stands for is a resolved specification, where the names of the file are right.
-use Rattle.std.proofs.Common.{◌≡◌, ◌≢◌, ◌≤◌, ◌<◌, ◌++◌, ◌∷◌, ◌⊎◌, ◌↔◌, inl, inr, [], ℕ, zero, suc, Bool, true, false, List, Option, Some, None}
+use Rattle.std.proofs.Common.{◌≡◌, ◌≢◌, ◌≤◌, ◌<◌, ◌++◌, ◌∷◌, ◌⊎◌, ◌↔◌, inl, inr, [], ℕ, zero, suc, Bool, true, false, List, Option, Some}
+use Rattle.std.proofs.Common.{None}
 use Rattle.std.proofs.Common.{Contains, All, map, take, length, slice_get, ap, sym, refl, subst, ◌∙◌, arith, length-append}
 use Rattle.std.specs.Prelude.{IfSome, option_map, option_to_list}
 use Rattle.std.specs.List.{AllZip}
@@ -52,7 +53,8 @@ use Rattle.wb_naming.specs.declared.declaration.Declaration.TheVariants as d
 use Rattle.wb_naming.specs.declared.declaration.Sort.{Sort}
 use Rattle.wb_naming.specs.declared.declaration.Sort.TheVariants as sort
 use Rattle.wb_naming.specs.Declarations.{LexicalDeclaration, AttributeDeclaration, PreferenceDeclaration, ProductionDeclaration, lexicals}
-use Rattle.wb_naming.specs.Declarations.{attributes, occurrences, nonterminals, productions, preferences, extensibles, starts, plain_items, lexical_of}
+use Rattle.wb_naming.specs.Declarations.{attributes, occurrences, nonterminals, productions, preferences, extensibles, starts, plain_items}
+use Rattle.wb_naming.specs.Declarations.{lexical_of}
 use Rattle.wb_naming.specs.Declarations.{start_of, extensible_of}
 use Rattle.wb_naming.specs.Declares.{item_declarations, role_sort, terminal_sort, plain_declaration, target_declaration}
 use Rattle.wb_naming.specs.Hold.{NamesHold}
@@ -62,7 +64,8 @@ use Rattle.wb_numbering.specs.Files.{File, IsInGrammar}
 use Rattle.wb_numbering.specs.Given.{IsFile, GivesResolved}
 use Rattle.wb_numbering.specs.Moved.{IsMovedTerminalNumber, IsMovedChild, IsMovedChildKind, IsMovedNonterminalNumber}
 use Rattle.wb_numbering.specs.Numbering.{Numbering, numbering_of, IsNumber}
-use Rattle.wb_numbering.specs.Resolves.{Resolves, move_of, starts_of, IsTerminal, IsNonterminal, IsAttribute, IsOccurrence, IsProduction, IsPreference}
+use Rattle.wb_numbering.specs.Resolves.{Resolves, move_of, starts_of, IsTerminal, IsNonterminal, IsAttribute, IsOccurrence, IsProduction}
+use Rattle.wb_numbering.specs.Resolves.{IsPreference}
 use Rattle.wb_numbering.specs.Resolves.{IsScanned, IsInGrammarOf, IsConcrete, IsNonterminalNumber, IsGrammarRow}
 use Rattle.wb_numbering.specs.Rows.{terminal_kind}
 use Rattle.wb_numbering.specs.Sources.{sources, AreGrouped}
@@ -145,9 +148,11 @@ module _ (file : File) (r : ResolvedParts) (given : IsFile file) (k : Known file
         let s = source_of (IsInGrammarOf file) (IsNonterminal file n) (sources b.nonterminals (nonterminals file.items)) a.nonterminals
         ground.resolves.nonterminals number row at in
         named_nonterminal file r k owners number row at s.source s.listed s.is_row;
-    attributes = all_zipped (IsAttribute file n) (IsNamedAttribute a) (sources b.attributes (attributes file.items)) a.attributes ground.resolves.attributes
+    attributes = all_zipped (IsAttribute file n) (IsNamedAttribute a) (sources b.attributes (attributes file.items)) a.attributes
+        ground.resolves.attributes
         (named_attribute file r k owners);
-    occurrences = all_zipped (IsOccurrence file n) (IsNamedOccurrence a) (sources b.occurrences (occurrences file.items)) a.occurrences ground.resolves.occurrences
+    occurrences = all_zipped (IsOccurrence file n) (IsNamedOccurrence a) (sources b.occurrences (occurrences file.items)) a.occurrences
+        ground.resolves.occurrences
         (named_occurrence file r k owners);
     productions = all_named file r k owners;
   }
@@ -168,7 +173,8 @@ module _ (file : File) (r : ResolvedParts) (given : IsFile file) (k : Known file
   production_leads j (inl p) row has at e = (λ q. sym e.role ∙ q, λ q. e.role ∙ q)
   production_leads j (inr x) row has at e = (λ q. sym e.role ∙ q, λ q. e.role ∙ q)
 
-  owner_of_production : (x : Production ⊎ ProductionDeclaration) (row : Production) → Contains (sources b.productions (productions file.items)) x
+  owner_of_production : (x : Production ⊎ ProductionDeclaration) (row : Production)
+      → Contains (sources b.productions (productions file.items)) x
       → IsProduction file n x row → row.owner ≡ production_owner file.owner x
   owner_of_production (inl p) row has e = e.owner_is
   owner_of_production (inr x) row has e = e.owner_is
@@ -200,11 +206,13 @@ module _ (file : File) (r : ResolvedParts) (given : IsFile file) (k : Known file
   }
 
   -- terminals
-  marker_of_host : (x : LexicalDeclaration) → Contains (lexicals file.items) x → x.role ≡ lexical_role.Marking → (o : ℕ) → file.owner ≡ o → o ≡ 0 → ⊥
+  marker_of_host : (x : LexicalDeclaration) → Contains (lexicals file.items) x → x.role ≡ lexical_role.Marking → (o : ℕ)
+      → file.owner ≡ o → o ≡ 0 → ⊥
   marker_of_host x has marking (suc o) is zero_is = absurd (omega (arith, zero_is))
   marker_of_host x has marking zero is zero_is =
       let m = kept_from (λ (y : Item Pattern). lexical_of y.form) file.items x has in
-      let inside = flat_map_contains (λ (y : Item Pattern). form_misplaced file.owner y.form) file.items m.0 x.name m.1 (from m.0.form m.2) in
+      let inside = flat_map_contains (λ (y : Item Pattern). form_misplaced file.owner y.form) file.items m.0 x.name m.1 (from m.0.form m.2)
+      in
       nothing_in x.name (subst (λ z. Contains z x.name) k.hold.placed inside) where
         from : (form : ItemForm Pattern) → lexical_of form ≡ Some x → Contains (form_misplaced file.owner form) x.name
         from (f.Plain y) e = absurd (cc e)
@@ -254,7 +262,8 @@ module _ (file : File) (r : ResolvedParts) (given : IsFile file) (k : Known file
       sym before.owner_is ∙ ground.host.terminals before.row (contains_at file.base.terminals before.row j before.is) in
       sees_terminal owner m.name i (record { other = m.owner; is = m.after; seen = inl zero_is })
 
-  named_preference : (x : Preference ⊎ PreferenceDeclaration) (row : Preference) → Contains (sources file.base.preferences (preferences file.items)) x
+  named_preference : (x : Preference ⊎ PreferenceDeclaration) (row : Preference) → Contains (sources file.base.preferences (preferences
+      file.items)) x
       → Contains r.preferences row → IsPreference file n x row → IsNamedPreference r row
   named_preference (inl x) row has listed e = record {
     owner = 0;
@@ -291,7 +300,8 @@ module _ (file : File) (r : ResolvedParts) (given : IsFile file) (k : Known file
   extensible_own name has = let z = kept_from extensible_of (plain_items file.items) name has in from z.0 z.1 z.2 where
     from : (form : PlainForm) → Contains (plain_items file.items) form → extensible_of form ≡ Some name
         → Contains (item_declarations file.items) (d.Extensible name)
-    from (i.Extensible m) there e = let same : m ≡ name = cc in plain_own name (d.Extensible name) (i.Extensible m) there (ap d.Extensible same)
+    from (i.Extensible m) there e = let same : m ≡ name = cc in plain_own name (d.Extensible name) (i.Extensible m) there (ap d.Extensible
+        same)
     from (i.Prefer first second) there e = absurd (cc e)
     from (i.Nonterminal m) there e = absurd (cc e)
     from (i.Start m) there e = absurd (cc e)
@@ -332,7 +342,8 @@ module _ (file : File) (r : ResolvedParts) (given : IsFile file) (k : Known file
       → AllZip (IsNonterminalNumber file n) (sources before declared) numbers
       → ((o : ℕ) → file.owner ≡ suc o → (name : List ℕ) → Contains declared name → ⊥) → All (SeesNonterminal a 0) numbers
   host_numbers before declared numbers all never =
-      all_zipped (IsNonterminalNumber file n) (SeesNonterminal a 0) (sources before declared) numbers all (λ x i has listed e. from x i has e) where
+      all_zipped (IsNonterminalNumber file n) (SeesNonterminal a 0) (sources before declared) numbers all (λ x i has listed e. from x i has
+      e) where
         from : (x : ℕ ⊎ List ℕ) (i : ℕ) → Contains (sources before declared) x → IsNonterminalNumber file n x i → SeesNonterminal a 0 i
         from (inl j) i has e = host_number j i e
         from (inr name) i has e = own_number file.owner refl name i e (λ o is. never o is name (source_declared before declared name has))
@@ -348,7 +359,8 @@ module _ (file : File) (r : ResolvedParts) (given : IsFile file) (k : Known file
       → ((other : Terminal) → IsTerminal file n x other → (other.name ≡ name) × (other.kind ≡ kind_of) × Sees file.owner other.owner)
       → row.kind ≡ kind_of
   scanned_row j row at name is x has kind_of gives =
-      let h = row_of IsScanned (IsTerminal file n) (sources file.base.terminals (lexicals file.items)) r.terminals ground.resolves.terminals x has in
+      let h = row_of IsScanned (IsTerminal file n) (sources file.base.terminals (lexicals file.items)) r.terminals ground.resolves.terminals
+      x has in
       let f = gives h.row h.is_row in
       let number : IsNumber n.terminals file.owner name h.place = record {
         other = h.row.owner;
@@ -448,7 +460,8 @@ module _ (file : File) (r : ResolvedParts) (given : IsFile file) (k : Known file
   moved_child p has row zero_is (child.Terminal j) c listed e to m number q =
       let same_terminal : child.Terminal m.0 ≡ child.Terminal number = sym m.2 ∙ q in
       let same : m.0 ≡ number = cc in
-      let base = all_contained (λ (c : Child). (number : ℕ) → c.kind ≡ child.Terminal number → IsTerminalChild file.base p.owner number) p.children c
+      let base = all_contained (λ (c : Child). (number : ℕ) → c.kind ≡ child.Terminal number
+      → IsTerminalChild file.base p.owner number) p.children c
       (all_contained (HasGrammarTerminals file.base) b.productions p ground.base.children has) listed j e in
       let there = terminal_there (λ (o : ℕ). o) file.base r ground.distinct (base_carried file r ground.resolves) j number
       (subst (IsMovedTerminalNumber (move_of file n) j) same m.1) in
@@ -479,19 +492,24 @@ module _ (file : File) (r : ResolvedParts) (given : IsFile file) (k : Known file
       → Contains a.productions row → IsProduction file n x row → HasGrammarTerminals r row
   children_of (inl p) row has listed e =
       let inside = source_before b.productions (productions file.items) p has in
-      all_zipped (IsMovedChild (move_of file n)) (λ (c : Child). (number : ℕ) → c.kind ≡ child.Terminal number → IsTerminalChild r row.owner number)
+      all_zipped (IsMovedChild (move_of file n)) (λ (c : Child). (number : ℕ) → c.kind ≡ child.Terminal number
+      → IsTerminalChild r row.owner number)
       p.children row.children e.children
-      (λ c to c_in there m number q. moved_child p inside row (e.owner_is ∙ ground.host.productions p inside) c.kind c c_in refl to.kind m.is_kind number q)
+      (λ c to c_in there m number q. moved_child p inside row (e.owner_is ∙ ground.host.productions p inside) c.kind c c_in refl to.kind
+      m.is_kind number q)
   children_of (inr x) row has listed e =
       let inside = source_declared b.productions (productions file.items) x has in
-      all_zipped (IsWrittenChild n file.owner) (λ (c : Child). (number : ℕ) → c.kind ≡ child.Terminal number → IsTerminalChild r row.owner number)
+      all_zipped (IsWrittenChild n file.owner) (λ (c : Child). (number : ℕ) → c.kind ≡ child.Terminal number
+      → IsTerminalChild r row.owner number)
       x.production.children row.children e.children
       (λ c to c_in there m number q. written_child x inside row e.owner_is c c_in c.kind refl number
       (subst (IsWrittenChildKind n file.owner c.kind) q m.is_kind))
 
   -- terminals and nonterminals are grouped
-  terminal_leads : (j : ℕ) (x : Terminal ⊎ LexicalDeclaration) (row : Terminal) → Contains (sources file.base.terminals (lexicals file.items)) x
-      → slice_get r.terminals j ≡ Some row → IsTerminal file n x row → (row.kind ≢ t.Ignore → IsScanned x) × (IsScanned x → row.kind ≢ t.Ignore)
+  terminal_leads : (j : ℕ) (x : Terminal ⊎ LexicalDeclaration) (row : Terminal) → Contains (sources file.base.terminals (lexicals
+      file.items)) x
+      → slice_get r.terminals j ≡ Some row → IsTerminal file n x row → (row.kind ≢ t.Ignore → IsScanned x) × (IsScanned x
+      → row.kind ≢ t.Ignore)
   terminal_leads j (inl y) row has at e = (λ some q. some (e.kind ∙ q), λ some q. some (sym e.kind ∙ q))
   terminal_leads j (inr y) row has at e = (λ some q. some (e.kind ∙ q), λ some q. some (sym e.kind ∙ q))
 
@@ -501,7 +519,8 @@ module _ (file : File) (r : ResolvedParts) (given : IsFile file) (k : Known file
   owner_of_terminal (inr y) row has e = e.owner_is
 
   -- the number of a row of nonterminals, by its name
-  nonterminal_number : (j : ℕ) (x : Nonterminal ⊎ List ℕ) (row : Nonterminal) → Contains (sources b.nonterminals (nonterminals file.items)) x
+  nonterminal_number : (j : ℕ) (x : Nonterminal ⊎ List ℕ) (row : Nonterminal) → Contains (sources b.nonterminals (nonterminals file.items))
+      x
       → slice_get a.nonterminals j ≡ Some row → IsNonterminal file n x row → IsNumber n.nonterminals file.owner row.name j
   nonterminal_number j (inl y) row has at e = record {
     other = row.owner;
@@ -580,7 +599,8 @@ module _ (file : File) (r : ResolvedParts) (given : IsFile file) (k : Known file
     terminal_iff j row at =
         let s = both_at IsScanned (IsTerminal file n) _ r.terminals tg j row at in
         let lead = terminal_leads j s.source row
-        (contains_split IsScanned _ tg.leading tg.following tg.splits s.source (contains_at (tg.leading ++ tg.following) s.source j s.at)) at s.is_row in
+        (contains_split IsScanned _ tg.leading tg.following tg.splits s.source (contains_at (tg.leading ++ tg.following) s.source j s.at))
+        at s.is_row in
         let below = leads_below IsScanned _ tg.leading tg.following tg.splits j s.source s.at in (
           λ lt. lead.1 (below.0 (subst (λ z. j < z) e.terminals_are lt)),
           λ q. subst (λ z. j < z) (sym e.terminals_are) (below.1 (lead.0 q)),
@@ -600,7 +620,8 @@ module _ (file : File) (r : ResolvedParts) (given : IsFile file) (k : Known file
     production_iff j row at =
         let s = both_at IsConcrete (IsProduction file n) _ a.productions pg j row at in
         let lead = production_leads j s.source row
-        (contains_split IsConcrete _ pg.leading pg.following pg.splits s.source (contains_at (pg.leading ++ pg.following) s.source j s.at)) at s.is_row in
+        (contains_split IsConcrete _ pg.leading pg.following pg.splits s.source (contains_at (pg.leading ++ pg.following) s.source j s.at))
+        at s.is_row in
         let below = leads_below IsConcrete _ pg.leading pg.following pg.splits j s.source s.at in (
           λ lt. lead.1 (below.0 (subst (λ z. j < z) plain_count lt)),
           λ q. subst (λ z. j < z) (sym plain_count) (below.1 (lead.0 q)),
@@ -640,11 +661,13 @@ module _ (file : File) (r : ResolvedParts) (given : IsFile file) (k : Known file
     host = subst IsName (sym ground.resolves.host) given.base.host;
     terminals = all_rows IsScanned (IsTerminal file n) (IsNamedTerminal r) (sources file.base.terminals (lexicals file.items)) r.terminals
         ground.resolves.terminals named_terminal;
-    preferences = all_zipped (IsPreference file n) (IsNamedPreference r) (sources file.base.preferences (preferences file.items)) r.preferences
+    preferences = all_zipped (IsPreference file n) (IsNamedPreference r) (sources file.base.preferences (preferences file.items))
+        r.preferences
         ground.resolves.preferences named_preference;
     start = start_seen r.grammar (host_numbers (starts_of file.base) (starts file.items) (starts_of r) ground.resolves.start no_start);
     extensible = host_numbers file.base.extensible (extensibles file.items) r.extensible ground.resolves.extensible no_extensible;
-    children = all_rows IsConcrete (IsProduction file n) (HasGrammarTerminals r) (sources b.productions (productions file.items)) a.productions
+    children = all_rows IsConcrete (IsProduction file n) (HasGrammarTerminals r) (sources b.productions (productions file.items))
+        a.productions
         ground.resolves.productions children_of;
     once = record {
       symbols = ground.distinct.symbols;
@@ -654,11 +677,14 @@ module _ (file : File) (r : ResolvedParts) (given : IsFile file) (k : Known file
     numbered = record {
       terminals = is_grouped IsScanned (IsTerminal file n) (sources file.base.terminals (lexicals file.items)) r.terminals
           ground.resolves.terminals (terminal_owner file.owner) (λ (y : Terminal). y.owner) (λ j y. y.kind ≢ t.Ignore)
-          (rising_sources (terminal_owner file.owner) file.owner file.base.terminals (lexicals file.items) ground.host.terminals (λ y. refl))
+          (rising_sources (terminal_owner file.owner) file.owner file.base.terminals (lexicals file.items) ground.host.terminals (λ y.
+          refl))
           owner_of_terminal terminal_leads;
-      nonterminals = is_grouped (IsInGrammarOf file) (IsNonterminal file n) (sources b.nonterminals (nonterminals file.items)) a.nonterminals
+      nonterminals = is_grouped (IsInGrammarOf file) (IsNonterminal file n) (sources b.nonterminals (nonterminals file.items))
+          a.nonterminals
           ground.resolves.nonterminals (nonterminal_owner file.owner) (λ (y : Nonterminal). y.owner) (λ j y. IsOfGrammar r j)
-          (rising_sources (nonterminal_owner file.owner) file.owner b.nonterminals (nonterminals file.items) ground.host.nonterminals (λ y. refl))
+          (rising_sources (nonterminal_owner file.owner) file.owner b.nonterminals (nonterminals file.items) ground.host.nonterminals (λ y.
+          refl))
           owner_of_nonterminal nonterminal_leads;
       grammar = grammar_if r.grammar ground.resolves.grammar;
     };

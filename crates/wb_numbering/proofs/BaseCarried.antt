@@ -53,7 +53,8 @@ base_carried file r s =
           r.attributes.nonterminals s.nonterminals (inl t) (there_before b.nonterminals (nonterminals file.items) t has) in
           record { there = x.row; listed = contains_at r.attributes.nonterminals x.row x.place x.at; moved = x.is_row };
       attributes = λ t has.
-          let x = row_of_zip (IsAttribute file n) (sources b.attributes (attributes file.items)) r.attributes.attributes s.attributes (inl t)
+          let x = row_of_zip (IsAttribute file n) (sources b.attributes (attributes file.items)) r.attributes.attributes s.attributes (inl
+          t)
           (there_before b.attributes (attributes file.items) t has) in
           record { there = x.row; listed = contains_at r.attributes.attributes x.row x.place x.at; moved = x.is_row };
       occurrences = λ t has.

@@ -48,7 +48,8 @@ pub row_at : {X : Type 0} (entry : X → Entry) (rows : List X) (k owner : ℕ) 
 row_at {X} entry rows k owner name at = from (slice_get rows k) refl (sym (slice_get-map entry rows k) ∙ at) where
   from : (o : Option X) → slice_get rows k ≡ o → option_map entry (slice_get rows k) ≡ Some (owner, name)
       → Row entry rows k owner name
-  from None is e = let no : option_map entry None ≡ Some (owner, name) = subst (λ o. option_map entry o ≡ Some (owner, name)) is e in absurd (cc no)
+  from None is e = let no : option_map entry None ≡ Some (owner, name) = subst (λ o. option_map entry o ≡ Some (owner, name)) is e in absurd
+      (cc no)
   from (Some x) is e =
       let some : option_map entry (Some x) ≡ Some (owner, name) = subst (λ o. option_map entry o ≡ Some (owner, name)) is e in
       let pair : entry x ≡ (owner, name) = cc in
@@ -79,7 +80,8 @@ row_there entry IsMoved f rows others named differ each k j m =
     let (i, at) = place_of others there.there there.listed in
     let same : entry there.there ≡ (f m.owner, m.name) =
     named before.row there.there there.moved ∙ λ h. (f (before.owner_is h), before.name_is h) in
-    let place : i ≡ j = differ i j (f m.owner) (f m.owner) m.name (name_at entry others i there.there at ∙ ap Some same) m.after (inr refl) in
+    let place : i ≡ j = differ i j (f m.owner) (f m.owner) m.name (name_at entry others i there.there at ∙ ap Some same) m.after (inr refl)
+    in
     record {
       row = before.row;
       is = before.is;

@@ -29,7 +29,8 @@ use Rattle.wb_resolved.specs.Owners.{Sees, IsOwner}
 use Rattle.wb_resolved.specs.Visible.{SeesNonterminal, SeesOccurrence, SeesPlace}
 use Rattle.wb_numbering.specs.Numbering.{numbering_of, labels_in}
 use Rattle.wb_numbering.specs.Renaming.{IsRenamedNode}
-use Rattle.wb_numbering.specs.Moved.{IsMovedKind, IsMovedChildKind, IsMovedChild, IsMovedPlace, IsMovedTarget, IsMovedEquation, IsMovedLocal}
+use Rattle.wb_numbering.specs.Moved.{IsMovedKind, IsMovedChildKind, IsMovedChild, IsMovedPlace, IsMovedTarget, IsMovedEquation}
+use Rattle.wb_numbering.specs.Moved.{IsMovedLocal}
 use Rattle.wb_numbering.specs.Moved.{AreMovedNodes, IsMovedAttributeNumber, IsMovedProductionNumber, IsMovedNonterminalNumber}
 use Rattle.wb_numbering.specs.Carried.{IsCarriedProduction, IsCarried, move_between}
 use Rattle.wb_numbering.proofs.Carrying.{carried_nonterminal, carried_production, carried_occurrence, carried_kind, carried_place}
@@ -118,7 +119,8 @@ module _ (f : ℕ → ℕ) (r s : ResolvedParts) (distinct : AreDistinct (number
   carried_node owner (n.If c d g) to e h = subst (IsNamedNode s.attributes q (f owner)) (sym e) tt
 
   -- an expression
-  pub carried_expression : (owner : ℕ) (nodes others : List Node) → AreMovedNodes (move_between f r s) (labels_in p) (labels_in q) nodes others
+  pub carried_expression : (owner : ℕ) (nodes others : List Node) → AreMovedNodes (move_between f r s) (labels_in p) (labels_in q) nodes
+      others
       → IsNamedExpression r.attributes p owner nodes → IsNamedExpression s.attributes q (f owner) others
   carried_expression owner nodes others all named = record {
     whole = renamed_whole (IsMovedPlace (move_between f r s) (labels_in p) (labels_in q)) (IsMovedAttributeNumber (move_between f r s))
@@ -148,7 +150,8 @@ module _ (f : ℕ → ℕ) (r s : ResolvedParts) (distinct : AreDistinct (number
     pub carried_equation : (e to : Equation) → IsMovedEquation (move_between f r s) (labels_in p) (labels_in q) e to
         → IsNamedEquation r.attributes p e → IsNamedEquation s.attributes q to
     carried_equation e to moved named =
-        let there : Sees (f e.owner) q.owner = subst (Sees (f e.owner)) (sym head.owner) (sees_moved f carried.host e.owner p.owner named.there) in
+        let there : Sees (f e.owner) q.owner = subst (Sees (f e.owner)) (sym head.owner) (sees_moved f carried.host e.owner p.owner
+        named.there) in
         record {
           owner = subst (IsOwner s.attributes.extensions) (sym moved.owner) (owners e.owner named.owner);
           there = subst (λ o. Sees o q.owner) (sym moved.owner) there;
@@ -161,7 +164,8 @@ module _ (f : ℕ → ℕ) (r s : ResolvedParts) (distinct : AreDistinct (number
     pub carried_local : (l to : Local) → IsMovedLocal (move_between f r s) (labels_in p) (labels_in q) l to
         → IsNamedLocal r.attributes p l → IsNamedLocal s.attributes q to
     carried_local l to moved named =
-        let there : Sees (f l.owner) q.owner = subst (Sees (f l.owner)) (sym head.owner) (sees_moved f carried.host l.owner p.owner named.there) in
+        let there : Sees (f l.owner) q.owner = subst (Sees (f l.owner)) (sym head.owner) (sees_moved f carried.host l.owner p.owner
+        named.there) in
         record {
           owner = subst (IsOwner s.attributes.extensions) (sym moved.owner) (owners l.owner named.owner);
           there = subst (λ o. Sees o q.owner) (sym moved.owner) there;
@@ -184,7 +188,8 @@ module _ (f : ℕ → ℕ) (r s : ResolvedParts) (distinct : AreDistinct (number
   carried_child_kind owner Abstract (child.Value is) to e h =
       subst (IsChildKindOf s.attributes (f owner) Abstract) (sym e.2) (carried_kind f r s distinct carried owner is e.0 h e.1)
 
-  pub carried_child : (c to : Child) → IsMovedChild (move_between f r s) c to → IsNamedChild r.attributes p c → IsNamedChild s.attributes q to
+  pub carried_child : (c to : Child) → IsMovedChild (move_between f r s) c to → IsNamedChild r.attributes p c
+      → IsNamedChild s.attributes q to
   carried_child c to moved named = record {
     label = subst IsName (sym moved.label) named.label;
     is_kind = subst (λ o. IsChildKindOf s.attributes o q.role to.kind) (sym head.owner)

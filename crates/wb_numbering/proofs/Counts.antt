@@ -20,7 +20,8 @@ use Rattle.wb_naming.specs.declared.declaration.Declaration.TheVariants as d
 use Rattle.wb_naming.specs.declared.declaration.Labelled.TheVariants as label
 use Rattle.wb_naming.specs.declared.declaration.Sort.TheVariants as sort
 use Rattle.wb_naming.specs.Declarations.{Items}
-use Rattle.wb_naming.specs.Declares.{base_declarations, item_declarations, form_declarations, terminal_sort, attribute_name, nonterminal_name}
+use Rattle.wb_naming.specs.Declares.{base_declarations, item_declarations, form_declarations, terminal_sort, attribute_name}
+use Rattle.wb_naming.specs.Declares.{nonterminal_name}
 use Rattle.wb_naming.specs.Declares.{production_declarations, base_labelled, forward_declarations, target_attribute, target_site}
 use Rattle.wb_numbering.specs.Sources.{sources, Splits, nothing, leads, follows, AreGrouped}
 use Rattle.wb_numbering.proofs.Times.{is_same, once_where, times, times_append}
@@ -61,7 +62,8 @@ module _ (x : Declaration) where
   times_map_append f [] b = omega arith
   times_map_append f (y ∷ a) b = let r = times_map_append f a b in omega (arith, r)
 
-  pub times_map_map : {X Y : Type 0} (f : Y → Declaration) (g : X → Y) (ys : List X) → times x (map f (map g ys)) ≡ times x (map (λ y. f (g y)) ys)
+  pub times_map_map : {X Y : Type 0} (f : Y → Declaration) (g : X → Y) (ys : List X)
+      → times x (map f (map g ys)) ≡ times x (map (λ y. f (g y)) ys)
   times_map_map f g [] = refl
   times_map_map f g (y ∷ ys) = let r = times_map_map f g ys in omega (arith, r)
 

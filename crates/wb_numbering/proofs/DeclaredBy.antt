@@ -23,7 +23,8 @@ use Rattle.wb_naming.specs.declared.declaration.Sort.TheVariants as sort
 use Rattle.wb_naming.specs.Declarations.{Items, LexicalDeclaration, ProductionDeclaration, lexicals, productions, plain_items}
 use Rattle.wb_naming.specs.Declares.{base_declarations, item_declarations, declarations, plain_declaration, role_sort}
 use Rattle.wb_naming.specs.Declares.{child_declaration, target_declaration, terminal_sort, nonterminal_name}
-use Rattle.wb_naming.specs.Declares.{attribute_name, base_labelled, target_attribute, target_site, forward_declarations, production_declarations}
+use Rattle.wb_naming.specs.Declares.{attribute_name, base_labelled, target_attribute, target_site, forward_declarations}
+use Rattle.wb_naming.specs.Declares.{production_declarations}
 use Rattle.wb_numbering.specs.Files.{Block, blocks}
 use Rattle.wb_numbering.proofs.RowLemmas.{contains_map}
 use Rattle.wb_numbering.proofs.OwnDeclared.{IsOwnDeclared, own_declared, contains_flat_map, flat_map_contains}
@@ -34,10 +35,12 @@ pub data IsDeclaredBy (base : ResolvedParts) (items : Items) (it : Declaration) 
   base_terminal : (x : Terminal) → Contains base.terminals x → d.Symbol x.name (terminal_sort x.kind) ≡ it → IsDeclaredBy base items it
   base_nonterminal : (x : Nonterminal) → Contains base.attributes.nonterminals x → d.Symbol x.name sort.Nonterminal ≡ it
       → IsDeclaredBy base items it
-  base_attribute : (x : Attribute) → Contains base.attributes.attributes x → d.Attribute x.name x.direction ≡ it → IsDeclaredBy base items it
+  base_attribute : (x : Attribute) → Contains base.attributes.attributes x → d.Attribute x.name x.direction ≡ it
+      → IsDeclaredBy base items it
   base_occurrence : (x : Occurrence) → Contains base.attributes.occurrences x
       → d.Occurrence (attribute_name base x.attribute) (nonterminal_name base x.nonterminal) ≡ it → IsDeclaredBy base items it
-  base_symbol : (p : Production) → Contains base.attributes.productions p → d.Symbol p.name sort.Production ≡ it → IsDeclaredBy base items it
+  base_symbol : (p : Production) → Contains base.attributes.productions p → d.Symbol p.name sort.Production ≡ it
+      → IsDeclaredBy base items it
   base_left : (p : Production) → Contains base.attributes.productions p → d.Left p.name (nonterminal_name base p.left) ≡ it
       → IsDeclaredBy base items it
   base_child : (p : Production) → Contains base.attributes.productions p → (c : Child) → Contains p.children c
@@ -56,7 +59,8 @@ pub data IsDeclaredBy (base : ResolvedParts) (items : Items) (it : Declaration) 
       → IsDeclaredBy base items it
   child : (x : ProductionDeclaration) → Contains (productions items) x → (c : named.Child) → Contains x.production.children c
       → child_declaration x.production.name c ≡ it → IsDeclaredBy base items it
-  equation : (b : Block) → Contains (blocks items) b → (e : written.Equation) → Contains b.equations e → target_declaration b.name e.target ≡ it
+  equation : (b : Block) → Contains (blocks items) b → (e : written.Equation) → Contains b.equations e
+      → target_declaration b.name e.target ≡ it
       → IsDeclaredBy base items it
 
 -- the parts of a production of the base
@@ -86,12 +90,14 @@ module _ (base : ResolvedParts) (items : Items) (it : Declaration) (p : Producti
             | inl three ↦ let x = contains_map (λ (c : Child). d.Label p.name c.label (base_labelled base c.kind)) p.children it three in
                 base_child p there x.0 x.1 x.2
             | inr three ↦
-                let x = contains_map (λ (l : Local). d.Label p.name l.label (label.Local (nonterminal_name base l.nonterminal))) p.locals it three in
+                let x = contains_map (λ (l : Local). d.Label p.name l.label (label.Local (nonterminal_name base l.nonterminal))) p.locals it
+                three in
                 base_local p there x.0 x.1 x.2
           ]
           | inr two ↦ in_forward p.forward refl two
         ]
-        | inr one ↦ let x = contains_map (λ (e : Equation). d.Equation p.name (target_attribute base e.target) (target_site p e.target)) p.equations it one in
+        | inr one ↦ let x = contains_map (λ (e : Equation). d.Equation p.name (target_attribute base e.target) (target_site p e.target))
+            p.equations it one in
             base_equation p there x.0 x.1 x.2
       ]
 
@@ -140,7 +146,8 @@ module _ (base : ResolvedParts) (items : Items) (it : Declaration) where
                 base_attribute x.0 x.1 x.2
           ]
           | inr two ↦
-              let x = contains_map (λ (x : Occurrence). d.Occurrence (attribute_name base x.attribute) (nonterminal_name base x.nonterminal))
+              let x = contains_map (λ (x : Occurrence). d.Occurrence (attribute_name base x.attribute) (nonterminal_name base
+              x.nonterminal))
               base.attributes.occurrences it two in
               base_occurrence x.0 x.1 x.2
         ]

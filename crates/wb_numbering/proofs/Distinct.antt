@@ -19,12 +19,14 @@ use Rattle.wb_naming.specs.declared.declaration.Declaration.{Declaration}
 use Rattle.wb_naming.specs.declared.declaration.Declaration.TheVariants as d
 use Rattle.wb_naming.specs.declared.declaration.Sort.TheVariants as sort
 use Rattle.wb_naming.specs.Declarations.{Items, LexicalDeclaration, AttributeDeclaration, ProductionDeclaration, lexicals, nonterminals}
-use Rattle.wb_naming.specs.Declarations.{productions, attributes, plain_items, lexical_of, plain_of, production_of, nonterminal_of, attribute_of}
+use Rattle.wb_naming.specs.Declarations.{productions, attributes, plain_items, lexical_of, plain_of, production_of, nonterminal_of}
+use Rattle.wb_naming.specs.Declarations.{attribute_of}
 use Rattle.wb_naming.specs.Declares.{base_declarations, item_declarations, form_declarations, declarations, terminal_sort}
 use Rattle.wb_naming.specs.Hold.{AreOnce}
 use Rattle.wb_numbering.specs.Files.{File}
 use Rattle.wb_numbering.specs.Numbering.{Numbering, numbering_of}
-use Rattle.wb_numbering.specs.Resolves.{Resolves, IsTerminal, IsNonterminal, IsAttribute, IsProduction, IsScanned, IsInGrammarOf, IsConcrete}
+use Rattle.wb_numbering.specs.Resolves.{Resolves, IsTerminal, IsNonterminal, IsAttribute, IsProduction, IsScanned, IsInGrammarOf}
+use Rattle.wb_numbering.specs.Resolves.{IsConcrete}
 use Rattle.wb_numbering.specs.Sources.{sources}
 use Rattle.wb_numbering.proofs.Counts.{times_grouped, times_zip, times_sources, times_map_append, times_map_map, times_kept, times_nested}
 use Rattle.wb_numbering.proofs.Counts.{count_items, count_base, count_rules}
@@ -91,7 +93,8 @@ module _ (a : List ℕ) where
   attributes_of form =
       times (attribute a) (map (λ (x : AttributeDeclaration). attribute x.name) (filter_map attribute_of (option_to_list (plain_of form))))
 
-  attributes_step : (item : Item Pattern) (items : Items) → attributes_total (item ∷ items) ≡ attributes_of item.form + attributes_total items
+  attributes_step : (item : Item Pattern) (items : Items) → attributes_total (item ∷ items) ≡ attributes_of item.form + attributes_total
+      items
   attributes_step item items =
       times_nested (attribute a) (λ (x : AttributeDeclaration). attribute x.name) attribute_of (plain_of item.form) (plain_items items)
 
@@ -156,7 +159,8 @@ module _ (a : List ℕ) where
         let mark : Entry → Declaration = λ e. symbol e.1 in
         let t = times_grouped x IsScanned (IsTerminal file n) terminal_symbol (λ (v : Terminal). symbol v.name) terminal_row
         (sources file.base.terminals (lexicals file.items)) r.terminals resolves.terminals in
-        let u = times_grouped x (IsInGrammarOf file) (IsNonterminal file n) nonterminal_symbol (λ (v : Nonterminal). symbol v.name) nonterminal_row
+        let u = times_grouped x (IsInGrammarOf file) (IsNonterminal file n) nonterminal_symbol (λ (v : Nonterminal). symbol v.name)
+        nonterminal_row
         (sources b.nonterminals (nonterminals file.items)) r.attributes.nonterminals resolves.nonterminals in
         let p = times_grouped x IsConcrete (IsProduction file n) production_symbol (λ (v : Production). symbol v.name) production_row
         (sources b.productions (productions file.items)) r.attributes.productions resolves.productions in

@@ -139,7 +139,8 @@ module _ (file : File) (r : ResolvedParts) (ground : Ground file r) where
   -- the host's numbers, moved
   pub moved_nonterminal : (k j : ℕ) → IsMovedNonterminalNumber (move_of file n) k j
       → IsNumber n.nonterminals file.owner (nonterminal_name file.base k) j
-  moved_nonterminal = moved_number (λ (x : Nonterminal). (x.owner, x.name)) b.nonterminals n.nonterminals ground.host.nonterminals file.owner
+  moved_nonterminal = moved_number (λ (x : Nonterminal). (x.owner, x.name)) b.nonterminals n.nonterminals ground.host.nonterminals
+      file.owner
 
   pub moved_attribute : (k j : ℕ) → IsMovedAttributeNumber (move_of file n) k j
       → IsNumber n.attributes file.owner (attribute_name file.base k) j
@@ -168,7 +169,8 @@ module _ (file : File) (r : ResolvedParts) (ground : Ground file r) where
       let same : one ≡ name = cc in
       let goes : Synthesized ≡ direction = cc in
       subst (λ k. AttributeFound file r k direction) same (subst (λ k. AttributeFound file r one k) goes
-      (own_attribute (record { name = one; direction = Synthesized; kind = its }) (kept attribute_of (plain_items file.items) _ _ has refl)))
+      (own_attribute (record { name = one; direction = Synthesized; kind = its }) (kept attribute_of (plain_items file.items) _ _ has
+      refl)))
   plain_attribute name direction (i.Inherited one its) has e =
       let same : one ≡ name = cc in
       let goes : Inherited ≡ direction = cc in
@@ -204,7 +206,8 @@ module _ (file : File) (r : ResolvedParts) (ground : Ground file r) where
   attribute_by name direction (by.production x has e) = absurd (false≢true (ap is_attribute e))
   attribute_by name direction (by.left x has e) = absurd (false≢true (ap is_attribute e))
   attribute_by name direction (by.child x has c more e) = absurd (false≢true (ap is_attribute e))
-  attribute_by name direction (by.equation b has q more e) = absurd (false≢true (sym (target_no_attribute b.name q.target) ∙ ap is_attribute e))
+  attribute_by name direction (by.equation b has q more e) = absurd (false≢true (sym (target_no_attribute b.name q.target) ∙ ap is_attribute
+      e))
 
   pub attribute_found : (name : List ℕ) (direction : Direction) → Contains (declarations file.base file.items) (d.Attribute name direction)
       → AttributeFound file r name direction
@@ -213,7 +216,8 @@ module _ (file : File) (r : ResolvedParts) (ground : Ground file r) where
   -- nonterminals
   own_nonterminal : (name : List ℕ) → Contains (nonterminals file.items) name → NameFound n.nonterminals file.owner name
   own_nonterminal name has =
-      let f = row_of (IsInGrammarOf file) (IsNonterminal file n) (sources b.nonterminals (nonterminals file.items)) r.attributes.nonterminals
+      let f = row_of (IsInGrammarOf file) (IsNonterminal file n) (sources b.nonterminals (nonterminals file.items))
+      r.attributes.nonterminals
       ground.resolves.nonterminals (inr name) (there_declared b.nonterminals (nonterminals file.items) name has) in
       record {
         number = f.place;
@@ -227,7 +231,8 @@ module _ (file : File) (r : ResolvedParts) (ground : Ground file r) where
 
   base_nonterminal : (x : Nonterminal) → Contains b.nonterminals x → NameFound n.nonterminals file.owner x.name
   base_nonterminal x has =
-      let f = row_of (IsInGrammarOf file) (IsNonterminal file n) (sources b.nonterminals (nonterminals file.items)) r.attributes.nonterminals
+      let f = row_of (IsInGrammarOf file) (IsNonterminal file n) (sources b.nonterminals (nonterminals file.items))
+      r.attributes.nonterminals
       ground.resolves.nonterminals (inl x) (there_before b.nonterminals (nonterminals file.items) x has) in
       record {
         number = f.place;

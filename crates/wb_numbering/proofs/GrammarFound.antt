@@ -3,7 +3,8 @@ use Rattle.std.proofs.Common.{◌≡◌, ◌++◌, ◌⊎◌, inl, inr, [], ℕ,
 use Rattle.std.proofs.Common.{subst, ◌∙◌}
 use Rattle.std.specs.Prelude.{option_map, option_to_list, flat_map}
 use Rattle.std.specs.List.{AllZip}
-use Rattle.wb_lemmas.proofs.Members.{contains_at, place_of, contains_first, contains_later, contains_cases, contains_append, append_contains_left}
+use Rattle.wb_lemmas.proofs.Members.{contains_at, place_of, contains_first, contains_later, contains_cases, contains_append}
+use Rattle.wb_lemmas.proofs.Members.{append_contains_left}
 use Rattle.wb_lemmas.proofs.Members.{append_contains_right, nothing_in}
 use Rattle.wb_lemmas.proofs.Zips.{zip_at, beside}
 use Rattle.wb_base.specs.declared.symbol.Kind.TheVariants as kind
@@ -38,7 +39,8 @@ use Rattle.wb_numbering.proofs.Ground.{Ground}
 use Rattle.wb_numbering.proofs.NumberLemmas.{one_number}
 use Rattle.wb_numbering.proofs.OneRow.{nonterminals_differ, not_both}
 use Rattle.wb_numbering.proofs.OwnDeclared.{contains_flat_map, flat_map_contains}
-use Rattle.wb_numbering.proofs.RowLemmas.{row_of, row_of_zip, source_of, source_of_zip, source_before, source_declared, there_before, there_declared}
+use Rattle.wb_numbering.proofs.RowLemmas.{row_of, row_of_zip, source_of, source_of_zip, source_before, source_declared, there_before}
+use Rattle.wb_numbering.proofs.RowLemmas.{there_declared}
 use Rattle.wb_numbering.proofs.RowLemmas.{contains_map, map_contains}
 
 -- the start, as an option and as a list
@@ -126,9 +128,12 @@ module _ (file : File) (r : ResolvedParts) (ground : Ground file r) where
   moved_tree : (from : ChildKind) (k : ℕ) → IsMovedChildKind (move_of file n) from (child.Value (kind.Tree k))
       → (j : ℕ) × (from ≡ child.Value (kind.Tree j)) × IsMovedNonterminalNumber (move_of file n) j k
   moved_tree (child.Terminal number) k m = absurd (cc m.2)
-  moved_tree (child.Value kind.Int) k m = let e : child.Value (kind.Tree k) ≡ child.Value kind.Int = m.2 ∙ ap child.Value m.1 in absurd (cc e)
-  moved_tree (child.Value kind.Bool) k m = let e : child.Value (kind.Tree k) ≡ child.Value kind.Bool = m.2 ∙ ap child.Value m.1 in absurd (cc e)
-  moved_tree (child.Value kind.Text) k m = let e : child.Value (kind.Tree k) ≡ child.Value kind.Text = m.2 ∙ ap child.Value m.1 in absurd (cc e)
+  moved_tree (child.Value kind.Int) k m = let e : child.Value (kind.Tree k) ≡ child.Value kind.Int = m.2 ∙ ap child.Value m.1 in absurd (cc
+      e)
+  moved_tree (child.Value kind.Bool) k m = let e : child.Value (kind.Tree k) ≡ child.Value kind.Bool = m.2 ∙ ap child.Value m.1 in absurd
+      (cc e)
+  moved_tree (child.Value kind.Text) k m = let e : child.Value (kind.Tree k) ≡ child.Value kind.Text = m.2 ∙ ap child.Value m.1 in absurd
+      (cc e)
   moved_tree (child.Value (kind.Tree j)) k m =
       let e : child.Value (kind.Tree k) ≡ child.Value (kind.Tree m.1.0) = m.2 ∙ ap child.Value m.1.2 in
       let same : m.1.0 ≡ k = cc in
@@ -187,7 +192,8 @@ module _ (file : File) (r : ResolvedParts) (ground : Ground file r) where
       (λ j has. inl (start_listed (option_map (λ (g : GrammarView). g.start) file.base.grammar) j has)) in_starts k
       (listed_start (option_map (λ (g : GrammarView). g.start) r.grammar) k start)
   grammar_number k (inr (inl has)) =
-      by_number file.base.extensible (extensibles file.items) r.extensible ground.resolves.extensible (λ j is. inr (inl is)) in_extensibles k has
+      by_number file.base.extensible (extensibles file.items) r.extensible ground.resolves.extensible (λ j is. inr (inl is)) in_extensibles
+      k has
   grammar_number k (inr (inr c)) =
       let (i, at) = place_of a.productions c.production c.listed in
       let s = source_of IsConcrete (IsProduction file n) (sources b.productions (productions file.items)) a.productions
@@ -210,19 +216,22 @@ module _ (file : File) (r : ResolvedParts) (ground : Ground file r) where
       → AllZip (IsNonterminalNumber file n) (sources before declared) numbers → (name : List ℕ) → Contains declared name → (k : ℕ)
       → IsNumber n.nonterminals file.owner name k → Contains numbers k
   own_place before declared numbers all name has k is =
-      let h = row_of_zip (IsNonterminalNumber file n) (sources before declared) numbers all (inr name) (there_declared before declared name has) in
+      let h = row_of_zip (IsNonterminalNumber file n) (sources before declared) numbers all (inr name) (there_declared before declared name
+      has) in
       subst (Contains numbers) (same_number name h.row k h.is_row is) (contains_at numbers h.row h.place h.at)
 
   tree_moved : (from to : ChildKind) (j : ℕ) → from ≡ child.Value (kind.Tree j) → IsMovedChildKind (move_of file n) from to
       → (i : ℕ) × (to ≡ child.Value (kind.Tree i)) × IsMovedNonterminalNumber (move_of file n) j i
   tree_moved from to j same m =
-      let t : IsMovedChildKind (move_of file n) (child.Value (kind.Tree j)) to = subst (λ z. IsMovedChildKind (move_of file n) z to) same m in
+      let t : IsMovedChildKind (move_of file n) (child.Value (kind.Tree j)) to = subst (λ z. IsMovedChildKind (move_of file n) z to) same m
+      in
       (t.1.0, t.2 ∙ ap child.Value t.1.2, t.1.1)
 
   base_concrete : (j : ℕ) → IsInConcrete b j → (name : List ℕ) → nonterminal_name file.base j ≡ name → (k : ℕ)
       → IsNumber n.nonterminals file.owner name k → IsInConcrete a k
   base_concrete j c name same k is =
-      let h = row_of IsConcrete (IsProduction file n) (sources b.productions (productions file.items)) a.productions ground.resolves.productions
+      let h = row_of IsConcrete (IsProduction file n) (sources b.productions (productions file.items)) a.productions
+      ground.resolves.productions
       (inl c.production) (there_before b.productions (productions file.items) c.production c.listed) in
       record {
         production = h.row;
@@ -231,9 +240,11 @@ module _ (file : File) (r : ResolvedParts) (ground : Ground file r) where
         occurs = by_side h.row h.is_row c.occurs;
       } where
         number_of : (i : ℕ) → IsMovedNonterminalNumber (move_of file n) j i → i ≡ k
-        number_of i m = same_number name i k (subst (λ z. IsNumber n.nonterminals file.owner z i) same (moved_nonterminal file r ground j i m)) is
+        number_of i m = same_number name i k (subst (λ z. IsNumber n.nonterminals file.owner z i) same (moved_nonterminal file r ground j i
+            m)) is
 
-        by_side : (row : Production) → IsExtendedProduction n file.owner file.items (move_of file n) c.production row → IsIn c.production j → IsIn row k
+        by_side : (row : Production) → IsExtendedProduction n file.owner file.items (move_of file n) c.production row
+            → IsIn c.production j → IsIn row k
         by_side row e (inl left) = inl (number_of row.left (subst (λ z. IsMovedNonterminalNumber (move_of file n) z row.left) left e.left))
         by_side row e (inr listed) =
             let y = contains_map (λ (z : Child). z.kind) c.production.children (child.Value (kind.Tree j)) listed in
@@ -247,7 +258,8 @@ module _ (file : File) (r : ResolvedParts) (ground : Ground file r) where
   own_concrete : (x : ProductionDeclaration) → Contains (productions file.items) x → (name : List ℕ)
       → Contains (names_in_concrete x.role x.production) name → (k : ℕ) → IsNumber n.nonterminals file.owner name k → IsInConcrete a k
   own_concrete x has name inside k is =
-      let h = row_of IsConcrete (IsProduction file n) (sources b.productions (productions file.items)) a.productions ground.resolves.productions
+      let h = row_of IsConcrete (IsProduction file n) (sources b.productions (productions file.items)) a.productions
+      ground.resolves.productions
       (inr x) (there_declared b.productions (productions file.items) x has) in
       by_role x.role refl h.row (contains_at a.productions h.row h.place h.at) h.is_row inside where
         by_kind : (from : NamedKind) (to : ChildKind) → IsWrittenChildKind n file.owner from to → Contains (kind_names from) name
@@ -257,7 +269,8 @@ module _ (file : File) (r : ResolvedParts) (ground : Ground file r) where
         by_kind kinds.Text to t listed = absurd (nothing_in name listed)
         by_kind (kinds.Name other) (child.Terminal number) t listed =
             elim (contains_cases other name [] listed) [
-              | inl same ↦ absurd (not_both n ground.distinct file.owner name number k (subst (λ z. IsNumber n.terminals file.owner z number) same t) is)
+              | inl same ↦ absurd (not_both n ground.distinct file.owner name number k (subst (λ z. IsNumber n.terminals file.owner z
+                  number) same t) is)
               | inr more ↦ absurd (nothing_in name more)
             ]
         by_kind (kinds.Name other) (child.Value to) t listed =
@@ -268,8 +281,10 @@ module _ (file : File) (r : ResolvedParts) (ground : Ground file r) where
             ]
 
         by_side : (row : Production) → IsProductionRow n file.owner file.items x row
-            → (x.production.left ≡ name) ⊎ Contains (flat_map (λ (c : named.Child). kind_names c.kind) x.production.children) name → IsIn row k
-        by_side row e (inl left) = inl (same_number name row.left k (subst (λ z. IsNumber n.nonterminals file.owner z row.left) left e.left) is)
+            → (x.production.left ≡ name) ⊎ Contains (flat_map (λ (c : named.Child). kind_names c.kind) x.production.children) name
+            → IsIn row k
+        by_side row e (inl left) = inl (same_number name row.left k (subst (λ z. IsNumber n.nonterminals file.owner z row.left) left e.left)
+            is)
         by_side row e (inr listed) =
             let y = contains_flat_map (λ (c : named.Child). kind_names c.kind) x.production.children name listed in
             let (i, at) = place_of x.production.children y.0 y.1 in
@@ -300,10 +315,12 @@ module _ (file : File) (r : ResolvedParts) (ground : Ground file r) where
       by_base h.number same h.of_grammar where
         by_base : (j : ℕ) → nonterminal_name file.base j ≡ name → IsOfGrammar file.base j → IsOfGrammar r k
         by_base j same (inl start) =
-            inl (start_listed (option_map (λ (g : GrammarView). g.start) r.grammar) k (base_place (starts_of file.base) (starts file.items) (starts_of r)
+            inl (start_listed (option_map (λ (g : GrammarView). g.start) r.grammar) k (base_place (starts_of file.base) (starts file.items)
+            (starts_of r)
             ground.resolves.start j (listed_start (option_map (λ (g : GrammarView). g.start) file.base.grammar) j start) name same k is))
         by_base j same (inr (inl has)) =
-            inr (inl (base_place file.base.extensible (extensibles file.items) r.extensible ground.resolves.extensible j has name same k is))
+            inr (inl (base_place file.base.extensible (extensibles file.items) r.extensible ground.resolves.extensible j has name same k
+            is))
         by_base j same (inr (inr c)) = inr (inr (base_concrete j c name same k is))
   name_grammar name k is (inr has) =
       elim (contains_append (starts file.items ++ extensibles file.items) concrete_names name has) [
@@ -311,9 +328,11 @@ module _ (file : File) (r : ResolvedParts) (ground : Ground file r) where
           | inl start ↦ inl (start_listed (option_map (λ (g : GrammarView). g.start) r.grammar) k
               (own_place (starts_of file.base) (starts file.items) (starts_of r) ground.resolves.start name start k is))
           | inr extensible ↦
-              inr (inl (own_place file.base.extensible (extensibles file.items) r.extensible ground.resolves.extensible name extensible k is))
+              inr (inl (own_place file.base.extensible (extensibles file.items) r.extensible ground.resolves.extensible name extensible k
+              is))
         ]
         | inr concrete ↦
-            let y = contains_flat_map (λ (d : ProductionDeclaration). names_in_concrete d.role d.production) (productions file.items) name concrete in
+            let y = contains_flat_map (λ (d : ProductionDeclaration). names_in_concrete d.role d.production) (productions file.items) name
+            concrete in
             inr (inr (own_concrete y.0 y.1 name y.2 k is))
       ]

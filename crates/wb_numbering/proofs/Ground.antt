@@ -45,7 +45,8 @@ no_other extensions owner none_there is =
 
 pub hosts : (base : ResolvedParts) → IsResolved base → base.attributes.extensions ≡ [] → IsHosts base
 hosts base is alone = record {
-  terminals = λ x has. no_other base.attributes.extensions x.owner alone (all_contained (IsNamedTerminal base) base.terminals x is.terminals has).owner;
+  terminals = λ x has. no_other base.attributes.extensions x.owner alone (all_contained (IsNamedTerminal base) base.terminals x is.terminals
+      has).owner;
   nonterminals = λ x has.
       let (i, at) = place_of base.attributes.nonterminals x has in
       no_other base.attributes.extensions x.owner alone (is.attributes.named.nonterminals i x at).owner;
@@ -57,10 +58,12 @@ hosts base is alone = record {
       (all_contained (IsNamedProduction base.attributes) base.attributes.productions x is.attributes.named.productions has).owner;
   locals = λ p has l more. no_other base.attributes.extensions l.owner alone
       (all_contained (IsNamedLocal base.attributes p) p.locals l
-      (all_contained (IsNamedProduction base.attributes) base.attributes.productions p is.attributes.named.productions has).locals more).owner;
+      (all_contained (IsNamedProduction base.attributes) base.attributes.productions p is.attributes.named.productions has).locals
+      more).owner;
   equations = λ p has e more. no_other base.attributes.extensions e.owner alone
       (all_contained (IsNamedEquation base.attributes p) p.equations e
-      (all_contained (IsNamedProduction base.attributes) base.attributes.productions p is.attributes.named.productions has).equations more).owner;
+      (all_contained (IsNamedProduction base.attributes) base.attributes.productions p is.attributes.named.productions has).equations
+      more).owner;
 }
 
 -- a moved number is that of the host's name

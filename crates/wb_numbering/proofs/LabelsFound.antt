@@ -46,7 +46,8 @@ use Rattle.wb_numbering.specs.Moved.{IsMovedChildKind, IsMovedChild, IsMovedLoca
 use Rattle.wb_numbering.specs.Numbering.{Numbering, numbering_of, IsNumber, IsPlace, labels_in}
 use Rattle.wb_numbering.specs.Resolves.{move_of, IsConcrete, IsProduction}
 use Rattle.wb_numbering.specs.Sources.{sources, IsFrom}
-use Rattle.wb_numbering.specs.Written.{IsWrittenChild, IsWrittenChildKind, IsWrittenLocal, IsWrittenLocalTarget, local_equations, makes_local}
+use Rattle.wb_numbering.specs.Written.{IsWrittenChild, IsWrittenChildKind, IsWrittenLocal, IsWrittenLocalTarget, local_equations}
+use Rattle.wb_numbering.specs.Written.{makes_local}
 use Rattle.wb_numbering.proofs.Carrying.{name_at}
 use Rattle.wb_numbering.proofs.DeclaredBy.{IsDeclaredBy, declared_by}
 use Rattle.wb_numbering.proofs.DeclaredBy as by
@@ -131,7 +132,8 @@ module _ (file : File) (r : ResolvedParts) (ground : Ground file r) (scanned : C
       let t = all_contained (λ (c : Child). (number : ℕ) → c.kind ≡ child.Terminal number → IsTerminalChild file.base p.owner number)
       p.children c (all_contained (HasGrammarTerminals file.base) b.productions p ground.base.children has) more number e in
       subst (IsScannedName file) (ap (name_in (λ (x : Terminal). x.name)) (sym t.is))
-      (scanned_sort t.terminal.name t.terminal.kind t.plain (base_symbol t.terminal (contains_at file.base.terminals t.terminal number t.is)))
+      (scanned_sort t.terminal.name t.terminal.kind t.plain (base_symbol t.terminal (contains_at file.base.terminals t.terminal number
+      t.is)))
 
   -- a moved kind means what the base's kind is called
   base_means : (p : Production) → Contains b.productions p → (c : Child) → Contains p.children c → (from to : ChildKind) → c.kind ≡ from
@@ -197,12 +199,14 @@ module _ (file : File) (r : ResolvedParts) (ground : Ground file r) (scanned : C
               → IsProduction file n x row → RowOf (IsWrittenLocal n file.owner (labels_in row)) row.locals q
           from (inl p) more e =
               let equations = local_equations (equations_on p.name file.items) in
-              let f = row_of_zip (IsFrom (IsMovedLocal (move_of file n) (labels_in p) (labels_in row)) (IsWrittenLocal n file.owner (labels_in row)))
+              let f = row_of_zip (IsFrom (IsMovedLocal (move_of file n) (labels_in p) (labels_in row)) (IsWrittenLocal n file.owner
+              (labels_in row)))
               (sources p.locals equations) row.locals e.locals (inr q) (there_declared p.locals equations q
               (subst (λ z. Contains (local_equations (equations_on z file.items)) q) e.name has)) in
               record { place = f.place; row = f.row; at = f.at; is_row = f.is_row }
           from (inr x) more e =
-              row_of_zip (IsWrittenLocal n file.owner (labels_in row)) (local_equations (equations_on x.production.name file.items)) row.locals
+              row_of_zip (IsWrittenLocal n file.owner (labels_in row)) (local_equations (equations_on x.production.name file.items))
+              row.locals
               e.locals q (subst (λ z. Contains (local_equations (equations_on z file.items)) q) e.name has)
 
     -- an equation that makes a local declares its label
@@ -228,7 +232,8 @@ module _ (file : File) (r : ResolvedParts) (ground : Ground file r) (scanned : C
         let called : c.label ≡ l = cc in
         let what : base_labelled file.base c.kind ≡ is = cc in
         let (j, at) = place_of p.children c more in
-        let x = zip_at (IsMovedChild (move_of file n)) p.children row.children j c (base_row file r ground p has at_row row is_there same).children at in
+        let x = zip_at (IsMovedChild (move_of file n)) p.children row.children j c (base_row file r ground p has at_row row is_there
+        same).children at in
         child_place j x.other x.there l is (x.related.label ∙ called)
         (subst (λ z. Means file n z x.other.kind) what (base_means p has c more c.kind x.other.kind refl x.related.is_kind))
     label_by l is (by.base_local p has y more e) =
@@ -236,7 +241,8 @@ module _ (file : File) (r : ResolvedParts) (ground : Ground file r) (scanned : C
         let called : y.label ≡ l = cc in
         let what : label.Local (nonterminal_name file.base y.nonterminal) ≡ is = cc in
         let equations = local_equations (equations_on p.name file.items) in
-        let f = row_of_zip (IsFrom (IsMovedLocal (move_of file n) (labels_in p) (labels_in row)) (IsWrittenLocal n file.owner (labels_in row)))
+        let f = row_of_zip (IsFrom (IsMovedLocal (move_of file n) (labels_in p) (labels_in row)) (IsWrittenLocal n file.owner (labels_in
+        row)))
         (sources p.locals equations) row.locals (base_row file r ground p has at_row row is_there same).locals (inl y)
         (there_before p.locals equations y more) in
         local_place f.place f.row f.at (inl (f.is_row.owner ∙ ground.host.locals p has y more)) l is (f.is_row.label ∙ called)
@@ -247,11 +253,13 @@ module _ (file : File) (r : ResolvedParts) (ground : Ground file r) (scanned : C
         let called : c.label ≡ l = cc in
         let what : labelled c.kind ≡ is = cc in
         let (j, at) = place_of x.production.children c more in
-        let y = zip_at (IsWrittenChild n file.owner) x.production.children row.children j c (own_row file r ground x has at_row row is_there same).children at in
+        let y = zip_at (IsWrittenChild n file.owner) x.production.children row.children j c (own_row file r ground x has at_row row is_there
+        same).children at in
         child_place j y.other y.there l is (y.related.label ∙ called)
         (subst (λ z. Means file n z y.other.kind) what (own_means x has c more c.kind y.other.kind refl y.related.is_kind))
     label_by l is (by.equation b has q more e) =
-        from_target q (equations_of_block row.name file.items b has (named_block b.name row.name q.target l is e) q more) q.target refl l is b.name e
+        from_target q (equations_of_block row.name file.items b has (named_block b.name row.name q.target l is e) q more) q.target refl l is
+        b.name e
     label_by l is (by.base_terminal x has e) = absurd (false≢true (ap is_label e))
     label_by l is (by.base_nonterminal x has e) = absurd (false≢true (ap is_label e))
     label_by l is (by.base_attribute x has e) = absurd (false≢true (ap is_label e))

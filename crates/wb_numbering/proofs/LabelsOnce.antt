@@ -23,7 +23,8 @@ use Rattle.wb_naming.specs.declared.declaration.Declaration.{Declaration}
 use Rattle.wb_naming.specs.declared.declaration.Declaration.TheVariants as d
 use Rattle.wb_naming.specs.declared.declaration.Labelled.TheVariants as label
 use Rattle.wb_naming.specs.Declarations.{Items, ProductionDeclaration, productions, production_of}
-use Rattle.wb_naming.specs.Declares.{base_declarations, item_declarations, form_declarations, declarations, production_declarations, child_declaration}
+use Rattle.wb_naming.specs.Declares.{base_declarations, item_declarations, form_declarations, declarations, production_declarations}
+use Rattle.wb_naming.specs.Declares.{child_declaration}
 use Rattle.wb_naming.specs.Declares.{equation_declarations, target_declaration, base_labelled, nonterminal_name}
 use Rattle.wb_naming.specs.Hold.{AreOnce}
 use Rattle.wb_numbering.specs.Files.{File, Block, blocks, block_of, equations_on}
@@ -169,7 +170,8 @@ module _ (p l : List ℕ) where
         subst (λ z. AllZip (IsWrittenLocal n file.owner (labels_in row)) (local_equations (equations_on z file.items)) row.locals) same
         e.locals in
         let locals = times_zip x (IsWrittenLocal n file.owner (labels_in row)) local_mark (λ (y : Local). mark p y.label)
-        (λ u w q. ap (λ k. is_same x (mark p k)) (target_label n file.owner u.target w.label w.nonterminal q.target)) equations row.locals here in
+        (λ u w q. ap (λ k. is_same x (mark p k)) (target_label n file.owner u.target w.label w.nonterminal q.target)) equations row.locals
+        here in
         let outer = times_map_append x tag (map (λ (c : Child). (row.owner, c.label)) row.children)
         (map (λ (y : Local). (y.owner, y.label)) row.locals) in
         let c_map = times_map_map x tag (λ (c : Child). (row.owner, c.label)) row.children in
@@ -225,7 +227,8 @@ module _ (p l : List ℕ) where
         omega (arith, children, locals, l_in, own_is, outer, c_map, l_map, c_base, l_base, rules, parts, base, items, both, few)
 
 -- the labels of a row differ
-pub own_labels : (file : File) (r : ResolvedParts) → AreOnce (declarations file.base file.items) → (v : ProductionDeclaration) (row : Production)
+pub own_labels : (file : File) (r : ResolvedParts) → AreOnce (declarations file.base file.items)
+    → (v : ProductionDeclaration) (row : Production)
     → Contains (productions file.items) v → IsProductionRow (numbering_of r) file.owner file.items v row → NamesDiffer (labels_of row)
 own_labels file r once v row has e =
     names_differ (mark v.production.name) (mark_itself v.production.name) (labels_of row)

@@ -27,7 +27,8 @@ pub one_moved : (owner_in : ℕ → ℕ) (names others : List Entry) → NamesDi
 one_moved owner_in names others differ number k j x y =
     let same : (x.owner, x.name) ≡ (y.owner, y.name) = at_once names number (x.owner, x.name) (y.owner, y.name) x.before y.before in
     differ k j (owner_in x.owner) (owner_in y.owner) y.name
-    (x.after ∙ ap (λ n. Some (owner_in x.owner, n)) (ap (λ (e : Entry). e.1) same)) y.after (inr (ap (λ (e : Entry). owner_in e.0) (sym same)))
+    (x.after ∙ ap (λ n. Some (owner_in x.owner, n)) (ap (λ (e : Entry). e.1) same)) y.after (inr (ap (λ (e : Entry). owner_in e.0) (sym
+    same)))
 
 -- names of the first part, and of the second
 pub differ_left : (xs ys : List Entry) → NamesDiffer (xs ++ ys) → NamesDiffer xs

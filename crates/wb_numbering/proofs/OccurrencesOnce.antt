@@ -17,7 +17,8 @@ use Rattle.wb_syntax.specs.declared.pattern.Pattern.{Pattern}
 use Rattle.wb_naming.specs.declared.declaration.Declaration.{Declaration}
 use Rattle.wb_naming.specs.declared.declaration.Declaration.TheVariants as d
 use Rattle.wb_naming.specs.Declarations.{Items, OccurrenceDeclaration, occurrences, plain_items, plain_of, occurrence_of}
-use Rattle.wb_naming.specs.Declares.{base_declarations, item_declarations, form_declarations, declarations, attribute_name, nonterminal_name}
+use Rattle.wb_naming.specs.Declares.{base_declarations, item_declarations, form_declarations, declarations, attribute_name}
+use Rattle.wb_naming.specs.Declares.{nonterminal_name}
 use Rattle.wb_naming.specs.Hold.{AreOnce}
 use Rattle.wb_numbering.specs.Files.{File}
 use Rattle.wb_numbering.specs.Numbering.{Numbering, numbering_of, IsNumber}
@@ -39,10 +40,12 @@ module _ (a k : List ℕ) where
 
   abbrev of_form : ItemForm Pattern → ℕ
   of_form form =
-      times x (map (λ (y : OccurrenceDeclaration). d.Occurrence y.attribute y.nonterminal) (filter_map occurrence_of (option_to_list (plain_of form))))
+      times x (map (λ (y : OccurrenceDeclaration). d.Occurrence y.attribute y.nonterminal) (filter_map occurrence_of (option_to_list
+      (plain_of form))))
 
   step : (item : Item Pattern) (items : Items) → total (item ∷ items) ≡ of_form item.form + total items
-  step item items = times_nested x (λ (y : OccurrenceDeclaration). d.Occurrence y.attribute y.nonterminal) occurrence_of (plain_of item.form)
+  step item items = times_nested x (λ (y : OccurrenceDeclaration). d.Occurrence y.attribute y.nonterminal) occurrence_of (plain_of
+      item.form)
       (plain_items items)
 
   each : (form : ItemForm Pattern) → of_form form ≤ times x (form_declarations form)

@@ -191,11 +191,13 @@ only_value file r is sees a s b =
     let c : ResolvesIn n file s = subst (λ o. ResolvesIn o file s) (sym (same_numbering file r s a b)) b in
     let fit : All (IsFit file n distinct) r.attributes.productions = λ i d within.
     labels_differ (get_or r.attributes.productions i d) file.owner (is.attributes.once.productions i d within).labels (sees i d within) in
-    let rules = one_grouped IsConcrete (IsProduction file n) (IsFit file n distinct) (one_production file n distinct) _ r.attributes.productions
+    let rules = one_grouped IsConcrete (IsProduction file n) (IsFit file n distinct) (one_production file n distinct) _
+    r.attributes.productions
     s.attributes.productions fit a.productions c.productions in
     let terminals = one_grouped IsScanned (IsTerminal file n) (λ (x : Terminal). Unit {0}) (one_terminal file n distinct) _ r.terminals
     s.terminals (trivial r.terminals) a.terminals c.terminals in
-    let symbols = one_grouped (IsInGrammarOf file) (IsNonterminal file n) (λ (x : Nonterminal). Unit {0}) (one_nonterminal file n distinct) _
+    let symbols = one_grouped (IsInGrammarOf file) (IsNonterminal file n) (λ (x : Nonterminal). Unit {0}) (one_nonterminal file n distinct)
+    _
     r.attributes.nonterminals s.attributes.nonterminals (trivial r.attributes.nonterminals) a.nonterminals c.nonterminals in
     let scanned = one_split IsScanned (sources file.base.terminals (lexicals file.items)) a.terminals.leading a.terminals.following
     c.terminals.leading c.terminals.following a.terminals.splits c.terminals.splits in
@@ -205,13 +207,15 @@ only_value file r is sees a s b =
     let concrete = one_split IsConcrete (sources file.base.attributes.productions (productions file.items)) a.productions.leading
     a.productions.following c.productions.leading c.productions.following a.productions.splits c.productions.splits in
     let grammar : r.grammar ≡ s.grammar =
-    same_grammar r.grammar s.grammar (one_zip (IsNonterminalNumber file n) (one_number_of file n distinct) _ (starts_of r) (starts_of s) a.start c.start)
+    same_grammar r.grammar s.grammar (one_zip (IsNonterminalNumber file n) (one_number_of file n distinct) _ (starts_of r) (starts_of s)
+    a.start c.start)
     _ _ _ _ _ _ r.attributes.productions s.attributes.productions
     (ap length scanned.0) (ap length of_grammar.0) (ap length concrete.0) rules a.grammar c.grammar in
     let attributes : r.attributes ≡ s.attributes = λ j. record {
       extensions = (a.extensions ∙ sym c.extensions) j;
       nonterminals = symbols j;
-      attributes = one_zip (IsAttribute file n) (one_attribute file n distinct) _ r.attributes.attributes s.attributes.attributes a.attributes
+      attributes = one_zip (IsAttribute file n) (one_attribute file n distinct) _ r.attributes.attributes s.attributes.attributes
+          a.attributes
           c.attributes j;
       occurrences = one_zip (IsOccurrence file n) (one_occurrence file n distinct) _ r.attributes.occurrences s.attributes.occurrences
           a.occurrences c.occurrences j;
@@ -222,7 +226,9 @@ only_value file r is sees a s b =
       host = (a.host ∙ sym c.host) j;
       grammar = grammar j;
       terminals = terminals j;
-      preferences = one_zip (IsPreference file n) (one_preference file n distinct) _ r.preferences s.preferences a.preferences c.preferences j;
-      extensible = one_zip (IsNonterminalNumber file n) (one_number_of file n distinct) _ r.extensible s.extensible a.extensible c.extensible j;
+      preferences = one_zip (IsPreference file n) (one_preference file n distinct) _ r.preferences s.preferences a.preferences c.preferences
+          j;
+      extensible = one_zip (IsNonterminalNumber file n) (one_number_of file n distinct) _ r.extensible s.extensible a.extensible
+          c.extensible j;
       attributes = attributes j;
     }

@@ -74,7 +74,8 @@ pub data IsOwnDeclared (items : Items) (it : Declaration) : Type 0 where
       → IsOwnDeclared items it
   child : (x : ProductionDeclaration) → Contains (productions items) x → (c : named.Child) → Contains x.production.children c
       → child_declaration x.production.name c ≡ it → IsOwnDeclared items it
-  equation : (b : Block) → Contains (blocks items) b → (e : written.Equation) → Contains b.equations e → target_declaration b.name e.target ≡ it
+  equation : (b : Block) → Contains (blocks items) b → (e : written.Equation) → Contains b.equations e
+      → target_declaration b.name e.target ≡ it
       → IsOwnDeclared items it
 
 module _ (items : Items) (it : Declaration) where

@@ -161,7 +161,8 @@ module _ (file : File) (r : ResolvedParts) (known : Known file r) where
         sees_occurrence file r known.ground a x.nonterminal direction k row.left number
         (left_found file r known.ground known.hold.placed at_row row is_there x.nonterminal x.there.0) goes x.occurs
 
-    of_forward : (a : List ℕ) (direction : Direction) (k : ℕ) → IsNumber n.attributes file.owner a k → Contains all (d.Attribute a direction)
+    of_forward : (a : List ℕ) (direction : Direction) (k : ℕ) → IsNumber n.attributes file.owner a k
+        → Contains all (d.Attribute a direction)
         → Contains (uses file.items) (u.Attribute row.name a site.Forward)
         → IsSome row.forward × SeesOccurrence r.attributes file.owner direction k row.left
     of_forward a direction k number goes used =
@@ -180,7 +181,8 @@ module _ (file : File) (r : ResolvedParts) (known : Known file r) where
     own_node (part.Text z) to used names e = subst (IsNamedNode r.attributes row file.owner) (sym e) tt
     own_node (part.Bool z) to used names e = subst (IsNamedNode r.attributes row file.owner) (sym e) tt
     own_node (part.Label l) to used names e =
-        let x = known.hold.meant.labels row.name l wanted.Value (used (u.Label row.name l wanted.Value) (one_of_one (u.Label row.name l wanted.Value))) in
+        let x = known.hold.meant.labels row.name l wanted.Value (used (u.Label row.name l wanted.Value) (one_of_one (u.Label row.name l
+        wanted.Value))) in
         let f = label_found file r known.ground known.scanned at_row row is_there l x.is x.there in
         let v = value_of x.is f.to_kind x.suits f.means in
         subst (IsNamedNode r.attributes row file.owner) (sym e.2)
@@ -193,7 +195,8 @@ module _ (file : File) (r : ResolvedParts) (known : Known file r) where
         (used (u.Attribute row.name a (site.Label l)) (three_of_three (u.Name a w.Synthesized) (u.Label row.name l wanted.Tree)
         (u.Attribute row.name a (site.Label l)))))
     own_node (part.Lexeme l) to used names e =
-        let x = known.hold.meant.labels row.name l wanted.Lexeme (used (u.Label row.name l wanted.Lexeme) (one_of_one (u.Label row.name l wanted.Lexeme))) in
+        let x = known.hold.meant.labels row.name l wanted.Lexeme (used (u.Label row.name l wanted.Lexeme) (one_of_one (u.Label row.name l
+        wanted.Lexeme))) in
         let f = label_found file r known.ground known.scanned at_row row is_there l x.is x.there in
         let v = lexeme_of x.is f.to_kind x.suits f.means in
         subst (IsNamedNode r.attributes row file.owner) (sym e.2)
@@ -201,12 +204,14 @@ module _ (file : File) (r : ResolvedParts) (known : Known file r) where
     own_node (part.Top a) to used names e =
         subst (IsNamedNode r.attributes row file.owner) (sym e.2)
         (of_top a Inherited e.0 e.1
-        (comes a (known.hold.meant.names a w.Inherited (used (u.Name a w.Inherited) (one_of_two (u.Name a w.Inherited) (u.Attribute row.name a site.Top)))))
+        (comes a (known.hold.meant.names a w.Inherited (used (u.Name a w.Inherited) (one_of_two (u.Name a w.Inherited) (u.Attribute row.name
+        a site.Top)))))
         (used (u.Attribute row.name a site.Top) (two_of_two (u.Name a w.Inherited) (u.Attribute row.name a site.Top))))
     own_node (part.Forward a) to used names e =
         subst (IsNamedNode r.attributes row file.owner) (sym e.2)
         (of_forward a Synthesized e.0 e.1
-        (goes a (known.hold.meant.names a w.Synthesized (used (u.Name a w.Synthesized) (one_of_two (u.Name a w.Synthesized) (u.Attribute row.name a site.Forward)))))
+        (goes a (known.hold.meant.names a w.Synthesized (used (u.Name a w.Synthesized) (one_of_two (u.Name a w.Synthesized) (u.Attribute
+        row.name a site.Forward)))))
         (used (u.Attribute row.name a site.Forward) (two_of_two (u.Name a w.Synthesized) (u.Attribute row.name a site.Forward))))
     own_node (part.Build name places) to used names e =
         subst (IsNamedNode r.attributes row file.owner) (sym e.2) (sees_production file r known.ground name e.0 e.1)
@@ -220,7 +225,8 @@ module _ (file : File) (r : ResolvedParts) (known : Known file r) where
     own_expression q has nodes all_renamed =
         let (b, there, same, inside) = block_of_equation row.name file.items q has in
         record {
-          whole = renamed_whole (IsPlace (labels_in row) file.owner) (IsNumber n.attributes file.owner) (IsNumber n.productions file.owner) q.nodes
+          whole = renamed_whole (IsPlace (labels_in row) file.owner) (IsNumber n.attributes file.owner) (IsNumber n.productions file.owner)
+              q.nodes
               nodes (equation_whole file.items known.whole b there q inside) all_renamed;
           named = own_nodes q.nodes nodes (λ node more it used.
               equation_used file.items b there q inside it (node_used b.name q node more it
@@ -228,7 +234,8 @@ module _ (file : File) (r : ResolvedParts) (known : Known file r) where
               (equation_names file.items known.names b there q inside).nodes all_renamed;
         } where
           own_nodes : (xs : List by_name.Node) (ys : List by_number.Node)
-              → ((node : by_name.Node) → Contains xs node → (it : Usage) → Contains (node_uses row.name node) it → Contains (uses file.items) it)
+              → ((node : by_name.Node) → Contains xs node → (it : Usage) → Contains (node_uses row.name node) it
+              → Contains (uses file.items) it)
               → All (λ node. All IsName (node_names node)) xs
               → AreWrittenNodes n file.owner (labels_in row) xs ys → All (IsNamedNode r.attributes row file.owner) ys
           own_nodes xs ys used names zipped = all_zipped _ (IsNamedNode r.attributes row file.owner) xs ys zipped
@@ -240,7 +247,8 @@ module _ (file : File) (r : ResolvedParts) (known : Known file r) where
     own_target (g.Top a) is used e =
         subst (IsNamedTarget r.attributes row file.owner) (sym e.2)
         (of_top a Synthesized e.0 e.1
-        (goes a (known.hold.meant.names a w.Synthesized (used (u.Name a w.Synthesized) (one_of_two (u.Name a w.Synthesized) (u.Attribute row.name a site.Top)))))
+        (goes a (known.hold.meant.names a w.Synthesized (used (u.Name a w.Synthesized) (one_of_two (u.Name a w.Synthesized) (u.Attribute
+        row.name a site.Top)))))
         (used (u.Attribute row.name a site.Top) (two_of_two (u.Name a w.Synthesized) (u.Attribute row.name a site.Top))))
     own_target (g.Label l a) is used e =
         subst (IsNamedTarget r.attributes row file.owner) (sym e.4)
@@ -252,7 +260,8 @@ module _ (file : File) (r : ResolvedParts) (known : Known file r) where
     own_target (g.Forward a) is used e =
         subst (IsNamedTarget r.attributes row file.owner) (sym e.2)
         (of_forward a Inherited e.0 e.1
-        (comes a (known.hold.meant.names a w.Inherited (used (u.Name a w.Inherited) (one_of_two (u.Name a w.Inherited) (u.Attribute row.name a site.Forward)))))
+        (comes a (known.hold.meant.names a w.Inherited (used (u.Name a w.Inherited) (one_of_two (u.Name a w.Inherited) (u.Attribute row.name
+        a site.Forward)))))
         (used (u.Attribute row.name a site.Forward) (two_of_two (u.Name a w.Inherited) (u.Attribute row.name a site.Forward))))
     own_target (g.Local l m) is used e = absurd e
     own_target g.ForwardsTo is used e = absurd e

@@ -29,7 +29,8 @@ use Rattle.wb_naming.specs.declared.declaration.Sort.{Sort}
 use Rattle.wb_naming.specs.declared.declaration.Sort.TheVariants as sort
 use Rattle.wb_naming.specs.Declarations.{Items, PreferenceDeclaration, LexicalDeclaration, preferences, extensibles}
 use Rattle.wb_naming.specs.Declarations.{plain_items, plain_of, preference_of, extensible_of, lexicals, productions}
-use Rattle.wb_naming.specs.Declares.{declarations, base_declarations, item_declarations, form_declarations, plain_declaration, target_declaration}
+use Rattle.wb_naming.specs.Declares.{declarations, base_declarations, item_declarations, form_declarations, plain_declaration}
+use Rattle.wb_naming.specs.Declares.{target_declaration}
 use Rattle.wb_numbering.specs.Files.{File}
 use Rattle.wb_numbering.specs.Given.{IsFile}
 use Rattle.wb_numbering.specs.Moved.{IsMovedNumber, IsMovedTerminalNumber}
@@ -101,7 +102,8 @@ module _ (a : List ℕ) where
   abbrev extensible_form : ItemForm Pattern → ℕ
   extensible_form form = times y (map d.Extensible (filter_map extensible_of (option_to_list (plain_of form))))
 
-  extensible_step : (item : Item Pattern) (items : Items) → extensible_total (item ∷ items) ≡ extensible_form item.form + extensible_total items
+  extensible_step : (item : Item Pattern) (items : Items) → extensible_total (item ∷ items) ≡ extensible_form item.form + extensible_total
+      items
   extensible_step item items = times_nested y d.Extensible extensible_of (plain_of item.form) (plain_items items)
 
   extensible_each : (form : ItemForm Pattern) → extensible_form form ≤ times y (form_declarations form)
@@ -164,11 +166,14 @@ module _ (file : File) (r : ResolvedParts) (given : IsFile file) (k : Known file
   own_terminal_row : (y : LexicalDeclaration) → Contains (lexicals file.items) y → (t : ℕ) → (is : IsNumber n.terminals file.owner y.name t)
       → is.other ≡ file.owner
   own_terminal_row y has t is =
-      let h = row_of IsScanned (IsTerminal file n) (sources file.base.terminals (lexicals file.items)) r.terminals ground.resolves.terminals (inr y)
+      let h = row_of IsScanned (IsTerminal file n) (sources file.base.terminals (lexicals file.items)) r.terminals ground.resolves.terminals
+      (inr y)
       (there_declared file.base.terminals (lexicals file.items) y has) in
       let entry : slice_get n.terminals h.place ≡ Some (h.row.owner, y.name) =
-      name_at (λ (z : Terminal). (z.owner, z.name)) r.terminals h.place h.row h.at ∙ ap (λ (z : List ℕ). Some (h.row.owner, z)) h.is_row.name in
-      let number : IsNumber n.terminals file.owner y.name h.place = record { other = h.row.owner; is = entry; seen = inr h.is_row.owner_is } in
+      name_at (λ (z : Terminal). (z.owner, z.name)) r.terminals h.place h.row h.at ∙ ap (λ (z : List ℕ). Some (h.row.owner, z))
+      h.is_row.name in
+      let number : IsNumber n.terminals file.owner y.name h.place = record { other = h.row.owner; is = entry; seen = inr h.is_row.owner_is }
+      in
       let same = one_number n.terminals (terminals_differ n ground.distinct) file.owner y.name h.place t number is in
       let both = at_once n.terminals t (h.row.owner, y.name) (is.other, y.name)
       (subst (λ z. slice_get n.terminals z ≡ Some (h.row.owner, y.name)) same entry) is.is in
@@ -187,7 +192,8 @@ module _ (file : File) (r : ResolvedParts) (given : IsFile file) (k : Known file
         let same : one ≡ name = cc in
         let f = nonterminal_found file r ground one (append_contains_right (base_declarations file.base) (item_declarations file.items)
         (d.Symbol one sort.Nonterminal) (plain_declares file.items (i.Nonterminal one) has)) in
-        absurd (not_both n ground.distinct file.owner name t f.number is (subst (λ z. IsNumber n.nonterminals file.owner z f.number) same f.is))
+        absurd (not_both n ground.distinct file.owner name t f.number is (subst (λ z. IsNumber n.nonterminals file.owner z f.number) same
+        f.is))
     from (i.Prefer first second) has e = absurd (cc e)
     from (i.Start one) has e = absurd (cc e)
     from (i.Extensible one) has e = absurd (cc e)
@@ -226,7 +232,8 @@ module _ (file : File) (r : ResolvedParts) (given : IsFile file) (k : Known file
       let owned = own_symbol name of (own_declared file.items (d.Symbol name of) has) t number in
       let same = at_once n.terminals t (m.owner, m.name) (number.other, name) m.after number.is in
       let before = row_at (λ (z : Terminal). (z.owner, z.name)) file.base.terminals j m.owner m.name m.before in
-      let zero_is : m.owner ≡ 0 = sym before.owner_is ∙ ground.host.terminals before.row (contains_at file.base.terminals before.row j before.is) in
+      let zero_is : m.owner ≡ 0 = sym before.owner_is ∙ ground.host.terminals before.row (contains_at file.base.terminals before.row j
+      before.is) in
       let both : 0 ≡ suc o = sym zero_is ∙ (ap (λ (e : Entry). e.0) same ∙ (owned ∙ is)) in
       absurd (omega (arith, both))
 
@@ -271,8 +278,10 @@ module _ (file : File) (r : ResolvedParts) (given : IsFile file) (k : Known file
         by_source : (u v : Preference ⊎ PreferenceDeclaration) → IsAtSource file.base.preferences (preferences file.items) i u
             → IsAtSource file.base.preferences (preferences file.items) j v → IsPreference file n u p → IsPreference file n v p → i ≡ j
         by_source u v (old {x = q} a) (old {x = s} c) e f =
-            let first = from_one (numbering_of file.base).terminals n.terminals base_terminals_differ q.first s.first p.first e.first f.first in
-            let second = from_one (numbering_of file.base).terminals n.terminals base_terminals_differ q.second s.second p.second e.second f.second in
+            let first = from_one (numbering_of file.base).terminals n.terminals base_terminals_differ q.first s.first p.first e.first
+            f.first in
+            let second = from_one (numbering_of file.base).terminals n.terminals base_terminals_differ q.second s.second p.second e.second
+            f.second in
             ground.base.once.preferences s i j (a ∙ ap Some (same_preference q s first second)) c
         by_source u v (old {x = q} a) (new {x = s} b same c) e f =
             absurd (apart file.owner refl q i a s (contains_at (preferences file.items) s b c) p e f)
@@ -289,7 +298,8 @@ module _ (file : File) (r : ResolvedParts) (given : IsFile file) (k : Known file
             let place = one_place z (map mark_of (preferences file.items)) one b c (mark_of q) (mark_of s)
             (slice_get-map mark_of (preferences file.items) b ∙ ap (option_map mark_of) a)
             (slice_get-map mark_of (preferences file.items) c ∙ ap (option_map mark_of) e_at)
-            (and_both (bytes_eq q.first q.first) (bytes_eq q.second q.second) (bytes_same q.first q.first refl) (bytes_same q.second q.second refl))
+            (and_both (bytes_eq q.first q.first) (bytes_eq q.second q.second) (bytes_same q.first q.first refl) (bytes_same q.second
+            q.second refl))
             (and_both (bytes_eq q.first s.first) (bytes_eq q.second s.second) (bytes_same q.first s.first first)
             (bytes_same q.second s.second second)) in
             omega (arith, same, same_too, place)
@@ -324,7 +334,8 @@ module _ (file : File) (r : ResolvedParts) (given : IsFile file) (k : Known file
       by_source u.other v.other (at_source file.base.extensible (extensibles file.items) i u.other u.at)
       (at_source file.base.extensible (extensibles file.items) j v.other v.at) u.related v.related where
         by_source : (u v : ℕ ⊎ List ℕ) → IsAtSource file.base.extensible (extensibles file.items) i u
-            → IsAtSource file.base.extensible (extensibles file.items) j v → IsNonterminalNumber file n u p → IsNonterminalNumber file n v p → i ≡ j
+            → IsAtSource file.base.extensible (extensibles file.items) j v → IsNonterminalNumber file n u p
+            → IsNonterminalNumber file n v p → i ≡ j
         by_source u v (old {x = q} a) (old {x = s} c) e f =
             let same = from_one (numbering_of file.base).nonterminals n.nonterminals base_nonterminals_differ q s p e f in
             ground.base.once.extensible s i j (a ∙ ap Some same) c

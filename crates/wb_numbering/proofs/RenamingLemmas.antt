@@ -126,7 +126,8 @@ module _ {L M A B P Q O : Type 0} (R : L → M → Type 0) (S : A → B → Type
         let a = renamed at c (take (length x) one) (zip_take (IsRenamedNode R S T) x y one all_one) in
         let b = renamed (at + size c) h (drop (length x) one) (zip_drop (IsRenamedNode R S T) x y one all_one) in
         let d = renamed (at + size c + size h) g (drop (length (x ++ y)) two) (zip_drop (IsRenamedNode R S T) (x ++ y) z two all_two) in
-        let (v, r, is) = one_beside w (drop (length ((x ++ y) ++ z)) others) (zip_drop (IsRenamedNode R S T) ((x ++ y) ++ z) (w ∷ []) others all) in
+        let (v, r, is) = one_beside w (drop (length ((x ++ y) ++ z)) others) (zip_drop (IsRenamedNode R S T) ((x ++ y) ++ z) (w ∷ []) others
+        all) in
         joined at c h g others one two a b d (sym (take-append-drop (length x) one)) (sym (take-append-drop (length (x ++ y)) two))
         (sym (take-append-drop (length ((x ++ y) ++ z)) others)) (is ∙ ap (λ k. k ∷ []) r)
 

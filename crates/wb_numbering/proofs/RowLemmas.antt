@@ -87,7 +87,8 @@ pub source_of_zip : {X Y : Type 0} (R : X → Y → Type 0) (xs : List X) (rows 
 source_of_zip R xs rows all i row at =
     let a = beside R xs rows i row all at in record { source = a.other; listed = contains_at xs a.other i a.at; is_row = a.related }
 
-pub source_of : {X Y : Type 0} (P : X → Type 0) (R : X → Y → Type 0) (xs : List X) (rows : List Y) → AreGrouped P R xs rows → (i : ℕ) (row : Y)
+pub source_of : {X Y : Type 0} (P : X → Type 0) (R : X → Y → Type 0) (xs : List X) (rows : List Y) → AreGrouped P R xs rows
+    → (i : ℕ) (row : Y)
     → slice_get rows i ≡ Some row → SourceOf R xs row
 source_of P R xs rows g i row at =
     let a = source_of_zip R (g.leading ++ g.following) rows g.are_rows i row at in
@@ -105,15 +106,19 @@ all_zipped R Q xs rows all gives = all_from_places Q rows (λ i y at.
     let s = source_of_zip R xs rows all i y at in gives s.source y s.listed (contains_at rows y i at) s.is_row)
 
 -- what was there, and what is declared, are among the sources
-pub there_before : {A B : Type 0} (before : List A) (declared : List B) (x : A) → Contains before x → Contains (sources before declared) (inl x)
-there_before {A} {B} before declared x has = append_contains_left (map inl before) (map inr declared) (inl x) (map_contains inl before x has)
+pub there_before : {A B : Type 0} (before : List A) (declared : List B) (x : A) → Contains before x
+    → Contains (sources before declared) (inl x)
+there_before {A} {B} before declared x has = append_contains_left (map inl before) (map inr declared) (inl x) (map_contains inl before x
+    has)
 
 pub there_declared : {A B : Type 0} (before : List A) (declared : List B) (x : B) → Contains declared x
     → Contains (sources before declared) (inr x)
-there_declared {A} {B} before declared x has = append_contains_right (map inl before) (map inr declared) (inr x) (map_contains inr declared x has)
+there_declared {A} {B} before declared x has = append_contains_right (map inl before) (map inr declared) (inr x) (map_contains inr declared
+    x has)
 
 -- and nothing else is
-pub source_before : {A B : Type 0} (before : List A) (declared : List B) (x : A) → Contains (sources before declared) (inl x) → Contains before x
+pub source_before : {A B : Type 0} (before : List A) (declared : List B) (x : A) → Contains (sources before declared) (inl x)
+    → Contains before x
 source_before {A} {B} before declared x has =
     let left : A → A ⊎ B = inl in
     let right : B → A ⊎ B = inr in

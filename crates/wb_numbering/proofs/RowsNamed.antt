@@ -153,7 +153,8 @@ module _ (file : File) (r : ResolvedParts) (known : Known file r) (owners : IsOw
         needs = subst (λ o. All (λ i. SeesOccurrence a o Inherited i number) row.forward_needs) (sym e.owner)
             (carried_all (IsMovedAttributeNumber (move_of file n)) (λ i. SeesOccurrence b x.owner Inherited i j)
             (λ i. SeesOccurrence a x.owner Inherited i number)
-            (λ y z q s. carried_occurrence (λ (o : ℕ). o) file.base r ground.distinct (base_carried file r ground.resolves) x.owner Inherited y j z
+            (λ y z q s. carried_occurrence (λ (o : ℕ). o) file.base r ground.distinct (base_carried file r ground.resolves) x.owner
+            Inherited y j z
             number s q moved) x.forward_needs row.forward_needs e.needs named.needs);
       }
   named_nonterminal number row at (inr name) has e =
@@ -180,10 +181,12 @@ module _ (file : File) (r : ResolvedParts) (known : Known file r) (owners : IsOw
         from : (form : PlainForm) → attribute_of form ≡ Some x → All IsName (plain_names form) → IsName x.name
         from (i.Synthesized m its) e names =
             let same : record { name = m; direction = Synthesized; kind = its } ≡ x = cc in
-            subst (λ (z : AttributeDeclaration). IsName z.name) same (all_contained IsName (plain_names (i.Synthesized m its)) m names (contains_first m _))
+            subst (λ (z : AttributeDeclaration). IsName z.name) same (all_contained IsName (plain_names (i.Synthesized m its)) m names
+            (contains_first m _))
         from (i.Inherited m its) e names =
             let same : record { name = m; direction = Inherited; kind = its } ≡ x = cc in
-            subst (λ (z : AttributeDeclaration). IsName z.name) same (all_contained IsName (plain_names (i.Inherited m its)) m names (contains_first m _))
+            subst (λ (z : AttributeDeclaration). IsName z.name) same (all_contained IsName (plain_names (i.Inherited m its)) m names
+            (contains_first m _))
         from (i.Prefer first second) e names = absurd (cc e)
         from (i.Start m) e names = absurd (cc e)
         from (i.Extensible m) e names = absurd (cc e)
@@ -200,7 +203,8 @@ module _ (file : File) (r : ResolvedParts) (known : Known file r) (owners : IsOw
         owner = is_host row.owner (e.owner ∙ ground.host.attributes x inside);
         name = subst IsName (sym e.name) named.name;
         is_kind = subst (λ o. SeesKind a o row.kind) (sym e.owner)
-            (carried_kind (λ (o : ℕ). o) file.base r ground.distinct (base_carried file r ground.resolves) x.owner x.kind row.kind named.is_kind
+            (carried_kind (λ (o : ℕ). o) file.base r ground.distinct (base_carried file r ground.resolves) x.owner x.kind row.kind
+            named.is_kind
             e.is_kind);
       }
   named_attribute (inr x) row has listed e =
@@ -220,13 +224,16 @@ module _ (file : File) (r : ResolvedParts) (known : Known file r) (owners : IsOw
   nothing_beside R [] (y ∷ ys) all e = absurd all
   nothing_beside R (x ∷ xs) ys all e = absurd (cc e)
 
-  own_occurrence : (x : OccurrenceDeclaration) (row : Occurrence) → IsOccurrenceRow n file.owner file.items x row → (needs : Option (List (List ℕ)))
+  own_occurrence : (x : OccurrenceDeclaration) (row : Occurrence) → IsOccurrenceRow n file.owner file.items x row
+      → (needs : Option (List (List ℕ)))
       → x.needs ≡ needs
       → ((it : Usage) → Contains (occurs_uses x.attribute x.nonterminal needs) it → Contains (uses file.items) it) → IsNamedOccurrence a row
   own_occurrence x row e None same used =
-      let name = used (u.Name x.attribute w.Attribute) (contains_first (u.Name x.attribute w.Attribute) (u.Name x.nonterminal w.Nonterminal ∷ [])) in
+      let name = used (u.Name x.attribute w.Attribute) (contains_first (u.Name x.attribute w.Attribute) (u.Name x.nonterminal w.Nonterminal
+      ∷ [])) in
       let goes = known.hold.meant.names x.attribute w.Attribute name in
-      let empty : row.needs ≡ [] = nothing_beside (IsNumber n.attributes file.owner) (needs_names x.needs) row.needs e.needs (ap needs_names same) in
+      let empty : row.needs ≡ [] = nothing_beside (IsNumber n.attributes file.owner) (needs_names x.needs) row.needs e.needs (ap needs_names
+      same) in
       record {
         owner = is_owner row.owner e.owner_is;
         direction = goes.direction;
@@ -275,7 +282,8 @@ module _ (file : File) (r : ResolvedParts) (known : Known file r) (owners : IsOw
         from (i.Inherited m its) there e = absurd (cc e)
         from (i.ForwardOn m needs) there e = absurd (cc e)
 
-  pub named_occurrence : (x : Occurrence ⊎ OccurrenceDeclaration) (row : Occurrence) → Contains (sources b.occurrences (occurrences file.items)) x
+  pub named_occurrence : (x : Occurrence ⊎ OccurrenceDeclaration) (row : Occurrence)
+      → Contains (sources b.occurrences (occurrences file.items)) x
       → Contains a.occurrences row → IsOccurrence file n x row → IsNamedOccurrence a row
   named_occurrence (inl x) row has listed e =
       let inside = source_before b.occurrences (occurrences file.items) x has in
@@ -285,7 +293,8 @@ module _ (file : File) (r : ResolvedParts) (known : Known file r) (owners : IsOw
         owner = is_host row.owner (e.owner ∙ ground.host.occurrences x inside);
         direction = named.direction;
         attribute = subst (λ o. SeesAttribute a o named.direction row.attribute) (sym e.owner)
-            (carried_attribute (λ (o : ℕ). o) file.base r ground.distinct carried x.owner named.direction x.attribute row.attribute named.attribute
+            (carried_attribute (λ (o : ℕ). o) file.base r ground.distinct carried x.owner named.direction x.attribute row.attribute
+            named.attribute
             e.attribute);
         nonterminal = subst (λ o. SeesNonterminal a o row.nonterminal) (sym e.owner)
             (carried_nonterminal (λ (o : ℕ). o) file.base r ground.distinct carried x.owner x.nonterminal row.nonterminal named.nonterminal
@@ -293,7 +302,8 @@ module _ (file : File) (r : ResolvedParts) (known : Known file r) (owners : IsOw
         needs = subst (λ o. All (λ i. SeesOccurrence a o Inherited i row.nonterminal) row.needs) (sym e.owner)
             (carried_all (IsMovedAttributeNumber (move_of file n)) (λ i. SeesOccurrence b x.owner Inherited i x.nonterminal)
             (λ i. SeesOccurrence a x.owner Inherited i row.nonterminal)
-            (λ y z q s. carried_occurrence (λ (o : ℕ). o) file.base r ground.distinct carried x.owner Inherited y x.nonterminal z row.nonterminal s q
+            (λ y z q s. carried_occurrence (λ (o : ℕ). o) file.base r ground.distinct carried x.owner Inherited y x.nonterminal z
+            row.nonterminal s q
             e.nonterminal) x.needs row.needs e.needs named.needs);
         inherited = λ q. nothing_beside (IsMovedAttributeNumber (move_of file n)) x.needs row.needs e.needs (named.inherited q);
       }

@@ -51,12 +51,14 @@ use Rattle.wb_numbering.proofs.RowLemmas.{map_contains}
 use Rattle.wb_numbering.proofs.Selected.{kept_from}
 
 -- what an item of names alone declares, and an equation
-pub plain_declares : (items : Items) (x : PlainForm) → Contains (plain_items items) x → Contains (item_declarations items) (plain_declaration x)
+pub plain_declares : (items : Items) (x : PlainForm) → Contains (plain_items items) x
+    → Contains (item_declarations items) (plain_declaration x)
 plain_declares items x has =
     let k = kept_from (λ (y : Item Pattern). plain_of y.form) items x has in
     flat_map_contains (λ (y : Item Pattern). form_declarations y.form) items k.0 (plain_declaration x) k.1 (from k.0.form k.2) where
       from : (form : ItemForm Pattern) → plain_of form ≡ Some x → Contains (form_declarations form) (plain_declaration x)
-      from (f.Plain y) e = let same : y ≡ x = cc in subst (λ z. Contains (form_declarations (f.Plain y)) (plain_declaration z)) same (contains_first (plain_declaration y) [])
+      from (f.Plain y) e = let same : y ≡ x = cc in subst (λ z. Contains (form_declarations (f.Plain y)) (plain_declaration z)) same
+          (contains_first (plain_declaration y) [])
       from (f.Lexical role name pattern) e = absurd (cc e)
       from (f.Production role p) e = absurd (cc e)
       from (f.Aspect name es) e = absurd (cc e)
@@ -65,7 +67,8 @@ pub block_declares : (items : Items) (b : Block) → Contains (blocks items) b �
     → Contains (item_declarations items) (target_declaration b.name q.target)
 block_declares items b has q inside =
     let k = kept_from (λ (y : Item Pattern). block_of y.form) items b has in
-    flat_map_contains (λ (y : Item Pattern). form_declarations y.form) items k.0 (target_declaration b.name q.target) k.1 (from k.0.form k.2) where
+    flat_map_contains (λ (y : Item Pattern). form_declarations y.form) items k.0 (target_declaration b.name q.target) k.1 (from k.0.form
+    k.2) where
       here : Contains (equation_declarations b.name b.equations) (target_declaration b.name q.target)
       here = map_contains (λ (e : written.Equation). target_declaration b.name e.target) b.equations q inside
 
@@ -162,11 +165,13 @@ module _ (file : File) (r : ResolvedParts) (known : Known file r) where
       (there_declared b.attributes (attributes file.items) x has) in
       let number : IsNumber n.attributes file.owner x.name h.place = record {
         other = h.row.owner;
-        is = name_at (λ (y : Attribute). (y.owner, y.name)) a.attributes h.place h.row h.at ∙ ap (λ (z : List ℕ). Some (h.row.owner, z)) h.is_row.name;
+        is = name_at (λ (y : Attribute). (y.owner, y.name)) a.attributes h.place h.row h.at ∙ ap (λ (z : List ℕ). Some (h.row.owner, z))
+            h.is_row.name;
         seen = inr h.is_row.owner_is;
       } in
       let same = one_number n.attributes ground.distinct.attributes file.owner x.name h.place k number is in
-      ap (option_map (λ (y : Attribute). y.owner)) (subst (λ z. slice_get a.attributes z ≡ Some h.row) same h.at) ∙ ap Some h.is_row.owner_is
+      ap (option_map (λ (y : Attribute). y.owner)) (subst (λ z. slice_get a.attributes z ≡ Some h.row) same h.at) ∙ ap Some
+      h.is_row.owner_is
 
   own_attribute : (name : List ℕ) (direction : Direction) → IsOwnDeclared file.items (d.Attribute name direction) → (k : ℕ)
       → IsNumber n.attributes file.owner name k → option_map (λ (y : Attribute). y.owner) (slice_get a.attributes k) ≡ Some file.owner
@@ -175,11 +180,13 @@ module _ (file : File) (r : ResolvedParts) (known : Known file r) where
         → option_map (λ (y : Attribute). y.owner) (slice_get a.attributes k) ≡ Some file.owner
     from (i.Synthesized one its) has e =
         let same : name ≡ one = cc in
-        attribute_owner (record { name = one; direction = Synthesized; kind = its }) (kept attribute_of (plain_items file.items) _ _ has refl) k
+        attribute_owner (record { name = one; direction = Synthesized; kind = its }) (kept attribute_of (plain_items file.items) _ _ has
+        refl) k
         (subst (λ z. IsNumber n.attributes file.owner z k) same is)
     from (i.Inherited one its) has e =
         let same : name ≡ one = cc in
-        attribute_owner (record { name = one; direction = Inherited; kind = its }) (kept attribute_of (plain_items file.items) _ _ has refl) k
+        attribute_owner (record { name = one; direction = Inherited; kind = its }) (kept attribute_of (plain_items file.items) _ _ has refl)
+        k
         (subst (λ z. IsNumber n.attributes file.owner z k) same is)
     from (i.Prefer first second) has e = absurd (false≢true (ap is_attribute e))
     from (i.Nonterminal one) has e = absurd (false≢true (ap is_attribute e))
@@ -206,14 +213,16 @@ module _ (file : File) (r : ResolvedParts) (known : Known file r) where
         seen = inr h.is_row.owner_is;
       } in
       let same = one_number n.nonterminals (nonterminals_differ n ground.distinct) file.owner name h.place k number is in
-      ap (option_map (λ (y : Nonterminal). y.owner)) (subst (λ z. slice_get a.nonterminals z ≡ Some h.row) same h.at) ∙ ap Some h.is_row.owner_is
+      ap (option_map (λ (y : Nonterminal). y.owner)) (subst (λ z. slice_get a.nonterminals z ≡ Some h.row) same h.at) ∙ ap Some
+      h.is_row.owner_is
 
   own_symbol : (m : List ℕ) (is : Sort) → IsOwnDeclared file.items (d.Symbol m is) → (k : ℕ) → IsNumber n.nonterminals file.owner m k
       → option_map (λ (y : Nonterminal). y.owner) (slice_get a.nonterminals k) ≡ Some file.owner
   own_symbol m is (own.lexical x has e) k number =
       let same : m ≡ x.name = cc in
       let t = own_terminal file r ground x has in
-      absurd (not_both n ground.distinct file.owner x.name t.number k t.is (subst (λ z. IsNumber n.nonterminals file.owner z k) same number))
+      absurd (not_both n ground.distinct file.owner x.name t.number k t.is (subst (λ z. IsNumber n.nonterminals file.owner z k) same
+      number))
   own_symbol m is (own.plain x has e) k number = from x has e where
     from : (x : PlainForm) → Contains (plain_items file.items) x → plain_declaration x ≡ d.Symbol m is
         → option_map (λ (y : Nonterminal). y.owner) (slice_get a.nonterminals k) ≡ Some file.owner
@@ -230,7 +239,8 @@ module _ (file : File) (r : ResolvedParts) (known : Known file r) where
     from (i.ForwardOn l needs) has e = absurd (false≢true (ap is_symbol e))
   own_symbol m is (own.production x has e) k number =
       let same : x.production.name ≡ m = cc in
-      let h = row_of IsConcrete (IsProduction file n) (sources b.productions (productions file.items)) a.productions ground.resolves.productions
+      let h = row_of IsConcrete (IsProduction file n) (sources b.productions (productions file.items)) a.productions
+      ground.resolves.productions
       (inr x) (there_declared b.productions (productions file.items) x has) in
       let other : IsNumber n.productions file.owner m h.place = record {
         other = h.row.owner;
@@ -280,25 +290,31 @@ module _ (file : File) (r : ResolvedParts) (known : Known file r) where
         from (i.Inherited one its) there q = absurd (cc q)
         from (i.ForwardOn m needs) there q = absurd (cc q)
 
-        by_own : ((direction : Direction) × Contains owns (d.Attribute x.attribute direction)) ⊎ ((is : Sort) × Contains owns (d.Symbol x.nonterminal is))
+        by_own : ((direction : Direction) × Contains owns (d.Attribute x.attribute direction)) ⊎ ((is : Sort) × Contains owns (d.Symbol
+            x.nonterminal is))
             → IsOwnOccurrence a row
         by_own (inl (direction, listed)) =
             inl (subst (λ z. option_map (λ (y : Attribute). y.owner) (slice_get a.attributes row.attribute) ≡ Some z) (sym e.owner_is)
-            (own_attribute x.attribute direction (own_declared file.items (d.Attribute x.attribute direction) listed) row.attribute e.attribute))
+            (own_attribute x.attribute direction (own_declared file.items (d.Attribute x.attribute direction) listed) row.attribute
+            e.attribute))
         by_own (inr (is, listed)) =
             inr (subst (λ z. option_map (λ (y : Nonterminal). y.owner) (slice_get a.nonterminals row.nonterminal) ≡ Some z) (sym e.owner_is)
             (own_symbol x.nonterminal is (own_declared file.items (d.Symbol x.nonterminal is) listed) row.nonterminal e.nonterminal))
 
   -- one of the base is of the host's attribute
-  owned_occurrence : (x : Occurrence ⊎ OccurrenceDeclaration) (row : Occurrence) → Contains (sources b.occurrences (occurrences file.items)) x
+  owned_occurrence : (x : Occurrence ⊎ OccurrenceDeclaration) (row : Occurrence) → Contains (sources b.occurrences (occurrences file.items))
+      x
       → Contains a.occurrences row → IsOccurrence file n x row → IsOwnOccurrence a row
   owned_occurrence (inl x) row has listed e =
       let inside = source_before b.occurrences (occurrences file.items) x has in
-      let before = row_at (λ (y : Attribute). (y.owner, y.name)) b.attributes x.attribute e.attribute.owner e.attribute.name e.attribute.before in
-      let after = row_at (λ (y : Attribute). (y.owner, y.name)) a.attributes row.attribute e.attribute.owner e.attribute.name e.attribute.after in
+      let before = row_at (λ (y : Attribute). (y.owner, y.name)) b.attributes x.attribute e.attribute.owner e.attribute.name
+      e.attribute.before in
+      let after = row_at (λ (y : Attribute). (y.owner, y.name)) a.attributes row.attribute e.attribute.owner e.attribute.name
+      e.attribute.after in
       let zero_is : e.attribute.owner ≡ 0 =
       sym before.owner_is ∙ ground.host.attributes before.row (contains_at b.attributes before.row x.attribute before.is) in
-      inl (ap (option_map (λ (y : Attribute). y.owner)) after.is ∙ ap Some (after.owner_is ∙ (zero_is ∙ sym (e.owner ∙ ground.host.occurrences x inside))))
+      inl (ap (option_map (λ (y : Attribute). y.owner)) after.is ∙ ap Some (after.owner_is ∙ (zero_is ∙ sym (e.owner ∙
+      ground.host.occurrences x inside))))
   owned_occurrence (inr x) row has listed e =
       occurrence_own x row (source_declared b.occurrences (occurrences file.items) x has) e file.owner refl
 

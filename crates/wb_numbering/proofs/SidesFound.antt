@@ -71,7 +71,8 @@ plain_no_forward (i.Occurs a m needs) = refl
 plain_no_forward (i.ForwardOn m needs) = refl
 
 -- where something is beside an element, there is something
-beside_one : {A B : Type 0} (R : A → B → Type 0) (xs : List A) (x : A) (o : Option B) → Contains xs x → AllZip R xs (option_to_list o) → IsSome o
+beside_one : {A B : Type 0} (R : A → B → Type 0) (xs : List A) (x : A) (o : Option B) → Contains xs x → AllZip R xs (option_to_list o)
+    → IsSome o
 beside_one R [] x o has all = absurd (nothing_in x has)
 beside_one R (y ∷ ys) x None has all = absurd all
 beside_one R (y ∷ ys) x (Some z) has all = refl
@@ -110,7 +111,8 @@ module _ (file : File) (r : ResolvedParts) (ground : Ground file r) (placed : mi
   left_found m has = left_by m (declared_by file.base file.items (d.Left row.name m) has)
 
   -- an aspect has no forward
-  no_forward : (item : Item Pattern) → Contains file.items item → (name : List ℕ) (es : List written.Equation) → item.form ≡ f.Aspect name es
+  no_forward : (item : Item Pattern) → Contains file.items item → (name : List ℕ) (es : List written.Equation)
+      → item.form ≡ f.Aspect name es
       → (q : written.Equation) → Contains es q → q.target ≡ g.ForwardsTo → ⊥
   no_forward item has name es e q more is =
       let one : Contains (misplaced_forward name q.target) name =
@@ -132,7 +134,8 @@ module _ (file : File) (r : ResolvedParts) (ground : Ground file r) (placed : mi
         from item there (f.Lexical role name pattern) e o = absurd (cc o)
         from item there (f.Plain plain) e o = absurd (cc o)
         from item there (f.Production role p) e o =
-            let declared = kept (λ (x : Item Pattern). production_of x.form) file.items item (record { role = role; production = p }) there (ap production_of e) in
+            let declared = kept (λ (x : Item Pattern). production_of x.form) file.items item (record { role = role; production = p }) there
+            (ap production_of e) in
             let block : record { name = p.name; equations = p.equations } ≡ b = cc in
             let named : p.name ≡ row.name = ap (λ (z : Block). z.name) block ∙ same in
             let own = own_row file r ground (record { role = role; production = p }) declared at_row row is_there named in

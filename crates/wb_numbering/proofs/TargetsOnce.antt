@@ -1,5 +1,6 @@
 -- No two equations of a production have one target, and no attribute occurs twice on a nonterminal, where declarations are once.
-use Rattle.std.proofs.Common.{◌≡◌, ◌≤◌, ◌+◌, ◌++◌, ◌∷◌, ◌⊎◌, inl, inr, [], ℕ, Bool, true, false, List, Option, Some, None, Contains, map, cond, slice_get}
+use Rattle.std.proofs.Common.{◌≡◌, ◌≤◌, ◌+◌, ◌++◌, ◌∷◌, ◌⊎◌, inl, inr, [], ℕ, Bool, true, false, List, Option, Some, None, Contains, map}
+use Rattle.std.proofs.Common.{cond, slice_get}
 use Rattle.std.proofs.Common.{ap, sym, refl, subst, ◌∙◌, arith, ◌&&◌}
 use Rattle.std.specs.Prelude.{flat_map, filter, option_to_list, option_map}
 use Rattle.std.specs.List.{AllZip}
@@ -39,8 +40,10 @@ use Rattle.wb_naming.specs.declared.declaration.Declaration.TheVariants as d
 use Rattle.wb_naming.specs.declared.declaration.Site.{Site}
 use Rattle.wb_naming.specs.declared.declaration.Site.TheVariants as site
 use Rattle.wb_naming.specs.Declarations.{Items, ProductionDeclaration}
-use Rattle.wb_naming.specs.Declares.{base_declarations, item_declarations, form_declarations, declarations, production_declarations, child_declaration}
-use Rattle.wb_naming.specs.Declares.{equation_declarations, target_declaration, target_attribute, target_site, label_at, name_in, attribute_name}
+use Rattle.wb_naming.specs.Declares.{base_declarations, item_declarations, form_declarations, declarations, production_declarations}
+use Rattle.wb_naming.specs.Declares.{child_declaration}
+use Rattle.wb_naming.specs.Declares.{equation_declarations, target_declaration, target_attribute, target_site, label_at, name_in}
+use Rattle.wb_naming.specs.Declares.{attribute_name}
 use Rattle.wb_naming.specs.Hold.{AreOnce}
 use Rattle.wb_numbering.specs.Files.{File, Block, blocks, block_of, equations_on}
 use Rattle.wb_numbering.specs.Numbering.{Numbering, numbering_of, labels_in, IsNumber, IsPlace}
@@ -153,7 +156,8 @@ equation_at es i to at = from_option (slice_get es i) to (sym (slice_get-map (λ
 module _ (n : Numbering) (owner : ℕ) (row : Production) where
   abbrev pub IsCalled : Target → List ℕ → Site → Type 0
   IsCalled (target.Top k) a s = IsNumber n.attributes owner a k × (s ≡ site.Top)
-  IsCalled (target.Place at k) a s = (l : List ℕ) × IsPlace (labels_in row) owner l at × IsNumber n.attributes owner a k × (s ≡ site.Label l)
+  IsCalled (target.Place at k) a s = (l : List ℕ) × IsPlace (labels_in row) owner l at × IsNumber n.attributes owner a k × (s ≡ site.Label
+      l)
   IsCalled (target.Forward k) a s = IsNumber n.attributes owner a k × (s ≡ site.Forward)
 
   place_label : (at : Place) (l m : List ℕ) → IsPlace (labels_in row) owner l at → IsPlace (labels_in row) owner m at → l ≡ m
@@ -218,7 +222,8 @@ module _ (file : File) (r : ResolvedParts) (ground : Ground file r) (once : AreO
       → Differ (map (λ (e : Equation). e.target) row.equations)
   own_targets v row e =
       let p = v.production.name in
-      targets_differ n file.owner row (IsWrittenEquation n file.owner (labels_in row)) p (λ (q : written.Equation). target_declaration p q.target)
+      targets_differ n file.owner row (IsWrittenEquation n file.owner (labels_in row)) p (λ (q : written.Equation). target_declaration p
+      q.target)
       (attribute_equations (equations_on p file.items)) row.equations e.equations
       (λ u w has t. written_called n file.owner row p u.target w.target t.target)
       (λ a s. let items = items_count p a s file.items in
@@ -259,8 +264,12 @@ module _ (file : File) (r : ResolvedParts) (ground : Ground file r) (once : AreO
       attribute = attribute_name file.base k;
       at = site.Label (label_at q at);
       is = refl;
-      called = subst (λ z. IsCalled n file.owner row z (attribute_name file.base k) (site.Label (label_at q at))) (sym m.4)
-          (label_at q at, moved_label at m.0 (child.Value (kind.Tree named.0)) named.1.is m.2, moved_attribute file r ground k m.1 m.3, refl);
+      called = subst (λ z. IsCalled n file.owner row z (attribute_name file.base k) (site.Label (label_at q at))) (sym m.4) (
+        label_at q at,
+        moved_label at m.0 (child.Value (kind.Tree named.0)) named.1.is m.2,
+        moved_attribute file r ground k m.1 m.3,
+        refl,
+      );
     }
     base_called (target.Forward k) to named m = record {
       attribute = attribute_name file.base k;
@@ -283,8 +292,10 @@ module _ (file : File) (r : ResolvedParts) (ground : Ground file r) (once : AreO
     source_called (inl y) v listed t =
         let inside = source_before q.equations own y listed in
         let named = all_contained (IsNamedEquation file.base.attributes q) q.equations y
-        (all_contained (IsNamedProduction file.base.attributes) file.base.attributes.productions q ground.base.attributes.named.productions has).equations inside in
-        base_called y.target v.target (subst (λ o. IsNamedTarget file.base.attributes q o y.target) (ground.host.equations q has y inside) named.target)
+        (all_contained (IsNamedProduction file.base.attributes) file.base.attributes.productions q ground.base.attributes.named.productions
+        has).equations inside in
+        base_called y.target v.target (subst (λ o. IsNamedTarget file.base.attributes q o y.target) (ground.host.equations q has y inside)
+        named.target)
         t.target
     source_called (inr y) v listed t = written_called n file.owner row q.name y.target v.target t.target
 

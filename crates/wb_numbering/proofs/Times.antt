@@ -1,5 +1,6 @@
 -- How often something is declared: once at most, where declarations are once.
-use Rattle.std.proofs.Common.{◌≡◌, ◌≤◌, ◌<◌, ◌+◌, ◌++◌, ◌∷◌, [], ℕ, zero, suc, Bool, true, false, List, Some, Contains, map, slice_get, ap, inl, inr}
+use Rattle.std.proofs.Common.{◌≡◌, ◌≤◌, ◌<◌, ◌+◌, ◌++◌, ◌∷◌, [], ℕ, zero, suc, Bool, true, false, List, Some, Contains, map, slice_get, ap}
+use Rattle.std.proofs.Common.{inl, inr}
 use Rattle.std.proofs.Common.{sym, refl, subst, ◌∙◌, arith, ◌&&◌}
 use Rattle.std.specs.Prelude.{flat_map}
 use Rattle.std.specs.Str.{bytes_eq}
@@ -66,7 +67,8 @@ symbol_same a s (d.Extensible y0) e = absurd (false≢true e)
 symbol_same a s (d.ForwardNeeds y0) e = absurd (false≢true e)
 symbol_same a s (d.Preference y0 y1) e = absurd (false≢true e)
 
-attribute_same : (a : List ℕ) (s : Direction) (x : Declaration) → is_same (d.Attribute a s) x ≡ true → (t : Direction) × (x ≡ d.Attribute a t)
+attribute_same : (a : List ℕ) (s : Direction) (x : Declaration) → is_same (d.Attribute a s) x ≡ true
+    → (t : Direction) × (x ≡ d.Attribute a t)
 attribute_same a s (d.Attribute name direction) e = (direction, ap (λ k. d.Attribute k direction) (sym (same_bytes a name e)))
 attribute_same a s (d.Symbol y0 y1) e = absurd (false≢true e)
 attribute_same a s (d.Occurrence y0 y1) e = absurd (false≢true e)
@@ -80,7 +82,8 @@ attribute_same a s (d.ForwardNeeds y0) e = absurd (false≢true e)
 attribute_same a s (d.Preference y0 y1) e = absurd (false≢true e)
 
 occurrence_same : (b k : List ℕ) (x : Declaration) → is_same (d.Occurrence b k) x ≡ true → x ≡ d.Occurrence b k
-occurrence_same b k (d.Occurrence a m) e = let p = and_parts (bytes_eq b a) (bytes_eq k m) e in λ j. d.Occurrence (sym (same_bytes b a p.0) j) (sym (same_bytes k m p.1) j)
+occurrence_same b k (d.Occurrence a m) e = let p = and_parts (bytes_eq b a) (bytes_eq k m) e in λ j. d.Occurrence (sym (same_bytes b a p.0)
+    j) (sym (same_bytes k m p.1) j)
 occurrence_same b k (d.Symbol y0 y1) e = absurd (false≢true e)
 occurrence_same b k (d.Attribute y0 y1) e = absurd (false≢true e)
 occurrence_same b k (d.Left y0 y1) e = absurd (false≢true e)
@@ -93,7 +96,11 @@ occurrence_same b k (d.ForwardNeeds y0) e = absurd (false≢true e)
 occurrence_same b k (d.Preference y0 y1) e = absurd (false≢true e)
 
 label_same : (q m : List ℕ) (s : Labelled) (x : Declaration) → is_same (d.Label q m s) x ≡ true → (t : Labelled) × (x ≡ d.Label q m t)
-label_same q m s (d.Label p l is) e = let r = and_parts (bytes_eq q p) (bytes_eq m l) e in (is, λ j. d.Label (sym (same_bytes q p r.0) j) (sym (same_bytes m l r.1) j) is)
+label_same q m s (d.Label p l is) e = let r = and_parts (bytes_eq q p) (bytes_eq m l) e in (
+  is,
+  λ j. d.Label (sym (same_bytes q p r.0) j)
+      (sym (same_bytes m l r.1) j) is,
+)
 label_same q m s (d.Symbol y0 y1) e = absurd (false≢true e)
 label_same q m s (d.Attribute y0 y1) e = absurd (false≢true e)
 label_same q m s (d.Occurrence y0 y1) e = absurd (false≢true e)
@@ -106,7 +113,9 @@ label_same q m s (d.ForwardNeeds y0) e = absurd (false≢true e)
 label_same q m s (d.Preference y0 y1) e = absurd (false≢true e)
 
 equation_same : (q b : List ℕ) (s : Site) (x : Declaration) → is_same (d.Equation q b s) x ≡ true → x ≡ d.Equation q b s
-equation_same q b s (d.Equation p a at) e = let r = and_parts (bytes_eq q p) (bytes_eq b a && same_site s at) e in let t = and_parts (bytes_eq b a) (same_site s at) r.1 in λ j. d.Equation (sym (same_bytes q p r.0) j) (sym (same_bytes b a t.0) j) (sym (site_same s at t.1) j)
+equation_same q b s (d.Equation p a at) e = let r = and_parts (bytes_eq q p) (bytes_eq b a && same_site s at) e in let t = and_parts
+    (bytes_eq b a) (same_site s at) r.1 in λ j. d.Equation (sym (same_bytes q p r.0) j) (sym (same_bytes b a t.0) j) (sym (site_same s at
+    t.1) j)
 equation_same q b s (d.Symbol y0 y1) e = absurd (false≢true e)
 equation_same q b s (d.Attribute y0 y1) e = absurd (false≢true e)
 equation_same q b s (d.Occurrence y0 y1) e = absurd (false≢true e)
@@ -132,7 +141,8 @@ extensible_same b (d.ForwardNeeds y0) e = absurd (false≢true e)
 extensible_same b (d.Preference y0 y1) e = absurd (false≢true e)
 
 preference_same : (b k : List ℕ) (x : Declaration) → is_same (d.Preference b k) x ≡ true → x ≡ d.Preference b k
-preference_same b k (d.Preference a m) e = let p = and_parts (bytes_eq b a) (bytes_eq k m) e in λ j. d.Preference (sym (same_bytes b a p.0) j) (sym (same_bytes k m p.1) j)
+preference_same b k (d.Preference a m) e = let p = and_parts (bytes_eq b a) (bytes_eq k m) e in λ j. d.Preference (sym (same_bytes b a p.0)
+    j) (sym (same_bytes k m p.1) j)
 preference_same b k (d.Symbol y0 y1) e = absurd (false≢true e)
 preference_same b k (d.Attribute y0 y1) e = absurd (false≢true e)
 preference_same b k (d.Occurrence y0 y1) e = absurd (false≢true e)
@@ -155,13 +165,15 @@ same_both (d.Attribute a s) y z e f =
     let v = attribute_same a s z f in
     subst (λ k. AreSame k z) (sym u.1) (subst (AreSame (d.Attribute a u.0)) (sym v.1) same.attribute)
 same_both (d.Occurrence a m) y z e f =
-    subst (λ k. AreSame k z) (sym (occurrence_same a m y e)) (subst (AreSame (d.Occurrence a m)) (sym (occurrence_same a m z f)) same.occurrence)
+    subst (λ k. AreSame k z) (sym (occurrence_same a m y e)) (subst (AreSame (d.Occurrence a m)) (sym (occurrence_same a m z f))
+    same.occurrence)
 same_both (d.Label p l s) y z e f =
     let u = label_same p l s y e in
     let v = label_same p l s z f in
     subst (λ k. AreSame k z) (sym u.1) (subst (AreSame (d.Label p l u.0)) (sym v.1) same.label)
 same_both (d.Equation p a at) y z e f =
-    subst (λ k. AreSame k z) (sym (equation_same p a at y e)) (subst (AreSame (d.Equation p a at)) (sym (equation_same p a at z f)) same.equation)
+    subst (λ k. AreSame k z) (sym (equation_same p a at y e)) (subst (AreSame (d.Equation p a at)) (sym (equation_same p a at z f))
+    same.equation)
 same_both (d.Left p m) y z e f = absurd (false≢true e)
 same_both (d.Forward p) y z e f = absurd (false≢true e)
 same_both (d.Start name) y z e f = absurd (false≢true e)
@@ -169,7 +181,8 @@ same_both (d.Extensible a) y z e f =
     subst (λ k. AreSame k z) (sym (extensible_same a y e)) (subst (AreSame (d.Extensible a)) (sym (extensible_same a z f)) same.extensible)
 same_both (d.ForwardNeeds name) y z e f = absurd (false≢true e)
 same_both (d.Preference a m) y z e f =
-    subst (λ k. AreSame k z) (sym (preference_same a m y e)) (subst (AreSame (d.Preference a m)) (sym (preference_same a m z f)) same.preference)
+    subst (λ k. AreSame k z) (sym (preference_same a m y e)) (subst (AreSame (d.Preference a m)) (sym (preference_same a m z f))
+    same.preference)
 
 -- how often something is declared
 abbrev pub once_where : Bool → ℕ

@@ -18,9 +18,11 @@ use Rattle.wb_syntax.specs.Names.{FormHasNames, EquationHasNames, ProductionHasN
 use Rattle.wb_naming.specs.declared.usage.Usage.{Usage}
 use Rattle.wb_naming.specs.declared.usage.Usage.TheVariants as u
 use Rattle.wb_naming.specs.declared.usage.Wanted.TheVariants as w
-use Rattle.wb_naming.specs.Declarations.{Items, ProductionDeclaration, LexicalDeclaration, productions, plain_items, lexicals, production_of, plain_of}
+use Rattle.wb_naming.specs.Declarations.{Items, ProductionDeclaration, LexicalDeclaration, productions, plain_items, lexicals}
+use Rattle.wb_naming.specs.Declarations.{production_of, plain_of}
 use Rattle.wb_naming.specs.Declarations.{lexical_of}
-use Rattle.wb_naming.specs.Uses.{uses, form_uses, plain_uses, production_uses, equation_uses, target_uses, node_uses, kind_uses, child_wanted}
+use Rattle.wb_naming.specs.Uses.{uses, form_uses, plain_uses, production_uses, equation_uses, target_uses, node_uses, kind_uses}
+use Rattle.wb_naming.specs.Uses.{child_wanted}
 use Rattle.wb_numbering.specs.Files.{Block, blocks, block_of}
 use Rattle.wb_numbering.proofs.OwnDeclared.{flat_map_contains}
 use Rattle.wb_numbering.proofs.Selected.{kept_from}
@@ -85,7 +87,8 @@ equation_used items b has q inside it more =
           let here : Contains (flat_map (equation_uses name) es) it =
           flat_map_contains (equation_uses name) es q it (subst (λ (z : Block). Contains z.equations q) (sym same) inside)
           (subst (λ (z : Block). Contains (equation_uses z.name q) it) (sym same) more) in
-          from_item items item there (f.Aspect name es) e it (contains_later (u.Name name w.Production) it (flat_map (equation_uses name) es) here)
+          from_item items item there (f.Aspect name es) e it (contains_later (u.Name name w.Production) it (flat_map (equation_uses name)
+          es) here)
 
 -- what the nodes of an equation use, and what its target does
 pub node_used : (production : List ℕ) (q : written.Equation) (node : Node) → Contains q.nodes node → (it : Usage)
@@ -125,7 +128,8 @@ equation_whole items whole b has q inside =
       from (f.Plain plain) o h = absurd (cc o)
       from (f.Production role p) o h =
           let same : record { name = p.name; equations = p.equations } ≡ b = cc in
-          all_contained (λ (e : written.Equation). IsWhole e.nodes) p.equations q h (subst (λ (z : Block). Contains z.equations q) (sym same) inside)
+          all_contained (λ (e : written.Equation). IsWhole e.nodes) p.equations q h (subst (λ (z : Block). Contains z.equations q) (sym
+          same) inside)
       from (f.Aspect name es) o h =
           let same : record { name = name; equations = es } ≡ b = cc in
           all_contained (λ (e : written.Equation). IsWhole e.nodes) es q h (subst (λ (z : Block). Contains z.equations q) (sym same) inside)
@@ -141,7 +145,8 @@ production_names items names x has =
       from (f.Plain plain) o h = absurd (cc o)
       from (f.Aspect name es) o h = absurd (cc o)
       from (f.Production role p) o h =
-          let same : record { role = role; production = p } ≡ x = cc in subst (λ (z : ProductionDeclaration). ProductionHasNames z.production) same h
+          let same : record { role = role; production = p } ≡ x = cc in subst (λ (z : ProductionDeclaration). ProductionHasNames
+          z.production) same h
 
 pub lexical_name : (items : Items) → All (λ (x : Item Pattern). FormHasNames x.form) items → (x : LexicalDeclaration)
     → Contains (lexicals items) x → IsName x.name
@@ -153,7 +158,8 @@ lexical_name items names x has =
       from (f.Plain plain) o h = absurd (cc o)
       from (f.Aspect name es) o h = absurd (cc o)
       from (f.Lexical role name pattern) o h =
-          let same : record { role = role; name = name; pattern = pattern } ≡ x = cc in subst (λ (z : LexicalDeclaration). IsName z.name) same h
+          let same : record { role = role; name = name; pattern = pattern } ≡ x = cc in subst (λ (z : LexicalDeclaration). IsName z.name)
+          same h
 
 pub plain_item_names : (items : Items) → All (λ (x : Item Pattern). FormHasNames x.form) items → (x : PlainForm)
     → Contains (plain_items items) x → All IsName (plain_names x)
