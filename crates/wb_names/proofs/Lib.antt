@@ -1,2 +1,3 @@
+pub mod AddsLemmas
 pub mod ScopeLemmas
 pub mod ZipLemmas

@@ -5,5 +5,7 @@
 #![tactic(auto)]
 
 mod child;
+mod equation;
+mod local;
 mod node;
 mod scope;
