@@ -1,3 +1,4 @@
 -- Words of private functions.
 pub mod Scope
 pub mod Nodes
+pub mod Moves

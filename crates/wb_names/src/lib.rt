@@ -7,5 +7,6 @@
 mod child;
 mod equation;
 mod local;
+mod moves;
 mod node;
 mod scope;

@@ -2,9 +2,14 @@
 use Rattle.std.specs.Prelude.{◌≡◌, ◌⊎◌, ◌≤◌, ◌<◌, ◌+◌, ◌++◌, ℕ, List, Some, All, Contains, map, length, slice_get}
 use Rattle.wb_resolved.specs.declared.equation.Place.{Place}
 use Rattle.wb_resolved.specs.declared.equation.Place.TheVariants as place
+use Rattle.wb_resolved.specs.declared.production.Child.{Child}
 use Rattle.wb_resolved.specs.Once.{Entry}
 use Rattle.wb_resolved.specs.Owners.{Sees}
+use Rattle.wb_syntax.specs.declared.production.Child as named
+use Rattle.wb_syntax.specs.declared.production.NamedKind.{NamedKind}
+use Rattle.wb_syntax.specs.Names.{kind_names}
 use Rattle.wb_numbering.specs.Numbering.{Numbering, Labels}
+use Rattle.wb_numbering.specs.Written.{IsWrittenChild}
 use Rattle.wb_names.specs.declared.scope.Scope.{Scope}
 use Rattle.wb_names.specs.declared.scope.ProductionLabels.{ProductionLabels}
 
@@ -30,3 +35,11 @@ pub record AreLabels (labels : ProductionLabels) (of : Labels) (owner : ℕ) : T
   pub names : labels.names ≡ of.children ++ map (λ (e : Entry). e.1) of.locals
   pub count : labels.children ≡ length of.children
   pub seen : (e : Entry) → Contains of.locals e → Sees owner e.0
+
+-- the name in a kind is there, as a terminal or a nonterminal
+abbrev pub KindIsThere : Scope → NamedKind → Type 0
+KindIsThere s kind = All (λ name. Contains s.terminals name ⊎ Contains s.nonterminals name) (kind_names kind)
+
+-- the child is this one, where the scope has the names of a numbering
+abbrev pub IsFoundChild : Scope → Numbering → named.Child → Child → Type 0
+IsFoundChild s n child to = IsScope s n → IsWrittenChild n s.owner child to
