@@ -1,3 +1,4 @@
 pub mod AddsLemmas
+pub mod IndexLemmas
 pub mod ScopeLemmas
 pub mod ZipLemmas

@@ -1,4 +1,5 @@
 -- Words of private functions.
+pub mod Index
 pub mod Scope
 pub mod Nodes
 pub mod Moves

@@ -6,6 +6,7 @@
 
 mod child;
 mod equation;
+mod index;
 mod local;
 mod moves;
 mod node;
