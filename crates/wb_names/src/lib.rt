@@ -7,6 +7,7 @@
 mod child;
 mod equation;
 mod index;
+mod labels;
 mod local;
 mod moves;
 mod node;

@@ -5,28 +5,28 @@
 ghost use Rattle.std.specs.Prelude.{◌≡◌, ℕ, List, Some, Contains, slice_get};
 ghost use Rattle.wb_names.specs.Inner.Scope.{IsLabelOf};
 
-use wb_base::Names;
+use crate::index::Index;
 use wb_resolved::Place;
 
 // The names by number, and whose the file is.
 #[derive(Drop)]
 pub(crate) struct Scope {
     pub(crate) owner: usize,
-    pub(crate) terminals: Names,
-    pub(crate) nonterminals: Names,
-    pub(crate) attributes: Names,
-    pub(crate) productions: Names,
+    pub(crate) terminals: Index,
+    pub(crate) nonterminals: Index,
+    pub(crate) attributes: Index,
+    pub(crate) productions: Index,
 }
 
 // The labels of a production: those of its children, so many, and then those of its locals.
 #[derive(Drop)]
 pub(crate) struct ProductionLabels {
-    pub(crate) names: Names,
+    pub(crate) names: Index,
     pub(crate) children: usize,
 }
 
 // The number of a name that is there.
-pub(crate) fn number_of(names: &Names, name: &[u8]) -> usize
+pub(crate) fn number_of(names: &Index, name: &[u8]) -> usize
     requires { Contains names.now name.now }
     ensures { slice_get names.now result ≡ Some name.now }
 {
