@@ -1,4 +1,5 @@
 pub mod AddsLemmas
+pub mod BlockLemmas
 pub mod IndexLemmas
 pub mod ScopeLemmas
 pub mod ZipLemmas

@@ -3,3 +3,4 @@ pub mod Index
 pub mod Scope
 pub mod Nodes
 pub mod Moves
+pub mod Blocks
