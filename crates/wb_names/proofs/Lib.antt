@@ -1,5 +1,7 @@
 pub mod AddsLemmas
 pub mod BlockLemmas
+pub mod FoundLemmas
 pub mod IndexLemmas
+pub mod MovedLemmas
 pub mod ScopeLemmas
 pub mod ZipLemmas
