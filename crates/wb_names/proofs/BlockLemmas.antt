@@ -18,6 +18,7 @@ use Rattle.wb_names.specs.declared.scope.ProductionLabels.{ProductionLabels}
 use Rattle.wb_names.specs.Inner.Blocks.{equations_in, equations_at, AddsBody}
 use Rattle.wb_names.specs.Inner.Nodes.{IsFoundEquation, IsFoundLocal, IsFoundForward, AddsAll}
 use Rattle.wb_names.proofs.AddsLemmas.{adds_nothing}
+use Rattle.wb_names.proofs.ZipLemmas.{zip_append}
 
 -- lists of lists, with one more
 flat_map_push : {X Y : Type 0} (f : X → List Y) (xs : List X) (x : X) → flat_map f (xs ++ x ∷ []) ≡ flat_map f xs ++ f x
@@ -33,13 +34,6 @@ equations_more items places i item within inside is =
     ap (equations_at items) (take_more places i 0 within)
     ∙ (flat_map_push (λ (z : ℕ). equations_in (slice_get items z)) (take i places) (get_or places i 0)
     ∙ ap (λ z. equations_at items (take i places) ++ equations_in z) at)
-
-zip_append : {A B : Type 0} (R : A → B → Type 0) (xs us : List A) (ys vs : List B) → AllZip R xs ys → AllZip R us vs
-    → AllZip R (xs ++ us) (ys ++ vs)
-zip_append R [] us [] vs all more = more
-zip_append R [] us (y ∷ ys) vs all more = absurd all
-zip_append R (x ∷ xs) us [] vs all more = absurd all
-zip_append R (x ∷ xs) us (y ∷ ys) vs all more = (all.0, zip_append R xs us ys vs all.1 more)
 
 -- what two lists add, one after the other
 adds_append : {A B : Type 0} (test : A → Bool) (R : A → B → Type 0) (xs us : List A) (old mid new : List B) → AddsAll test R xs old mid

@@ -19,3 +19,11 @@ zip_more R xs ys i x y all within is holds =
 
 pub zip_all : {A B : Type 0} (R : A → B → Type 0) (xs : List A) (ys : List B) (i : ℕ) → AllZip R (take i xs) ys → length xs ≤ i → AllZip R xs ys
 zip_all R xs ys i all ended = subst (λ z. AllZip R z ys) (take_all i xs ended) all
+
+-- one list after the other on both sides
+pub zip_append : {A B : Type 0} (R : A → B → Type 0) (xs us : List A) (ys vs : List B) → AllZip R xs ys → AllZip R us vs
+    → AllZip R (xs ++ us) (ys ++ vs)
+zip_append R [] us [] vs all more = more
+zip_append R [] us (y ∷ ys) vs all more = absurd all
+zip_append R (x ∷ xs) us [] vs all more = absurd all
+zip_append R (x ∷ xs) us (y ∷ ys) vs all more = (all.0, zip_append R xs us ys vs all.1 more)

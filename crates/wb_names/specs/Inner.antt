@@ -4,3 +4,4 @@ pub mod Scope
 pub mod Nodes
 pub mod Moves
 pub mod Blocks
+pub mod Plains

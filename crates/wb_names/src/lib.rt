@@ -12,4 +12,5 @@ mod labels;
 mod local;
 mod moves;
 mod node;
+mod plains;
 mod scope;
