@@ -36,7 +36,7 @@ equations_more items places i item within inside is =
     ∙ ap (λ z. equations_at items (take i places) ++ equations_in z) at)
 
 -- what two lists add, one after the other
-adds_append : {A B : Type 0} (test : A → Bool) (R : A → B → Type 0) (xs us : List A) (old mid new : List B) → AddsAll test R xs old mid
+pub adds_append : {A B : Type 0} (test : A → Bool) (R : A → B → Type 0) (xs us : List A) (old mid new : List B) → AddsAll test R xs old mid
     → AddsAll test R us mid new → AddsAll test R (xs ++ us) old new
 adds_append test R xs us old mid new (own, is, all) (more, added, zipped) = (
   own ++ more,

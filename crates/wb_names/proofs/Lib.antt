@@ -6,3 +6,4 @@ pub mod MovedLemmas
 pub mod PlainLemmas
 pub mod ScopeLemmas
 pub mod ZipLemmas
+pub mod TerminalLemmas

@@ -5,3 +5,4 @@ pub mod Nodes
 pub mod Moves
 pub mod Blocks
 pub mod Plains
+pub mod Terminals

@@ -14,3 +14,4 @@ mod moves;
 mod node;
 mod plains;
 mod scope;
+mod terminals;
