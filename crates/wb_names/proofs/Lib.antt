@@ -5,6 +5,7 @@ pub mod GroupLemmas
 pub mod IndexLemmas
 pub mod MovedLemmas
 pub mod PlainLemmas
+pub mod PlainsFound
 pub mod ScopeLemmas
 pub mod ZipLemmas
 pub mod TerminalLemmas

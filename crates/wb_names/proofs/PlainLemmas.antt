@@ -12,11 +12,17 @@ use Rattle.wb_naming.specs.Declarations.{plain_of, plain_items, attribute_of, oc
 use Rattle.wb_names.specs.declared.plains.Plains.{Plains}
 use Rattle.wb_names.specs.declared.scope.Scope.{Scope}
 use Rattle.wb_names.specs.Inner.Plains.{AddsEach, AddsPlains, IsFoundAttribute, IsFoundOccurrence, IsFoundPreference}
-use Rattle.wb_names.proofs.ZipLemmas.{zip_append}
+use Rattle.wb_names.proofs.ZipLemmas.{zip_append, zip_more}
 
 -- nothing is added for nothing
-each_nothing : {A B : Type 0} (R : A → B → Type 0) (old : List B) → AddsEach R [] old old
+pub each_nothing : {A B : Type 0} (R : A → B → Type 0) (old : List B) → AddsEach R [] old old
 each_nothing R old = ([], sym (append-nil old), tt)
+
+-- the next element of a slice and its row
+pub each_more : {A B : Type 0} (R : A → B → Type 0) (xs : List A) (i : ℕ) (x : A) (y : B) (old mid : List B) → AddsEach R (take i xs) old mid
+    → i < length xs → x ≡ get_or xs i x → R x y → AddsEach R (take (i + 1) xs) old (mid ++ y ∷ [])
+each_more R xs i x y old mid (own, is, all) within same holds =
+    (own ++ y ∷ [], ap (λ z. z ++ y ∷ []) is ∙ append_assoc old own (y ∷ []), zip_more R xs own i x y all within same holds)
 
 -- what two lists add, one after the other
 each_append : {X A B : Type 0} (h : X → Option A) (R : A → B → Type 0) (xs us : List X) (old mid new : List B)

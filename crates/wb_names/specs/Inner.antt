@@ -6,3 +6,4 @@ pub mod Moves
 pub mod Blocks
 pub mod Plains
 pub mod Terminals
+pub mod Base

@@ -4,6 +4,7 @@
 //! so the work is linear in the text, and a base is gone through once.
 #![tactic(auto)]
 
+mod base;
 mod body;
 mod child;
 mod equation;
