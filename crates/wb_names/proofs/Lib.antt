@@ -1,0 +1,12 @@
+pub mod AddsLemmas
+pub mod BlockLemmas
+pub mod FoundLemmas
+pub mod GroupLemmas
+pub mod IndexLemmas
+pub mod MovedLemmas
+pub mod PlainLemmas
+pub mod PlainsFound
+pub mod ScopeLemmas
+pub mod ZipLemmas
+pub mod TerminalLemmas
+pub mod TerminalsGrouped

@@ -1,0 +1,18 @@
+//! What numbers does a file's text stand for, when each of its names is right?
+//!
+//! Which value a file stands for is in `wb_numbering/specs`, and which name rule fails in `wb_naming/specs`. A name is found by an index,
+//! so the work is linear in the text, and a base is gone through once.
+#![tactic(auto)]
+
+mod base;
+mod body;
+mod child;
+mod equation;
+mod index;
+mod labels;
+mod local;
+mod moves;
+mod node;
+mod plains;
+mod scope;
+mod terminals;
