@@ -10,3 +10,4 @@ pub mod ScopeLemmas
 pub mod ZipLemmas
 pub mod TerminalLemmas
 pub mod TerminalsGrouped
+pub mod MadeLemmas

@@ -7,3 +7,4 @@ pub mod Blocks
 pub mod Plains
 pub mod Terminals
 pub mod Base
+pub mod Grammars
