@@ -1,5 +1,5 @@
 -- What is found in a scope is what is written, in the numbers of its names.
-use Rattle.std.proofs.Common.{◌≡◌, ◌∷◌, [], ℕ, List, Some, slice_get}
+use Rattle.std.proofs.Common.{◌≡◌, ℕ, List, Some, slice_get}
 use Rattle.std.specs.List.{AllZip}
 use Rattle.wb_lemmas.proofs.Zips.{zip_weaker}
 use Rattle.wb_expressions.specs.declared.node.Node.TheVariants as part
@@ -22,7 +22,8 @@ use Rattle.wb_names.specs.Inner.Nodes.{IsFoundNode, IsFoundTarget, IsFoundLocalT
 use Rattle.wb_names.specs.Inner.Scope.{IsScope, AreLabels}
 use Rattle.wb_names.proofs.ScopeLemmas.{is_number, is_place}
 
-module _ (s : Scope) (n : Numbering) (scope : IsScope s n) (labels : ProductionLabels) (of : Labels) (are : AreLabels labels of s.owner) where
+module _ (s : Scope) (n : Numbering) (scope : IsScope s n) (labels : ProductionLabels) (of : Labels) (are : AreLabels labels of s.owner)
+    where
   attribute : (name : List ℕ) (k : ℕ) → slice_get s.attributes k ≡ Some name → IsNumber n.attributes s.owner name k
   attribute = is_number s.attributes n.attributes s.owner scope.attributes
 

@@ -1,4 +1,4 @@
-use Rattle.std.proofs.Common.{◌≡◌, ◌+◌, List, ℕ, Option, Some, All, take, get_or, slice_get, subst, sym, ap, ◌∙◌}
+use Rattle.std.proofs.Common.{◌≡◌, List, Option, Some, All, take, get_or, slice_get, subst, sym, ap, ◌∙◌}
 use Rattle.std.proofs.lemmas.Option.{slice_get-get_or}
 use Rattle.wb_syntax.specs.declared.expression.Equation.{Equation}
 use Rattle.wb_syntax.specs.declared.item.Item.{Item}
@@ -15,8 +15,8 @@ add_item-requires c =
     let place = get_or c.args.places.now c.loop-place.place-index 0 in
     let item = c.index-items-place.result in
     let at : slice_get items place ≡ Some item =
-        slice_get-get_or items place item (c.requires.within c.loop-place.place-index 0 c.loop-place-test.true)
-        ∙ ap Some (sym c.index-items-place.is) in
+    slice_get-get_or items place item (c.requires.within c.loop-place.place-index 0 c.loop-place-test.true)
+    ∙ ap Some (sym c.index-items-place.is) in
     subst (λ (z : Option (Item Pattern)). All (EquationIsThere c.args.scope.now c.args.labels.now) (equations_in z)) at (c.requires.names place)
 
 pub loop-place-preserved : goal.loop-place-preserved

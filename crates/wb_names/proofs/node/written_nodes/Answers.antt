@@ -1,4 +1,4 @@
-use Rattle.std.proofs.Common.{sym, subst, length, take, ◌+◌}
+use Rattle.std.proofs.Common.{sym, subst, take, ◌+◌}
 use Rattle.std.specs.List.{AllZip}
 use Rattle.wb_names.specs.Inner.Nodes.{IsFoundNode}
 use Rattle.wb_names.proofs.ZipLemmas.{zip_more}
