@@ -13,9 +13,9 @@ loop-preference-preserved c =
     let is : x ≡ get_or c.args.preferences.now c.loop-preference.preference-index x =
     sym (get_or_from_slice_get c.args.preferences.now c.loop-preference.preference-index x x
     (slice_get-get_or c.args.preferences.now c.loop-preference.preference-index (record { first = 0; second = 0 })
-        c.loop-preference-test.true)) in
+    c.loop-preference-test.true)) in
     subst (λ (z : List Preference). AddsEach now (take (c.loop-preference.preference-index + 1) c.args.preferences.now)
-        c.args.made.now.items z)
+    c.args.made.now.items z)
     (sym c.in_ok-push.ensures.ok)
     (each_more now c.args.preferences.now c.loop-preference.preference-index x c.moved_preference.result c.args.made.now.items
     c.loop-preference.made.items c.loop-preference.invariant c.loop-preference-test.true is c.moved_preference.ensures)

@@ -18,7 +18,7 @@ add_item-requires c =
     slice_get-get_or items place item (c.requires.within c.loop-place.place-index 0 c.loop-place-test.true)
     ∙ ap Some (sym c.index-items-place.is) in
     subst (λ (z : Option (Item Pattern)). All (EquationIsThere c.args.scope.now c.args.labels.now) (equations_in z)) at (c.requires.names
-        place)
+    place)
 
 pub loop-place-preserved : goal.loop-place-preserved
 loop-place-preserved c =
@@ -27,8 +27,8 @@ loop-place-preserved c =
     let i = c.loop-place.place-index in
     let item = c.index-items-place.result in
     let more = equations_more items places i item c.loop-place-test.true (c.requires.within i 0 c.loop-place-test.true)
-        c.index-items-place.is in
+    c.index-items-place.is in
     subst (λ (z : List Equation). AddsBody c.args.scope.now c.args.labels.now z c.args.body.now c.add_item.new.body) (sym more)
     (body_append c.args.scope.now c.args.labels.now (equations_at items (take i places)) (equations_of item.form) c.args.body.now
-        c.loop-place.body
+    c.loop-place.body
     c.add_item.new.body c.loop-place.invariant c.in_ok-add_item.ensures)

@@ -15,8 +15,8 @@ loop-place-preserved c =
     let item = c.index-items-place.result in
     let more = equations_more items places i item c.loop-place-test.true (c.requires i 0 c.loop-place-test.true) c.index-items-place.is in
     subst (λ (z : List Equation). c.add_written.new.labels ≡ c.args.names.now ++ map (λ (q : Equation). local_label q.target)
-        (local_equations z))
+    (local_equations z))
     (sym more) (labels_append (equations_at items (take i places)) (equations_of item.form) c.args.names.now c.loop-place.names
     c.add_written.new.labels c.loop-place.invariant (c.in_ok-add_written.ensures
     ∙ ap (λ (z : List Equation). c.loop-place.names ++ map (λ (q : Equation). local_label q.target) (local_equations z))
-        c.written_equations.ensures))
+    c.written_equations.ensures))
