@@ -1,5 +1,5 @@
 -- What is added for each element that passes a test.
-use Rattle.std.proofs.Common.{◌≡◌, ◌<◌, ◌≤◌, ◌+◌, ◌++◌, ◌∷◌, ◌⊎◌, inl, inr, [], ℕ, Bool, true, false, List, length, take, get_or, cond, sym, subst, ◌∙◌, ap, refl}
+use Rattle.std.proofs.Common.{◌≡◌, ◌<◌, ◌≤◌, ◌+◌, ◌++◌, ◌∷◌, inl, inr, [], ℕ, Bool, List, length, take, get_or, cond, sym, subst, ◌∙◌, ap}
 use Rattle.std.proofs.Common.{append_assoc}
 use Rattle.std.specs.Prelude.{filter}
 use Rattle.std.specs.List.{AllZip}
@@ -17,14 +17,14 @@ module _ {A B : Type 0} (test : A → Bool) (R : A → B → Type 0) where
       → AddsAll test R (xs ++ x ∷ []) old new
   adds_push xs x old mid new (own, is, all) (inl (passes, y, added, found)) =
       let kept : filter test (xs ++ x ∷ []) ≡ filter test xs ++ x ∷ [] =
-          filter-append test xs (x ∷ []) ∙ ap (λ b. filter test xs ++ cond b (x ∷ []) []) passes in (
+      filter-append test xs (x ∷ []) ∙ ap (λ b. filter test xs ++ cond b (x ∷ []) []) passes in (
         own ++ y ∷ [],
         added ∙ (ap (λ z. z ++ y ∷ []) is ∙ append_assoc old own (y ∷ [])),
         subst (λ z. AllZip R z (own ++ y ∷ [])) (sym kept) (zip_push R (filter test xs) own x y all found),
       )
   adds_push xs x old mid new (own, is, all) (inr (fails, same)) =
       let kept : filter test (xs ++ x ∷ []) ≡ filter test xs =
-          filter-append test xs (x ∷ []) ∙ (ap (λ b. filter test xs ++ cond b (x ∷ []) []) fails ∙ append-nil (filter test xs)) in
+      filter-append test xs (x ∷ []) ∙ (ap (λ b. filter test xs ++ cond b (x ∷ []) []) fails ∙ append-nil (filter test xs)) in
       (own, same ∙ is, subst (λ z. AllZip R z own) (sym kept) all)
 
   -- the next element of a slice

@@ -1,5 +1,5 @@
 -- What items make, one after the other.
-use Rattle.std.proofs.Common.{◌≡◌, ◌<◌, ◌+◌, ◌++◌, ◌∷◌, [], ℕ, Bool, List, Some, map, length, take, get_or, slice_get, ap, sym, refl, subst, ◌∙◌}
+use Rattle.std.proofs.Common.{◌≡◌, ◌<◌, ◌+◌, ◌++◌, ◌∷◌, [], ℕ, Bool, List, Some, map, length, take, get_or, slice_get, ap, sym, subst, ◌∙◌}
 use Rattle.std.proofs.Common.{append_assoc}
 use Rattle.std.specs.Prelude.{filter, flat_map}
 use Rattle.std.specs.List.{AllZip}
@@ -41,10 +41,12 @@ pub adds_append : {A B : Type 0} (test : A → Bool) (R : A → B → Type 0) (x
 adds_append test R xs us old mid new (own, is, all) (more, added, zipped) = (
   own ++ more,
   added ∙ (ap (λ z. z ++ more) is ∙ append_assoc old own more),
-  subst (λ z. AllZip R z (own ++ more)) (sym (filter-append test xs us)) (zip_append R (filter test xs) (filter test us) own more all zipped),
+  subst (λ z. AllZip R z (own ++ more)) (sym (filter-append test xs us)) (zip_append R (filter test xs) (filter test us) own more all
+      zipped),
 )
 
-pub body_append : (s : Scope) (labels : ProductionLabels) (xs us : List written.Equation) (old mid new : Body) → AddsBody s labels xs old mid
+pub body_append : (s : Scope) (labels : ProductionLabels) (xs us : List written.Equation) (old mid new : Body)
+    → AddsBody s labels xs old mid
     → AddsBody s labels us mid new → AddsBody s labels (xs ++ us) old new
 body_append s labels xs us old mid new a b = record {
   locals = adds_append (λ (q : written.Equation). makes_local q.target) (IsFoundLocal s labels) xs us old.locals.items mid.locals.items

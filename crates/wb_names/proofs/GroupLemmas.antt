@@ -1,5 +1,5 @@
 -- Rows that are kept in two lists are grouped rows, when the one list goes before the other.
-use Rattle.std.proofs.Common.{◌≡◌, ◌++◌, ◌∷◌, ◌⊎◌, inl, inr, [], ℕ, Bool, true, false, not, cond, List, map, ap, sym, refl, subst, ◌∙◌}
+use Rattle.std.proofs.Common.{◌≡◌, ◌++◌, ◌∷◌, ◌⊎◌, inl, inr, [], Bool, true, false, not, cond, List, map, ap, sym, refl, subst, ◌∙◌}
 use Rattle.std.specs.Prelude.{filter}
 use Rattle.std.specs.List.{AllZip}
 use Rattle.std.proofs.lemmas.List.Elements.{filter-append}
@@ -61,10 +61,10 @@ module _ {A B C : Type 0} (M : A → C → Type 0) (W : B → C → Type 0) wher
       → AllZip (IsFrom M W) (filter test (sources xs us)) (ys ++ vs)
   zip_filtered test xs us ys vs all more =
       let kept : filter test (sources xs us)
-              ≡ sources (filter (λ (x : A). test (left x)) xs) (filter (λ (x : B). test (right x)) us) =
-          filter-append test (map left xs) (map right us)
-          ∙ (ap (λ z. z ++ filter test (map right us)) (filter_map_is left test xs)
-          ∙ ap (λ z. map left (filter (λ (x : A). test (left x)) xs) ++ z) (filter_map_is right test us)) in
+      ≡ sources (filter (λ (x : A). test (left x)) xs) (filter (λ (x : B). test (right x)) us) =
+      filter-append test (map left xs) (map right us)
+      ∙ (ap (λ z. z ++ filter test (map right us)) (filter_map_is left test xs)
+      ∙ ap (λ z. map left (filter (λ (x : A). test (left x)) xs) ++ z) (filter_map_is right test us)) in
       subst (λ z. AllZip (IsFrom M W) z (ys ++ vs)) (sym kept)
       (zip_sources (filter (λ (x : A). test (left x)) xs) (filter (λ (x : B). test (right x)) us) ys vs all more)
 

@@ -1,9 +1,8 @@
 -- An index with one more text.
-use Rattle.std.proofs.Common.{◌≡◌, ◌<◌, ◌+◌, ◌++◌, ◌∷◌, ◌⊎◌, inl, inr, [], ℕ, List, Some, Contains, length, slice_get, ap, sym, refl, subst, ◌∙◌, arith}
+use Rattle.std.proofs.Common.{◌≡◌, ◌++◌, ◌∷◌, inl, inr, [], ℕ, List, Some, Contains, length, slice_get, ap, sym, subst, ◌∙◌, arith}
 use Rattle.std.proofs.Common.{length-append}
-use Rattle.std.proofs.lemmas.Option.{slice_get_within}
 use Rattle.wb_lemmas.proofs.Members.{contains_at, contains_push, push_contains, push_contains_last}
-use Rattle.wb_lemmas.proofs.Places.{at_push, push_keeps, push_last, at_within}
+use Rattle.wb_lemmas.proofs.Places.{at_push, push_keeps, push_last}
 use Rattle.wb_names.specs.Inner.Index.{IsPlaced, IsIndex}
 
 -- a place that is kept stays one
@@ -20,8 +19,8 @@ index_present names numbers texts text k index at = record {
   count = index.count;
   placed = λ j name there. kept names names numbers numbers texts text j name (λ n e. e) (index.placed j name there);
   whole = λ name has. elim (contains_push texts text name has) [
-    inl old ↦ index.whole name old
-  | inr same ↦ subst (Contains names) same (contains_at names text k at)
+    | inl old ↦ index.whole name old
+    | inr same ↦ subst (Contains names) same (contains_at names text k at)
   ];
 }
 
@@ -31,17 +30,17 @@ pub index_new : (names : List (List ℕ)) (numbers : List ℕ) (texts : List (Li
 index_new names numbers texts text index = record {
   count = let a = length-append names (text ∷ []) in let b = length-append numbers (length texts ∷ []) in omega (arith, a, b, index.count);
   placed = λ j name there. elim (at_push names text name j there) [
-    inl old ↦ kept names (names ++ text ∷ []) numbers (numbers ++ length texts ∷ []) texts text j name
+    | inl old ↦ kept names (names ++ text ∷ []) numbers (numbers ++ length texts ∷ []) texts text j name
         (λ n e. push_keeps numbers (length texts) j n e) (index.placed j name old)
-  | inr last ↦ record {
+    | inr last ↦ record {
       number = length texts;
       at = ap (slice_get (numbers ++ length texts ∷ [])) (last.0 ∙ sym index.count) ∙ push_last numbers (length texts);
       is = push_last texts text ∙ ap Some last.1;
     }
   ];
   whole = λ name has. elim (contains_push texts text name has) [
-    inl old ↦ push_contains names text name (index.whole name old)
-  | inr same ↦ subst (Contains (names ++ text ∷ [])) same (push_contains_last names text)
+    | inl old ↦ push_contains names text name (index.whole name old)
+    | inr same ↦ subst (Contains (names ++ text ∷ [])) same (push_contains_last names text)
   ];
 }
 

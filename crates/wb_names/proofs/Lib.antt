@@ -1,4 +1,5 @@
 pub mod AddsLemmas
+pub mod BaseMoved
 pub mod BlockLemmas
 pub mod FoundLemmas
 pub mod GroupLemmas

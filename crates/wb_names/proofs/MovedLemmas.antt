@@ -1,21 +1,14 @@
 -- Rows of a base that are looked up in tables are moved rows, where the tables have the new numbers.
-use Rattle.std.proofs.Common.{◌≡◌, ◌<◌, ◌++◌, ℕ, List, Option, Some, None, Contains, map, length, slice_get, ap, sym, refl, subst, ◌∙◌}
-use Rattle.std.specs.Prelude.{option_map}
-use Rattle.std.proofs.lemmas.Option.{slice_get-map}
-use Rattle.std.specs.List.{AllZip}
+use Rattle.std.proofs.Common.{◌≡◌, ◌++◌, ℕ, List, Some, slice_get}
 use Rattle.wb_lemmas.proofs.Places.{append_keeps}
 use Rattle.wb_base.specs.declared.symbol.Kind.{Kind}
 use Rattle.wb_base.specs.declared.symbol.Kind.TheVariants as kind
-use Rattle.wb_expressions.specs.declared.node.Node.TheVariants as part
-use Rattle.wb_resolved.specs.declared.equation.Place.{Place}
-use Rattle.wb_resolved.specs.declared.equation.Place.TheVariants as place
 use Rattle.wb_resolved.specs.declared.production.Child.{Child}
 use Rattle.wb_resolved.specs.declared.production.ChildKind.{ChildKind}
 use Rattle.wb_resolved.specs.declared.production.ChildKind.TheVariants as child
 use Rattle.wb_resolved.specs.Once.{Entry}
 use Rattle.wb_numbering.specs.Moved.{Move, IsMovedNumber, IsMovedKind, IsMovedChildKind, IsMovedChild, IsMovedNonterminalNumber}
 use Rattle.wb_numbering.specs.Moved.{IsMovedTerminalNumber, IsMovedProductionNumber}
-use Rattle.wb_numbering.specs.Numbering.{Numbering}
 use Rattle.wb_names.specs.declared.moves.Moves.{Moves}
 use Rattle.wb_names.specs.Inner.Moves.{IsNow, IsKindNow, IsChildKindNow, IsChildNow}
 
@@ -40,5 +33,6 @@ module _ (t : Moves) (m : Move) (are : AreMoves t m) where
   moved_child c to e = record { label = e.label; is_kind = moved_child_kind c.kind to.kind e.is_kind }
 
 -- numbers that stay, where the names of the first numbering begin the second
-pub stays : (names more : List Entry) (k : ℕ) (e : Entry) → slice_get names k ≡ Some e → IsMovedNumber (λ (o : ℕ). o) names (names ++ more) k k
+pub stays : (names more : List Entry) (k : ℕ) (e : Entry) → slice_get names k ≡ Some e
+    → IsMovedNumber (λ (o : ℕ). o) names (names ++ more) k k
 stays names more k e at = record { owner = e.0; name = e.1; before = at; after = append_keeps names more k e at }

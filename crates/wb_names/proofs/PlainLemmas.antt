@@ -19,7 +19,8 @@ pub each_nothing : {A B : Type 0} (R : A → B → Type 0) (old : List B) → Ad
 each_nothing R old = ([], sym (append-nil old), tt)
 
 -- the next element of a slice and its row
-pub each_more : {A B : Type 0} (R : A → B → Type 0) (xs : List A) (i : ℕ) (x : A) (y : B) (old mid : List B) → AddsEach R (take i xs) old mid
+pub each_more : {A B : Type 0} (R : A → B → Type 0) (xs : List A) (i : ℕ) (x : A) (y : B) (old mid : List B)
+    → AddsEach R (take i xs) old mid
     → i < length xs → x ≡ get_or xs i x → R x y → AddsEach R (take (i + 1) xs) old (mid ++ y ∷ [])
 each_more R xs i x y old mid (own, is, all) within same holds =
     (own ++ y ∷ [], ap (λ z. z ++ y ∷ []) is ∙ append_assoc old own (y ∷ []), zip_more R xs own i x y all within same holds)
@@ -66,8 +67,8 @@ module _ (s : Scope) where
       → AddsPlains s (option_to_list (plain_of item.form)) mid new → AddsPlains s (plain_items (take (i + 1) items)) old new
   plains_more items i item old mid new so_far within is adds =
       let more : plain_items (take (i + 1) items) ≡ plain_items (take i items) ++ option_to_list (plain_of item.form) =
-          ap plain_items (take_more items i item within ∙ ap (λ z. take i items ++ z ∷ []) (sym is))
-          ∙ (filter_map-append (λ (x : Item Pattern). plain_of x.form) (take i items) (item ∷ [])
-          ∙ ap (λ z. plain_items (take i items) ++ z) (one_item item)) in
+      ap plain_items (take_more items i item within ∙ ap (λ z. take i items ++ z ∷ []) (sym is))
+      ∙ (filter_map-append (λ (x : Item Pattern). plain_of x.form) (take i items) (item ∷ [])
+      ∙ ap (λ z. plain_items (take i items) ++ z) (one_item item)) in
       subst (λ z. AddsPlains s z old new) (sym more)
       (plains_append (plain_items (take i items)) (option_to_list (plain_of item.form)) old mid new so_far adds)

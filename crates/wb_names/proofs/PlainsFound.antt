@@ -1,7 +1,5 @@
 -- The rows of attributes, occurrences and preferences are those of what the file stands for.
-use Rattle.std.proofs.Common.{◌≡◌, ◌++◌, ◌⊎◌, ℕ, List, Some, ap, sym, subst, slice_get, ◌∙◌}
-use Rattle.std.specs.Prelude.{filter_map}
-use Rattle.std.specs.List.{AllZip}
+use Rattle.std.proofs.Common.{ℕ, List}
 use Rattle.wb_lemmas.proofs.Zips.{zip_weaker}
 use Rattle.wb_resolved.specs.declared.attributes.Attribute.{Attribute}
 use Rattle.wb_resolved.specs.declared.attributes.Occurrence.{Occurrence}

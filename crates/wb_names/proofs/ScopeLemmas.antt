@@ -1,14 +1,14 @@
 -- What is found in a scope has the number of its name.
-use Rattle.std.proofs.Common.{◌≡◌, ◌<◌, ◌≤◌, ◌+◌, ◌-◌, ◌++◌, ◌⊎◌, inl, inr, ℕ, List, Option, Some, None, Contains, map, length, slice_get, ap, sym, refl}
-use Rattle.std.proofs.Common.{subst, ◌∙◌, arith}
+use Rattle.std.proofs.Common.{◌≡◌, ◌<◌, ◌+◌, ◌++◌, ℕ, List, Option, Some, None, map, length, slice_get, ap, sym, refl}
+use Rattle.std.proofs.Common.{◌∙◌, arith}
 use Rattle.std.specs.Prelude.{option_map}
-use Rattle.std.proofs.lemmas.Option.{slice_get-map, slice_get_within}
+use Rattle.std.proofs.lemmas.Option.{slice_get-map}
 use Rattle.wb_lemmas.proofs.Members.{contains_at}
 use Rattle.wb_lemmas.proofs.Places.{append_before, append_after}
 use Rattle.wb_resolved.specs.declared.equation.Place.{Place}
 use Rattle.wb_resolved.specs.declared.equation.Place.TheVariants as place
 use Rattle.wb_resolved.specs.Once.{Entry}
-use Rattle.wb_numbering.specs.Numbering.{Numbering, Labels, IsNumber, IsPlace}
+use Rattle.wb_numbering.specs.Numbering.{Labels, IsNumber, IsPlace}
 use Rattle.wb_names.specs.declared.scope.ProductionLabels.{ProductionLabels}
 use Rattle.wb_names.specs.Inner.Scope.{AreNames, AreLabels, IsLabelOf}
 
@@ -22,7 +22,7 @@ pub is_number : (names : List (List ℕ)) (entries : List Entry) (owner : ℕ) �
     → slice_get names k ≡ Some name → IsNumber entries owner name k
 is_number names entries owner are name k at =
     let x = named_entry (slice_get entries k) name
-        (sym (slice_get-map (λ (e : Entry). e.1) entries k) ∙ (ap (λ z. slice_get z k) (sym are.are) ∙ at)) in
+    (sym (slice_get-map (λ (e : Entry). e.1) entries k) ∙ (ap (λ z. slice_get z k) (sym are.are) ∙ at)) in
     record {
       other = x.0.0;
       is = x.1 ∙ ap (λ (z : List ℕ). Some (x.0.0, z)) x.2;
@@ -37,6 +37,6 @@ is_place labels of owner are label (place.Child k) e =
     sym (append_before of.children (map (λ (e : Entry). e.1) of.locals) k within) ∙ (ap (λ z. slice_get z k) (sym are.names) ∙ e.1)
 is_place labels of owner are label (place.Local k) e =
     let there : slice_get (of.children ++ map (λ (e : Entry). e.1) of.locals) (length of.children + k) ≡ Some label =
-        ap (λ z. slice_get z (length of.children + k)) (sym are.names) ∙ (ap (λ z. slice_get labels.names (z + k)) (sym are.count) ∙ e) in
+    ap (λ z. slice_get z (length of.children + k)) (sym are.names) ∙ (ap (λ z. slice_get labels.names (z + k)) (sym are.count) ∙ e) in
     is_number (map (λ (e : Entry). e.1) of.locals) of.locals owner (record { are = refl; seen = are.seen }) label k
     (sym (append_after of.children (map (λ (e : Entry). e.1) of.locals) k) ∙ there)

@@ -1,7 +1,7 @@
 -- Rows of terminals, one after the other.
-use Rattle.std.proofs.Common.{◌≡◌, ◌<◌, ◌+◌, ◌++◌, ◌∷◌, [], ℕ, Bool, true, false, not, cond, List, Option, Some, None, length, take, get_or, ap, sym, refl, subst, ◌∙◌}
-use Rattle.std.specs.Prelude.{filter, filter_map, option_to_list}
-use Rattle.std.specs.List.{AllZip}
+use Rattle.std.proofs.Common.{◌≡◌, ◌<◌, ◌+◌, ◌++◌, ◌∷◌, [], ℕ, Bool, not, List, Option, Some, None, length, take, get_or, ap, sym, refl}
+use Rattle.std.proofs.Common.{subst, ◌∙◌}
+use Rattle.std.specs.Prelude.{filter_map, option_to_list}
 use Rattle.std.proofs.lemmas.List.{take_more}
 use Rattle.std.proofs.lemmas.List.Elements.{filter_map-append}
 use Rattle.wb_resolved.specs.declared.terminal.Terminal.{Terminal}
@@ -9,8 +9,7 @@ use Rattle.wb_syntax.specs.declared.item.Item.{Item}
 use Rattle.wb_syntax.specs.declared.pattern.Pattern.{Pattern}
 use Rattle.wb_naming.specs.Declarations.{LexicalDeclaration, lexical_of, lexicals}
 use Rattle.wb_names.specs.declared.terminals.Terminals.{Terminals}
-use Rattle.wb_names.specs.Inner.Nodes.{AddsAll}
-use Rattle.wb_names.specs.Inner.Terminals.{AddsTerminals, IsCopy, has_scanned, is_scanned}
+use Rattle.wb_names.specs.Inner.Terminals.{AddsTerminals}
 use Rattle.wb_names.proofs.AddsLemmas.{adds_nothing}
 use Rattle.wb_names.proofs.BlockLemmas.{adds_append}
 

@@ -1,7 +1,6 @@
 -- The rows of a base's terminals and of a file's are the terminals of what the file stands for, with layout after the others.
-use Rattle.std.proofs.Common.{◌≡◌, ◌≢◌, ◌++◌, ◌⊎◌, inl, inr, [], Bool, true, false, not, List, ap, sym, refl, subst, ◌∙◌}
+use Rattle.std.proofs.Common.{◌≡◌, ◌≢◌, ◌++◌, ◌⊎◌, inl, inr, [], Bool, true, false, not, ap, sym, refl, subst, ◌∙◌}
 use Rattle.std.specs.Prelude.{filter}
-use Rattle.std.specs.List.{AllZip}
 use Rattle.wb_lemmas.proofs.Zips.{zip_weaker}
 use Rattle.wb_resolved.specs.declared.terminal.Terminal.{Terminal}
 use Rattle.wb_resolved.specs.declared.terminal.TerminalKind.{TerminalKind}
@@ -65,11 +64,11 @@ module _ (file : File) (n : Numbering) where
       let not_scanned = λ (x : Terminal). not (has_scanned x) in
       let not_declared = λ (d : LexicalDeclaration). not (declares_scanned d) in
       let first : new.scanned.items ≡ a.scanned.0 ++ b.scanned.0 =
-          b.scanned.1 ∙ ap (λ z. z ++ b.scanned.0) (a.scanned.1 ∙ ap (λ z. z ++ a.scanned.0) none) in
+      b.scanned.1 ∙ ap (λ z. z ++ b.scanned.0) (a.scanned.1 ∙ ap (λ z. z ++ a.scanned.0) none) in
       let second : new.layout.items ≡ a.layout.0 ++ b.layout.0 =
-          b.layout.1 ∙ ap (λ z. z ++ b.layout.0) (a.layout.1 ∙ ap (λ z. z ++ a.layout.0) empty) in
+      b.layout.1 ∙ ap (λ z. z ++ b.layout.0) (a.layout.1 ∙ ap (λ z. z ++ a.layout.0) empty) in
       let rows : new.scanned.items ++ new.layout.items ≡ (a.scanned.0 ++ b.scanned.0) ++ (a.layout.0 ++ b.layout.0) =
-          ap (λ z. z ++ new.layout.items) first ∙ ap (λ z. (a.scanned.0 ++ b.scanned.0) ++ z) second in
+      ap (λ z. z ++ new.layout.items) first ∙ ap (λ z. (a.scanned.0 ++ b.scanned.0) ++ z) second in
       subst (AreGrouped IsScanned (IsTerminal file n) (sources before declared)) (sym rows)
       (grouped M W IsScanned test lead others before declared a.scanned.0 b.scanned.0 a.layout.0 b.layout.0
       (zip_weaker IsCopy M copied (filter has_scanned before) a.scanned.0 a.scanned.2)

@@ -17,7 +17,8 @@ zip_more R xs ys i x y all within is holds =
     subst (λ z. AllZip R z (ys ++ y ∷ [])) (sym (take_more xs i x within ∙ ap (λ z. take i xs ++ z ∷ []) (sym is)))
     (zip_push R (take i xs) ys x y all holds)
 
-pub zip_all : {A B : Type 0} (R : A → B → Type 0) (xs : List A) (ys : List B) (i : ℕ) → AllZip R (take i xs) ys → length xs ≤ i → AllZip R xs ys
+pub zip_all : {A B : Type 0} (R : A → B → Type 0) (xs : List A) (ys : List B) (i : ℕ) → AllZip R (take i xs) ys → length xs ≤ i
+    → AllZip R xs ys
 zip_all R xs ys i all ended = subst (λ z. AllZip R z ys) (take_all i xs ended) all
 
 -- one list after the other on both sides

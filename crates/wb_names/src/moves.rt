@@ -125,11 +125,7 @@ pub(crate) fn moved_equations(
 }
 
 // One equation.
-fn moved_equation(
-    alloc: Global,
-    moves: &Moves,
-    equation: &Equation,
-) -> Result<Equation, AllocError>
+fn moved_equation(alloc: Global, moves: &Moves, equation: &Equation) -> Result<Equation, AllocError>
     requires { EquationIsWithin moves.now equation.now }
     ensures { IfOk result (IsEquationNow moves.now equation.now) }
 {

@@ -20,10 +20,7 @@ pub(crate) struct Terminals {
 }
 
 // Adds those of a base. The only error is want of memory.
-pub(crate) fn add_base(
-    terminals: &[Terminal],
-    made: &mut Terminals,
-) -> Result<(), AllocError>
+pub(crate) fn add_base(terminals: &[Terminal], made: &mut Terminals) -> Result<(), AllocError>
     ensures { OnOk result (AddsTerminals has_scanned IsCopy terminals.now made.old made.new) }
 {
     for terminal in terminals {
@@ -47,11 +44,7 @@ pub(crate) fn add_declared(
 }
 
 // Adds the one that an item declares, where it declares one.
-fn add_form(
-    owner: usize,
-    form: &ItemForm<Pattern>,
-    made: &mut Terminals,
-) -> Result<(), AllocError>
+fn add_form(owner: usize, form: &ItemForm<Pattern>, made: &mut Terminals) -> Result<(), AllocError>
     ensures { OnOk result (AddsTerminals declares_scanned (IsFoundTerminal owner) (option_to_list (lexical_of form.now)) made.old made.new) }
 {
     let ItemForm::Lexical {

@@ -4,9 +4,6 @@ use Rattle.wb_syntax.specs.declared.expression.Equation as written
 use Rattle.wb_syntax.specs.declared.item.Item.{Item}
 use Rattle.wb_syntax.specs.declared.pattern.Pattern.{Pattern}
 use Rattle.wb_syntax.specs.Equations.{equations_of}
-use Rattle.wb_resolved.specs.declared.equation.Equation.{Equation}
-use Rattle.wb_resolved.specs.declared.production.Forward.{Forward}
-use Rattle.wb_resolved.specs.declared.production.Local.{Local}
 use Rattle.wb_numbering.specs.Written.{makes_attribute, makes_local, makes_forward}
 use Rattle.wb_names.specs.declared.body.Body.{Body}
 use Rattle.wb_names.specs.declared.scope.Scope.{Scope}

@@ -1,5 +1,5 @@
 -- Names in items of names alone that are there, and the rows that are found.
-use Rattle.std.specs.Prelude.{◌≡◌, ◌++◌, ℕ, List, All, Contains, filter_map}
+use Rattle.std.specs.Prelude.{◌≡◌, ◌++◌, List, All, Contains, filter_map}
 use Rattle.std.specs.List.{AllZip}
 use Rattle.wb_resolved.specs.declared.attributes.Attribute.{Attribute}
 use Rattle.wb_resolved.specs.declared.attributes.Occurrence.{Occurrence}

@@ -7,4 +7,5 @@ use Rattle.wb_names.proofs.body.add_all_written.Given as goal
 
 abbrev pub invariant-loop-place : goal.invariant-loop-place
 invariant-loop-place l =
-    l.names ≡ l.fn.names ++ map (λ (q : Equation). local_label q.target) (local_equations (equations_at l.items (take l.place-index l.places)))
+    l.names ≡ l.fn.names ++ map (λ (q : Equation). local_label q.target) (local_equations (equations_at l.items (take l.place-index
+    l.places)))

@@ -10,6 +10,6 @@ pub returns-in-None : goal.returns-in-None
 returns-in-None c = λ n s. (
   c.number_of.result,
   is_number c.args.scope.now.nonterminals n.nonterminals c.args.scope.now.owner s.nonterminals c.args.name.now c.number_of.result
-  c.number_of.ensures,
+      c.number_of.ensures,
   refl,
 )

@@ -9,6 +9,6 @@ returns-in-Name c = λ n s.
     subst (λ z. IsWrittenKind n c.args.scope.now.owner z (Tree c.number_of.result)) (sym c.in-Name.is) (
       c.number_of.result,
       is_number c.args.scope.now.nonterminals n.nonterminals c.args.scope.now.owner s.nonterminals c.in-Name.name c.number_of.result
-      (c.number_of.ensures ∙ ap Some c.as_slice.ensures),
+          (c.number_of.ensures ∙ ap Some c.as_slice.ensures),
       refl,
     )

@@ -6,5 +6,6 @@ use Rattle.wb_names.proofs.equation.add_equations.Given as goal
 
 abbrev pub invariant-loop-equation : goal.invariant-loop-equation
 invariant-loop-equation l =
-    AddsAll (λ (q : Equation). makes_attribute q.target) (IsFoundEquation l.scope l.labels) (take l.equation-index l.equations) l.fn.made.items
+    AddsAll (λ (q : Equation). makes_attribute q.target) (IsFoundEquation l.scope l.labels) (take l.equation-index l.equations)
+    l.fn.made.items
     l.made.items

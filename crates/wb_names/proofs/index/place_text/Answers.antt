@@ -1,4 +1,4 @@
-use Rattle.std.proofs.Common.{◌≡◌, ◌++◌, ◌∷◌, [], ℕ, List, length, sym, subst, ap, ◌∙◌}
+use Rattle.std.proofs.Common.{◌≡◌, ◌++◌, ◌∷◌, [], length, sym, subst, ap, ◌∙◌}
 use Rattle.wb_base.specs.Names.{AddsName}
 use Rattle.wb_names.specs.Inner.Index.{IsIndex}
 use Rattle.wb_names.proofs.IndexLemmas.{index_new, index_present}
@@ -11,8 +11,8 @@ returns-in-New-clause-index c = λ texts index count.
     let text = c.args.text.now in
     let e = subst (λ z. AddsName names text z c.add.new.self) c.in-New.is c.in_ok-add.ensures.ok in
     let pushed : c.push_reserved.new.self.items ≡ numbers ++ length texts ∷ [] =
-        c.push_reserved.ensures.items ∙ (ap (λ z. z ++ c.args.place ∷ []) c.in_ok-reserve.ensures.items
-        ∙ ap (λ z. numbers ++ z ∷ []) (sym count)) in
+    c.push_reserved.ensures.items ∙ (ap (λ z. z ++ c.args.place ∷ []) c.in_ok-reserve.ensures.items
+    ∙ ap (λ z. numbers ++ z ∷ []) (sym count)) in
     subst (λ z. IsIndex z c.push_reserved.new.self.items (texts ++ text ∷ [])) (sym e.2)
     (subst (λ z. IsIndex (names ++ text ∷ []) z (texts ++ text ∷ [])) (sym pushed) (index_new names numbers texts text index))
 

@@ -1,4 +1,4 @@
-use Rattle.std.proofs.Common.{sym, subst, List, ℕ, Option, All, Contains, ◌∙◌}
+use Rattle.std.proofs.Common.{sym, subst, List, ℕ, Option, All, Contains}
 use Rattle.wb_syntax.specs.Names.{needs_names}
 use Rattle.wb_names.specs.Inner.Plains.{PlainIsThere}
 use Rattle.wb_names.proofs.plains.add_plain.Goals as goal

@@ -12,7 +12,7 @@ number_of-requires c =
 pub loop-name-preserved : goal.loop-name-preserved
 loop-name-preserved c =
     let found : slice_get c.args.scope.now.attributes c.number_of.result ≡ Some c.name-item.result =
-        c.number_of.ensures ∙ ap Some c.as_slice.ensures in
+    c.number_of.ensures ∙ ap Some c.as_slice.ensures in
     subst (AllZip (IsAt c.args.scope.now.attributes) (take (c.loop-name.name-index + 1) c.args.names.now)) (sym c.in_ok-push.ensures.ok)
     (zip_more (IsAt c.args.scope.now.attributes) c.args.names.now c.loop-name.made.items c.loop-name.name-index c.name-item.result
     c.number_of.result c.loop-name.invariant c.loop-name-test.true c.name-item.is found)
