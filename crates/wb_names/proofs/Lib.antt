@@ -12,3 +12,4 @@ pub mod ZipLemmas
 pub mod TerminalLemmas
 pub mod TerminalsGrouped
 pub mod MadeLemmas
+pub mod GrammarNameLemmas

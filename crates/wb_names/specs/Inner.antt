@@ -8,3 +8,4 @@ pub mod Plains
 pub mod Terminals
 pub mod Base
 pub mod Grammars
+pub mod GrammarNames

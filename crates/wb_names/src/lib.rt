@@ -9,6 +9,7 @@ mod body;
 mod child;
 mod equation;
 mod grammar;
+mod grammar_names;
 mod index;
 mod labels;
 mod local;
