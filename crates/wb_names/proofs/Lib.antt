@@ -13,3 +13,4 @@ pub mod TerminalLemmas
 pub mod TerminalsGrouped
 pub mod MadeLemmas
 pub mod GrammarNameLemmas
+pub mod MarkLemmas

@@ -9,3 +9,4 @@ pub mod Terminals
 pub mod Base
 pub mod Grammars
 pub mod GrammarNames
+pub mod Marks

@@ -10,6 +10,7 @@ mod child;
 mod equation;
 mod grammar;
 mod grammar_names;
+mod in_grammar;
 mod index;
 mod labels;
 mod local;
