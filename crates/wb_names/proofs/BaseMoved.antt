@@ -25,7 +25,7 @@ use Rattle.wb_names.specs.Inner.Moves.{IsNodeNow, IsEquationNow, IsLocalNow, IsF
 use Rattle.wb_names.proofs.MovedLemmas.{AreMoves, moved_kind}
 
 -- a number of an attribute, a place, and what a node and a target have of them are in range
-abbrev IsPlaceIn : Labels → Place → Type 0
+abbrev pub IsPlaceIn : Labels → Place → Type 0
 IsPlaceIn labels (place.Child k) = Unit {0}
 IsPlaceIn labels (place.Local k) = k < length labels.locals
 

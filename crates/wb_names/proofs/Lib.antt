@@ -1,5 +1,6 @@
 pub mod AddsLemmas
 pub mod BaseMoved
+pub mod BaseWithin
 pub mod BlockLemmas
 pub mod FoundLemmas
 pub mod GroupLemmas
@@ -8,6 +9,7 @@ pub mod MovedLemmas
 pub mod PlainLemmas
 pub mod PlainsFound
 pub mod ScopeLemmas
+pub mod UsesThere
 pub mod ZipLemmas
 pub mod TerminalLemmas
 pub mod TerminalsGrouped
