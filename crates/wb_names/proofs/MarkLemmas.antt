@@ -1,5 +1,5 @@
 -- Numbers that are marked, one list after another.
-use Rattle.std.proofs.Common.{◌≡◌, ◌<◌, ◌≤◌, ◌+◌, ◌⊎◌, ◌∷◌, ◌++◌, [], ℕ, Bool, true, false, List, Option, Some, None, Contains, length, take, get_or}
+use Rattle.std.proofs.Common.{◌≡◌, ◌<◌, ◌≤◌, ◌+◌, ◌∷◌, ◌++◌, [], ℕ, Bool, true, false, List, Option, Some, None, Contains, length, take, get_or}
 use Rattle.std.proofs.Common.{refl, sym, ap, ◌∙◌, subst, inl, inr, arith, replicate}
 use Rattle.std.specs.Prelude.{◌↔◌, map, option_map}
 use Rattle.std.specs.List.{flat_map}

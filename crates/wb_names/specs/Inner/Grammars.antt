@@ -1,5 +1,5 @@
 -- Rows of productions that a grammar can have.
-use Rattle.std.specs.Prelude.{◌≡◌, ◌<◌, ℕ, List, Some, All, map, length}
+use Rattle.std.specs.Prelude.{◌≡◌, ◌<◌, ℕ, List, Some, All, map}
 use Rattle.std.specs.List.{AllZip}
 use Rattle.wb_base.specs.declared.symbol.Symbol.{Symbol}
 use Rattle.wb_base.specs.Grammar.{GrammarView, IsSymbolBelow}

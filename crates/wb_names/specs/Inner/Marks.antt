@@ -1,5 +1,5 @@
 -- Numbers that are marked.
-use Rattle.std.specs.Prelude.{◌≡◌, ◌<◌, ◌⊎◌, ◌↔◌, ◌∷◌, ◌++◌, ℕ, Bool, true, List, [], Option, Some, None, Contains, flat_map, length, option_map, option_to_list}
+use Rattle.std.specs.Prelude.{◌≡◌, ◌<◌, ◌⊎◌, ◌↔◌, ◌∷◌, ◌++◌, ℕ, Bool, true, List, [], Option, Some, Contains, flat_map, length, option_map, option_to_list}
 use Rattle.std.specs.Prelude.{slice_get}
 use Rattle.wb_base.specs.declared.symbol.Kind.TheVariants as kind
 use Rattle.wb_base.specs.Grammar.{GrammarView}

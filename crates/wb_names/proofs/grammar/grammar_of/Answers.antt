@@ -1,4 +1,4 @@
-use Rattle.std.proofs.Common.{◌≡◌, ℕ, List, All, subst, sym, ap, Some, ◌∙◌}
+use Rattle.std.proofs.Common.{ℕ, List, All, subst, sym, ap, Some, ◌∙◌}
 use Rattle.std.proofs.lemmas.Option.{slice_get-get_or}
 use Rattle.wb_base.specs.declared.symbol.Symbol.{Symbol}
 use Rattle.wb_base.specs.Grammar.{IsSymbolBelow}
