@@ -34,11 +34,11 @@ marks_both xs ys a b c one two = record {
       let p = one.exact k within in
       let q = two.exact k inside in (
         λ h. elim (q.0 h) [
-          inl x ↦ elim (p.0 x) [ inl y ↦ inl y | inr y ↦ inr (append_contains_left xs ys k y) ]
+          | inl x ↦ elim (p.0 x) [ inl y ↦ inl y | inr y ↦ inr (append_contains_left xs ys k y) ]
           | inr y ↦ inr (append_contains_right xs ys k y)
         ],
         λ h. q.1 (elim h [
-          inl y ↦ inl (p.1 (inl y))
+          | inl y ↦ inl (p.1 (inl y))
           | inr z ↦ elim (contains_append xs ys k z) [ inl y ↦ inl (p.1 (inr y)) | inr y ↦ inr y ]
         ]),
       );
@@ -57,6 +57,7 @@ marks_flat_more f xs i x a b c within is before more =
     subst (λ z. Marks z a c) (sym whole) (marks_both (flat_map f (take i xs)) (f x) a b c before more) where
       same : take (i + 1) xs ≡ take i xs ++ x ∷ []
       same = take_more xs i x within ∙ ap (λ z. take i xs ++ z ∷ []) (sym is)
+
       whole : flat_map f (take (i + 1) xs) ≡ flat_map f (take i xs) ++ f x
       whole = ap (flat_map f) same ∙ flat_map-append f (take i xs) (x ∷ []) ∙ ap (λ z. flat_map f (take i xs) ++ z) (append-nil (f x))
 
@@ -86,12 +87,15 @@ pub role_number : (p : Production) (k : ℕ) → Contains (role_numbers p.role p
 role_number p k has = of p.role refl has where
   of : (role : ProductionRole) → p.role ≡ role → Contains (role_numbers role p) k → (p.role ≡ Concrete) × IsIn p k
   of Abstract is h = absurd (nothing_in k h)
-  of Concrete is h = (is, elim (contains_cases p.left k (flat_map (λ (c : Child). child_numbers c.kind) p.children) h) [
-    | inl here ↦ inl here
-    | inr more ↦ let r = contains_flat_map (λ (c : Child). child_numbers c.kind) p.children k more in
-        inr (subst (Contains (map (λ (c : Child). c.kind) p.children)) (child_number r.0.kind k r.2)
-        (map_contains (λ (c : Child). c.kind) p.children r.0 r.1))
-  ])
+  of Concrete is h = (
+    is,
+    elim (contains_cases p.left k (flat_map (λ (c : Child). child_numbers c.kind) p.children) h) [
+      | inl here ↦ inl here
+      | inr more ↦ let r = contains_flat_map (λ (c : Child). child_numbers c.kind) p.children k more in
+          inr (subst (Contains (map (λ (c : Child). c.kind) p.children)) (child_number r.0.kind k r.2)
+          (map_contains (λ (c : Child). c.kind) p.children r.0 r.1))
+    ],
+  )
 
 -- and all of it
 pub number_role : (p : Production) (k : ℕ) → p.role ≡ Concrete → IsIn p k → Contains (role_numbers p.role p) k
@@ -114,6 +118,7 @@ pub numbers_of : (r : ResolvedParts) (k : ℕ) → Contains (grammar_numbers r) 
 numbers_of r k = (forth, back) where
   rows : List ℕ
   rows = flat_map (λ (p : Production). role_numbers p.role p) r.attributes.productions
+
   forth : Contains (grammar_numbers r) k → IsOfGrammar r k
   forth h = elim (contains_append (start_numbers r.grammar) (r.extensible ++ rows) k h) [
     | inl start ↦ inl ((start_number r.grammar k).0 start)
@@ -121,9 +126,10 @@ numbers_of r k = (forth, back) where
       | inl listed ↦ inr (inl listed)
       | inr row ↦ let p = contains_flat_map (λ (p : Production). role_numbers p.role p) r.attributes.productions k row in
           let of = role_number p.0 k p.2 in
-          inr (inr (record { production = p.0; listed = p.1; concrete = of.0; occurs = of.1; }))
+          inr (inr (record { production = p.0; listed = p.1; concrete = of.0; occurs = of.1 }))
     ]
   ]
+
   back : IsOfGrammar r k → Contains (grammar_numbers r) k
   back h = elim h [
     | inl start ↦ append_contains_left (start_numbers r.grammar) (r.extensible ++ rows) k ((start_number r.grammar k).1 start)
@@ -141,11 +147,11 @@ pub marks_exact : (r : ResolvedParts) (n : ℕ) (flags a b c : List Bool) → fl
 marks_exact r n flags a b c are one two three k within =
     let rows = flat_map (λ (p : Production). role_numbers p.role p) r.attributes.productions in
     let all : Marks (grammar_numbers r) flags c
-        = marks_both (start_numbers r.grammar) (r.extensible ++ rows) flags a c one (marks_both r.extensible rows a b c two three) in
+    = marks_both (start_numbers r.grammar) (r.extensible ++ rows) flags a c one (marks_both r.extensible rows a b c two three) in
     let inside : k < length flags = subst (λ z. k < z) (sym (ap length are ∙ length-replicate n false)) within in
     let exact = all.exact k inside in (
       λ h. elim (exact.0 h) [
-        inl before ↦ unmarked n k (subst (λ z. IsMarked z k) are before)
+        | inl before ↦ unmarked n k (subst (λ z. IsMarked z k) are before)
         | inr has ↦ (numbers_of r k).0 has
       ],
       λ h. exact.1 (inr ((numbers_of r k).1 h)),

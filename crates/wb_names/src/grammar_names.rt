@@ -12,15 +12,10 @@ ghost use Rattle.wb_names.specs.Inner.GrammarNames as spec;
 
 use crate::index::Index;
 use std::alloc::{AllocError, Global};
-use wb_syntax::{
-    Child, Item, ItemForm, NamedKind, Pattern, PlainForm, Production, ProductionRole,
-};
+use wb_syntax::{Child, Item, ItemForm, NamedKind, Pattern, PlainForm, Production, ProductionRole};
 
 // The names, by which one is found. The only error is want of memory.
-pub(crate) fn grammar_names_of(
-    alloc: Global,
-    items: &[Item<Pattern>],
-) -> Result<Index, AllocError>
+pub(crate) fn grammar_names_of(alloc: Global, items: &[Item<Pattern>]) -> Result<Index, AllocError>
     ensures { IfOk result (λ names. names ≡ grammar_names items.now) }
 {
     let mut names = Index::new(alloc);

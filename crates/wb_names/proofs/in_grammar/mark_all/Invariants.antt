@@ -1,5 +1,4 @@
 use Rattle.std.proofs.Common.{take}
-
 use Rattle.wb_names.specs.Inner.Marks.{Marks}
 use Rattle.wb_names.proofs.in_grammar.mark_all.Given as goal
 
