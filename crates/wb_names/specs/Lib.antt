@@ -1,0 +1,2 @@
+-- words of private functions
+pub mod Inner
