@@ -10,3 +10,4 @@ pub mod Base
 pub mod Grammars
 pub mod GrammarNames
 pub mod Marks
+pub mod Resolving

@@ -1,13 +1,13 @@
-//! What numbers does a file's text stand for, when each of its names is right?
+//! The parts of the numbered value that a specification stands for, where each of its names is right.
 //!
-//! Which value a file stands for is in `wb_numbering/specs`, and which name rule fails in `wb_naming/specs`. A name is found by an index,
-//! so the work is linear in the text, and a base is gone through once. Each part of the value is made by itself; what makes
-//! the whole of them isn't here yet.
+//! No call leaves this crate yet: what is here numbers the rows of a base and of a file, one sort after the other, and the call that puts
+//! them together is to come. Which value a file stands for is in `wb_numbering/specs`, and which name rule fails in `wb_naming/specs`.
 #![tactic(auto)]
 
 mod base;
 mod body;
 mod child;
+mod empty;
 mod equation;
 mod grammar;
 mod grammar_names;

@@ -1,0 +1,50 @@
+//! What is there before a host? A resolved specification without anything but its name.
+
+ghost use Rattle.std.specs.Prelude.{◌≡◌, [], IfOk};
+ghost use Rattle.wb_resolved.specs.declared.attribution.AttributionParts.{AttributionParts};
+ghost use Rattle.wb_names.specs.Inner.Resolving.{empty_host};
+
+use std::alloc::{AllocError, Global};
+use wb_base::{Bytes, Sequence};
+use wb_resolved::{Attribution, AttributionParts, ResolvedParts};
+use wb_values::Signatures;
+
+// Nothing, for a host of this name.
+pub(crate) fn nothing_before(alloc: Global, name: &[u8]) -> Result<ResolvedParts, AllocError>
+    ensures { IfOk result (λ made. made ≡ empty_host name.now) }
+{
+    let attributes = no_attributes(alloc)?;
+    let host = Bytes::from_slice(alloc, name)?;
+    Ok(ResolvedParts {
+        host,
+        grammar: None,
+        terminals: none(alloc),
+        preferences: none(alloc),
+        extensible: none(alloc),
+        attributes,
+    })
+}
+
+// No attributes, and nothing that has one.
+fn no_attributes(alloc: Global) -> Result<Attribution, AllocError>
+    ensures { IfOk result (λ made. made ≡ record { extensions = []; nonterminals = []; attributes = []; occurrences = []; productions = []; signatures = [] }) }
+{
+    Attribution::new(
+        alloc,
+        AttributionParts {
+            extensions: none(alloc),
+            nonterminals: none(alloc),
+            attributes: none(alloc),
+            occurrences: none(alloc),
+            productions: none(alloc),
+            signatures: Signatures::new(alloc),
+        },
+    )
+}
+
+// No values.
+fn none<T>(alloc: Global) -> Sequence<T>
+    ensures { result ≡ [] }
+{
+    Sequence::from_vec(Vec::new(alloc))
+}
