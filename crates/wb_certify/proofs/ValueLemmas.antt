@@ -1,5 +1,5 @@
 -- What is known of a resolved host after each test.
-use Rattle.std.proofs.Common.{◌≡◌, ◌∙◌, Result, Ok, Err, IfOk, IfErr, Some, None, ℕ, List, All, length, map, sym, ap, subst, inr}
+use Rattle.std.proofs.Common.{◌≡◌, ◌∙◌, Result, Ok, Err, IfOk, IfErr, Some, None, ℕ, List, [], All, length, map, sym, ap, subst, inr}
 use Rattle.std.specs.Prelude.{Option, option_map}
 use Rattle.wb_base.specs.Grammar.{GrammarView}
 use Rattle.wb_complete.specs.Refusals.{CompleteOk}
@@ -55,9 +55,10 @@ flow_refused r parts start (Err refusal) same is complete refused =
     )
 
 -- all tests together
-pub certified : (r : ResolvedParts) (operations : List OperationSignature) → KindsOk r.attributes operations → IsDeterministic r
-    → AreComplete r → FlowsOk r.attributes → IsCertifiedValue r operations
-certified r operations kinds is complete flows = record {
+pub certified : (r : ResolvedParts) (operations : List OperationSignature) → r.attributes.extensions ≡ []
+    → KindsOk r.attributes operations → IsDeterministic r → AreComplete r → FlowsOk r.attributes → IsCertifiedValue r operations
+certified r operations alone kinds is complete flows = record {
+  alone = alone;
   kinds = kinds;
   grammar = is.grammar;
   start = is.start;

@@ -1,5 +1,5 @@
 -- When a resolved host is certified.
-use Rattle.std.specs.Prelude.{◌≡◌, Some, None, List}
+use Rattle.std.specs.Prelude.{◌≡◌, Some, None, List, []}
 use Rattle.wb_attributes.specs.Modular.{AreWellDefinedAttributes}
 use Rattle.wb_base.specs.Grammar.{GrammarView}
 use Rattle.wb_determinism.specs.Hosts.{IsDeterministicHost, AreHostParts}
@@ -8,9 +8,10 @@ use Rattle.wb_operations.specs.Operations.{OperationSignature}
 use Rattle.wb_resolved.specs.declared.resolved.ResolvedParts.{ResolvedParts}
 use Rattle.wb_types.specs.Rules.{KindsOk}
 
--- over operations of these signatures a resolved host is certified: each expression is of its kind, there is a start, and so this grammar,
--- the host is deterministic, and its attributes are well defined
+-- over operations of these signatures a resolved host is certified: it is a host alone, each expression is of its kind, there is a start,
+-- and so this grammar, the host is deterministic, and its attributes are well defined
 pub record IsCertifiedValue (r : ResolvedParts) (operations : List OperationSignature) : Type 0 where
+  pub alone : r.attributes.extensions ≡ []
   pub kinds : KindsOk r.attributes operations
   pub grammar : GrammarView
   pub start : r.grammar ≡ Some grammar

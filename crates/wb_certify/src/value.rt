@@ -1,6 +1,6 @@
 //! Is a resolved host certified? Each test after names, in the order in which refusals are reported.
 
-ghost use Rattle.std.specs.Prelude.{◌≡◌, IfErr, IfOk, IfSome, IsNone, None, Some};
+ghost use Rattle.std.specs.Prelude.{◌≡◌, [], IfErr, IfOk, IfSome, IsNone, None, Some};
 ghost use Rattle.wb_base.specs.Grammar.{GrammarView};
 ghost use Rattle.wb_determinism.specs.Hosts.{AreAcyclic, AreHostParts};
 ghost use Rattle.wb_determinism.specs.Lexicons.{preference_pairs};
@@ -24,13 +24,14 @@ use wb_types::{TypeRefusal, check_types};
 
 /// A resolved host as a certified one over a table of operations, or the first rule that fails.
 ///
-/// Rules of names don't come, since they hold. Others go by rule, each on the whole host: kinds, then preferences, a start, the grammar and
+/// It has no extension: an extension is certified with its host by other rules. Rules of names don't come, since they hold. Others go by rule, each on the whole host: kinds, then preferences, a start, the grammar and
 /// the scanner, and attributes at last. No clause bounds the time.
 pub fn certify_resolved<M: Meaning>(
     alloc: Global,
     resolved: &Resolved,
     operations: &OperationTable<M>,
 ) -> Result<CertifiedHost, CertifyRefusal>
+    requires { resolved.now.attributes.extensions ≡ [] }
     ensures resolved { IfOk result (λ host. host.resolved ≡ resolved.now) }
     ensures operations { IfOk result (λ host. host.operations ≡ operations.now.signatures) }
     ensures certified { IfOk result (λ host. IsCertifiedValue resolved.now operations.now.signatures) }
@@ -52,6 +53,7 @@ fn certified_parts<M: Meaning>(
     resolved: &Resolved,
     operations: &OperationTable<M>,
 ) -> Result<HostParts, CertifyRefusal>
+    requires { resolved.now.attributes.extensions ≡ [] }
     ensures certified { IfOk result (λ parts. IsCertifiedValue resolved.now operations.now.signatures) }
     ensures parts { IfOk result (λ parts. (g : GrammarView) → resolved.now.grammar ≡ Some g → AreHostParts resolved.now g parts) }
     ensures refused { IfErr result (IsValueRefusal resolved.now operations.now.signatures) }

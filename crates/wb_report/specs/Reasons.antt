@@ -14,7 +14,7 @@ use Rattle.wb_report.specs.declared.spec_reason.SpecReason.{SpecReason}
 use Rattle.wb_report.specs.declared.spec_reason.SpecReason.TheVariants as s
 use Rattle.wb_report.specs.declared.spec_reason.TermReason.{TermReason}
 use Rattle.wb_report.specs.declared.spec_reason.TermReason.TheVariants as t
-use Rattle.wb_report.specs.Parts.{spaced, conflict_text, lookahead_text, share_text, vertex_text, vertices_text}
+use Rattle.wb_report.specs.Parts.{spaced, conflict_text, lookahead_text, share_text, vertices_text}
 
 -- the rules of what is written, of names and of kinds
 abbrev pub spec_text : SpecReason → List ℕ
@@ -62,7 +62,8 @@ abbrev pub attribute_text : AttributeReason → List ℕ
 attribute_text (a.StartInherits attribute) = codes "A5 " ++ attribute
 attribute_text (a.NoForward production) = codes "E7 " ++ production
 attribute_text (a.NoEquation production attribute) = codes "A1 " ++ production ++ codes " " ++ attribute
-attribute_text (a.NoInherited production vertex) = codes "A2 " ++ production ++ codes " " ++ vertex_text vertex
+attribute_text (a.NoInherited production label attribute) =
+    codes "A2 " ++ production ++ codes " " ++ label ++ codes "." ++ attribute
 attribute_text (a.LacksForward nonterminal attribute inherited) =
     codes "A6 " ++ nonterminal ++ codes " " ++ attribute ++ codes " lacks " ++ inherited
 attribute_text (a.Reads production reader inherited) =

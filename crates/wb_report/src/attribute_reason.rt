@@ -20,10 +20,11 @@ pub enum AttributeReason {
         production: Bytes,
         attribute: Bytes,
     },
-    /// A2: the production gives no value to what is read.
+    /// A2: the production gives no value to the attribute of the label, which is read.
     NoInherited {
         production: Bytes,
-        vertex: ShownVertex,
+        label: Bytes,
+        attribute: Bytes,
     },
     /// A6: the attribute of the nonterminal needs less than a forward there.
     LacksForward {
@@ -72,13 +73,19 @@ pub(crate) fn push_attribute_reason(
                 Piece::Plain(attribute.as_slice()),
             ],
         ),
-        AttributeReason::NoInherited { production, vertex } => push_pieces(
+        AttributeReason::NoInherited {
+            production,
+            label,
+            attribute,
+        } => push_pieces(
             out,
             &[
                 Piece::Plain(b"A2 "),
                 Piece::Plain(production.as_slice()),
                 Piece::Plain(b" "),
-                Piece::Vertex(vertex),
+                Piece::Plain(label.as_slice()),
+                Piece::Plain(b"."),
+                Piece::Plain(attribute.as_slice()),
             ],
         ),
         AttributeReason::LacksForward {

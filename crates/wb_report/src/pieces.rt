@@ -27,8 +27,6 @@ pub(crate) enum Piece<'a> {
     Spaced(&'a [Bytes]),
     // What a parser would do.
     Action(&'a ShownAction),
-    // A vertex of a flow graph.
-    Vertex(&'a ShownVertex),
 }
 
 // Appends pieces.
@@ -51,7 +49,6 @@ fn push_piece(out: &mut Vec<u8>, piece: &Piece) -> Result<(), AllocError>
         Piece::Quoted(bytes) => print_text(out, bytes),
         Piece::Spaced(names) => push_spaced(out, names),
         Piece::Action(action) => push_action(out, action),
-        Piece::Vertex(vertex) => push_vertex(out, vertex),
     }
 }
 

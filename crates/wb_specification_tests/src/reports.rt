@@ -102,12 +102,16 @@ fn grammar_reason(alloc: Global, number: usize) -> Result<GrammarReason, AllocEr
         3 => GrammarReason::Unproductive(text(alloc, "N")?),
         4 => GrammarReason::UnitCycle(texts(alloc, "A", "B")?),
         5 => GrammarReason::HiddenLeftRecursion(texts(alloc, "A", "B")?),
-        6 => GrammarReason::Conflict {
-            prefix: texts(alloc, "E", "Plus")?,
-            conflict: conflict(alloc)?,
-        },
+        6 => conflict_after(alloc)?,
         _ => clash(alloc)?,
     })
+}
+
+// A conflict after a prefix.
+fn conflict_after(alloc: Global) -> Result<GrammarReason, AllocError> {
+    let prefix = texts(alloc, "E", "Plus")?;
+    let conflict = conflict(alloc)?;
+    Ok(GrammarReason::Conflict { prefix, conflict })
 }
 
 // A shift or a reduction.
@@ -168,31 +172,68 @@ fn extension_reason(alloc: Global, number: usize) -> Result<ExtensionReason, All
         0 => ExtensionReason::NotBridge(text(alloc, "e:p")?),
         1 => ExtensionReason::MarkerElsewhere(text(alloc, "e:M")?),
         2 => ExtensionReason::NotExtensible(text(alloc, "e:p")?),
-        3 => ExtensionReason::MarkerClash {
-            marker: text(alloc, "e:M")?,
-            terminal: text(alloc, "Id")?,
-            text: text(alloc, "m")?,
-        },
-        4 => ExtensionReason::Lookahead {
-            prefix: texts(alloc, "Q", "first:M")?,
-            item: item(alloc)?,
-            terminal: text(alloc, "hole:H")?,
-        },
-        5 => ExtensionReason::NewLookahead {
-            prefix: texts(alloc, "Q", "unfit:M")?,
-            item: item(alloc)?,
-            terminal: text(alloc, "Y")?,
-        },
-        6 => ExtensionReason::NewConflict {
-            prefix: texts(alloc, "A", "B")?,
-            conflict: conflict(alloc)?,
-        },
-        _ => ExtensionReason::NewClash {
-            prefix: texts(alloc, "A", "B")?,
-            left: text(alloc, "If")?,
-            right: text(alloc, "Id")?,
-            text: text(alloc, "if")?,
-        },
+        3 => marker_clash(alloc)?,
+        4 => lookahead(alloc)?,
+        5 => new_lookahead(alloc)?,
+        6 => new_conflict(alloc)?,
+        _ => new_clash(alloc)?,
+    })
+}
+
+// A marker that shares a text with a terminal.
+fn marker_clash(alloc: Global) -> Result<ExtensionReason, AllocError> {
+    let marker = text(alloc, "e:M")?;
+    let terminal = text(alloc, "Id")?;
+    let text = text(alloc, "m")?;
+    Ok(ExtensionReason::MarkerClash {
+        marker,
+        terminal,
+        text,
+    })
+}
+
+// A lookahead that no rule allows.
+fn lookahead(alloc: Global) -> Result<ExtensionReason, AllocError> {
+    let prefix = texts(alloc, "Q", "first:M")?;
+    let item = item(alloc)?;
+    let terminal = text(alloc, "hole:H")?;
+    Ok(ExtensionReason::Lookahead {
+        prefix,
+        item,
+        terminal,
+    })
+}
+
+// A lookahead that the host doesn't have.
+fn new_lookahead(alloc: Global) -> Result<ExtensionReason, AllocError> {
+    let prefix = texts(alloc, "Q", "unfit:M")?;
+    let item = item(alloc)?;
+    let terminal = text(alloc, "Y")?;
+    Ok(ExtensionReason::NewLookahead {
+        prefix,
+        item,
+        terminal,
+    })
+}
+
+// A conflict that the host doesn't have.
+fn new_conflict(alloc: Global) -> Result<ExtensionReason, AllocError> {
+    let prefix = texts(alloc, "A", "B")?;
+    let conflict = conflict(alloc)?;
+    Ok(ExtensionReason::NewConflict { prefix, conflict })
+}
+
+// A shared text that the host doesn't have.
+fn new_clash(alloc: Global) -> Result<ExtensionReason, AllocError> {
+    let prefix = texts(alloc, "A", "B")?;
+    let left = text(alloc, "If")?;
+    let right = text(alloc, "Id")?;
+    let text = text(alloc, "if")?;
+    Ok(ExtensionReason::NewClash {
+        prefix,
+        left,
+        right,
+        text,
     })
 }
 
@@ -216,51 +257,111 @@ fn extensions_are_refused_with_an_example(rt: HostRuntime) -> Result<(), Fail> {
     Ok(())
 }
 
-// Vertices of a flow graph.
+// The number of a vertex of a flow graph.
+fn vertex(alloc: Global, number: usize) -> Result<ShownVertex, AllocError> {
+    Ok(match number {
+        0 => ShownVertex::Top(text(alloc, "s")?),
+        1 => ShownVertex::Forward(text(alloc, "i")?),
+        2 => ShownVertex::LocalTree(text(alloc, "e:x")?),
+        3 => ShownVertex::ForwardTree,
+        _ => labelled(alloc)?,
+    })
+}
+
+// The vertex of an attribute of a label.
+fn labelled(alloc: Global) -> Result<ShownVertex, AllocError> {
+    let label = text(alloc, "a")?;
+    let attribute = text(alloc, "i")?;
+    Ok(ShownVertex::Label { label, attribute })
+}
+
+// A vertex of each kind.
 fn vertices(alloc: Global) -> Result<Sequence<ShownVertex>, AllocError> {
-    let label = ShownVertex::Label {
-        label: text(alloc, "a")?,
-        attribute: text(alloc, "i")?,
-    };
-    let top = ShownVertex::Top(text(alloc, "s")?);
-    let tree = ShownVertex::LocalTree(text(alloc, "e:x")?);
-    let all = vec![in alloc; label, top, tree, ShownVertex::ForwardTree]?;
+    let mut all = Vec::new(alloc);
+    for number in 0..5 {
+        all.push(vertex(alloc, number)?)?;
+    }
     Ok(Sequence::from_vec(all))
 }
 
 // The number of a refusal of attributes.
 fn attribute_reason(alloc: Global, number: usize) -> Result<AttributeReason, AllocError> {
-    let production = text(alloc, "go")?;
     Ok(match number {
         0 => AttributeReason::StartInherits(text(alloc, "i")?),
-        1 => AttributeReason::NoForward(production),
-        2 => AttributeReason::NoEquation {
-            production,
-            attribute: text(alloc, "s")?,
-        },
-        3 => AttributeReason::NoInherited {
-            production,
-            vertex: ShownVertex::Forward(text(alloc, "i")?),
-        },
-        4 => AttributeReason::LacksForward {
-            nonterminal: text(alloc, "N")?,
-            attribute: text(alloc, "s")?,
-            inherited: text(alloc, "i")?,
-        },
-        5 => AttributeReason::Reads {
-            production,
-            attribute: None,
-            inherited: text(alloc, "i")?,
-        },
-        6 => AttributeReason::Cycle {
-            production,
-            vertices: vertices(alloc)?,
-        },
-        _ => AttributeReason::ForwardReads {
-            production,
-            attribute: text(alloc, "env")?,
-            inherited: text(alloc, "store")?,
-        },
+        1 => AttributeReason::NoForward(text(alloc, "go")?),
+        2 => no_equation(alloc)?,
+        3 => no_inherited(alloc)?,
+        4 => lacks_forward(alloc)?,
+        5 => reads(alloc)?,
+        6 => cycle(alloc)?,
+        _ => forward_reads(alloc)?,
+    })
+}
+
+// An attribute without equation.
+fn no_equation(alloc: Global) -> Result<AttributeReason, AllocError> {
+    let production = text(alloc, "go")?;
+    let attribute = text(alloc, "s")?;
+    Ok(AttributeReason::NoEquation {
+        production,
+        attribute,
+    })
+}
+
+// An attribute of a label without equation.
+fn no_inherited(alloc: Global) -> Result<AttributeReason, AllocError> {
+    let production = text(alloc, "go")?;
+    let label = text(alloc, "n")?;
+    let attribute = text(alloc, "i")?;
+    Ok(AttributeReason::NoInherited {
+        production,
+        label,
+        attribute,
+    })
+}
+
+// An attribute that needs less than a forward.
+fn lacks_forward(alloc: Global) -> Result<AttributeReason, AllocError> {
+    let nonterminal = text(alloc, "N")?;
+    let attribute = text(alloc, "s")?;
+    let inherited = text(alloc, "i")?;
+    Ok(AttributeReason::LacksForward {
+        nonterminal,
+        attribute,
+        inherited,
+    })
+}
+
+// A forwarded tree that reads what isn't declared.
+fn reads(alloc: Global) -> Result<AttributeReason, AllocError> {
+    let production = text(alloc, "go")?;
+    let inherited = text(alloc, "i")?;
+    Ok(AttributeReason::Reads {
+        production,
+        attribute: None,
+        inherited,
+    })
+}
+
+// A cycle.
+fn cycle(alloc: Global) -> Result<AttributeReason, AllocError> {
+    let production = text(alloc, "go")?;
+    let vertices = vertices(alloc)?;
+    Ok(AttributeReason::Cycle {
+        production,
+        vertices,
+    })
+}
+
+// An equation for a forwarded tree that reads too much.
+fn forward_reads(alloc: Global) -> Result<AttributeReason, AllocError> {
+    let production = text(alloc, "go")?;
+    let attribute = text(alloc, "env")?;
+    let inherited = text(alloc, "store")?;
+    Ok(AttributeReason::ForwardReads {
+        production,
+        attribute,
+        inherited,
     })
 }
 
@@ -270,10 +371,10 @@ fn attributes_are_refused_with_an_example(rt: HostRuntime) -> Result<(), Fail> {
         "refused f A5 i\n",
         "refused f E7 go\n",
         "refused f A1 go s\n",
-        "refused f A2 go forward.i\n",
+        "refused f A2 go n.i\n",
         "refused f A6 N s lacks i\n",
         "refused f A3 go forward reads i\n",
-        "refused f A4 go: a.i top.s e:x forward\n",
+        "refused f A4 go: top.s forward.i e:x forward a.i\n",
         "refused f E8 go forward.env reads store\n",
     ];
     for (number, line) in lines.iter().enumerate() {
@@ -305,13 +406,17 @@ fn outcome(alloc: Global, number: usize) -> Result<Outcome, AllocError> {
         6 => Outcome::TooLongToPrint,
         7 => Outcome::TooManyExtensions,
         8 => Outcome::DuplicateExtension(text(alloc, "dup")?),
-        9 => Outcome::WrongHost {
-            file: text(alloc, "dup.spec")?,
-            host: text(alloc, "tiny")?,
-        },
+        9 => wrong_host(alloc)?,
         10 => Outcome::UnknownAttribute(text(alloc, "size")?),
         _ => Outcome::NoSentence { size: 0, least: 1 },
     })
+}
+
+// An extension of another host.
+fn wrong_host(alloc: Global) -> Result<Outcome, AllocError> {
+    let file = text(alloc, "dup.spec")?;
+    let host = text(alloc, "tiny")?;
+    Ok(Outcome::WrongHost { file, host })
 }
 
 #[test]
@@ -341,27 +446,49 @@ fn other_outcomes_have_their_line(rt: HostRuntime) -> Result<(), Fail> {
 // The number of what a command shows that comes to its end.
 fn done(alloc: Global, number: usize) -> Result<Done, AllocError> {
     Ok(match number {
-        0 => Done::Value {
-            attribute: text(alloc, "count:leaves")?,
-            value: bytes(alloc, "2")?,
-        },
+        0 => value(alloc)?,
         1 => Done::Canonical(bytes(alloc, "format 1;\nhost t;\n")?),
-        2 => Done::Certified {
-            host: text(alloc, "adj")?,
-            extensions: texts(alloc, "first", "second")?,
-        },
-        3 => Done::Composed {
-            host: text(alloc, "mini")?,
-            extensions: 2,
-            prefixed: texts(alloc, "a:Sum", "b:Sum")?,
-        },
+        2 => certified(alloc)?,
+        3 => composed(alloc)?,
         4 => Done::Tree(bytes(alloc, "none()")?),
-        _ => Done::Generated {
-            leaves: 3,
-            bytes: 5,
-            attribute: text(alloc, "value")?,
-            value: bytes(alloc, "0")?,
-        },
+        _ => generated(alloc)?,
+    })
+}
+
+// A value.
+fn value(alloc: Global) -> Result<Done, AllocError> {
+    let attribute = text(alloc, "count:leaves")?;
+    let value = bytes(alloc, "2")?;
+    Ok(Done::Value { attribute, value })
+}
+
+// A host and extensions that are certified.
+fn certified(alloc: Global) -> Result<Done, AllocError> {
+    let host = text(alloc, "adj")?;
+    let extensions = texts(alloc, "first", "second")?;
+    Ok(Done::Certified { host, extensions })
+}
+
+// A composed language.
+fn composed(alloc: Global) -> Result<Done, AllocError> {
+    let host = text(alloc, "mini")?;
+    let prefixed = texts(alloc, "a:Sum", "b:Sum")?;
+    Ok(Done::Composed {
+        host,
+        extensions: 2,
+        prefixed,
+    })
+}
+
+// Sentences that were generated.
+fn generated(alloc: Global) -> Result<Done, AllocError> {
+    let attribute = text(alloc, "value")?;
+    let value = bytes(alloc, "0")?;
+    Ok(Done::Generated {
+        leaves: 3,
+        bytes: 5,
+        attribute,
+        value,
     })
 }
 

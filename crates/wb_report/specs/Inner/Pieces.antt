@@ -4,7 +4,7 @@ use Rattle.std.specs.Fmt.{decimal}
 use Rattle.wb_tokens.specs.Printing.{printed_text}
 use Rattle.wb_report.specs.declared.pieces.Piece.{Piece}
 use Rattle.wb_report.specs.declared.pieces.Piece.TheVariants as p
-use Rattle.wb_report.specs.Parts.{spaced, action_text, vertex_text}
+use Rattle.wb_report.specs.Parts.{spaced, action_text}
 
 -- the text of a piece
 abbrev pub piece_text : Piece → List ℕ
@@ -13,7 +13,6 @@ piece_text (p.Number number) = decimal number
 piece_text (p.Quoted bytes) = printed_text bytes.now
 piece_text (p.Spaced names) = spaced names.now
 piece_text (p.Action action) = action_text action.now
-piece_text (p.Vertex vertex) = vertex_text vertex.now
 
 -- a text with those of pieces after it
 abbrev pub joined : List ℕ → List Piece → List ℕ

@@ -3,5 +3,5 @@ use Rattle.wb_certify.proofs.value.certified_parts.Goals as goal
 
 pub returns-clause-certified : goal.returns-clause-certified
 returns-clause-certified g c =
-    certified c.args.resolved.now c.args.operations.now.signatures c.in_ok-check_kinds.ensures.ok c.in_ok-parts.ensures.ok
+    certified c.args.resolved.now c.args.operations.now.signatures c.requires c.in_ok-check_kinds.ensures.ok c.in_ok-parts.ensures.ok
     c.in_ok-check_attributes.ensures.ok.0 c.in_ok-check_attributes.ensures.ok.1
