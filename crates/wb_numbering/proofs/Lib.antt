@@ -1,13 +1,16 @@
 pub mod AllResolved
+pub mod Attributed
 pub mod BaseCarried
 pub mod Carrying
 pub mod CarryingNamed
+pub mod ChildrenScanned
 pub mod Counts
 pub mod DeclaredBy
 pub mod Distinct
 pub mod EquationsOwned
 pub mod Found
 pub mod GrammarFound
+pub mod GrammarNumbered
 pub mod Ground
 pub mod Grouped
 pub mod LabelsFound
@@ -30,5 +33,6 @@ pub mod Selected
 pub mod SidesFound
 pub mod SourceLemmas
 pub mod TargetsOnce
+pub mod TerminalsNamed
 pub mod Times
 pub mod Used

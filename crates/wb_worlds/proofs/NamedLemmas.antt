@@ -2,7 +2,6 @@
 use Rattle.std.proofs.Common.{◌≡◌, ◌⊎◌, ◌∙◌, ◌&&◌, ℕ, List, Option, Some, None, Bool, true, false, IsTrue, Contains}
 use Rattle.std.proofs.Common.{refl, sym, subst, ap, inl, inr, slice_get, option_map, length, All}
 use Rattle.std.specs.Prelude.{IsSome, IfSome}
-use Rattle.std.proofs.lemmas.Bool.{eqb-true}
 use Rattle.std.proofs.lemmas.Option.{same_Some}
 use Rattle.wb_lemmas.proofs.Elements.{all_contained}
 use Rattle.wb_lemmas.proofs.Members.{contains_at, nothing_in}
@@ -47,23 +46,13 @@ use Rattle.wb_worlds.specs.Attributions.{Written, equation_at, local_rule, forwa
 use Rattle.wb_worlds.specs.Attributions.{IsComposed}
 use Rattle.wb_worlds.specs.Worlds.{Owner, host, extension, owner_of, World, part_of, Sees, below, IsBelowIn, OccursIn, IsVertexIn}
 use Rattle.wb_worlds.specs.Named.{IsNamed, MayWrite, IsOwnLocal}
-use Rattle.wb_worlds.proofs.AttributionLemmas.{IsFor, owner_again, goes_to, found_occurrence, occurrence_found, tree_from, left_is}
+use Rattle.wb_worlds.proofs.AttributionLemmas.{occurrence_found, left_is}
 use Rattle.wb_worlds.proofs.AttributionLemmas.{owner_is, named, found_equation}
 use Rattle.wb_worlds.proofs.AttributionLemmas.{forwarding_to, are_union}
 use Rattle.wb_worlds.proofs.UnionLemmas.{union_is_well_defined}
 use Rattle.wb_worlds.proofs.SightLemmas.{sees_itself}
 use Rattle.wb_worlds.proofs.StayLemmas.{forward_below}
-
-owner_equal : (o q : Owner) → same_owner o q ≡ true → o ≡ q
-owner_equal host host is = refl
-owner_equal host (extension k) is = absurd (cc is)
-owner_equal (extension k) host is = absurd (cc is)
-owner_equal (extension k) (extension l) is = ap extension (eqb-true k l is)
-
--- who sees whom by number does in the world
-sees_to : (o q : ℕ) → numbers.Sees o q → Sees (owner_of o) (owner_of q)
-sees_to o q (inl first) = subst (λ z. Sees (owner_of o) (owner_of z)) (sym first) tt
-sees_to o q (inr same) = subst (λ z. Sees (owner_of o) (owner_of z)) (sym same) (sees_itself (owner_of o))
+use Rattle.wb_worlds.proofs.FoundLemmas.{owner_again, goes_to, IsFor, found_occurrence, tree_from, owner_equal, sees_to}
 
 -- a rule of a production, and whose it is
 data IsRuleOf (production : Production) (v : Vertex) (owner : ℕ) (nodes : List Node) : Type 0 where

@@ -13,7 +13,8 @@ use Rattle.wb_worlds.specs.Attributions.{owner_in, maker_in, world_of, IsHostTes
 use Rattle.wb_worlds.specs.Parts.{HasEdgeIn, by_rule, by_flow_type, by_tree, by_copy_up, by_copy_down, IsWellDefinedIn, IsWellDefinedPart}
 use Rattle.wb_worlds.specs.Parts.{IsWellDefinedExtension}
 use Rattle.wb_worlds.specs.Worlds.{host, extension, owner_of, World, Part, plain, alone, union, IsBelowIn, step_owner, IsRuleIn}
-use Rattle.wb_worlds.proofs.AttributionLemmas.{leads_map, left_is, owner_is, named, has_rule_to, has_rule_from, forwarding_to, forwarding_from}
+use Rattle.wb_worlds.proofs.AttributionLemmas.{left_is, owner_is, named, has_rule_to, has_rule_from, forwarding_to, forwarding_from}
+use Rattle.wb_worlds.proofs.FoundLemmas.{leads_map}
 use Rattle.wb_worlds.proofs.AttributionLemmas.{forward_needs_to, forward_needs_from, edge_to, edge_from, part_to, part_from}
 use Rattle.wb_worlds.proofs.SightLemmas.{Inside, occurs_more, defined_more}
 
