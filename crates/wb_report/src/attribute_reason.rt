@@ -64,84 +64,164 @@ pub(crate) fn push_attribute_reason(
         AttributeReason::NoEquation {
             production,
             attribute,
-        } => push_pieces(
-            out,
-            &[
-                Piece::Plain(b"A1 "),
-                Piece::Plain(production.as_slice()),
-                Piece::Plain(b" "),
-                Piece::Plain(attribute.as_slice()),
-            ],
-        ),
+        } => push_no_equation(out, production, attribute),
         AttributeReason::NoInherited {
             production,
             label,
             attribute,
-        } => push_pieces(
-            out,
-            &[
-                Piece::Plain(b"A2 "),
-                Piece::Plain(production.as_slice()),
-                Piece::Plain(b" "),
-                Piece::Plain(label.as_slice()),
-                Piece::Plain(b"."),
-                Piece::Plain(attribute.as_slice()),
-            ],
-        ),
+        } => push_no_inherited(out, production, label, attribute),
         AttributeReason::LacksForward {
             nonterminal,
             attribute,
             inherited,
-        } => push_pieces(
-            out,
-            &[
-                Piece::Plain(b"A6 "),
-                Piece::Plain(nonterminal.as_slice()),
-                Piece::Plain(b" "),
-                Piece::Plain(attribute.as_slice()),
-                Piece::Plain(b" lacks "),
-                Piece::Plain(inherited.as_slice()),
-            ],
-        ),
+        } => push_lacks_forward(out, nonterminal, attribute, inherited),
         AttributeReason::Reads {
             production,
             attribute,
             inherited,
-        } => push_pieces(
-            out,
-            &[
-                Piece::Plain(b"A3 "),
-                Piece::Plain(production.as_slice()),
-                Piece::Plain(b" "),
-                Piece::Plain(reader(attribute)),
-                Piece::Plain(b" reads "),
-                Piece::Plain(inherited.as_slice()),
-            ],
-        ),
+        } => push_reads(out, production, attribute, inherited),
         AttributeReason::Cycle {
             production,
             vertices,
-        } => {
-            push_name(out, b"A4 ", production)?;
-            out.extend_from_slice(b":")?;
-            push_vertices(out, vertices.as_slice())
-        }
+        } => push_cycle(out, production, vertices),
         AttributeReason::ForwardReads {
             production,
             attribute,
             inherited,
-        } => push_pieces(
-            out,
-            &[
-                Piece::Plain(b"E8 "),
-                Piece::Plain(production.as_slice()),
-                Piece::Plain(b" forward."),
-                Piece::Plain(attribute.as_slice()),
-                Piece::Plain(b" reads "),
-                Piece::Plain(inherited.as_slice()),
-            ],
-        ),
+        } => push_forward_reads(out, production, attribute, inherited),
     }
+}
+
+// Appends that a production has no equation for an attribute.
+fn push_no_equation<'a>(
+    out: &mut Vec<u8>,
+    production: &'a Bytes,
+    attribute: &'a Bytes,
+) -> Result<(), AllocError>
+    ensures { OnOk result (out.new.items ≡ out.old.items ++ attribute_text (AttributeReason.NoEquation production.now attribute.now)) }
+{
+    push_pieces(
+        out,
+        &[
+            Piece::Plain(b"A1 "),
+            Piece::Plain(production.as_slice()),
+            Piece::Plain(b" "),
+            Piece::Plain(attribute.as_slice()),
+        ],
+    )
+}
+
+// Appends that a production gives no value to an attribute of a label.
+fn push_no_inherited<'a>(
+    out: &mut Vec<u8>,
+    production: &'a Bytes,
+    label: &'a Bytes,
+    attribute: &'a Bytes,
+) -> Result<(), AllocError>
+    ensures {
+        OnOk result (out.new.items ≡ out.old.items
+            ++ attribute_text (AttributeReason.NoInherited production.now label.now attribute.now))
+    }
+{
+    push_pieces(
+        out,
+        &[
+            Piece::Plain(b"A2 "),
+            Piece::Plain(production.as_slice()),
+            Piece::Plain(b" "),
+            Piece::Plain(label.as_slice()),
+            Piece::Plain(b"."),
+            Piece::Plain(attribute.as_slice()),
+        ],
+    )
+}
+
+// Appends that an attribute needs less than a forward.
+fn push_lacks_forward<'a>(
+    out: &mut Vec<u8>,
+    nonterminal: &'a Bytes,
+    attribute: &'a Bytes,
+    inherited: &'a Bytes,
+) -> Result<(), AllocError>
+    ensures {
+        OnOk result (out.new.items ≡ out.old.items
+            ++ attribute_text (AttributeReason.LacksForward nonterminal.now attribute.now inherited.now))
+    }
+{
+    push_pieces(
+        out,
+        &[
+            Piece::Plain(b"A6 "),
+            Piece::Plain(nonterminal.as_slice()),
+            Piece::Plain(b" "),
+            Piece::Plain(attribute.as_slice()),
+            Piece::Plain(b" lacks "),
+            Piece::Plain(inherited.as_slice()),
+        ],
+    )
+}
+
+// Appends that an attribute, or the forwarded tree, reads what it doesn't declare.
+fn push_reads<'a>(
+    out: &mut Vec<u8>,
+    production: &'a Bytes,
+    attribute: &'a Option<Bytes>,
+    inherited: &'a Bytes,
+) -> Result<(), AllocError>
+    ensures {
+        OnOk result (out.new.items ≡ out.old.items
+            ++ attribute_text (AttributeReason.Reads production.now attribute.now inherited.now))
+    }
+{
+    push_pieces(
+        out,
+        &[
+            Piece::Plain(b"A3 "),
+            Piece::Plain(production.as_slice()),
+            Piece::Plain(b" "),
+            Piece::Plain(reader(attribute)),
+            Piece::Plain(b" reads "),
+            Piece::Plain(inherited.as_slice()),
+        ],
+    )
+}
+
+// Appends a cycle of reads.
+fn push_cycle(
+    out: &mut Vec<u8>,
+    production: &Bytes,
+    vertices: &Sequence<ShownVertex>,
+) -> Result<(), AllocError>
+    ensures { OnOk result (out.new.items ≡ out.old.items ++ attribute_text (AttributeReason.Cycle production.now vertices.now)) }
+{
+    push_name(out, b"A4 ", production)?;
+    out.extend_from_slice(b":")?;
+    push_vertices(out, vertices.as_slice())
+}
+
+// Appends that an equation for what the forwarded tree inherits reads too much.
+fn push_forward_reads<'a>(
+    out: &mut Vec<u8>,
+    production: &'a Bytes,
+    attribute: &'a Bytes,
+    inherited: &'a Bytes,
+) -> Result<(), AllocError>
+    ensures {
+        OnOk result (out.new.items ≡ out.old.items
+            ++ attribute_text (AttributeReason.ForwardReads production.now attribute.now inherited.now))
+    }
+{
+    push_pieces(
+        out,
+        &[
+            Piece::Plain(b"E8 "),
+            Piece::Plain(production.as_slice()),
+            Piece::Plain(b" forward."),
+            Piece::Plain(attribute.as_slice()),
+            Piece::Plain(b" reads "),
+            Piece::Plain(inherited.as_slice()),
+        ],
+    )
 }
 
 // What a read is for, by name.

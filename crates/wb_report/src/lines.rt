@@ -37,49 +37,15 @@ fn push_outcome(out: &mut Vec<u8>, outcome: &Outcome) -> Result<(), AllocError>
         ),
         Outcome::Refused { file, refusal } => push_refused(out, file, refusal),
         Outcome::Stopped { at, stop } => push_stopped(out, *at, stop),
-        Outcome::Fault { operation, code } => push_pieces(
-            out,
-            &[
-                Piece::Plain(b"fault "),
-                Piece::Plain(operation.as_slice()),
-                Piece::Plain(b" "),
-                Piece::Number(*code as u64),
-                Piece::Plain(b"\n"),
-            ],
-        ),
-        Outcome::MoreSteps(steps) => push_pieces(
-            out,
-            &[
-                Piece::Plain(b"more than "),
-                Piece::Number(*steps),
-                Piece::Plain(b" steps\n"),
-            ],
-        ),
+        Outcome::Fault { operation, code } => push_fault(out, operation, *code),
+        Outcome::MoreSteps(steps) => push_more_steps(out, *steps),
         Outcome::TextTooLong => out.extend_from_slice(b"text too long\n"),
         Outcome::TooLongToPrint => out.extend_from_slice(b"value too long to print\n"),
         Outcome::TooManyExtensions => out.extend_from_slice(b"too many extensions\n"),
         Outcome::DuplicateExtension(name) => push_line(out, b"duplicate extension ", name),
-        Outcome::WrongHost { file, host } => push_pieces(
-            out,
-            &[
-                Piece::Plain(b"wrong host "),
-                Piece::Plain(file.as_slice()),
-                Piece::Plain(b" names "),
-                Piece::Plain(host.as_slice()),
-                Piece::Plain(b"\n"),
-            ],
-        ),
+        Outcome::WrongHost { file, host } => push_wrong_host(out, file, host),
         Outcome::UnknownAttribute(name) => push_line(out, b"no attribute ", name),
-        Outcome::NoSentence { size, least } => push_pieces(
-            out,
-            &[
-                Piece::Plain(b"no sentence of "),
-                Piece::Number(*size),
-                Piece::Plain(b" leaves, least "),
-                Piece::Number(*least),
-                Piece::Plain(b"\n"),
-            ],
-        ),
+        Outcome::NoSentence { size, least } => push_no_sentence(out, *size, *least),
     }
 }
 
@@ -123,4 +89,70 @@ fn push_stop(out: &mut Vec<u8>, stop: &ShownStop) -> Result<(), AllocError>
         ShownStop::NoToken => out.extend_from_slice(b"no token"),
         ShownStop::Unexpected(terminal) => push_name(out, b"unexpected ", terminal),
     }
+}
+
+// Appends the line of an operation that has no result.
+fn push_fault(out: &mut Vec<u8>, operation: &Bytes, code: u32) -> Result<(), AllocError>
+    ensures { OnOk result (out.new.items ≡ out.old.items ++ report_of (Outcome.Fault operation.now code)) }
+{
+    push_pieces(
+        out,
+        &[
+            Piece::Plain(b"fault "),
+            Piece::Plain(operation.as_slice()),
+            Piece::Plain(b" "),
+            Piece::Number(code as u64),
+            Piece::Plain(b"\n"),
+        ],
+    )
+}
+
+// Appends the line of more steps than this.
+fn push_more_steps(out: &mut Vec<u8>, steps: u64) -> Result<(), AllocError>
+    ensures { OnOk result (out.new.items ≡ out.old.items ++ report_of (Outcome.MoreSteps steps)) }
+{
+    push_pieces(
+        out,
+        &[
+            Piece::Plain(b"more than "),
+            Piece::Number(steps),
+            Piece::Plain(b" steps\n"),
+        ],
+    )
+}
+
+// Appends the line of an extension for another host.
+fn push_wrong_host<'a>(
+    out: &mut Vec<u8>,
+    file: &'a Bytes,
+    host: &'a Bytes,
+) -> Result<(), AllocError>
+    ensures { OnOk result (out.new.items ≡ out.old.items ++ report_of (Outcome.WrongHost file.now host.now)) }
+{
+    push_pieces(
+        out,
+        &[
+            Piece::Plain(b"wrong host "),
+            Piece::Plain(file.as_slice()),
+            Piece::Plain(b" names "),
+            Piece::Plain(host.as_slice()),
+            Piece::Plain(b"\n"),
+        ],
+    )
+}
+
+// Appends the line of a size that no sentence has.
+fn push_no_sentence(out: &mut Vec<u8>, size: u64, least: u64) -> Result<(), AllocError>
+    ensures { OnOk result (out.new.items ≡ out.old.items ++ report_of (Outcome.NoSentence size least)) }
+{
+    push_pieces(
+        out,
+        &[
+            Piece::Plain(b"no sentence of "),
+            Piece::Number(size),
+            Piece::Plain(b" leaves, least "),
+            Piece::Number(least),
+            Piece::Plain(b"\n"),
+        ],
+    )
 }

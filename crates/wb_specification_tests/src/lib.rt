@@ -1,4 +1,4 @@
-//! Tests of names, kinds, attributes and certification on specifications.
+//! Tests of attributes and of reports: whether a host's attributes are well-defined, and the lines that report each outcome.
 //!
 //! Tests of values, operations and kinds by number are in `wb_value_tests`. Nothing depends on this crate.
 #![tactic(auto)]
@@ -6,4 +6,10 @@
 #[cfg(test)]
 mod attributes;
 #[cfg(test)]
-mod reports;
+mod report_attributes;
+#[cfg(test)]
+mod report_lines;
+#[cfg(test)]
+mod report_outcomes;
+#[cfg(test)]
+mod report_refusals;

@@ -1,6 +1,7 @@
 //! Tests of texts and of the program: what reads and prints a format, and runs of the top call over files in memory.
 //!
-//! Tests of the libraries that know no format are in `wb_grammar_tests` and `wb_library_tests`. Nothing depends on this crate.
+//! Tests of the libraries that know no format are in `wb_library_tests`, `wb_value_tests`, `wb_grammar_tests` and `wb_language_tests`,
+//! and those of attributes and reports in `wb_specification_tests`. Nothing depends on this crate.
 #![tactic(auto)]
 
 #[cfg(test)]
