@@ -118,10 +118,8 @@ fn push_no_inherited<'a>(
     label: &'a Bytes,
     attribute: &'a Bytes,
 ) -> Result<(), AllocError>
-    ensures {
-        OnOk result (out.new.items ≡ out.old.items
-            ++ attribute_text (AttributeReason.NoInherited production.now label.now attribute.now))
-    }
+    ensures { OnOk result (out.new.items ≡ out.old.items
+        ++ attribute_text (AttributeReason.NoInherited production.now label.now attribute.now)) }
 {
     push_pieces(
         out,
@@ -143,10 +141,8 @@ fn push_lacks_forward<'a>(
     attribute: &'a Bytes,
     inherited: &'a Bytes,
 ) -> Result<(), AllocError>
-    ensures {
-        OnOk result (out.new.items ≡ out.old.items
-            ++ attribute_text (AttributeReason.LacksForward nonterminal.now attribute.now inherited.now))
-    }
+    ensures { OnOk result (out.new.items ≡ out.old.items
+        ++ attribute_text (AttributeReason.LacksForward nonterminal.now attribute.now inherited.now)) }
 {
     push_pieces(
         out,
@@ -168,10 +164,8 @@ fn push_reads<'a>(
     attribute: &'a Option<Bytes>,
     inherited: &'a Bytes,
 ) -> Result<(), AllocError>
-    ensures {
-        OnOk result (out.new.items ≡ out.old.items
-            ++ attribute_text (AttributeReason.Reads production.now attribute.now inherited.now))
-    }
+    ensures { OnOk result (out.new.items ≡ out.old.items
+        ++ attribute_text (AttributeReason.Reads production.now attribute.now inherited.now)) }
 {
     push_pieces(
         out,
@@ -206,10 +200,8 @@ fn push_forward_reads<'a>(
     attribute: &'a Bytes,
     inherited: &'a Bytes,
 ) -> Result<(), AllocError>
-    ensures {
-        OnOk result (out.new.items ≡ out.old.items
-            ++ attribute_text (AttributeReason.ForwardReads production.now attribute.now inherited.now))
-    }
+    ensures { OnOk result (out.new.items ≡ out.old.items
+        ++ attribute_text (AttributeReason.ForwardReads production.now attribute.now inherited.now)) }
 {
     push_pieces(
         out,
