@@ -5,14 +5,17 @@ use std::alloc::Global;
 use wb_base::Sequence;
 use wb_report::{AttributeReason, Refusal, ShownVertex};
 
-// The number of a vertex of a flow graph.
-fn vertex(alloc: Global, number: usize) -> ShownVertex {
-    match number {
-        0 => ShownVertex::Top(text(alloc, "s")),
-        1 => ShownVertex::Forward(text(alloc, "i")),
-        2 => ShownVertex::LocalTree(text(alloc, "e:x")),
-        3 => ShownVertex::ForwardTree,
-        _ => labelled(alloc),
+// A vertex of each kind.
+fn vertices(alloc: Global) -> Sequence<ShownVertex> {
+    match vec![in alloc;
+        ShownVertex::Top(text(alloc, "s")),
+        ShownVertex::Forward(text(alloc, "i")),
+        ShownVertex::LocalTree(text(alloc, "e:x")),
+        ShownVertex::ForwardTree,
+        labelled(alloc),
+    ] {
+        Ok(all) => Sequence::from_vec(all),
+        Err(_) => Sequence::from_vec(Vec::new(alloc)),
     }
 }
 
@@ -22,16 +25,6 @@ fn labelled(alloc: Global) -> ShownVertex {
         label: text(alloc, "a"),
         attribute: text(alloc, "i"),
     }
-}
-
-// A vertex of each kind.
-fn vertices(alloc: Global) -> Sequence<ShownVertex> {
-    let mut all = Vec::new(alloc);
-    for number in 0..5 {
-        // A vertex that finds no memory is missing in the line.
-        let _ = all.push(vertex(alloc, number));
-    }
-    Sequence::from_vec(all)
 }
 
 // The number of a refusal of attributes.
@@ -100,19 +93,21 @@ fn forward_reads(alloc: Global) -> AttributeReason {
     }
 }
 
+// The line of each refusal of attributes.
+static ATTRIBUTES: [&str; 8] = [
+    "refused f A5 i\n",
+    "refused f E7 go\n",
+    "refused f A1 go s\n",
+    "refused f A2 go n.i\n",
+    "refused f A6 N s lacks i\n",
+    "refused f A3 go forward reads i\n",
+    "refused f A4 go: top.s forward.i e:x forward a.i\n",
+    "refused f E8 go forward.env reads store\n",
+];
+
 #[test]
 fn attributes_are_refused_with_an_example(rt: HostRuntime) {
-    let lines: [&str; 8] = [
-        "refused f A5 i\n",
-        "refused f E7 go\n",
-        "refused f A1 go s\n",
-        "refused f A2 go n.i\n",
-        "refused f A6 N s lacks i\n",
-        "refused f A3 go forward reads i\n",
-        "refused f A4 go: top.s forward.i e:x forward a.i\n",
-        "refused f E8 go forward.env reads store\n",
-    ];
-    for (number, line) in lines.iter().enumerate() {
+    for (number, line) in ATTRIBUTES.iter().enumerate() {
         let reason = attribute_reason(rt.alloc(), number);
         let held = is_refused(rt.alloc(), Refusal::Attributes(reason), line);
         assert!(rt; held, "{line:?}");

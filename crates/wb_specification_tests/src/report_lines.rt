@@ -1,7 +1,7 @@
 //! Is an outcome reported by these lines?
 //!
-//! Texts that find no memory are empty, and then the lines differ. So no outcome is alive where a test may end early. The outcomes are in
-//! `report_refusals`, `report_attributes` and `report_outcomes`, and the expected lines are those of the table of reports.
+//! Texts and lists that find no memory are empty, and then the lines differ: so no outcome is alive where a test may end early. The
+//! outcomes are in `report_refusals`, `report_attributes` and `report_outcomes`, and the expected lines are those of the table of reports.
 
 use std::alloc::Global;
 use wb_base::{Bytes, Sequence};
@@ -9,7 +9,9 @@ use wb_report::{Outcome, Refusal, report};
 
 // Whether the outcome is reported so.
 pub(crate) fn is_reported(alloc: Global, outcome: Outcome, lines: &str) -> bool {
-    are_lines(alloc, &outcome, lines)
+    // An array lets go of what it holds by a call, so that the drop of an outcome is proved once and part by part.
+    let held = [outcome];
+    are_lines(alloc, &held[0], lines)
 }
 
 // Whether the file `f` is refused for this reason with this line.

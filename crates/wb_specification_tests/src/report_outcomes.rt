@@ -43,23 +43,25 @@ fn wrong_host(alloc: Global) -> Outcome {
     }
 }
 
+// The line of each outcome without a refused file.
+static OTHERS: [&str; 12] = [
+    "usage: workbench value|show|check|certify|compose|tree|run|generate ARGUMENTS\n",
+    "stopped at 4 no token\n",
+    "stopped at 2 unexpected end\n",
+    "fault div 2\n",
+    "more than 1000 steps\n",
+    "text too long\n",
+    "value too long to print\n",
+    "too many extensions\n",
+    "duplicate extension dup\n",
+    "wrong host dup.spec names tiny\n",
+    "no attribute size\n",
+    "no sentence of 0 leaves, least 1\n",
+];
+
 #[test]
 fn other_outcomes_have_their_line(rt: HostRuntime) {
-    let lines: [&str; 12] = [
-        "usage: workbench value|show|check|certify|compose|tree|run|generate ARGUMENTS\n",
-        "stopped at 4 no token\n",
-        "stopped at 2 unexpected end\n",
-        "fault div 2\n",
-        "more than 1000 steps\n",
-        "text too long\n",
-        "value too long to print\n",
-        "too many extensions\n",
-        "duplicate extension dup\n",
-        "wrong host dup.spec names tiny\n",
-        "no attribute size\n",
-        "no sentence of 0 leaves, least 1\n",
-    ];
-    for (number, line) in lines.iter().enumerate() {
+    for (number, line) in OTHERS.iter().enumerate() {
         let held = is_reported(rt.alloc(), outcome(rt.alloc(), number), line);
         assert!(rt; held, "{line:?}");
     }
@@ -112,17 +114,19 @@ fn generated(alloc: Global) -> Done {
     }
 }
 
+// The lines of each command that comes to its end.
+static ENDS: [&str; 6] = [
+    "count:leaves = 2\n",
+    "format 1;\nhost t;\n",
+    "certified host adj\ncertified extension first\ncertified extension second\n",
+    "composed mini with 2 extensions\nprefix a:Sum\nprefix b:Sum\n",
+    "none()\n",
+    "leaves 3\nbytes 5\nvalue = 0\n",
+];
+
 #[test]
 fn commands_that_come_to_their_end_have_their_lines(rt: HostRuntime) {
-    let lines: [&str; 6] = [
-        "count:leaves = 2\n",
-        "format 1;\nhost t;\n",
-        "certified host adj\ncertified extension first\ncertified extension second\n",
-        "composed mini with 2 extensions\nprefix a:Sum\nprefix b:Sum\n",
-        "none()\n",
-        "leaves 3\nbytes 5\nvalue = 0\n",
-    ];
-    for (number, shown) in lines.iter().enumerate() {
+    for (number, shown) in ENDS.iter().enumerate() {
         let held = is_reported(rt.alloc(), Outcome::Done(done(rt.alloc(), number)), shown);
         assert!(rt; held, "{shown:?}");
     }

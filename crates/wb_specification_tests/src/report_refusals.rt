@@ -25,37 +25,50 @@ fn spec_reason(alloc: Global, number: usize) -> SpecReason {
     }
 }
 
+// The line of each refusal of what is written.
+static WRITTEN: [&str; 11] = [
+    "refused f S1 at 14\n",
+    "refused f S2\n",
+    "refused f S3\n",
+    "refused f R1 at 32\n",
+    "refused f R2 T\n",
+    "refused f N1 q\n",
+    "refused f N2 A\n",
+    "refused f N3 B\n",
+    "refused f N4 M\n",
+    "refused f Y1 at 82\n",
+    "refused f Y2 at 7\n",
+];
+
 #[test]
 fn what_is_written_is_refused_with_place_or_name(rt: HostRuntime) {
-    let lines: [&str; 11] = [
-        "refused f S1 at 14\n",
-        "refused f S2\n",
-        "refused f S3\n",
-        "refused f R1 at 32\n",
-        "refused f R2 T\n",
-        "refused f N1 q\n",
-        "refused f N2 A\n",
-        "refused f N3 B\n",
-        "refused f N4 M\n",
-        "refused f Y1 at 82\n",
-        "refused f Y2 at 7\n",
-    ];
-    for (number, line) in lines.iter().enumerate() {
+    for (number, line) in WRITTEN.iter().enumerate() {
         let reason = spec_reason(rt.alloc(), number);
         let held = is_refused(rt.alloc(), Refusal::Specification(reason), line);
         assert!(rt; held, "{line:?}");
     }
 }
 
+// The number of a refusal of a term.
+fn term_reason(number: usize) -> TermReason {
+    match number {
+        0 => TermReason::Syntax(10),
+        1 => TermReason::Unknown(0),
+        _ => TermReason::WrongChild(4),
+    }
+}
+
+// The line of each refusal of a term.
+static TERMS: [&str; 3] = [
+    "refused f T1 at 10\n",
+    "refused f T2 at 0\n",
+    "refused f T3 at 4\n",
+];
+
 #[test]
 fn terms_are_refused_with_their_place(rt: HostRuntime) {
-    let rows: [(TermReason, &str); 3] = [
-        (TermReason::Syntax(10), "refused f T1 at 10\n"),
-        (TermReason::Unknown(0), "refused f T2 at 0\n"),
-        (TermReason::WrongChild(4), "refused f T3 at 4\n"),
-    ];
-    for (reason, line) in rows {
-        let held = is_refused(rt.alloc(), Refusal::Term(reason), line);
+    for (number, line) in TERMS.iter().enumerate() {
+        let held = is_refused(rt.alloc(), Refusal::Term(term_reason(number)), line);
         assert!(rt; held, "{line:?}");
     }
 }
@@ -101,19 +114,21 @@ fn clash(alloc: Global) -> GrammarReason {
     }
 }
 
+// The line of each refusal of a grammar.
+static GRAMMARS: [&str; 8] = [
+    "refused f G6 T e:U\n",
+    "refused f G1 no start\n",
+    "refused f G1 unreachable N\n",
+    "refused f G1 unproductive N\n",
+    "refused f G2 A B\n",
+    "refused f G3 A B\n",
+    "refused f G4 after E Plus on Plus: shift and reduce plus\n",
+    "refused f G5 after: If and Id share \"i\\n\\\"\"\n",
+];
+
 #[test]
 fn grammars_are_refused_with_an_example(rt: HostRuntime) {
-    let lines: [&str; 8] = [
-        "refused f G6 T e:U\n",
-        "refused f G1 no start\n",
-        "refused f G1 unreachable N\n",
-        "refused f G1 unproductive N\n",
-        "refused f G2 A B\n",
-        "refused f G3 A B\n",
-        "refused f G4 after E Plus on Plus: shift and reduce plus\n",
-        "refused f G5 after: If and Id share \"i\\n\\\"\"\n",
-    ];
-    for (number, line) in lines.iter().enumerate() {
+    for (number, line) in GRAMMARS.iter().enumerate() {
         let reason = grammar_reason(rt.alloc(), number);
         let held = is_refused(rt.alloc(), Refusal::Grammar(reason), line);
         assert!(rt; held, "{line:?}");
@@ -187,19 +202,21 @@ fn new_clash(alloc: Global) -> ExtensionReason {
     }
 }
 
+// The line of each refusal of what an extension adds.
+static EXTENSIONS: [&str; 8] = [
+    "refused f E1 e:p\n",
+    "refused f E2 e:M\n",
+    "refused f E3 e:p\n",
+    "refused f E4 e:M and Id share \"m\"\n",
+    "refused f E5 after Q first:M item term/1 on hole:H\n",
+    "refused f E6 after Q unfit:M item term/1 on Y\n",
+    "refused f E6 after A B conflict on Plus: shift and reduce plus\n",
+    "refused f E6 after A B If and Id share \"if\"\n",
+];
+
 #[test]
 fn extensions_are_refused_with_an_example(rt: HostRuntime) {
-    let lines: [&str; 8] = [
-        "refused f E1 e:p\n",
-        "refused f E2 e:M\n",
-        "refused f E3 e:p\n",
-        "refused f E4 e:M and Id share \"m\"\n",
-        "refused f E5 after Q first:M item term/1 on hole:H\n",
-        "refused f E6 after Q unfit:M item term/1 on Y\n",
-        "refused f E6 after A B conflict on Plus: shift and reduce plus\n",
-        "refused f E6 after A B If and Id share \"if\"\n",
-    ];
-    for (number, line) in lines.iter().enumerate() {
+    for (number, line) in EXTENSIONS.iter().enumerate() {
         let reason = extension_reason(rt.alloc(), number);
         let held = is_refused(rt.alloc(), Refusal::Extension(reason), line);
         assert!(rt; held, "{line:?}");
