@@ -9,4 +9,6 @@ mod ReadLemmas
 mod RootLemmas
 mod SiteLemmas
 mod StructureLemmas
+mod SymbolLemmas
+mod TwiceLemmas
 mod UnknownLemmas

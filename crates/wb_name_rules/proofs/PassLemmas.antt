@@ -21,7 +21,7 @@ use Rattle.wb_naming.specs.declared.usage.Wanted.{Wanted}
 use Rattle.wb_naming.specs.declared.usage.Wanted.TheVariants as w
 use Rattle.wb_naming.specs.Declarations.{Items}
 use Rattle.wb_naming.specs.Declares.{base_declarations, item_declarations, declarations}
-use Rattle.wb_naming.specs.Duplicate.{Counts, FailsDuplicate}
+use Rattle.wb_naming.specs.Duplicate.{Counts}
 use Rattle.wb_naming.specs.Hold.{AreOnce, IsMeant, LabelFor, AttributeAt, AreMeant, AreOwned, NamesHold}
 use Rattle.wb_naming.specs.Meaning.{IsSymbol, HasSite, HasLeft}
 use Rattle.wb_naming.specs.NamesOk.{scope_of, NamesOk}
@@ -35,18 +35,10 @@ use Rattle.wb_name_rules.specs.Inner.Indexed.{IsDuplicate}
 use Rattle.wb_name_rules.specs.Inner.Owners.{MayDeclare, IsOrphanIn}
 use Rattle.wb_name_rules.specs.Inner.Passing.{Passes, UsesPass, UsesFail, TestFails}
 use Rattle.wb_name_rules.specs.Inner.Tests.{IsKnown, IsOfKind, IsWrongIn}
-use Rattle.wb_name_rules.proofs.IndexLemmas.{same_back, same_counts}
 use Rattle.wb_name_rules.proofs.KindLemmas.{all_of_kind}
 use Rattle.wb_name_rules.proofs.RootLemmas.{IsRooted, IsGrounded, IsKnownProduction, items_rooted, items_grounded, base_rooted}
+use Rattle.wb_name_rules.proofs.TwiceLemmas.{nothing_twice}
 use Rattle.wb_name_rules.proofs.UnknownLemmas.{all_known}
-
--- where declarations of the same thing that count are one, nothing is declared twice
-pub nothing_twice : (declared : List Declaration) → CountOnce declared → (name : List ℕ) → ¬ FailsDuplicate declared name
-nothing_twice declared once name fails =
-    let same = once fails.first fails.second fails.one fails.other fails.at_first fails.at_second
-    (same_counts declared (same_back fails.same) fails.counts) fails.same in
-    let before = fails.order in
-    absurd (omega (arith, same, before))
 
 -- where an extension may declare all that it does, each of its declarations is as the rule asks
 pub all_owned : (declared own host : List Declaration) (from : ℕ) → host ≡ take from declared → own ≡ drop from declared → declared ≡ host ++ own

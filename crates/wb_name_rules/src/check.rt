@@ -22,7 +22,8 @@ use wb_resolved::ResolvedParts;
 use wb_syntax::{Item, Pattern};
 
 /// Whether the name rules hold of the items of a file, over what is there before: nothing for a host, whose owner is 0, and the resolved
-/// host for an extension, whose owner is another number. Answers an index of what is declared.
+/// host for an extension, whose owner is another number. Answers an index of what is declared. Nothing here asks that the base be a host
+/// alone: over a base with extensions, what these declare counts as the host's, so callers give a host alone.
 ///
 /// The first rule that fails is refused: that nothing is declared twice (N2), that each name is declared (N1) and of the right kind (N4),
 /// and that an extension says only what it may (N3). Which of several names that show it is answered is open. No clause bounds the

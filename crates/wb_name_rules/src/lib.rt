@@ -8,6 +8,7 @@ mod check;
 mod index;
 mod keys;
 mod kinds;
+mod laws;
 mod orphans;
 mod reads;
 mod sites;
@@ -16,3 +17,4 @@ mod unknown;
 
 pub use check::check_names;
 pub use index::NameIndex;
+pub use laws::twice_law;

@@ -2,7 +2,6 @@
 use Rattle.std.specs.Prelude.{ℕ, List, Option, Some, None, filter_map}
 use Rattle.wb_resolved.specs.declared.attributes.Direction.{Direction}
 use Rattle.wb_resolved.specs.declared.attributes.Direction.TheVariants.{Synthesized, Inherited}
-use Rattle.wb_syntax.specs.declared.expression.Equation.{Equation}
 use Rattle.wb_syntax.specs.declared.item.Item.{Item}
 use Rattle.wb_syntax.specs.declared.item.ItemForm.{ItemForm}
 use Rattle.wb_syntax.specs.declared.item.ItemForm.TheVariants as f
@@ -51,11 +50,6 @@ pub record ProductionDeclaration : Type 0 where
   pub role : ProductionRole
   pub production : Production
 
--- an aspect: further equations of the production of a name
-pub record Aspect : Type 0 where
-  pub name : List ℕ
-  pub equations : List Equation
-
 -- the item of names alone that a form is, where it is one
 abbrev pub plain_of : ItemForm Pattern → Option PlainForm
 plain_of (f.Plain plain) = Some plain
@@ -88,17 +82,6 @@ production_of (f.Aspect name equations) = None
 -- the productions
 abbrev pub productions : Items → List ProductionDeclaration
 productions items = filter_map (λ (item : Item Pattern). production_of item.form) items
-
--- the aspect that a form is
-abbrev pub aspect_of : ItemForm Pattern → Option Aspect
-aspect_of (f.Aspect name equations) = Some (record { name = name; equations = equations })
-aspect_of (f.Lexical role name pattern) = None
-aspect_of (f.Plain plain) = None
-aspect_of (f.Production role production) = None
-
--- the aspects
-abbrev pub aspects : Items → List Aspect
-aspects items = filter_map (λ (item : Item Pattern). aspect_of item.form) items
 
 -- the nonterminal that an item declares
 abbrev pub nonterminal_of : PlainForm → Option (List ℕ)

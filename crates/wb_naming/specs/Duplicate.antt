@@ -44,6 +44,18 @@ abbrev pub Counts : List Declaration → Declaration → Type 0
 Counts declared (d.Label production l is) = IsSymbol declared production sort.Production
 Counts declared other = Unit {0}
 
+-- symbols of this name, of whatever sort, are one
+abbrev pub IsSymbolOnce : List Declaration → List ℕ → Type 0
+IsSymbolOnce declared name = (first second : ℕ) (is other : Sort) → slice_get declared first ≡ Some (d.Symbol name is)
+    → slice_get declared second ≡ Some (d.Symbol name other) → first ≡ second
+
+-- the production in which a label, an equation or a forward stands isn't declared twice itself; where it is, its own name shows that
+abbrev pub IsProductionOnce : List Declaration → Declaration → Type 0
+IsProductionOnce declared (d.Label production l is) = IsSymbolOnce declared production
+IsProductionOnce declared (d.Equation production a at) = IsSymbolOnce declared production
+IsProductionOnce declared (d.Forward production) = IsSymbolOnce declared production
+IsProductionOnce declared other = Unit {0}
+
 -- this name shows that something is declared twice
 pub record FailsDuplicate (declared : List Declaration) (name : List ℕ) : Type 0 where
   pub first : ℕ
@@ -55,4 +67,5 @@ pub record FailsDuplicate (declared : List Declaration) (name : List ℕ) : Type
   pub at_second : slice_get declared second ≡ Some other
   pub same : AreSame one other
   pub counts : Counts declared other
+  pub production : IsProductionOnce declared other
   pub shown : name ≡ shown_name other

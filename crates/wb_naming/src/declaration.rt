@@ -1,6 +1,6 @@
 //! What does a file declare?
 //!
-//! All that rules compare, in one type, so that 'twice' and 'there' are said once. Which item declares what is in `specs/Declared`.
+//! All that rules compare, in one type, so that 'twice' and 'there' are said once. Which item declares what is in `specs/Declares`.
 
 use wb_base::Bytes;
 use wb_resolved::Direction;

@@ -1,4 +1,5 @@
--- That one resolved specification is in another, in whose numbers all of it is found again.
+-- That each terminal, nonterminal, attribute, occurrence and production of one resolved specification is found again in another, in whose
+-- numbers it is given. Preferences, extensible nonterminals, the start and the grammar aren't spoken of.
 use Rattle.std.specs.Prelude.{◌≡◌, ℕ, List, Contains, option_to_list}
 use Rattle.std.specs.List.{AllZip}
 use Rattle.wb_resolved.specs.declared.attributes.Attribute.{Attribute}

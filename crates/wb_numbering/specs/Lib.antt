@@ -16,7 +16,7 @@ pub mod Rows
 pub mod Resolves
 -- that there is one such value at most
 pub mod OneValue
--- that one resolved specification is in another
+-- that the rows of one resolved specification are in another
 pub mod Carried
 -- what is given with a file, and that each value that it stands for is a resolved specification
 pub mod Given

@@ -1,6 +1,8 @@
 use Rattle.std.proofs.Common.{Some, sym, ap, ◌∙◌}
 use Rattle.std.proofs.lemmas.Option.{slice_get-get_or}
-use Rattle.wb_name_rules.proofs.IndexLemmas.{skips, knows, uncounted, new_there, refused_twice, twice}
+use Rattle.wb_name_rules.proofs.IndexLemmas.{skips, uncounted, new_there}
+use Rattle.wb_name_rules.proofs.SymbolLemmas.{knows}
+use Rattle.wb_name_rules.proofs.TwiceLemmas.{refused_twice, twice}
 use Rattle.wb_name_rules.proofs.table.add_at.Goals as goal
 
 pub returns-then-not-is_in-clause-ok : goal.returns-then-not-is_in-clause-ok

@@ -1,7 +1,7 @@
 use Rattle.std.proofs.Common.{◌≡◌, ◌∷◌, ℕ, List, subst, ◌∙◌}
 use Rattle.std.specs.Prelude.{Contains}
 use Rattle.wb_name_rules.specs.Indexed.{IsKept}
-use Rattle.wb_name_rules.proofs.IndexLemmas.{production_none, production_found}
+use Rattle.wb_name_rules.proofs.SymbolLemmas.{production_none, production_found}
 use Rattle.wb_name_rules.proofs.table.is_production.Goals as goal
 
 pub returns-in-None : goal.returns-in-None
