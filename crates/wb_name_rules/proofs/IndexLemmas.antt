@@ -1,25 +1,19 @@
 -- What a table knows of declarations, one place after another.
 use Rattle.std.proofs.Common.{◌≡◌, ◌⊎◌, ◌<◌, ◌+◌, ◌∷◌, ◌++◌, [], ℕ, Bool, true, false, List, Some, length, slice_get, Contains, inl, inr}
-use Rattle.std.proofs.Common.{refl, sym, ap, ◌∙◌, subst, arith, length-append}
-use Rattle.std.specs.Prelude.{◌↔◌}
+use Rattle.std.proofs.Common.{refl, sym, ◌∙◌, subst, arith, length-append}
 use Rattle.std.proofs.lemmas.Option.{slice_get_within}
 use Rattle.std.proofs.lemmas.Bool.{cases_lt}
-use Rattle.wb_lemmas.proofs.Members.{contains_at, place_of, push_contains, push_contains_last}
+use Rattle.wb_lemmas.proofs.Members.{push_contains, push_contains_last}
 use Rattle.wb_lemmas.proofs.Places.{at_once, at_push, nothing_at}
 use Rattle.wb_naming.specs.declared.declaration.Declaration.{Declaration}
-use Rattle.wb_naming.specs.declared.declaration.Declaration.TheVariants as d
-use Rattle.wb_naming.specs.declared.declaration.Sort.TheVariants as sort
 use Rattle.wb_naming.specs.Duplicate.{AreSame, Counts, FailsDuplicate, shown_name}
 use Rattle.wb_naming.specs.Duplicate as s
-use Rattle.wb_naming.specs.declared.refusal.NameRefusal.{NameRefusal}
-use Rattle.wb_naming.specs.declared.refusal.NameRefusal.TheVariants as r
-use Rattle.wb_naming.specs.Meaning.{IsSymbol}
 use Rattle.wb_name_rules.specs.declared.table.Pass.{Pass}
 use Rattle.wb_name_rules.specs.declared.table.Pass.TheVariants.{Symbols, Others}
 use Rattle.wb_name_rules.specs.Keys.{key_of}
 use Rattle.wb_name_rules.specs.Indexed.{IsIndexed, IsCovered, IsKept, HasKey, is_symbol}
-use Rattle.wb_name_rules.specs.Inner.Indexed.{IsIn, KnowsSymbols, IsProductionAt, IsRefusedAs, IsDuplicate}
-use Rattle.wb_name_rules.proofs.KeyLemmas.{key_apart, key_same, rest}
+use Rattle.wb_name_rules.specs.Inner.Indexed.{IsIn}
+use Rattle.wb_name_rules.proofs.KeyLemmas.{key_same}
 
 -- of two declarations of the same thing both count or none does
 pub same_counts : (declared : List Declaration) {one other : Declaration} → AreSame one other → Counts declared one → Counts declared other
