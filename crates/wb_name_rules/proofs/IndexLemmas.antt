@@ -6,7 +6,7 @@ use Rattle.std.proofs.lemmas.Bool.{cases_lt}
 use Rattle.wb_lemmas.proofs.Members.{push_contains, push_contains_last}
 use Rattle.wb_lemmas.proofs.Places.{at_once, at_push, nothing_at}
 use Rattle.wb_naming.specs.declared.declaration.Declaration.{Declaration}
-use Rattle.wb_naming.specs.Duplicate.{AreSame, Counts, FailsDuplicate, shown_name}
+use Rattle.wb_naming.specs.Duplicate.{AreSame, Counts}
 use Rattle.wb_naming.specs.Duplicate as s
 use Rattle.wb_name_rules.specs.declared.table.Pass.{Pass}
 use Rattle.wb_name_rules.specs.declared.table.Pass.TheVariants.{Symbols, Others}

@@ -93,7 +93,8 @@ module _ (declared : List Declaration) where
       → IsKept keys places (0 ∷ name) place → IsProductionAt declared place ↔ IsSymbol declared name sort.Production
   production_found keys places name place known kept =
       let (one, there, key) = known.sound (0 ∷ name) place kept in (
-        λ (other, is). let e : one ≡ d.Symbol other sort.Production = at_once declared place one (d.Symbol other sort.Production) there is in
+        λ (other, is). let e : one ≡ d.Symbol other sort.Production =
+            at_once declared place one (d.Symbol other sort.Production) there is in
             let f : 0 ∷ name ≡ 0 ∷ other = key ∙ ap key_of e in
             contains_at declared (d.Symbol name sort.Production) place
             (is ∙ ap (λ (z : List ℕ). Some (d.Symbol z sort.Production)) (sym (rest f))),

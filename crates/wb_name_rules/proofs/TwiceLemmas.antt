@@ -38,7 +38,8 @@ module _ (declared : List Declaration) (keys : List (List ℕ)) (places : List �
         production = production_once declared keys places pass upto here known within;
         shown = refl;
       } where
-        earlier : {at : ℕ} (p : Pass) (one : Declaration) → IsCovered p upto at one → IsIn p here → is_symbol one ≡ is_symbol here → at < upto
+        earlier : {at : ℕ} (p : Pass) (one : Declaration) → IsCovered p upto at one → IsIn p here
+            → is_symbol one ≡ is_symbol here → at < upto
         earlier Symbols one (is, below) is_in same = below
         earlier Others one (inl is) is_in same = absurd (let e : true ≡ false = sym is ∙ same ∙ is_in in cc)
         earlier Others one (inr below) is_in same = below
