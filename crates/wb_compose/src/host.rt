@@ -28,7 +28,7 @@ pub fn host_language(alloc: Global, resolved: &Resolved) -> Result<Language, All
 {
     match &resolved.parts().grammar {
         Some(grammar) => with_grammar(alloc, resolved, grammar),
-        None => Err(AllocError),
+        None => unreachable!(),
     }
 }
 

@@ -18,3 +18,4 @@ pub mod Tournament
 pub mod TreeBounds
 pub mod UniqueLemmas
 pub mod WinnerLemmas
+pub mod WordLemmas

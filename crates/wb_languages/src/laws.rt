@@ -18,6 +18,7 @@ ghost use Rattle.wb_languages.specs.Texts.{ParsesTo, StopsAt, HasAnswer};
 ghost use Rattle.wb_languages.specs.Facts.{IsLanguage, IsWritten, AreDecided, AreOrderedForms, HasOneWinner};
 ghost use Rattle.wb_languages.specs.Parts.{AreTablesOf, IsPrefixOf, IsConsideredAt};
 ghost use Rattle.wb_languages.specs.Shown.{AgreesWith, Shows};
+ghost use Rattle.wb_languages.specs.Words.{words_of};
 ghost use Rattle.wb_languages.specs.Bounds.{IsSized, HasNoCycle, nodes, count, limit};
 
 /// A text has at most one tree, at most one stop, and not both.
@@ -32,7 +33,8 @@ pub fn some_answer_law()
     ensures { (l : LanguageView) (tables : TablesView) → IsLanguage l → AreTablesOf l.grammar tables → (text : List ℕ) → HasAnswer l text }
 {}
 
-/// At a prefix and a place at most one thing is next, and something is next at each place of the text.
+/// At a prefix and a place at most one thing is next. At a viable prefix, in a language whose grammar has tables, something is next at each
+/// place of the text, its end among them.
 pub fn next_law()
     ensures one { (l : LanguageView) → IsLanguage l → (text : List ℕ) (prefix : List Symbol) (at : ℕ) (next other : Next) → NextToken l text prefix at next → NextToken l text prefix at other → next ≡ other }
     ensures some { (l : LanguageView) (tables : TablesView) → IsLanguage l → AreTablesOf l.grammar tables → (text : List ℕ) (prefix : List Symbol) → IsViablePrefix l.grammar prefix → (at : ℕ) → at ≤ length text → (next : Next) × NextToken l text prefix at next }
@@ -54,9 +56,9 @@ pub fn state_law()
     ensures every { (g : GrammarView) (tables : TablesView) → AreTablesOf g tables → (prefix : List Symbol) → IsViablePrefix g prefix → (state : ℕ) × IsPrefixOf g tables state prefix }
 {}
 
-/// A grammar without conflict gives each list of leaves at most one derivation tree.
+/// A grammar without conflict gives each list of terminals with their texts at most one derivation tree.
 pub fn unambiguous_law()
-    ensures { (g : GrammarView) → HasNoConflict g → (tree other : Forest) → DerivationTree g tree → DerivationTree g other → leaves [] tree ≡ leaves [] other → tree ≡ other }
+    ensures { (g : GrammarView) → HasNoConflict g → (tree other : Forest) → DerivationTree g tree → DerivationTree g other → words_of (leaves [] tree) ≡ words_of (leaves [] other) → tree ≡ other }
 {}
 
 /// A stack of trees whose symbols are a viable prefix has no more nodes than the limit of its leaves. Each reduction adds a node to it and

@@ -18,7 +18,7 @@ use Rattle.wb_languages.specs.Texts.{StopsAt}
 use Rattle.wb_languages.specs.Facts.{IsLanguage}
 use Rattle.wb_languages.specs.Shown.{values_of}
 use Rattle.wb_languages.specs.Parts.{AreTablesOf, IsPrefixOf}
-use Rattle.wb_languages.specs.Inner.Machine.{joined, Keeps}
+use Rattle.wb_languages.specs.Machine.{joined, Keeps}
 use Rattle.wb_languages.proofs.ForestLemmas.{symbols_joined}
 use Rattle.wb_languages.proofs.StepLemmas.{first_keeps, shift_keeps, accept_gives, nothing_stops}
 use Rattle.wb_languages.proofs.FactLemmas.{parsable}

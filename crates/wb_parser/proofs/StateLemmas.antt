@@ -20,7 +20,7 @@ use Rattle.wb_lookahead.specs.declared.action.Action.TheVariants.{Shift, Reduce,
 use Rattle.wb_lookahead.specs.Contents.{TablesView, size_of, action_of, goto_of}
 use Rattle.wb_lookahead.specs.Tables.{AreTables, IsAction}
 use Rattle.wb_languages.specs.Parts.{AreTablesOf, IsPrefixOf}
-use Rattle.wb_languages.specs.Inner.Machine.{joined}
+use Rattle.wb_languages.specs.Machine.{joined}
 use Rattle.wb_languages.proofs.ForestLemmas.{append_nil}
 use Rattle.wb_languages.proofs.FactLemmas.{shift_at, reduce_at}
 use Rattle.wb_parser.specs.Inner.Stacks.{AreStates, last_or}

@@ -29,7 +29,7 @@ use Rattle.wb_languages.specs.Texts.{StopsAt}
 use Rattle.wb_languages.specs.Facts.{IsLanguage}
 use Rattle.wb_languages.specs.Shown.{values_of}
 use Rattle.wb_languages.specs.Parts.{AreTablesOf, IsPrefixOf}
-use Rattle.wb_languages.specs.Inner.Machine.{joined}
+use Rattle.wb_languages.specs.Machine.{joined}
 use Rattle.wb_languages.proofs.ForestLemmas.{symbols_joined}
 use Rattle.wb_languages.proofs.AgreeLemmas.{not_top}
 use Rattle.wb_languages.proofs.BackLemmas.{Reduced, reduction_finds}

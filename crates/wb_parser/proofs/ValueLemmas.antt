@@ -6,7 +6,7 @@ use Rattle.wb_values.specs.Tree as values
 use Rattle.wb_values.specs.ValuesIn.{value_in, values_in}
 use Rattle.wb_values.specs.declared.value.Value.{Value as Stored}
 use Rattle.wb_languages.specs.Shown.{values_of}
-use Rattle.wb_languages.specs.Inner.Machine.{joined}
+use Rattle.wb_languages.specs.Machine.{joined}
 
 -- these values, and then those
 abbrev pub appended : Values → Values → Values

@@ -16,7 +16,7 @@ use Rattle.wb_languages.specs.Texts.{StopsAt}
 use Rattle.wb_languages.specs.Facts.{IsLanguage}
 use Rattle.wb_languages.specs.Shown.{values_of}
 use Rattle.wb_languages.specs.Parts.{IsPrefixOf, AreTablesOf}
-use Rattle.wb_languages.specs.Inner.Machine.{Keeps}
+use Rattle.wb_languages.specs.Machine.{Keeps}
 use Rattle.wb_scan.specs.Views.{LanguageParts}
 use Rattle.wb_parser.specs.declared.step.Outcome.{Outcome}
 use Rattle.wb_parser.specs.declared.step.Outcome.TheVariants.{Shifts, Reduced, Accepts, Stops}

@@ -1,5 +1,5 @@
-use Rattle.wb_languages.proofs.UniqueLemmas.{unambiguous}
+use Rattle.wb_languages.proofs.WordLemmas.{one_tree_of_words}
 use Rattle.wb_languages.proofs.laws.unambiguous_law.Goals as goal
 
 pub returns : goal.returns
-returns c = unambiguous
+returns c = one_tree_of_words
