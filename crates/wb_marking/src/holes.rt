@@ -21,7 +21,7 @@ pub fn with_holes(alloc: Global, resolved: &Resolved) -> Result<Grammar, AllocEr
     let parts = resolved.parts();
     match &parts.grammar {
         Some(grammar) => grammar_with_holes(alloc, grammar, parts.extensible.as_slice()),
-        None => Err(AllocError),
+        None => unreachable!(),
     }
 }
 

@@ -9,8 +9,12 @@ ghost use Rattle.wb_grammars.specs.Lookaheads.{HasNoConflict, IsValidTerminal};
 ghost use Rattle.wb_grammars.specs.Shape.{IsLive, IsReduced};
 ghost use Rattle.wb_marking.specs.Holes.{with_holes_of};
 
-/// A reduced grammar is reduced with holes. One that with holes has no unit cycle, no hidden left recursion or no conflict has none
-/// without. Its prefixes, and what is valid at them, stay with holes.
+/// A reduced grammar is reduced with holes. One that with holes has no unit cycle or no hidden left recursion has none without.
+///
+/// The rest is said of a grammar whose numbers are in range. Its viable prefixes stay so with holes. Where some terminal begins what is
+/// behind each symbol of a right side, as it does where every nonterminal derives a text, such a grammar has no conflict if it has none with
+/// holes, and each of its own terminals stays valid with holes at the prefixes at which it is valid. The end of a text is none of these
+/// terminals, and has another number with holes.
 pub fn holes_law()
     ensures reduced { (g : GrammarView) (extensible : List ℕ) → IsReduced g → IsReduced (with_holes_of g extensible) }
     ensures unit_cycles { (g : GrammarView) (extensible : List ℕ) → HasNoUnitCycle (with_holes_of g extensible) → HasNoUnitCycle g }
