@@ -16,7 +16,7 @@ use Rattle.wb_base.specs.declared.symbol.Symbol.{Symbol}
 use Rattle.wb_base.specs.Grammar.{GrammarView, IsGrammar}
 use Rattle.wb_contexts.specs.Considered.{IsConsideredAt}
 use Rattle.wb_determinism.specs.Hosts.{IsDeterministicHost}
-use Rattle.wb_determinism.specs.Inner.Lists.{HasGrammar}
+use Rattle.wb_determinism.specs.HostGrammar.{HasGrammar}
 use Rattle.wb_determinism.specs.Lexicons.{is_layout, lexicon_of, preference_pairs}
 use Rattle.wb_determinism.proofs.HostLemmas.{edges_below}
 use Rattle.wb_grammar.specs.Refusals.{IsTrueRefusal}

@@ -6,7 +6,7 @@ ghost use Rattle.std.specs.List.{range_with_len};
 ghost use Rattle.std.specs.Prelude.{◌≡◌, ◌≤◌, ◌-◌, IfOk, IfSome, IsSome, length, map};
 ghost use Rattle.wb_bare.specs.Refusals.{IsFree};
 ghost use Rattle.wb_determinism.specs.Hosts.{IsDeterministicHost};
-ghost use Rattle.wb_determinism.specs.Inner.Lists.{HasGrammar};
+ghost use Rattle.wb_determinism.specs.HostGrammar.{HasGrammar};
 ghost use Rattle.wb_grammar.specs.Facts.{AreFacts};
 ghost use Rattle.wb_resolved.specs.declared.terminal.Terminal.{Terminal};
 ghost use Rattle.wb_compose.specs.HostLanguage.{host_language as view, layout_numbers};

@@ -19,7 +19,7 @@ use Rattle.wb_resolved.specs.declared.terminal.Terminal.{Terminal}
 use Rattle.wb_resolved.specs.Grammar.{IsGrammarOf}
 use Rattle.wb_resolved.specs.Resolved.{IsNamedPreference}
 use Rattle.wb_determinism.specs.Hosts.{IsSound, IsFitForParsing, IsDeterministicHost}
-use Rattle.wb_determinism.specs.Inner.Lists.{HasGrammar}
+use Rattle.wb_determinism.specs.HostGrammar.{HasGrammar}
 use Rattle.wb_determinism.specs.Lexicons.{is_layout, lexicon_of, preference_pairs}
 
 -- the facts of the grammar with holes say that it is fit

@@ -1,3 +1,5 @@
+-- the grammar of a resolved specification
+pub mod HostGrammar
 -- what is scanned of a resolved specification
 pub mod Lexicons
 -- a host that is deterministic for all extensions that may come

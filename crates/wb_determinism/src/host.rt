@@ -13,7 +13,8 @@ ghost use Rattle.wb_marking.specs.Holes.{with_holes_of};
 ghost use Rattle.wb_determinism.specs.Hosts.{AreAcyclic, AreHostParts, IsDeterministicHost, IsFitForParsing, IsSound};
 ghost use Rattle.wb_determinism.specs.Lexicons.{lexicon_of};
 ghost use Rattle.wb_determinism.specs.Refusals.{IsHostRefusal};
-ghost use Rattle.wb_determinism.specs.Inner.Lists.{AreLists, HasGrammar};
+ghost use Rattle.wb_determinism.specs.HostGrammar.{HasGrammar};
+ghost use Rattle.wb_determinism.specs.Inner.Lists.{AreLists};
 
 use crate::lexicon::{expressions_of, layout_of, pairs_of};
 use crate::{DeterminismRefusal, HostParts};
@@ -37,7 +38,7 @@ pub fn host_determinism(alloc: Global, resolved: &Resolved) -> Result<HostParts,
 {
     match &resolved.parts().grammar {
         Some(grammar) => with_grammar(alloc, &Host { resolved, grammar }),
-        None => Err(DeterminismRefusal::NoMemory(AllocError)),
+        None => unreachable!(),
     }
 }
 

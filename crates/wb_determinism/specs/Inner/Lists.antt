@@ -1,9 +1,7 @@
 -- What a host's lists keep.
-use Rattle.std.specs.Prelude.{◌≡◌, Some, map}
-use Rattle.wb_base.specs.Grammar.{GrammarView}
+use Rattle.std.specs.Prelude.{◌≡◌, map}
 use Rattle.wb_resolved.specs.declared.resolved.ResolvedParts.{ResolvedParts}
 use Rattle.wb_resolved.specs.declared.terminal.Terminal.{Terminal}
-use Rattle.wb_resolved.specs.Resolved.{IsResolved}
 use Rattle.wb_determinism.specs.declared.host.Lists.{Lists}
 use Rattle.wb_determinism.specs.Lexicons.{is_layout, preference_pairs}
 
@@ -12,8 +10,3 @@ pub record AreLists (r : ResolvedParts) (lists : Lists) : Type 0 where
   pub expressions : lists.expressions.items ≡ map (λ (t : Terminal). t.pattern) r.terminals
   pub layout : lists.layout ≡ map (λ (t : Terminal). is_layout t.kind) r.terminals
   pub pairs : lists.pairs.items ≡ preference_pairs r
-
--- a resolved specification has this grammar
-pub record HasGrammar (r : ResolvedParts) (g : GrammarView) : Type 0 where
-  pub resolved : IsResolved r
-  pub grammar : r.grammar ≡ Some g
