@@ -45,9 +45,12 @@ impl Model for Language {
 impl Language {
     /// The language of these parts. Takes no memory.
     ///
-    /// The expressions of the automaton are one for each form, in order, and then one for each layout terminal, and the set of each state's
-    /// number has the places of the forms that are considered there. Layout is numbered on behind the grammar's terminals, and the pair
-    /// `(t, u)` prefers t to u.
+    /// The grammar is reduced, without unit cycle, hidden left recursion and conflict, and the tables are its own. Forms are of its
+    /// terminals, and the layout terminal at place k has the number of the grammar's terminals and k more.
+    ///
+    /// The expressions of the automaton are one for each form, in order, and then one for each layout terminal. That of a form matches only
+    /// texts that begin with the form's prefix, and none matches the empty text. The set of each state's number has the places of the forms
+    /// that are considered there. Where some of these match at a place of a text, exactly one wins, and the pair `(t, u)` prefers t to u.
     pub fn new(
         grammar: Grammar,
         tables: Tables,
