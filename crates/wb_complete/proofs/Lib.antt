@@ -1,2 +1,2 @@
 mod TestLemmas
-mod AnswerLemmas
+pub mod AnswerLemmas

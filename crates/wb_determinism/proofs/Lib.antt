@@ -1,3 +1,3 @@
 mod FlagLemmas
 pub mod HostLemmas
-mod RefusalLemmas
+pub mod RefusalLemmas
