@@ -1,18 +1,32 @@
-pub mod AddsLemmas
-pub mod BaseMoved
-pub mod BaseWithin
-pub mod BlockLemmas
-pub mod FoundLemmas
-pub mod GroupLemmas
-pub mod IndexLemmas
-pub mod MovedLemmas
-pub mod PlainLemmas
-pub mod PlainsFound
-pub mod ScopeLemmas
-pub mod UsesThere
-pub mod ZipLemmas
-pub mod TerminalLemmas
-pub mod TerminalsGrouped
-pub mod MadeLemmas
-pub mod GrammarNameLemmas
-pub mod MarkLemmas
+mod StartLemmas
+mod RestLemmas
+mod ListLemmas
+mod ScopeRows
+mod MovesRows
+mod Bridges
+mod RowsResolve
+mod GrammarRows
+mod GrammarReady
+mod RestStart
+mod MadeRows
+mod BaseParts
+mod BodyLemmas
+mod EquationsThere
+mod ForwardsOnce
+mod KnownLabels
+mod OnceLemmas
+mod ScopeNumbering
+mod WritersLemmas
+mod WrittenLemmas
+mod ProductionsGrouped
+pub mod ProductionsBridge
+pub mod ApartLemmas
+pub mod AttributesThere
+pub mod DeclaredThere
+pub mod ForwardsFound
+pub mod InGrammar
+pub mod NamedLemmas
+pub mod NamesFlat
+pub mod OnceNames
+pub mod ProductionNames
+pub mod RowsNamed

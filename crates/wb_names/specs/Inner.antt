@@ -1,13 +1,14 @@
 -- Words of private functions.
-pub mod Index
-pub mod Scope
-pub mod Nodes
-pub mod Moves
-pub mod Blocks
-pub mod Plains
-pub mod Terminals
-pub mod Base
-pub mod Grammars
-pub mod GrammarNames
-pub mod Marks
-pub mod Resolving
+pub mod Lent
+pub mod Now
+pub mod Ground
+pub mod Productions
+pub mod Wrong
+pub mod Rest
+pub mod Value
+pub mod Writers
+pub mod Bodies
+pub mod Rows
+pub mod Names
+pub mod Nonterminals
+pub mod Tables

@@ -2,7 +2,7 @@
 
 ghost use Rattle.std.specs.Prelude.{◌≡◌, [], IfOk};
 ghost use Rattle.wb_resolved.specs.declared.attribution.AttributionParts.{AttributionParts};
-ghost use Rattle.wb_names.specs.Inner.Resolving.{empty_host};
+ghost use Rattle.wb_names.specs.Resolving.{empty_host};
 
 use std::alloc::{AllocError, Global};
 use wb_base::{Bytes, Sequence};

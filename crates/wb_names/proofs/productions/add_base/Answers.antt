@@ -1,0 +1,22 @@
+use Rattle.std.proofs.Common.{◌≡◌, ◌<◌, ◌∙◌, List, ap, get_or, length, subst}
+use Rattle.wb_resolved.specs.declared.attribution.AttributionParts.{AttributionParts}
+use Rattle.wb_resolved.specs.declared.production.Production.{Production}
+use Rattle.wb_names.specs.Inner.Bodies.{file_of}
+use Rattle.wb_names.specs.Inner.Now.{IsExtendedNow}
+use Rattle.wb_names.specs.Inner.Rows.{has_concrete, is_concrete}
+use Rattle.wb_names.proofs.ProductionsGrouped.{one_added}
+use Rattle.wb_names.proofs.productions.add_base.Goals as goal
+
+pub loop-production-preserved : goal.loop-production-preserved
+loop-production-preserved c =
+    let context = c.args.context.now in
+    let all = context.file.base.now.attributes.productions in
+    let i = c.loop-production.production-index in
+    let x = c.production-item.result in
+    let same : c.as_slice-productions.result.now ≡ all =
+    c.as_slice-productions.ensures ∙ ap (λ (a : AttributionParts). a.productions) c.parts.ensures.parts in
+    let within : i < length all = subst (λ (z : List Production). i < length z) same c.loop-production-test.true in
+    let is : x ≡ get_or all i x = subst (λ (z : List Production). x ≡ get_or z i x) same c.production-item.is in
+    let holds = c.in_ok-row.ensures in
+    one_added has_concrete (IsExtendedNow (file_of context) context.scope.now context.moves.now) all i x c.in_ok-row.row c.args.made.now
+    c.loop-production.made c.add.new.made c.loop-production.invariant within is (ap is_concrete holds.role) holds c.in_ok-add.ensures

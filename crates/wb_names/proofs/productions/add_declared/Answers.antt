@@ -1,0 +1,20 @@
+use Rattle.std.proofs.Common.{List, sym, subst, take}
+use Rattle.std.specs.Prelude.{option_to_list}
+use Rattle.wb_naming.specs.Declarations.{ProductionDeclaration, production_of, productions}
+use Rattle.wb_names.specs.Inner.Bodies.{file_of}
+use Rattle.wb_names.specs.Inner.Now.{IsDeclaredNow}
+use Rattle.wb_names.specs.Inner.Rows.{AddsProductions, declares_concrete}
+use Rattle.wb_names.proofs.ProductionsGrouped.{both_added, productions_more}
+use Rattle.wb_names.proofs.productions.add_declared.Goals as goal
+
+pub loop-item-preserved : goal.loop-item-preserved
+loop-item-preserved c =
+    let context = c.args.context.now in
+    let items = context.file.items.now in
+    let i = c.loop-item.item-index in
+    let item = c.item-item.result in
+    let R = IsDeclaredNow (file_of context) context.scope.now context.moves.now in
+    subst (λ (z : List ProductionDeclaration). AddsProductions declares_concrete R z c.args.made.now c.add_item.new.made)
+    (sym (productions_more items i item c.loop-item-test.true c.item-item.is))
+    (both_added declares_concrete R (productions (take i items)) (option_to_list (production_of item.form)) c.args.made.now
+    c.loop-item.made c.add_item.new.made c.loop-item.invariant c.in_ok-add_item.ensures)

@@ -1,0 +1,60 @@
+-- The numbers of a base's names, and ground of which the names are there.
+use Rattle.std.specs.Prelude.{◌≡◌, ◌++◌, ℕ, List, [], All, Contains, length, map}
+use Rattle.wb_resolved.specs.declared.attributes.Nonterminal.{Nonterminal}
+use Rattle.wb_resolved.specs.declared.production.Production.{Production}
+use Rattle.wb_resolved.specs.declared.terminal.Terminal.{Terminal}
+use Rattle.wb_naming.specs.Declarations.{lexicals, nonterminals, productions}
+use Rattle.wb_numbering.specs.Files.{File}
+use Rattle.wb_numbering.specs.Resolves.{IsScanned, IsInGrammarOf, IsConcrete}
+use Rattle.wb_numbering.specs.Sources.{sources, AreGrouped}
+use Rattle.wb_rows.specs.declared.moves.Moves.{Moves}
+use Rattle.wb_rows.specs.declared.scope.Scope.{Scope}
+use Rattle.wb_rows.specs.declared.terminals.Terminals.{Terminals}
+use Rattle.wb_rows.specs.Nodes.{IsAt}
+use Rattle.wb_rows.specs.Plains.{AddsEach}
+use Rattle.wb_names.specs.declared.ground.Ground.{Ground}
+use Rattle.wb_names.specs.declared.nonterminals.Nonterminals.{Nonterminals}
+use Rattle.wb_names.specs.Inner.Ground.{IsNameOf}
+use Rattle.wb_names.specs.Inner.Nonterminals.{attribute_names}
+use Rattle.wb_names.specs.Inner.Now.{AreGroupedBy, IsTerminalNow, IsNonterminalNow}
+
+-- a number for each name is added
+abbrev pub AddsNumbers : {X : Type 0} → (X → List ℕ) → List (List ℕ) → List X → List ℕ → List ℕ → Type 0
+AddsNumbers name names rows old new = AddsEach (λ x. IsAt names (name x)) rows old new
+
+-- a number for each name of the base is added to each table
+pub record AddsTables (file : File) (s : Scope) (old new : Moves) : Type 0 where
+  pub terminals : AddsNumbers (λ (t : Terminal). t.name) s.terminals file.base.terminals old.terminals.items new.terminals.items
+  pub nonterminals : AddsNumbers (λ (x : Nonterminal). x.name) s.nonterminals file.base.attributes.nonterminals old.nonterminals.items
+      new.nonterminals.items
+  pub productions : AddsNumbers (λ (p : Production). p.name) s.productions file.base.attributes.productions old.productions.items
+      new.productions.items
+
+-- each name of the base is there
+pub record HasBase (file : File) (s : Scope) : Type 0 where
+  pub terminals : All (λ (t : Terminal). Contains s.terminals t.name) file.base.terminals
+  pub nonterminals : All (λ (x : Nonterminal). Contains s.nonterminals x.name) file.base.attributes.nonterminals
+  pub productions : All (λ (p : Production). Contains s.productions p.name) file.base.attributes.productions
+
+-- no rows, names and numbers, in a file of this owner
+pub record IsEmpty (owner : ℕ) (g : Ground) : Type 0 where
+  pub scanned : g.terminals.scanned.items ≡ []
+  pub layout : g.terminals.layout.items ≡ []
+  pub of_grammar : g.nonterminals.of_grammar.items ≡ []
+  pub others : g.nonterminals.others.items ≡ []
+  pub scope : g.scope ≡ record { owner = owner; terminals = []; nonterminals = []; attributes = []; productions = [] }
+  pub by_terminal : g.moves.terminals.items ≡ []
+  pub by_nonterminal : g.moves.nonterminals.items ≡ []
+  pub by_production : g.moves.productions.items ≡ []
+
+-- names by number, and the rows whose names they are
+pub record AreNamed (file : File) (t : Terminals) (n : Nonterminals) (s : Scope) : Type 0 where
+  pub owner : s.owner ≡ file.owner
+  pub terminals : AreGroupedBy (length t.scanned.items) IsScanned (IsTerminalNow file)
+      (sources file.base.terminals (lexicals file.items)) (t.scanned.items ++ t.layout.items)
+  pub nonterminals : AreGroupedBy (length n.of_grammar.items) (IsInGrammarOf file) (IsNonterminalNow file s)
+      (sources file.base.attributes.nonterminals (nonterminals file.items)) (n.of_grammar.items ++ n.others.items)
+  pub terminal_names : s.terminals ≡ map (λ (x : Terminal). x.name) (t.scanned.items ++ t.layout.items)
+  pub nonterminal_names : s.nonterminals ≡ map (λ (x : Nonterminal). x.name) (n.of_grammar.items ++ n.others.items)
+  pub attribute_names_are : s.attributes ≡ attribute_names file
+  pub production_names : AreGrouped IsConcrete IsNameOf (sources file.base.attributes.productions (productions file.items)) s.productions

@@ -1,0 +1,120 @@
+//! Which numbered value does a file stand for on its base, where each of its names is right?
+//!
+//! All rows are there; what is left are the grammar, and what repeats the file or its rows.
+
+ghost use Rattle.std.specs.Prelude.{◌≡◌, IfOk, IfSome, Some, map};
+ghost use Rattle.wb_resolved.specs.Attribution.{IsAttribution};
+ghost use Rattle.wb_resolved.specs.Numbered.{signature_of};
+ghost use Rattle.wb_naming.specs.Hold.{NamesHold};
+ghost use Rattle.wb_numbering.specs.Given.{IsFile};
+ghost use Rattle.wb_numbering.specs.Resolves.{Resolves};
+ghost use Rattle.wb_names.specs.Resolving.{file_scope};
+ghost use Rattle.wb_names.specs.Inner.Lent.{lent_file};
+ghost use Rattle.wb_names.specs.Inner.Rest.{BeginsAlone};
+ghost use Rattle.wb_names.specs.Inner.Value.{AreRows, HasGrammar, IsGrammarFor, made_attribution, made_value};
+
+use crate::lent::Lent;
+use crate::rows::{Rows, rows_of};
+use std::alloc::{AllocError, Global};
+use wb_base::{Bytes, Grammar, Sequence, push};
+use wb_resolved::{Attribution, AttributionParts, ResolvedParts};
+use wb_rows::grammar::grammar_of;
+use wb_rows::signatures::signatures_of;
+use wb_values::Signatures;
+
+// The numbered value. The only error is want of memory.
+pub(crate) fn numbered(alloc: Global, file: &Lent) -> Result<ResolvedParts, AllocError>
+    requires file { IsFile (lent_file file.now) }
+    requires hold { NamesHold (file_scope (lent_file file.now)) }
+    requires alone { BeginsAlone (lent_file file.now) }
+    ensures { IfOk result (Resolves (lent_file file.now)) }
+{
+    let rows = rows_of(alloc, file)?;
+    let copies = copies_of(alloc, file, &rows)?;
+    value(alloc, rows, copies)
+}
+
+// The grammar of rows, and copies of what the file and its rows have.
+#[derive(Drop)]
+struct Copies {
+    grammar: Option<Grammar>,
+    host: Bytes,
+    extensions: Sequence<Bytes>,
+    signatures: Signatures,
+}
+
+// Those of a file and its rows. The only error is want of memory.
+fn copies_of(alloc: Global, file: &Lent, rows: &Rows) -> Result<Copies, AllocError>
+    requires grammar { IfSome rows.now.written.rest.start (HasGrammar rows.now) }
+    ensures grammar { IfOk result (λ copies. IsGrammarFor rows.now copies.grammar) }
+    ensures host { IfOk result (λ copies. copies.host ≡ file.now.base.now.host) }
+    ensures extensions { IfOk result (λ copies. copies.extensions ≡ file.now.extensions.now) }
+    ensures signatures { IfOk result (λ copies. copies.signatures ≡ map (signature_of file.now.extensions.now) rows.now.written.productions.items) }
+{
+    let host = file.base.host.copy()?;
+    let extensions = names_of(alloc, file.extensions)?;
+    let signatures = signatures_of(alloc, file.extensions, &rows.written.productions)?;
+    Ok(Copies {
+        grammar: grammar_for(alloc, rows)?,
+        host,
+        extensions,
+        signatures,
+    })
+}
+
+// The same names.
+fn names_of(alloc: Global, names: &[Bytes]) -> Result<Sequence<Bytes>, AllocError>
+    ensures { IfOk result (λ made. made ≡ names.now) }
+{
+    let mut made = Vec::new(alloc);
+    'names: for name in names {
+        push(&mut made, name.copy()?)?;
+    }
+    Ok(Sequence::from_vec(made))
+}
+
+// The grammar, where there is a start.
+fn grammar_for(alloc: Global, rows: &Rows) -> Result<Option<Grammar>, AllocError>
+    requires { IfSome rows.now.written.rest.start (HasGrammar rows.now) }
+    ensures { IfOk result (IsGrammarFor rows.now) }
+{
+    match rows.written.rest.start {
+        None => Ok(None),
+        Some(start) => Ok(Some(grammar_of(
+            alloc,
+            rows.scanned,
+            rows.of_grammar,
+            start,
+            &rows.written.productions[..rows.written.concrete],
+        )?)),
+    }
+}
+
+// The value of the rows.
+fn value(alloc: Global, rows: Rows, copies: Copies) -> Result<ResolvedParts, AllocError>
+    requires { IsAttribution (made_attribution rows copies.extensions copies.signatures) }
+    ensures { IfOk result (λ r. r ≡ made_value rows copies.host copies.extensions copies.signatures copies.grammar) }
+{
+    let written = rows.written;
+    let rest = written.rest;
+    let plains = rest.plains;
+    let attributes = Attribution::new(
+        alloc,
+        AttributionParts {
+            extensions: copies.extensions,
+            nonterminals: Sequence::from_vec(rows.nonterminals),
+            attributes: Sequence::from_vec(plains.attributes),
+            occurrences: Sequence::from_vec(plains.occurrences),
+            productions: Sequence::from_vec(written.productions),
+            signatures: copies.signatures,
+        },
+    )?;
+    Ok(ResolvedParts {
+        host: copies.host,
+        grammar: copies.grammar,
+        terminals: Sequence::from_vec(rows.terminals),
+        preferences: Sequence::from_vec(plains.preferences),
+        extensible: Sequence::from_vec(rest.extensible),
+        attributes,
+    })
+}

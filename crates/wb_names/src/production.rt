@@ -1,0 +1,215 @@
+//! Which row has one production of a base or of a file?
+//!
+//! Its children and its locals give it labels, and then all that the file writes on it is numbered. Which items write on it is in
+//! `writers`.
+
+ghost use Rattle.std.specs.Prelude.{◌≡◌, [], All, Contains, IfOk, OnOk, option_to_list};
+ghost use Rattle.std.specs.List.{AllZip};
+ghost use Rattle.wb_naming.specs.Declarations.{productions};
+ghost use Rattle.wb_numbering.specs.Files.{equations_on};
+ghost use Rattle.wb_numbering.specs.Numbering.{Numbering};
+ghost use Rattle.wb_numbering.specs.Rows.{production_role};
+ghost use Rattle.wb_rows.specs.Moves.{IsChildNow, IsForwardNow, NodeIsWithin};
+ghost use Rattle.wb_rows.specs.Scope.{IsFoundChild};
+ghost use Rattle.wb_names.specs.Inner.Bodies.{IsContext, IsDeclaredBody, IsExtendedBody, IsWritten, KnowsLabels, file_of, labels_with};
+ghost use Rattle.wb_names.specs.Inner.Now.{IsDeclaredNow, IsExtendedNow};
+
+use crate::lent::Lent;
+use crate::writers::Writers;
+use std::alloc::{AllocError, Global};
+use wb_base::Sequence;
+use wb_resolved::{Child, Forward, Production, ProductionRole};
+use wb_rows::body::{Body, add_all, labels_of};
+use wb_rows::child::written_children;
+use wb_rows::moves::{Moves, moved_children, moved_equations, moved_forward, moved_locals};
+use wb_rows::scope::{Scope, number_of};
+
+// A file with what its names stand for, and with the items that write on each production.
+#[derive(Clone, Copy)]
+pub(crate) struct Context<'a> {
+    pub(crate) file: Lent<'a>,
+    pub(crate) scope: &'a Scope,
+    pub(crate) moves: &'a Moves,
+    pub(crate) writers: &'a Writers,
+}
+
+// The row of a base's production. The only error is want of memory.
+pub(crate) fn extended(
+    alloc: Global,
+    context: &Context,
+    production: &Production,
+) -> Result<Production, AllocError>
+    requires context { IsContext context.now }
+    requires there { Contains context.now.file.base.now.attributes.productions production.now }
+    ensures { IfOk result (IsExtendedNow (file_of context.now) context.now.scope.now context.now.moves.now production.now) }
+{
+    let children = moved_children(alloc, context.moves, production.children.as_slice())?;
+    extended_row(alloc, context, production, children)
+}
+
+// The row with these children.
+fn extended_row(
+    alloc: Global,
+    context: &Context,
+    production: &Production,
+    children: Sequence<Child>,
+) -> Result<Production, AllocError>
+    requires context { IsContext context.now }
+    requires there { Contains context.now.file.base.now.attributes.productions production.now }
+    requires children { AllZip (IsChildNow context.now.moves.now) production.now.children children }
+    ensures { IfOk result (IsExtendedNow (file_of context.now) context.now.scope.now context.now.moves.now production.now) }
+{
+    let body = extended_body(alloc, context, production, children.as_slice())?;
+    let name = production.name.copy()?;
+    let forward = moved_forwards(alloc, context.moves, &production.forward)?;
+    Ok(Production {
+        name,
+        owner: production.owner,
+        role: production.role,
+        left: context.moves.nonterminals[production.left],
+        children,
+        locals: Sequence::from_vec(body.locals),
+        forward,
+        equations: Sequence::from_vec(body.equations),
+    })
+}
+
+// What a production forwards to, where it does.
+fn moved_forwards(
+    alloc: Global,
+    moves: &Moves,
+    forward: &Option<Forward>,
+) -> Result<Option<Forward>, AllocError>
+    requires { All (λ f. All (NodeIsWithin moves.now) f.nodes) (option_to_list forward.now) }
+    ensures { IfOk result (λ made. AllZip (IsForwardNow moves.now) (option_to_list forward.now) (option_to_list made)) }
+{
+    match forward {
+        Some(forward) => Ok(Some(moved_forward(alloc, moves, forward)?)),
+        None => Ok(None),
+    }
+}
+
+// What a base's production has, and what the file writes on it.
+fn extended_body(
+    alloc: Global,
+    context: &Context,
+    production: &Production,
+    children: &[Child],
+) -> Result<Body, AllocError>
+    requires context { IsContext context.now }
+    requires there { Contains context.now.file.base.now.attributes.productions production.now }
+    requires children { AllZip (IsChildNow context.now.moves.now) production.now.children children.now }
+    ensures { IfOk result (IsExtendedBody (file_of context.now) context.now.scope.now context.now.moves.now production.now children.now) }
+{
+    let locals = moved_locals(alloc, context.moves, production.locals.as_slice())?;
+    let equations = moved_equations(alloc, context.moves, production.equations.as_slice())?;
+    let mut body = Body {
+        locals,
+        forwards: Vec::new(alloc),
+        equations,
+    };
+    add_written(
+        alloc,
+        context,
+        production.name.as_slice(),
+        children,
+        &mut body,
+    )?;
+    Ok(body)
+}
+
+// Adds what the file writes on the production of this name, which has these children.
+fn add_written(
+    alloc: Global,
+    context: &Context,
+    name: &[u8],
+    children: &[Child],
+    body: &mut Body,
+) -> Result<(), AllocError>
+    requires context { IsContext context.now }
+    requires labels { KnowsLabels (file_of context.now) name.now (labels_with children.now body.old.locals.items (equations_on name.now context.now.file.items.now)) }
+    ensures { OnOk result (IsWritten context.now.scope.now children.now (equations_on name.now context.now.file.items.now) body.old body.new) }
+{
+    let items = context.file.items;
+    let places = context.writers.places_of(name);
+    let labels = labels_of(alloc, children, &body.locals, items, places)?;
+    add_all(alloc, context.scope, &labels, items, places, body)
+}
+
+// The row of a production that the file declares. The only error is want of memory.
+pub(crate) fn declared(
+    alloc: Global,
+    context: &Context,
+    role: wb_syntax::ProductionRole,
+    production: &wb_syntax::Production,
+) -> Result<Production, AllocError>
+    requires context { IsContext context.now }
+    requires there { Contains (productions context.now.file.items.now) (record { role = role; production = production.now }) }
+    ensures { IfOk result (IsDeclaredNow (file_of context.now) context.now.scope.now context.now.moves.now (record { role = role; production = production.now })) }
+{
+    let children = written_children(alloc, context.scope, production.children.as_slice())?;
+    declared_row(alloc, context, role, production, children)
+}
+
+// The row with these children.
+fn declared_row(
+    alloc: Global,
+    context: &Context,
+    role: wb_syntax::ProductionRole,
+    production: &wb_syntax::Production,
+    children: Sequence<Child>,
+) -> Result<Production, AllocError>
+    requires context { IsContext context.now }
+    requires there { Contains (productions context.now.file.items.now) (record { role = role; production = production.now }) }
+    requires children { (n : Numbering) → AllZip (IsFoundChild context.now.scope.now n) production.now.children children }
+    ensures { IfOk result (IsDeclaredNow (file_of context.now) context.now.scope.now context.now.moves.now (record { role = role; production = production.now })) }
+{
+    let name = production.name.copy()?;
+    let mut body = declared_body(
+        alloc,
+        context,
+        production.name.as_slice(),
+        children.as_slice(),
+    )?;
+    let forward = body.forwards.pop();
+    Ok(Production {
+        name,
+        owner: context.file.owner,
+        role: numbered_role(role),
+        left: number_of(&context.scope.nonterminals, production.left.as_slice()),
+        children,
+        locals: Sequence::from_vec(body.locals),
+        forward,
+        equations: Sequence::from_vec(body.equations),
+    })
+}
+
+// What the file writes on the production of its own of this name.
+fn declared_body(
+    alloc: Global,
+    context: &Context,
+    name: &[u8],
+    children: &[Child],
+) -> Result<Body, AllocError>
+    requires context { IsContext context.now }
+    requires labels { KnowsLabels (file_of context.now) name.now (labels_with children.now [] (equations_on name.now context.now.file.items.now)) }
+    ensures { IfOk result (IsDeclaredBody (file_of context.now) context.now.scope.now name.now children.now) }
+{
+    let mut body = Body {
+        locals: Vec::new(alloc),
+        forwards: Vec::new(alloc),
+        equations: Vec::new(alloc),
+    };
+    add_written(alloc, context, name, children, &mut body)?;
+    Ok(body)
+}
+
+// What a production of this role is for.
+fn numbered_role(role: wb_syntax::ProductionRole) -> ProductionRole
+    ensures { result ≡ production_role role }
+{
+    match role {
+        wb_syntax::ProductionRole::Concrete => ProductionRole::Concrete,
+        wb_syntax::ProductionRole::Abstract => ProductionRole::Abstract,
+    }
+}

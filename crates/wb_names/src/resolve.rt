@@ -1,0 +1,127 @@
+//! Which numbered value does a specification stand for, or why does it stand for none?
+//!
+//! The first line is tested here, names in `wb_name_rules`; then everything has a number.
+
+ghost use Rattle.std.specs.Prelude.{◌≡◌, [], IfErr, IfOk};
+ghost use Rattle.wb_naming.specs.NamesOk.{NamesOk};
+ghost use Rattle.wb_naming.specs.Refusals.{IsTrueRefusal};
+ghost use Rattle.wb_numbering.specs.Given.{IsFile};
+ghost use Rattle.wb_numbering.specs.Resolves.{Resolves};
+ghost use Rattle.wb_names.specs.Resolving.{IsExtensionNameRefusal, IsHostNameRefusal, ResolvesExtension, ResolvesHost, file_scope};
+ghost use Rattle.wb_names.specs.Inner.Lent.{lent_file};
+ghost use Rattle.wb_names.specs.Inner.Rest.{BeginsAlone};
+ghost use Rattle.wb_names.specs.Inner.Wrong.{IsWrongHost, IsWrongSort};
+
+use crate::empty::nothing_before;
+use crate::lent::Lent;
+use crate::numbered::numbered;
+use std::alloc::Global;
+use wb_base::Bytes;
+use wb_name_rules::check_names;
+use wb_naming::NameRefusal;
+use wb_resolved::Resolved;
+use wb_syntax::{Header, Spec};
+
+/// The numbered value of a host, or the first name rule that fails.
+///
+/// A file that is no host is refused for that, with its own name. The time is about linear in the specification; no clause bounds it.
+pub fn resolve_host(alloc: Global, spec: &Spec) -> Result<Resolved, NameRefusal>
+    ensures ok { IfOk result (ResolvesHost spec.now) }
+    ensures refused { IfErr result (IsHostNameRefusal spec.now) }
+{
+    match spec.header() {
+        Header::Host => {
+            let base = nothing_before(alloc, spec.name())?;
+            resolve_in(
+                alloc,
+                &Lent {
+                    base: &base,
+                    owner: 0,
+                    extensions: &[],
+                    items: spec.items(),
+                },
+            )
+        }
+        Header::Extension { .. } => Err(wrong_kind(alloc, spec.name())),
+    }
+}
+
+/// The numbered value of a host with an extension, or the first name rule that fails.
+///
+/// The numbers of the host are moved, where those of the extension come before them in a group; the extension is owner 1. A file that is no
+/// extension is refused for that, with its own name, and one for another host with the other's name. The time is about linear in both.
+pub fn resolve_extension(
+    alloc: Global,
+    host: &Resolved,
+    spec: &Spec,
+) -> Result<Resolved, NameRefusal>
+    requires { host.now.attributes.extensions ≡ [] }
+    ensures ok { IfOk result (ResolvesExtension host.now spec.now) }
+    ensures refused { IfErr result (IsExtensionNameRefusal host.now spec.now) }
+{
+    match spec.header() {
+        Header::Host => Err(wrong_kind(alloc, spec.name())),
+        Header::Extension { host: other } => extension_of(alloc, host, spec, other),
+    }
+}
+
+// The same where the extension is for this host.
+fn extension_of(
+    alloc: Global,
+    host: &Resolved,
+    spec: &Spec,
+    other: &Bytes,
+) -> Result<Resolved, NameRefusal>
+    requires alone { host.now.attributes.extensions ≡ [] }
+    requires header { spec.now.header ≡ Header.Extension other.now }
+    ensures ok { IfOk result (ResolvesExtension host.now spec.now) }
+    ensures refused { IfErr result (IsExtensionNameRefusal host.now spec.now) }
+{
+    let base = host.parts();
+    if other.as_slice() != base.host.as_slice() {
+        return Err(wrong_host(alloc, other.as_slice()));
+    }
+    let extensions = [Bytes::from_slice(alloc, spec.name())?];
+    resolve_in(
+        alloc,
+        &Lent {
+            base,
+            owner: 1,
+            extensions: &extensions,
+            items: spec.items(),
+        },
+    )
+}
+
+// The numbered value of a file.
+fn resolve_in(alloc: Global, file: &Lent) -> Result<Resolved, NameRefusal>
+    requires file { IsFile (lent_file file.now) }
+    requires alone { BeginsAlone (lent_file file.now) }
+    ensures names { IfOk result (λ made. NamesOk (file_scope (lent_file file.now))) }
+    ensures value { IfOk result (Resolves (lent_file file.now)) }
+    ensures refused { IfErr result (IsTrueRefusal (file_scope (lent_file file.now))) }
+{
+    check_names(alloc, file.base, file.owner, file.items)?;
+    let parts = numbered(alloc, file)?;
+    Ok(Resolved::new(alloc, parts)?)
+}
+
+// That a file is of the wrong sort, with its name.
+fn wrong_kind(alloc: Global, name: &[u8]) -> NameRefusal
+    ensures { IsWrongSort name.now result }
+{
+    match Bytes::from_slice(alloc, name) {
+        Ok(name) => NameRefusal::WrongKind(name),
+        Err(error) => NameRefusal::NoMemory(error),
+    }
+}
+
+// That an extension is for another host, which has this name.
+fn wrong_host(alloc: Global, name: &[u8]) -> NameRefusal
+    ensures { IsWrongHost name.now result }
+{
+    match Bytes::from_slice(alloc, name) {
+        Ok(name) => NameRefusal::WrongHost(name),
+        Err(error) => NameRefusal::NoMemory(error),
+    }
+}

@@ -1,0 +1,210 @@
+//! Which rows have attributes, occurrences and preferences, which nonterminals are extensible, and what is the start?
+//!
+//! A base's come first, in new numbers, and then what a file declares.
+
+ghost use Rattle.std.specs.Prelude.{◌≡◌, ◌≤◌, ◌<◌, All, Contains, IfOk, IfSome, OnOk, length, option_to_list};
+ghost use Rattle.std.specs.List.{AllZip};
+ghost use Rattle.wb_base.specs.Grammar.{GrammarView};
+ghost use Rattle.wb_resolved.specs.Resolved.{IsResolved};
+ghost use Rattle.wb_naming.specs.Declarations.{extensibles, starts};
+ghost use Rattle.wb_naming.specs.Hold.{NamesHold};
+ghost use Rattle.wb_numbering.specs.Given.{IsFile};
+ghost use Rattle.wb_numbering.specs.Resolves.{starts_of};
+ghost use Rattle.wb_numbering.specs.Sources.{sources};
+ghost use Rattle.wb_rows.specs.GrammarNames.{form_extensibles, form_starts};
+ghost use Rattle.wb_rows.specs.Moves.{IsNow};
+ghost use Rattle.wb_rows.specs.Nodes.{IsAt};
+ghost use Rattle.wb_rows.specs.Plains.{AddsEach};
+ghost use Rattle.wb_names.specs.Resolving.{file_scope};
+ghost use Rattle.wb_names.specs.Inner.Ground.{AreNumbers};
+ghost use Rattle.wb_names.specs.Inner.Lent.{lent_file};
+ghost use Rattle.wb_names.specs.Inner.Rest.{ArePlains, AreBasePlains, AreRest, BeginsAlone, HasTables, IsNumberNow};
+
+use crate::lent::Lent;
+use std::alloc::{AllocError, Global};
+use wb_base::push;
+use wb_resolved::ResolvedParts;
+use wb_rows::base::{add_attributes, add_occurrences, add_preferences};
+use wb_rows::moves::Moves;
+use wb_rows::plains::{Plains, add_plains};
+use wb_rows::scope::{Scope, number_of};
+use wb_syntax::{Item, ItemForm, Pattern, PlainForm};
+
+// Rows of attributes, occurrences and preferences, numbers of extensible nonterminals, and that of the start.
+#[derive(Drop)]
+pub(crate) struct Rest {
+    pub(crate) plains: Plains,
+    pub(crate) extensible: Vec<usize>,
+    pub(crate) start: Option<usize>,
+}
+
+// Those of a base and a file. The only error is want of memory.
+pub(crate) fn rest_of(
+    alloc: Global,
+    file: &Lent,
+    scope: &Scope,
+    moves: &Moves,
+) -> Result<Rest, AllocError>
+    requires file { IsFile (lent_file file.now) }
+    requires hold { NamesHold (file_scope (lent_file file.now)) }
+    requires numbers { AreNumbers (lent_file file.now) scope.now moves.now }
+    requires alone { BeginsAlone (lent_file file.now) }
+    ensures { IfOk result (AreRest (lent_file file.now) scope.now moves.now) }
+{
+    let extensible = extensible_of(alloc, file, scope, moves)?;
+    let plains = plains_of(alloc, file, scope, moves)?;
+    Ok(Rest {
+        plains,
+        extensible,
+        start: start_of(file, scope, moves),
+    })
+}
+
+// The rows of attributes, occurrences and preferences.
+fn plains_of(alloc: Global, file: &Lent, scope: &Scope, moves: &Moves) -> Result<Plains, AllocError>
+    requires file { IsFile (lent_file file.now) }
+    requires hold { NamesHold (file_scope (lent_file file.now)) }
+    requires numbers { AreNumbers (lent_file file.now) scope.now moves.now }
+    ensures { IfOk result (ArePlains (lent_file file.now) scope.now moves.now) }
+{
+    let mut made = base_plains(alloc, file.base, moves)?;
+    add_plains(alloc, scope, file.items, &mut made)?;
+    Ok(made)
+}
+
+// Those of a base.
+fn base_plains(alloc: Global, base: &ResolvedParts, moves: &Moves) -> Result<Plains, AllocError>
+    requires base { IsResolved base.now }
+    requires tables { HasTables base.now moves.now }
+    ensures { IfOk result (AreBasePlains base.now moves.now) }
+{
+    let mut made = Plains {
+        attributes: Vec::new(alloc),
+        occurrences: Vec::new(alloc),
+        preferences: Vec::new(alloc),
+    };
+    let parts = base.attributes.parts();
+    add_attributes(moves, parts.attributes.as_slice(), &mut made.attributes)?;
+    add_occurrences(
+        alloc,
+        moves,
+        parts.occurrences.as_slice(),
+        &mut made.occurrences,
+    )?;
+    add_preferences(moves, base.preferences.as_slice(), &mut made.preferences)?;
+    Ok(made)
+}
+
+// The numbers of extensible nonterminals.
+fn extensible_of(
+    alloc: Global,
+    file: &Lent,
+    scope: &Scope,
+    moves: &Moves,
+) -> Result<Vec<usize>, AllocError>
+    requires file { IsFile (lent_file file.now) }
+    requires hold { NamesHold (file_scope (lent_file file.now)) }
+    requires numbers { AreNumbers (lent_file file.now) scope.now moves.now }
+    ensures { IfOk result (λ made. AllZip (IsNumberNow scope.now moves.now) (sources file.now.base.now.extensible (extensibles file.now.items.now)) made.items) }
+{
+    let mut made = Vec::new(alloc);
+    add_moved(moves, file.base.extensible.as_slice(), &mut made)?;
+    add_extensible(scope, file.items, &mut made)?;
+    Ok(made)
+}
+
+// Adds these nonterminals of a base.
+fn add_moved(moves: &Moves, numbers: &[usize], made: &mut Vec<usize>) -> Result<(), AllocError>
+    requires { All (λ number. number < length moves.now.nonterminals.items) numbers.now }
+    ensures { OnOk result (AddsEach (IsNow moves.now.nonterminals.items) numbers.now made.old.items made.new.items) }
+{
+    'numbers: for number in numbers {
+        push(made, moved_number(moves, *number))?;
+    }
+    Ok(())
+}
+
+// The new number of a base's nonterminal.
+fn moved_number(moves: &Moves, number: usize) -> usize
+    requires { number < length moves.now.nonterminals.items }
+    ensures { IsNow moves.now.nonterminals.items number result }
+{
+    moves.nonterminals[number]
+}
+
+// Adds the nonterminals that items make extensible.
+fn add_extensible(
+    scope: &Scope,
+    items: &[Item<Pattern>],
+    made: &mut Vec<usize>,
+) -> Result<(), AllocError>
+    requires { All (Contains scope.now.nonterminals) (extensibles items.now) }
+    ensures { OnOk result (AddsEach (IsAt scope.now.nonterminals) (extensibles items.now) made.old.items made.new.items) }
+{
+    'items: for item in items {
+        add_form(scope, &item.form, made)?;
+    }
+    Ok(())
+}
+
+// Adds the nonterminal that an item makes extensible.
+fn add_form(
+    scope: &Scope,
+    form: &ItemForm<Pattern>,
+    made: &mut Vec<usize>,
+) -> Result<(), AllocError>
+    requires { All (Contains scope.now.nonterminals) (form_extensibles form.now) }
+    ensures { OnOk result (AddsEach (IsAt scope.now.nonterminals) (form_extensibles form.now) made.old.items made.new.items) }
+{
+    match form {
+        ItemForm::Plain(plain) => match plain {
+            PlainForm::Extensible(name) => {
+                push(made, number_of(&scope.nonterminals, name.as_slice()))
+            }
+            _ => Ok(()),
+        },
+        _ => Ok(()),
+    }
+}
+
+// The number of the start, where there is one.
+fn start_of(file: &Lent, scope: &Scope, moves: &Moves) -> Option<usize>
+    requires file { IsFile (lent_file file.now) }
+    requires hold { NamesHold (file_scope (lent_file file.now)) }
+    requires numbers { AreNumbers (lent_file file.now) scope.now moves.now }
+    requires alone { BeginsAlone (lent_file file.now) }
+    ensures { AllZip (IsNumberNow scope.now moves.now) (sources (starts_of file.now.base.now) (starts file.now.items.now)) (option_to_list result) }
+{
+    match &file.base.grammar {
+        Some(grammar) => Some(moved_number(moves, grammar.start())),
+        None => written_start(scope, file.items),
+    }
+}
+
+// The number of the start that items declare, where they declare one.
+fn written_start(scope: &Scope, items: &[Item<Pattern>]) -> Option<usize>
+    requires there { All (Contains scope.now.nonterminals) (starts items.now) }
+    requires few { length (starts items.now) ≤ 1 }
+    ensures { AllZip (IsAt scope.now.nonterminals) (starts items.now) (option_to_list result) }
+{
+    'items: for item in items {
+        if let Some(number) = form_start(scope, &item.form) {
+            return Some(number);
+        }
+    }
+    None
+}
+
+// The number of the start that an item declares.
+fn form_start(scope: &Scope, form: &ItemForm<Pattern>) -> Option<usize>
+    requires { All (Contains scope.now.nonterminals) (form_starts form.now) }
+    ensures { AllZip (IsAt scope.now.nonterminals) (form_starts form.now) (option_to_list result) }
+{
+    match form {
+        ItemForm::Plain(plain) => match plain {
+            PlainForm::Start(name) => Some(number_of(&scope.nonterminals, name.as_slice())),
+            _ => None,
+        },
+        _ => None,
+    }
+}

@@ -1,0 +1,14 @@
+use Rattle.std.proofs.Common.{List, sym, subst, take, ◌+◌}
+use Rattle.wb_resolved.specs.declared.attributes.Attribute.{Attribute}
+use Rattle.wb_rows.specs.Base.{IsAttributeNow}
+use Rattle.wb_rows.specs.Plains.{AddsEach}
+use Rattle.wb_rows.proofs.PlainLemmas.{each_more}
+use Rattle.wb_rows.proofs.base.add_attributes.Goals as goal
+
+pub loop-attribute-preserved : goal.loop-attribute-preserved
+loop-attribute-preserved c =
+    let now = IsAttributeNow c.args.moves.now in
+    subst (λ (z : List Attribute). AddsEach now (take (c.loop-attribute.attribute-index + 1) c.args.attributes.now) c.args.made.now.items z)
+    (sym c.in_ok-push.ensures.ok)
+    (each_more now c.args.attributes.now c.loop-attribute.attribute-index c.attribute-item.result c.in_ok-moved.moved c.args.made.now.items
+    c.loop-attribute.made.items c.loop-attribute.invariant c.loop-attribute-test.true c.attribute-item.is c.in_ok-moved.ensures)

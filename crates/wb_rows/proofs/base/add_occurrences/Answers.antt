@@ -1,0 +1,16 @@
+use Rattle.std.proofs.Common.{List, sym, subst, take, ◌+◌}
+use Rattle.wb_resolved.specs.declared.attributes.Occurrence.{Occurrence}
+use Rattle.wb_rows.specs.Base.{IsOccurrenceNow}
+use Rattle.wb_rows.specs.Plains.{AddsEach}
+use Rattle.wb_rows.proofs.PlainLemmas.{each_more}
+use Rattle.wb_rows.proofs.base.add_occurrences.Goals as goal
+
+pub loop-occurrence-preserved : goal.loop-occurrence-preserved
+loop-occurrence-preserved c =
+    let now = IsOccurrenceNow c.args.moves.now in
+    subst (λ (z : List Occurrence). AddsEach now (take (c.loop-occurrence.occurrence-index + 1) c.args.occurrences.now)
+    c.args.made.now.items z)
+    (sym c.in_ok-push.ensures.ok)
+    (each_more now c.args.occurrences.now c.loop-occurrence.occurrence-index c.occurrence-item.result c.in_ok-moved.moved
+    c.args.made.now.items
+    c.loop-occurrence.made.items c.loop-occurrence.invariant c.loop-occurrence-test.true c.occurrence-item.is c.in_ok-moved.ensures)

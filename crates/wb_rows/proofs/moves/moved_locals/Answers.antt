@@ -1,0 +1,11 @@
+use Rattle.std.proofs.Common.{sym, subst, take, ◌+◌}
+use Rattle.std.specs.List.{AllZip}
+use Rattle.wb_rows.specs.Moves.{IsLocalNow}
+use Rattle.wb_rows.proofs.ZipLemmas.{zip_more}
+use Rattle.wb_rows.proofs.moves.moved_locals.Goals as goal
+
+pub loop-local-preserved : goal.loop-local-preserved
+loop-local-preserved c =
+    subst (AllZip (IsLocalNow c.args.moves.now) (take (c.loop-local.local-index + 1) c.args.locals.now)) (sym c.in_ok-push.ensures.ok)
+    (zip_more (IsLocalNow c.args.moves.now) c.args.locals.now c.loop-local.made.items c.loop-local.local-index c.local-item.result
+    c.in_ok-found.found c.loop-local.invariant c.loop-local-test.true c.local-item.is c.in_ok-found.ensures)

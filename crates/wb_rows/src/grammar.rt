@@ -1,0 +1,58 @@
+//! Which grammar have the concrete productions of a file and its base?
+//!
+//! Their symbols are the numbers that they have, since terminals and nonterminals of the grammar come first.
+
+ghost use Rattle.std.specs.Prelude.{◌≡◌, ◌<◌, All, IfOk, IsSome};
+ghost use Rattle.wb_resolved.specs.Grammar.{symbol_of as symbol};
+ghost use Rattle.wb_rows.specs.Grammars as spec;
+
+use std::alloc::{AllocError, Global};
+use wb_base::{Grammar, Kind, Symbol, push};
+use wb_resolved::{Child, ChildKind, Production};
+
+/// The grammar of concrete productions, of so many terminals and nonterminals and with this start. The only error is want of memory.
+pub fn grammar_of(
+    alloc: Global,
+    terminals: usize,
+    nonterminals: usize,
+    start: usize,
+    productions: &[Production],
+) -> Result<Grammar, AllocError>
+    requires start { start < nonterminals }
+    requires productions { All (spec.IsGrammarLike terminals nonterminals) productions.now }
+    ensures { IfOk result (spec.IsMadeOf terminals nonterminals start productions.now) }
+{
+    let mut grammar = Grammar::new(alloc, terminals, nonterminals, start);
+    'productions: for production in productions {
+        let symbols = symbols_of(alloc, production.children.as_slice())?;
+        grammar.add(production.left, &symbols)?;
+    }
+    Ok(grammar)
+}
+
+// The symbols of children, all of which are of the grammar.
+fn symbols_of(alloc: Global, children: &[Child]) -> Result<Vec<Symbol>, AllocError>
+    requires { All (λ c. IsSome (symbol c.kind)) children.now }
+    ensures { IfOk result (λ symbols. spec.AreSymbolsOf children.now symbols.items) }
+{
+    let mut symbols = Vec::new(alloc);
+    'children: for child in children {
+        if let Some(symbol) = symbol_of(child.kind) {
+            push(&mut symbols, symbol)?;
+        }
+    }
+    Ok(symbols)
+}
+
+// The symbol that a child of a concrete production is.
+fn symbol_of(kind: ChildKind) -> Option<Symbol>
+    ensures { result ≡ symbol kind }
+{
+    match kind {
+        ChildKind::Terminal(number) => Some(Symbol::Terminal(number)),
+        ChildKind::Value(is) => match is {
+            Kind::Tree(number) => Some(Symbol::Nonterminal(number)),
+            _ => None,
+        },
+    }
+}
