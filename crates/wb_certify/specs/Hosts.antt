@@ -4,8 +4,10 @@ use Rattle.wb_attributes.specs.Modular.{AreWellDefinedAttributes}
 use Rattle.wb_base.specs.Grammar.{GrammarView}
 use Rattle.wb_determinism.specs.Hosts.{IsDeterministicHost, AreHostParts}
 use Rattle.wb_determinism.specs.declared.parts.HostParts.{HostParts}
+use Rattle.wb_names.specs.Resolving.{ResolvesHost}
 use Rattle.wb_operations.specs.Operations.{OperationSignature}
 use Rattle.wb_resolved.specs.declared.resolved.ResolvedParts.{ResolvedParts}
+use Rattle.wb_syntax.specs.SpecText.{SpecView}
 use Rattle.wb_types.specs.Rules.{KindsOk}
 
 -- over operations of these signatures a resolved host is certified: it is a host alone, each expression is of its kind, there is a start,
@@ -28,3 +30,10 @@ pub record CertifiedView : Type 0 where
 pub record IsCertified (h : CertifiedView) : Type 0 where
   pub certified : IsCertifiedValue h.resolved h.operations
   pub parts : (g : GrammarView) → h.resolved.grammar ≡ Some g → AreHostParts h.resolved g h.parts
+
+-- the specification is a certified host over operations of these signatures: its names are right, and the value that it stands for is
+-- certified
+pub record IsCertifiedHost (spec : SpecView) (operations : List OperationSignature) : Type 0 where
+  pub resolved : ResolvedParts
+  pub names : ResolvesHost spec resolved
+  pub certified : IsCertifiedValue resolved operations

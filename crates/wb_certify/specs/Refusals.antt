@@ -11,8 +11,12 @@ use Rattle.wb_flow.specs.Refusals.{IsTrueFlowRefusal}
 use Rattle.wb_flow.specs.declared.refusal.AttributeRefusal.{AttributeRefusal}
 use Rattle.wb_flow.specs.declared.refusal.AttributeRefusal.TheVariants as a
 use Rattle.wb_graph.specs.Orders.{IsSimpleCycle}
+use Rattle.wb_names.specs.Resolving.{ResolvesHost, IsHostNameRefusal}
+use Rattle.wb_naming.specs.declared.refusal.NameRefusal.{NameRefusal}
+use Rattle.wb_naming.specs.declared.refusal.NameRefusal.TheVariants as n
 use Rattle.wb_operations.specs.Operations.{OperationSignature}
 use Rattle.wb_resolved.specs.declared.resolved.ResolvedParts.{ResolvedParts}
+use Rattle.wb_syntax.specs.SpecText.{SpecView}
 use Rattle.wb_types.specs.Refusals.{IsTrueRefusal}
 use Rattle.wb_types.specs.Rules.{KindsOk}
 use Rattle.wb_types.specs.declared.refusal.TypeRefusal.{TypeRefusal}
@@ -80,3 +84,21 @@ IsValueRefusal r operations c.NoStart = HasNoStart r operations
 IsValueRefusal r operations (c.Determinism refusal) = IsNotDeterministic r operations refusal × ¬ IsNoMemory refusal
 IsValueRefusal r operations (c.Attributes refusal) = AreNotWellDefined r operations refusal × ¬ IsAttributeMemory refusal
 IsValueRefusal r operations (c.NoMemory error) = Unit {0}
+
+-- the specification's names are right, and the value that it stands for isn't certified for this reason
+pub record IsNotCertified (spec : SpecView) (operations : List OperationSignature) (refusal : CertifyRefusal) : Type 0 where
+  pub resolved : ResolvedParts
+  pub names : ResolvesHost spec resolved
+  pub reason : IsValueRefusal resolved operations refusal
+
+-- it is want of memory
+abbrev pub IsNameMemory : NameRefusal → Type 0
+IsNameMemory (n.NoMemory error) = Unit {0}
+IsNameMemory other = ⊥
+
+-- the refusal of a specification as a host is true: its names aren't right for this reason, or they are and the value that it stands for
+-- isn't certified
+abbrev pub IsHostCertifyRefusal : SpecView → List OperationSignature → CertifyRefusal → Type 0
+IsHostCertifyRefusal spec operations (c.Names refusal) = IsHostNameRefusal spec refusal × ¬ IsNameMemory refusal
+IsHostCertifyRefusal spec operations (c.NoMemory error) = Unit {0}
+IsHostCertifyRefusal spec operations other = IsNotCertified spec operations other

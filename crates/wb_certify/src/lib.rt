@@ -4,9 +4,11 @@
 #![tactic(auto)]
 
 mod certified;
+mod host;
 mod refusal;
 mod value;
 
 pub use certified::CertifiedHost;
+pub use host::certify_host;
 pub use refusal::CertifyRefusal;
 pub use value::certify_resolved;

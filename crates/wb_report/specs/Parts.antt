@@ -17,10 +17,11 @@ use Rattle.wb_report.specs.declared.shown.ShownVertex.TheVariants as v
 abbrev pub spaced : List (List ℕ) → List ℕ
 spaced names = flat_map (λ name. codes " " ++ name) names
 
--- an action: `shift`, or `reduce` with the production
+-- an action: `shift`, `reduce` with the production, or `accept`
 abbrev pub action_text : ShownAction → List ℕ
 action_text act.Shift = codes "shift"
 action_text (act.Reduce production) = codes "reduce " ++ production
+action_text act.Accept = codes "accept"
 
 -- the terminal of a conflict and its two actions
 abbrev pub conflict_text : ShownConflict → List ℕ

@@ -77,6 +77,7 @@ fn push_action(out: &mut Vec<u8>, action: &ShownAction) -> Result<(), AllocError
 {
     match action {
         ShownAction::Shift => out.extend_from_slice(b"shift"),
+        ShownAction::Accept => out.extend_from_slice(b"accept"),
         ShownAction::Reduce(production) => {
             out.extend_from_slice(b"reduce ")?;
             out.extend_from_slice(production.as_slice())

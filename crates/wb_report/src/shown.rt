@@ -9,6 +9,8 @@ pub enum ShownAction {
     Shift,
     /// To reduce by this production.
     Reduce(Bytes),
+    /// To accept the text.
+    Accept,
 }
 
 /// Two actions on one terminal.
