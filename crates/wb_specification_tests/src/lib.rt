@@ -1,10 +1,15 @@
-//! Tests of attributes and of reports: whether a host's attributes are well-defined, and the lines that report each outcome.
+//! Tests of names, attributes and reports: which name rule fails of a host or an extension, whether attributes are well-defined, and the
+//! lines that report each outcome.
 //!
 //! Tests of values, operations and kinds by number are in `wb_value_tests`. Nothing depends on this crate.
 #![tactic(auto)]
 
 #[cfg(test)]
 mod attributes;
+#[cfg(test)]
+mod extension_names;
+#[cfg(test)]
+mod names;
 #[cfg(test)]
 mod report_attributes;
 #[cfg(test)]
