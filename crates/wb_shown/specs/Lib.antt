@@ -1,0 +1,4 @@
+-- the names that reports show for numbers
+pub mod Names
+-- what a report shows for a refusal by number
+pub mod Shows

@@ -1,0 +1,207 @@
+//! Which rule of grammars and scanners does a report show, by names?
+
+ghost use Rattle.std.specs.Prelude.{◌≡◌, ◌++◌, ◌∷◌, [], IfOk, OnOk, map, Some, None};
+ghost use Rattle.wb_report.specs.declared.grammar_reason.GrammarReason.TheVariants as shown;
+ghost use Rattle.wb_shown.specs.Names as names;
+ghost use Rattle.wb_shown.specs.Shows as spec;
+
+use crate::holes::{lookahead_name, reduction_name, symbol_name};
+use crate::names::{nonterminal_name, terminal_name};
+use std::alloc::{AllocError, Global};
+use wb_base::{Bytes, Sequence, Symbol, push};
+use wb_determinism::DeterminismRefusal;
+use wb_grammar::Reason;
+use wb_lookahead::Action;
+use wb_report::{GrammarReason, ShownAction, ShownConflict};
+use wb_resolved::Resolved;
+
+// A rule of grammars and scanners; none for the rules on what extensions add, and for want of memory.
+pub(crate) fn grammar_rule(
+    alloc: Global,
+    resolved: &Resolved,
+    refusal: &DeterminismRefusal,
+) -> Result<Option<GrammarReason>, AllocError>
+    ensures { IfOk result (λ shown. shown ≡ spec.grammar_reason resolved.now refusal.now) }
+{
+    match refusal {
+        DeterminismRefusal::PreferenceCycle(terminals) => {
+            let names = terminal_names(alloc, resolved, terminals.as_slice())?;
+            Ok(Some(GrammarReason::PreferenceCycle(names)))
+        }
+        DeterminismRefusal::NotReduced(reason) => {
+            Ok(Some(reduced_rule(alloc, resolved, reason)?))
+        }
+        DeterminismRefusal::UnitCycle(cycle) => {
+            let names = nonterminal_names(alloc, resolved, cycle.as_slice())?;
+            Ok(Some(GrammarReason::UnitCycle(names)))
+        }
+        DeterminismRefusal::HiddenLeftRecursion(cycle) => {
+            let names = nonterminal_names(alloc, resolved, cycle.as_slice())?;
+            Ok(Some(GrammarReason::HiddenLeftRecursion(names)))
+        }
+        DeterminismRefusal::Conflict {
+            prefix,
+            terminal,
+            first,
+            second,
+        } => {
+            let conflict = conflict_of(alloc, resolved, *terminal, *first, *second)?;
+            Ok(Some(conflict_after(alloc, resolved, prefix, conflict)?))
+        }
+        DeterminismRefusal::Clash {
+            prefix,
+            left,
+            right,
+            text,
+        } => {
+            let pair = Pair {
+                left: *left,
+                right: *right,
+                text,
+            };
+            Ok(Some(clash_after(alloc, resolved, prefix, &pair)?))
+        }
+        _ => Ok(None),
+    }
+}
+
+// Why a grammar isn't reduced.
+fn reduced_rule(
+    alloc: Global,
+    resolved: &Resolved,
+    reason: &Reason,
+) -> Result<GrammarReason, AllocError>
+    ensures { IfOk result (λ shown. shown ≡ spec.reduced_reason resolved.now reason.now) }
+{
+    match reason {
+        Reason::Unreachable(number) => Ok(GrammarReason::Unreachable(nonterminal_name(
+            alloc, resolved, *number,
+        )?)),
+        Reason::Unproductive(number) => Ok(GrammarReason::Unproductive(nonterminal_name(
+            alloc, resolved, *number,
+        )?)),
+    }
+}
+
+// Two actions on a terminal.
+fn conflict_of(
+    alloc: Global,
+    resolved: &Resolved,
+    terminal: usize,
+    first: Action,
+    second: Action,
+) -> Result<ShownConflict, AllocError>
+    ensures { IfOk result (λ shown. shown ≡ record { terminal = names.lookahead_shown resolved.now terminal; first = spec.action_shown resolved.now first; second = spec.action_shown resolved.now second }) }
+{
+    let first = action_of(alloc, resolved, first)?;
+    let second = action_of(alloc, resolved, second)?;
+    let terminal = lookahead_name(alloc, resolved, terminal)?;
+    Ok(ShownConflict {
+        terminal,
+        first,
+        second,
+    })
+}
+
+// An action.
+fn action_of(alloc: Global, resolved: &Resolved, action: Action) -> Result<ShownAction, AllocError>
+    ensures { IfOk result (λ shown. shown ≡ spec.action_shown resolved.now action) }
+{
+    match action {
+        Action::Shift(_) => Ok(ShownAction::Shift),
+        Action::Reduce(number) => {
+            Ok(ShownAction::Reduce(reduction_name(alloc, resolved, number)?))
+        }
+        Action::Accept => Ok(ShownAction::Accept),
+        Action::None => Ok(ShownAction::Accept),
+    }
+}
+
+// The rule of conflicts, for this one after a prefix.
+fn conflict_after(
+    alloc: Global,
+    resolved: &Resolved,
+    prefix: &Sequence<Symbol>,
+    conflict: ShownConflict,
+) -> Result<GrammarReason, AllocError>
+    ensures { IfOk result (λ made. made ≡ shown.Conflict (map (names.symbol_shown resolved.now) prefix.now) conflict) }
+{
+    let prefix = symbol_names(alloc, resolved, prefix.as_slice())?;
+    Ok(GrammarReason::Conflict { prefix, conflict })
+}
+
+// Two terminals that match a text.
+#[derive(Clone, Copy)]
+struct Pair<'a> {
+    left: usize,
+    right: usize,
+    text: &'a Bytes,
+}
+
+// The rule of clashes, for this one after a prefix.
+fn clash_after(
+    alloc: Global,
+    resolved: &Resolved,
+    prefix: &Sequence<Symbol>,
+    pair: &Pair,
+) -> Result<GrammarReason, AllocError>
+    ensures { IfOk result (λ made. made ≡ shown.Clash (map (names.symbol_shown resolved.now) prefix.now) (names.terminal_shown resolved.now pair.now.left) (names.terminal_shown resolved.now pair.now.right) pair.now.text.now) }
+{
+    let prefix = symbol_names(alloc, resolved, prefix.as_slice())?;
+    let left = terminal_name(alloc, resolved, pair.left)?;
+    let right = terminal_name(alloc, resolved, pair.right)?;
+    Ok(GrammarReason::Clash {
+        prefix,
+        left,
+        right,
+        text: pair.text.copy()?,
+    })
+}
+
+// The names of terminals.
+fn terminal_names(
+    alloc: Global,
+    resolved: &Resolved,
+    numbers: &[usize],
+) -> Result<Sequence<Bytes>, AllocError>
+    ensures { IfOk result (λ shown. shown ≡ map (names.terminal_shown resolved.now) numbers.now) }
+{
+    let mut made = Vec::new(alloc);
+    'numbers: for &number in numbers {
+        let name = terminal_name(alloc, resolved, number)?;
+        push(&mut made, name)?;
+    }
+    Ok(Sequence::from_vec(made))
+}
+
+// The names of nonterminals.
+fn nonterminal_names(
+    alloc: Global,
+    resolved: &Resolved,
+    numbers: &[usize],
+) -> Result<Sequence<Bytes>, AllocError>
+    ensures { IfOk result (λ shown. shown ≡ map (names.nonterminal_shown resolved.now) numbers.now) }
+{
+    let mut made = Vec::new(alloc);
+    'numbers: for &number in numbers {
+        let name = nonterminal_name(alloc, resolved, number)?;
+        push(&mut made, name)?;
+    }
+    Ok(Sequence::from_vec(made))
+}
+
+// The names of symbols of the grammar with holes.
+fn symbol_names(
+    alloc: Global,
+    resolved: &Resolved,
+    symbols: &[Symbol],
+) -> Result<Sequence<Bytes>, AllocError>
+    ensures { IfOk result (λ shown. shown ≡ map (names.symbol_shown resolved.now) symbols.now) }
+{
+    let mut made = Vec::new(alloc);
+    'symbols: for &symbol in symbols {
+        let name = symbol_name(alloc, resolved, symbol)?;
+        push(&mut made, name)?;
+    }
+    Ok(Sequence::from_vec(made))
+}

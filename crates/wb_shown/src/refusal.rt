@@ -1,0 +1,65 @@
+//! Which rule of certification does a report show, by names?
+
+ghost use Rattle.std.specs.Prelude.{◌≡◌, IfOk};
+ghost use Rattle.wb_shown.specs.Shows as spec;
+
+use crate::attributes::attribute_rule;
+use crate::grammar::grammar_rule;
+use crate::specification::{name_rule, type_rule};
+use std::alloc::{AllocError, Global};
+use wb_certify::CertifyRefusal;
+use wb_report::{AttributeReason, GrammarReason, Refusal, SpecReason};
+use wb_resolved::Resolved;
+
+/// Why a resolved host isn't certified, by names; none for want of memory, and for rules on what extensions add. The only error is want
+/// of memory.
+pub fn shown_refusal(
+    alloc: Global,
+    resolved: &Resolved,
+    refusal: &CertifyRefusal,
+) -> Result<Option<Refusal>, AllocError>
+    ensures { IfOk result (λ shown. shown ≡ spec.refusal_shown resolved.now refusal.now) }
+{
+    match refusal {
+        CertifyRefusal::Names(refusal) => Ok(of_spec(name_rule(refusal)?)),
+        CertifyRefusal::Types(refusal) => Ok(of_spec(type_rule(refusal)?)),
+        CertifyRefusal::NoStart => Ok(Some(Refusal::Grammar(GrammarReason::NoStart))),
+        CertifyRefusal::Determinism(refusal) => {
+            Ok(of_grammar(grammar_rule(alloc, resolved, refusal)?))
+        }
+        CertifyRefusal::Attributes(refusal) => {
+            Ok(of_attributes(attribute_rule(alloc, resolved, refusal)?))
+        }
+        CertifyRefusal::NoMemory(_) => Ok(None),
+    }
+}
+
+/// A rule of what is written, of names or of kinds as a refusal.
+pub fn of_spec(reason: Option<SpecReason>) -> Option<Refusal>
+    ensures { result ≡ spec.of_spec reason }
+{
+    match reason {
+        Some(reason) => Some(Refusal::Specification(reason)),
+        None => None,
+    }
+}
+
+// A rule of grammars and scanners as a refusal.
+fn of_grammar(reason: Option<GrammarReason>) -> Option<Refusal>
+    ensures { result ≡ spec.of_grammar reason }
+{
+    match reason {
+        Some(reason) => Some(Refusal::Grammar(reason)),
+        None => None,
+    }
+}
+
+// A rule of attributes as a refusal.
+fn of_attributes(reason: Option<AttributeReason>) -> Option<Refusal>
+    ensures { result ≡ spec.of_attributes reason }
+{
+    match reason {
+        Some(reason) => Some(Refusal::Attributes(reason)),
+        None => None,
+    }
+}
