@@ -1,0 +1,35 @@
+-- A refusal of a value is one of the contents that stand for it.
+use Rattle.std.proofs.Common.{◌≡◌, inl, inr, List, ℕ, Some, sym, subst}
+use Rattle.wb_certify.specs.Refusals.{IsValueRefusal}
+use Rattle.wb_certify.specs.declared.refusal.CertifyRefusal.{CertifyRefusal}
+use Rattle.wb_certify.specs.declared.refusal.CertifyRefusal.TheVariants as c
+use Rattle.wb_operations.specs.Operations.{OperationSignature}
+use Rattle.wb_report.specs.declared.refusal.Refusal.{Refusal}
+use Rattle.wb_resolved.specs.declared.resolved.ResolvedParts.{ResolvedParts}
+use Rattle.wb_shown.specs.Shows.{refusal_shown}
+use Rattle.wb_hosts.specs.Contents.{StandsFor, IsOfKinds, IsRefusedValue, IsHostRefusal}
+use Rattle.wb_hosts.specs.declared.refusal.HostRefusal.{HostRefusal}
+use Rattle.wb_hosts.specs.declared.refusal.HostRefusal.TheVariants as h
+use Rattle.wb_hosts.specs.Inner.Refused.{IsSort}
+
+module _ (operations : List OperationSignature) (contents : List ℕ) (r : ResolvedParts) (stands : StandsFor contents r) (shown : Refusal)
+  where
+    refused : (Meets : CertifyRefusal → Type 0) (refusal : CertifyRefusal) → IsValueRefusal r operations refusal → Meets refusal
+        → refusal_shown r refusal ≡ Some shown → IsRefusedValue operations contents Meets shown
+    refused Meets refusal reason meets shows =
+        record { value = r; stands = stands; refusal = refusal; reason = reason; meets = meets; shows = shows }
+
+    certification : (refusal : CertifyRefusal) → IsValueRefusal r operations refusal → ¬ IsOfKinds refusal
+        → refusal_shown r refusal ≡ Some shown → (sort : HostRefusal) → sort ≡ h.Certification shown → IsHostRefusal operations contents sort
+    certification refusal reason other shows sort is =
+        subst (IsHostRefusal operations contents) (sym is) (refused (λ (z : CertifyRefusal). ¬ IsOfKinds z) refusal reason other shows)
+
+    pub value_refused : (refusal : CertifyRefusal) → IsValueRefusal r operations refusal → refusal_shown r refusal ≡ Some shown
+        → (sort : HostRefusal) → IsSort refusal shown sort → IsHostRefusal operations contents sort
+    value_refused (c.Types refusal) reason shows sort is =
+        subst (IsHostRefusal operations contents) (sym is) (inr (inr (refused IsOfKinds (c.Types refusal) reason tt shows)))
+    value_refused (c.Names refusal) reason shows sort is = absurd reason
+    value_refused c.NoStart reason shows sort is = certification c.NoStart reason (λ z. z) shows sort is
+    value_refused (c.Determinism refusal) reason shows sort is = certification (c.Determinism refusal) reason (λ z. z) shows sort is
+    value_refused (c.Attributes refusal) reason shows sort is = certification (c.Attributes refusal) reason (λ z. z) shows sort is
+    value_refused (c.NoMemory error) reason shows sort is = certification (c.NoMemory error) reason (λ z. z) shows sort is

@@ -1,0 +1,17 @@
+-- Refusals of a value by their sorts.
+use Rattle.std.specs.Prelude.{◌≡◌}
+use Rattle.wb_certify.specs.declared.refusal.CertifyRefusal.{CertifyRefusal}
+use Rattle.wb_certify.specs.declared.refusal.CertifyRefusal.TheVariants as c
+use Rattle.wb_report.specs.declared.refusal.Refusal.{Refusal}
+use Rattle.wb_hosts.specs.declared.refusal.HostRefusal.{HostRefusal}
+use Rattle.wb_hosts.specs.declared.refusal.HostRefusal.TheVariants as h
+
+-- it is want of memory
+abbrev pub IsCertifyMemory : CertifyRefusal → Type 0
+IsCertifyMemory (c.NoMemory error) = Unit {0}
+IsCertifyMemory other = ⊥
+
+-- what is shown, as the sort that the rule is of
+abbrev pub IsSort : CertifyRefusal → Refusal → HostRefusal → Type 0
+IsSort (c.Types refusal) shown sort = sort ≡ h.Specification shown
+IsSort other shown sort = sort ≡ h.Certification shown

@@ -1,0 +1,6 @@
+-- when contents are a certified host, and what a report shows where they aren't
+pub mod Contents
+-- that contents have one answer
+pub mod OneAnswer
+-- words of private functions
+pub mod Inner

@@ -1,0 +1,126 @@
+//! Which certified host are the contents of a file?
+//!
+//! They are read, names get their numbers, and the value that they stand for is certified; each refusal is handed on as a report shows it.
+
+ghost use Rattle.std.specs.Prelude.{◌≡◌, IfErr, IfOk, List, ℕ};
+ghost use Rattle.wb_certify.specs.Refusals.{IsNameMemory, IsValueRefusal};
+ghost use Rattle.wb_names.specs.Resolving.{IsHostNameRefusal};
+ghost use Rattle.wb_operations.specs.Operations.{OperationSignature};
+ghost use Rattle.wb_reader.specs.OneAnswer.{IsNoMemory};
+ghost use Rattle.wb_reader.specs.Refusals.{HasCause, IsAcceptedText};
+ghost use Rattle.wb_hosts.specs.Contents.{IsHostRefusal, IsHostText, StandsFor};
+ghost use Rattle.wb_hosts.specs.Inner.Refused.{IsCertifyMemory, IsSort};
+
+use crate::HostRefusal;
+use std::alloc::Global;
+use wb_certify::{CertifiedHost, CertifyRefusal, certify_resolved};
+use wb_names::resolve_host;
+use wb_naming::NameRefusal;
+use wb_operations::{Meaning, OperationTable};
+use wb_reader::{SpecRefusal, read_spec};
+use wb_report::Refusal;
+use wb_resolved::Resolved;
+use wb_shown::{name_rule, of_spec, shown_refusal, written_rule};
+use wb_syntax::Spec;
+
+/// The certified host that the contents of a file are, over a table of operations, or why they are none.
+///
+/// Which of several examples of a refusal is shown is left open. No clause bounds the time.
+pub fn host_of<M: Meaning>(
+    alloc: Global,
+    contents: &[u8],
+    operations: &OperationTable<M>,
+) -> Result<CertifiedHost, HostRefusal>
+    ensures host { IfOk result (λ host. IsHostText operations.now.signatures contents.now host.resolved) }
+    ensures operations { IfOk result (λ host. host.operations ≡ operations.now.signatures) }
+    ensures refused { IfErr result (IsHostRefusal operations.now.signatures contents.now) }
+{
+    let resolved = value_of(alloc, contents)?;
+    match certify_resolved(alloc, &resolved, operations) {
+        Ok(host) => Ok(host),
+        Err(CertifyRefusal::NoMemory(error)) => Err(HostRefusal::NoMemory(error)),
+        Err(refusal) => Err(bad_value(alloc, &resolved, operations, &refusal)),
+    }
+}
+
+// The numbered value that contents stand for.
+fn value_of(alloc: Global, contents: &[u8]) -> Result<Resolved, HostRefusal>
+    ensures ok { IfOk result (StandsFor contents.now) }
+    ensures refused { (operations : List OperationSignature) → IfErr result (IsHostRefusal operations contents.now) }
+{
+    let spec = spec_of(alloc, contents)?;
+    match resolve_host(alloc, &spec) {
+        Ok(resolved) => Ok(resolved),
+        Err(NameRefusal::NoMemory(error)) => Err(HostRefusal::NoMemory(error)),
+        Err(refusal) => Err(bad_names(&spec, &refusal)),
+    }
+}
+
+// The specification that contents are.
+fn spec_of(alloc: Global, contents: &[u8]) -> Result<Spec, HostRefusal>
+    ensures ok { IfOk result (IsAcceptedText contents.now) }
+    ensures refused { (operations : List OperationSignature) → IfErr result (IsHostRefusal operations contents.now) }
+{
+    match read_spec(alloc, contents) {
+        Ok(spec) => Ok(spec),
+        Err(SpecRefusal::NoMemory(error)) => Err(HostRefusal::NoMemory(error)),
+        Err(refusal) => Err(bad_text(&refusal)),
+    }
+}
+
+// What is shown of contents that are no specification.
+fn bad_text(refusal: &SpecRefusal) -> HostRefusal
+    requires { ¬ IsNoMemory refusal.now }
+    ensures { (operations : List OperationSignature) (contents : List ℕ) → HasCause contents refusal.now → IsHostRefusal operations contents result }
+{
+    match written_rule(refusal) {
+        Ok(reason) => match of_spec(reason) {
+            Some(shown) => HostRefusal::Specification(shown),
+            None => unreachable!(),
+        },
+        Err(error) => HostRefusal::NoMemory(error),
+    }
+}
+
+// What is shown of a specification whose names aren't right.
+fn bad_names(spec: &Spec, refusal: &NameRefusal) -> HostRefusal
+    requires names { IsHostNameRefusal spec.now refusal.now }
+    requires memory { ¬ IsNameMemory refusal.now }
+    ensures { (operations : List OperationSignature) (contents : List ℕ) → IsAcceptedText contents spec.now → IsHostRefusal operations contents result }
+{
+    match name_rule(refusal) {
+        Ok(reason) => match of_spec(reason) {
+            Some(shown) => HostRefusal::Specification(shown),
+            None => unreachable!(),
+        },
+        Err(error) => HostRefusal::NoMemory(error),
+    }
+}
+
+// What is shown of a value that isn't certified.
+fn bad_value<M: Meaning>(
+    alloc: Global,
+    resolved: &Resolved,
+    operations: &OperationTable<M>,
+    refusal: &CertifyRefusal,
+) -> HostRefusal
+    requires reason { IsValueRefusal resolved.now operations.now.signatures refusal.now }
+    requires memory { ¬ IsCertifyMemory refusal.now }
+    ensures { (contents : List ℕ) → StandsFor contents resolved.now → IsHostRefusal operations.now.signatures contents result }
+{
+    match shown_refusal(alloc, resolved, refusal) {
+        Ok(Some(shown)) => of_sort(refusal, shown),
+        Ok(None) => unreachable!(),
+        Err(error) => HostRefusal::NoMemory(error),
+    }
+}
+
+// A refusal of the sort that the rule is of.
+fn of_sort(refusal: &CertifyRefusal, shown: Refusal) -> HostRefusal
+    ensures { IsSort refusal.now shown result }
+{
+    match refusal {
+        CertifyRefusal::Types(_) => HostRefusal::Specification(shown),
+        _ => HostRefusal::Certification(shown),
+    }
+}

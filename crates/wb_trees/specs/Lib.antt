@@ -1,0 +1,2 @@
+-- what a text is in the language of a host
+pub mod Answers
