@@ -2,6 +2,8 @@
 //!
 //! Extensions are named `e`, and each row has what comes after the first line. Expected answers follow from the rules.
 
+ghost use Rattle.std.specs.Prelude.{◌≡◌, [], IfSome};
+
 use crate::names::{is_answer, spec_of};
 use std::alloc::Global;
 use wb_names::{resolve_extension, resolve_host};
@@ -12,13 +14,20 @@ const HOST: &str =
     "nonterminal E; syn v : int; syn w : int; inh i : int; occurs v on E; occurs w on E; occurs i on E; abstract p : E ::= x : E { top.v = 1; } abstract q : E ::= { forwards to q(); }";
 
 // The host.
-fn host(alloc: Global) -> Option<Resolved> {
+fn host(alloc: Global) -> Option<Resolved>
+    ensures { IfSome result (λ host. host.attributes.extensions ≡ []) }
+{
     let spec = spec_of(alloc, "format 1; host h; ", HOST)?;
-    resolve_host(alloc, &spec).ok()
+    match resolve_host(alloc, &spec) {
+        Ok(host) => Some(host),
+        Err(_) => None,
+    }
 }
 
 // Whether the extension with this first line and these items gets the answer.
-fn file_gets(alloc: Global, host: &Resolved, file: (&str, &str), code: &str, name: &str) -> bool {
+fn file_gets(alloc: Global, host: &Resolved, file: (&str, &str), code: &str, name: &str) -> bool
+    requires { host.now.attributes.extensions ≡ [] }
+{
     match spec_of(alloc, file.0, file.1) {
         Some(spec) => is_answer(&resolve_extension(alloc, host, &spec), code, name),
         None => false,
@@ -26,7 +35,9 @@ fn file_gets(alloc: Global, host: &Resolved, file: (&str, &str), code: &str, nam
 }
 
 // Whether each extension of the host gets the answer with the name beside it.
-fn all_get(alloc: Global, host: &Resolved, code: &str, rows: &[(&str, &str)]) -> bool {
+fn all_get(alloc: Global, host: &Resolved, code: &str, rows: &[(&str, &str)]) -> bool
+    requires { host.now.attributes.extensions ≡ [] }
+{
     'rows: for (items, name) in rows {
         if !file_gets(
             alloc,
