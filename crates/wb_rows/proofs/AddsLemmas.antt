@@ -5,7 +5,8 @@ use Rattle.std.specs.Prelude.{filter}
 use Rattle.std.specs.List.{AllZip}
 use Rattle.std.proofs.lemmas.List.{take_more, take_all, append-nil}
 use Rattle.std.proofs.lemmas.List.Elements.{filter-append}
-use Rattle.wb_rows.specs.Nodes.{Adds, AddsAll}
+use Rattle.wb_rows.specs.Nodes.{AddsAll}
+use Rattle.wb_rows.specs.Inner.Nodes.{Adds}
 use Rattle.wb_rows.proofs.ZipLemmas.{zip_push}
 
 module _ {A B : Type 0} (test : A → Bool) (R : A → B → Type 0) where

@@ -10,7 +10,8 @@ use Rattle.wb_syntax.specs.declared.pattern.Pattern.{Pattern}
 use Rattle.wb_naming.specs.Declarations.{Items, ProductionDeclaration, starts, extensibles, productions, plain_items, plain_of, start_of}
 use Rattle.wb_naming.specs.Declarations.{extensible_of, production_of}
 use Rattle.wb_numbering.specs.Files.{grammar_names, names_in_concrete}
-use Rattle.wb_rows.specs.GrammarNames.{form_starts, form_extensibles, form_concretes}
+use Rattle.wb_rows.specs.GrammarNames.{form_starts, form_extensibles}
+use Rattle.wb_rows.specs.Inner.GrammarNames.{form_concretes}
 
 -- what is there before others, as a list
 cons_list : {X : Type 0} (o : Option X) (xs : List X) → cons_option o xs ≡ option_to_list o ++ xs

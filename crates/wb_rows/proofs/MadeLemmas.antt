@@ -6,7 +6,8 @@ use Rattle.wb_base.specs.Grammar.{GrammarView, IsSymbolBelow}
 use Rattle.wb_resolved.specs.declared.production.Child.{Child}
 use Rattle.wb_resolved.specs.declared.production.Production.{Production}
 use Rattle.wb_resolved.specs.Grammar.{symbol_of, IsGrammarProduction}
-use Rattle.wb_rows.specs.Grammars.{AreSymbolsOf, IsMadeOf, IsSymbolChild}
+use Rattle.wb_rows.specs.Grammars.{IsMadeOf, IsSymbolChild}
+use Rattle.wb_rows.specs.Inner.Grammars.{AreSymbolsOf}
 use Rattle.wb_rows.proofs.ZipLemmas.{zip_more}
 
 -- the symbols of children that are of the grammar are in range

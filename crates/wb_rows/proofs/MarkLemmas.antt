@@ -20,7 +20,8 @@ use Rattle.wb_resolved.specs.declared.production.ProductionRole.TheVariants.{Con
 use Rattle.wb_resolved.specs.declared.resolved.ResolvedParts.{ResolvedParts}
 use Rattle.wb_numbering.proofs.OwnDeclared.{contains_flat_map, flat_map_contains}
 use Rattle.wb_numbering.proofs.RowLemmas.{contains_map, map_contains}
-use Rattle.wb_rows.specs.Marks.{IsMarked, Marks, child_numbers, role_numbers, start_numbers, grammar_numbers}
+use Rattle.wb_rows.specs.Marks.{IsMarked}
+use Rattle.wb_rows.specs.Inner.Marks.{Marks, child_numbers, role_numbers, start_numbers, grammar_numbers}
 
 -- nothing is marked
 pub marks_none : (flags : List Bool) → Marks [] flags flags

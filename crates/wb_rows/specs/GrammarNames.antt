@@ -4,7 +4,6 @@ use Rattle.wb_syntax.specs.declared.item.ItemForm.{ItemForm}
 use Rattle.wb_syntax.specs.declared.item.ItemForm.TheVariants as f
 use Rattle.wb_syntax.specs.declared.pattern.Pattern.{Pattern}
 use Rattle.wb_naming.specs.Declarations.{start_of, extensible_of}
-use Rattle.wb_numbering.specs.Files.{names_in_concrete}
 
 -- the start that a form declares
 abbrev pub form_starts : ItemForm Pattern → List (List ℕ)
@@ -19,10 +18,3 @@ form_extensibles (f.Plain plain) = option_to_list (extensible_of plain)
 form_extensibles (f.Lexical role name pattern) = []
 form_extensibles (f.Production role production) = []
 form_extensibles (f.Aspect name equations) = []
-
--- the names in the concrete production that a form declares
-abbrev pub form_concretes : ItemForm Pattern → List (List ℕ)
-form_concretes (f.Production role production) = names_in_concrete role production
-form_concretes (f.Plain plain) = []
-form_concretes (f.Lexical role name pattern) = []
-form_concretes (f.Aspect name equations) = []

@@ -1,5 +1,5 @@
 -- Rows of productions that a grammar can have.
-use Rattle.std.specs.Prelude.{◌≡◌, ◌<◌, ℕ, List, Some, All, map}
+use Rattle.std.specs.Prelude.{◌≡◌, ◌<◌, ℕ, List, Some, All}
 use Rattle.std.specs.List.{AllZip}
 use Rattle.wb_base.specs.declared.symbol.Symbol.{Symbol}
 use Rattle.wb_base.specs.Grammar.{GrammarView, IsSymbolBelow}
@@ -17,10 +17,6 @@ pub record IsSymbolChild (terminals nonterminals : ℕ) (child : Child) : Type 0
 pub record IsGrammarLike (terminals nonterminals : ℕ) (production : Production) : Type 0 where
   pub left : production.left < nonterminals
   pub children : All (IsSymbolChild terminals nonterminals) production.children
-
--- the symbols are those of the children
-abbrev pub AreSymbolsOf : List Child → List Symbol → Type 0
-AreSymbolsOf children symbols = map (λ (s : Symbol). Some s) symbols ≡ map (λ (c : Child). symbol_of c.kind) children
 
 -- a grammar of these productions
 pub record IsMadeOf (terminals nonterminals start : ℕ) (productions : List Production) (g : GrammarView) : Type 0 where

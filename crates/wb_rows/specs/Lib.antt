@@ -22,3 +22,5 @@ pub mod Grammars
 pub mod Marks
 -- what each item says is of the grammar
 pub mod GrammarNames
+-- words of private functions
+pub mod Inner

@@ -88,11 +88,6 @@ module _ (s : Scope) (labels : ProductionLabels) where
     pub target : TargetIsThere q.target
     pub nodes : All NodeIsThere q.nodes
 
--- what passes the test is added after the others, and else nothing
-abbrev pub Adds : {A B : Type 0} → (A → Bool) → (A → B → Type 0) → A → List B → List B → Type 0
-Adds {A} {B} test IsFound x old new =
-    ((test x ≡ true) × (y : B) × (new ≡ old ++ y ∷ []) × IsFound x y) ⊎ ((test x ≡ false) × (new ≡ old))
-
 -- what passes the test is added after the others, one for each
 abbrev pub AddsAll : {A B : Type 0} → (A → Bool) → (A → B → Type 0) → List A → List B → List B → Type 0
 AddsAll {A} {B} test IsFound xs old new = (own : List B) × (new ≡ old ++ own) × AllZip IsFound (filter test xs) own

@@ -5,7 +5,8 @@
 ghost use Rattle.std.specs.Prelude.{◌≡◌, true, false, All, OnOk, MatchOption};
 ghost use Rattle.wb_numbering.specs.Written.{makes_attribute};
 ghost use Rattle.wb_rows.specs.Nodes.{TargetIsThere, EquationIsThere, IsFoundTarget, IsFoundEquation};
-ghost use Rattle.wb_rows.specs.Nodes.{Adds, AddsAll};
+ghost use Rattle.wb_rows.specs.Nodes.{AddsAll};
+ghost use Rattle.wb_rows.specs.Inner.Nodes.{Adds};
 
 use crate::node::written_nodes;
 use crate::scope::{ProductionLabels, Scope, number_of, place_of};

@@ -5,6 +5,7 @@
 ghost use Rattle.std.specs.Prelude.{◌≡◌, ◌<◌, All, IfOk, IsSome};
 ghost use Rattle.wb_resolved.specs.Grammar.{symbol_of as symbol};
 ghost use Rattle.wb_rows.specs.Grammars as spec;
+ghost use Rattle.wb_rows.specs.Inner.Grammars.{AreSymbolsOf};
 
 use std::alloc::{AllocError, Global};
 use wb_base::{Grammar, Kind, Symbol, push};
@@ -33,7 +34,7 @@ pub fn grammar_of(
 // The symbols of children, all of which are of the grammar.
 fn symbols_of(alloc: Global, children: &[Child]) -> Result<Vec<Symbol>, AllocError>
     requires { All (λ c. IsSome (symbol c.kind)) children.now }
-    ensures { IfOk result (λ symbols. spec.AreSymbolsOf children.now symbols.items) }
+    ensures { IfOk result (λ symbols. AreSymbolsOf children.now symbols.items) }
 {
     let mut symbols = Vec::new(alloc);
     'children: for child in children {

@@ -9,6 +9,7 @@ ghost use Rattle.wb_syntax.specs.declared.production.Child.{Child as Part};
 ghost use Rattle.wb_syntax.specs.Names.{kind_names};
 ghost use Rattle.wb_numbering.specs.Files.{grammar_names, names_in_concrete};
 ghost use Rattle.wb_rows.specs.GrammarNames as spec;
+ghost use Rattle.wb_rows.specs.Inner.GrammarNames.{form_concretes};
 
 use crate::index::Index;
 use std::alloc::{AllocError, Global};
@@ -73,7 +74,7 @@ fn add_extensible(form: &ItemForm<Pattern>, names: &mut Index) -> Result<(), All
 
 // Adds the names in concrete productions.
 fn add_concretes(items: &[Item<Pattern>], names: &mut Index) -> Result<(), AllocError>
-    ensures { OnOk result (names.new ≡ names.old ++ flat_map (λ (item : Written Read). spec.form_concretes item.form) items.now) }
+    ensures { OnOk result (names.new ≡ names.old ++ flat_map (λ (item : Written Read). form_concretes item.form) items.now) }
 {
     'items: for item in items {
         add_form(&item.form, names)?;
@@ -83,7 +84,7 @@ fn add_concretes(items: &[Item<Pattern>], names: &mut Index) -> Result<(), Alloc
 
 // Adds the names in the concrete production that a form declares.
 fn add_form(form: &ItemForm<Pattern>, names: &mut Index) -> Result<(), AllocError>
-    ensures { OnOk result (names.new ≡ names.old ++ spec.form_concretes form.now) }
+    ensures { OnOk result (names.new ≡ names.old ++ form_concretes form.now) }
 {
     match form {
         ItemForm::Production { role, production } => add_production(*role, production, names),

@@ -7,7 +7,8 @@ ghost use Rattle.std.specs.Prelude.{◌≡◌, ◌<◌, ◌↔◌, ◌∷◌, []
 ghost use Rattle.wb_resolved.specs.declared.production.Child.{Child as Part};
 ghost use Rattle.wb_resolved.specs.declared.production.Production.{Production as Row};
 ghost use Rattle.wb_resolved.specs.Grammar.{IsOfGrammar};
-ghost use Rattle.wb_rows.specs.Marks as spec;
+ghost use Rattle.wb_rows.specs.Marks.{IsMarked};
+ghost use Rattle.wb_rows.specs.Inner.Marks as spec;
 
 use std::alloc::{AllocError, Global};
 use wb_base::{Grammar, Kind};
@@ -16,7 +17,7 @@ use wb_resolved::{Child, ChildKind, Production, ProductionRole, ResolvedParts};
 /// A flag for each nonterminal of a base, by number. The only error is want of memory.
 pub fn base_flags(alloc: Global, base: &ResolvedParts) -> Result<Vec<bool>, AllocError>
     ensures count { IfOk result (λ flags. length flags.items ≡ length base.now.attributes.nonterminals) }
-    ensures exact { IfOk result (λ flags. (k : ℕ) → k < length base.now.attributes.nonterminals → spec.IsMarked flags.items k ↔ IsOfGrammar base.now k) }
+    ensures exact { IfOk result (λ flags. (k : ℕ) → k < length base.now.attributes.nonterminals → IsMarked flags.items k ↔ IsOfGrammar base.now k) }
 {
     let attributes = base.attributes.parts();
     let mut flags = vec![in alloc; false; attributes.nonterminals.len()]?;

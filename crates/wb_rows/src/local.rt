@@ -4,7 +4,8 @@
 
 ghost use Rattle.std.specs.Prelude.{◌≡◌, All, OnOk};
 ghost use Rattle.wb_numbering.specs.Written.{makes_forward, makes_local};
-ghost use Rattle.wb_rows.specs.Nodes.{EquationIsThere, IsFoundLocal, IsFoundForward, Adds, AddsAll};
+ghost use Rattle.wb_rows.specs.Nodes.{EquationIsThere, IsFoundLocal, IsFoundForward, AddsAll};
+ghost use Rattle.wb_rows.specs.Inner.Nodes.{Adds};
 
 use crate::node::written_nodes;
 use crate::scope::{ProductionLabels, Scope, number_of};

@@ -4,7 +4,8 @@ use Rattle.wb_base.specs.declared.symbol.Symbol.{Symbol}
 use Rattle.wb_base.specs.Grammar.{IsSymbolBelow}
 use Rattle.wb_lemmas.proofs.Elements.{all_at}
 use Rattle.wb_resolved.specs.declared.production.Child.{Child}
-use Rattle.wb_rows.specs.Grammars.{AreSymbolsOf, IsGrammarLike}
+use Rattle.wb_rows.specs.Grammars.{IsGrammarLike}
+use Rattle.wb_rows.specs.Inner.Grammars.{AreSymbolsOf}
 use Rattle.wb_rows.proofs.MadeLemmas.{symbols_below, made_more}
 use Rattle.wb_rows.proofs.grammar.grammar_of.Goals as goal
 

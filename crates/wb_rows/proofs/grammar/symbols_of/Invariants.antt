@@ -1,5 +1,5 @@
 use Rattle.std.proofs.Common.{take}
-use Rattle.wb_rows.specs.Grammars.{AreSymbolsOf}
+use Rattle.wb_rows.specs.Inner.Grammars.{AreSymbolsOf}
 use Rattle.wb_rows.proofs.grammar.symbols_of.Given as goal
 
 abbrev pub invariant-children : goal.invariant-children

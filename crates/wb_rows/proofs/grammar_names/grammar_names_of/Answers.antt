@@ -2,7 +2,8 @@ use Rattle.std.proofs.Common.{◌++◌, ℕ, List, ap, ◌∙◌}
 use Rattle.std.specs.List.{flat_map}
 use Rattle.wb_syntax.specs.declared.item.Item.{Item}
 use Rattle.wb_syntax.specs.declared.pattern.Pattern.{Pattern}
-use Rattle.wb_rows.specs.GrammarNames.{form_starts, form_extensibles, form_concretes}
+use Rattle.wb_rows.specs.GrammarNames.{form_starts, form_extensibles}
+use Rattle.wb_rows.specs.Inner.GrammarNames.{form_concretes}
 use Rattle.wb_rows.proofs.GrammarNameLemmas.{names_flat}
 use Rattle.wb_rows.proofs.grammar_names.grammar_names_of.Goals as goal
 

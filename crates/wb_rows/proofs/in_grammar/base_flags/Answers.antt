@@ -2,7 +2,7 @@ use Rattle.std.proofs.Common.{◌≡◌, subst, ap, ◌∙◌, false, length, re
 use Rattle.std.specs.List.{flat_map}
 use Rattle.wb_resolved.specs.declared.attribution.AttributionParts.{AttributionParts}
 use Rattle.wb_resolved.specs.declared.production.Production.{Production}
-use Rattle.wb_rows.specs.Marks.{Marks, role_numbers}
+use Rattle.wb_rows.specs.Inner.Marks.{Marks, role_numbers}
 use Rattle.wb_rows.proofs.MarkLemmas.{marks_exact}
 use Rattle.wb_rows.proofs.in_grammar.base_flags.Goals as goal
 

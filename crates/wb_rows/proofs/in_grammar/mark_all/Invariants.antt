@@ -1,5 +1,5 @@
 use Rattle.std.proofs.Common.{take}
-use Rattle.wb_rows.specs.Marks.{Marks}
+use Rattle.wb_rows.specs.Inner.Marks.{Marks}
 use Rattle.wb_rows.proofs.in_grammar.mark_all.Given as goal
 
 abbrev pub invariant-numbers : goal.invariant-numbers

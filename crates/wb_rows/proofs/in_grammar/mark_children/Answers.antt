@@ -1,5 +1,5 @@
 use Rattle.wb_resolved.specs.declared.production.Child.{Child}
-use Rattle.wb_rows.specs.Marks.{child_numbers}
+use Rattle.wb_rows.specs.Inner.Marks.{child_numbers}
 use Rattle.wb_rows.proofs.MarkLemmas.{marks_flat_more, marks_flat_all}
 use Rattle.wb_rows.proofs.in_grammar.mark_children.Goals as goal
 

@@ -1,7 +1,7 @@
 use Rattle.std.proofs.Common.{take}
 use Rattle.std.specs.List.{flat_map}
 use Rattle.wb_resolved.specs.declared.production.Child.{Child}
-use Rattle.wb_rows.specs.Marks.{Marks, child_numbers}
+use Rattle.wb_rows.specs.Inner.Marks.{Marks, child_numbers}
 use Rattle.wb_rows.proofs.in_grammar.mark_children.Given as goal
 
 abbrev pub invariant-children : goal.invariant-children

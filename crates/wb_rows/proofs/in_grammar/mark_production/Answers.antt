@@ -1,7 +1,7 @@
 use Rattle.std.proofs.Common.{subst, sym, ◌∷◌, []}
 use Rattle.std.specs.List.{flat_map}
 use Rattle.wb_resolved.specs.declared.production.Child.{Child}
-use Rattle.wb_rows.specs.Marks.{Marks, child_numbers, role_numbers}
+use Rattle.wb_rows.specs.Inner.Marks.{Marks, child_numbers, role_numbers}
 use Rattle.wb_rows.proofs.MarkLemmas.{marks_both}
 use Rattle.wb_rows.proofs.in_grammar.mark_production.Goals as goal
 

@@ -1,5 +1,5 @@
 use Rattle.wb_resolved.specs.declared.production.Production.{Production}
-use Rattle.wb_rows.specs.Marks.{role_numbers}
+use Rattle.wb_rows.specs.Inner.Marks.{role_numbers}
 use Rattle.wb_rows.proofs.MarkLemmas.{marks_flat_more, marks_flat_all}
 use Rattle.wb_rows.proofs.in_grammar.mark_productions.Goals as goal
 

@@ -1,7 +1,7 @@
 use Rattle.std.proofs.Common.{take}
 use Rattle.std.specs.List.{flat_map}
 use Rattle.wb_resolved.specs.declared.production.Production.{Production}
-use Rattle.wb_rows.specs.Marks.{Marks, role_numbers}
+use Rattle.wb_rows.specs.Inner.Marks.{Marks, role_numbers}
 use Rattle.wb_rows.proofs.in_grammar.mark_productions.Given as goal
 
 abbrev pub invariant-productions : goal.invariant-productions
