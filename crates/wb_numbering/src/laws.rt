@@ -1,9 +1,12 @@
 //! Laws of the definitions: what they say is proved, and there is nothing to run.
 
+ghost use Rattle.std.specs.Prelude.{ℕ};
 ghost use Rattle.wb_resolved.specs.declared.resolved.ResolvedParts.{ResolvedParts};
+ghost use Rattle.wb_numbering.specs.Carried.{IsCarried};
 ghost use Rattle.wb_numbering.specs.Files.{File};
 ghost use Rattle.wb_numbering.specs.Given.{GivesResolved};
 ghost use Rattle.wb_numbering.specs.OneValue.{IsOnlyValue};
+ghost use Rattle.wb_numbering.specs.Resolves.{Resolves};
 
 /// A file stands for one value at most.
 pub fn one_value_law()
@@ -13,4 +16,9 @@ pub fn one_value_law()
 /// Where the names of a file are right, each value that it stands for is a resolved specification.
 pub fn resolved_law()
     ensures { (file : File) (r : ResolvedParts) → GivesResolved file r }
+{}
+
+/// Each terminal, nonterminal, attribute, occurrence and production of the base is in each value that a file stands for over it.
+pub fn carried_law()
+    ensures { (file : File) (r : ResolvedParts) → Resolves file r → IsCarried (λ (owner : ℕ). owner) file.base r }
 {}

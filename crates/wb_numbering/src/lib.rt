@@ -6,4 +6,4 @@
 
 mod laws;
 
-pub use laws::{one_value_law, resolved_law};
+pub use laws::{carried_law, one_value_law, resolved_law};
