@@ -13,11 +13,11 @@ use wb_resolved::Resolved;
 const HOST: &str =
     "nonterminal E; syn v : int; syn w : int; inh i : int; occurs v on E; occurs w on E; occurs i on E; abstract p : E ::= x : E { top.v = 1; } abstract q : E ::= { forwards to q(); }";
 
-// The host.
-fn host(alloc: Global) -> Option<Resolved>
+// The host with this first line and these items.
+pub(crate) fn host_in(alloc: Global, first_line: &str, items: &str) -> Option<Resolved>
     ensures { IfSome result (λ host. host.attributes.extensions ≡ []) }
 {
-    let spec = spec_of(alloc, "format 1; host h; ", HOST)?;
+    let spec = spec_of(alloc, first_line, items)?;
     match resolve_host(alloc, &spec) {
         Ok(host) => Some(host),
         Err(_) => None,
@@ -25,7 +25,13 @@ fn host(alloc: Global) -> Option<Resolved>
 }
 
 // Whether the extension with this first line and these items gets the answer.
-fn file_gets(alloc: Global, host: &Resolved, file: (&str, &str), code: &str, name: &str) -> bool
+pub(crate) fn file_gets(
+    alloc: Global,
+    host: &Resolved,
+    file: (&str, &str),
+    code: &str,
+    name: &str,
+) -> bool
     requires { host.now.attributes.extensions ≡ [] }
 {
     match spec_of(alloc, file.0, file.1) {
@@ -54,7 +60,7 @@ fn all_get(alloc: Global, host: &Resolved, code: &str, rows: &[(&str, &str)]) ->
 
 // The same of the host of these tests.
 fn extensions_get(alloc: Global, code: &str, rows: &[(&str, &str)]) -> bool {
-    match host(alloc) {
+    match host_in(alloc, "format 1; host h; ", HOST) {
         Some(host) => all_get(alloc, &host, code, rows),
         None => false,
     }
@@ -129,7 +135,7 @@ fn no_host(alloc: Global) -> bool {
 
 // Whether a file with this first line, and a name twice, gets the answer.
 fn first_line_gets(alloc: Global, line: &str, code: &str, name: &str) -> bool {
-    match host(alloc) {
+    match host_in(alloc, "format 1; host h; ", HOST) {
         Some(host) => file_gets(alloc, &host, (line, "start A; start A;"), code, name),
         None => false,
     }

@@ -9,6 +9,8 @@ mod attributes;
 #[cfg(test)]
 mod extension_names;
 #[cfg(test)]
+mod files;
+#[cfg(test)]
 mod names;
 #[cfg(test)]
 mod report_attributes;

@@ -56,193 +56,199 @@ fn hosts_get(alloc: Global, code: &str, rows: &[(&str, &str)]) -> bool {
     true
 }
 
+// Hosts in which something is declared twice, each with its name.
+static DECLARED_TWICE: [(&str, &str); 18] = [
+    ("nonterminal A; nonterminal A;", "A"),
+    ("extensible Q; extensible Q;", "Q"),
+    ("start A; start B;", "B"),
+    ("nonterminal A; terminal A /a/;", "A"),
+    ("syn a : int; inh a : int;", "a"),
+    (
+        "nonterminal E; syn v : int; occurs v on E; occurs v on E;",
+        "v",
+    ),
+    ("nonterminal E; abstract p : E ::= x : int x : int { }", "x"),
+    (
+        "nonterminal E; abstract p : E ::= x : E { local x : E = x; }",
+        "x",
+    ),
+    (
+        "nonterminal E; abstract p : E ::= x : E { } aspect p { local x : E = x; }",
+        "x",
+    ),
+    (
+        "nonterminal E; abstract p : E ::= { } aspect p { local x : E = p(); } aspect p { local x : E = p(); }",
+        "x",
+    ),
+    (
+        "terminal A /a/; terminal B /b/; prefer A over B; prefer A over B;",
+        "A",
+    ),
+    (
+        "nonterminal E; forward on E needs { }; forward on E needs { };",
+        "E",
+    ),
+    (
+        "nonterminal E; syn v : int; occurs v on E; abstract p : E ::= { top.v = 1; top.v = 2; }",
+        "v",
+    ),
+    (
+        "nonterminal E; syn v : int; occurs v on E; abstract p : E ::= { top.v = 1; } aspect p { top.v = 2; }",
+        "v",
+    ),
+    ("aspect f { top.v = 1; top.v = 2; }", "v"),
+    (
+        "nonterminal E; abstract p : E ::= { forwards to p(); forwards to p(); }",
+        "p",
+    ),
+    (
+        "nonterminal E; abstract p : E ::= { } abstract p : E ::= { }",
+        "p",
+    ),
+    ("nonterminal A; nonterminal A; start Q;", "A"),
+];
+
 #[test]
 fn nothing_is_declared_twice_in_a_host(rt: HostRuntime) {
-    let rows = [
-        ("nonterminal A; nonterminal A;", "A"),
-        ("extensible Q; extensible Q;", "Q"),
-        ("start A; start B;", "B"),
-        ("nonterminal A; terminal A /a/;", "A"),
-        ("syn a : int; inh a : int;", "a"),
-        (
-            "nonterminal E; syn v : int; occurs v on E; occurs v on E;",
-            "v",
-        ),
-        ("nonterminal E; abstract p : E ::= x : int x : int { }", "x"),
-        (
-            "nonterminal E; abstract p : E ::= x : E { local x : E = x; }",
-            "x",
-        ),
-        (
-            "nonterminal E; abstract p : E ::= x : E { } aspect p { local x : E = x; }",
-            "x",
-        ),
-        (
-            "nonterminal E; abstract p : E ::= { } aspect p { local x : E = p(); } aspect p { local x : E = p(); }",
-            "x",
-        ),
-        (
-            "terminal A /a/; terminal B /b/; prefer A over B; prefer A over B;",
-            "A",
-        ),
-        (
-            "nonterminal E; forward on E needs { }; forward on E needs { };",
-            "E",
-        ),
-        (
-            "nonterminal E; syn v : int; occurs v on E; abstract p : E ::= { top.v = 1; top.v = 2; }",
-            "v",
-        ),
-        (
-            "nonterminal E; syn v : int; occurs v on E; abstract p : E ::= { top.v = 1; } aspect p { top.v = 2; }",
-            "v",
-        ),
-        ("aspect f { top.v = 1; top.v = 2; }", "v"),
-        (
-            "nonterminal E; abstract p : E ::= { forwards to p(); forwards to p(); }",
-            "p",
-        ),
-        (
-            "nonterminal E; abstract p : E ::= { } abstract p : E ::= { }",
-            "p",
-        ),
-        ("nonterminal A; nonterminal A; start Q;", "A"),
-    ];
-    assert!(rt; hosts_get(rt.alloc(), "N2", &rows));
+    assert!(rt; hosts_get(rt.alloc(), "N2", &DECLARED_TWICE));
 }
+
+// Hosts in which a name is not declared, each with that name.
+static UNDECLARED: [(&str, &str); 18] = [
+    ("nonterminal E; occurs q on E;", "q"),
+    ("start A;", "A"),
+    ("syn v : K;", "K"),
+    ("nonterminal E; abstract p : E ::= x : Q { }", "Q"),
+    (
+        "nonterminal E; syn v : int; abstract p : E ::= { top.v = 1; }",
+        "v",
+    ),
+    (
+        "nonterminal E; syn v : int; occurs v on E; abstract p : E ::= { top.v = x; }",
+        "x",
+    ),
+    (
+        "nonterminal E; syn v : int; occurs v on E; abstract p : E ::= { top.v = x.v; }",
+        "x",
+    ),
+    (
+        "nonterminal E; syn v : int; occurs v on E; abstract p : E ::= { top.v = x.lexeme; }",
+        "x",
+    ),
+    (
+        "nonterminal E; syn v : int; occurs v on E; abstract p : E ::= { top.v = forward.v; }",
+        "v",
+    ),
+    (
+        "nonterminal E; syn v : int; inh i : int; occurs v on E needs { i };",
+        "i",
+    ),
+    ("nonterminal E; inh i : int; forward on E needs { i };", "i"),
+    (
+        "nonterminal E; syn v : int; occurs v on E; abstract p : E ::= { top.v = q(); }",
+        "q",
+    ),
+    ("aspect f { }", "f"),
+    ("nonterminal E; terminal T /t/; prefer T over U;", "U"),
+    (
+        "nonterminal E; nonterminal F; inh i : int; occurs i on E; abstract p : E ::= x : F { x.i = 1; }",
+        "i",
+    ),
+    (
+        "nonterminal E; syn v : int; occurs v on E; aspect f { top.v = x; }",
+        "f",
+    ),
+    (
+        "nonterminal E; abstract p : E ::= { local y : int2 = p(); }",
+        "int2",
+    ),
+    ("terminal T /t/; start T; extensible Q;", "Q"),
+];
 
 #[test]
 fn each_name_of_a_host_is_declared(rt: HostRuntime) {
-    let rows = [
-        ("nonterminal E; occurs q on E;", "q"),
-        ("start A;", "A"),
-        ("syn v : K;", "K"),
-        ("nonterminal E; abstract p : E ::= x : Q { }", "Q"),
-        (
-            "nonterminal E; syn v : int; abstract p : E ::= { top.v = 1; }",
-            "v",
-        ),
-        (
-            "nonterminal E; syn v : int; occurs v on E; abstract p : E ::= { top.v = x; }",
-            "x",
-        ),
-        (
-            "nonterminal E; syn v : int; occurs v on E; abstract p : E ::= { top.v = x.v; }",
-            "x",
-        ),
-        (
-            "nonterminal E; syn v : int; occurs v on E; abstract p : E ::= { top.v = x.lexeme; }",
-            "x",
-        ),
-        (
-            "nonterminal E; syn v : int; occurs v on E; abstract p : E ::= { top.v = forward.v; }",
-            "v",
-        ),
-        (
-            "nonterminal E; syn v : int; inh i : int; occurs v on E needs { i };",
-            "i",
-        ),
-        ("nonterminal E; inh i : int; forward on E needs { i };", "i"),
-        (
-            "nonterminal E; syn v : int; occurs v on E; abstract p : E ::= { top.v = q(); }",
-            "q",
-        ),
-        ("aspect f { }", "f"),
-        ("nonterminal E; terminal T /t/; prefer T over U;", "U"),
-        (
-            "nonterminal E; nonterminal F; inh i : int; occurs i on E; abstract p : E ::= x : F { x.i = 1; }",
-            "i",
-        ),
-        (
-            "nonterminal E; syn v : int; occurs v on E; aspect f { top.v = x; }",
-            "f",
-        ),
-        (
-            "nonterminal E; abstract p : E ::= { local y : int2 = p(); }",
-            "int2",
-        ),
-        ("terminal T /t/; start T; extensible Q;", "Q"),
-    ];
-    assert!(rt; hosts_get(rt.alloc(), "N1", &rows));
+    assert!(rt; hosts_get(rt.alloc(), "N1", &UNDECLARED));
 }
+
+// Hosts in which a name is of the wrong kind, each with that name.
+static WRONG_KINDS: [(&str, &str); 24] = [
+    ("marking M /m/;", "M"),
+    (
+        "nonterminal E; syn v : int; occurs v on E; abstract p : E ::= { top.v = forward.v; } aspect p { forwards to p(); }",
+        "p",
+    ),
+    ("terminal T /t/; start T;", "T"),
+    ("nonterminal E; terminal T /t/; prefer E over T;", "E"),
+    ("nonterminal E; concrete p : E ::= x : int { }", "x"),
+    (
+        "nonterminal E; ignore L /l/; concrete p : E ::= x : L { }",
+        "L",
+    ),
+    (
+        "nonterminal E; terminal T /t/; abstract p : E ::= x : T { }",
+        "T",
+    ),
+    ("terminal T /t/; abstract p : T ::= { }", "T"),
+    ("terminal T /t/; syn v : T;", "T"),
+    ("terminal T /t/; aspect T { }", "T"),
+    (
+        "nonterminal E; syn v : int; occurs v on E; occurs w on E needs { v }; syn w : int;",
+        "v",
+    ),
+    (
+        "nonterminal E; inh i : int; occurs i on E; abstract p : E ::= { top.i = 1; }",
+        "i",
+    ),
+    (
+        "nonterminal E; syn v : int; occurs v on E; abstract p : E ::= x : E { x.v = 1; }",
+        "v",
+    ),
+    (
+        "nonterminal E; syn v : int; inh i : int; occurs i on E; occurs v on E; abstract p : E ::= x : int { x.i = 1; }",
+        "x",
+    ),
+    (
+        "nonterminal E; syn v : int; occurs v on E; abstract p : E ::= x : int { top.v = x.v; }",
+        "x",
+    ),
+    (
+        "nonterminal E; syn v : int; inh i : int; occurs i on E; occurs v on E; abstract p : E ::= { top.v = top.v; }",
+        "v",
+    ),
+    (
+        "nonterminal E; syn v : int; inh i : int; occurs i on E; occurs v on E; abstract p : E ::= x : E { top.v = x.i; }",
+        "i",
+    ),
+    (
+        "nonterminal E; terminal T /t/; syn v : text; occurs v on E; concrete p : E ::= x : T { top.v = x; }",
+        "x",
+    ),
+    (
+        "nonterminal E; syn v : text; occurs v on E; abstract p : E ::= x : text { top.v = x.lexeme; }",
+        "x",
+    ),
+    ("nonterminal E; inh i : int; occurs i on E needs { };", "i"),
+    (
+        "nonterminal E; abstract p : E ::= { } aspect p { forwards to p(); }",
+        "p",
+    ),
+    (
+        "nonterminal E; terminal T /t/; abstract p : E ::= { local y : T = p(); }",
+        "T",
+    ),
+    (
+        "terminal T /t/; inh i : int; syn v : int; occurs v on T needs { i };",
+        "T",
+    ),
+    (
+        "nonterminal E; syn v : int; occurs v on E; terminal T /t/; abstract p : E ::= { top.v = T(); }",
+        "T",
+    ),
+];
 
 #[test]
 fn each_name_of_a_host_is_of_the_right_kind(rt: HostRuntime) {
-    let rows = [
-        ("marking M /m/;", "M"),
-        (
-            "nonterminal E; syn v : int; occurs v on E; abstract p : E ::= { top.v = forward.v; } aspect p { forwards to p(); }",
-            "p",
-        ),
-        ("terminal T /t/; start T;", "T"),
-        ("nonterminal E; terminal T /t/; prefer E over T;", "E"),
-        ("nonterminal E; concrete p : E ::= x : int { }", "x"),
-        (
-            "nonterminal E; ignore L /l/; concrete p : E ::= x : L { }",
-            "L",
-        ),
-        (
-            "nonterminal E; terminal T /t/; abstract p : E ::= x : T { }",
-            "T",
-        ),
-        ("terminal T /t/; abstract p : T ::= { }", "T"),
-        ("terminal T /t/; syn v : T;", "T"),
-        ("terminal T /t/; aspect T { }", "T"),
-        (
-            "nonterminal E; syn v : int; occurs v on E; occurs w on E needs { v }; syn w : int;",
-            "v",
-        ),
-        (
-            "nonterminal E; inh i : int; occurs i on E; abstract p : E ::= { top.i = 1; }",
-            "i",
-        ),
-        (
-            "nonterminal E; syn v : int; occurs v on E; abstract p : E ::= x : E { x.v = 1; }",
-            "v",
-        ),
-        (
-            "nonterminal E; syn v : int; inh i : int; occurs i on E; occurs v on E; abstract p : E ::= x : int { x.i = 1; }",
-            "x",
-        ),
-        (
-            "nonterminal E; syn v : int; occurs v on E; abstract p : E ::= x : int { top.v = x.v; }",
-            "x",
-        ),
-        (
-            "nonterminal E; syn v : int; inh i : int; occurs i on E; occurs v on E; abstract p : E ::= { top.v = top.v; }",
-            "v",
-        ),
-        (
-            "nonterminal E; syn v : int; inh i : int; occurs i on E; occurs v on E; abstract p : E ::= x : E { top.v = x.i; }",
-            "i",
-        ),
-        (
-            "nonterminal E; terminal T /t/; syn v : text; occurs v on E; concrete p : E ::= x : T { top.v = x; }",
-            "x",
-        ),
-        (
-            "nonterminal E; syn v : text; occurs v on E; abstract p : E ::= x : text { top.v = x.lexeme; }",
-            "x",
-        ),
-        ("nonterminal E; inh i : int; occurs i on E needs { };", "i"),
-        (
-            "nonterminal E; abstract p : E ::= { } aspect p { forwards to p(); }",
-            "p",
-        ),
-        (
-            "nonterminal E; terminal T /t/; abstract p : E ::= { local y : T = p(); }",
-            "T",
-        ),
-        (
-            "terminal T /t/; inh i : int; syn v : int; occurs v on T needs { i };",
-            "T",
-        ),
-        (
-            "nonterminal E; syn v : int; occurs v on E; terminal T /t/; abstract p : E ::= { top.v = T(); }",
-            "T",
-        ),
-    ];
-    assert!(rt; hosts_get(rt.alloc(), "N4", &rows));
+    assert!(rt; hosts_get(rt.alloc(), "N4", &WRONG_KINDS));
 }
 
 #[test]
