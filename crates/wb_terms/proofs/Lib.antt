@@ -6,6 +6,7 @@ pub mod FitLemmas
 pub mod HoldLemmas
 pub mod KindLemmas
 pub mod LeastLemmas
+pub mod LongLemmas
 pub mod MeetLemmas
 pub mod OntoLemmas
 pub mod PendingLemmas

@@ -48,20 +48,3 @@ pushed_in count ps qs p e here there = subst (ArePendingIn count) (sym (pushed p
 pub others_in : (count : ℕ) (values : List Stored) → All (IsIn count) values → All (IsIn count) (drop 1 values)
 others_in count [] all = all
 others_in count (y ∷ values) all = λ k d lt. all (suc k) d (omega (arith, lt))
-
--- the lengths of a tree that is begun
-pub length_begun : (ss : List Signature) (ts : List Tree) (t : Tree) (n : ℕ) (values : Pending) (ps qs : List Pending) → values.first ≡ true
-    → n ≡ production_of t → values_in ts values.values.now ≡ children_of t
-    → qs ≡ ps ++ values ∷ [] → (length (name_of ss n) + 1) + length (pending_text ss ts (reverse qs)) ≡ length (printed_tree ss t) + length
-    (pending_text ss ts (reverse ps))
-length_begun ss ts t n values ps qs first e f h =
-    let name = name_of ss n in
-    let whole = tree_begun {X = Unit {0}} {E = Unit {0}} ss ts t n values [] (name ++ 40 ∷ []) ps qs (Ok tt) first e f refl h in
-    omega (
-      arith,
-      ap length whole,
-      length-append (name ++ 40 ∷ []) (pending_text ss ts (reverse qs)),
-      length-append name
-          (40 ∷ []),
-      length-append (printed_tree ss t) (pending_text ss ts (reverse ps)),
-    )

@@ -1,6 +1,5 @@
 -- What loops and private functions keep, and how the table of terms is laid out.
 pub mod Built
-pub mod Capped
 pub mod Events
 pub mod Holding
 pub mod KindsFit

@@ -7,7 +7,6 @@ mod builder;
 mod event;
 mod events;
 mod kinds;
-mod lengths;
 mod name;
 mod print;
 mod read;

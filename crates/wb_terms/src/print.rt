@@ -1,28 +1,32 @@
 //! How is a value printed, however deep its trees are?
 //!
-//! An explicit stack holds the children that are left, so nothing recurses. Whether the text is too long is found first, by `lengths`.
+//! An explicit stack holds the children that are left, so nothing recurses. A tree may be a shared graph whose text would be astronomic, so
+//! printing ends where the text gets too long.
 
 ghost use Rattle.std.specs.Prelude.{◌≡◌, ◌+◌, ◌<◌, ◌≤◌, ◌++◌, ◌∷◌, [], All, List, length, reverse, true, false, IfErr, IfOk, OnOk};
-ghost use Rattle.wb_values.specs.ValuesIn.{value_in, values_in, IsIn};
+ghost use Rattle.wb_tokens.specs.Printing.{printed_text};
+ghost use Rattle.wb_values.specs.ValuesIn.{tree_in, value_in, values_in, IsIn};
 ghost use Rattle.wb_values.specs.Tree.{bool};
-ghost use Rattle.wb_terms.specs.Printed.{name_of, printed_plain, printed_value};
+ghost use Rattle.wb_terms.specs.Printed.{name_of, printed_plain, printed_tree, printed_value};
 ghost use Rattle.wb_terms.specs.Lengths.{IsTooLong};
-ghost use Rattle.wb_terms.specs.Inner.Pending.{before, children_text, pending_text, pending_weight, value_weight, children_weight, ArePendingIn};
+ghost use Rattle.wb_terms.specs.Inner.Pending.{before, children_text, pending_text, pending_weight, tree_weight, value_weight, children_weight, ArePendingIn};
 
-use crate::lengths::{LIMIT, printed_length};
 use crate::name::printed_name;
 use crate::refusal::PrintRefusal;
 use std::alloc::{AllocError, Global};
 use wb_base::push;
 use wb_tokens::{print_int, print_text};
-use wb_values::{Signatures, TreeStore, Value};
+use wb_values::{Signatures, TreeId, TreeStore, Value};
+
+// The most bytes that a value is printed in.
+const LIMIT: usize = 16_777_216;
 
 // The children of a node that are still to be printed.
 #[derive(Clone, Copy)]
-pub(crate) struct Pending<'a> {
+struct Pending<'a> {
     // Whether the next child is the node's first.
-    pub first: bool,
-    pub values: &'a [Value],
+    first: bool,
+    values: &'a [Value],
 }
 
 // Appends the printed name of a production and an opening parenthesis.
@@ -59,6 +63,44 @@ fn print_separator(out: &mut Vec<u8>, first: bool) -> Result<(), AllocError>
     }
 }
 
+// Appends a text as a string, unless the text alone is too long.
+fn print_short(out: &mut Vec<u8>, text: &[u8]) -> Result<(), PrintRefusal>
+    ensures ok { OnOk result (out.new.items ≡ out.old.items ++ printed_text text.now) }
+    ensures refused { IfErr result (IsTooLong (printed_text text.now)) }
+{
+    if text.len() > LIMIT {
+        return Err(PrintRefusal::TooLong);
+    }
+    Ok(print_text(out, text)?)
+}
+
+// Appends what comes before the children of a tree, which are then to be printed first.
+fn begin_tree<'a>(
+    out: &mut Vec<u8>,
+    stack: &mut Vec<Pending<'a>>,
+    tree: TreeId,
+    signatures: &Signatures,
+    store: &'a TreeStore,
+) -> Result<(), AllocError>
+    requires within { tree.0 < length store.now }
+    requires pending { ArePendingIn (length store.now) (reverse stack.old.items) }
+    ensures text { OnOk result (out.new.items ++ pending_text signatures.now store.now (reverse stack.new.items)
+        ≡ out.old.items ++ (printed_tree signatures.now (tree_in store.now tree.0) ++ pending_text signatures.now store.now (reverse stack.old.items))) }
+    ensures weight { OnOk result (pending_weight store.now (reverse stack.new.items)
+        ≡ tree_weight (tree_in store.now tree.0) + pending_weight store.now (reverse stack.old.items)) }
+    ensures pending { OnOk result (ArePendingIn (length store.now) (reverse stack.new.items)) }
+{
+    print_name(out, signatures, store.production(tree))?;
+    let values = store.children(tree);
+    push(
+        stack,
+        Pending {
+            first: true,
+            values,
+        },
+    )
+}
+
 // Appends a plain value, or what comes before the children of a tree, which are then to be printed first.
 fn begin_value<'a>(
     out: &mut Vec<u8>,
@@ -66,7 +108,7 @@ fn begin_value<'a>(
     value: &Value,
     signatures: &Signatures,
     store: &'a TreeStore,
-) -> Result<(), AllocError>
+) -> Result<(), PrintRefusal>
     requires within { IsIn (length store.now) value.now }
     requires pending { ArePendingIn (length store.now) (reverse stack.old.items) }
     ensures text { OnOk result (out.new.items ++ pending_text signatures.now store.now (reverse stack.new.items)
@@ -74,22 +116,13 @@ fn begin_value<'a>(
     ensures weight { OnOk result (pending_weight store.now (reverse stack.new.items)
         ≡ value_weight (value_in store.now value.now) + pending_weight store.now (reverse stack.old.items)) }
     ensures pending { OnOk result (ArePendingIn (length store.now) (reverse stack.new.items)) }
+    ensures refused { IfErr result (IsTooLong (printed_value signatures.now (value_in store.now value.now))) }
 {
     match value {
-        Value::Int(number) => print_int(out, *number),
-        Value::Bool(truth) => print_bool(out, *truth),
-        Value::Text(text) => print_text(out, text.as_slice()),
-        Value::Tree(tree) => {
-            print_name(out, signatures, store.production(*tree))?;
-            let values = store.children(*tree);
-            push(
-                stack,
-                Pending {
-                    first: true,
-                    values,
-                },
-            )
-        }
+        Value::Int(number) => Ok(print_int(out, *number)?),
+        Value::Bool(truth) => Ok(print_bool(out, *truth)?),
+        Value::Text(text) => print_short(out, text.as_slice()),
+        Value::Tree(tree) => Ok(begin_tree(out, stack, *tree, signatures, store)?),
     }
 }
 
@@ -100,7 +133,7 @@ fn print_next<'a>(
     next: Pending<'a>,
     signatures: &Signatures,
     store: &'a TreeStore,
-) -> Result<(), AllocError>
+) -> Result<(), PrintRefusal>
     requires next { All (IsIn (length store.now)) next.values.now }
     requires pending { ArePendingIn (length store.now) (reverse stack.old.items) }
     ensures text { OnOk result (out.new.items ++ pending_text signatures.now store.now (reverse stack.new.items)
@@ -108,9 +141,10 @@ fn print_next<'a>(
     ensures weight { OnOk result (pending_weight store.now (reverse stack.new.items)
         < children_weight (values_in store.now next.entry.values.now) + pending_weight store.now (reverse stack.old.items)) }
     ensures pending { OnOk result (ArePendingIn (length store.now) (reverse stack.new.items)) }
+    ensures refused { IfErr result (IsTooLong (children_text next.entry.first signatures.now (values_in store.now next.entry.values.now))) }
 {
     match next.values {
-        [] => push(out, b')'),
+        [] => Ok(push(out, b')')?),
         [child, others @ ..] => {
             print_separator(out, next.first)?;
             push(
@@ -125,30 +159,11 @@ fn print_next<'a>(
     }
 }
 
-// The printed text of a value.
-fn printed(
-    alloc: Global,
-    value: &Value,
-    signatures: &Signatures,
-    store: &TreeStore,
-) -> Result<Vec<u8>, AllocError>
-    requires { IsIn (length store.now) value.now }
-    ensures { IfOk result (λ text. text.items ≡ printed_value signatures.now (value_in store.now value.now)) }
-{
-    let mut out = Vec::new(alloc);
-    let mut stack = Vec::new(alloc);
-    begin_value(&mut out, &mut stack, value, signatures, store)?;
-    'print: while let Some(next) = stack.pop() {
-        print_next(&mut out, &mut stack, next, signatures, store)?;
-    }
-    Ok(out)
-}
-
 /// The printed text of a value, whose trees are those of the store.
 ///
 /// A production without signature is printed with an empty name. `TooLong` comes exactly where the text has more than 16,777,216
-/// bytes; nothing is printed then, since its length is counted first. No clause bounds the work: it is linear in the text, as far as
-/// the limit, and visits only nodes that the value has, a shared one once for each place. Nothing recurses.
+/// bytes; what was printed until then is dropped. No clause bounds the work: it is linear in the text, as far as the limit, and visits only
+/// nodes that the value has, a shared one once for each place. Nothing recurses.
 pub fn print_value(
     alloc: Global,
     value: &Value,
@@ -160,9 +175,14 @@ pub fn print_value(
     ensures short { IfOk result (λ text. length text.items ≤ 16777216) }
     ensures refused { IfErr result (IsTooLong (printed_value signatures.now (value_in store.now value.now))) }
 {
-    if printed_length(alloc, value, signatures, store)? > LIMIT {
-        return Err(PrintRefusal::TooLong);
+    let mut out = Vec::new(alloc);
+    let mut stack = Vec::new(alloc);
+    begin_value(&mut out, &mut stack, value, signatures, store)?;
+    'print: while out.len() <= LIMIT {
+        let Some(next) = stack.pop() else {
+            return Ok(out);
+        };
+        print_next(&mut out, &mut stack, next, signatures, store)?;
     }
-    let text = printed(alloc, value, signatures, store)?;
-    Ok(text)
+    Err(PrintRefusal::TooLong)
 }

@@ -2,7 +2,7 @@ use Rattle.std.proofs.Common.{◌≡◌, ◌++◌, length, reverse}
 use Rattle.wb_values.specs.ValuesIn.{value_in}
 use Rattle.wb_terms.specs.Printed.{printed_value}
 use Rattle.wb_terms.specs.Inner.Pending.{pending_text, pending_weight, ArePendingIn}
-use Rattle.wb_terms.proofs.print.printed.Given as goal
+use Rattle.wb_terms.proofs.print.print_value.Given as goal
 
 abbrev pub invariant-print : goal.invariant-print
 invariant-print l =

@@ -1,0 +1,43 @@
+-- Texts that are too long to be printed because a part of them is.
+use Rattle.std.proofs.Common.{◌≤◌, ◌++◌, ◌∷◌, [], ◌/◌, ◌%◌, ◌&&◌, ℕ, Bool, true, false, List, length, length-append, cond, eqb, leb, arith}
+use Rattle.std.specs.Fmt.{digit_glyph}
+use Rattle.std.specs.List.{flat_map}
+use Rattle.wb_tokens.specs.Printing.{printed_byte, printed_text}
+use Rattle.wb_values.specs.Signature.{Signature}
+use Rattle.wb_values.specs.Tree.{Value, Values, more}
+use Rattle.wb_terms.specs.declared.refusal.PrintRefusal.{PrintRefusal}
+use Rattle.wb_terms.specs.declared.refusal.PrintRefusal.TheVariants.{TooLong, NoMemory}
+use Rattle.wb_terms.specs.Lengths.{IsTooLong}
+use Rattle.wb_terms.specs.Printed.{printed_value, printed_others}
+use Rattle.wb_terms.specs.Inner.Pending.{children_text}
+
+-- a byte is printed in one byte at least
+byte_long : (b : ℕ) (quote backslash line plain : Bool) → 1 ≤ length
+    (cond quote (92 ∷ 34 ∷ []) (cond backslash (92 ∷ 92 ∷ []) (cond line (92 ∷ 110 ∷ []) (cond plain (b ∷ [])
+    (92 ∷ 120 ∷ digit_glyph false (b / 16) ∷ digit_glyph false (b % 16) ∷ [])))))
+byte_long b true backslash line plain = omega arith
+byte_long b false true line plain = omega arith
+byte_long b false false true plain = omega arith
+byte_long b false false false true = omega arith
+byte_long b false false false false = omega arith
+
+bytes_long : (text : List ℕ) → length text ≤ length (flat_map printed_byte text)
+bytes_long [] = omega arith
+bytes_long (b ∷ text) =
+    let one : 1 ≤ length (printed_byte b) = byte_long b (eqb b 34) (eqb b 92) (eqb b 10) (leb 32 b && leb b 126) in
+    omega (arith, one, bytes_long text, length-append (printed_byte b) (flat_map printed_byte text))
+
+-- a text is no longer than its string
+pub text_long : (text : List ℕ) → length text ≤ length (printed_text text)
+text_long text = omega (arith, bytes_long text, length-append (flat_map printed_byte text) (34 ∷ []))
+
+-- what is at least as long is too long too
+pub too_long_in : (part whole : List ℕ) (e : PrintRefusal) → length part ≤ length whole → IsTooLong part e → IsTooLong whole e
+too_long_in part whole TooLong longer long = omega (arith, longer, long)
+too_long_in part whole (NoMemory error) longer long = tt
+
+-- children are no shorter than the first of them
+pub child_long : (first : Bool) (signatures : List Signature) (x : Value) (xs : Values)
+    → length (printed_value signatures x) ≤ length (children_text first signatures (more x xs))
+child_long true signatures x xs = omega (arith, length-append (printed_value signatures x) (printed_others signatures xs))
+child_long false signatures x xs = omega (arith, length-append (printed_value signatures x) (printed_others signatures xs))
