@@ -4,8 +4,12 @@ use Rattle.std.proofs.Common.{refl}
 use Rattle.wb_world.specs.Cause.{Rose}
 use Rattle.wb_world.specs.Shelf.{Files}
 use Rattle.wb_small.specs.declared.numbered.SmallSpec.{SmallSpec}
-use Rattle.wb_program.specs.Asked.{Asked, Read, AreReads, IsBuilt, value_is_built, show_is_built, value_reads, show_reads}
-use Rattle.wb_program.specs.Asked.{small_host, small_term}
+use Rattle.wb_hosts.specs.Contents.{IsHostText}
+use Rattle.wb_operations.specs.Operations.{OperationSignature}
+use Rattle.wb_resolved.specs.declared.resolved.ResolvedParts.{ResolvedParts}
+use Rattle.wb_program.specs.Asked.{Asked, Read, AreReads, IsBuilt, value_is_built, show_is_built, check_is_built, tree_is_built}
+use Rattle.wb_program.specs.Asked.{value_reads, show_reads, check_reads, tree_reads, file_of, small_host, small_term, certified_host}
+use Rattle.wb_program.specs.Asked.{parsed_text}
 use Rattle.wb_program.specs.Files.{FileIs, KnownFile, KnownAbsent}
 use Rattle.wb_program.specs.HostsAndTerms.{IsHost}
 use Rattle.wb_program.specs.Reads.{Passes, StopsAt, ComesTo, IsMissing, IsFaulty}
@@ -25,9 +29,23 @@ some_host_file None spec is = is
 some_host_file (Some contents) spec is = (spec, is)
 
 -- a file with the reading of a host passes
-some_host : (known : Option Files) (host : List ℕ) (spec : SmallSpec) → KnownFile known host (IsHost spec) → Passes known (small_host host)
-some_host None host spec is = tt
-some_host (Some files) host spec is = some_host_file (files host) spec is
+some_host : (operations : List OperationSignature) (known : Option Files) (host : List ℕ) (spec : SmallSpec) → KnownFile known host (IsHost spec)
+    → Passes operations known (small_host host)
+some_host operations None host spec is = tt
+some_host operations (Some files) host spec is = some_host_file (files host) spec is
+
+-- the next lemma, of one file
+some_certified_file : (operations : List OperationSignature) (file : Option (List ℕ)) (r : ResolvedParts)
+    → FileIs file (λ contents. IsHostText operations contents r)
+    → FileIs file (λ contents. (s : ResolvedParts) × IsHostText operations contents s)
+some_certified_file operations None r is = is
+some_certified_file operations (Some contents) r is = (r, is)
+
+-- a file that is a certified host passes
+some_certified : (operations : List OperationSignature) (known : Option Files) (host : List ℕ) (r : ResolvedParts)
+    → KnownFile known host (λ contents. IsHostText operations contents r) → Passes operations known (certified_host host)
+some_certified operations None host r is = tt
+some_certified operations (Some files) host r is = some_certified_file operations (files host) r is
 
 -- what is kept twice is kept
 pub goes_on_twice : (before between now : Outside) → GoesOn before between → GoesOn between now → GoesOn before now
@@ -38,54 +56,69 @@ goes_on_twice before between now first second = record {
 }
 
 -- a run that stops at its first file stops at one of its files
-pub stops_first : (before now : Outside) (read : Read) (file : List ℕ) (reads : List Read) (failure : ReadFailure)
-    → ((P : List ℕ → Type 0) → P file → StopsAt before.files P (read ∷ reads))
-    → Stopped before now (λ P. P file) failure → Stopped before now (λ P. StopsAt before.files P (read ∷ reads)) failure
-stops_first before now read file reads Absent first stopped = first (IsMissing before.files before.absences now.absences) stopped
-stops_first before now read file reads ReadFault first stopped = first (IsFaulty before.faults now.faults) stopped
-stops_first before now read file reads NoMemory first stopped = tt
+pub stops_first : (operations : List OperationSignature) (before now : Outside) (read : Read) (file : List ℕ) (reads : List Read)
+    (failure : ReadFailure) → ((P : List ℕ → Type 0) → P file → StopsAt operations before.files P (read ∷ reads))
+    → Stopped before now (λ P. P file) failure → Stopped before now (λ P. StopsAt operations before.files P (read ∷ reads)) failure
+stops_first operations before now read file reads Absent first stopped =
+    first (IsMissing before.files before.absences now.absences) stopped
+stops_first operations before now read file reads ReadFault first stopped = first (IsFaulty before.faults now.faults) stopped
+stops_first operations before now read file reads NoMemory first stopped = tt
 
--- a run that stops at the term, after its host was read
-pub stops_second : (before between now : Outside) (host term : List ℕ) (spec : SmallSpec) (failure : ReadFailure) →
-    KnownFile before.files host (IsHost spec)
-    → GoesOn before between → Stopped between now (λ P. P term) failure
-    → Stopped before now (λ P. StopsAt before.files P (small_host host ∷ small_term term ∷ [])) failure
-stops_second before between now host term spec Absent is kept (rose, absent) =
+-- a run that stops at its second file, after the first passed
+stops_next : (operations : List OperationSignature) (before between now : Outside) (first second : Read) (failure : ReadFailure)
+    → Passes operations before.files first → GoesOn before between → Stopped between now (λ P. P (file_of second)) failure
+    → Stopped before now (λ P. StopsAt operations before.files P (first ∷ second ∷ [])) failure
+stops_next operations before between now first second Absent passes kept (rose, absent) =
+    let file = file_of second in
     inr (
-      some_host before.files host spec is,
+      passes,
       inl (
-        rose_since (before.absences term) (between.absences term) (now.absences term) (kept.absences term) rose,
-        subst
-            (λ known. KnownAbsent known term) kept.files absent,
+        rose_since (before.absences file) (between.absences file) (now.absences file) (kept.absences file) rose,
+        subst (λ known. KnownAbsent known file) kept.files absent,
       ),
     )
-stops_second before between now host term spec ReadFault is kept rose =
-    inr (
-      some_host before.files host spec is,
-      inl
-          (rose_since (before.faults term) (between.faults term) (now.faults term) (kept.faults term) rose),
-    )
-stops_second before between now host term spec NoMemory is kept stopped = tt
+stops_next operations before between now first second ReadFault passes kept rose =
+    let file = file_of second in
+    inr (passes, inl (rose_since (before.faults file) (between.faults file) (now.faults file) (kept.faults file) rose))
+stops_next operations before between now first second NoMemory passes kept stopped = tt
+
+-- a run that stops at the term, after its host was read
+pub stops_second : (operations : List OperationSignature) (before between now : Outside) (host term : List ℕ) (spec : SmallSpec)
+    (failure : ReadFailure) → KnownFile before.files host (IsHost spec) → GoesOn before between → Stopped between now (λ P. P term) failure
+    → Stopped before now (λ P. StopsAt operations before.files P (small_host host ∷ small_term term ∷ [])) failure
+stops_second operations before between now host term spec failure is kept stopped =
+    stops_next operations before between now (small_host host) (small_term term) failure (some_host operations before.files host spec is) kept
+    stopped
+
+-- a run that stops at the text, after its host was certified
+pub stops_at_text : (operations : List OperationSignature) (before between now : Outside) (host text : List ℕ) (r : ResolvedParts)
+    (failure : ReadFailure) → KnownFile before.files host (λ contents. IsHostText operations contents r) → GoesOn before between
+    → Stopped between now (λ P. P text) failure
+    → Stopped before now (λ P. StopsAt operations before.files P (certified_host host ∷ parsed_text text ∷ [])) failure
+stops_at_text operations before between now host text r failure is kept stopped =
+    stops_next operations before between now (certified_host host) (parsed_text text) failure
+    (some_certified operations before.files host r is) kept stopped
 
 -- a run of a command stops at one of its files
-pub comes_to : (before now : Outside) (words : List (List ℕ)) (asked : Asked) (reads : List Read) (failure : ReadFailure) → Asks words asked
-    → AreReads asked reads → Stopped before now (λ P. StopsAt before.files P reads) failure →
-    Stopped before now (ComesTo words before.files) failure
-comes_to before now words asked reads Absent asks are stops = record {
+pub comes_to : (operations : List OperationSignature) (before now : Outside) (words : List (List ℕ)) (asked : Asked) (reads : List Read)
+    (failure : ReadFailure) → Asks words asked → AreReads asked reads
+    → Stopped before now (λ P. StopsAt operations before.files P reads) failure
+    → Stopped before now (ComesTo operations words before.files) failure
+comes_to operations before now words asked reads Absent asks are stops = record {
   asked = asked;
   asks = asks;
   reads = reads;
   are_reads = are;
   stops = stops;
 }
-comes_to before now words asked reads ReadFault asks are stops = record {
+comes_to operations before now words asked reads ReadFault asks are stops = record {
   asked = asked;
   asks = asks;
   reads = reads;
   are_reads = are;
   stops = stops;
 }
-comes_to before now words asked reads NoMemory asks are stops = tt
+comes_to operations before now words asked reads NoMemory asks are stops = tt
 
 -- a run that stops at a file later stops at it since it began
 pub stops_since : (before between now : Outside) (file : List ℕ) (failure : ReadFailure) → GoesOn before between
@@ -103,24 +136,27 @@ stops_since before between now file NoMemory kept stopped = tt
 built_of : (asked : Asked) (reads : List Read) → AreReads asked reads → IsBuilt asked
 built_of asked reads value_reads = value_is_built
 built_of asked reads show_reads = show_is_built
+built_of asked reads check_reads = check_is_built
+built_of asked reads tree_reads = tree_is_built
 
 -- words that come to read a file are in the command set
-reads_built : (words : List (List ℕ)) (known : Option Files) (P : List ℕ → Type 0) → ComesTo words known P → InCommandSet words
-reads_built words known P comes = record {
+reads_built : (operations : List OperationSignature) (words : List (List ℕ)) (known : Option Files) (P : List ℕ → Type 0)
+    → ComesTo operations words known P → InCommandSet words
+reads_built operations words known P comes = record {
   asked = comes.asked;
   asks = comes.asks;
   built = built_of comes.asked comes.reads comes.are_reads;
 }
 
 -- a run that stops at a file that the words name is asked for something built, but for want of memory
-pub stopped_asked : (before now : Outside) (words : List (List ℕ)) (failure : ReadFailure) →
-    Stopped before now (ComesTo words before.files) failure
+pub stopped_asked : (operations : List OperationSignature) (before now : Outside) (words : List (List ℕ)) (failure : ReadFailure) →
+    Stopped before now (ComesTo operations words before.files) failure
     → ¬ InCommandSet words → failure ≡ NoMemory
-stopped_asked before now words Absent stopped none_asked = absurd
-    (none_asked (reads_built words before.files (IsMissing before.files before.absences now.absences) stopped))
-stopped_asked before now words ReadFault stopped none_asked = absurd
-    (none_asked (reads_built words before.files (IsFaulty before.faults now.faults) stopped))
-stopped_asked before now words NoMemory stopped none_asked = refl
+stopped_asked operations before now words Absent stopped none_asked = absurd
+    (none_asked (reads_built operations words before.files (IsMissing before.files before.absences now.absences) stopped))
+stopped_asked operations before now words ReadFault stopped none_asked = absurd
+    (none_asked (reads_built operations words before.files (IsFaulty before.faults now.faults) stopped))
+stopped_asked operations before now words NoMemory stopped none_asked = refl
 
 -- what holds of an answer, from what holds of it
 pub on_ok : {X E : Type 0} (r : Result X E) (P Q : X → Type 0) → ((x : X) → P x → Q x) → IfOk r P → IfOk r Q

@@ -1,6 +1,10 @@
+mod AskLemmas
 mod CauseLemmas
+mod HostLemmas
 mod Known
 pub mod OneAsked
+mod OneCheck
+mod OneHostReport
 pub mod OneReport
 mod Pieces
 mod Reported

@@ -1,5 +1,5 @@
 -- Words and known files have one status, and one text where a refusal has one.
-use Rattle.std.proofs.Common.{◌≡◌, inl, inr, ℕ, List, Option, Some, None, arith, ap, sym, ◌∙◌, subst}
+use Rattle.std.proofs.Common.{◌≡◌, ◌≢◌, ◌⊎◌, inl, inr, ℕ, List, [], Option, Some, None, arith, ap, sym, ◌∙◌, subst}
 use Rattle.wb_world.specs.Shelf.{Files}
 use Rattle.wb_small.specs.declared.numbered.SmallSpec.{SmallSpec}
 use Rattle.wb_small.specs.declared.term.SmallTerm.{SmallTerm}
@@ -17,48 +17,25 @@ use Rattle.wb_reader.proofs.Excluding.{none_refused, one_refusal}
 use Rattle.wb_reader.proofs.OneText.{one_text as one_read}
 use Rattle.wb_printer.proofs.CallerLemmas.{one_canonical}
 use Rattle.wb_operations.specs.Operations.{Operations}
-use Rattle.wb_program.specs.Asked.{Asked, IsBuilt, value_is_built, show_is_built}
-use Rattle.wb_program.specs.Checks.{Report, Ends, Check}
+use Rattle.wb_program.specs.Asked.{Asked, IsBuilt, value_is_built, show_is_built, check_is_built, tree_is_built}
+use Rattle.wb_program.specs.Asked.{HasOneRefusal, value_refuses, show_refuses}
+use Rattle.wb_program.specs.Asked as a
+use Rattle.wb_program.specs.Checks.{Ends}
 use Rattle.wb_program.specs.Files.{FileIs, KnownFile, IsTooLongOr}
 use Rattle.wb_program.specs.HostsAndTerms.{IsHost, IsNoHost, IsTerm, IsNoTerm}
-use Rattle.wb_program.specs.Laws.{HaveOneStatus, HaveOneText}
+use Rattle.wb_program.specs.Laws.{HaveOneStatus, HaveOneText, EndAsReported}
 use Rattle.wb_program.specs.Lines.{fault_line, value_line, spec_refused_line}
 use Rattle.wb_program.specs.Report.{IsReportOf, IsAnswered, IsReport, value_report, show_report}
+use Rattle.wb_program.specs.Report.{check_report, tree_report}
 use Rattle.wb_program.specs.ShowReport.{RefusesSpec, ShowReport}
 use Rattle.wb_program.specs.ValueReport.{RefusesHost, RefusesTerm, LacksAttribute, HasFault, NumberReport, AnswerReport, TermReport}
 use Rattle.wb_program.specs.ValueReport.{ValueReport}
-use Rattle.wb_program.specs.Words.{InCommandSet}
+use Rattle.wb_program.specs.Words.{Asks, InCommandSet}
 use Rattle.wb_program.specs.declared.status.Status.{Status}
-use Rattle.wb_program.specs.declared.status.Status.TheVariants.{Done, SpecRefused, OperationFault, UnknownAttribute}
+use Rattle.wb_program.specs.declared.status.Status.TheVariants.{Done, SpecRefused, NotCertified, OperationFault, UnknownAttribute}
 use Rattle.wb_program.proofs.OneAsked.{one_asked}
-
--- two facts of one file are facts of one text
-on_file : (file : Option (List ℕ)) (P Q : List ℕ → Type 0) (R : Type 0) → ((contents : List ℕ) → P contents → Q contents → R)
-    → FileIs file P → FileIs file Q → R
-on_file None P Q R both p q = absurd p
-on_file (Some contents) P Q R both p q = both contents p q
-
--- two reports: one status, and one text
-abbrev AreOne : Status → Status → List ℕ → List ℕ → Type 0
-AreOne s t bytes others = (s ≡ t) × (bytes ≡ others)
-
--- what makes two reports by one check one: it fails or passes, fails in one way, passes with one value, and goes on as one
-module _ {X : Type 0} (ending s t : Status) (bytes others : List ℕ) (Line : List ℕ → Type 0) (Passes : X → Type 0) (rest : X → Report)
-    (excludes : (line : List ℕ) (x : X) → Line line → Passes x → ⊥) (one_line : Line bytes → Line others → bytes ≡ others)
-    (one_value : (x y : X) → Passes x → Passes y → x ≡ y)
-    (goes_on : (x : X) → Passes x → rest x s bytes → rest x t others → AreOne s t bytes others) where
-  -- two reports by the check are one
-  pub one_check : Check ending Line Passes rest s bytes → Check ending Line Passes rest t others → AreOne s t bytes others
-  one_check (inl (ends, line)) (inl (ends', line')) = (ends ∙ sym ends', one_line line line')
-  one_check (inl (ends, line)) (inr (y, passes', more')) = absurd (excludes bytes y line passes')
-  one_check (inr (x, passes, more)) (inl (ends', line')) = absurd (excludes others x line' passes)
-  one_check (inr (x, passes, more)) (inr (y, passes', more')) =
-      goes_on x passes more (subst (λ (z : X). rest z t others) (one_value y x passes' passes) more')
-
--- two reports that end with one status and line are one
-one_end : (ending s t : Status) (bytes others : List ℕ) (Line : List ℕ → Type 0) → (Line bytes → Line others → bytes ≡ others)
-    → Ends ending Line s bytes → Ends ending Line t others → AreOne s t bytes others
-one_end ending s t bytes others Line one (ends, line) (ends', line') = (ends ∙ sym ends', one line line')
+use Rattle.wb_program.proofs.OneCheck.{AreOne, on_file, one_check, one_end}
+use Rattle.wb_program.proofs.OneHostReport.{AreAlike, one_check_report, one_tree_report}
 
 -- a small host is none that is refused
 no_host : (spec : SmallSpec) (contents : List ℕ) → IsTooLongOr 1048576 IsNoHost contents → IsHost spec contents → ⊥
@@ -161,21 +138,53 @@ module _ (files : Files) (file : List ℕ) (s t : Status) (bytes others : List �
       (λ c p q. one_read c x y p.1 q.1) first second)
       (λ spec read. one_end Done s t bytes others (IsCanonical spec) (λ p q. one_canonical spec bytes others p q))
 
+-- a command whose refusals have one text
+abbrev IsOnce : Asked → Type 0
+IsOnce (a.value host term attribute) = Unit {0}
+IsOnce (a.show file) = Unit {0}
+IsOnce other = ⊥
+
+-- is one of these
+once : (asked : Asked) → HasOneRefusal asked → IsOnce asked
+once asked value_refuses = tt
+once asked show_refuses = tt
+
+-- two reports: one status, and one text unless they are a refusal that may choose its example
+abbrev AreOneOf : Asked → Status → Status → List ℕ → List ℕ → Type 0
+AreOneOf asked s t bytes others =
+    (s ≡ t) × (((s ≢ SpecRefused) × (s ≢ NotCertified)) ⊎ HasOneRefusal asked → bytes ≡ others)
+
+-- reports that are one
+when_one : (asked : Asked) (s t : Status) (bytes others : List ℕ) → AreOne s t bytes others → AreOneOf asked s t bytes others
+when_one asked s t bytes others one = (one.0, λ chosen. one.1)
+
+-- reports whose refusals may differ
+when_alike : (asked : Asked) (s t : Status) (bytes others : List ℕ) → ¬ IsOnce asked → AreAlike s t bytes others
+    → AreOneOf asked s t bytes others
+when_alike asked s t bytes others may alike =
+    (alike.0, λ chosen. elim chosen [ inl differ ↦ alike.1 differ.0 differ.1 | inr is ↦ absurd (may (once asked is)) ])
+
 -- two reports of what is asked are one
 one_report_of : (operations : Operations) (files : Files) (s t : Status) (bytes others : List ℕ) (asked : Asked) → IsReportOf operations
     (Some files) s bytes asked →
-    IsReportOf operations (Some files) t others asked → AreOne s t bytes others
+    IsReportOf operations (Some files) t others asked → AreOneOf asked s t bytes others
 one_report_of operations files s t bytes others asked (value_report {host = host} {term = term} {attribute = attribute} x)
     (value_report y) =
-    one_value_report files host term attribute s t bytes others x y
+    when_one (a.value host term attribute) s t bytes others (one_value_report files host term attribute s t bytes others x y)
 one_report_of operations files s t bytes others asked (show_report {file = file} x) (show_report y) =
-    one_show_report files file s t bytes others x y
+    when_one (a.show file) s t bytes others (one_show_report files file s t bytes others x y)
+one_report_of operations files s t bytes others asked (check_report {host = host} x) (check_report y) =
+    when_alike (a.check host) s t bytes others (λ is. is) (one_check_report operations.signatures files host s t bytes others x y)
+one_report_of operations files s t bytes others asked (tree_report {text = text} {host = host} x) (tree_report y) =
+    when_alike (a.tree text host []) s t bytes others (λ is. is) (one_tree_report operations.signatures files text host s t bytes others x y)
 
 -- what has a report is built
 is_built : (operations : Operations) (known : Option Files) (s : Status) (bytes : List ℕ) (asked : Asked)
     → IsReportOf operations known s bytes asked → IsBuilt asked
 is_built operations known s bytes asked (value_report x) = value_is_built
 is_built operations known s bytes asked (show_report x) = show_is_built
+is_built operations known s bytes asked (check_report x) = check_is_built
+is_built operations known s bytes asked (tree_report x) = tree_is_built
 
 -- words with a report are in the command set
 in_set : (operations : Operations) (known : Option Files) (s : Status) (bytes : List ℕ) (words : List (List ℕ))
@@ -183,16 +192,21 @@ in_set : (operations : Operations) (known : Option Files) (s : Status) (bytes : 
 in_set operations known s bytes words x =
     record { asked = x.asked; asks = x.asks; built = is_built operations known s bytes x.asked x.report }
 
+-- one text is wanted of the words: it is no refusal, or one that has no choice
+abbrev WantsOneText : List (List ℕ) → Status → Type 0
+WantsOneText words s = ((s ≢ SpecRefused) × (s ≢ NotCertified)) ⊎ ((asked : Asked) → Asks words asked → HasOneRefusal asked)
+
 -- two reports of words and files are one
 one_report : (operations : Operations) (words : List (List ℕ)) (files : Files) (s t : Status) (bytes others : List ℕ)
     → IsReport operations words (Some files) s bytes →
-    IsReport operations words (Some files) t others → AreOne s t bytes others
-one_report operations words files s t bytes others (inl x) (inl y) = (x.usage ∙ sym y.usage, x.line ∙ sym y.line)
+    IsReport operations words (Some files) t others → (s ≡ t) × (WantsOneText words s → bytes ≡ others)
+one_report operations words files s t bytes others (inl x) (inl y) = (x.usage ∙ sym y.usage, λ wants. x.line ∙ sym y.line)
 one_report operations words files s t bytes others (inl x) (inr y) = absurd (x.none_asked (in_set operations (Some files) t others words y))
 one_report operations words files s t bytes others (inr x) (inl y) = absurd (y.none_asked (in_set operations (Some files) s bytes words x))
 one_report operations words files s t bytes others (inr x) (inr y) =
-    one_report_of operations files s t bytes others x.asked x.report
-    (subst (λ (z : Asked). IsReportOf operations (Some files) t others z) (one_asked words y.asked x.asked y.asks x.asks) y.report)
+    let one : AreOneOf x.asked s t bytes others = one_report_of operations files s t bytes others x.asked x.report
+    (subst (λ (z : Asked). IsReportOf operations (Some files) t others z) (one_asked words y.asked x.asked y.asks x.asks) y.report) in
+    (one.0, λ wants. one.1 (elim wants [ inl differ ↦ inl differ | inr once_refused ↦ inr (once_refused x.asked x.asks) ]))
 
 -- words and known files have one status
 pub one_status : HaveOneStatus
@@ -200,4 +214,12 @@ one_status operations words files s t bytes others first second = (one_report op
 
 -- words and known files have one text with a status
 pub one_text : HaveOneText
-one_text operations words files s bytes others chooses first second = (one_report operations words files s s bytes others first second).1
+one_text operations words files s bytes others chooses first second =
+    (one_report operations words files s s bytes others first second).1 chooses
+
+-- a run ends with the status of the one report, if it has one
+pub end_as_reported : EndAsReported
+end_as_reported operations words files status end bytes before now report (inl nothing) = inr (inr nothing.0)
+end_as_reported operations words files status end bytes before now report (inr (inl fault)) = inr (inl fault.0)
+end_as_reported operations words files status end bytes before now report (inr (inr whole)) =
+    inl (one_status operations words files end status whole.bytes bytes whole.report report)

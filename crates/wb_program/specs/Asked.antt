@@ -24,11 +24,18 @@ pub data Asked : Type 0 where
 pub data IsBuilt : Asked → Type 0 where
   value_is_built : {host term attribute : List ℕ} → IsBuilt (value host term attribute)
   show_is_built : {file : List ℕ} → IsBuilt (show file)
+  check_is_built : {host : List ℕ} → IsBuilt (check host)
+  -- of a host without extensions
+  tree_is_built : {text host : List ℕ} → IsBuilt (tree text host [])
 
 -- a file as what it is read
 pub data Read : Type 0 where
   -- a specification that is shown
   specification : List ℕ → Read
+  -- a host that is certified
+  certified_host : List ℕ → Read
+  -- a text that is parsed
+  parsed_text : List ℕ → Read
   -- a small host
   small_host : List ℕ → Read
   -- a small term
@@ -37,6 +44,8 @@ pub data Read : Type 0 where
 -- the name of the file
 abbrev pub file_of : Read → List ℕ
 file_of (specification file) = file
+file_of (certified_host file) = file
+file_of (parsed_text file) = file
 file_of (small_host file) = file
 file_of (small_term file) = file
 
@@ -44,6 +53,8 @@ file_of (small_term file) = file
 pub data AreReads : Asked → List Read → Type 0 where
   value_reads : {host term attribute : List ℕ} → AreReads (value host term attribute) (small_host host ∷ small_term term ∷ [])
   show_reads : {file : List ℕ} → AreReads (show file) (specification file ∷ [])
+  check_reads : {host : List ℕ} → AreReads (check host) (certified_host host ∷ [])
+  tree_reads : {text host : List ℕ} → AreReads (tree text host []) (certified_host host ∷ parsed_text text ∷ [])
 
 -- each refusal of the command has one text; the others may show any true example
 pub data HasOneRefusal : Asked → Type 0 where

@@ -1,12 +1,14 @@
--- Words ask one thing at most; words and files have one status at most, and one text where a refusal has no choice of example.
-use Rattle.std.specs.Prelude.{◌≡◌, ◌≢◌, ◌⊎◌, ℕ, Some, List}
+-- Words ask one thing at most; words and files have one status at most, with which a run ends, and one text where a refusal has no choice of
+-- example.
+use Rattle.std.specs.Prelude.{◌≡◌, ◌≢◌, ◌⊎◌, ℕ, Option, Some, List}
 use Rattle.wb_world.specs.Shelf.{Files}
 use Rattle.wb_operations.specs.Operations.{Operations}
 use Rattle.wb_program.specs.Asked.{Asked, HasOneRefusal}
 use Rattle.wb_program.specs.Report.{IsReport}
 use Rattle.wb_program.specs.Words.{Asks}
+use Rattle.wb_program.specs.Written.{Wrote, WritesNothing}
 use Rattle.wb_program.specs.declared.status.Status.{Status}
-use Rattle.wb_program.specs.declared.status.Status.TheVariants.{SpecRefused}
+use Rattle.wb_program.specs.declared.status.Status.TheVariants.{SpecRefused, NotCertified, WriteFault}
 
 -- words ask one thing at most
 abbrev pub AskOneThing : Type 0
@@ -20,5 +22,12 @@ HaveOneStatus = (operations : Operations) (words : List (List ℕ)) (files : Fil
 -- words and known files have one text at most with a status, unless it is a refusal that may choose its example
 abbrev pub HaveOneText : Type 0
 HaveOneText = (operations : Operations) (words : List (List ℕ)) (files : Files) (status : Status) (bytes others : List ℕ)
-    → (status ≢ SpecRefused) ⊎ ((asked : Asked) → Asks words asked → HasOneRefusal asked)
+    → ((status ≢ SpecRefused) × (status ≢ NotCertified)) ⊎ ((asked : Asked) → Asks words asked → HasOneRefusal asked)
     → IsReport operations words (Some files) status bytes → IsReport operations words (Some files) status others → bytes ≡ others
+
+-- where words and known files have a report, a run ends with its status, so with 0 where everything is in order; else it ends at a file or
+-- at the output, or for want of memory
+abbrev pub EndAsReported : Type 0
+EndAsReported = (operations : Operations) (words : List (List ℕ)) (files : Files) (status end : Status) (bytes : List ℕ)
+    (before now : Option (List ℕ)) → IsReport operations words (Some files) status bytes
+    → Wrote (IsReport operations words (Some files)) before now end → (end ≡ status) ⊎ (end ≡ WriteFault) ⊎ WritesNothing end

@@ -2,31 +2,37 @@
 use Rattle.std.specs.Prelude.{◌⊎◌, ℕ, Option, List, [], ◌∷◌}
 use Rattle.wb_world.specs.Cause.{Rose}
 use Rattle.wb_world.specs.Shelf.{Files}
+use Rattle.wb_hosts.specs.Contents.{IsHostText}
+use Rattle.wb_operations.specs.Operations.{OperationSignature}
+use Rattle.wb_resolved.specs.declared.resolved.ResolvedParts.{ResolvedParts}
 use Rattle.wb_small.specs.declared.numbered.SmallSpec.{SmallSpec}
 use Rattle.wb_program.specs.Asked.{Asked, Read, file_of, AreReads}
-use Rattle.wb_program.specs.Asked.{specification, small_host, small_term}
+use Rattle.wb_program.specs.Asked.{specification, certified_host, parsed_text, small_host, small_term}
 use Rattle.wb_program.specs.Files.{KnownFile, KnownAbsent}
 use Rattle.wb_program.specs.HostsAndTerms.{IsHost}
 use Rattle.wb_program.specs.Words.{Asks}
 
 -- the file passes its checks, so that the next one is read
-abbrev pub Passes : Option Files → Read → Type 0
-Passes known (specification file) = Unit {0}
-Passes known (small_host file) = KnownFile known file (λ contents. (spec : SmallSpec) × IsHost spec contents)
-Passes known (small_term file) = Unit {0}
+abbrev pub Passes : List OperationSignature → Option Files → Read → Type 0
+Passes operations known (specification file) = Unit {0}
+Passes operations known (certified_host file) = KnownFile known file (λ contents. (r : ResolvedParts) × IsHostText operations contents r)
+Passes operations known (parsed_text file) = Unit {0}
+Passes operations known (small_host file) = KnownFile known file (λ contents. (spec : SmallSpec) × IsHost spec contents)
+Passes operations known (small_term file) = Unit {0}
 
 -- a file of the list meets this, and all before it pass their checks
-abbrev pub StopsAt : Option Files → (List ℕ → Type 0) → List Read → Type 0
-StopsAt known P [] = ⊥
-StopsAt known P (read ∷ reads) = P (file_of read) ⊎ (Passes known read × StopsAt known P reads)
+abbrev pub StopsAt : List OperationSignature → Option Files → (List ℕ → Type 0) → List Read → Type 0
+StopsAt operations known P [] = ⊥
+StopsAt operations known P (read ∷ reads) = P (file_of read) ⊎ (Passes operations known read × StopsAt operations known P reads)
 
 -- the words ask for a command that comes to read a file that meets this
-pub record ComesTo (words : List (List ℕ)) (known : Option Files) (P : List ℕ → Type 0) : Type 0 where
+pub record ComesTo (operations : List OperationSignature) (words : List (List ℕ)) (known : Option Files) (P : List ℕ → Type 0)
+    : Type 0 where
   pub asked : Asked
   pub asks : Asks words asked
   pub reads : List Read
   pub are_reads : AreReads asked reads
-  pub stops : StopsAt known P reads
+  pub stops : StopsAt operations known P reads
 
 -- a read of the file found none in this run, and no file has that name
 abbrev pub IsMissing : Option Files → (List ℕ → ℕ) → (List ℕ → ℕ) → List ℕ → Type 0
@@ -37,9 +43,9 @@ abbrev pub IsFaulty : (List ℕ → ℕ) → (List ℕ → ℕ) → List ℕ →
 IsFaulty before now file = Rose (before file) (now file)
 
 -- a run that ends for want of a file: one that the words name is missing, and no check before it fails
-abbrev pub AbsentCause : List (List ℕ) → Option Files → (List ℕ → ℕ) → (List ℕ → ℕ) → Type 0
-AbsentCause words known before now = ComesTo words known (IsMissing known before now)
+abbrev pub AbsentCause : List OperationSignature → List (List ℕ) → Option Files → (List ℕ → ℕ) → (List ℕ → ℕ) → Type 0
+AbsentCause operations words known before now = ComesTo operations words known (IsMissing known before now)
 
 -- a run that ends at a fault of reading: reading a file that the words name failed, and no check before it fails
-abbrev pub FaultCause : List (List ℕ) → Option Files → (List ℕ → ℕ) → (List ℕ → ℕ) → Type 0
-FaultCause words known before now = ComesTo words known (IsFaulty before now)
+abbrev pub FaultCause : List OperationSignature → List (List ℕ) → Option Files → (List ℕ → ℕ) → (List ℕ → ℕ) → Type 0
+FaultCause operations words known before now = ComesTo operations words known (IsFaulty before now)

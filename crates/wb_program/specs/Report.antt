@@ -1,11 +1,13 @@
 -- Which status and which bytes the words and the files give, where operations mean what they mean.
-use Rattle.std.specs.Prelude.{◌≡◌, ◌⊎◌, ℕ, Option, List}
+use Rattle.std.specs.Prelude.{◌≡◌, ◌⊎◌, ℕ, Option, List, []}
 use Rattle.wb_world.specs.Shelf.{Files}
 use Rattle.wb_operations.specs.Operations.{Operations}
 use Rattle.wb_program.specs.Asked.{Asked}
 use Rattle.wb_program.specs.Asked as a
+use Rattle.wb_program.specs.CheckReport.{CheckReport}
 use Rattle.wb_program.specs.Lines.{usage_line}
 use Rattle.wb_program.specs.ShowReport.{ShowReport}
+use Rattle.wb_program.specs.TreeReport.{TreeReport}
 use Rattle.wb_program.specs.ValueReport.{ValueReport}
 use Rattle.wb_program.specs.Words.{Asks, InCommandSet}
 use Rattle.wb_program.specs.declared.status.Status.{Status}
@@ -16,6 +18,10 @@ pub data IsReportOf (operations : Operations) (known : Option Files) (status : S
   value_report : {host term attribute : List ℕ} → ValueReport known host term attribute status bytes
       → IsReportOf operations known status bytes (a.value host term attribute)
   show_report : {file : List ℕ} → ShowReport known file status bytes → IsReportOf operations known status bytes (a.show file)
+  check_report : {host : List ℕ} → CheckReport operations.signatures known host status bytes
+      → IsReportOf operations known status bytes (a.check host)
+  tree_report : {text host : List ℕ} → TreeReport operations.signatures known text host status bytes
+      → IsReportOf operations known status bytes (a.tree text host [])
 
 -- the words ask for no command, and the bytes are the usage line
 pub record IsUsage (words : List (List ℕ)) (status : Status) (bytes : List ℕ) : Type 0 where

@@ -2,6 +2,7 @@
 use Rattle.std.specs.Prelude.{ℕ}
 use Rattle.wb_program.specs.declared.status.Status.{Status}
 use Rattle.wb_program.specs.declared.status.Status.TheVariants.{Done, Usage, SpecRefused, OperationFault, UnknownAttribute}
+use Rattle.wb_program.specs.declared.status.Status.TheVariants.{NotCertified, TextStopped, TextTooLong, TooLongToPrint}
 use Rattle.wb_program.specs.declared.status.Status.TheVariants.{Absent, ReadFault, WriteFault, NoMemory}
 
 -- the number that a process with this status ends with
@@ -9,9 +10,13 @@ abbrev pub number_of : Status → ℕ
 number_of Done = 0
 number_of Usage = 2
 number_of SpecRefused = 3
+number_of NotCertified = 4
+number_of TextStopped = 5
 number_of OperationFault = 6
 number_of Absent = 8
 number_of ReadFault = 9
 number_of WriteFault = 10
 number_of NoMemory = 11
+number_of TextTooLong = 12
+number_of TooLongToPrint = 13
 number_of UnknownAttribute = 17

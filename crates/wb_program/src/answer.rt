@@ -1,10 +1,12 @@
 //! What does `value` answer, and what is answered to words that are no command?
 //!
-//! A status with its report, which is made whole before its first byte is written. `show` is in `show`, the lines in `lines`.
+//! A status with its report, which is made whole before its first byte is written. Other commands have files of their own.
 
-ghost use Rattle.std.specs.Prelude.{◌≡◌, IfOk, IfErr, [], ◌∷◌};
+ghost use Rattle.std.specs.Prelude.{◌≡◌, IfOk, IfErr, List, [], ◌∷◌};
+ghost use Rattle.wb_operations.specs.Operations.{OperationSignature};
 ghost use Rattle.wb_small.specs.SmallSpec.{IsSmallSpec};
 ghost use Rattle.wb_small.specs.SmallTerm.{IsSmallTerm};
+ghost use Rattle.wb_report.specs.Lines.{report_of};
 ghost use Rattle.wb_program.specs.Asked.{small_host, small_term};
 ghost use Rattle.wb_program.specs.Lines.{refused_line, usage_line};
 ghost use Rattle.wb_program.specs.Reads.{StopsAt};
@@ -17,6 +19,7 @@ use crate::reading::ReadFailure;
 use crate::status::Status;
 use std::alloc::{AllocError, Global};
 use wb_eval::{SmallAnswer, attribute_named, evaluate_small};
+use wb_report::{Outcome, report};
 use wb_small::{SmallSpec, SmallTerm};
 use wb_world::Shelf;
 
@@ -36,8 +39,8 @@ pub(crate) fn answer_value<S: Shelf>(
     attribute: &str,
 ) -> Result<Answer, ReadFailure>
     ensures ok { IfOk result (λ answer. ValueReport (S.files shelf.old) host.now term.now attribute.now answer.status answer.report.items) }
-    ensures stopped { IfErr result (Stopped (outside (S.files shelf.old) (S.absences shelf.old) (S.faults shelf.old))
-        (outside (S.files shelf.new) (S.absences shelf.new) (S.faults shelf.new)) (λ P. StopsAt (S.files shelf.old) P (small_host host.now ∷ small_term term.now ∷ []))) }
+    ensures stopped { (operations : List OperationSignature) → IfErr result (Stopped (outside (S.files shelf.old) (S.absences shelf.old) (S.faults shelf.old))
+        (outside (S.files shelf.new) (S.absences shelf.new) (S.faults shelf.new)) (λ P. StopsAt operations (S.files shelf.old) P (small_host host.now ∷ small_term term.now ∷ []))) }
     ensures goes_on { GoesOn (outside (S.files shelf.old) (S.absences shelf.old) (S.faults shelf.old))
         (outside (S.files shelf.new) (S.absences shelf.new) (S.faults shelf.new)) }
 {
@@ -77,6 +80,31 @@ fn answer_on(
             report: lines::fault(alloc, code)?,
         }),
     }
+}
+
+// The answer with the report of an outcome.
+pub(crate) fn reported(
+    alloc: Global,
+    status: Status,
+    outcome: Outcome,
+) -> Result<Answer, AllocError>
+    ensures status { IfOk result (λ answer. answer.status ≡ status) }
+    ensures report { IfOk result (λ answer. answer.report.items ≡ report_of outcome) }
+{
+    // An array lets go of what it holds by a call, so that the drop of an outcome is proved once and part by part.
+    let held = [outcome];
+    with_report(alloc, status, &held[0])
+}
+
+// The answer with the report of an outcome that is lent.
+fn with_report(alloc: Global, status: Status, outcome: &Outcome) -> Result<Answer, AllocError>
+    ensures status { IfOk result (λ answer. answer.status ≡ status) }
+    ensures report { IfOk result (λ answer. answer.report.items ≡ report_of outcome.now) }
+{
+    Ok(Answer {
+        status,
+        report: report(alloc, outcome)?,
+    })
 }
 
 // The answer for a file that isn't a small host or a small term.

@@ -2,7 +2,7 @@
 //!
 //! The contract of `workbench` says that what is written is a report; these say that there is one at most. There is nothing to run.
 
-ghost use Rattle.wb_program.specs.Laws.{AskOneThing, HaveOneStatus, HaveOneText};
+ghost use Rattle.wb_program.specs.Laws.{AskOneThing, EndAsReported, HaveOneStatus, HaveOneText};
 ghost use Rattle.wb_program.specs.ShownAgain.{IsStable};
 
 /// Words ask for one thing at most, whatever the order and the spelling of their options.
@@ -18,6 +18,12 @@ pub fn one_status_law()
 /// Words and files have at most one text with a status, but where a refusal may show any true example.
 pub fn one_text_law()
     ensures { HaveOneText }
+{}
+
+/// Where words and known files have a report, a run ends with its status: with 0 where everything is in order. Else it ends at a file or
+/// at the output, or for want of memory.
+pub fn complete_law()
+    ensures { EndAsReported }
 {}
 
 /// The canonical text of a specification is read as the same one but for places, and is the one canonical text of that, so that

@@ -4,6 +4,7 @@
 #![tactic(auto)]
 
 mod answer;
+mod check;
 mod hosts_and_terms;
 mod laws;
 mod lines;
@@ -11,9 +12,10 @@ mod program;
 mod reading;
 mod show;
 mod status;
+mod tree;
 mod words;
 mod writing;
 
-pub use laws::{one_asked_law, one_status_law, one_text_law, shown_again_law};
+pub use laws::{complete_law, one_asked_law, one_status_law, one_text_law, shown_again_law};
 pub use program::workbench;
 pub use status::Status;

@@ -1,8 +1,8 @@
 //! What does a run of the program do, from its words to its status?
 //!
-//! The report is made before anything is written, so that a fault leaves a prefix of it. The answers are in `answer` and `show`.
+//! The report is made before anything is written, so that a fault leaves a prefix of it. Each command has a file for its answer.
 
-ghost use Rattle.std.specs.Prelude.{◌≡◌, ◌⊎◌, IfOk, IfErr};
+ghost use Rattle.std.specs.Prelude.{◌≡◌, ◌≢◌, ◌⊎◌, IfOk, IfErr};
 ghost use Rattle.wb_world.specs.Cause.{Rose};
 ghost use Rattle.wb_operations.specs.Kept.{IsKept};
 ghost use Rattle.wb_program.specs.Words.{texts, InCommandSet};
@@ -12,9 +12,11 @@ ghost use Rattle.wb_program.specs.Written.{WritesNothing, Wrote};
 ghost use Rattle.wb_program.specs.Inner.Stopped.{outside, Stopped, GoesOn};
 
 use crate::answer::{Answer, answer_value, usage};
+use crate::check::answer_check;
 use crate::reading::ReadFailure;
 use crate::show::answer_show;
 use crate::status::Status;
+use crate::tree::answer_tree;
 use crate::words::{Command, command_of};
 use crate::writing::write_report;
 use std::alloc::Global;
@@ -24,7 +26,8 @@ use wb_world::{Shelf, Sink};
 
 /// All that the program does: reads the words as a command, reads the files that they name, and writes the report.
 ///
-/// Equations may name the operations of the table. Of those, the commands that are built use none but `add`, which they know themselves.
+/// Equations may name the operations of the table. `check` and `tree` hold the equations of a host against their signatures, `value` knows
+/// `add` alone, and no command that is built calls one.
 ///
 /// The whole report is made before its first byte is written. Want of memory may come at any step before
 /// that. How many reads and writes there are is left open.
@@ -45,8 +48,8 @@ pub fn workbench<S: Shelf, K: Sink, M: Meaning>(
     ensures only_usage { ¬ InCommandSet (texts words.now) → (result ≡ Status.Usage) ⊎ (result ≡ Status.WriteFault) ⊎ (result ≡ Status.NoMemory) }
 
     // Each fault has a cause in this call.
-    ensures absent { result ≡ Status.Absent → AbsentCause (texts words.now) (S.files shelf.old) (S.absences shelf.old) (S.absences shelf.new) }
-    ensures read_fault { result ≡ Status.ReadFault → FaultCause (texts words.now) (S.files shelf.old) (S.faults shelf.old) (S.faults shelf.new) }
+    ensures absent { result ≡ Status.Absent → AbsentCause operations.now.signatures (texts words.now) (S.files shelf.old) (S.absences shelf.old) (S.absences shelf.new) }
+    ensures read_fault { result ≡ Status.ReadFault → FaultCause operations.now.signatures (texts words.now) (S.files shelf.old) (S.faults shelf.old) (S.faults shelf.new) }
     ensures write_fault { result ≡ Status.WriteFault → Rose (K.faults sink.old) (K.faults sink.new) }
 
     // The bytes written are the report that the words and the files have with this status.
@@ -75,9 +78,10 @@ fn answer<S: Shelf, M: Meaning>(
     ensures usage { IfOk result (λ answer. answer.status ≡ Status.Usage → ¬ InCommandSet (texts words.now)) }
     ensures only_usage { IfOk result (λ answer. ¬ InCommandSet (texts words.now) → answer.status ≡ Status.Usage) }
     ensures reports { IfOk result (λ answer. ¬ WritesNothing answer.status) }
+    ensures finishes { IfOk result (λ answer. answer.status ≢ Status.WriteFault) }
     ensures asked { IfErr result (λ failure. ¬ InCommandSet (texts words.now) → failure ≡ ReadFailure.NoMemory) }
     ensures stopped { IfErr result (Stopped (outside (S.files shelf.old) (S.absences shelf.old) (S.faults shelf.old))
-        (outside (S.files shelf.new) (S.absences shelf.new) (S.faults shelf.new)) (ComesTo (texts words.now) (S.files shelf.old))) }
+        (outside (S.files shelf.new) (S.absences shelf.new) (S.faults shelf.new)) (ComesTo operations.now.signatures (texts words.now) (S.files shelf.old))) }
     ensures goes_on { GoesOn (outside (S.files shelf.old) (S.absences shelf.old) (S.faults shelf.old))
         (outside (S.files shelf.new) (S.absences shelf.new) (S.faults shelf.new)) }
 {
@@ -90,6 +94,8 @@ fn answer<S: Shelf, M: Meaning>(
             },
         ) => answer_value(alloc, shelf, host, term, attribute),
         Some(Command::Show { file }) => answer_show(alloc, shelf, file),
+        Some(Command::Check { host }) => answer_check(alloc, shelf, host, operations),
+        Some(Command::Tree { text, host }) => answer_tree(alloc, shelf, text, host, operations),
         None => Ok(usage(alloc)?),
     }
 }

@@ -2,7 +2,8 @@
 //!
 //! The canonical text, or why the file isn't a specification: both come from `wb_printer` and `wb_reader`, and become a report here.
 
-ghost use Rattle.std.specs.Prelude.{◌≡◌, IfOk, IfErr, [], ◌∷◌};
+ghost use Rattle.std.specs.Prelude.{◌≡◌, IfOk, IfErr, List, [], ◌∷◌};
+ghost use Rattle.wb_operations.specs.Operations.{OperationSignature};
 ghost use Rattle.wb_reader.specs.OneAnswer.{IsNoMemory};
 ghost use Rattle.wb_program.specs.Asked.{specification};
 ghost use Rattle.wb_program.specs.Lines.{spec_refused_line};
@@ -28,8 +29,8 @@ pub(crate) fn answer_show<S: Shelf>(
     file: &str,
 ) -> Result<Answer, ReadFailure>
     ensures ok { IfOk result (λ answer. ShowReport (S.files shelf.old) file.now answer.status answer.report.items) }
-    ensures stopped { IfErr result (Stopped (outside (S.files shelf.old) (S.absences shelf.old) (S.faults shelf.old))
-        (outside (S.files shelf.new) (S.absences shelf.new) (S.faults shelf.new)) (λ P. StopsAt (S.files shelf.old) P (specification file.now ∷ []))) }
+    ensures stopped { (operations : List OperationSignature) → IfErr result (Stopped (outside (S.files shelf.old) (S.absences shelf.old) (S.faults shelf.old))
+        (outside (S.files shelf.new) (S.absences shelf.new) (S.faults shelf.new)) (λ P. StopsAt operations (S.files shelf.old) P (specification file.now ∷ []))) }
     ensures goes_on { GoesOn (outside (S.files shelf.old) (S.absences shelf.old) (S.faults shelf.old))
         (outside (S.files shelf.new) (S.absences shelf.new) (S.faults shelf.new)) }
 {

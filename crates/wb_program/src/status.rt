@@ -14,6 +14,10 @@ pub enum Status {
     Usage = 2,
     /// A file isn't a specification, or a term, of the form that the command asks for.
     SpecRefused = 3,
+    /// A host isn't certified: a rule of grammars, scanners or attributes fails.
+    NotCertified = 4,
+    /// The text stops: it has no tree.
+    TextStopped = 5,
     /// The answer of the evaluation is the fault of an operation.
     OperationFault = 6,
     /// A file that the words name wasn't found.
@@ -24,6 +28,10 @@ pub enum Status {
     WriteFault = 10,
     /// Memory was wanting.
     NoMemory = 11,
+    /// The text has more bytes than a text may have.
+    TextTooLong = 12,
+    /// The printed tree has more bytes than are printed.
+    TooLongToPrint = 13,
     /// No attribute of that name occurs on the root of the term.
     UnknownAttribute = 17,
 }

@@ -2,9 +2,9 @@
 //!
 //! Commands that aren't built are usage errors until they are. What each of all commands asks is in `specs/Words`.
 
-ghost use Rattle.std.specs.Prelude.{◌↔◌, IsTrue, IfSome, IfNone};
+ghost use Rattle.std.specs.Prelude.{◌≡◌, ◌↔◌, IsTrue, IfSome, IfNone, List, ℕ, [], ◌∷◌};
 ghost use Rattle.wb_program.specs.Words.{texts, IsPositional, Asks, InCommandSet};
-ghost use Rattle.wb_program.specs.Inner.Commands.{asked_by, AreValue, AreShow};
+ghost use Rattle.wb_program.specs.Inner.Commands.{asked_by, AreValue, AreVerbAndFile, AreTreeApart, AreTreeJoined, IsTextOption};
 
 // A command with its words.
 #[derive(Clone, Copy)]
@@ -17,6 +17,13 @@ pub(crate) enum Command<'a> {
     Show {
         file: &'a str,
     },
+    Check {
+        host: &'a str,
+    },
+    Tree {
+        text: &'a str,
+        host: &'a str,
+    },
 }
 
 // The command that the words ask for, where they do.
@@ -24,9 +31,18 @@ pub(crate) fn command_of(words: &[String]) -> Option<Command<'_>>
     ensures some { IfSome result (λ command. Asks (texts words.now) (asked_by command)) }
     ensures none { IfNone result (¬ InCommandSet (texts words.now)) }
 {
-    match value_of(words) {
+    if let Some(command) = value_of(words) {
+        return Some(command);
+    }
+    if let Some(file) = file_of(words, "show") {
+        return Some(Command::Show { file });
+    }
+    if let Some(host) = file_of(words, "check") {
+        return Some(Command::Check { host });
+    }
+    match tree_apart(words) {
         Some(command) => Some(command),
-        None => show_of(words),
+        None => tree_joined(words),
     }
 }
 
@@ -56,17 +72,71 @@ fn value_of(words: &[String]) -> Option<Command<'_>>
     }
 }
 
-// The words as `show SPEC`.
-fn show_of(words: &[String]) -> Option<Command<'_>>
-    ensures some { IfSome result (λ command. Asks (texts words.now) (asked_by command)) }
-    ensures none { IfNone result (¬ AreShow (texts words.now)) }
+// The file, where the words are this verb and a file.
+fn file_of<'a>(words: &'a [String], verb: &str) -> Option<&'a str>
+    ensures some { IfSome result (λ file. (texts words.now ≡ verb.now ∷ file.now ∷ []) × IsPositional file.now) }
+    ensures none { IfNone result (¬ AreVerbAndFile verb.now (texts words.now)) }
 {
-    let [verb, file] = words else {
+    let [first, file] = words else {
         return None;
     };
+    if first.as_str() != verb {
+        return None;
+    }
     let file = file.as_str();
-    if verb.as_str() == "show" && is_positional(file) {
-        Some(Command::Show { file })
+    if is_positional(file) {
+        Some(file)
+    } else {
+        None
+    }
+}
+
+// The words as `tree --text FILE HOST`.
+fn tree_apart(words: &[String]) -> Option<Command<'_>>
+    ensures some { IfSome result (λ command. Asks (texts words.now) (asked_by command)) }
+    ensures none { IfNone result (¬ AreTreeApart (texts words.now)) }
+{
+    let [verb, option, text, host] = words else {
+        return None;
+    };
+    let text = text.as_str();
+    let host = host.as_str();
+    if verb.as_str() == "tree"
+        && option.as_str() == "--text"
+        && is_positional(text)
+        && is_positional(host)
+    {
+        Some(Command::Tree { text, host })
+    } else {
+        None
+    }
+}
+
+// The words as `tree --text=FILE HOST`.
+fn tree_joined(words: &[String]) -> Option<Command<'_>>
+    ensures some { IfSome result (λ command. Asks (texts words.now) (asked_by command)) }
+    ensures none { IfNone result (¬ AreTreeJoined (texts words.now)) }
+{
+    let [verb, option, host] = words else {
+        return None;
+    };
+    let host = host.as_str();
+    let text = text_of(option.as_str())?;
+    if verb.as_str() == "tree" && is_positional(host) {
+        Some(Command::Tree { text, host })
+    } else {
+        None
+    }
+}
+
+// The file of `--text=FILE`.
+fn text_of(word: &str) -> Option<&str>
+    ensures some { IfSome result (λ text. IsTextOption word.now text.now) }
+    ensures none { IfNone result ((text : List ℕ) → ¬ IsTextOption word.now text) }
+{
+    let text = word.strip_prefix("--text=")?;
+    if is_positional(text) {
+        Some(text)
     } else {
         None
     }

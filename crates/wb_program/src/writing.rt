@@ -1,6 +1,6 @@
 //! How is a report written whole?
 //!
-//! In as many calls as the sink asks for, since it may take less than it is given. What is written is made in `answer` and `show`.
+//! In as many calls as the sink asks for, since it may take less than it is given. What is written is made in the files of the commands.
 
 ghost use Rattle.std.specs.Prelude.{◌≡◌, ◌≤◌, OnOk, OnErr};
 ghost use Rattle.std.specs.Io.KnownBytes.{append_known};

@@ -5,12 +5,18 @@
 #![tactic(auto)]
 
 #[cfg(test)]
+mod check;
+#[cfg(test)]
 mod prefixes;
+#[cfg(test)]
+mod runs;
 #[cfg(test)]
 mod show;
 #[cfg(test)]
 mod specifications;
 #[cfg(test)]
 mod syntax;
+#[cfg(test)]
+mod tree;
 #[cfg(test)]
 mod value;

@@ -55,6 +55,50 @@ concrete paren : Factor ::= o : Open e : Expr c : Close {
   e.env = top.env; top.value = e.value; }
 "#;
 
+/// A host of sums with an ambiguous grammar.
+pub const AMB: &str = r#"format 1; host amb;
+terminal Num /[0-9]+/; terminal Plus /\+/;
+nonterminal E; start E;
+concrete num : E ::= n : Num { }
+concrete plus : E ::= a : E p : Plus b : E { }
+"#;
+
+/// A host with a keyword that is preferred to identifiers.
+pub const KW: &str = r#"format 1; host kw;
+ignore Space /[ ]+/; terminal If /if/; terminal Id /[a-z]+/;
+prefer If over Id;
+nonterminal S; start S;
+concrete one : S ::= k : If x : Id { }
+concrete two : S ::= x : Id { }
+"#;
+
+/// The same without the preference.
+pub const KW0: &str = r#"format 1; host kw;
+ignore Space /[ ]+/; terminal If /if/; terminal Id /[a-z]+/;
+nonterminal S; start S;
+concrete one : S ::= k : If x : Id { }
+concrete two : S ::= x : Id { }
+"#;
+
+/// A host of lists of numbers.
+pub const LIST: &str = r#"format 1; host list;
+ignore Space /[ \n]+/; terminal Num /[0-9]+/;
+nonterminal L; start L;
+concrete none : L ::= { }
+concrete more : L ::= a : L n : Num { }
+"#;
+
+/// A host of pointers, whose grammar is LALR(1) and not SLR(1).
+pub const PTR: &str = r#"format 1; host ptr;
+terminal Star /\*/; terminal Eq /=/; terminal Id /[a-z]+/;
+nonterminal S; nonterminal L; nonterminal R; start S;
+concrete assign : S ::= l : L e : Eq r : R { }
+concrete just : S ::= r : R { }
+concrete star : L ::= s : Star r : R { }
+concrete id : L ::= x : Id { }
+concrete ofl : R ::= l : L { }
+"#;
+
 /// Other specifications.
 pub const OTHERS: [&str; 37] = [
     r#"format 1; extension a for mini;
@@ -73,12 +117,7 @@ concrete na : N ::= a : A { }
 concrete hx : H ::= x : X { }
 concrete gy : G ::= y : Y { }
 "#,
-    r#"format 1; host amb;
-terminal Num /[0-9]+/; terminal Plus /\+/;
-nonterminal E; start E;
-concrete num : E ::= n : Num { }
-concrete plus : E ::= a : E p : Plus b : E { }
-"#,
+    AMB,
     r#"format 1; extension b for mini;
 marking Sum /sum/; prefer Sum over Id;
 concrete sqr : Factor ::= m : Sum o : Open x : Expr c : Close {
@@ -163,25 +202,9 @@ concrete mg : G ::= m : M n : N h : H { forwards to gy("y"); }
     r#"format 1; extension fit for pq; marking M /m/;
 concrete mg : G ::= m : M a : A x : X { forwards to gz("z"); }
 "#,
-    r#"format 1; host kw;
-ignore Space /[ ]+/; terminal If /if/; terminal Id /[a-z]+/;
-prefer If over Id;
-nonterminal S; start S;
-concrete one : S ::= k : If x : Id { }
-concrete two : S ::= x : Id { }
-"#,
-    r#"format 1; host kw;
-ignore Space /[ ]+/; terminal If /if/; terminal Id /[a-z]+/;
-nonterminal S; start S;
-concrete one : S ::= k : If x : Id { }
-concrete two : S ::= x : Id { }
-"#,
-    r#"format 1; host list;
-ignore Space /[ \n]+/; terminal Num /[0-9]+/;
-nonterminal L; start L;
-concrete none : L ::= { }
-concrete more : L ::= a : L n : Num { }
-"#,
+    KW,
+    KW0,
+    LIST,
     r#"format 1; extension lone for tiny; marking L /l/;
 concrete one : T ::= m : L { top.value = 1; }
 "#,
@@ -212,15 +235,7 @@ concrete ac : A ::= c : C { }
 concrete bc : B ::= c : C { }
 concrete gz : G ::= z : Z { }
 "#,
-    r#"format 1; host ptr;
-terminal Star /\*/; terminal Eq /=/; terminal Id /[a-z]+/;
-nonterminal S; nonterminal L; nonterminal R; start S;
-concrete assign : S ::= l : L e : Eq r : R { }
-concrete just : S ::= r : R { }
-concrete star : L ::= s : Star r : R { }
-concrete id : L ::= x : Id { }
-concrete ofl : R ::= l : L { }
-"#,
+    PTR,
     r#"format 1; extension repeat for mini;
 marking Twice /twice/; prefer Twice over Id;
 concrete again : Stmt ::= m : Twice s : Stmt {

@@ -2,6 +2,7 @@
 //!
 //! Over files and a sink in memory, which fail where they are asked to. `show` is in `show`.
 
+use crate::runs::words_of;
 use std::alloc::{AllocError, Global};
 use std::test::Fail;
 use wb_operations::standard_table;
@@ -58,15 +59,6 @@ fn shelf_of(alloc: Global, run: &Run) -> Result<MemoryShelf, AllocError> {
         shelf.fail_at(call)?;
     }
     Ok(shelf)
-}
-
-// The words as the program has them.
-fn words_of(alloc: Global, words: &[&str]) -> Result<Vec<String>, AllocError> {
-    let mut texts = Vec::new(alloc);
-    for word in words {
-        texts.push(String::from_str(alloc, *word)?)?;
-    }
-    Ok(texts)
 }
 
 // How a run ends that writes to this sink.
@@ -169,10 +161,18 @@ fn words_that_ask_for_nothing_built_are_usage_errors(rt: HostRuntime) -> Result<
         "show",
         "show --",
         "show h t",
-        "check h", // not built yet
+        "check",
+        "check h t",
+        "check -h",
+        "tree h",
+        "tree h --text t",
+        "tree --text= h",
+        "tree --text -t h",
+        "tree --text t --text t h",
+        "tree --texts t h",
+        "tree --text t h e", // with extensions not built yet
         "certify h t",
         "compose h",
-        "tree --text t h",
         "run --text t --attr=value h",
         "generate --number 0 --size 1 --attr a h",
     ];

@@ -1,19 +1,10 @@
 -- Four words are those of the command.
-use Rattle.std.proofs.Common.{rules, string_bytes, ◌≡◌, ℕ, List, [], ◌∷◌, All, length, get_or, arith, sym, ◌∙◌, ap}
+use Rattle.std.proofs.Common.{rules, string_bytes, ◌≡◌, ℕ, List, [], ◌∷◌, All, arith, sym, ◌∙◌, ap}
 use Rattle.std.proofs.lemmas.List.Elements.{All-nil, All-cons}
 use lib.Chars.{codes}
 use Rattle.wb_program.specs.Words.{texts, IsPositional, Value, no_option, says_value}
+use Rattle.wb_program.proofs.AskLemmas.{four}
 use Rattle.wb_program.proofs.words.value_of.Goals as goal
-
--- a list of four is its four elements
-four : {X : Type 0} (xs : List X) (a b c d : X) → length xs ≡ 4 → a ≡ get_or xs 0 a → b ≡ get_or xs 1 b → c ≡ get_or xs 2 c →
-    d ≡ get_or xs 3 d → xs ≡ a ∷ b ∷ c ∷ d ∷ []
-four [] a b c d l p q r s = absurd (omega arith)
-four (w ∷ []) a b c d l p q r s = absurd (omega arith)
-four (w ∷ x ∷ []) a b c d l p q r s = absurd (omega arith)
-four (w ∷ x ∷ y ∷ []) a b c d l p q r s = absurd (omega arith)
-four (w ∷ x ∷ y ∷ z ∷ []) a b c d l p q r s = cc
-four (w ∷ x ∷ y ∷ z ∷ v ∷ vs) a b c d l p q r s = absurd (omega arith)
 
 -- three positional words
 three : (a b c : List ℕ) → IsPositional a → IsPositional b → IsPositional c → All IsPositional (a ∷ b ∷ c ∷ [])

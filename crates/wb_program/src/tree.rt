@@ -1,0 +1,107 @@
+//! What does `tree --text FILE HOST` answer?
+//!
+//! The host comes first, by the checks in `check`, and then the text, whose answer in the host's language is found by `wb_trees`.
+
+ghost use Rattle.std.specs.Prelude.{◌≡◌, List, ℕ, Some, IfOk, IfErr, [], ◌∷◌};
+ghost use Rattle.wb_base.specs.Grammar.{GrammarView};
+ghost use Rattle.wb_program.specs.Asked.{certified_host, parsed_text};
+ghost use Rattle.wb_program.specs.Checks.{Check};
+ghost use Rattle.wb_program.specs.Reads.{StopsAt};
+ghost use Rattle.wb_program.specs.TreeReport.{IsText, IsTooLongText, TextReport, TreeReport};
+ghost use Rattle.wb_program.specs.Inner.Hosts.{ReadText, ShownText};
+ghost use Rattle.wb_program.specs.Inner.Stopped.{outside, Stopped, GoesOn};
+
+use crate::answer::{Answer, reported};
+use crate::check::{certified_of, refused_host};
+use crate::reading::{Contents, ReadFailure, read_file};
+use crate::status::Status;
+use std::alloc::{AllocError, Global};
+use wb_base::{Bytes, FILE_LIMIT, Sequence};
+use wb_certify::CertifiedHost;
+use wb_operations::{Meaning, OperationTable};
+use wb_report::{Done, Outcome};
+use wb_trees::{TextAnswer, text_answer};
+use wb_world::Shelf;
+
+// The answer to `tree --text FILE HOST`.
+pub(crate) fn answer_tree<S: Shelf, M: Meaning>(
+    alloc: Global,
+    shelf: &mut S,
+    text: &str,
+    host: &str,
+    operations: &OperationTable<M>,
+) -> Result<Answer, ReadFailure>
+    ensures ok { IfOk result (λ answer. TreeReport operations.now.signatures (S.files shelf.old) text.now host.now answer.status answer.report.items) }
+    ensures stopped { IfErr result (Stopped (outside (S.files shelf.old) (S.absences shelf.old) (S.faults shelf.old))
+        (outside (S.files shelf.new) (S.absences shelf.new) (S.faults shelf.new))
+        (λ P. StopsAt operations.now.signatures (S.files shelf.old) P (certified_host host.now ∷ parsed_text text.now ∷ []))) }
+    ensures goes_on { GoesOn (outside (S.files shelf.old) (S.absences shelf.old) (S.faults shelf.old))
+        (outside (S.files shelf.new) (S.absences shelf.new) (S.faults shelf.new)) }
+{
+    let file = Bytes::from_slice(alloc, host.as_bytes())?;
+    match certified_of(alloc, shelf, host, operations)? {
+        Ok(certified) => {
+            // As in `check`, the host is dropped by a call.
+            let held = [certified];
+            answer_text(alloc, shelf, text, &held[0])
+        }
+        Err(refusal) => Ok(refused_host(alloc, file, refusal)?),
+    }
+}
+
+// The answer for the text of a file in the language of a host.
+fn answer_text<S: Shelf>(
+    alloc: Global,
+    shelf: &mut S,
+    file: &str,
+    host: &CertifiedHost,
+) -> Result<Answer, ReadFailure>
+    ensures ok { (g : GrammarView) → host.now.resolved.grammar ≡ Some g → IfOk result (λ answer. Check Status.TextTooLong (IsTooLongText (S.files shelf.old) file.now)
+        (IsText (S.files shelf.old) file.now) (λ (text : List ℕ). TextReport host.now.resolved text) answer.status answer.report.items) }
+    ensures stopped { IfErr result (Stopped (outside (S.files shelf.old) (S.absences shelf.old) (S.faults shelf.old))
+        (outside (S.files shelf.new) (S.absences shelf.new) (S.faults shelf.new)) (λ P. P file.now)) }
+    ensures goes_on { GoesOn (outside (S.files shelf.old) (S.absences shelf.old) (S.faults shelf.old))
+        (outside (S.files shelf.new) (S.absences shelf.new) (S.faults shelf.new)) }
+{
+    let contents = read_file(alloc, shelf, file, FILE_LIMIT)?;
+    Ok(answer_contents(alloc, contents, host)?)
+}
+
+// The answer for what was read of the file.
+fn answer_contents(
+    alloc: Global,
+    contents: Contents,
+    host: &CertifiedHost,
+) -> Result<Answer, AllocError>
+    ensures { (g : GrammarView) → host.now.resolved.grammar ≡ Some g → IfOk result (λ answer. ReadText host.now.resolved contents answer.status answer.report.items) }
+{
+    match contents {
+        Contents::Whole(bytes) => shown_text(alloc, text_answer(alloc, host, &bytes)?),
+        Contents::TooLong => reported(alloc, Status::TextTooLong, Outcome::TextTooLong),
+    }
+}
+
+// The answer for what a text is.
+fn shown_text(alloc: Global, answer: TextAnswer) -> Result<Answer, AllocError>
+    ensures { IfOk result (λ made. ShownText answer made.status made.report.items) }
+{
+    match answer {
+        TextAnswer::Tree(printed) => done_with(alloc, &printed),
+        TextAnswer::Stopped { at, stop } => {
+            reported(alloc, Status::TextStopped, Outcome::Stopped { at, stop })
+        }
+        TextAnswer::TooLong => reported(alloc, Status::TooLongToPrint, Outcome::TooLongToPrint),
+    }
+}
+
+// The answer for a printed tree.
+fn done_with(alloc: Global, printed: &Bytes) -> Result<Answer, AllocError>
+    ensures { IfOk result (λ made. ShownText (TextAnswer.Tree printed.now) made.status made.report.items) }
+{
+    let tree = Vec::from_slice(alloc, printed.as_slice())?;
+    reported(
+        alloc,
+        Status::Done,
+        Outcome::Done(Done::Tree(Sequence::from_vec(tree))),
+    )
+}
