@@ -1,5 +1,5 @@
-//! Tests of names, attributes and reports: which name rule fails of a host or an extension, whether attributes are well-defined, and the
-//! lines that report each outcome.
+//! Tests of names, attributes, markers and reports: which name rule fails of a host or an extension, whether attributes are well-defined,
+//! which rule an extension's markers break, and the lines that report each outcome.
 //!
 //! Tests of values, operations and kinds by number are in `wb_value_tests`. Nothing depends on this crate.
 #![tactic(auto)]
@@ -10,6 +10,10 @@ mod attributes;
 mod extension_names;
 #[cfg(test)]
 mod files;
+#[cfg(test)]
+mod forwards;
+#[cfg(test)]
+mod markers;
 #[cfg(test)]
 mod names;
 #[cfg(test)]

@@ -1,0 +1,41 @@
+use Rattle.std.proofs.Common.{◌∷◌, [], length, get_or, refl, subst}
+use Rattle.wb_lemmas.proofs.Places.{at_once}
+use Rattle.wb_flow.specs.declared.vertex.Vertex.TheVariants.{Top}
+use Rattle.wb_flow.proofs.ReadLemmas.{known_production, reached_in, read_vertex_at}
+use Rattle.wb_forwards.specs.Inner.Tests.{KeepsFrom}
+use Rattle.wb_forwards.proofs.ForwardLemmas.{defined_goes, keeps_from, reads_outside}
+use Rattle.wb_forwards.proofs.equations.check_from.Goals as goal
+
+pub returns-in_default-first_outside-clause-ok : goal.returns-in_default-first_outside-clause-ok
+returns-in_default-first_outside-clause-ok c vertex at =
+    let t = c.args.tested.now in
+    let a = t.scope.now.attributes.now in
+    let v = get_or c.as_slice.result.now c.args.start (Top 0) in
+    let there = read_vertex_at c.as_slice.result.now t.graph.now.vertices c.as_slice.ensures c.args.start (Top 0) c.requires.start in
+    let known = known_production a c.requires.tested.attribution t.number t.production.now c.requires.tested.there in
+    let reached = reached_in c.len.result (length t.graph.now.vertices) c.len.ensures c.as_slice-edges.result.now t.graph.now.edges
+    c.as_slice-edges.ensures (c.args.start ∷ []) c.in_ok-reached.reached.items c.deref.result.now c.deref.ensures.value
+    c.in_ok-reached.ensures in
+    subst (KeepsFrom a t.production.now) (at_once t.graph.now.vertices c.args.start v vertex there at)
+    (keeps_from a c.requires.tested.attribution t.production.now known t.graph.now c.requires.tested.graph c.args.start v there
+    c.in-Some.attribute c.in-Some.ensures.some.0 c.deref.result.now reached c.forward_needs-allowed.result.now
+    c.forward_needs-allowed.ensures c.in_default-first_outside.ensures.none)
+
+pub returns-clause-refused : goal.returns-clause-refused
+returns-clause-refused c =
+    let t = c.args.tested.now in
+    let a = t.scope.now.attributes.now in
+    let v = get_or c.as_slice.result.now c.args.start (Top 0) in
+    let there = read_vertex_at c.as_slice.result.now t.graph.now.vertices c.as_slice.ensures c.args.start (Top 0) c.requires.start in
+    let known = known_production a c.requires.tested.attribution t.number t.production.now c.requires.tested.there in
+    let reached = reached_in c.len.result (length t.graph.now.vertices) c.len.ensures c.as_slice-edges.result.now t.graph.now.edges
+    c.as_slice-edges.ensures (c.args.start ∷ []) c.in_ok-reached.reached.items c.deref.result.now c.deref.ensures.value
+    c.in_ok-reached.ensures in
+    let (k, other, at_k, outside) = c.in-Some-first_outside.ensures.some in
+    let defined = c.in-Some.ensures.some.1 in (
+      refl,
+      reads_outside a c.requires.tested.attribution t.production.now known t.graph.now c.requires.tested.graph c.args.start v there
+          c.in-Some.attribute c.in-Some.ensures.some.0 c.deref.result.now reached c.forward_needs-allowed.result.now
+          c.forward_needs-allowed.ensures (defined_goes a t.production.now known c.in-Some.attribute defined) defined
+          c.in-Some-first_outside.inherited k other at_k outside,
+    )

@@ -1,0 +1,2 @@
+-- what each test of a production asks and tells
+pub mod Tests

@@ -1,0 +1,10 @@
+use Rattle.std.proofs.Common.{◌≡◌, length, subst, arith}
+use Rattle.wb_marks.specs.Inner.Begun.{AreBegun}
+use Rattle.wb_marks.proofs.places.begun.Goals as goal
+
+pub returns : goal.returns
+returns c =
+    let r = c.args.scope.now.parts.now in
+    let g = c.args.scope.now.grammar.now in
+    let all : c.productions.number ≡ length g.productions = omega arith in
+    subst (λ z. AreBegun r g z c.productions.table.items) all c.productions.invariant
