@@ -1,3 +1,14 @@
 pub mod AnswerLemmas
-pub mod ReadBackLemmas
 pub mod RuleLemmas
+pub mod ReadBackLemmas
+pub mod Settings
+pub mod ExpressionLemmas
+pub mod ProductionLemmas
+pub mod SoundLemmas
+pub mod KindLemmas
+pub mod ReadLemmas
+pub mod CycleLemmas
+pub mod DefinedLemmas
+pub mod OutcomeLemmas
+pub mod CaseLemmas
+pub mod LawLemmas

@@ -1,12 +1,15 @@
 //! Laws of the definitions: what each says is proved, and there is nothing to run.
 
-ghost use Rattle.std.specs.Prelude.{Contains};
-ghost use Rattle.wb_evaluation.specs.Laws.{HasOneAnswer, IsReadBack, IsRuleRead};
+ghost use Rattle.std.specs.Prelude.{ℕ, Contains};
+ghost use Rattle.wb_evaluation.specs.Cases.{HasCases};
+ghost use Rattle.wb_evaluation.specs.Evaluable.{IsEvaluable, IsAsked};
+ghost use Rattle.wb_evaluation.specs.Laws.{HasOneAnswer, HasKinds, IsReadBack, IsRuleRead, IsWellFounded};
 ghost use Rattle.wb_operations.specs.Operations.{Operations};
 ghost use Rattle.wb_resolved.specs.declared.attribution.AttributionParts.{AttributionParts};
 ghost use Rattle.wb_resolved.specs.declared.production.Production.{Production};
 ghost use Rattle.wb_resolved.specs.Attribution.{IsAttribution};
 ghost use Rattle.wb_resolved.specs.Expression.{Expression};
+ghost use Rattle.wb_values.specs.Fits.{FitsTree};
 ghost use Rattle.wb_values.specs.Tree.{Tree};
 
 /// An instance has one answer at most, a value or a fault, and a path leads to one tree at most.
@@ -22,4 +25,21 @@ pub fn read_back_law()
 /// The expression of a vertex is what the nodes of its rule are read back as.
 pub fn rule_law()
     ensures { (a : AttributionParts) → IsAttribution a → (production : Production) → Contains a.productions production → IsRuleRead production }
+{}
+
+/// An instance answers and reads by the equation for it, by the forward, by the equation of the production one step up, or by the expression
+/// of its tree, which is read before all else at a path that ends in a local or forward.
+pub fn cases_law()
+    ensures { (a : AttributionParts) (operations : Operations) (top : Tree) → HasCases a operations top }
+{}
+
+/// Where attributes are well defined and kinds hold, each value has the kind of its instance, and each node fits.
+pub fn kinds_law()
+    ensures { (a : AttributionParts) (operations : Operations) (top : Tree) (nonterminal : ℕ) → IsEvaluable a operations → FitsTree a.signatures top nonterminal → HasKinds a operations top }
+{}
+
+/// There, an instance reads along the edges of a flow graph, whatever is needed for an attribute of the root is defined, and nothing needs
+/// itself.
+pub fn needs_law()
+    ensures { (a : AttributionParts) (operations : Operations) (top : Tree) (attribute : ℕ) → IsEvaluable a operations → IsAsked a top attribute → IsWellFounded a operations top attribute }
 {}
