@@ -1,0 +1,13 @@
+use Rattle.wb_lookahead.proofs.StepLemmas.{row_has}
+use Rattle.wb_extensions.proofs.EnvelopeLemmas.{union_members}
+use Rattle.wb_extensions.proofs.envelope.add_lookaheads.Goals as goal
+
+pub of-requires-clause-item : goal.of-requires-clause-item
+of-requires-clause-item c =
+    row_has c.requires.context.host c.args.context.now.host_lookaheads.now c.requires.context.host_lookaheads.shape c.args.state c.args.item
+    c.requires.state c.requires.item
+
+pub returns-clause-each : goal.returns-clause-each
+returns-clause-each c =
+    union_members c.args.set.now c.of.result.now c.union_with.new.self c.union_with.ensures.after
+    (λ t. c.requires.context.host_lookaheads.exact c.args.state c.args.item c.of.result.now t c.requires.state c.of.ensures)

@@ -1,0 +1,28 @@
+use Rattle.wb_lemmas.proofs.Refusals.{handed_on}
+use Rattle.wb_extensions.specs.Refusals.{IsExtensionRefusal}
+use Rattle.wb_extensions.specs.Inner.Extended.{IsEnvelopeRefusal, IsLookaheadRefusal, lexicon_for}
+use Rattle.wb_extensions.proofs.ExtensionLemmas.{deterministic, envelope_refusal, lookahead_refusal}
+use Rattle.wb_extensions.proofs.extension.test_both.Goals as goal
+
+pub returns-in_err-test_lookaheads-clause-refused : goal.returns-in_err-test_lookaheads-clause-refused
+returns-in_err-test_lookaheads-clause-refused c =
+    let x = c.args.extended.now in
+    handed_on (IsLookaheadRefusal c.args.context.now)
+    (IsExtensionRefusal x.parts.now x.grammar.now x.host.now.grammar) c.from_residual.result
+    c.in_err-test_lookaheads.field-0.0 c.from_residual.ensures.1
+    (lookahead_refusal x c.args.context.now c.requires.extended c.requires.context)
+    c.in_err-test_lookaheads.ensures.refused
+
+pub returns-in_err-test_envelopes-clause-refused : goal.returns-in_err-test_envelopes-clause-refused
+returns-in_err-test_envelopes-clause-refused c =
+    let x = c.args.extended.now in
+    handed_on (IsEnvelopeRefusal c.args.context.now (lexicon_for x.parts.now c.args.context.now.numbers.now.own_terminals))
+    (IsExtensionRefusal x.parts.now x.grammar.now x.host.now.grammar) c.from_residual-in_err-test_envelopes.result
+    c.in_err-test_envelopes.field-0.0 c.from_residual-in_err-test_envelopes.ensures.1
+    (envelope_refusal x c.args.context.now c.requires.extended c.requires.context c.in_ok-test_lookaheads.ensures.ok)
+    c.in_err-test_envelopes.ensures.refused
+
+pub returns-clause-ok : goal.returns-clause-ok
+returns-clause-ok c =
+    deterministic c.args.extended.now c.args.context.now c.requires.extended c.requires.context c.in_ok-test_lookaheads.ensures.ok
+    c.in_ok-test_envelopes.ensures.ok

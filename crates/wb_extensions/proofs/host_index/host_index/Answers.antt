@@ -1,0 +1,10 @@
+use Rattle.std.proofs.Common.{◌≡◌, ℕ, subst, arith}
+use Rattle.wb_items.specs.Kernels.{count_of}
+use Rattle.wb_extensions.specs.Inner.Index.{IsIndex}
+use Rattle.wb_extensions.proofs.host_index.host_index.Goals as goal
+
+pub returns : goal.returns
+returns c =
+    let same : c.kernels.state ≡ count_of c.args.host.now =
+    omega (arith, c.kernels-test.false, c.kernels.auto.state-end, c.count-state-end.ensures.count) in
+    subst (λ (n : ℕ). IsIndex c.args.host.now n c.kernels.index.items) same c.kernels.invariant

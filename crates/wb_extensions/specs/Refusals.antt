@@ -1,0 +1,53 @@
+-- Why an extension isn't deterministic beside its host: each reason with a true example, where no earlier one holds.
+use Rattle.std.specs.Prelude.{◌<◌, List}
+use Rattle.wb_base.specs.declared.symbol.Symbol.{Symbol}
+use Rattle.wb_base.specs.Grammar.{GrammarView}
+use Rattle.wb_determinism.specs.declared.refusal.DeterminismRefusal.{DeterminismRefusal}
+use Rattle.wb_determinism.specs.declared.refusal.DeterminismRefusal.TheVariants as d
+use Rattle.wb_determinism.specs.declared.refusal.EnvelopeFault.{EnvelopeFault}
+use Rattle.wb_determinism.specs.declared.refusal.EnvelopeFault.TheVariants as f
+use Rattle.wb_determinism.specs.Hosts.{IsDeterministicHost}
+use Rattle.wb_determinism.specs.Refusals.{IsHostRefusal}
+use Rattle.wb_unions.specs.Numbered.{KeepsKernelLookaheads}
+use Rattle.wb_resolved.specs.declared.resolved.ResolvedParts.{ResolvedParts}
+use Rattle.wb_extensions.specs.EnvelopeClash.{IsEnvelopeClashFault}
+use Rattle.wb_extensions.specs.EnvelopeRule.{IsEnvelopeLookaheadFault, IsEnvelopeConflictFault}
+use Rattle.wb_extensions.specs.Extensions.{extended_grammar, both_numbers, host_lexicon}
+use Rattle.wb_extensions.specs.Images.{StandsFor, stands_for}
+use Rattle.wb_extensions.specs.LookaheadRule.{IsLookaheadFault}
+use Rattle.wb_extensions.specs.Numbers.{up_by}
+
+module _ (r : ResolvedParts) (g host : GrammarView) where
+  -- what is shown is a lookahead beyond the envelope, a conflict or a clash, whose lesser terminal is first
+  abbrev pub IsEnvelopeFault : List Symbol → EnvelopeFault → Type 0
+  IsEnvelopeFault prefix (f.Lookahead item t) =
+      IsEnvelopeLookaheadFault host (extended_grammar r g host) (both_numbers r g host)
+      (StandsFor r g (both_numbers r g host)) prefix item t
+  IsEnvelopeFault prefix (f.Conflict t first second) =
+      IsEnvelopeConflictFault host (extended_grammar r g host) (both_numbers r g host)
+      (StandsFor r g (both_numbers r g host)) prefix t first second
+  IsEnvelopeFault prefix (f.Clash left right text) =
+      IsEnvelopeClashFault host (extended_grammar r g host) (both_numbers r g host) (host_lexicon r g host) prefix left right text
+      × (left < right)
+
+  -- what is shown is an example of the first of these that holds of the specification of a host with an extension: a reason for which it
+  -- wouldn't do as a host; a lookahead that the extension adds at a kernel of the host; or a fault with the envelope. Reasons of marks are
+  -- found elsewhere, and want of memory says nothing of it
+  abbrev pub IsExtensionRefusal : DeterminismRefusal → Type 0
+  IsExtensionRefusal (d.NotBridge _) = ⊥
+  IsExtensionRefusal (d.MarkerElsewhere _) = ⊥
+  IsExtensionRefusal (d.NotExtensible _) = ⊥
+  IsExtensionRefusal (d.PreferenceCycle cycle) = IsHostRefusal r g (d.PreferenceCycle cycle)
+  IsExtensionRefusal (d.MarkerClash _ _ _) = ⊥
+  IsExtensionRefusal (d.NotReduced reason) = IsHostRefusal r g (d.NotReduced reason)
+  IsExtensionRefusal (d.UnitCycle list) = IsHostRefusal r g (d.UnitCycle list)
+  IsExtensionRefusal (d.HiddenLeftRecursion list) = IsHostRefusal r g (d.HiddenLeftRecursion list)
+  IsExtensionRefusal (d.Conflict prefix terminal first second) = IsHostRefusal r g (d.Conflict prefix terminal first second)
+  IsExtensionRefusal (d.Clash prefix left right text) = IsHostRefusal r g (d.Clash prefix left right text)
+  IsExtensionRefusal (d.Lookahead prefix item t) =
+      IsDeterministicHost r g × IsLookaheadFault host (extended_grammar r g host) (both_numbers r g host)
+      (StandsFor r g (both_numbers r g host)) prefix item t
+  IsExtensionRefusal (d.Envelope prefix fault) =
+      IsDeterministicHost r g × KeepsKernelLookaheads host (extended_grammar r g host) (up_by (both_numbers r g host)) (stands_for r g)
+      × IsEnvelopeFault prefix fault
+  IsExtensionRefusal (d.NoMemory _) = Unit {0}

@@ -1,0 +1,30 @@
+//! Determinism of extensions: whether an extension leaves a host as deterministic as it was, whatever other extensions there are.
+//!
+//! An extension is tested with its host alone. What the words mean is in `wb_grammars`, `wb_marking`, `wb_determinism` and `wb_unions`;
+//! marks are tested elsewhere.
+#![tactic(auto)]
+
+mod closure;
+mod conflict;
+mod context;
+mod envelope;
+mod envelope_clash;
+mod envelope_rule;
+mod envelope_test;
+mod extension;
+mod host_index;
+mod images;
+mod laws;
+mod layout;
+mod lookahead_rule;
+mod numbers;
+mod parts;
+mod position;
+mod regions;
+mod rules;
+mod valid;
+
+pub use extension::extension_determinism;
+pub use laws::{composable_law, extension_refusals_law};
+pub use parts::ExtensionParts;
+pub use regions::Region;

@@ -1,0 +1,21 @@
+//! What is kept of a deterministic extension?
+
+use crate::Region;
+use wb_base::{Grammar, Sequence};
+use wb_items::{Kernels, Lookaheads};
+use wb_lookahead::Tables;
+
+/// The grammar of the host with the extension, with holes, and what is made of it for a parser.
+#[derive(Drop)]
+pub struct ExtensionParts {
+    /// The grammar with holes.
+    pub grammar: Grammar,
+    /// The kernels of its prefixes.
+    pub kernels: Kernels,
+    /// The lookaheads of their items.
+    pub lookaheads: Lookaheads,
+    /// What a parser does at each of them.
+    pub tables: Tables,
+    /// What each kernel is to the host.
+    pub regions: Sequence<Region>,
+}
