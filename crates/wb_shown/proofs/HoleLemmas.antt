@@ -1,5 +1,5 @@
 -- A name of a grammar with holes is one of the grammar or one of a hole.
-use Rattle.std.proofs.Common.{◌≡◌, ◌<◌, ◌≤◌, ◌+◌, ◌-◌, ◌++◌, [], ℕ, List, Some, None, map, take, length, slice_get, ap, sym, subst, ◌∙◌, arith}
+use Rattle.std.proofs.Common.{◌≡◌, ◌<◌, ◌≤◌, ◌+◌, ◌-◌, ◌++◌, [], ℕ, List, Some, None, map, take, length, slice_get, ap, sym, ◌∙◌, arith}
 use Rattle.std.specs.Prelude.{Option, option_map, IfSome}
 use Rattle.std.proofs.lemmas.List.{length-take-le, length-map}
 use Rattle.std.proofs.lemmas.Option.{slice_get-map}

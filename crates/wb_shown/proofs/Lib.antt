@@ -1,1 +1,2 @@
 pub mod HoleLemmas
+pub mod CallerLemmas

@@ -1,7 +1,5 @@
 -- What a report shows for a refusal by number: the same rule, with names.
-use Rattle.std.specs.Prelude.{◌≡◌, ℕ, List, Option, Some, None, map, option_map, slice_get}
-use Rattle.wb_base.specs.declared.symbol.Symbol.{Symbol}
-use Rattle.wb_base.specs.Grammar.{GrammarView}
+use Rattle.std.specs.Prelude.{ℕ, Option, Some, None, map, option_map, slice_get}
 use Rattle.wb_certify.specs.declared.refusal.CertifyRefusal.{CertifyRefusal}
 use Rattle.wb_certify.specs.declared.refusal.CertifyRefusal.TheVariants as c
 use Rattle.wb_determinism.specs.declared.refusal.DeterminismRefusal.{DeterminismRefusal}

@@ -84,7 +84,7 @@ fn reduced_rule(
 }
 
 // Two actions on a terminal.
-fn conflict_of(
+pub(crate) fn conflict_of(
     alloc: Global,
     resolved: &Resolved,
     terminal: usize,
@@ -132,10 +132,10 @@ fn conflict_after(
 
 // Two terminals that match a text.
 #[derive(Clone, Copy)]
-struct Pair<'a> {
-    left: usize,
-    right: usize,
-    text: &'a Bytes,
+pub(crate) struct Pair<'a> {
+    pub(crate) left: usize,
+    pub(crate) right: usize,
+    pub(crate) text: &'a Bytes,
 }
 
 // The rule of clashes, for this one after a prefix.
@@ -191,7 +191,7 @@ fn nonterminal_names(
 }
 
 // The names of symbols of the grammar with holes.
-fn symbol_names(
+pub(crate) fn symbol_names(
     alloc: Global,
     resolved: &Resolved,
     symbols: &[Symbol],

@@ -4,6 +4,7 @@
 #![tactic(auto)]
 
 mod attributes;
+mod extension;
 mod grammar;
 mod holes;
 mod names;
@@ -12,5 +13,5 @@ mod specification;
 
 pub use holes::terminals_in;
 pub use names::terminal_name;
-pub use refusal::{of_spec, shown_refusal};
+pub use refusal::{of_spec, shown_extension_refusal, shown_refusal};
 pub use specification::{name_rule, written_rule};

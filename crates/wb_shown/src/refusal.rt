@@ -1,14 +1,17 @@
 //! Which rule of certification does a report show, by names?
 
 ghost use Rattle.std.specs.Prelude.{◌≡◌, IfOk};
+ghost use Rattle.wb_shown.specs.Extensions as extensions;
 ghost use Rattle.wb_shown.specs.Shows as spec;
 
 use crate::attributes::attribute_rule;
+use crate::extension::extension_rule;
 use crate::grammar::grammar_rule;
 use crate::specification::{name_rule, type_rule};
 use std::alloc::{AllocError, Global};
 use wb_certify::CertifyRefusal;
-use wb_report::{AttributeReason, GrammarReason, Refusal, SpecReason};
+use wb_determinism::DeterminismRefusal;
+use wb_report::{AttributeReason, ExtensionReason, GrammarReason, Refusal, SpecReason};
 use wb_resolved::Resolved;
 
 /// Why a resolved host isn't certified, by names; none for want of memory, and for rules on what extensions add. The only error is want
@@ -31,6 +34,35 @@ pub fn shown_refusal(
             Ok(of_attributes(attribute_rule(alloc, resolved, refusal)?))
         }
         CertifyRefusal::NoMemory(_) => Ok(None),
+    }
+}
+
+/// Why an extension isn't certified with its host, by names, where the numbers are those of host and extension; none for want of memory. The
+/// only error is want of memory.
+pub fn shown_extension_refusal(
+    alloc: Global,
+    resolved: &Resolved,
+    refusal: &CertifyRefusal,
+) -> Result<Option<Refusal>, AllocError>
+    ensures { IfOk result (λ shown. shown ≡ extensions.extension_refusal_shown resolved.now refusal.now) }
+{
+    match refusal {
+        CertifyRefusal::Determinism(refusal) => determinism_rule(alloc, resolved, refusal),
+        _ => shown_refusal(alloc, resolved, refusal),
+    }
+}
+
+// Why an extension isn't deterministic with its host.
+fn determinism_rule(
+    alloc: Global,
+    resolved: &Resolved,
+    refusal: &DeterminismRefusal,
+) -> Result<Option<Refusal>, AllocError>
+    ensures { IfOk result (λ shown. shown ≡ extensions.determinism_shown resolved.now refusal.now) }
+{
+    match grammar_rule(alloc, resolved, refusal)? {
+        Some(reason) => Ok(Some(Refusal::Grammar(reason))),
+        None => Ok(of_extension(extension_rule(alloc, resolved, refusal)?)),
     }
 }
 
@@ -60,6 +92,16 @@ fn of_attributes(reason: Option<AttributeReason>) -> Option<Refusal>
 {
     match reason {
         Some(reason) => Some(Refusal::Attributes(reason)),
+        None => None,
+    }
+}
+
+// A rule on what an extension adds as a refusal.
+fn of_extension(reason: Option<ExtensionReason>) -> Option<Refusal>
+    ensures { result ≡ extensions.of_extension reason }
+{
+    match reason {
+        Some(reason) => Some(Refusal::Extension(reason)),
         None => None,
     }
 }

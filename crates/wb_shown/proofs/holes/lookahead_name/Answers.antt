@@ -1,5 +1,4 @@
-use Rattle.std.proofs.Common.{rules, ◌≡◌, ◌<◌, ◌≤◌, ◌-◌, IfOk, Some, None, slice_get, ap, subst, ◌∙◌, sym}
-use Rattle.wb_resolved.specs.declared.resolved.ResolvedParts.{ResolvedParts}
+use Rattle.std.proofs.Common.{rules, ◌≡◌, ◌<◌, ◌≤◌, ◌-◌, IfOk, Some, None, slice_get, subst}
 use Rattle.wb_shown.specs.Names.{terminals_in}
 use Rattle.wb_shown.proofs.HoleLemmas.{lookahead_before, lookahead_hole, lookahead_end}
 use Rattle.wb_shown.proofs.holes.lookahead_name.Goals as goal

@@ -1,5 +1,4 @@
-use Rattle.std.proofs.Common.{rules, ◌≡◌, ◌<◌, ◌≤◌, ◌-◌, IfOk, Some, None, slice_get, ap, subst, ◌∙◌, sym}
-use Rattle.wb_resolved.specs.declared.resolved.ResolvedParts.{ResolvedParts}
+use Rattle.std.proofs.Common.{rules, ◌≡◌, ◌<◌, ◌≤◌, ◌-◌, IfOk, Some, None, slice_get, subst, ◌∙◌}
 use Rattle.wb_shown.specs.Names.{productions_in}
 use Rattle.wb_shown.proofs.HoleLemmas.{reduction_before, reduction_hole, reduction_none}
 use Rattle.wb_shown.proofs.holes.reduction_name.Goals as goal
