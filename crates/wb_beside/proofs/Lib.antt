@@ -1,0 +1,7 @@
+mod BesideLemmas
+mod MarkLemmas
+mod PreferenceLemmas
+mod ValueLemmas
+mod ExtensionLemmas
+mod AnswerLemmas
+mod NameLemmas

@@ -1,0 +1,83 @@
+-- What each private test asks and tells of the specification of a host with an extension.
+use Rattle.std.specs.Prelude.{◌≡◌, ℕ, List, Some, Option}
+use Rattle.wb_attributes.specs.Modular.{ForwardEquationsReach}
+use Rattle.wb_base.specs.Grammar.{GrammarView}
+use Rattle.wb_certify.specs.Hosts.{CertifiedView, IsCertifiedValue}
+use Rattle.wb_certify.specs.declared.refusal.CertifyRefusal.{CertifyRefusal}
+use Rattle.wb_complete.specs.Refusals.{CompleteOk}
+use Rattle.wb_determinism.specs.declared.parts.HostParts.{HostParts}
+use Rattle.wb_determinism.specs.declared.refusal.DeterminismRefusal.{DeterminismRefusal}
+use Rattle.wb_determinism.specs.declared.refusal.DeterminismRefusal.TheVariants as d
+use Rattle.wb_extensions.specs.Extensions.{AreExtensionParts, IsDeterministicExtension}
+use Rattle.wb_extensions.specs.declared.parts.ExtensionParts.{ExtensionParts}
+use Rattle.wb_flow.specs.Refusals.{FlowsOk}
+use Rattle.wb_marks.specs.Bridges.{AreBridges}
+use Rattle.wb_marks.specs.declared.refusal.MarkRefusal.{MarkRefusal}
+use Rattle.wb_marks.specs.declared.refusal.MarkRefusal.TheVariants as m
+use Rattle.wb_operations.specs.Operations.{OperationSignature}
+use Rattle.wb_resolved.specs.declared.attribution.AttributionParts.{AttributionParts}
+use Rattle.wb_resolved.specs.declared.resolved.ResolvedParts.{ResolvedParts}
+use Rattle.wb_resolved.specs.Resolved.{IsResolved}
+use Rattle.wb_types.specs.Rules.{KindsOk}
+use Rattle.wb_beside.specs.Extensions.{AreMarkersKept, IsDeterministicBeside}
+use Rattle.wb_beside.specs.Kept.{Extends}
+use Rattle.wb_beside.specs.Refusals.{IsBesideRefusal, IsReason}
+
+-- the rules on bridges hold in the grammar
+abbrev pub HaveBridges : ResolvedParts → Type 0
+HaveBridges r = (g : GrammarView) → r.grammar ≡ Some g → AreBridges r g
+
+-- markers keep their rules in the grammar
+abbrev pub KeepMarkers : ResolvedParts → Type 0
+KeepMarkers r = (g : GrammarView) → r.grammar ≡ Some g → AreMarkersKept r g
+
+-- the reason is true, whatever the host
+abbrev pub IsMarkReason : ResolvedParts → DeterminismRefusal → Type 0
+IsMarkReason r refusal = (g host : GrammarView) → r.grammar ≡ Some g → IsReason r g host refusal
+
+-- the reason is true beside this host's grammar with holes
+abbrev pub IsReasonBeside : ResolvedParts → GrammarView → DeterminismRefusal → Type 0
+IsReasonBeside r host refusal = (g : GrammarView) → r.grammar ≡ Some g → IsReason r g host refusal
+
+-- why markers are refused, as a reason why an extension isn't deterministic
+abbrev pub reason_of : MarkRefusal → DeterminismRefusal
+reason_of (m.NotBridge production) = d.NotBridge production
+reason_of (m.MarkerElsewhere marker) = d.MarkerElsewhere marker
+reason_of (m.NotExtensible production) = d.NotExtensible production
+reason_of (m.MarkerClash marker other text) = d.MarkerClash marker other text
+reason_of (m.NoMemory error) = d.NoMemory error
+
+-- markers keep their rules, the extension is deterministic beside the host, and the parts are those of the extended grammar
+pub record ArePartsOfDeterministic (r : ResolvedParts) (g : GrammarView) (host : HostParts) (parts : ExtensionParts) : Type 0 where
+  pub markers : AreMarkersKept r g
+  pub deterministic : IsDeterministicExtension r g host.grammar
+  pub made : AreExtensionParts r g host parts
+
+-- the same in each grammar that the specification has
+abbrev pub ArePartsFound : ResolvedParts → HostParts → ExtensionParts → Type 0
+ArePartsFound r host parts = (g : GrammarView) → r.grammar ≡ Some g → ArePartsOfDeterministic r g host parts
+
+-- a certified host, and the specification of it with an extension
+pub record IsTested (host : CertifiedView) (r : ResolvedParts) : Type 0 where
+  pub whole : IsResolved host.resolved
+  pub certified : IsCertifiedValue host.resolved host.operations
+  pub extends : Extends host.resolved r
+
+-- host and extended host have grammars, and the extension is deterministic beside the host
+pub record IsFound (host r : ResolvedParts) : Type 0 where
+  pub host_grammar : GrammarView
+  pub host_start : host.grammar ≡ Some host_grammar
+  pub grammar : GrammarView
+  pub start : r.grammar ≡ Some grammar
+  pub deterministic : IsDeterministicBeside host r host_grammar grammar
+
+-- attributes are complete as an extension's, keep to their flow types, and so do equations for forwarded trees
+pub record AttributesOk (a : AttributionParts) (start : Option ℕ) : Type 0 where
+  pub complete : CompleteOk a start (Some 1)
+  pub flows : FlowsOk a
+  pub forwards : ForwardEquationsReach a 1
+
+-- where expressions are of their kinds over some operations, the refusal is true
+abbrev pub IsLaterRefusal : (host r : ResolvedParts) → CertifyRefusal → Type 0
+IsLaterRefusal host r refusal = (operations : List OperationSignature) → KindsOk r.attributes operations
+    → IsBesideRefusal host r operations refusal

@@ -1,0 +1,84 @@
+//! What is kept of a certified extension?
+
+ghost use Rattle.std.specs.Prelude.{◌≡◌};
+ghost use Rattle.wb_certify.specs.Hosts.{IsCertifiedValue};
+ghost use Rattle.wb_beside.specs.Extensions.{IsCertifiedBeside, IsOneExtension};
+ghost use Rattle.wb_beside.specs.Kept.{AreKeptParts, Extends};
+
+use std::marker::Model;
+use wb_extensions::ExtensionParts;
+use wb_operations::OperationSignatures;
+use wb_resolved::Resolved;
+
+/// An extension that is certified with its host, over operations of these signatures.
+///
+/// The host is certified. With the extension each expression is of its kind, markers keep their rules, the extension is deterministic
+/// beside the host, and its attributes are well defined, whatever other extensions there are.
+#[derive(Drop)]
+pub struct CertifiedExtension {
+    pub(crate) host: Resolved,
+    pub(crate) resolved: Resolved,
+    pub(crate) parts: ExtensionParts,
+    pub(crate) operations: OperationSignatures,
+}
+
+impl Model for CertifiedExtension {
+    ghost use Rattle.std.specs.Coded.{codes};
+    ghost use Rattle.wb_regex.specs.contracts.regex.Regex as regex;
+    ghost use Rattle.wb_beside.specs.Kept.{ExtensionView, IsKept};
+
+    ghost Value = { ExtensionView };
+
+    ghost coded = { Prim.hlevel (codes, regex.the_row.coded) };
+
+    ghost view = { λ e. record { host = e.host; resolved = e.resolved; parts = e.parts; operations = e.operations } };
+
+    ghost invariant = { λ e. IsKept (record { host = e.host; resolved = e.resolved; parts = e.parts; operations = e.operations }) };
+}
+
+impl CertifiedExtension {
+    /// The name of the extension. Takes no memory.
+    pub fn name(&self) -> &[u8]
+        ensures { IsOneExtension self.now.resolved result.now }
+    {
+        self.resolved
+            .parts()
+            .attributes
+            .parts()
+            .extensions
+            .as_slice()[0]
+            .as_slice()
+    }
+
+    /// The host by numbers, without the extension. Takes no memory.
+    pub fn host(&self) -> &Resolved
+        ensures host { result.now ≡ self.now.host }
+        ensures certified { IsCertifiedValue self.now.host self.now.operations }
+    {
+        &self.host
+    }
+
+    /// The host with the extension by numbers, of which the extension is owner 1. Takes no memory.
+    pub fn resolved(&self) -> &Resolved
+        ensures resolved { result.now ≡ self.now.resolved }
+        ensures extends { Extends self.now.host self.now.resolved }
+        ensures certified { IsCertifiedBeside self.now.host self.now.resolved self.now.operations }
+    {
+        &self.resolved
+    }
+
+    /// What is made of the grammar of host and extension, with holes. Takes no memory.
+    pub fn parts(&self) -> &ExtensionParts
+        ensures parts { result.now ≡ self.now.parts }
+        ensures of_grammar { AreKeptParts self.now.host self.now.resolved self.now.parts }
+    {
+        &self.parts
+    }
+
+    /// The signatures of the operations with which it was certified. Takes no memory.
+    pub fn operations(&self) -> &OperationSignatures
+        ensures { result.now ≡ self.now.operations }
+    {
+        &self.operations
+    }
+}

@@ -1,0 +1,18 @@
+//! Certified extensions: what may be composed with a host and other such extensions, each certified with the host alone.
+//!
+//! The rules are tested in the order in which they are reported, and nothing of another extension is looked at. What each says is in the
+//! crates below.
+#![tactic(auto)]
+
+mod attributes;
+mod certified;
+mod determinism;
+mod extension;
+mod laws;
+mod marks;
+mod value;
+
+pub use certified::CertifiedExtension;
+pub use extension::certify_extension;
+pub use laws::{names_law, one_answer_law};
+pub use value::certify_beside;

@@ -1,0 +1,126 @@
+//! Is a resolved host with an extension certified, beside the certified host? Each test after names, in the order in which refusals are
+//! reported.
+
+ghost use Rattle.std.specs.Prelude.{◌≡◌, IfErr, IfOk};
+ghost use Rattle.wb_resolved.specs.declared.resolved.ResolvedParts.{ResolvedParts as View};
+ghost use Rattle.wb_types.specs.Rules.{KindsOk};
+ghost use Rattle.wb_certify.specs.Refusals.{start_of};
+ghost use Rattle.wb_beside.specs.Extensions.{IsCertifiedBeside};
+ghost use Rattle.wb_beside.specs.Kept.{AreKeptParts, ArePartsBeside, Extends};
+ghost use Rattle.wb_beside.specs.Refusals.{IsBesideRefusal};
+ghost use Rattle.wb_beside.specs.Inner.Tests.{AttributesOk, IsFound, IsLaterRefusal, IsTested};
+
+use crate::CertifiedExtension;
+use crate::attributes::test_attributes;
+use crate::determinism::determinism_beside;
+use std::alloc::Global;
+use wb_certify::{CertifiedHost, CertifyRefusal};
+use wb_determinism::DeterminismRefusal;
+use wb_extensions::ExtensionParts;
+use wb_flow::AttributeRefusal;
+use wb_operations::{Meaning, OperationTable};
+use wb_resolved::Resolved;
+use wb_types::{TypeRefusal, check_types};
+
+/// A resolved host with an extension as an extension that is certified with the host over a table of operations, or the first rule that fails.
+///
+/// The table is one with which the host was certified. Rules of names don't come, since they hold, nor that there is no start, since the host
+/// has one. Others go by code: kinds, then bridges, preferences, markers, grammars and scanners, what the extension may add to the host, and
+/// attributes at last. No clause bounds the time.
+pub fn certify_beside<M: Meaning>(
+    alloc: Global,
+    host: &CertifiedHost,
+    resolved: &Resolved,
+    operations: &OperationTable<M>,
+) -> Result<CertifiedExtension, CertifyRefusal>
+    requires operations { operations.now.signatures ≡ host.now.operations }
+    requires extends { Extends host.now.resolved resolved.now }
+    ensures host { IfOk result (λ extension. extension.host ≡ host.now.resolved) }
+    ensures resolved { IfOk result (λ extension. extension.resolved ≡ resolved.now) }
+    ensures operations { IfOk result (λ extension. extension.operations ≡ host.now.operations) }
+    ensures parts { IfOk result (λ extension. ArePartsBeside resolved.now host.now.parts extension.parts) }
+    ensures certified { IfOk result (λ extension. IsCertifiedBeside host.now.resolved resolved.now host.now.operations) }
+    ensures refused { IfErr result (IsBesideRefusal host.now.resolved resolved.now host.now.operations) }
+{
+    let base = host.resolved().copy()?;
+    let kept = host.operations().copy()?;
+    let copied = resolved.copy()?;
+    let parts = parts_beside(alloc, host, resolved, operations)?;
+    Ok(CertifiedExtension {
+        host: base,
+        resolved: copied,
+        parts,
+        operations: kept,
+    })
+}
+
+// What is made of a host with an extension that is certified.
+fn parts_beside<M: Meaning>(
+    alloc: Global,
+    host: &CertifiedHost,
+    resolved: &Resolved,
+    operations: &OperationTable<M>,
+) -> Result<ExtensionParts, CertifyRefusal>
+    requires { IsTested host.now resolved.now }
+    ensures certified { IfOk result (λ parts. IsCertifiedBeside host.now.resolved resolved.now operations.now.signatures) }
+    ensures parts { IfOk result (ArePartsBeside resolved.now host.now.parts) }
+    ensures kept { IfOk result (AreKeptParts host.now.resolved resolved.now) }
+    ensures refused { IfErr result (IsBesideRefusal host.now.resolved resolved.now operations.now.signatures) }
+{
+    check_kinds(alloc, resolved, operations)?;
+    let parts = determinism_of(alloc, host, resolved)?;
+    check_attributes(alloc, host, resolved)?;
+    Ok(parts)
+}
+
+// Whether each expression is of its kind.
+fn check_kinds<M: Meaning>(
+    alloc: Global,
+    resolved: &Resolved,
+    operations: &OperationTable<M>,
+) -> Result<(), CertifyRefusal>
+    ensures ok { IfOk result (λ done. KindsOk resolved.now.attributes operations.now.signatures) }
+    ensures refused { IfErr result (λ refusal. (host : View) → IsBesideRefusal host resolved.now operations.now.signatures refusal) }
+{
+    match check_types(alloc, resolved, operations) {
+        Ok(()) => Ok(()),
+        Err(TypeRefusal::NoMemory(error)) => Err(CertifyRefusal::NoMemory(error)),
+        Err(refusal) => Err(CertifyRefusal::Types(refusal)),
+    }
+}
+
+// What is made of host and extension, where the extension is deterministic beside the host.
+fn determinism_of(
+    alloc: Global,
+    host: &CertifiedHost,
+    resolved: &Resolved,
+) -> Result<ExtensionParts, CertifyRefusal>
+    requires { IsTested host.now resolved.now }
+    ensures ok { IfOk result (λ parts. IsFound host.now.resolved resolved.now) }
+    ensures parts { IfOk result (ArePartsBeside resolved.now host.now.parts) }
+    ensures kept { IfOk result (AreKeptParts host.now.resolved resolved.now) }
+    ensures refused { IfErr result (IsLaterRefusal host.now.resolved resolved.now) }
+{
+    match determinism_beside(alloc, host.parts(), resolved) {
+        Ok(made) => Ok(made),
+        Err(DeterminismRefusal::NoMemory(error)) => Err(CertifyRefusal::NoMemory(error)),
+        Err(refusal) => Err(CertifyRefusal::Determinism(refusal)),
+    }
+}
+
+// Whether attributes are well defined.
+fn check_attributes(
+    alloc: Global,
+    _host: &CertifiedHost,
+    resolved: &Resolved,
+) -> Result<(), CertifyRefusal>
+    requires { IsFound _host.now.resolved resolved.now }
+    ensures ok { IfOk result (λ done. AttributesOk resolved.now.attributes (start_of resolved.now)) }
+    ensures refused { IfErr result (IsLaterRefusal _host.now.resolved resolved.now) }
+{
+    match test_attributes(alloc, resolved) {
+        Ok(()) => Ok(()),
+        Err(AttributeRefusal::NoMemory(error)) => Err(CertifyRefusal::NoMemory(error)),
+        Err(refusal) => Err(CertifyRefusal::Attributes(refusal)),
+    }
+}
