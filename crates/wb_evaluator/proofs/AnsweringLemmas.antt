@@ -1,0 +1,154 @@
+-- How an evaluation ends, and how far it is from its end.
+use Rattle.std.proofs.Common.{get_or, ◌≡◌, ◌∙◌, ◌≤◌, ◌<◌, ◌+◌, ◌*◌, ◌-◌, ℕ, suc, List, [], ◌∷◌, length, refl, sym, ap, subst, arith}
+use Rattle.std.proofs.lemmas.List.{get_or_append_left}
+use Rattle.std.proofs.lemmas.Option.{slice_get_within}
+use Rattle.wb_operations.specs.Operations.{Operations}
+use Rattle.wb_resolved.specs.declared.attribution.AttributionParts.{AttributionParts}
+use Rattle.wb_values.specs.declared.value.TreeId.{TreeId}
+use Rattle.wb_values.specs.declared.value.Value.{Value}
+use Rattle.wb_values.specs.Tree.{Tree, node, empty}
+use Rattle.wb_values.specs.ValuesIn.{tree_in, value_in, IsIn}
+use Rattle.wb_evaluation.specs.Instances.{Instance}
+use Rattle.wb_evaluation.specs.Needed.{IsNeeded, itself, NeedsMoreThan}
+use Rattle.wb_evaluation.specs.Walks.{done, value, fault}
+use Rattle.wb_evaluator.proofs.LeaveLemmas.{named_length}
+use Rattle.wb_evaluator.proofs.MachineLemmas.{ends_value, ends_faulted, too_many, not_more}
+use Rattle.wb_evaluator.specs.declared.evaluated.Evaluated.{Evaluated}
+use Rattle.wb_evaluator.specs.declared.evaluated.Evaluated.TheVariants as evaluated
+use Rattle.wb_evaluator.specs.declared.machine.Key.{Key}
+use Rattle.wb_evaluator.specs.declared.machine.Machine.{Machine}
+use Rattle.wb_evaluator.specs.Evaluates.{IsValue, IsFault, AsksMore}
+use Rattle.wb_evaluator.specs.Inner.Answering.{GoesOn, IsAnswered}
+use Rattle.wb_evaluator.specs.Inner.Machines.{IsMachine, IsSame, Runs, Wants}
+use Rattle.wb_evaluator.specs.Inner.State.{IsState, start}
+use Rattle.wb_evaluator.specs.Inner.Works.{IsExtended}
+
+module _ (a : AttributionParts) (operations : Operations) (trees : List Tree) (m : Machine) where
+  -- the value of the first instance
+  pub answers_value : (v : Value) (steps : ℕ) → Runs a operations trees m (done (value (value_in trees v))) → IsIn (length trees) v
+      → length m.stack.items ≡ 1 → m.entered ≤ steps → IsAnswered a operations trees m steps (evaluated.Value v)
+  answers_value v steps runs inside one le = by_waiting r.waiting refl where
+    r : IsMachine a operations trees m
+    r = runs.machine
+
+    by_waiting : (w : List Instance) → r.waiting ≡ w → IsAnswered a operations trees m steps (evaluated.Value v)
+    by_waiting (j ∷ js) is = absurd (let h = named_length m.memo m.stack.items [] (r.this ∷ r.waiting) r.stack in
+        let l = ap length is in omega (arith, h, one, l))
+    by_waiting [] is =
+        let (answer, all_needed) = ends_value a operations r.top m.attribute
+        (subst (IsState a operations r.top m.attribute r.all r.this) is r.state) runs.come in
+        let count = r.counted in
+        let within = not_more a operations r.top m.attribute r.all steps all_needed (omega (arith, count, le)) in
+        record {
+          value = subst (λ (t : Tree). IsValue a operations t m.attribute steps trees (evaluated.Value v)) (sym r.root_is) (answer, inside, within);
+          fault = record {};
+          more = record {};
+        }
+
+  -- a fault is that of the first instance
+  pub answers_fault : (operation code steps : ℕ) → Runs a operations trees m (done (fault operation code)) → m.entered ≤ steps
+      → IsAnswered a operations trees m steps (evaluated.Fault operation code)
+  answers_fault operation code steps runs le =
+      let r = runs.machine in
+      let (answer, all_needed) = ends_faulted a operations r.top m.attribute r.state runs.come in
+      let count = r.counted in
+      let within = not_more a operations r.top m.attribute r.all steps all_needed (omega (arith, count, le)) in
+      record {
+        value = record {};
+        fault = subst (λ (t : Tree). IsFault a operations t m.attribute steps (evaluated.Fault operation code)) (sym r.root_is) (answer, within);
+        more = record {};
+      }
+
+  -- one more is needed than there are steps
+  pub answers_more : (k : Key) (steps : ℕ) → Wants a operations trees m k → steps ≤ m.entered
+      → IsAnswered a operations trees m steps evaluated.MoreSteps
+  answers_more k steps w le =
+      let r = w.runs.machine in
+      let count = r.counted in
+      let more = too_many a operations r.top m.attribute steps r.state w.runs.come w.fresh (omega (arith, count, le)) in
+      record {
+        value = record {};
+        fault = record {};
+        more = subst (λ (t : Tree). NeedsMoreThan a operations t (start a operations t m.attribute) steps) (sym r.root_is) more;
+      }
+
+-- the machine that asks the same
+pub answered_same : (a : AttributionParts) (operations : Operations) (trees : List Tree) (old m : Machine) (steps : ℕ) (e : Evaluated)
+    → IsSame old m → IsAnswered a operations trees m steps e → IsAnswered a operations trees old steps e
+answered_same a operations trees old m steps e same h = record {
+  value = at_old (λ (id : TreeId) (y : ℕ). IsValue a operations (tree_in trees id.0) y steps trees e) h.value;
+  fault = at_old (λ (id : TreeId) (y : ℕ). IsFault a operations (tree_in trees id.0) y steps e) h.fault;
+  more = at_old (λ (id : TreeId) (y : ℕ). AsksMore a operations (tree_in trees id.0) y steps e) h.more;
+} where
+  at_old : (P : TreeId → ℕ → Type 0) → P m.root m.attribute → P old.root old.attribute
+  at_old P p = subst (P old.root) same.attribute (subst (λ (id : TreeId). P id m.attribute) same.root p)
+
+-- after an instance is left
+pub goes_left : (a : AttributionParts) (operations : Operations) (trees : List Tree) (old m new : Machine) (steps : ℕ) → IsSame old m
+    → IsMachine a operations trees new → new.root ≡ m.root → new.attribute ≡ m.attribute → new.entered ≡ m.entered
+    → suc (length new.stack.items) ≡ length m.stack.items → old.entered ≤ steps → GoesOn a operations trees old new steps
+goes_left a operations trees old m new steps same whole root attribute count_is stack le =
+    let counts : m.entered ≡ old.entered = same.entered in
+    let stacks : length m.stack.items ≡ length old.stack.items = ap (λ s. length s.items) same.stack in
+    let total : new.entered ≡ old.entered = count_is ∙ counts in
+    record {
+      whole = whole;
+      root = root ∙ same.root;
+      attribute = attribute ∙ same.attribute;
+      within = omega (arith, total, le);
+      less = let d : steps - new.entered ≡ steps - old.entered = ap (λ n. steps - n) total in
+          let h = ap (λ n. 2 * n) d in omega (arith, h, stack, stacks);
+    }
+
+-- after one is entered
+pub goes_entered : (a : AttributionParts) (operations : Operations) (trees : List Tree) (old m new : Machine) (steps : ℕ) → IsSame old m
+    → IsMachine a operations trees new → new.root ≡ m.root → new.attribute ≡ m.attribute → new.entered ≡ m.entered + 1
+    → length new.stack.items ≡ suc (length m.stack.items) → m.entered < steps → GoesOn a operations trees old new steps
+goes_entered a operations trees old m new steps same whole root attribute count_is stack lt =
+    let counts : m.entered ≡ old.entered = same.entered in
+    let stacks : length m.stack.items ≡ length old.stack.items = ap (λ s. length s.items) same.stack in
+    record {
+      whole = whole;
+      root = root ∙ same.root;
+      attribute = attribute ∙ same.attribute;
+      within = omega (arith, count_is, lt);
+      less = omega (arith, counts, stacks, count_is, stack, lt);
+    }
+
+-- the tree of the root in a store with more
+pub root_extended : (first second : List Tree) (id : ℕ) → IsExtended first second → id < length first → tree_in second id ≡ tree_in first id
+root_extended first second id (more, is) lt =
+    ap (λ (l : List Tree). tree_in l id) is ∙ get_or_append_left first more (node 0 empty) id lt
+
+-- what it asks of the first store
+pub answered_at : (a b : AttributionParts) → a ≡ b → (operations : Operations) (first trees : List Tree) (m : Machine) (id : TreeId)
+    (y steps : ℕ) (e : Evaluated) → m.root ≡ id → m.attribute ≡ y → IsExtended first trees → id.0 < length first
+    → IsAnswered a operations trees m steps e
+    → IsValue b operations (tree_in first id.0) y steps trees e × IsFault b operations (tree_in first id.0) y steps e
+    × AsksMore b operations (tree_in first id.0) y steps e
+answered_at a b same operations first trees m id y steps e root_is attribute_is extended lt h = (value, fault, more) where
+  at_first : (P : AttributionParts → Tree → ℕ → Type 0) → P a (tree_in trees m.root.0) m.attribute → P b (tree_in first id.0) y
+  at_first P p = subst (λ (c : AttributionParts). P c (tree_in first id.0) y) same
+      (subst (λ (t : Tree). P a t y) (root_extended first trees id.0 extended lt)
+      (subst (λ (i : TreeId). P a (tree_in trees i.0) y) root_is (subst (P a (tree_in trees m.root.0)) attribute_is p)))
+
+  value : IsValue b operations (tree_in first id.0) y steps trees e
+  value = at_first (λ (c : AttributionParts) (t : Tree) (z : ℕ). IsValue c operations t z steps trees e) h.value
+
+  fault : IsFault b operations (tree_in first id.0) y steps e
+  fault = at_first (λ (c : AttributionParts) (t : Tree) (z : ℕ). IsFault c operations t z steps e) h.fault
+
+  more : AsksMore b operations (tree_in first id.0) y steps e
+  more = at_first (λ (c : AttributionParts) (t : Tree) (z : ℕ). AsksMore c operations t z steps e) h.more
+
+-- one instance is needed at least, the one that is asked
+pub needs_first : (a : AttributionParts) (operations : Operations) (top : Tree) (y : ℕ)
+    → NeedsMoreThan a operations top (start a operations top y) 0
+needs_first a operations top y = record {
+  members = start a operations top y ∷ [];
+  count = omega arith;
+  different = λ x i j at there. let p = slice_get_within (start a operations top y ∷ []) i x at in
+      let r = slice_get_within (start a operations top y ∷ []) j x there in omega (arith, p, r);
+  needed = λ k d lt. let k_is : k ≡ 0 = omega (arith, lt) in
+      subst (λ (n : ℕ). IsNeeded a operations top (start a operations top y) (get_or (start a operations top y ∷ []) n d)) (sym k_is) itself;
+}

@@ -1,0 +1,82 @@
+-- What an evaluation begins with.
+use Rattle.std.proofs.Common.{◌≡◌, ◌∙◌, ◌≤◌, ◌<◌, inl, ℕ, zero, suc, List, [], ◌∷◌, Some, None, length, refl, sym, ap, subst, arith}
+use Rattle.std.proofs.Common.{slice_get}
+use Rattle.std.proofs.lemmas.Option.{slice_get_within}
+use Rattle.wb_attributes.specs.Vertices.{child, made}
+use Rattle.wb_operations.specs.Operations.{Operations}
+use Rattle.wb_resolved.specs.declared.attribution.AttributionParts.{AttributionParts}
+use Rattle.wb_values.specs.declared.value.TreeId.{TreeId}
+use Rattle.wb_values.specs.Tree.{Tree}
+use Rattle.wb_values.specs.ValuesIn.{tree_in}
+use Rattle.wb_evaluation.specs.Answers.{at_root}
+use Rattle.wb_evaluation.specs.Evaluable.{IsEvaluable, IsAsked}
+use Rattle.wb_evaluation.specs.Instances.{Path, root, down, synthesized_at}
+use Rattle.wb_evaluator.proofs.MachineLemmas.{begins}
+use Rattle.wb_evaluator.proofs.SitesLemmas.{root_path}
+use Rattle.wb_evaluator.specs.Inner.Machines.{HasTree, AreNamed, IsNode, IsMachine}
+use Rattle.wb_evaluator.specs.Inner.Memos.{count, path_in, numbered, recall, IsWhole}
+use Rattle.wb_evaluator.specs.Inner.State.{start}
+use Rattle.wb_evaluator.specs.Inner.Tables.{at}
+use Rattle.wb_evaluator.specs.declared.machine.Key.TheVariants as key
+use Rattle.wb_evaluator.specs.declared.machine.Machine.{Machine}
+
+module _ (a : AttributionParts) (operations : Operations) (trees : List Tree) (m : Machine) (evaluable : IsEvaluable a operations)
+    (inside : m.root.0 < length trees) (asked : IsAsked a (tree_in trees m.root.0) m.attribute) (whole : IsWhole m.memo)
+    (origins : m.memo.sites.origins.items ≡ []) (its_trees : m.memo.trees.items ≡ Some m.root ∷ []) (values : m.memo.values.items ≡ [])
+    (stack : m.stack.items ≡ key.Synthesized 0 m.attribute ∷ []) (entered : m.entered ≡ 1) where
+  no_sites : count m.memo ≡ 0
+  no_sites = ap length origins
+
+  root_here : path_in m.memo 0 ≡ root
+  root_here = root_path m.memo.sites.origins.items
+
+  only_root : (i : ℕ) (id : TreeId) → HasTree m.memo i id → (i ≡ 0) × (id ≡ m.root)
+  only_root zero id has = (refl, let h = sym (ap (λ ts. slice_get ts 0) its_trees) ∙ has in cc h)
+  only_root (suc i) id has = absurd (let h = sym (ap (λ ts. slice_get ts (suc i)) its_trees) ∙ has in cc h)
+
+  nothing_known : (i x : ℕ) → recall m.memo i x ≡ None
+  nothing_known i x = by_number (at m.memo.cells.rows.items i x) refl where
+    by_number : (n : ℕ) → at m.memo.cells.rows.items i x ≡ n → recall m.memo i x ≡ None
+    by_number zero is = ap (numbered m.memo.values.items) is
+    by_number (suc n) is =
+        absurd (let lt = whole.numbers i x n is in let l = ap length values in omega (arith, lt, l))
+
+  no_value : (i x : ℕ) (w : _) → recall m.memo i x ≡ Some w → ⊥
+  no_value i x w has = let h = sym (nothing_known i x) ∙ has in cc h
+
+  below_root : (i : ℕ) (q : Path) (b : _) → i ≤ count m.memo → path_in m.memo i ≡ down q b → ⊥
+  below_root zero q b le is = let h = sym root_here ∙ is in cc h
+  below_root (suc i) q b le is = omega (arith, le, no_sites)
+
+  pub begun : IsMachine a operations trees m
+  begun = record {
+    top = tree_in trees m.root.0;
+    root_inside = inside;
+    root_is = refl;
+    evaluable = evaluable;
+    asked = asked;
+    all = start a operations (tree_in trees m.root.0) m.attribute ∷ [];
+    this = start a operations (tree_in trees m.root.0) m.attribute;
+    waiting = [];
+    state = begins a operations (tree_in trees m.root.0) m.attribute evaluable asked;
+    counted = entered;
+    memo = record {
+      whole = whole;
+      nodes = λ i id has.
+          let (e, f) = only_root i id has in
+          subst (λ (z : ℕ). IsNode a operations trees (tree_in trees m.root.0) (path_in m.memo z) id) (sym e)
+          (subst (λ (q : Path). IsNode a operations trees (tree_in trees m.root.0) q id) (sym root_here)
+          (subst (λ (z : TreeId). IsNode a operations trees (tree_in trees m.root.0) root z) (sym f) (record { inside = inside; is_node = at_root })));
+      made_trees = λ i id q k has path.
+          let (e, f) = only_root i id has in
+          absurd (below_root 0 q (made k) (omega arith) (ap (path_in m.memo) (sym e) ∙ path));
+      child_trees = λ i q k le path. absurd (below_root i q (child k) le path);
+      root_tree = (m.root, ap (λ ts. slice_get ts 0) its_trees);
+      parents = λ k o is. absurd (let h = slice_get_within m.memo.sites.origins.items k o is in let l = no_sites in omega (arith, h, l));
+      synthesized = λ i x w le goes has. absurd (no_value i x w has);
+      inherited = λ i x w le goes has. absurd (no_value i x w has);
+    };
+    complete = λ r has. inl has;
+    stack = subst (λ ks. AreNamed m.memo ks [] (start a operations (tree_in trees m.root.0) m.attribute ∷ [])) (sym stack)
+        (omega arith, ap (λ (q : Path). synthesized_at q m.attribute ∷ []) (sym root_here));
+  }

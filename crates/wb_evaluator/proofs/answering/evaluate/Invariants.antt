@@ -1,0 +1,17 @@
+use Rattle.std.specs.Prelude.{◌≡◌, ◌≤◌}
+use Rattle.wb_evaluator.specs.Inner.Answering.{turns_left}
+use Rattle.wb_evaluator.specs.Inner.Machines.{IsMachine}
+use Rattle.wb_evaluator.specs.Inner.Works.{IsExtended}
+use Rattle.wb_evaluator.proofs.answering.evaluate.Given as goal
+
+abbrev pub invariant-turns : goal.invariant-turns
+invariant-turns g l = record {
+  whole : IsMachine l.context.attributes.now (record { signatures = l.context.operations.now.signatures; meaning = g.M.Meaning.meaning }) l.store l.machine;
+  root : l.machine.root ≡ l.initial.machine.root;
+  attribute : l.machine.attribute ≡ l.initial.machine.attribute;
+  within : l.machine.entered ≤ l.steps;
+  store : IsExtended l.initial.store l.store;
+}
+
+abbrev pub decreases-turns : goal.decreases-turns
+decreases-turns g l = turns_left l.steps l.machine

@@ -1,0 +1,60 @@
+use Rattle.std.proofs.Common.{rules, ◌≡◌, ◌∙◌, ◌-◌, Some, slice_get, sym, ap, subst}
+use Rattle.std.proofs.lemmas.Option.{slice_get-get_or}
+use Rattle.wb_attributes.specs.Rules.{IsRule, HasRule}
+use Rattle.wb_attributes.specs.Vertices.{Vertex}
+use Rattle.wb_evaluator.proofs.StartLemmas.{inherited_some, inherited_there, inherited_production, inherited_starting, inherited_alone}
+use Rattle.wb_evaluator.proofs.run.run_inherited.Goals as goal
+
+pub overflow_sub-site : goal.overflow_sub-site
+overflow_sub-site g c = (inherited_some c.args.context.now.attributes.now
+    (record { signatures = c.args.context.now.operations.now.signatures; meaning = g.M.Meaning.meaning }) c.args.store.now c.args.machine.now c.args.site c.args.attribute c.requires.works).0
+
+pub index-origin-requires : goal.index-origin-requires
+index-origin-requires g c =
+    let within = (inherited_some c.args.context.now.attributes.now
+    (record { signatures = c.args.context.now.operations.now.signatures; meaning = g.M.Meaning.meaning }) c.args.store.now c.args.machine.now c.args.site c.args.attribute c.requires.works).1 in
+    search rules
+
+pub production_at-production-requires-clause-there : goal.production_at-production-requires-clause-there
+production_at-production-requires-clause-there g c =
+    let o = c.index-origin.result.now in
+    let (some, within) = inherited_some c.args.context.now.attributes.now
+    (record { signatures = c.args.context.now.operations.now.signatures; meaning = g.M.Meaning.meaning }) c.args.store.now c.args.machine.now c.args.site c.args.attribute c.requires.works in
+    let at : slice_get c.args.machine.now.memo.sites.origins.items (c.args.site - 1) ≡ Some o =
+    slice_get-get_or c.args.machine.now.memo.sites.origins.items (c.args.site - 1) o within ∙ ap Some (sym c.index-origin.ensures) in
+    inherited_there c.args.context.now.attributes.now
+    (record { signatures = c.args.context.now.operations.now.signatures; meaning = g.M.Meaning.meaning }) c.args.store.now c.args.machine.now c.args.site c.args.attribute c.requires.works o at
+
+pub production_at-production-requires-clause-production : goal.production_at-production-requires-clause-production
+production_at-production-requires-clause-production g c =
+    let o = c.index-origin.result.now in
+    let (some, within) = inherited_some c.args.context.now.attributes.now
+    (record { signatures = c.args.context.now.operations.now.signatures; meaning = g.M.Meaning.meaning }) c.args.store.now c.args.machine.now c.args.site c.args.attribute c.requires.works in
+    let at : slice_get c.args.machine.now.memo.sites.origins.items (c.args.site - 1) ≡ Some o =
+    slice_get-get_or c.args.machine.now.memo.sites.origins.items (c.args.site - 1) o within ∙ ap Some (sym c.index-origin.ensures) in
+    inherited_production c.args.context.now.attributes.now
+    (record { signatures = c.args.context.now.operations.now.signatures; meaning = g.M.Meaning.meaning }) c.args.store.now c.args.machine.now c.args.site c.args.attribute c.requires.works o at
+
+pub evaluate_at-requires-clause-starting : goal.evaluate_at-requires-clause-starting
+evaluate_at-requires-clause-starting g c =
+    let o = c.index-origin.result.now in
+    let (some, within) = inherited_some c.args.context.now.attributes.now
+    (record { signatures = c.args.context.now.operations.now.signatures; meaning = g.M.Meaning.meaning }) c.args.store.now c.args.machine.now c.args.site c.args.attribute c.requires.works in
+    let at : slice_get c.args.machine.now.memo.sites.origins.items (c.args.site - 1) ≡ Some o =
+    slice_get-get_or c.args.machine.now.memo.sites.origins.items (c.args.site - 1) o within ∙ ap Some (sym c.index-origin.ensures) in
+    let rule = c.in-Some.ensures.some in
+    inherited_starting c.args.context.now.attributes.now
+    (record { signatures = c.args.context.now.operations.now.signatures; meaning = g.M.Meaning.meaning }) c.args.store.now c.args.machine.now c.args.site c.args.attribute c.requires.works o at c.production_at-production.result.now c.in-Some.nodes.now
+    c.production_at-production.ensures (subst (λ (v : Vertex). IsRule c.production_at-production.result.now v c.in-Some.nodes.now) c.target_below.ensures rule)
+
+pub read_alone-requires : goal.read_alone-requires
+read_alone-requires g c =
+    let o = c.index-origin.result.now in
+    let (some, within) = inherited_some c.args.context.now.attributes.now
+    (record { signatures = c.args.context.now.operations.now.signatures; meaning = g.M.Meaning.meaning }) c.args.store.now c.args.machine.now c.args.site c.args.attribute c.requires.works in
+    let at : slice_get c.args.machine.now.memo.sites.origins.items (c.args.site - 1) ≡ Some o =
+    slice_get-get_or c.args.machine.now.memo.sites.origins.items (c.args.site - 1) o within ∙ ap Some (sym c.index-origin.ensures) in
+    let none = c.in-None.ensures.none in
+    inherited_alone c.args.context.now.attributes.now
+    (record { signatures = c.args.context.now.operations.now.signatures; meaning = g.M.Meaning.meaning }) c.args.store.now c.args.machine.now c.args.site c.args.attribute c.requires.works o at c.production_at-production.result.now
+    c.production_at-production.ensures (subst (λ (v : Vertex). ¬ HasRule c.production_at-production.result.now v) c.target_below.ensures none)

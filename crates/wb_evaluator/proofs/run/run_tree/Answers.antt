@@ -1,0 +1,92 @@
+use Rattle.std.proofs.Common.{rules, ◌≡◌, ◌∙◌, ◌-◌, Some, slice_get, sym, ap}
+use Rattle.std.proofs.lemmas.Option.{slice_get-get_or}
+use Rattle.wb_attributes.specs.Vertices.{local, forward}
+use Rattle.wb_evaluator.specs.Inner.Sites.{step_of}
+use Rattle.wb_evaluator.proofs.StartLemmas.{tree_some, tree_within, tree_production, tree_starting, tree_never, tree_no_child}
+use Rattle.wb_evaluator.proofs.run.run_tree.Goals as goal
+
+pub overflow_sub-site : goal.overflow_sub-site
+overflow_sub-site g c = (tree_some c.args.context.now.attributes.now
+    (record { signatures = c.args.context.now.operations.now.signatures; meaning = g.M.Meaning.meaning }) c.args.store.now c.args.machine.now c.args.site c.requires.works).0
+
+pub index-origin-requires : goal.index-origin-requires
+index-origin-requires g c =
+    let within = (tree_some c.args.context.now.attributes.now
+    (record { signatures = c.args.context.now.operations.now.signatures; meaning = g.M.Meaning.meaning }) c.args.store.now c.args.machine.now c.args.site c.requires.works).1 in
+    search rules
+
+pub production_at-production-requires-clause-there : goal.production_at-production-requires-clause-there
+production_at-production-requires-clause-there g c =
+    let o = c.index-origin.result.now in
+    let (some, within) = tree_some c.args.context.now.attributes.now
+    (record { signatures = c.args.context.now.operations.now.signatures; meaning = g.M.Meaning.meaning }) c.args.store.now c.args.machine.now c.args.site c.requires.works in
+    let at : slice_get c.args.machine.now.memo.sites.origins.items (c.args.site - 1) ≡ Some o =
+    slice_get-get_or c.args.machine.now.memo.sites.origins.items (c.args.site - 1) o within ∙ ap Some (sym c.index-origin.ensures) in
+    tree_within c.args.context.now.attributes.now
+    (record { signatures = c.args.context.now.operations.now.signatures; meaning = g.M.Meaning.meaning }) c.args.store.now c.args.machine.now c.args.site c.requires.works o at
+
+pub production_at-production-requires-clause-production : goal.production_at-production-requires-clause-production
+production_at-production-requires-clause-production g c =
+    let o = c.index-origin.result.now in
+    let (some, within) = tree_some c.args.context.now.attributes.now
+    (record { signatures = c.args.context.now.operations.now.signatures; meaning = g.M.Meaning.meaning }) c.args.store.now c.args.machine.now c.args.site c.requires.works in
+    let at : slice_get c.args.machine.now.memo.sites.origins.items (c.args.site - 1) ≡ Some o =
+    slice_get-get_or c.args.machine.now.memo.sites.origins.items (c.args.site - 1) o within ∙ ap Some (sym c.index-origin.ensures) in
+    tree_production c.args.context.now.attributes.now
+    (record { signatures = c.args.context.now.operations.now.signatures; meaning = g.M.Meaning.meaning }) c.args.store.now c.args.machine.now c.args.site c.requires.works o at
+
+pub evaluate_at-requires-clause-starting : goal.evaluate_at-requires-clause-starting
+evaluate_at-requires-clause-starting g c =
+    let o = c.index-origin.result.now in
+    let (some, within) = tree_some c.args.context.now.attributes.now
+    (record { signatures = c.args.context.now.operations.now.signatures; meaning = g.M.Meaning.meaning }) c.args.store.now c.args.machine.now c.args.site c.requires.works in
+    let at : slice_get c.args.machine.now.memo.sites.origins.items (c.args.site - 1) ≡ Some o =
+    slice_get-get_or c.args.machine.now.memo.sites.origins.items (c.args.site - 1) o within ∙ ap Some (sym c.index-origin.ensures) in
+    let rule = c.in-Some.ensures.some in
+    tree_starting c.args.context.now.attributes.now
+    (record { signatures = c.args.context.now.operations.now.signatures; meaning = g.M.Meaning.meaning }) c.args.store.now c.args.machine.now c.args.site c.requires.works o at (local c.in-Local.x) c.production_at-production.result.now c.in-Some.nodes.now
+    (ap step_of c.in-Local.is) c.production_at-production.ensures rule
+
+pub unreachable-requires : goal.unreachable-requires
+unreachable-requires g c =
+    let o = c.index-origin.result.now in
+    let (some, within) = tree_some c.args.context.now.attributes.now
+    (record { signatures = c.args.context.now.operations.now.signatures; meaning = g.M.Meaning.meaning }) c.args.store.now c.args.machine.now c.args.site c.requires.works in
+    let at : slice_get c.args.machine.now.memo.sites.origins.items (c.args.site - 1) ≡ Some o =
+    slice_get-get_or c.args.machine.now.memo.sites.origins.items (c.args.site - 1) o within ∙ ap Some (sym c.index-origin.ensures) in
+    tree_never c.args.context.now.attributes.now
+    (record { signatures = c.args.context.now.operations.now.signatures; meaning = g.M.Meaning.meaning }) c.args.store.now c.args.machine.now c.args.site c.requires.works o at (local c.in-Local.x)
+    c.production_at-production.result.now (ap step_of c.in-Local.is) c.production_at-production.ensures c.in-None.ensures.none
+
+pub evaluate_at-requires-in-Some-forward_nodes-clause-starting : goal.evaluate_at-requires-in-Some-forward_nodes-clause-starting
+evaluate_at-requires-in-Some-forward_nodes-clause-starting g c =
+    let o = c.index-origin.result.now in
+    let (some, within) = tree_some c.args.context.now.attributes.now
+    (record { signatures = c.args.context.now.operations.now.signatures; meaning = g.M.Meaning.meaning }) c.args.store.now c.args.machine.now c.args.site c.requires.works in
+    let at : slice_get c.args.machine.now.memo.sites.origins.items (c.args.site - 1) ≡ Some o =
+    slice_get-get_or c.args.machine.now.memo.sites.origins.items (c.args.site - 1) o within ∙ ap Some (sym c.index-origin.ensures) in
+    tree_starting c.args.context.now.attributes.now
+    (record { signatures = c.args.context.now.operations.now.signatures; meaning = g.M.Meaning.meaning }) c.args.store.now c.args.machine.now c.args.site c.requires.works o at forward
+    c.production_at-production.result.now c.in-Some-forward_nodes.nodes.now (ap step_of c.in-Forward.is) c.production_at-production.ensures
+    c.in-Some-forward_nodes.ensures.some
+
+pub unreachable-requires-in-None-forward_nodes : goal.unreachable-requires-in-None-forward_nodes
+unreachable-requires-in-None-forward_nodes g c =
+    let o = c.index-origin.result.now in
+    let (some, within) = tree_some c.args.context.now.attributes.now
+    (record { signatures = c.args.context.now.operations.now.signatures; meaning = g.M.Meaning.meaning }) c.args.store.now c.args.machine.now c.args.site c.requires.works in
+    let at : slice_get c.args.machine.now.memo.sites.origins.items (c.args.site - 1) ≡ Some o =
+    slice_get-get_or c.args.machine.now.memo.sites.origins.items (c.args.site - 1) o within ∙ ap Some (sym c.index-origin.ensures) in
+    tree_never c.args.context.now.attributes.now
+    (record { signatures = c.args.context.now.operations.now.signatures; meaning = g.M.Meaning.meaning }) c.args.store.now c.args.machine.now c.args.site c.requires.works o at forward
+    c.production_at-production.result.now (ap step_of c.in-Forward.is) c.production_at-production.ensures c.in-None-forward_nodes.ensures.none
+
+pub unreachable-requires-in-Child : goal.unreachable-requires-in-Child
+unreachable-requires-in-Child g c =
+    let o = c.index-origin.result.now in
+    let (some, within) = tree_some c.args.context.now.attributes.now
+    (record { signatures = c.args.context.now.operations.now.signatures; meaning = g.M.Meaning.meaning }) c.args.store.now c.args.machine.now c.args.site c.requires.works in
+    let at : slice_get c.args.machine.now.memo.sites.origins.items (c.args.site - 1) ≡ Some o =
+    slice_get-get_or c.args.machine.now.memo.sites.origins.items (c.args.site - 1) o within ∙ ap Some (sym c.index-origin.ensures) in
+    tree_no_child c.args.context.now.attributes.now
+    (record { signatures = c.args.context.now.operations.now.signatures; meaning = g.M.Meaning.meaning }) c.args.store.now c.args.machine.now c.args.site c.requires.works o at c.in-Child.field-0 (ap step_of c.in-Child.is)

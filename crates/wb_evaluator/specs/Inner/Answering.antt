@@ -1,0 +1,33 @@
+-- What an evaluation has come to after a turn.
+use Rattle.std.specs.Prelude.{◌≡◌, ◌≤◌, ◌<◌, ◌+◌, ◌*◌, ◌-◌, ℕ, List, Option, Some, None, length}
+use Rattle.wb_operations.specs.Operations.{Operations}
+use Rattle.wb_resolved.specs.declared.attribution.AttributionParts.{AttributionParts}
+use Rattle.wb_values.specs.Tree.{Tree}
+use Rattle.wb_values.specs.ValuesIn.{tree_in}
+use Rattle.wb_evaluator.specs.declared.evaluated.Evaluated.{Evaluated}
+use Rattle.wb_evaluator.specs.declared.machine.Machine.{Machine}
+use Rattle.wb_evaluator.specs.Evaluates.{IsValue, IsFault, AsksMore}
+use Rattle.wb_evaluator.specs.Inner.Machines.{IsMachine}
+
+-- how much is left to do: an instance is entered and left
+abbrev pub turns_left : ℕ → Machine → ℕ
+turns_left steps m = 2 * (steps - m.entered) + length m.stack.items
+
+-- the evaluation goes on, with less left to do
+pub record GoesOn (a : AttributionParts) (operations : Operations) (trees : List Tree) (old new : Machine) (steps : ℕ) : Type 0 where
+  pub whole : IsMachine a operations trees new
+  pub root : new.root ≡ old.root
+  pub attribute : new.attribute ≡ old.attribute
+  pub within : new.entered ≤ steps
+  pub less : turns_left steps new < turns_left steps old
+
+-- it is over
+pub record IsAnswered (a : AttributionParts) (operations : Operations) (trees : List Tree) (m : Machine) (steps : ℕ) (e : Evaluated) : Type 0 where
+  pub value : IsValue a operations (tree_in trees m.root.0) m.attribute steps trees e
+  pub fault : IsFault a operations (tree_in trees m.root.0) m.attribute steps e
+  pub more : AsksMore a operations (tree_in trees m.root.0) m.attribute steps e
+
+-- after a turn
+abbrev pub IsTurned : AttributionParts → Operations → List Tree → Machine → Machine → ℕ → Option Evaluated → Type 0
+IsTurned a operations trees old new steps None = GoesOn a operations trees old new steps
+IsTurned a operations trees old new steps (Some e) = IsAnswered a operations trees old steps e

@@ -1,0 +1,212 @@
+-- What tasks on a stack of values stand for.
+use Rattle.std.specs.Prelude.{◌≡◌, ◌≤◌, ◌<◌, ◌+◌, ◌*◌, ℕ, zero, suc, pos, Bool, List, [], ◌∷◌, ◌++◌, Option, Some, None, All, length, slice_get, slice_index_or}
+use Rattle.wb_attributes.specs.Modular.{IsProduction}
+use Rattle.wb_base.specs.declared.symbol.Kind.{Kind}
+use Rattle.wb_base.specs.declared.symbol.Kind.TheVariants as kind
+use Rattle.wb_expressions.specs.declared.node.Node.TheVariants as n
+use Rattle.wb_expressions.specs.Expression.{size}
+use Rattle.wb_expressions.specs.Places.{Stands}
+use Rattle.wb_operations.specs.Operations.{OperationSignature, Operations}
+use Rattle.wb_resolved.specs.declared.attribution.AttributionParts.{AttributionParts}
+use Rattle.wb_resolved.specs.declared.production.Production.{Production}
+use Rattle.wb_resolved.specs.Expression.{Expression, Node}
+use Rattle.wb_types.specs.Kinds.{HasKind}
+use Rattle.wb_values.specs.declared.value.TreeId.{TreeId}
+use Rattle.wb_values.specs.declared.value.Value.{Value}
+use Rattle.wb_values.specs.declared.value.Value.TheVariants as stored
+use Rattle.wb_values.specs.Fits.{FitsValue}
+use Rattle.wb_values.specs.Signature.{Signature}
+use Rattle.wb_values.specs.Tree.{Tree, production_of, children_of}
+use Rattle.wb_values.specs.Tree as tree
+use Rattle.wb_values.specs.ValuesIn.{tree_in, value_in, values_in, IsIn}
+use Rattle.wb_evaluation.specs.Walks.{number_of, value_at, value, fault, done}
+use Rattle.wb_evaluator.specs.declared.work.Ran.{Ran}
+use Rattle.wb_evaluator.specs.declared.work.Ran.TheVariants as ran
+use Rattle.wb_evaluation.proofs.ExpressionLemmas.{IsIn as IsPart}
+use Rattle.wb_resolved.specs.Named.{IsNamedNode}
+use Rattle.wb_evaluator.specs.Inner.Machines.{HasTree, known, Runs, Wants, IsSame, with_memo}
+use Rattle.wb_evaluator.specs.Inner.Reached.{HasChild, IsReached}
+use Rattle.wb_evaluator.specs.Inner.Memos.{count, path_in, IsWhole, IsGrown}
+use Rattle.wb_evaluator.specs.declared.sites.Step.{Step}
+use Rattle.wb_evaluator.specs.declared.sites.Step.TheVariants as step
+use Rattle.wb_resolved.specs.declared.equation.Place.{Place}
+use Rattle.wb_resolved.specs.declared.equation.Place.TheVariants as place
+use Rattle.wb_evaluator.specs.Inner.Tasks.{Job, visit, build, call, choose, pushed, resume}
+use Rattle.wb_evaluator.specs.declared.machine.Key.{Key}
+use Rattle.wb_evaluator.specs.declared.machine.Machine.{Machine}
+use Rattle.wb_evaluator.specs.declared.work.Task.{Task}
+use Rattle.wb_evaluator.specs.declared.work.Work.{Work}
+use Rattle.wb_evaluator.specs.declared.work.Task.TheVariants as task
+
+-- visits of nodes at these places, the first on top
+abbrev pub visiting : List ℕ → List Task
+visiting [] = []
+visiting (place ∷ places) = visiting places ++ task.Visit place ∷ []
+
+-- the values of a stack, the last on top
+abbrev pub stack_of : List Tree → List Value → List tree.Value
+stack_of trees values = pushed (values_in trees values) []
+
+module _ (operations : List OperationSignature) (nodes : List Node) where
+  -- the task is the job
+  abbrev pub IsJob : Task → Job → Type 0
+  IsJob (task.Visit at) (visit e) = Stands nodes at e × (size e ≤ length nodes)
+  IsJob (task.Build p n) (build q k) = (p ≡ q) × (n ≡ k)
+  IsJob (task.Call number n) (call name k) = (number_of operations name ≡ Some number) × (n ≡ k)
+  IsJob (task.Choose h f) (choose holds fails) =
+      (Stands nodes h holds × (size holds ≤ length nodes)) × (Stands nodes f fails × (size fails ≤ length nodes))
+  IsJob other job = ⊥
+
+  -- the tasks are the jobs, the last task first, with these jobs below
+  abbrev pub Stacked : List Task → List Job → List Job → Type 0
+  Stacked [] base jobs = jobs ≡ base
+  Stacked (t ∷ ts) base jobs = (j : Job) × IsJob t j × Stacked ts (j ∷ base) jobs
+
+-- how many nodes the expression at a place has, down to so many levels
+abbrev pub sum_of : (ℕ → ℕ) → List ℕ → ℕ
+sum_of part [] = 0
+sum_of part (place ∷ places) = part place + sum_of part places
+
+abbrev pub node_size : (ℕ → ℕ) → Node → ℕ
+node_size part (n.Build p places) = suc (sum_of part places)
+node_size part (n.Call name places) = suc (sum_of part places)
+node_size part (n.If c h f) = suc (part c + part h + part f)
+node_size part other = 1
+
+abbrev pub size_at : List Node → ℕ → ℕ → ℕ
+size_at nodes zero at = 1
+size_at nodes (suc levels) at = node_size (size_at nodes levels) (slice_index_or nodes at (n.Int (pos 0)))
+
+-- how much is left to do
+abbrev pub task_size : List Node → Task → ℕ
+task_size nodes (task.Visit at) = 2 * size_at nodes (length nodes) at
+task_size nodes (task.Choose h f) = 1 + 2 * size_at nodes (length nodes) h + 2 * size_at nodes (length nodes) f
+task_size nodes other = 1
+
+abbrev pub left_to_do : List Node → List Task → ℕ
+left_to_do nodes [] = 0
+left_to_do nodes (t ∷ ts) = task_size nodes t + left_to_do nodes ts
+
+-- kinds of a stack with more values
+abbrev pub more_kinds : List Kind → List Kind → List Kind
+more_kinds [] kinds = kinds
+more_kinds (k ∷ ks) kinds = more_kinds ks (k ∷ kinds)
+
+-- the values are of the kinds, one by one
+abbrev pub ValuesFit : List Signature → List tree.Value → List Kind → Type 0
+ValuesFit signatures [] kinds = kinds ≡ []
+ValuesFit signatures (v ∷ vs) kinds = (k : Kind) × (rest : List Kind) × (kinds ≡ k ∷ rest) × FitsValue signatures v k × ValuesFit signatures vs rest
+
+module _ (a : AttributionParts) (operations : Operations) (production : Production) where
+  -- an expression of the production of this kind, in which all is named
+  pub record IsTyped (e : Expression) (is : Kind) : Type 0 where
+    pub has_kind : HasKind a operations.signatures production e is
+    pub named : (part : Node) → IsPart e part → (owner : ℕ) × IsNamedNode a production owner part
+
+  -- the jobs are done on a stack of values of these kinds
+  abbrev pub JobsFit : List Job → List Kind → Type 0
+  JobsFit [] kinds = Unit {0}
+  JobsFit (visit e ∷ jobs) kinds = (is : Kind) × IsTyped e is × JobsFit jobs (is ∷ kinds)
+  JobsFit (build p n ∷ jobs) kinds = (s : Signature) × (rest : List Kind) × (slice_get a.signatures p ≡ Some s) × (length s.children ≡ n)
+      × (kinds ≡ more_kinds s.children rest) × JobsFit jobs (kind.Tree s.left ∷ rest)
+  JobsFit (call name n ∷ jobs) kinds = (number : ℕ) × (s : OperationSignature) × (rest : List Kind)
+      × (slice_get operations.signatures number ≡ Some s) × (s.name ≡ name) × (length s.takes ≡ n) × (kinds ≡ more_kinds s.takes rest)
+      × JobsFit jobs (s.gives ∷ rest)
+  JobsFit (choose holds fails ∷ jobs) kinds = (is : Kind) × (rest : List Kind) × (kinds ≡ kind.Bool ∷ rest) × IsTyped holds is × IsTyped fails is
+      × JobsFit jobs (is ∷ rest)
+
+module _ (a : AttributionParts) (operations : Operations) (trees : List Tree) where
+  -- an expression is evaluated at a site, and these tasks are left on these values
+  pub record IsEvaluating (m : Machine) (site : ℕ) (nodes : List Node) (tasks : List Task) (values : List Value) : Type 0 where
+    pub id : TreeId
+    pub has : HasTree m.memo site id
+    pub there : site ≤ count m.memo
+    pub production : Production
+    pub is : IsProduction a (production_of (tree_in trees id.0)) production
+    pub jobs : List Job
+    pub stacked : Stacked operations.signatures nodes tasks [] jobs
+    pub kinds : List Kind
+    pub inside : All (IsIn (length trees)) values
+    pub values_fit : ValuesFit a.signatures (stack_of trees values) kinds
+    pub jobs_fit : JobsFit a operations production jobs kinds
+    pub runs : Runs a operations trees m
+        (resume operations (path_in m.memo site) (children_of (tree_in trees id.0)) jobs (stack_of trees values))
+
+  -- after a task: the others are left, or an instance is read that wasn't entered
+  abbrev pub IsAfter : Machine → ℕ → List Node → List Task → List Value → Option Key → Type 0
+  IsAfter m site nodes tasks values None = IsEvaluating m site nodes tasks values
+  IsAfter m site nodes tasks values (Some key) = Wants a operations trees m key
+
+-- what is known for the key was pushed, or nothing is known and the key is the answer
+abbrev pub IsReading : Machine → Work → Work → Key → Option Key → Type 0
+IsReading m old new key None =
+    (w : Value) × (known m.memo key ≡ Some w) × (new.tasks ≡ old.tasks) × (new.values.items ≡ old.values.items ++ w ∷ [])
+IsReading m old new key (Some other) = (other ≡ key) × (known m.memo key ≡ None) × (new.tasks ≡ old.tasks) × (new.values ≡ old.values)
+
+-- the site's tree has a child there
+abbrev pub HasChildAt : List Tree → Machine → ℕ → ℕ → Type 0
+HasChildAt trees m site k = (id : TreeId) × HasTree m.memo site id × (id.0 < length trees) × HasChild trees id k
+
+-- the child was pushed
+abbrev pub IsChildPushed : List Tree → Machine → Work → Work → ℕ → ℕ → Option Key → Type 0
+IsChildPushed trees m old new site k None =
+    (id : TreeId) × (w : Value) × HasTree m.memo site id × (value_at (children_of (tree_in trees id.0)) k ≡ Some (value_in trees w))
+    × IsIn (length trees) w × (new.tasks ≡ old.tasks) × (new.values.items ≡ old.values.items ++ w ∷ [])
+IsChildPushed trees m old new site k (Some key) = ⊥
+
+-- less is left to do, where an evaluation goes on
+abbrev pub IsLess : ℕ → ℕ → Option Key → Type 0
+IsLess new old None = new < old
+IsLess new old (Some key) = Unit {0}
+
+module _ (a : AttributionParts) (operations : Operations) (trees : List Tree) where
+  -- a task is done, which was on top of the tasks
+  pub record IsDone (old new : Machine) (site : ℕ) (nodes : List Node) (before after : Work) (t : Task) (result : Option Key) : Type 0 where
+    pub after_it : IsAfter a operations trees new site nodes after.tasks.items after.values.items result
+    pub same : IsSame old new
+    pub less : IsLess (left_to_do nodes after.tasks.items) (left_to_do nodes before.tasks.items + task_size nodes t) result
+
+-- the site one step down is there, and the instance of its key was read
+pub record IsReadBelow (trees : List Tree) (old new : Machine) (site : ℕ) (step : Step) (key_at : ℕ → Key) (before after : Work)
+    (result : Option Key) : Type 0 where
+  pub below : ℕ
+  pub machine : new ≡ with_memo old new.memo
+  pub whole : IsWhole new.memo
+  pub grown : IsGrown old.memo new.memo
+  pub reached : IsReached trees old.memo new.memo site step below
+  pub reading : IsReading new before after (key_at below) result
+
+-- the step to a child or local
+abbrev pub way_to : Place → Step
+way_to (place.Child k) = step.Child k
+way_to (place.Local y) = step.Local y
+
+-- the store has more trees
+abbrev pub IsExtended : List Tree → List Tree → Type 0
+IsExtended old new = (more : List Tree) × (new ≡ old ++ more)
+
+module _ (a : AttributionParts) (operations : Operations) (trees : List Tree) where
+  -- the instance at work has the outcome, or it reads one that wasn't entered
+  abbrev pub IsRan : Machine → Ran → Type 0
+  IsRan m (ran.Value v) = Runs a operations trees m (done (value (value_in trees v))) × IsIn (length trees) v
+  IsRan m (ran.Fault operation code) = Runs a operations trees m (done (fault operation code))
+  IsRan m (ran.Needs key) = Wants a operations trees m key
+
+  -- the evaluation of an expression goes on, and less is left to do; or it is over
+  abbrev pub IsOver : Machine → ℕ → List Node → Work → ℕ → Option Ran → Type 0
+  IsOver m site nodes work before None =
+      IsEvaluating a operations trees m site nodes work.tasks.items work.values.items × (left_to_do nodes work.tasks.items < before)
+  IsOver m site nodes work before (Some r) = IsRan m r
+
+-- less is left to do than with the task
+abbrev pub IsLeftAfter : List Node → Work → Work → Task → Type 0
+IsLeftAfter nodes old new t = left_to_do nodes new.tasks.items < left_to_do nodes old.tasks.items + task_size nodes t
+
+-- after a call: the evaluation goes on, or the operation's fault is the outcome
+abbrev pub HasFault : AttributionParts → Operations → List Tree → Machine → ℕ → List Node → ℕ → Work → Option ℕ → Type 0
+HasFault a operations trees m site nodes operation work None = IsEvaluating a operations trees m site nodes work.tasks.items work.values.items
+HasFault a operations trees m site nodes operation work (Some code) = Runs a operations trees m (done (fault operation code))
+
+-- there is a truth value at this place
+abbrev pub HasTruth : List Value → ℕ → Type 0
+HasTruth values at = (b : Bool) × (slice_get values at ≡ Some (stored.Bool b))

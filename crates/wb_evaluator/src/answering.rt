@@ -1,0 +1,111 @@
+//! How is an attribute of a root evaluated?
+//!
+//! Instances are entered as they are read, and each is worked on again once what it reads is known. What is done at one is in `run`.
+
+ghost use Rattle.std.specs.Prelude.{◌<◌, ◌≤◌, length, IfOk};
+ghost use Rattle.wb_attributes.specs.Modular.{EachProduction};
+ghost use Rattle.wb_attributes.specs.WellDefined.{IsWellDefinedProduction};
+ghost use Rattle.wb_evaluation.specs.Evaluable.{IsAsked};
+ghost use Rattle.wb_evaluator.specs.Evaluates.{HoldsMore, IsValue, IsFault, AsksMore};
+ghost use Rattle.wb_evaluator.specs.Inner.Machines.{IsMachine};
+ghost use Rattle.wb_evaluator.specs.Inner.Answering.{IsTurned, turns_left};
+ghost use Rattle.wb_evaluator.specs.Inner.Works.{IsExtended};
+ghost use Rattle.wb_operations.specs.Kept.{IsKept};
+ghost use Rattle.wb_types.specs.Rules.{KindsOk};
+ghost use Rattle.wb_values.specs.ValuesIn.{tree_in};
+
+use crate::context::Context;
+use crate::evaluated::Evaluated;
+use crate::machine::Machine;
+use crate::run::run;
+use crate::steps::{begin, enter, leave};
+use crate::work::{Ran, Work};
+use std::alloc::{AllocError, Global};
+use wb_operations::{Meaning, OperationRefusal, OperationTable};
+use wb_resolved::Attribution;
+use wb_values::{TreeId, TreeStore, Value};
+
+/// The value or the fault of a synthesized attribute of a tree, or that more instances are needed than there are steps.
+///
+/// Want of memory may come at any step.
+pub fn evaluate<M: Meaning>(
+    alloc: Global,
+    attributes: &Attribution,
+    store: &mut TreeStore,
+    root: TreeId,
+    attribute: usize,
+    steps: u64,
+    operations: &OperationTable<M>,
+) -> Result<Evaluated, AllocError>
+    // The attributes of each production are well defined, and kinds hold over the operations of the table.
+    requires productions { EachProduction attributes.now (IsWellDefinedProduction attributes.now) }
+    requires kinds { KindsOk attributes.now operations.now.signatures }
+
+    // The tree is in the store; the attribute occurs on it, and needs nothing there.
+    requires there { root.0 < length store.old }
+    requires asked { IsAsked attributes.now (tree_in store.old root.0) attribute }
+
+    // The table answers what M means.
+    requires kept { IsKept operations.now.signatures operations.now.built_in operations.now.runs.items M.meaning
+        (λ run vs. ⟦<Box<dyn Fn(&[Value]) -> Result<Value, OperationRefusal>> as Fn(&[Value]) -> Result<Value, OperationRefusal>>⟧.pre run vs)
+        (λ run vs r. ⟦<Box<dyn Fn(&[Value]) -> Result<Value, OperationRefusal>> as Fn(&[Value]) -> Result<Value, OperationRefusal>>⟧.post run vs r) }
+
+    // Each answer comes exactly where it is so.
+    ensures value { IfOk result (IsValue attributes.now (record { signatures = operations.now.signatures; meaning = M.meaning }) (tree_in store.old root.0) attribute steps store.new) }
+    ensures fault { IfOk result (IsFault attributes.now (record { signatures = operations.now.signatures; meaning = M.meaning }) (tree_in store.old root.0) attribute steps) }
+    ensures more { IfOk result (AsksMore attributes.now (record { signatures = operations.now.signatures; meaning = M.meaning }) (tree_in store.old root.0) attribute steps) }
+
+    // The store holds what it held, and maybe more.
+    ensures store { HoldsMore store.old store.new }
+{
+    if steps == 0 {
+        return Ok(Evaluated::MoreSteps);
+    }
+    let _ = operations.signatures().len();
+    let context = Context {
+        attributes: attributes.parts(),
+        operations,
+    };
+    let mut machine = begin(alloc, &context, store, root, attribute)?;
+    let mut work = Work::new(alloc);
+    'turns: loop {
+        if let Some(answer) = turn(&context, &mut machine, store, &mut work, steps)? {
+            return Ok(answer);
+        }
+    }
+}
+
+// Works on the last instance once, and enters what it reads or leaves it.
+fn turn<M: Meaning>(
+    context: &Context<M>,
+    machine: &mut Machine,
+    store: &mut TreeStore,
+    work: &mut Work,
+    steps: u64,
+) -> Result<Option<Evaluated>, AllocError>
+    requires whole { IsMachine context.now.attributes.now (record { signatures = context.now.operations.now.signatures; meaning = M.meaning }) store.old machine.old }
+    requires within { machine.old.entered ≤ steps }
+    requires kept { IsKept context.now.operations.now.signatures context.now.operations.now.built_in context.now.operations.now.runs.items M.meaning
+        (λ run vs. ⟦<Box<dyn Fn(&[Value]) -> Result<Value, OperationRefusal>> as Fn(&[Value]) -> Result<Value, OperationRefusal>>⟧.pre run vs)
+        (λ run vs r. ⟦<Box<dyn Fn(&[Value]) -> Result<Value, OperationRefusal>> as Fn(&[Value]) -> Result<Value, OperationRefusal>>⟧.post run vs r) }
+    ensures turned { IfOk result (IsTurned context.now.attributes.now (record { signatures = context.now.operations.now.signatures; meaning = M.meaning }) store.new machine.old machine.new steps) }
+    ensures store { IsExtended store.old store.new }
+{
+    match run(context, machine, store, work)? {
+        Ran::Value(answer) => {
+            if machine.stack.len() == 1 {
+                return Ok(Some(Evaluated::Value(answer)));
+            }
+            leave(context, machine, store, answer)?;
+            Ok(None)
+        }
+        Ran::Fault { operation, code } => Ok(Some(Evaluated::Fault { operation, code })),
+        Ran::Needs(key) => {
+            if machine.entered >= steps {
+                return Ok(Some(Evaluated::MoreSteps));
+            }
+            enter(context, machine, store, key)?;
+            Ok(None)
+        }
+    }
+}

@@ -1,0 +1,108 @@
+//! How is an expression evaluated at a site?
+//!
+//! A task at a time, until its value is there, an operation fails, or an instance is read that wasn't entered. Which expression: `run`.
+
+ghost use Rattle.std.specs.Prelude.{◌≡◌, ◌≤◌, ◌<◌, ◌++◌, ◌∷◌, [], length, OnOk, IfOk};
+ghost use Rattle.wb_operations.specs.Kept.{IsKept};
+ghost use Rattle.wb_evaluator.specs.Inner.Machines.{IsKey, Wants, IsSame};
+ghost use Rattle.wb_evaluator.specs.Inner.Memos.{count, IsWhole};
+ghost use Rattle.wb_evaluator.specs.Inner.Reached.{IsReady};
+ghost use Rattle.wb_evaluator.specs.declared.machine.Key.TheVariants.{Synthesized, Tree};
+ghost use Rattle.wb_evaluator.specs.declared.sites.Step.TheVariants.{Local};
+ghost use Rattle.wb_evaluator.specs.Inner.Works.{IsEvaluating, IsAfter, IsReading, HasChildAt, IsChildPushed, IsReadBelow, IsDone, way_to, left_to_do, task_size};
+ghost use Rattle.wb_evaluator.specs.declared.work.Task.TheVariants.{Visit};
+
+use crate::machine::{Key, Machine, child_value};
+use crate::sites::Step;
+use crate::work::{Task, Work};
+use std::alloc::AllocError;
+use wb_operations::{Meaning, OperationRefusal, OperationTable};
+use wb_resolved::{Node, Place};
+use wb_values::{TreeStore, Value};
+
+// Reads the instance of a key, which is then on the values, or wasn't entered.
+pub(crate) fn read(machine: &Machine, work: &mut Work, key: Key) -> Result<Option<Key>, AllocError>
+    requires whole { IsWhole machine.now.memo }
+    requires key { IsKey machine.now.memo key }
+    ensures { IfOk result (IsReading machine.now work.old work.new key) }
+{
+    match machine.known(key)? {
+        Some(value) => {
+            work.push_value(value)?;
+            Ok(None)
+        }
+        None => Ok(Some(key)),
+    }
+}
+
+// Pushes the value of a child.
+pub(crate) fn visit_child(
+    machine: &Machine,
+    store: &TreeStore,
+    work: &mut Work,
+    site: usize,
+    k: usize,
+) -> Result<Option<Key>, AllocError>
+    requires there { site < length machine.now.memo.trees.items }
+    requires child { HasChildAt store.now machine.now site k }
+    ensures { IfOk result (IsChildPushed store.now machine.now work.old work.new site k) }
+{
+    match machine.memo.trees[site] {
+        Some(tree) => {
+            let value = child_value(store, tree, k)?;
+            work.push_value(value)?;
+            Ok(None)
+        }
+        None => unreachable!(),
+    }
+}
+
+// Reads a synthesized attribute one step down.
+pub(crate) fn read_below(
+    machine: &mut Machine,
+    store: &TreeStore,
+    work: &mut Work,
+    site: usize,
+    step: Step,
+    attribute: usize,
+) -> Result<Option<Key>, AllocError>
+    requires whole { IsWhole machine.old.memo }
+    requires there { site ≤ count machine.old.memo }
+    requires ready { IsReady store.now machine.old.memo site step }
+    ensures { IfOk result (IsReadBelow store.now machine.old machine.new site step (λ below. Synthesized below attribute) work.old work.new) }
+{
+    let below = machine.below(store, site, step)?;
+    let key = Key::Synthesized {
+        site: below,
+        attribute,
+    };
+    let result = read(machine, work, key)?;
+    Ok(result)
+}
+
+// Reads the tree of a local.
+pub(crate) fn read_local(
+    machine: &mut Machine,
+    store: &TreeStore,
+    work: &mut Work,
+    site: usize,
+    local: usize,
+) -> Result<Option<Key>, AllocError>
+    requires whole { IsWhole machine.old.memo }
+    requires there { site ≤ count machine.old.memo }
+    ensures { IfOk result (IsReadBelow store.now machine.old machine.new site (Local local) (λ below. Tree below) work.old work.new) }
+{
+    let below = machine.below(store, site, Step::Local(local))?;
+    let result = read(machine, work, Key::Tree { site: below })?;
+    Ok(result)
+}
+
+// The step to a child or local.
+pub(crate) fn step_to(place: Place) -> Step
+    ensures { result ≡ way_to place }
+{
+    match place {
+        Place::Child(k) => Step::Child(k),
+        Place::Local(x) => Step::Local(x),
+    }
+}

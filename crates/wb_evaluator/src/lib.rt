@@ -1,0 +1,23 @@
+//! Evaluation of attributes on demand, over trees that forwarding makes: the value or the fault of an attribute of a root, within a number
+//! of steps.
+//!
+//! What is answered is in `wb_evaluation`: this crate's clauses cite its relations, and never a memo or a stack.
+#![tactic(auto)]
+
+mod answering;
+mod context;
+mod evaluated;
+mod expression;
+mod machine;
+mod memo;
+mod perform;
+mod rules;
+mod run;
+mod sites;
+mod steps;
+mod table;
+mod visit;
+mod work;
+
+pub use answering::evaluate;
+pub use evaluated::Evaluated;

@@ -1,0 +1,100 @@
+//! What does an evaluation keep from one instance to the next?
+//!
+//! The memo, and the instances that wait, each for the one above it. How one is worked on is in `run`.
+
+ghost use Rattle.std.specs.Prelude.{◌≡◌, ◌≤◌, ◌<◌, Some, length, OnOk, IfOk};
+ghost use Rattle.wb_values.specs.Tree.{children_of};
+ghost use Rattle.wb_values.specs.ValuesIn.{tree_in, value_in, IsIn};
+ghost use Rattle.wb_evaluation.specs.Walks.{value_at};
+ghost use Rattle.wb_evaluator.specs.Inner.Machines.{IsKey, known, with_memo};
+ghost use Rattle.wb_evaluator.specs.Inner.Memos.{count, IsWhole, IsGrown};
+ghost use Rattle.wb_evaluator.specs.Inner.Reached.{HasChild, IsTreeChild, IsChild, IsReady, IsReached};
+
+use crate::memo::Memo;
+use crate::sites::Step;
+use std::alloc::AllocError;
+use wb_values::{TreeId, TreeStore, Value};
+
+// An instance, by the site of its path.
+#[derive(Clone, Copy)]
+pub(crate) enum Key {
+    Synthesized { site: usize, attribute: usize },
+    Inherited { site: usize, attribute: usize },
+    Tree { site: usize },
+}
+
+// The memo, the attribute that is asked of the root, the instances that wait with the one at work last, and how many were entered.
+#[derive(Drop)]
+pub(crate) struct Machine {
+    pub memo: Memo,
+    pub root: TreeId,
+    pub attribute: usize,
+    pub stack: Vec<Key>,
+    pub entered: u64,
+}
+
+impl Machine {
+    // The value that is known for a key.
+    pub(crate) fn known(&self, key: Key) -> Result<Option<Value>, AllocError>
+        requires whole { IsWhole self.now.memo }
+        requires key { IsKey self.now.memo key }
+        ensures { IfOk result (λ found. found ≡ known self.now.memo key) }
+    {
+        match key {
+            Key::Synthesized { site, attribute } => self.memo.attribute(site, attribute),
+            Key::Inherited { site, attribute } => self.memo.attribute(site, attribute),
+            Key::Tree { site } => Ok(match self.memo.trees[site] {
+                Some(tree) => Some(Value::Tree(tree)),
+                None => None,
+            }),
+        }
+    }
+
+    // The site one step down from another, whose tree is known.
+    pub(crate) fn below(
+        &mut self,
+        store: &TreeStore,
+        site: usize,
+        step: Step,
+    ) -> Result<usize, AllocError>
+        requires whole { IsWhole self.old.memo }
+        requires there { site ≤ count self.old.memo }
+        requires ready { IsReady store.now self.old.memo site step }
+        ensures same { OnOk result (self.new ≡ with_memo self.old self.new.memo) }
+        ensures whole { OnOk result (IsWhole self.new.memo) }
+        ensures grown { OnOk result (IsGrown self.old.memo self.new.memo) }
+        ensures site { IfOk result (IsReached store.now self.old.memo self.new.memo site step) }
+    {
+        let tree = match step {
+            Step::Child(k) => match self.memo.trees[site] {
+                Some(tree) => Some(child_tree(store, tree, k)),
+                None => None,
+            },
+            _ => None,
+        };
+        self.memo.below(site, step, tree)
+    }
+}
+
+// The child of a tree, which is a tree.
+fn child_tree(store: &TreeStore, tree: TreeId, k: usize) -> TreeId
+    requires there { tree.0 < length store.now }
+    requires child { IsTreeChild store.now tree k }
+    ensures { IsChild store.now tree k result }
+{
+    match &store.children(tree)[k] {
+        Value::Tree(child) => *child,
+        _ => unreachable!(),
+    }
+}
+
+// The value of a child of a tree.
+pub(crate) fn child_value(store: &TreeStore, tree: TreeId, k: usize) -> Result<Value, AllocError>
+    requires there { tree.0 < length store.now }
+    requires child { HasChild store.now tree k }
+    ensures value { IfOk result (λ made. value_at (children_of (tree_in store.now tree.0)) k ≡ Some (value_in store.now made)) }
+    ensures inside { IfOk result (IsIn (length store.now)) }
+{
+    let value = store.children(tree)[k].copy()?;
+    Ok(value)
+}

@@ -1,0 +1,243 @@
+//! How does an evaluation work on one instance?
+//!
+//! By its equation, through the forwarded tree, or by the expression of its tree. Which instance is next is in `evaluate`.
+
+ghost use Rattle.std.specs.Prelude.{◌≡◌, ◌≤◌, ◌<◌, length, IfOk, OnOk};
+ghost use Rattle.wb_operations.specs.Kept.{IsKept};
+ghost use Rattle.wb_attributes.specs.Rules.{target_vertex};
+ghost use Rattle.wb_attributes.specs.Vertices.{inherited};
+ghost use Rattle.wb_evaluator.specs.Inner.Machines.{IsMachine, IsSame};
+ghost use Rattle.wb_evaluator.specs.Inner.Sites.{step_of};
+ghost use Rattle.wb_evaluator.specs.Inner.Starts.{IsAtWork, IsStarting, IsAlone, HasProduction, IsProductionAt, IsForwarding};
+ghost use Rattle.wb_evaluator.specs.Inner.Works.{IsExtended, IsRan};
+ghost use Rattle.wb_evaluator.specs.declared.machine.Key.TheVariants.{Synthesized, Inherited, Tree};
+
+use crate::context::Context;
+use crate::machine::{Key, Machine};
+use crate::perform::evaluate_tasks;
+use crate::rules::{equation_for, forward_nodes, local_nodes};
+use crate::sites::Step;
+use crate::work::{Ran, Task, Work};
+use std::alloc::AllocError;
+use wb_operations::{Meaning, OperationRefusal};
+use wb_resolved::{Node, Place, Production, Target};
+use wb_values::{TreeStore, Value};
+
+// Works on the last instance.
+pub(crate) fn run<M: Meaning>(
+    context: &Context<M>,
+    machine: &mut Machine,
+    store: &mut TreeStore,
+    work: &mut Work,
+) -> Result<Ran, AllocError>
+    requires whole { IsMachine context.now.attributes.now (record { signatures = context.now.operations.now.signatures; meaning = M.meaning }) store.old machine.old }
+    requires kept { IsKept context.now.operations.now.signatures context.now.operations.now.built_in context.now.operations.now.runs.items M.meaning
+        (λ run vs. ⟦<Box<dyn Fn(&[Value]) -> Result<Value, OperationRefusal>> as Fn(&[Value]) -> Result<Value, OperationRefusal>>⟧.pre run vs)
+        (λ run vs r. ⟦<Box<dyn Fn(&[Value]) -> Result<Value, OperationRefusal>> as Fn(&[Value]) -> Result<Value, OperationRefusal>>⟧.post run vs r) }
+    ensures ran { IfOk result (IsRan context.now.attributes.now (record { signatures = context.now.operations.now.signatures; meaning = M.meaning }) store.new machine.new) }
+    ensures same { OnOk result (IsSame machine.old machine.new) }
+    ensures store { IsExtended store.old store.new }
+{
+    let at = machine.stack.len() - 1;
+    match machine.stack[at] {
+        Key::Synthesized { site, attribute } => {
+            run_synthesized(context, machine, store, work, site, attribute)
+        }
+        Key::Inherited { site, attribute } => {
+            run_inherited(context, machine, store, work, site, attribute)
+        }
+        Key::Tree { site } => run_tree(context, machine, store, work, site),
+    }
+}
+
+// Works on the tree of a local or forward.
+fn run_tree<M: Meaning>(
+    context: &Context<M>,
+    machine: &mut Machine,
+    store: &mut TreeStore,
+    work: &mut Work,
+    site: usize,
+) -> Result<Ran, AllocError>
+    requires works { IsAtWork context.now.attributes.now (record { signatures = context.now.operations.now.signatures; meaning = M.meaning }) store.old machine.old (Tree site) }
+    requires kept { IsKept context.now.operations.now.signatures context.now.operations.now.built_in context.now.operations.now.runs.items M.meaning
+        (λ run vs. ⟦<Box<dyn Fn(&[Value]) -> Result<Value, OperationRefusal>> as Fn(&[Value]) -> Result<Value, OperationRefusal>>⟧.pre run vs)
+        (λ run vs r. ⟦<Box<dyn Fn(&[Value]) -> Result<Value, OperationRefusal>> as Fn(&[Value]) -> Result<Value, OperationRefusal>>⟧.post run vs r) }
+    ensures ran { IfOk result (IsRan context.now.attributes.now (record { signatures = context.now.operations.now.signatures; meaning = M.meaning }) store.new machine.new) }
+    ensures same { OnOk result (IsSame machine.old machine.new) }
+    ensures store { IsExtended store.old store.new }
+{
+    let origin = machine.memo.sites.origins[site - 1];
+    let production = production_at(context, machine, store, origin.parent);
+    let parent = origin.parent;
+    match origin.step {
+        Step::Local(x) => match local_nodes(production, x) {
+            Some(nodes) => evaluate_at(context, machine, store, work, parent, nodes),
+            None => unreachable!(),
+        },
+        Step::Forward => match forward_nodes(production) {
+            Some(nodes) => evaluate_at(context, machine, store, work, parent, nodes),
+            None => unreachable!(),
+        },
+        Step::Child(_) => unreachable!(),
+    }
+}
+
+// Works on an inherited attribute.
+fn run_inherited<M: Meaning>(
+    context: &Context<M>,
+    machine: &mut Machine,
+    store: &mut TreeStore,
+    work: &mut Work,
+    site: usize,
+    attribute: usize,
+) -> Result<Ran, AllocError>
+    requires works { IsAtWork context.now.attributes.now (record { signatures = context.now.operations.now.signatures; meaning = M.meaning }) store.old machine.old (Inherited site attribute) }
+    requires kept { IsKept context.now.operations.now.signatures context.now.operations.now.built_in context.now.operations.now.runs.items M.meaning
+        (λ run vs. ⟦<Box<dyn Fn(&[Value]) -> Result<Value, OperationRefusal>> as Fn(&[Value]) -> Result<Value, OperationRefusal>>⟧.pre run vs)
+        (λ run vs r. ⟦<Box<dyn Fn(&[Value]) -> Result<Value, OperationRefusal>> as Fn(&[Value]) -> Result<Value, OperationRefusal>>⟧.post run vs r) }
+    ensures ran { IfOk result (IsRan context.now.attributes.now (record { signatures = context.now.operations.now.signatures; meaning = M.meaning }) store.new machine.new) }
+    ensures same { OnOk result (IsSame machine.old machine.new) }
+    ensures store { IsExtended store.old store.new }
+{
+    let origin = machine.memo.sites.origins[site - 1];
+    let production = production_at(context, machine, store, origin.parent);
+    match equation_for(production, target_below(origin.step, attribute)) {
+        Some(nodes) => evaluate_at(context, machine, store, work, origin.parent, nodes),
+        None => {
+            let key = Key::Inherited {
+                site: origin.parent,
+                attribute,
+            };
+            read_alone(context, machine, store, key)
+        }
+    }
+}
+
+// Works on a synthesized attribute.
+fn run_synthesized<M: Meaning>(
+    context: &Context<M>,
+    machine: &mut Machine,
+    store: &mut TreeStore,
+    work: &mut Work,
+    site: usize,
+    attribute: usize,
+) -> Result<Ran, AllocError>
+    requires works { IsAtWork context.now.attributes.now (record { signatures = context.now.operations.now.signatures; meaning = M.meaning }) store.old machine.old (Synthesized site attribute) }
+    requires kept { IsKept context.now.operations.now.signatures context.now.operations.now.built_in context.now.operations.now.runs.items M.meaning
+        (λ run vs. ⟦<Box<dyn Fn(&[Value]) -> Result<Value, OperationRefusal>> as Fn(&[Value]) -> Result<Value, OperationRefusal>>⟧.pre run vs)
+        (λ run vs r. ⟦<Box<dyn Fn(&[Value]) -> Result<Value, OperationRefusal>> as Fn(&[Value]) -> Result<Value, OperationRefusal>>⟧.post run vs r) }
+    ensures ran { IfOk result (IsRan context.now.attributes.now (record { signatures = context.now.operations.now.signatures; meaning = M.meaning }) store.new machine.new) }
+    ensures same { OnOk result (IsSame machine.old machine.new) }
+    ensures store { IsExtended store.old store.new }
+{
+    if machine.memo.trees[site].is_none() {
+        return Ok(Ran::Needs(Key::Tree { site }));
+    }
+    let production = production_at(context, machine, store, site);
+    match equation_for(production, Target::Top(attribute)) {
+        Some(nodes) => evaluate_at(context, machine, store, work, site, nodes),
+        None => run_forward(context, machine, store, site, attribute),
+    }
+}
+
+// Works on a synthesized attribute that is that of the forwarded tree.
+fn run_forward<M: Meaning>(
+    context: &Context<M>,
+    machine: &mut Machine,
+    store: &TreeStore,
+    site: usize,
+    attribute: usize,
+) -> Result<Ran, AllocError>
+    requires { IsForwarding context.now.attributes.now (record { signatures = context.now.operations.now.signatures; meaning = M.meaning }) store.now machine.old site attribute }
+    ensures ran { IfOk result (IsRan context.now.attributes.now (record { signatures = context.now.operations.now.signatures; meaning = M.meaning }) store.now machine.new) }
+    ensures same { OnOk result (IsSame machine.old machine.new) }
+{
+    let below = machine.below(store, site, Step::Forward)?;
+    if machine.memo.trees[below].is_none() {
+        return Ok(Ran::Needs(Key::Tree { site: below }));
+    }
+    let key = Key::Synthesized {
+        site: below,
+        attribute,
+    };
+    let ran = read_alone(context, machine, store, key)?;
+    Ok(ran)
+}
+
+// Reads one instance, whose value is the value.
+fn read_alone<M: Meaning>(
+    context: &Context<M>,
+    machine: &Machine,
+    store: &TreeStore,
+    key: Key,
+) -> Result<Ran, AllocError>
+    requires { IsAlone context.now.attributes.now (record { signatures = context.now.operations.now.signatures; meaning = M.meaning }) store.now machine.now key }
+    ensures { IfOk result (IsRan context.now.attributes.now (record { signatures = context.now.operations.now.signatures; meaning = M.meaning }) store.now machine.now) }
+{
+    match machine.known(key)? {
+        Some(value) => Ok(Ran::Value(value)),
+        None => Ok(Ran::Needs(key)),
+    }
+}
+
+// Evaluates the expression of these nodes at a site.
+fn evaluate_at<M: Meaning>(
+    context: &Context<M>,
+    machine: &mut Machine,
+    store: &mut TreeStore,
+    work: &mut Work,
+    site: usize,
+    nodes: &[Node],
+) -> Result<Ran, AllocError>
+    requires starting { IsStarting context.now.attributes.now (record { signatures = context.now.operations.now.signatures; meaning = M.meaning }) store.old machine.old site nodes.now }
+    requires kept { IsKept context.now.operations.now.signatures context.now.operations.now.built_in context.now.operations.now.runs.items M.meaning
+        (λ run vs. ⟦<Box<dyn Fn(&[Value]) -> Result<Value, OperationRefusal>> as Fn(&[Value]) -> Result<Value, OperationRefusal>>⟧.pre run vs)
+        (λ run vs r. ⟦<Box<dyn Fn(&[Value]) -> Result<Value, OperationRefusal>> as Fn(&[Value]) -> Result<Value, OperationRefusal>>⟧.post run vs r) }
+    ensures ran { IfOk result (IsRan context.now.attributes.now (record { signatures = context.now.operations.now.signatures; meaning = M.meaning }) store.new machine.new) }
+    ensures same { OnOk result (IsSame machine.old machine.new) }
+    ensures store { IsExtended store.old store.new }
+{
+    work.tasks.clear();
+    work.values.clear();
+    let last = nodes.len() - 1;
+    work.push_task(Task::Visit(last))?;
+    evaluate_tasks(context, machine, store, work, site, nodes)
+}
+
+// The production at a site whose tree is known.
+fn production_at<'a, M: Meaning>(
+    context: &Context<'a, M>,
+    machine: &Machine,
+    store: &TreeStore,
+    site: usize,
+) -> &'a Production
+    requires there { site < length machine.now.memo.trees.items }
+    requires production { HasProduction context.now.attributes.now store.now machine.now site }
+    ensures { IsProductionAt context.now.attributes.now store.now machine.now site result.now }
+{
+    match machine.memo.trees[site] {
+        Some(tree) => {
+            let number = store.production(tree);
+            let productions = context.attributes.productions.as_slice();
+            &productions[number]
+        }
+        None => unreachable!(),
+    }
+}
+
+// What an equation is for, one step down.
+fn target_below(step: Step, attribute: usize) -> Target
+    ensures { target_vertex result ≡ inherited (step_of step) attribute }
+{
+    match step {
+        Step::Child(k) => Target::Place {
+            place: Place::Child(k),
+            attribute,
+        },
+        Step::Local(x) => Target::Place {
+            place: Place::Local(x),
+            attribute,
+        },
+        Step::Forward => Target::Forward(attribute),
+    }
+}

@@ -1,0 +1,139 @@
+//! How does an evaluation come from one instance to the next?
+//!
+//! It enters one that is read and wasn't entered, and leaves one whose value is there. What is done at one is in `run`.
+
+ghost use Rattle.std.specs.Prelude.{◌≡◌, ◌<◌, ◌≤◌, ◌+◌, ◌^◌, ◌++◌, ◌∷◌, [], ◌-◌, Some, slice_get, length, suc, IfOk, OnOk};
+ghost use Rattle.wb_values.specs.ValuesIn.{tree_in, value_in, IsIn};
+ghost use Rattle.wb_evaluation.specs.Evaluable.{IsEvaluable, IsAsked};
+ghost use Rattle.wb_evaluation.specs.Walks.{done, value};
+ghost use Rattle.wb_values.specs.declared.value.Value.TheVariants.{Tree};
+ghost use Rattle.wb_evaluator.specs.Inner.Machines.{IsMachine, IsTree, IsKeptIn, Runs, Wants, with_memo};
+
+use crate::context::Context;
+use crate::machine::{Key, Machine};
+use crate::memo::Memo;
+use std::alloc::{AllocError, Global};
+use wb_operations::Meaning;
+use wb_values::{TreeId, TreeStore, Value};
+
+// An attribute of the root is entered.
+pub(crate) fn begin<M: Meaning>(
+    alloc: Global,
+    context: &Context<M>,
+    store: &TreeStore,
+    root: TreeId,
+    attribute: usize,
+) -> Result<Machine, AllocError>
+    requires evaluable { IsEvaluable context.now.attributes.now (record { signatures = context.now.operations.now.signatures; meaning = M.meaning }) }
+    requires there { root.0 < length store.now }
+    requires asked { IsAsked context.now.attributes.now (tree_in store.now root.0) attribute }
+    ensures whole { IfOk result (IsMachine context.now.attributes.now (record { signatures = context.now.operations.now.signatures; meaning = M.meaning }) store.now) }
+    ensures root { IfOk result (λ made. made.root ≡ root) }
+    ensures attribute { IfOk result (λ made. made.attribute ≡ attribute) }
+    ensures entered { IfOk result (λ made. made.entered ≡ 1) }
+{
+    let mut stack = Vec::new(alloc);
+    push_key(&mut stack, Key::Synthesized { site: 0, attribute })?;
+    let memo = Memo::new(alloc, root)?;
+    Ok(Machine {
+        memo,
+        root,
+        attribute,
+        stack,
+        entered: 1,
+    })
+}
+
+// Enters an instance.
+pub(crate) fn enter<M: Meaning>(
+    context: &Context<M>,
+    machine: &mut Machine,
+    store: &TreeStore,
+    key: Key,
+) -> Result<(), AllocError>
+    requires wants { Wants context.now.attributes.now (record { signatures = context.now.operations.now.signatures; meaning = M.meaning }) store.now machine.old key }
+    requires room { machine.old.entered + 1 < 2 ^ 64 }
+    ensures whole { OnOk result (IsMachine context.now.attributes.now (record { signatures = context.now.operations.now.signatures; meaning = M.meaning }) store.now machine.new) }
+    ensures root { OnOk result (machine.new.root ≡ machine.old.root) }
+    ensures attribute { OnOk result (machine.new.attribute ≡ machine.old.attribute) }
+    ensures entered { OnOk result (machine.new.entered ≡ machine.old.entered + 1) }
+    ensures stack { OnOk result (length machine.new.stack.items ≡ suc (length machine.old.stack.items)) }
+{
+    push_key(&mut machine.stack, key)?;
+    machine.entered += 1;
+    Ok(())
+}
+
+// Leaves the instance at work with its value, for the one that waits for it.
+pub(crate) fn leave<M: Meaning>(
+    context: &Context<M>,
+    machine: &mut Machine,
+    store: &TreeStore,
+    answer: Value,
+) -> Result<(), AllocError>
+    requires runs { Runs context.now.attributes.now (record { signatures = context.now.operations.now.signatures; meaning = M.meaning }) store.now machine.old (done (value (value_in store.now answer))) }
+    requires inside { IsIn (length store.now) answer }
+    requires waits { 1 < length machine.old.stack.items }
+    ensures whole { OnOk result (IsMachine context.now.attributes.now (record { signatures = context.now.operations.now.signatures; meaning = M.meaning }) store.now machine.new) }
+    ensures root { OnOk result (machine.new.root ≡ machine.old.root) }
+    ensures attribute { OnOk result (machine.new.attribute ≡ machine.old.attribute) }
+    ensures entered { OnOk result (machine.new.entered ≡ machine.old.entered) }
+    ensures stack { OnOk result (suc (length machine.new.stack.items) ≡ length machine.old.stack.items) }
+{
+    let at = machine.stack.len() - 1;
+    let key = machine.stack[at];
+    keep(context, machine, store, key, answer)?;
+    machine.stack.truncate(at);
+    Ok(())
+}
+
+// Keeps the value of the instance at work, whose key this is.
+fn keep<M: Meaning>(
+    context: &Context<M>,
+    machine: &mut Machine,
+    store: &TreeStore,
+    key: Key,
+    answer: Value,
+) -> Result<(), AllocError>
+    requires runs { Runs context.now.attributes.now (record { signatures = context.now.operations.now.signatures; meaning = M.meaning }) store.now machine.old (done (value (value_in store.now answer))) }
+    requires inside { IsIn (length store.now) answer }
+    requires last { slice_get machine.old.stack.items (length machine.old.stack.items - 1) ≡ Some key }
+    ensures kept { OnOk result ((runs : Runs context.now.attributes.now (record { signatures = context.now.operations.now.signatures; meaning = M.meaning }) store.now machine.old (done (value (value_in store.now answer)))) → IsKeptIn context.now.attributes.now (record { signatures = context.now.operations.now.signatures; meaning = M.meaning }) store.now machine.old runs.machine machine.new.memo) }
+    ensures same { OnOk result (machine.new ≡ with_memo machine.old machine.new.memo) }
+{
+    match key {
+        Key::Synthesized { site, attribute } => {
+            machine.memo.set_attribute(site, attribute, answer)?;
+            Ok(())
+        }
+        Key::Inherited { site, attribute } => {
+            machine.memo.set_attribute(site, attribute, answer)?;
+            Ok(())
+        }
+        Key::Tree { site } => {
+            let tree = tree_of(&answer);
+            machine.memo.trees[site] = Some(tree);
+            Ok(())
+        }
+    }
+}
+
+// Adds a key after others.
+fn push_key(stack: &mut Vec<Key>, key: Key) -> Result<(), AllocError>
+    ensures { OnOk result (stack.new.items ≡ stack.old.items ++ key ∷ []) }
+{
+    stack.reserve(1)?;
+    stack.push_reserved(key);
+    Ok(())
+}
+
+// The tree that a value is.
+fn tree_of(value: &Value) -> TreeId
+    requires { IsTree value.now }
+    ensures { value.now ≡ Tree result }
+{
+    match value {
+        Value::Tree(tree) => *tree,
+        _ => unreachable!(),
+    }
+}
