@@ -1,5 +1,5 @@
 -- What is certified excludes refusals, and a refusal of one sort excludes those of another.
-use Rattle.std.proofs.Common.{◌≡◌, ◌⊎◌, inl, inr, ℕ, List, Some, None, sym, refl, subst, ◌∙◌}
+use Rattle.std.proofs.Common.{◌≡◌, ◌⊎◌, inl, inr, ℕ, List, Some, sym, subst, ◌∙◌}
 use Rattle.std.specs.Prelude.{Option}
 use Rattle.std.proofs.lemmas.Option.{same_Some}
 use Rattle.wb_attributes.specs.Modular.{AreWellDefinedAttributes, ForwardEquationsReach}
@@ -7,7 +7,6 @@ use Rattle.wb_base.specs.Grammar.{GrammarView}
 use Rattle.wb_certify.specs.Refusals.{IsAttributeMemory, IsTypeMemory}
 use Rattle.wb_certify.specs.declared.refusal.CertifyRefusal.{CertifyRefusal}
 use Rattle.wb_certify.specs.declared.refusal.CertifyRefusal.TheVariants as c
-use Rattle.wb_complete.specs.OneAnswer.{CompletenessHasOneAnswer}
 use Rattle.wb_complete.specs.Refusals.{CompleteOk, IsTrueCompletenessRefusal}
 use Rattle.wb_complete.proofs.AnswerLemmas as completeness
 use Rattle.wb_determinism.specs.Refusals.{IsNoMemory}
@@ -31,7 +30,7 @@ use Rattle.wb_types.specs.declared.refusal.TypeRefusal.TheVariants as t
 use Rattle.wb_types.proofs.AnswerLemmas as kinds
 use Rattle.wb_beside.specs.Extensions.{AreMarkersKept, IsCertifiedBeside, IsDeterministicBeside}
 use Rattle.wb_beside.specs.OneAnswer.{HasOneAnswer}
-use Rattle.wb_beside.specs.Refusals.{AreNotWellDefined, IsAttributeRefusal, IsBesideRefusal, IsMemory, IsNotDeterministic, IsReason}
+use Rattle.wb_beside.specs.Refusals.{IsAttributeRefusal, IsBesideRefusal, IsMemory, IsNotDeterministic, IsReason}
 
 -- what is true where an extension is deterministic, as a law below says
 abbrev pub RulesOut : Type 0

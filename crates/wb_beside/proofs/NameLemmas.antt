@@ -1,14 +1,13 @@
 -- Names that are right exclude refusals of names.
-use Rattle.std.proofs.Common.{◌≡◌, ◌⊎◌, inl, inr, ℕ, List, sym, refl, ◌∙◌}
+use Rattle.std.proofs.Common.{◌≡◌, ◌⊎◌, inl, inr, ℕ, List, sym, ◌∙◌}
 use Rattle.wb_certify.specs.Refusals.{IsNameMemory}
-use Rattle.wb_names.specs.Resolving.{IsExtensionNameRefusal, IsForOther, ResolvesExtension, extension_file, file_scope}
+use Rattle.wb_names.specs.Resolving.{IsForOther, ResolvesExtension, extension_file, file_scope}
 use Rattle.wb_naming.specs.NamesOk.{NamesOk, Scope}
 use Rattle.wb_naming.specs.Refusals.{IsTrueRefusal}
 use Rattle.wb_naming.specs.declared.refusal.NameRefusal.{NameRefusal}
 use Rattle.wb_naming.specs.declared.refusal.NameRefusal.TheVariants as n
 use Rattle.wb_resolved.specs.declared.resolved.ResolvedParts.{ResolvedParts}
 use Rattle.wb_syntax.specs.SpecText.{SpecView}
-use Rattle.wb_syntax.specs.declared.header.Header.{Header}
 use Rattle.wb_syntax.specs.declared.header.Header.TheVariants as h
 use Rattle.wb_beside.specs.OneAnswer.{NamesExclude}
 
