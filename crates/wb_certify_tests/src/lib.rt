@@ -1,0 +1,23 @@
+//! Tests of certified hosts and extensions: which rule refuses a host, or an extension with its host, and with which example.
+//!
+//! Names and attributes by themselves are tested in `wb_specification_tests`. Nothing depends on this crate.
+#![tactic(auto)]
+
+#[cfg(test)]
+mod answers;
+#[cfg(test)]
+mod attribute_answers;
+#[cfg(test)]
+mod determinism_answers;
+#[cfg(test)]
+mod envelopes;
+#[cfg(test)]
+mod extensions;
+#[cfg(test)]
+mod files;
+#[cfg(test)]
+mod forwarding;
+#[cfg(test)]
+mod hosts;
+#[cfg(test)]
+mod numbers;
