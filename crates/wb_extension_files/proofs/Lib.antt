@@ -1,0 +1,3 @@
+pub mod OneAnswer
+mod Shown
+mod ValueLemmas
