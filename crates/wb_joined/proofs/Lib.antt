@@ -1,0 +1,9 @@
+pub mod RowLemmas
+pub mod InRange
+pub mod KeptLemmas
+pub mod GrammarKept
+pub mod MarkerLemmas
+pub mod OwnLemmas
+pub mod JoinedLemmas
+pub mod NumberLemmas
+pub mod CertifiedLemmas

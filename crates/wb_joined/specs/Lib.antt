@@ -1,0 +1,4 @@
+-- a certified host and certified extensions, as what unions are made of
+pub mod Joined
+-- what keeps its numbers with an extension
+pub mod Numbers
