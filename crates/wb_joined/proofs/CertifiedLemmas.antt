@@ -1,5 +1,5 @@
 -- A certified extension is certified as a piece of a union, and all together are what unions ask for.
-use Rattle.std.proofs.Common.{◌≡◌, ◌<◌, ◌∷◌, inl, inr, [], ℕ, zero, suc, Bool, true, false, cond, List, Option, Some, None, Contains, map}
+use Rattle.std.proofs.Common.{◌≡◌, ◌<◌, ◌∷◌, inl, inr, [], ℕ, zero, suc, Bool, true, false, cond, List, Option, Some, None, Contains}
 use Rattle.std.proofs.Common.{slice_get, ap, refl, sym, subst, ◌∙◌}
 use Rattle.std.specs.Prelude.{All, IsTrue}
 use Rattle.std.proofs.lemmas.Bool.{eq-eqb}
@@ -18,13 +18,13 @@ use Rattle.wb_grammars.specs.Lookaheads.{HasNoConflict}
 use Rattle.wb_marking.specs.Holes.{with_holes_of}
 use Rattle.wb_operations.specs.Operations.{OperationSignature}
 use Rattle.wb_resolved.specs.declared.resolved.ResolvedParts.{ResolvedParts}
-use Rattle.wb_unions.specs.Numbered.{IsComposableHost, IsFit, KeepsKernelLookaheads, StaysInEnvelope}
+use Rattle.wb_unions.specs.Numbered.{IsFit, KeepsKernelLookaheads, StaysInEnvelope}
 use Rattle.wb_unions.specs.Renamings.{Renaming}
 use Rattle.wb_unions.specs.Worlds.{on}
-use Rattle.wb_united.specs.Bridges.{AreMarkers, begins, bridge_in_list, mark_by}
+use Rattle.wb_united.specs.Bridges.{begins, bridge_in_list, mark_by}
 use Rattle.wb_united.specs.Certificates.{AreCertified, IsCertifiedBy, IsCertifiedPiece}
 use Rattle.wb_united.specs.Laws.{HasTogether, IsUnited, KeepsHost}
-use Rattle.wb_united.specs.Pieces.{ArePieces, IsPiece, Piece}
+use Rattle.wb_united.specs.Pieces.{IsPiece, Piece}
 use Rattle.wb_united.proofs.ApartLemmas.{has_together}
 use Rattle.wb_united.proofs.CertificateLemmas.{certified_by}
 use Rattle.wb_united.proofs.UnitedLemmas.{is_united, keeps_host}
@@ -42,7 +42,8 @@ bridge_there p t (rule ∷ rules) k a rest at e =
       by : (b : Bool) → begins t rule.1 ≡ b → (k : ℕ) → slice_get (rule ∷ rules) k ≡ Some (a, Terminal t ∷ rest)
           → ((j : ℕ) → slice_get rules j ≡ Some (a, Terminal t ∷ rest) → bridge_in_list (suc p) t rules ≡ None → ⊥) → ⊥
       by true is k at later =
-          let bad : Some (p, rule.0) ≡ None =
+          let found : Option (ℕ × ℕ) = Some (p, rule.0) in
+          let bad : found ≡ None =
           sym (ap (λ b. cond b (Some (p, rule.0)) (bridge_in_list (suc p) t rules)) is) ∙ e in cc
       by false is zero at later =
           let first : rule ≡ (a, Terminal t ∷ rest) = same_Some rule (a, Terminal t ∷ rest) at in

@@ -1,11 +1,10 @@
 -- The grammar of a host with an extension has the host's productions first.
-use Rattle.std.proofs.Common.{◌≡◌, ◌≤◌, ◌<◌, ◌+◌, ◌++◌, ◌∷◌, ◌⊎◌, inl, inr, [], ℕ, zero, suc, List, Option, Some, None, Contains, map}
-use Rattle.std.proofs.Common.{length, slice_get, ap, refl, sym, subst, ◌∙◌, arith}
+use Rattle.std.proofs.Common.{◌≡◌, ◌<◌, ◌∷◌, inl, [], ℕ, suc, List, Some, map}
+use Rattle.std.proofs.Common.{slice_get, ap, refl, sym, ◌∙◌, arith}
 use Rattle.std.specs.List.{AllZip}
-use Rattle.std.proofs.lemmas.Option.{slice_get_within, same_Some}
-use Rattle.wb_lemmas.proofs.Places.{at_once, at_within}
+use Rattle.std.proofs.lemmas.Option.{slice_get_within}
+use Rattle.wb_lemmas.proofs.Places.{at_within}
 use Rattle.wb_base.specs.declared.symbol.Kind.TheVariants as kind
-use Rattle.wb_base.specs.declared.symbol.Symbol.{Symbol}
 use Rattle.wb_base.specs.declared.symbol.Symbol.TheVariants as symbol
 use Rattle.wb_base.specs.Grammar.{GrammarView, Production}
 use Rattle.wb_names.specs.Resolving.{ResolvesExtension}
@@ -20,7 +19,7 @@ use Rattle.wb_syntax.specs.SpecText.{SpecView}
 use Rattle.wb_united.specs.Pieces.{Extends}
 use Rattle.wb_joined.proofs.InRange.{concrete_below, terminal_below, tree_below}
 use Rattle.wb_joined.proofs.KeptLemmas as k
-use Rattle.wb_joined.proofs.RowLemmas.{all_below, prefix_of, some_once}
+use Rattle.wb_joined.proofs.RowLemmas.{prefix_of, some_once}
 
 module _ (host r : ResolvedParts) (spec : SpecView) (names : ResolvesExtension host spec r) (host_whole : IsResolved host)
     (whole : IsResolved r) (h g : GrammarView) (host_start : host.grammar ≡ Some h) (start : r.grammar ≡ Some g) where

@@ -1,10 +1,10 @@
 -- The grammar of a resolved specification has every number in range.
-use Rattle.std.proofs.Common.{◌≡◌, ◌≤◌, ◌<◌, ◌∷◌, ◌⊎◌, inl, inr, [], ℕ, zero, suc, List, Option, Some, None, Contains, map, length}
+use Rattle.std.proofs.Common.{◌≡◌, ◌<◌, ◌∷◌, inl, inr, [], ℕ, zero, suc, List, Option, Some, Contains, map}
 use Rattle.std.proofs.Common.{slice_get, ap, refl, sym, subst, ◌∙◌, arith}
-use Rattle.std.specs.Prelude.{All, IfSome, option_map}
-use Rattle.std.proofs.lemmas.Option.{slice_get_within, same_Some}
+use Rattle.std.specs.Prelude.{IfSome, option_map}
+use Rattle.std.proofs.lemmas.Option.{slice_get_within}
 use Rattle.wb_lemmas.proofs.Elements.{all_at, all_from_places}
-use Rattle.wb_lemmas.proofs.Members.{contains_at, contains_first, contains_later}
+use Rattle.wb_lemmas.proofs.Members.{contains_at}
 use Rattle.wb_lemmas.proofs.Places.{at_within, nothing_at}
 use Rattle.wb_base.specs.declared.symbol.Kind.TheVariants as kind
 use Rattle.wb_base.specs.declared.symbol.Symbol.{Symbol}
@@ -16,7 +16,7 @@ use Rattle.wb_resolved.specs.declared.production.ChildKind.{ChildKind}
 use Rattle.wb_resolved.specs.declared.production.ChildKind.TheVariants as child
 use Rattle.wb_resolved.specs.declared.production.Production as rule
 use Rattle.wb_resolved.specs.declared.resolved.ResolvedParts.{ResolvedParts}
-use Rattle.wb_resolved.specs.Grammar.{IsGrammarOf, IsGrammarProduction, IsIn, IsInConcrete, IsOfGrammar, symbol_of}
+use Rattle.wb_resolved.specs.Grammar.{IsGrammarOf, IsGrammarProduction, IsIn, symbol_of}
 use Rattle.wb_resolved.specs.Resolved.{HasGrammarTerminals, IsResolved, IsTerminalChild}
 use Rattle.wb_resolved.specs.declared.production.ProductionRole.TheVariants as role
 
@@ -41,7 +41,8 @@ child_tree (child.Value (kind.Tree b)) a e = let same : b ≡ a = cc in ap (λ z
 
 -- the child of a symbol
 pub child_of : (right : List Symbol) (children : List Child)
-    → map (λ (s : Symbol). Some s) right ≡ map (λ (c : Child). symbol_of c.kind) children → (k : ℕ) (s : Symbol) → slice_get right k ≡ Some s
+    → map (λ (s : Symbol). Some s) right ≡ map (λ (c : Child). symbol_of c.kind) children → (k : ℕ) (s : Symbol)
+    → slice_get right k ≡ Some s
     → (c : Child) × (slice_get children k ≡ Some c) × (symbol_of c.kind ≡ Some s)
 child_of [] children e k s at = absurd (nothing_at s k at)
 child_of (x ∷ right) [] e k s at = absurd (cc e)

@@ -1,5 +1,5 @@
 -- What is of a host's grammar keeps its numbers with an extension.
-use Rattle.std.proofs.Common.{◌≡◌, ◌≤◌, ◌<◌, ◌+◌, ◌++◌, ◌∷◌, ◌⊎◌, inl, inr, [], ℕ, zero, suc, List, Option, Some, None, Contains, map, take}
+use Rattle.std.proofs.Common.{◌≡◌, ◌≤◌, ◌<◌, ◌+◌, ◌++◌, ◌∷◌, ◌⊎◌, inl, inr, [], ℕ, zero, suc, List, Some, Contains, map, take}
 use Rattle.std.proofs.Common.{length, slice_get, ap, refl, sym, subst, ◌∙◌, arith}
 use Rattle.std.specs.Prelude.{option_map, option_to_list}
 use Rattle.std.specs.List.{AllZip}
@@ -15,7 +15,7 @@ use Rattle.wb_naming.specs.declared.declaration.Declaration.TheVariants as d
 use Rattle.wb_naming.specs.Declarations.{Items, extensible_of, extensibles, lexicals, nonterminals, plain_items, productions, starts}
 use Rattle.wb_naming.specs.Declares.{item_declarations}
 use Rattle.wb_naming.specs.Orphan as orphan
-use Rattle.wb_numbering.specs.Files.{File, IsInGrammar}
+use Rattle.wb_numbering.specs.Files.{File}
 use Rattle.wb_numbering.specs.Moved.{IsMovedNonterminal, IsMovedNumber, IsMovedTerminal, Move}
 use Rattle.wb_numbering.specs.Numbering.{Numbering, numbering_of}
 use Rattle.wb_numbering.specs.Resolves.{IsConcrete, IsGrammarRow, IsInGrammarOf, IsNonterminalNumber, IsScanned, move_of, starts_of}
@@ -26,7 +26,6 @@ use Rattle.wb_numbering.proofs.NumberLemmas.{differ_left, differ_right}
 use Rattle.wb_numbering.proofs.RowsOwned.{plain_declares}
 use Rattle.wb_numbering.proofs.Selected.{kept_from}
 use Rattle.wb_resolved.specs.declared.attributes.Nonterminal.{Nonterminal}
-use Rattle.wb_resolved.specs.declared.production.Production.{Production}
 use Rattle.wb_resolved.specs.declared.resolved.ResolvedParts.{ResolvedParts}
 use Rattle.wb_resolved.specs.declared.terminal.Terminal.{Terminal}
 use Rattle.wb_resolved.specs.Grammar.{IsGrammarOf, IsGrammarProduction}

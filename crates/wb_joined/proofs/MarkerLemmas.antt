@@ -1,15 +1,14 @@
 -- The markers of a certified extension are those that an extension in numbers asks for.
-use Rattle.std.proofs.Common.{◌≡◌, ◌≢◌, ◌≤◌, ◌<◌, ◌+◌, ◌++◌, ◌∷◌, ◌⊎◌, inl, inr, [], ℕ, zero, suc, Bool, true, false, List, Option, Some}
+use Rattle.std.proofs.Common.{◌≡◌, ◌≢◌, ◌≤◌, ◌<◌, ◌∷◌, ◌⊎◌, inl, inr, [], ℕ, true, List, Option, Some}
 use Rattle.std.proofs.Common.{None, Contains, length, slice_get, ap, refl, sym, subst, ◌∙◌, arith}
 use Rattle.std.specs.Prelude.{IsTrue}
 use Rattle.std.proofs.lemmas.Bool.{cases_lt}
-use Rattle.std.proofs.lemmas.Option.{slice_get_within, same_Some}
 use Rattle.wb_lemmas.proofs.Elements.{all_at}
 use Rattle.wb_lemmas.proofs.Members.{contains_at, contains_first, contains_later}
-use Rattle.wb_lemmas.proofs.Places.{at_once, at_within}
+use Rattle.wb_lemmas.proofs.Places.{at_once}
 use Rattle.wb_base.specs.declared.symbol.Symbol.{Symbol}
 use Rattle.wb_base.specs.declared.symbol.Symbol.TheVariants as symbol
-use Rattle.wb_base.specs.Grammar.{GrammarView, Production}
+use Rattle.wb_base.specs.Grammar.{GrammarView}
 use Rattle.wb_extensions.specs.Images.{is_marker_row, is_marking}
 use Rattle.wb_grammars.specs.Productions.{IsProduction}
 use Rattle.wb_grammars.proofs.ProductionLemmas.{production_once, production_within}

@@ -1,8 +1,8 @@
 -- Where numbers go with an extension is the same in both words for it, and so is what markers stand for.
-use Rattle.std.proofs.Common.{◌≡◌, ◌<◌, ◌≤◌, ◌+◌, ◌-◌, ◌++◌, ◌∷◌, [], ℕ, zero, suc, Bool, true, false, cond, eqb, ltb, List, Option, Some}
-use Rattle.std.proofs.Common.{None, Contains, length, slice_get, ap, refl, sym, subst, ◌∙◌, arith}
+use Rattle.std.proofs.Common.{◌≡◌, ◌+◌, ◌-◌, ◌∷◌, [], ℕ, zero, suc, Bool, true, false, cond, eqb, List, Option, Some}
+use Rattle.std.proofs.Common.{None, Contains, length, slice_get, ap, refl, sym, ◌∙◌, arith}
 use Rattle.std.specs.Prelude.{IsTrue, option_and_then, unwrap_or}
-use Rattle.std.proofs.lemmas.Bool.{eqb-true, eqb-false, eq-eqb}
+use Rattle.std.proofs.lemmas.Bool.{eqb-false}
 use Rattle.std.proofs.lemmas.List.{length-append}
 use Rattle.std.proofs.lemmas.Option.{same_Some}
 use Rattle.wb_lemmas.proofs.Members.{place_of}
@@ -17,8 +17,7 @@ use Rattle.wb_extensions.specs.Numbers.{production_up, terminal_up}
 use Rattle.wb_marking.specs.Holes.{hole_productions, with_holes_of}
 use Rattle.wb_resolved.specs.declared.resolved.ResolvedParts.{ResolvedParts}
 use Rattle.wb_unions.specs.Blocks.{lift}
-use Rattle.wb_unions.specs.Worlds.{Mark, bare, on}
-use Rattle.wb_united.specs.Bridges.{AreMarkers, begins, bridge_in_list, mark_by}
+use Rattle.wb_united.specs.Bridges.{begins, bridge_in_list, mark_by}
 use Rattle.wb_united.specs.Numberings.{image_of, phi_of, up_of}
 use Rattle.wb_united.specs.UnitedWorlds.{index_of}
 use Rattle.wb_joined.specs.Joined.{is_marker_in, piece_in}

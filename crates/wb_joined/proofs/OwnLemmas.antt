@@ -1,9 +1,8 @@
 -- What a certified extension adds to the host's grammar is its own: none of the host's abstract nonterminals becomes one of the grammar.
-use Rattle.std.proofs.Common.{◌≡◌, ◌≢◌, ◌≤◌, ◌<◌, ◌++◌, ◌∷◌, ◌⊎◌, inl, inr, [], ℕ, zero, suc, List, Some, Contains, length, slice_get}
-use Rattle.std.proofs.Common.{ap, map, refl, sym, subst, ◌∙◌, arith}
+use Rattle.std.proofs.Common.{◌≡◌, ◌≤◌, ◌<◌, ◌∷◌, ◌⊎◌, inl, inr, [], ℕ, zero, suc, List, Some, Contains, length, slice_get}
+use Rattle.std.proofs.Common.{ap, map, refl, subst, ◌∙◌, arith}
 use Rattle.std.proofs.lemmas.Bool.{cases_lt}
 use Rattle.wb_lemmas.proofs.Elements.{all_at}
-use Rattle.wb_lemmas.proofs.Members.{contains_at}
 use Rattle.wb_lemmas.proofs.Places.{at_once, at_within}
 use Rattle.wb_base.specs.declared.symbol.Symbol.{Symbol}
 use Rattle.wb_base.specs.declared.symbol.Symbol.TheVariants as symbol

@@ -1,5 +1,5 @@
 -- Rows that keep their places: of sources those that are first and lead are first.
-use Rattle.std.proofs.Common.{◌≡◌, ◌≤◌, ◌<◌, ◌+◌, ◌++◌, ◌∷◌, ◌⊎◌, inl, inr, [], ℕ, zero, suc, List, Some, map, length, slice_get}
+use Rattle.std.proofs.Common.{◌≡◌, ◌≤◌, ◌<◌, ◌++◌, ◌∷◌, ◌⊎◌, inl, inr, [], ℕ, zero, suc, List, Some, map, length, slice_get}
 use Rattle.std.proofs.Common.{ap, refl, sym, subst, ◌∙◌, arith}
 use Rattle.std.proofs.lemmas.Option.{slice_get_within, same_Some}
 use Rattle.wb_lemmas.proofs.Places.{append_keeps, at_within, nothing_at}
@@ -74,7 +74,14 @@ module _ {A B Y : Type 0} (P : A ⊎ B → Type 0) (M : A → Y → Type 0) (W :
       let led = lead_kept P n (sources before declared) grouped.leading grouped.following grouped.splits by_source k (inl x) below source in
       let found = zip_at (IsFrom M W) (grouped.leading ++ grouped.following) rows k (inl x) grouped.are_rows
       (append_keeps grouped.leading grouped.following k (inl x) led) in
-      record { was = x; at = at; row = found.other; there = found.there; moved = found.related; within = slice_get_within grouped.leading k (inl x) led }
+      record {
+        was = x;
+        at = at;
+        row = found.other;
+        there = found.there;
+        moved = found.related;
+        within = slice_get_within grouped.leading k (inl x) led;
+      }
     where
       by_source : (j : ℕ) (z : A ⊎ B) → j < n → slice_get (sources before declared) j ≡ Some z → P z
       by_source j z less at =

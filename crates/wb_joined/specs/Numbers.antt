@@ -22,8 +22,8 @@ pub record StaysFirst (before names : List Entry) (own bound : ℕ) : Type 0 whe
   pub stays : (number : ℕ) → number < own → IsSameEntry before names number
   pub added : (number : ℕ) → own ≤ number → number < bound → IsAdded names number
 
--- the terminals, nonterminals and productions of the host's grammar keep their numbers, and each other one of the grammar with the extension
--- is the extension's own
+-- the terminals, nonterminals and productions of the host's grammar keep their numbers, and each other one of the grammar with the
+-- extension is the extension's own
 pub record KeepsNumbers (host r : ResolvedParts) (host_grammar grammar : GrammarView) : Type 0 where
   pub terminals : StaysFirst (numbering_of host).terminals (numbering_of r).terminals host_grammar.terminals grammar.terminals
   pub nonterminals : StaysFirst (numbering_of host).nonterminals (numbering_of r).nonterminals host_grammar.nonterminals

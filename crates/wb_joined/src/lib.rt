@@ -1,6 +1,9 @@
-//! A certified extension is a piece of a union: what `wb_united` asks of a host and its extensions, of hosts and extensions as they are certified.
+//! A certified extension is a piece of a union: what `wb_united` asks of a host and its extensions holds of those that are certified.
 //!
-//! The definitions are in `specs/`. Each function is a law, whose body is empty.
+//! The definitions are in `specs/`. Each function of `laws` is a law, whose body is empty.
 #![tactic(auto)]
 
+mod extension;
 pub mod laws;
+
+pub use extension::certified_both;
