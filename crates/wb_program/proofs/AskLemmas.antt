@@ -1,14 +1,17 @@
 -- The words of each command ask for it.
-use Rattle.std.proofs.Common.{◌≡◌, ◌≢◌, ℕ, List, [], ◌∷◌, ◌++◌, All, Some, refl, ap, subst, ◌∙◌, arith, length, get_or, map, slice_get, Contains}
-use Rattle.std.proofs.lemmas.List.Elements.{All-nil, All-cons}
+use Rattle.std.proofs.Common.{◌≡◌, ◌≢◌, ℕ, List, [], ◌∷◌, All, refl, subst, arith, length, get_or, Contains}
+use Rattle.std.proofs.Common.{◌≤◌, ◌-◌, take, drop}
+use Rattle.std.proofs.Common.{String, Global, string_bytes}
+use Rattle.std.proofs.lemmas.List.Elements.{All-nil, All-cons, All-head, All-tail, All-map}
 use Rattle.std.proofs.lemmas.Option.{slice_get_within}
 use lib.Chars.{codes}
 use Rattle.wb_lemmas.proofs.Members.{contains_first}
+use Rattle.wb_lemmas.proofs.Parts.{take_to_end}
 use Rattle.wb_base.specs.Different.{Differ}
 use Rattle.wb_program.specs.Asked as a
-use Rattle.wb_program.specs.Words.{IsPositional, Given, IsOptionName, Splits, HasOption, AreOptions, Asks, Show, Check, Tree}
-use Rattle.wb_program.specs.Words.{no_option, apart, joined, says_show, says_check, says_tree}
-use Rattle.wb_program.specs.Inner.Commands.{AreVerbAndFile, IsTextOption}
+use Rattle.wb_program.specs.Words.{texts, IsPositional, Given, IsOptionName, Splits, HasOption, AreOptions, Asks, Show, Check, Certify, Tree}
+use Rattle.wb_program.specs.Words.{no_option, apart, joined, says_show, says_check, says_certify, says_tree}
+use Rattle.wb_program.specs.Inner.Commands.{AreVerbAndFile, AreCertify, IsTextOption}
 
 -- a list of two is its two elements
 pub two : {X : Type 0} (xs : List X) (a b : X) → length xs ≡ 2 → a ≡ get_or xs 0 a → b ≡ get_or xs 1 b → xs ≡ a ∷ b ∷ []
@@ -36,6 +39,15 @@ four (w ∷ x ∷ y ∷ []) a b c d l p q r s = absurd (omega arith)
 four (w ∷ x ∷ y ∷ z ∷ []) a b c d l p q r s = cc
 four (w ∷ x ∷ y ∷ z ∷ v ∷ vs) a b c d l p q r s = absurd (omega arith)
 
+-- a list of two and more is its first two elements and those after them
+pub two_and_more : {X : Type 0} (xs : List X) (a b : X) → 2 ≤ length xs → a ≡ get_or xs 0 a → b ≡ get_or xs 1 b
+    → xs ≡ a ∷ b ∷ take (length xs - 2) (drop 2 xs)
+two_and_more [] a b l p q = absurd (omega arith)
+two_and_more (w ∷ []) a b l p q = absurd (omega arith)
+two_and_more (w ∷ x ∷ xs) a b l p q =
+    let later : take (length (w ∷ x ∷ xs) - 2) (drop 2 (w ∷ x ∷ xs)) ≡ xs = take_to_end 2 (w ∷ x ∷ xs) in
+    cc
+
 -- two words of which the first is another, or the second isn't positional
 pub no_verb : (words : List (List ℕ)) (verb first file : List ℕ) → words ≡ first ∷ file ∷ [] → (first ≡ verb → ¬ IsPositional file)
     → ¬ AreVerbAndFile verb words
@@ -57,6 +69,38 @@ pub asks_check : (words : List (List ℕ)) (host : List ℕ) → words ≡ codes
     → Asks words (a.check host)
 asks_check words host line is =
     record { verb = Check; options = []; rest = host ∷ []; positional = host ∷ []; line = line; splits = alone host is; says = says_check }
+
+-- words are positional where their texts are
+pub positional_words : (words : List (String Global)) → All IsPositional (texts words) → All (λ word. IsPositional (string_bytes word)) words
+positional_words [] all = All-nil (λ (word : String Global). IsPositional (string_bytes word))
+positional_words (word ∷ words) all =
+    All-cons (λ (w : String Global). IsPositional (string_bytes w)) word words
+    (All-head IsPositional (string_bytes word) (texts words) all)
+    (positional_words words (All-tail IsPositional (string_bytes word) (texts words) all))
+
+-- and the other way round
+pub positional_texts : (words : List (String Global)) → All (λ word. IsPositional (string_bytes word)) words → All IsPositional (texts words)
+positional_texts words all = All-map IsPositional string_bytes words all
+
+-- words are the command where they are its verb, a host and extensions, and not where one of these isn't
+pub no_certify : (words : List (List ℕ)) (verb host : List ℕ) (extensions : List (List ℕ)) → words ≡ verb ∷ host ∷ extensions
+    → (verb ≡ codes "certify" → IsPositional host → ¬ All IsPositional extensions) → ¬ AreCertify words
+no_certify words verb host extensions line differs is =
+    let all : AreCertify (verb ∷ host ∷ extensions) = subst AreCertify line is in
+    differs all.0 all.1 all.2
+
+-- `certify HOST EXT..`
+pub asks_certify : (words : List (List ℕ)) (host : List ℕ) (extensions : List (List ℕ)) → words ≡ codes "certify" ∷ host ∷ extensions
+    → IsPositional host → All IsPositional extensions → Asks words (a.certify host extensions)
+asks_certify words host extensions line is all = record {
+  verb = Certify;
+  options = [];
+  rest = host ∷ extensions;
+  positional = host ∷ extensions;
+  line = line;
+  splits = no_option (All-cons IsPositional host extensions is all);
+  says = says_certify;
+}
 
 -- the option `--text` with this value
 abbrev text_given : List ℕ → Given

@@ -7,7 +7,8 @@ use Rattle.wb_small.specs.declared.numbered.SmallSpec.{SmallSpec}
 use Rattle.wb_hosts.specs.Contents.{IsHostText}
 use Rattle.wb_operations.specs.Operations.{OperationSignature}
 use Rattle.wb_resolved.specs.declared.resolved.ResolvedParts.{ResolvedParts}
-use Rattle.wb_program.specs.Asked.{Asked, Read, AreReads, IsBuilt, value_is_built, show_is_built, check_is_built, tree_is_built}
+use Rattle.wb_program.specs.Asked.{Asked, Read, AreReads, IsBuilt, value_is_built, show_is_built, check_is_built}
+use Rattle.wb_program.specs.Asked.{certify_is_built, certify_reads, tree_is_built}
 use Rattle.wb_program.specs.Asked.{value_reads, show_reads, check_reads, tree_reads, file_of, small_host, small_term, certified_host}
 use Rattle.wb_program.specs.Asked.{parsed_text}
 use Rattle.wb_program.specs.Files.{FileIs, KnownFile, KnownAbsent}
@@ -42,7 +43,7 @@ some_certified_file operations None r is = is
 some_certified_file operations (Some contents) r is = (r, is)
 
 -- a file that is a certified host passes
-some_certified : (operations : List OperationSignature) (known : Option Files) (host : List ℕ) (r : ResolvedParts)
+pub some_certified : (operations : List OperationSignature) (known : Option Files) (host : List ℕ) (r : ResolvedParts)
     → KnownFile known host (λ contents. IsHostText operations contents r) → Passes operations known (certified_host host)
 some_certified operations None host r is = tt
 some_certified operations (Some files) host r is = some_certified_file operations (files host) r is
@@ -137,6 +138,7 @@ built_of : (asked : Asked) (reads : List Read) → AreReads asked reads → IsBu
 built_of asked reads value_reads = value_is_built
 built_of asked reads show_reads = show_is_built
 built_of asked reads check_reads = check_is_built
+built_of asked reads (certify_reads few) = certify_is_built
 built_of asked reads tree_reads = tree_is_built
 
 -- words that come to read a file are in the command set
@@ -167,6 +169,14 @@ on_ok (Err e) P Q weaker holds = tt
 pub on_err : {X E : Type 0} (r : Result X E) (P Q : E → Type 0) → ((e : E) → P e → Q e) → IfErr r P → IfErr r Q
 on_err (Ok x) P Q weaker holds = tt
 on_err (Err e) P Q weaker holds = weaker e holds
+
+-- what holds of the answer that there is
+pub ok_of : {X E : Type 0} (r : Result X E) (x : X) (P : X → Type 0) → r ≡ Ok x → IfOk r P → P x
+ok_of {X} {E} r x P same holds = subst (λ (z : Result X E). IfOk z P) same holds
+
+-- what holds of the error that there is
+pub err_of : {X E : Type 0} (r : Result X E) (e : E) (P : E → Type 0) → r ≡ Err e → IfErr r P → P e
+err_of {X} {E} r e P same holds = subst (λ (z : Result X E). IfErr z P) same holds
 
 -- what holds of every answer
 pub of_ok : {X E : Type 0} (r : Result X E) (P : X → Type 0) → ((x : X) → P x) → IfOk r P

@@ -1,7 +1,7 @@
 -- What is made of the file of a host, and of a text in its language, is their report.
-use Rattle.std.proofs.Common.{◌≡◌, ◌<◌, ◌≤◌, inl, inr, ℕ, List, [], Option, Some, None, length, subst, sym, refl}
+use Rattle.std.proofs.Common.{◌≡◌, ◌<◌, inl, inr, ℕ, List, [], Option, Some, None, length, subst, sym, refl}
 use Rattle.wb_base.specs.Grammar.{GrammarView}
-use Rattle.wb_hosts.specs.Contents.{IsHostText, IsHostRefusal}
+use Rattle.wb_hosts.specs.Contents.{IsHostRefusal}
 use Rattle.wb_hosts.specs.declared.refusal.HostRefusal.{HostRefusal}
 use Rattle.wb_hosts.specs.declared.refusal.HostRefusal.TheVariants as h
 use Rattle.wb_operations.specs.Operations.{OperationSignature}
@@ -55,7 +55,7 @@ pub too_long_refused : (operations : List OperationSignature) (contents : List �
 too_long_refused operations contents long = inl (record { refusal = s.TooLong; cause = long; shows = refl })
 
 -- a refused host has the report of its refusal
-refused_checks : (operations : List OperationSignature) (known : Option Files) (file : List ℕ) (rest : ResolvedParts → Report)
+pub refused_checks : (operations : List OperationSignature) (known : Option Files) (file : List ℕ) (rest : ResolvedParts → Report)
     (refusal : HostRefusal) (status : Status) (bytes : List ℕ) → KnownFile known file (λ contents. IsHostRefusal operations contents refusal)
     → RefusedHost file refusal status bytes → HostChecks operations known file rest status bytes
 refused_checks operations known file rest (h.Specification shown) status bytes cause (ends, line) =

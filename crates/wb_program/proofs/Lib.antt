@@ -1,9 +1,11 @@
 mod AskLemmas
 mod CauseLemmas
+mod ExtensionLemmas
 mod HostLemmas
 mod Known
 pub mod OneAsked
 mod OneCheck
+mod OneExtensionReport
 mod OneHostReport
 pub mod OneReport
 mod Pieces

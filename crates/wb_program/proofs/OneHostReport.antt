@@ -1,5 +1,5 @@
 -- Two reports that begin with the checks of a host have one status, and one text where the host is certified.
-use Rattle.std.proofs.Common.{◌≡◌, ◌≢◌, ◌<◌, ◌≤◌, inl, inr, ℕ, List, [], Option, Some, None, length, arith, ap, sym, ◌∙◌, subst, refl}
+use Rattle.std.proofs.Common.{◌≡◌, ◌≢◌, ◌<◌, ◌≤◌, inl, inr, ℕ, List, [], Some, length, arith, ap, sym, ◌∙◌, subst}
 use Rattle.std.proofs.lemmas.Option.{same_Some}
 use Rattle.wb_base.specs.Grammar.{GrammarView}
 use Rattle.wb_hosts.proofs.OneAnswer.{one_answer as one_host}
@@ -29,10 +29,14 @@ use Rattle.wb_program.proofs.OneCheck.{AreOne, on_file, one_check, one_end}
 abbrev pub AreAlike : Status → Status → List ℕ → List ℕ → Type 0
 AreAlike s t bytes others = (s ≡ t) × (s ≢ SpecRefused → s ≢ NotCertified → bytes ≡ others)
 
+-- one report is alike
+pub are_alike : (s t : Status) (bytes others : List ℕ) → AreOne s t bytes others → AreAlike s t bytes others
+are_alike s t bytes others one = (one.0, λ differs other. one.1)
+
 module _ (operations : List OperationSignature) (files : Files) (file : List ℕ) (s t : Status) (bytes others : List ℕ)
     (rest : ResolvedParts → Report)
     (goes_on : (r : ResolvedParts) → FileIs (files file) (λ contents. IsHostText operations contents r) → rest r s bytes → rest r t others
-    → AreOne s t bytes others) where
+    → AreAlike s t bytes others) where
   -- the file is a certified host of this value
   abbrev Certified : ResolvedParts → List ℕ → Type 0
   Certified r contents = IsHostText operations contents r
@@ -64,8 +68,7 @@ module _ (operations : List OperationSignature) (files : Files) (file : List ℕ
   one_host_report (inr (inr (r, is, more))) (inr (inr (q, is', more'))) =
       let same : q ≡ r = on_file (files file) (Certified q) (Certified r) (q ≡ r)
       (λ contents p p'. (one_host operations contents).one q r p p') is' is in
-      let one : AreOne s t bytes others = goes_on r is more (subst (λ (z : ResolvedParts). rest z t others) same more') in
-      (one.0, λ differs other. one.1)
+      goes_on r is more (subst (λ (z : ResolvedParts). rest z t others) same more')
 
 -- two reports of `check`
 pub one_check_report : (operations : List OperationSignature) (files : Files) (host : List ℕ) (s t : Status) (bytes others : List ℕ)
@@ -73,7 +76,8 @@ pub one_check_report : (operations : List OperationSignature) (files : Files) (h
 one_check_report operations files host s t bytes others =
     one_host_report operations files host s t bytes others
     (λ r. Ends Done (λ line. line ≡ report_of (o.Done (done.Certified r.host []))))
-    (λ r is. one_end Done s t bytes others (λ line. line ≡ report_of (o.Done (done.Certified r.host []))) (λ p q. p ∙ sym q))
+    (λ r is x y. are_alike s t bytes others
+    (one_end Done s t bytes others (λ line. line ≡ report_of (o.Done (done.Certified r.host []))) (λ p q. p ∙ sym q) x y))
 
 -- the text has this answer in the language of a host, and the report shows it
 record HasAnswer (r : ResolvedParts) (text : List ℕ) (s : Status) (bytes : List ℕ) : Type 0 where
@@ -121,11 +125,11 @@ pub one_tree_report : (operations : List OperationSignature) (files : Files) (fi
 one_tree_report operations files file host s u bytes others =
     one_host_report operations files host s u bytes others
     (λ r. Check TextTooLong (IsTooLongText (Some files) file) (IsText (Some files) file) (λ (text : List ℕ). TextReport r text))
-    (λ r is. one_check TextTooLong s u bytes others (IsTooLongText (Some files) file) (IsText (Some files) file)
+    (λ r is p q. are_alike s u bytes others (one_check TextTooLong s u bytes others (IsTooLongText (Some files) file) (IsText (Some files) file)
     (λ (text : List ℕ). TextReport r text)
     (λ line text x y. on_file (files file) (λ contents. 1048576 < length contents) (λ contents. contents ≡ text) ⊥
     (λ contents long same. not_both text contents long same y.1) x.long y.0)
     (λ x y. x.line ∙ sym y.line)
     (λ text other x y. on_file (files file) (λ contents. contents ≡ text) (λ contents. contents ≡ other) (text ≡ other)
     (λ contents p q. sym p ∙ q) x.0 y.0)
-    (λ text passes. one_text_report r text s u bytes others))
+    (λ text passes. one_text_report r text s u bytes others) p q))

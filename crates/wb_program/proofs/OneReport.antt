@@ -17,7 +17,8 @@ use Rattle.wb_reader.proofs.Excluding.{none_refused, one_refusal}
 use Rattle.wb_reader.proofs.OneText.{one_text as one_read}
 use Rattle.wb_printer.proofs.CallerLemmas.{one_canonical}
 use Rattle.wb_operations.specs.Operations.{Operations}
-use Rattle.wb_program.specs.Asked.{Asked, IsBuilt, value_is_built, show_is_built, check_is_built, tree_is_built}
+use Rattle.wb_program.specs.Asked.{Asked, IsBuilt, value_is_built, show_is_built, check_is_built}
+use Rattle.wb_program.specs.Asked.{certify_is_built, tree_is_built}
 use Rattle.wb_program.specs.Asked.{HasOneRefusal, value_refuses, show_refuses}
 use Rattle.wb_program.specs.Asked as a
 use Rattle.wb_program.specs.Checks.{Ends}
@@ -26,7 +27,7 @@ use Rattle.wb_program.specs.HostsAndTerms.{IsHost, IsNoHost, IsTerm, IsNoTerm}
 use Rattle.wb_program.specs.Laws.{HaveOneStatus, HaveOneText, EndAsReported}
 use Rattle.wb_program.specs.Lines.{fault_line, value_line, spec_refused_line}
 use Rattle.wb_program.specs.Report.{IsReportOf, IsAnswered, IsReport, value_report, show_report}
-use Rattle.wb_program.specs.Report.{check_report, tree_report}
+use Rattle.wb_program.specs.Report.{check_report, certify_report, tree_report}
 use Rattle.wb_program.specs.ShowReport.{RefusesSpec, ShowReport}
 use Rattle.wb_program.specs.ValueReport.{RefusesHost, RefusesTerm, LacksAttribute, HasFault, NumberReport, AnswerReport, TermReport}
 use Rattle.wb_program.specs.ValueReport.{ValueReport}
@@ -35,6 +36,7 @@ use Rattle.wb_program.specs.declared.status.Status.{Status}
 use Rattle.wb_program.specs.declared.status.Status.TheVariants.{Done, SpecRefused, NotCertified, OperationFault, UnknownAttribute}
 use Rattle.wb_program.proofs.OneAsked.{one_asked}
 use Rattle.wb_program.proofs.OneCheck.{AreOne, on_file, one_check, one_end}
+use Rattle.wb_program.proofs.OneExtensionReport.{ExcludesExtensions, one_certify_report}
 use Rattle.wb_program.proofs.OneHostReport.{AreAlike, one_check_report, one_tree_report}
 
 -- a small host is none that is refused
@@ -165,17 +167,21 @@ when_alike asked s t bytes others may alike =
     (alike.0, λ chosen. elim chosen [ inl differ ↦ alike.1 differ.0 differ.1 | inr is ↦ absurd (may (once asked is)) ])
 
 -- two reports of what is asked are one
-one_report_of : (operations : Operations) (files : Files) (s t : Status) (bytes others : List ℕ) (asked : Asked) → IsReportOf operations
+one_report_of : ExcludesExtensions → (operations : Operations) (files : Files) (s t : Status) (bytes others : List ℕ) (asked : Asked) → IsReportOf operations
     (Some files) s bytes asked →
     IsReportOf operations (Some files) t others asked → AreOneOf asked s t bytes others
-one_report_of operations files s t bytes others asked (value_report {host = host} {term = term} {attribute = attribute} x)
+one_report_of excludes operations files s t bytes others asked (value_report {host = host} {term = term} {attribute = attribute} x)
     (value_report y) =
     when_one (a.value host term attribute) s t bytes others (one_value_report files host term attribute s t bytes others x y)
-one_report_of operations files s t bytes others asked (show_report {file = file} x) (show_report y) =
+one_report_of excludes operations files s t bytes others asked (show_report {file = file} x) (show_report y) =
     when_one (a.show file) s t bytes others (one_show_report files file s t bytes others x y)
-one_report_of operations files s t bytes others asked (check_report {host = host} x) (check_report y) =
+one_report_of excludes operations files s t bytes others asked (check_report {host = host} x) (check_report y) =
     when_alike (a.check host) s t bytes others (λ is. is) (one_check_report operations.signatures files host s t bytes others x y)
-one_report_of operations files s t bytes others asked (tree_report {text = text} {host = host} x) (tree_report y) =
+one_report_of excludes operations files s t bytes others asked (certify_report {host = host} {extensions = extensions} x)
+    (certify_report y) =
+    when_alike (a.certify host extensions) s t bytes others (λ is. is)
+    (one_certify_report excludes operations.signatures files host extensions s t bytes others x y)
+one_report_of excludes operations files s t bytes others asked (tree_report {text = text} {host = host} x) (tree_report y) =
     when_alike (a.tree text host []) s t bytes others (λ is. is) (one_tree_report operations.signatures files text host s t bytes others x y)
 
 -- what has a report is built
@@ -184,6 +190,7 @@ is_built : (operations : Operations) (known : Option Files) (s : Status) (bytes 
 is_built operations known s bytes asked (value_report x) = value_is_built
 is_built operations known s bytes asked (show_report x) = show_is_built
 is_built operations known s bytes asked (check_report x) = check_is_built
+is_built operations known s bytes asked (certify_report x) = certify_is_built
 is_built operations known s bytes asked (tree_report x) = tree_is_built
 
 -- words with a report are in the command set
@@ -197,29 +204,29 @@ abbrev WantsOneText : List (List ℕ) → Status → Type 0
 WantsOneText words s = ((s ≢ SpecRefused) × (s ≢ NotCertified)) ⊎ ((asked : Asked) → Asks words asked → HasOneRefusal asked)
 
 -- two reports of words and files are one
-one_report : (operations : Operations) (words : List (List ℕ)) (files : Files) (s t : Status) (bytes others : List ℕ)
+one_report : ExcludesExtensions → (operations : Operations) (words : List (List ℕ)) (files : Files) (s t : Status) (bytes others : List ℕ)
     → IsReport operations words (Some files) s bytes →
     IsReport operations words (Some files) t others → (s ≡ t) × (WantsOneText words s → bytes ≡ others)
-one_report operations words files s t bytes others (inl x) (inl y) = (x.usage ∙ sym y.usage, λ wants. x.line ∙ sym y.line)
-one_report operations words files s t bytes others (inl x) (inr y) = absurd (x.none_asked (in_set operations (Some files) t others words y))
-one_report operations words files s t bytes others (inr x) (inl y) = absurd (y.none_asked (in_set operations (Some files) s bytes words x))
-one_report operations words files s t bytes others (inr x) (inr y) =
-    let one : AreOneOf x.asked s t bytes others = one_report_of operations files s t bytes others x.asked x.report
+one_report excludes operations words files s t bytes others (inl x) (inl y) = (x.usage ∙ sym y.usage, λ wants. x.line ∙ sym y.line)
+one_report excludes operations words files s t bytes others (inl x) (inr y) = absurd (x.none_asked (in_set operations (Some files) t others words y))
+one_report excludes operations words files s t bytes others (inr x) (inl y) = absurd (y.none_asked (in_set operations (Some files) s bytes words x))
+one_report excludes operations words files s t bytes others (inr x) (inr y) =
+    let one : AreOneOf x.asked s t bytes others = one_report_of excludes operations files s t bytes others x.asked x.report
     (subst (λ (z : Asked). IsReportOf operations (Some files) t others z) (one_asked words y.asked x.asked y.asks x.asks) y.report) in
     (one.0, λ wants. one.1 (elim wants [ inl differ ↦ inl differ | inr once_refused ↦ inr (once_refused x.asked x.asks) ]))
 
 -- words and known files have one status
-pub one_status : HaveOneStatus
-one_status operations words files s t bytes others first second = (one_report operations words files s t bytes others first second).0
+pub one_status : ExcludesExtensions → HaveOneStatus
+one_status excludes operations words files s t bytes others first second = (one_report excludes operations words files s t bytes others first second).0
 
 -- words and known files have one text with a status
-pub one_text : HaveOneText
-one_text operations words files s bytes others chooses first second =
-    (one_report operations words files s s bytes others first second).1 chooses
+pub one_text : ExcludesExtensions → HaveOneText
+one_text excludes operations words files s bytes others chooses first second =
+    (one_report excludes operations words files s s bytes others first second).1 chooses
 
 -- a run ends with the status of the one report, if it has one
-pub end_as_reported : EndAsReported
-end_as_reported operations words files status end bytes before now report (inl nothing) = inr (inr nothing.0)
-end_as_reported operations words files status end bytes before now report (inr (inl fault)) = inr (inl fault.0)
-end_as_reported operations words files status end bytes before now report (inr (inr whole)) =
-    inl (one_status operations words files end status whole.bytes bytes whole.report report)
+pub end_as_reported : ExcludesExtensions → EndAsReported
+end_as_reported excludes operations words files status end bytes before now report (inl nothing) = inr (inr nothing.0)
+end_as_reported excludes operations words files status end bytes before now report (inr (inl fault)) = inr (inl fault.0)
+end_as_reported excludes operations words files status end bytes before now report (inr (inr whole)) =
+    inl (one_status excludes operations words files end status whole.bytes bytes whole.report report)

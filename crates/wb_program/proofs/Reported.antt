@@ -1,5 +1,5 @@
 -- A report has a status with which it is written whole.
-use Rattle.std.proofs.Common.{◌≡◌, ◌⊎◌, inl, inr, ℕ, Option, List, [], subst, sym}
+use Rattle.std.proofs.Common.{◌≡◌, ◌⊎◌, inl, inr, ℕ, Option, List, [], ◌∷◌, ◌++◌, subst, sym}
 use Rattle.wb_world.specs.Shelf.{Files}
 use Rattle.wb_operations.specs.Operations.{OperationSignature}
 use Rattle.wb_report.specs.Lines.{report_of}
@@ -7,6 +7,7 @@ use Rattle.wb_report.specs.declared.done.Done.TheVariants as done
 use Rattle.wb_report.specs.declared.outcome.Outcome.TheVariants as o
 use Rattle.wb_resolved.specs.declared.resolved.ResolvedParts.{ResolvedParts}
 use Rattle.wb_program.specs.Checks.{Report, Ends, Check}
+use Rattle.wb_program.specs.CertifyReport.{ExtensionsReport, CertifyReport}
 use Rattle.wb_program.specs.CheckReport.{HostChecks, CheckReport}
 use Rattle.wb_eval.specs.declared.answer.SmallAnswer.TheVariants.{Value}
 use Rattle.wb_eval.specs.Answer.{IsAnswer}
@@ -23,7 +24,7 @@ use Rattle.wb_program.specs.ValueReport.{ValueReport}
 use Rattle.wb_program.specs.Written.{WritesNothing}
 use Rattle.wb_program.specs.declared.status.Status.{Status}
 use Rattle.wb_program.specs.declared.status.Status.TheVariants.{Done, SpecRefused, OperationFault, UnknownAttribute}
-use Rattle.wb_program.specs.declared.status.Status.TheVariants.{NotCertified, TextStopped, TextTooLong, TooLongToPrint, WriteFault}
+use Rattle.wb_program.specs.declared.status.Status.TheVariants.{NotCertified, TextStopped, TextTooLong, TooLongToPrint, TooManyExtensions, WrongHost, WriteFault}
 
 -- a status of a report that is written whole
 abbrev IsReported : Status → Type 0
@@ -77,6 +78,18 @@ long_tree (inl (inr (inl is))) = absurd (cc)
 long_tree (inl (inr (inr is))) = absurd (cc)
 long_tree (inr is) = absurd (cc)
 
+too_many : IsReported TooManyExtensions
+too_many (inl (inl is)) = absurd (cc)
+too_many (inl (inr (inl is))) = absurd (cc)
+too_many (inl (inr (inr is))) = absurd (cc)
+too_many (inr is) = absurd (cc)
+
+wrong_host : IsReported WrongHost
+wrong_host (inl (inl is)) = absurd (cc)
+wrong_host (inl (inr (inl is))) = absurd (cc)
+wrong_host (inl (inr (inr is))) = absurd (cc)
+wrong_host (inr is) = absurd (cc)
+
 -- a check with such a status, and a rest with one
 by_check : {X : Type 0} (ending s : Status) (bytes : List ℕ) (Line : List ℕ → Type 0) (Passes : X → Type 0) (rest : X → Report) →
     IsReported ending
@@ -121,6 +134,25 @@ pub check_reported : (operations : List OperationSignature) (known : Option File
 check_reported operations known host s bytes =
     by_host operations known host (λ r. Ends Done (λ line. line ≡ report_of (o.Done (done.Certified r.host [])))) s bytes
     (λ r. by_end Done s bytes (λ line. line ≡ report_of (o.Done (done.Certified r.host []))) is_done)
+
+-- a report of extensions
+extensions_reported : (operations : List OperationSignature) (known : Option Files) (host : ResolvedParts) (files names : List (List ℕ))
+    (s : Status) (bytes : List ℕ) → ExtensionsReport operations known host files names s bytes → IsReported s
+extensions_reported operations known host [] names s bytes (same, line) = subst IsReported (sym same) is_done
+extensions_reported operations known host (file ∷ files) names s bytes (inl (same, line)) = subst IsReported (sym same) is_refused
+extensions_reported operations known host (file ∷ files) names s bytes (inr (inl (same, line))) = subst IsReported (sym same) wrong_host
+extensions_reported operations known host (file ∷ files) names s bytes (inr (inr (inl (same, line)))) =
+    subst IsReported (sym same) not_certified
+extensions_reported operations known host (file ∷ files) names s bytes (inr (inr (inr (name, is, more)))) =
+    extensions_reported operations known host files (names ++ name ∷ []) s bytes more
+
+-- a report of `certify`
+pub certify_reported : (operations : List OperationSignature) (known : Option Files) (host : List ℕ) (extensions : List (List ℕ))
+    (s : Status) (bytes : List ℕ) → CertifyReport operations known host extensions s bytes → IsReported s
+certify_reported operations known host extensions s bytes (inl (same, line)) = subst IsReported (sym same) too_many
+certify_reported operations known host extensions s bytes (inr (few, report)) =
+    by_host operations known host (λ r. ExtensionsReport operations known r extensions []) s bytes
+    (λ r. extensions_reported operations known r extensions [] s bytes) report
 
 -- a report of a text
 text_reported : (r : ResolvedParts) (text : List ℕ) (s : Status) (bytes : List ℕ) → TextReport r text s bytes → IsReported s

@@ -1,15 +1,15 @@
 -- Words that are none of the commands that are built ask for none.
-use Rattle.std.proofs.Common.{◌≡◌, ◌≢◌, inl, inr, ℕ, zero, suc, List, [], ◌∷◌, ◌++◌, All, Option, Some, None, IfNone, subst, sym, ap, refl, ◌∙◌, map, slice_get}
+use Rattle.std.proofs.Common.{◌≡◌, inl, inr, ℕ, zero, suc, List, [], ◌∷◌, ◌++◌, All, Option, Some, None, IfNone, subst, sym, ap, refl, ◌∙◌, slice_get}
 use Rattle.std.proofs.Common.{arith, Contains}
 use Rattle.std.proofs.lemmas.List.Elements.{All-head, All-tail}
 use Rattle.std.proofs.lemmas.Option.{slice_get_within, same_Some}
 use lib.Chars.{codes}
 use Rattle.wb_lemmas.proofs.Members.{contains_one}
-use Rattle.wb_base.specs.Different.{Differ}
-use Rattle.wb_program.specs.Asked.{Asked, IsBuilt, value_is_built, show_is_built, check_is_built, tree_is_built}
-use Rattle.wb_program.specs.Words.{IsPositional, Given, Splits, HasOption, AreOptions, Verb, verb_text, Value, Show, Check, Tree, Says}
-use Rattle.wb_program.specs.Words.{InCommandSet, no_option, apart, joined, says_value, says_show, says_check, says_tree}
-use Rattle.wb_program.specs.Inner.Commands.{AreValue, AreVerbAndFile, AreTreeApart, AreTreeJoined, AreCommand}
+use Rattle.wb_program.specs.Asked.{Asked, IsBuilt, value_is_built, show_is_built, check_is_built, certify_is_built, tree_is_built}
+use Rattle.wb_program.specs.Words.{IsPositional, Given, Splits, HasOption, AreOptions, Verb, verb_text, Value, Show, Check, Certify, Says}
+use Rattle.wb_program.specs.Words.{InCommandSet, no_option, apart, joined, says_value, says_show, says_check}
+use Rattle.wb_program.specs.Words.{says_certify, says_tree}
+use Rattle.wb_program.specs.Inner.Commands.{AreValue, AreVerbAndFile, AreCertify, AreTreeApart, AreTreeJoined, AreCommand}
 
 -- without options all words are positional
 split_words : (words rest : List (List ℕ)) → Splits words [] rest → (words ≡ rest) × All IsPositional words
@@ -68,11 +68,11 @@ one_option (o ∷ p ∷ os) name value are has =
 tree_words : (words rest : List (List ℕ)) (text host : List ℕ) → IsSplitOne rest (given (codes "text") text) (host ∷ [])
     → words ≡ codes "tree" ∷ rest → AreCommand words
 tree_words words rest text host (in_two is value all) line =
-    inr (inr (inr (inl (subst AreTreeApart (sym (line ∙ ap (λ (ws : List (List ℕ)). codes "tree" ∷ ws) is))
-    (refl, refl, value, All-head IsPositional host [] all)))))
+    inr (inr (inr (inr (inl (subst AreTreeApart (sym (line ∙ ap (λ (ws : List (List ℕ)). codes "tree" ∷ ws) is))
+    (refl, refl, value, All-head IsPositional host [] all))))))
 tree_words words rest text host (in_one is value all) line =
-    inr (inr (inr (inr (subst AreTreeJoined (sym (line ∙ ap (λ (ws : List (List ℕ)). codes "tree" ∷ ws) is))
-    (refl, (text, (refl, value)), All-head IsPositional host [] all)))))
+    inr (inr (inr (inr (inr (subst AreTreeJoined (sym (line ∙ ap (λ (ws : List (List ℕ)). codes "tree" ∷ ws) is))
+    (refl, (text, (refl, value)), All-head IsPositional host [] all))))))
 
 -- what is built is one of these, by what is said of it
 said : (words : List (List ℕ)) (verb : Verb) (options : List Given) (rest later : List (List ℕ)) (asked : Asked) → IsBuilt asked →
@@ -99,6 +99,11 @@ said words verb options rest later asked check_is_built (says_check {host = host
     let every : All IsPositional (host ∷ []) = subst (All IsPositional) same all in
     inr (inr (inl (subst (AreVerbAndFile (codes "check")) (sym (line ∙ ap (λ ws. verb_text Check ∷ ws) same))
     (refl, All-head IsPositional host [] every))))
+said words verb options rest later asked certify_is_built (says_certify {host = host} {extensions = extensions}) splits line =
+    let (same, all) = split_words rest (host ∷ extensions) splits in
+    let every : All IsPositional (host ∷ extensions) = subst (All IsPositional) same all in
+    inr (inr (inr (inl (subst AreCertify (sym (line ∙ ap (λ ws. verb_text Certify ∷ ws) same))
+    (refl, All-head IsPositional host extensions every, All-tail IsPositional host extensions every)))))
 said words verb options rest later asked tree_is_built (says_tree {text = text} {host = host} are has) splits line =
     tree_words words rest text host
     (split_one rest options (given (codes "text") text) (host ∷ []) (one_option options (codes "text") text are has) splits) line

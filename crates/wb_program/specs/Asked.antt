@@ -1,5 +1,5 @@
 -- What a user asks of the program: a command with what it needs. Files and names are texts of bytes.
-use Rattle.std.specs.Prelude.{ℕ, List, [], ◌∷◌}
+use Rattle.std.specs.Prelude.{ℕ, List, [], ◌∷◌, ◌≤◌, length, map}
 
 -- what is asked, one variant a command
 pub data Asked : Type 0 where
@@ -25,6 +25,7 @@ pub data IsBuilt : Asked → Type 0 where
   value_is_built : {host term attribute : List ℕ} → IsBuilt (value host term attribute)
   show_is_built : {file : List ℕ} → IsBuilt (show file)
   check_is_built : {host : List ℕ} → IsBuilt (check host)
+  certify_is_built : {host : List ℕ} {extensions : List (List ℕ)} → IsBuilt (certify host extensions)
   -- of a host without extensions
   tree_is_built : {text host : List ℕ} → IsBuilt (tree text host [])
 
@@ -34,6 +35,8 @@ pub data Read : Type 0 where
   specification : List ℕ → Read
   -- a host that is certified
   certified_host : List ℕ → Read
+  -- an extension that is certified beside the host of a file
+  certified_extension : (host : List ℕ) → List ℕ → Read
   -- a text that is parsed
   parsed_text : List ℕ → Read
   -- a small host
@@ -45,6 +48,7 @@ pub data Read : Type 0 where
 abbrev pub file_of : Read → List ℕ
 file_of (specification file) = file
 file_of (certified_host file) = file
+file_of (certified_extension host file) = file
 file_of (parsed_text file) = file
 file_of (small_host file) = file
 file_of (small_term file) = file
@@ -54,6 +58,9 @@ pub data AreReads : Asked → List Read → Type 0 where
   value_reads : {host term attribute : List ℕ} → AreReads (value host term attribute) (small_host host ∷ small_term term ∷ [])
   show_reads : {file : List ℕ} → AreReads (show file) (specification file ∷ [])
   check_reads : {host : List ℕ} → AreReads (check host) (certified_host host ∷ [])
+  -- none where there are too many extensions
+  certify_reads : {host : List ℕ} {extensions : List (List ℕ)} → length extensions ≤ 64
+      → AreReads (certify host extensions) (certified_host host ∷ map (certified_extension host) extensions)
   tree_reads : {text host : List ℕ} → AreReads (tree text host []) (certified_host host ∷ parsed_text text ∷ [])
 
 -- each refusal of the command has one text; the others may show any true example

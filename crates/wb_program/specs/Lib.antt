@@ -18,6 +18,8 @@ pub mod ValueReport
 pub mod ShowReport
 -- the report of `check`
 pub mod CheckReport
+-- the report of `certify`
+pub mod CertifyReport
 -- the report of `tree`
 pub mod TreeReport
 -- the report of words and files

@@ -2,20 +2,29 @@
 use Rattle.std.specs.Prelude.{◌⊎◌, ℕ, Option, List, [], ◌∷◌}
 use Rattle.wb_world.specs.Cause.{Rose}
 use Rattle.wb_world.specs.Shelf.{Files}
+use Rattle.wb_extension_files.specs.Contents.{IsExtensionText}
 use Rattle.wb_hosts.specs.Contents.{IsHostText}
 use Rattle.wb_operations.specs.Operations.{OperationSignature}
 use Rattle.wb_resolved.specs.declared.resolved.ResolvedParts.{ResolvedParts}
 use Rattle.wb_small.specs.declared.numbered.SmallSpec.{SmallSpec}
 use Rattle.wb_program.specs.Asked.{Asked, Read, file_of, AreReads}
-use Rattle.wb_program.specs.Asked.{specification, certified_host, parsed_text, small_host, small_term}
+use Rattle.wb_program.specs.Asked.{specification, certified_host, certified_extension, parsed_text, small_host, small_term}
 use Rattle.wb_program.specs.Files.{KnownFile, KnownAbsent}
 use Rattle.wb_program.specs.HostsAndTerms.{IsHost}
 use Rattle.wb_program.specs.Words.{Asks}
+
+-- the file is an extension that is certified beside the host of another file
+pub record IsCertifiedBesideFile (operations : List OperationSignature) (known : Option Files) (host file : List ℕ) : Type 0 where
+  pub beside : ResolvedParts
+  pub is_host : KnownFile known host (λ contents. IsHostText operations contents beside)
+  pub value : ResolvedParts
+  pub is_extension : KnownFile known file (λ contents. IsExtensionText beside operations contents value)
 
 -- the file passes its checks, so that the next one is read
 abbrev pub Passes : List OperationSignature → Option Files → Read → Type 0
 Passes operations known (specification file) = Unit {0}
 Passes operations known (certified_host file) = KnownFile known file (λ contents. (r : ResolvedParts) × IsHostText operations contents r)
+Passes operations known (certified_extension host file) = IsCertifiedBesideFile operations known host file
 Passes operations known (parsed_text file) = Unit {0}
 Passes operations known (small_host file) = KnownFile known file (λ contents. (spec : SmallSpec) × IsHost spec contents)
 Passes operations known (small_term file) = Unit {0}

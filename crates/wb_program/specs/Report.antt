@@ -4,6 +4,7 @@ use Rattle.wb_world.specs.Shelf.{Files}
 use Rattle.wb_operations.specs.Operations.{Operations}
 use Rattle.wb_program.specs.Asked.{Asked}
 use Rattle.wb_program.specs.Asked as a
+use Rattle.wb_program.specs.CertifyReport.{CertifyReport}
 use Rattle.wb_program.specs.CheckReport.{CheckReport}
 use Rattle.wb_program.specs.Lines.{usage_line}
 use Rattle.wb_program.specs.ShowReport.{ShowReport}
@@ -20,6 +21,8 @@ pub data IsReportOf (operations : Operations) (known : Option Files) (status : S
   show_report : {file : List ℕ} → ShowReport known file status bytes → IsReportOf operations known status bytes (a.show file)
   check_report : {host : List ℕ} → CheckReport operations.signatures known host status bytes
       → IsReportOf operations known status bytes (a.check host)
+  certify_report : {host : List ℕ} {extensions : List (List ℕ)} → CertifyReport operations.signatures known host extensions status bytes
+      → IsReportOf operations known status bytes (a.certify host extensions)
   tree_report : {text host : List ℕ} → TreeReport operations.signatures known text host status bytes
       → IsReportOf operations known status bytes (a.tree text host [])
 

@@ -2,7 +2,7 @@
 use Rattle.std.specs.Prelude.{ℕ}
 use Rattle.wb_program.specs.declared.status.Status.{Status}
 use Rattle.wb_program.specs.declared.status.Status.TheVariants.{Done, Usage, SpecRefused, OperationFault, UnknownAttribute}
-use Rattle.wb_program.specs.declared.status.Status.TheVariants.{NotCertified, TextStopped, TextTooLong, TooLongToPrint}
+use Rattle.wb_program.specs.declared.status.Status.TheVariants.{NotCertified, TextStopped, TextTooLong, TooLongToPrint, TooManyExtensions, WrongHost}
 use Rattle.wb_program.specs.declared.status.Status.TheVariants.{Absent, ReadFault, WriteFault, NoMemory}
 
 -- the number that a process with this status ends with
@@ -19,4 +19,6 @@ number_of WriteFault = 10
 number_of NoMemory = 11
 number_of TextTooLong = 12
 number_of TooLongToPrint = 13
+number_of TooManyExtensions = 14
+number_of WrongHost = 16
 number_of UnknownAttribute = 17

@@ -52,6 +52,7 @@ pub(crate) fn certified_of<S: Shelf, M: Meaning>(
     operations: &OperationTable<M>,
 ) -> Result<Result<CertifiedHost, HostRefusal>, ReadFailure>
     ensures ok { IfOk result (λ read. IfOk read (λ host. IsHostFile operations.now.signatures (S.files shelf.old) file.now host.resolved)) }
+    ensures operations { IfOk result (λ read. IfOk read (λ host. host.operations ≡ operations.now.signatures)) }
     ensures refused { IfOk result (λ read. IfErr read (λ refusal. KnownFile (S.files shelf.old) file.now (λ contents. IsHostRefusal operations.now.signatures contents refusal))) }
     ensures stopped { IfErr result (Stopped (outside (S.files shelf.old) (S.absences shelf.old) (S.faults shelf.old))
         (outside (S.files shelf.new) (S.absences shelf.new) (S.faults shelf.new)) (λ P. P file.now)) }
@@ -69,6 +70,7 @@ fn host_in<M: Meaning>(
     operations: &OperationTable<M>,
 ) -> Result<CertifiedHost, HostRefusal>
     ensures certified { IfOk result (λ host. IsCertifiedValue host.resolved operations.now.signatures) }
+    ensures operations { IfOk result (λ host. host.operations ≡ operations.now.signatures) }
     ensures ok { IfOk result (λ host. ReadIs contents (λ bytes. IsHostText operations.now.signatures bytes host.resolved)) }
     ensures refused { IfErr result (λ refusal. ReadIs contents (λ bytes. IsHostRefusal operations.now.signatures bytes refusal)) }
 {

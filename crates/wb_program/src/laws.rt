@@ -13,18 +13,24 @@ pub fn one_asked_law()
 /// Words and files have at most one status that is reported.
 pub fn one_status_law()
     ensures { HaveOneStatus }
-{}
+{
+    wb_extension_files::one_answer_law();
+}
 
 /// Words and files have at most one text with a status, but where a refusal may show any true example.
 pub fn one_text_law()
     ensures { HaveOneText }
-{}
+{
+    wb_extension_files::one_answer_law();
+}
 
 /// Where words and known files have a report, a run ends with its status: with 0 where everything is in order. Else it ends at a file or
 /// at the output, or for want of memory.
 pub fn complete_law()
     ensures { EndAsReported }
-{}
+{
+    wb_extension_files::one_answer_law();
+}
 
 /// The canonical text of a specification is read as the same one but for places, and is the one canonical text of that, so that
 /// it is shown as it is. Where it is too long, it is refused for that, and for nothing else.

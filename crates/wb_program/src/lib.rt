@@ -4,6 +4,7 @@
 #![tactic(auto)]
 
 mod answer;
+mod certify;
 mod check;
 mod hosts_and_terms;
 mod laws;

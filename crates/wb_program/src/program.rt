@@ -12,6 +12,7 @@ ghost use Rattle.wb_program.specs.Written.{WritesNothing, Wrote};
 ghost use Rattle.wb_program.specs.Inner.Stopped.{outside, Stopped, GoesOn};
 
 use crate::answer::{Answer, answer_value, usage};
+use crate::certify::answer_certify;
 use crate::check::answer_check;
 use crate::reading::ReadFailure;
 use crate::show::answer_show;
@@ -26,7 +27,7 @@ use wb_world::{Shelf, Sink};
 
 /// All that the program does: reads the words as a command, reads the files that they name, and writes the report.
 ///
-/// Equations may name the operations of the table. `check` and `tree` hold the equations of a host against their signatures, `value` knows
+/// Equations may name the operations of the table. `check`, `certify` and `tree` hold the equations of a host against their signatures, `value` knows
 /// `add` alone, and no command that is built calls one.
 ///
 /// The whole report is made before its first byte is written. Want of memory may come at any step before
@@ -95,6 +96,9 @@ fn answer<S: Shelf, M: Meaning>(
         ) => answer_value(alloc, shelf, host, term, attribute),
         Some(Command::Show { file }) => answer_show(alloc, shelf, file),
         Some(Command::Check { host }) => answer_check(alloc, shelf, host, operations),
+        Some(Command::Certify { host, extensions }) => {
+            answer_certify(alloc, shelf, host, extensions, operations)
+        }
         Some(Command::Tree { text, host }) => answer_tree(alloc, shelf, text, host, operations),
         None => Ok(usage(alloc)?),
     }

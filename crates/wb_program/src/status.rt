@@ -32,6 +32,10 @@ pub enum Status {
     TextTooLong = 12,
     /// The printed tree has more bytes than are printed.
     TooLongToPrint = 13,
+    /// The words name too many extensions.
+    TooManyExtensions = 14,
+    /// An extension is for another host.
+    WrongHost = 16,
     /// No attribute of that name occurs on the root of the term.
     UnknownAttribute = 17,
 }

@@ -2,9 +2,9 @@
 //!
 //! Commands that aren't built are usage errors until they are. What each of all commands asks is in `specs/Words`.
 
-ghost use Rattle.std.specs.Prelude.{◌≡◌, ◌↔◌, IsTrue, IfSome, IfNone, List, ℕ, [], ◌∷◌};
+ghost use Rattle.std.specs.Prelude.{◌≡◌, ◌↔◌, IsTrue, IfSome, IfNone, List, ℕ, [], ◌∷◌, All, string_bytes};
 ghost use Rattle.wb_program.specs.Words.{texts, IsPositional, Asks, InCommandSet};
-ghost use Rattle.wb_program.specs.Inner.Commands.{asked_by, AreValue, AreVerbAndFile, AreTreeApart, AreTreeJoined, IsTextOption};
+ghost use Rattle.wb_program.specs.Inner.Commands.{asked_by, AreValue, AreVerbAndFile, AreCertify, AreTreeApart, AreTreeJoined, IsTextOption};
 
 // A command with its words.
 #[derive(Clone, Copy)]
@@ -19,6 +19,10 @@ pub(crate) enum Command<'a> {
     },
     Check {
         host: &'a str,
+    },
+    Certify {
+        host: &'a str,
+        extensions: &'a [String],
     },
     Tree {
         text: &'a str,
@@ -39,6 +43,9 @@ pub(crate) fn command_of(words: &[String]) -> Option<Command<'_>>
     }
     if let Some(host) = file_of(words, "check") {
         return Some(Command::Check { host });
+    }
+    if let Some(command) = certify_of(words) {
+        return Some(command);
     }
     match tree_apart(words) {
         Some(command) => Some(command),
@@ -89,6 +96,29 @@ fn file_of<'a>(words: &'a [String], verb: &str) -> Option<&'a str>
     } else {
         None
     }
+}
+
+// The words as `certify HOST EXT..`.
+fn certify_of(words: &[String]) -> Option<Command<'_>>
+    ensures some { IfSome result (λ command. Asks (texts words.now) (asked_by command)) }
+    ensures none { IfNone result (¬ AreCertify (texts words.now)) }
+{
+    let [verb, host, extensions @ ..] = words else {
+        return None;
+    };
+    let host = host.as_str();
+    if verb.as_str() == "certify" && is_positional(host) && are_positional(extensions) {
+        Some(Command::Certify { host, extensions })
+    } else {
+        None
+    }
+}
+
+// Whether each word can be a file.
+fn are_positional(words: &[String]) -> bool
+    ensures { IsTrue result ↔ All (λ word. IsPositional (string_bytes word)) words.now }
+{
+    words.iter().all(|word| is_positional(word.as_str()))
 }
 
 // The words as `tree --text FILE HOST`.

@@ -5,6 +5,8 @@
 #![tactic(auto)]
 
 #[cfg(test)]
+mod certify;
+#[cfg(test)]
 mod check;
 #[cfg(test)]
 mod prefixes;

@@ -171,7 +171,9 @@ fn words_that_ask_for_nothing_built_are_usage_errors(rt: HostRuntime) -> Result<
         "tree --text t --text t h",
         "tree --texts t h",
         "tree --text t h e", // with extensions not built yet
-        "certify h t",
+        "certify",
+        "certify h -x",
+        "certify --text t h",
         "compose h",
         "run --text t --attr=value h",
         "generate --number 0 --size 1 --attr a h",

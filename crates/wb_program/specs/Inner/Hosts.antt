@@ -1,7 +1,7 @@
 -- What is made of the file of a certified host, and of a text in its language.
 use Rattle.std.specs.Prelude.{◌≡◌, ◌<◌, ℕ, Option, List, length}
 use Rattle.wb_certify.specs.Hosts.{IsCertifiedValue}
-use Rattle.wb_hosts.specs.Contents.{IsHostText, IsHostRefusal}
+use Rattle.wb_hosts.specs.Contents.{IsHostText}
 use Rattle.wb_hosts.specs.declared.refusal.HostRefusal.{HostRefusal}
 use Rattle.wb_hosts.specs.declared.refusal.HostRefusal.TheVariants as h
 use Rattle.wb_operations.specs.Operations.{OperationSignature}

@@ -2,4 +2,4 @@ use Rattle.wb_program.proofs.OneReport.{end_as_reported}
 use Rattle.wb_program.proofs.laws.complete_law.Goals as goal
 
 pub returns : goal.returns
-returns c = end_as_reported
+returns c = end_as_reported c.one_answer_law.ensures

@@ -2,4 +2,4 @@ use Rattle.wb_program.proofs.OneReport.{one_status}
 use Rattle.wb_program.proofs.laws.one_status_law.Goals as goal
 
 pub returns : goal.returns
-returns c = one_status
+returns c = one_status c.one_answer_law.ensures

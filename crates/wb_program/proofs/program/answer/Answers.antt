@@ -3,19 +3,22 @@ use Rattle.std.proofs.Common.{rules, ◌≡◌, ◌≢◌, [], ◌∷◌, inl, i
 use Rattle.wb_program.specs.Asked as a
 use Rattle.wb_program.specs.Asked.{small_host, small_term, specification, certified_host, parsed_text}
 use Rattle.wb_program.specs.Asked.{value_reads, show_reads, check_reads, tree_reads}
-use Rattle.wb_program.specs.Asked.{value_is_built, show_is_built, check_is_built, tree_is_built}
+use Rattle.wb_program.specs.Asked.{value_is_built, show_is_built, check_is_built, certify_is_built, tree_is_built}
+use Rattle.wb_program.specs.CertifyReport.{CertifyReport}
 use Rattle.wb_program.specs.CheckReport.{CheckReport}
-use Rattle.wb_program.specs.Report.{IsReport, value_report, show_report, check_report, tree_report}
+use Rattle.wb_program.specs.Report.{IsReport, value_report, show_report, check_report, certify_report, tree_report}
 use Rattle.wb_program.specs.Reads.{StopsAt, ComesTo}
 use Rattle.wb_program.specs.ShowReport.{ShowReport}
 use Rattle.wb_program.specs.TreeReport.{TreeReport}
 use Rattle.wb_program.specs.ValueReport.{ValueReport}
 use Rattle.wb_program.specs.Words.{texts, Asks, InCommandSet}
+use Rattle.wb_program.specs.Inner.Extensions.{CertifyStops}
 use Rattle.wb_program.specs.Inner.Stopped.{outside, Stopped}
 use Rattle.wb_program.specs.Written.{WritesNothing}
 use Rattle.wb_program.specs.declared.status.Status.TheVariants.{Usage, WriteFault}
 use Rattle.wb_program.specs.declared.reading.ReadFailure.TheVariants.{NoMemory}
-use Rattle.wb_program.proofs.Reported.{value_reported, show_reported, check_reported, tree_reported}
+use Rattle.wb_program.proofs.Reported.{value_reported, show_reported, check_reported, certify_reported, tree_reported}
+use Rattle.wb_program.proofs.ExtensionLemmas.{certify_comes_to, certify_no_usage}
 use Rattle.wb_program.proofs.CauseLemmas.{comes_to, on_ok, on_err, of_ok, of_err}
 use Rattle.wb_program.proofs.program.answer.Goals as goal
 
@@ -201,6 +204,70 @@ returns-in-Some-Check-clause-finishes g c =
     answer.status
     answer.report.items report (inr fault))
     c.answer_check.ensures.ok
+
+pub returns-in-Some-Certify-clause-ok : goal.returns-in-Some-Certify-clause-ok
+returns-in-Some-Certify-clause-ok g c =
+    let asks : Asks (texts c.args.words.now) (a.certify c.in-Some-Certify.host.now (texts c.in-Some-Certify.extensions.now)) = search rules in
+    on_ok c.answer_certify.result (λ answer. CertifyReport c.args.operations.now.signatures
+    (g.S.Shelf.files c.args.shelf.now) c.in-Some-Certify.host.now (texts c.in-Some-Certify.extensions.now) answer.status answer.report.items)
+    (λ answer. IsReport (record { signatures = c.args.operations.now.signatures; meaning = g.M.Meaning.meaning }) (texts c.args.words.now)
+    (g.S.Shelf.files c.args.shelf.now) answer.status answer.report.items)
+    (λ answer report. inr (record { asked = a.certify c.in-Some-Certify.host.now (texts c.in-Some-Certify.extensions.now); asks = asks; report = certify_report report }))
+    c.answer_certify.ensures.ok
+
+pub returns-in-Some-Certify-clause-stopped : goal.returns-in-Some-Certify-clause-stopped
+returns-in-Some-Certify-clause-stopped g c =
+    let before = outside (g.S.Shelf.files c.args.shelf.now) (g.S.Shelf.absences c.args.shelf.now) (g.S.Shelf.faults c.args.shelf.now) in
+    let now = outside (g.S.Shelf.files c.answer_certify.new.shelf) (g.S.Shelf.absences c.answer_certify.new.shelf)
+    (g.S.Shelf.faults c.answer_certify.new.shelf) in
+    let asks : Asks (texts c.args.words.now) (a.certify c.in-Some-Certify.host.now (texts c.in-Some-Certify.extensions.now)) = search rules in
+    on_err c.answer_certify.result (Stopped before now
+    (CertifyStops c.args.operations.now.signatures (g.S.Shelf.files c.args.shelf.now) c.in-Some-Certify.host.now (texts c.in-Some-Certify.extensions.now)))
+    (Stopped before now (ComesTo c.args.operations.now.signatures (texts c.args.words.now) (g.S.Shelf.files c.args.shelf.now)))
+    (λ failure. certify_comes_to c.args.operations.now.signatures before now (texts c.args.words.now) c.in-Some-Certify.host.now
+    (texts c.in-Some-Certify.extensions.now) failure asks)
+    c.answer_certify.ensures.stopped
+
+pub returns-in-Some-Certify-clause-usage : goal.returns-in-Some-Certify-clause-usage
+returns-in-Some-Certify-clause-usage g c =
+    on_ok c.answer_certify.result (λ answer. CertifyReport c.args.operations.now.signatures
+    (g.S.Shelf.files c.args.shelf.now) c.in-Some-Certify.host.now (texts c.in-Some-Certify.extensions.now) answer.status answer.report.items)
+    (λ answer. answer.status ≡ Usage → ¬ InCommandSet (texts c.args.words.now))
+    (λ answer report usage. absurd (certify_no_usage c.args.operations.now.signatures (g.S.Shelf.files c.args.shelf.now)
+    c.in-Some-Certify.host.now (texts c.in-Some-Certify.extensions.now) answer.status answer.report.items report usage))
+    c.answer_certify.ensures.ok
+
+pub returns-in-Some-Certify-clause-only_usage : goal.returns-in-Some-Certify-clause-only_usage
+returns-in-Some-Certify-clause-only_usage g c =
+    let asks : Asks (texts c.args.words.now) (a.certify c.in-Some-Certify.host.now (texts c.in-Some-Certify.extensions.now)) = search rules in
+    of_ok c.answer_certify.result (λ answer. ¬ InCommandSet (texts c.args.words.now) → answer.status ≡ Usage)
+    (λ answer none_asked. absurd (none_asked (record { asked = a.certify c.in-Some-Certify.host.now (texts c.in-Some-Certify.extensions.now); asks = asks; built = certify_is_built })))
+
+pub returns-in-Some-Certify-clause-asked : goal.returns-in-Some-Certify-clause-asked
+returns-in-Some-Certify-clause-asked g c =
+    let asks : Asks (texts c.args.words.now) (a.certify c.in-Some-Certify.host.now (texts c.in-Some-Certify.extensions.now)) = search rules in
+    of_err c.answer_certify.result (λ failure. ¬ InCommandSet (texts c.args.words.now) → failure ≡ NoMemory)
+    (λ failure none_asked. absurd (none_asked (record { asked = a.certify c.in-Some-Certify.host.now (texts c.in-Some-Certify.extensions.now); asks = asks; built = certify_is_built })))
+
+pub returns-in-Some-Certify-clause-reports : goal.returns-in-Some-Certify-clause-reports
+returns-in-Some-Certify-clause-reports g c =
+    on_ok c.answer_certify.result (λ answer. CertifyReport c.args.operations.now.signatures
+    (g.S.Shelf.files c.args.shelf.now) c.in-Some-Certify.host.now (texts c.in-Some-Certify.extensions.now) answer.status answer.report.items)
+    (λ answer. ¬ WritesNothing answer.status)
+    (λ answer report nothing. certify_reported c.args.operations.now.signatures (g.S.Shelf.files c.args.shelf.now) c.in-Some-Certify.host.now (texts c.in-Some-Certify.extensions.now)
+    answer.status
+    answer.report.items report (inl nothing))
+    c.answer_certify.ensures.ok
+
+pub returns-in-Some-Certify-clause-finishes : goal.returns-in-Some-Certify-clause-finishes
+returns-in-Some-Certify-clause-finishes g c =
+    on_ok c.answer_certify.result (λ answer. CertifyReport c.args.operations.now.signatures
+    (g.S.Shelf.files c.args.shelf.now) c.in-Some-Certify.host.now (texts c.in-Some-Certify.extensions.now) answer.status answer.report.items)
+    (λ answer. answer.status ≢ WriteFault)
+    (λ answer report fault. certify_reported c.args.operations.now.signatures (g.S.Shelf.files c.args.shelf.now) c.in-Some-Certify.host.now (texts c.in-Some-Certify.extensions.now)
+    answer.status
+    answer.report.items report (inr fault))
+    c.answer_certify.ensures.ok
 
 pub returns-in-Some-Tree-clause-ok : goal.returns-in-Some-Tree-clause-ok
 returns-in-Some-Tree-clause-ok g c =

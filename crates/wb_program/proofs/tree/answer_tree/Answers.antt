@@ -1,12 +1,12 @@
 -- A text is read after its host, and its report comes after that host's checks.
-use Rattle.std.proofs.Common.{rules, ◌≡◌, ℕ, List, [], ◌∷◌, Option, IfOk, subst}
+use Rattle.std.proofs.Common.{rules, ℕ, List, [], ◌∷◌, Option, IfOk, subst}
 use Rattle.wb_world.specs.Shelf.{Files}
 use Rattle.wb_program.specs.Asked.{certified_host, parsed_text}
 use Rattle.wb_program.specs.Checks.{Check}
 use Rattle.wb_program.specs.Reads.{StopsAt}
 use Rattle.wb_program.specs.TreeReport.{IsText, IsTooLongText, TextReport, TreeReport}
 use Rattle.wb_program.specs.Inner.Hosts.{IsHostFile}
-use Rattle.wb_program.specs.Inner.Stopped.{outside, Stopped, GoesOn}
+use Rattle.wb_program.specs.Inner.Stopped.{outside, Stopped}
 use Rattle.wb_program.specs.declared.answer.Answer.{Answer}
 use Rattle.wb_program.specs.declared.status.Status.TheVariants.{TextTooLong}
 use Rattle.wb_program.proofs.CauseLemmas.{goes_on_twice, on_ok, on_err, stops_at_text}

@@ -1,5 +1,5 @@
 -- Two words are a verb and a file.
-use Rattle.std.proofs.Common.{rules, string_bytes, ◌≡◌, ◌≢◌, List, [], ◌∷◌, arith, sym, ◌∙◌, ap}
+use Rattle.std.proofs.Common.{rules, string_bytes, ◌≡◌, ◌≢◌, [], ◌∷◌, arith, ◌∙◌, ap}
 use Rattle.wb_program.specs.Words.{texts, IsPositional}
 use Rattle.wb_program.proofs.AskLemmas.{two, no_verb}
 use Rattle.wb_program.proofs.words.file_of.Goals as goal

@@ -1,5 +1,5 @@
 -- Three words are those of the command.
-use Rattle.std.proofs.Common.{rules, string_bytes, ◌≡◌, List, [], ◌∷◌, arith, sym, ◌∙◌, ap}
+use Rattle.std.proofs.Common.{rules, string_bytes, ◌≡◌, [], ◌∷◌, arith, ap}
 use lib.Chars.{codes}
 use Rattle.wb_program.specs.Words.{texts, IsPositional}
 use Rattle.wb_program.specs.Inner.Commands.{IsTextOption}

@@ -1,0 +1,236 @@
+-- What is made of the files of extensions, in their order, is their report; and a run that stops at one of them has its cause.
+use Rattle.std.proofs.Common.{String, Global, string_bytes, get_or, ap}
+use Rattle.std.proofs.lemmas.List.{drop-map, length-map}
+use Rattle.wb_lemmas.proofs.Parts.{drop_from, drop_past}
+use Rattle.std.proofs.Common.{◌≡◌, ◌<◌, ◌≤◌, ◌+◌, ◌++◌, inl, inr, ℕ, List, [], ◌∷◌, Option, length, map, drop, subst, sym, refl}
+use Rattle.wb_extension_files.specs.Contents.{IsExtensionText, IsExtensionRefusal}
+use Rattle.wb_extension_files.specs.declared.refusal.FileRefusal.{FileRefusal}
+use Rattle.wb_extension_files.specs.declared.refusal.FileRefusal.TheVariants as f
+use Rattle.wb_hosts.specs.Contents.{IsHostText, IsHostRefusal}
+use Rattle.wb_hosts.specs.declared.refusal.HostRefusal.{HostRefusal}
+use Rattle.wb_beside.specs.Extensions.{IsOneExtension}
+use Rattle.wb_operations.specs.Operations.{OperationSignature}
+use Rattle.wb_reader.specs.declared.refusal.SpecRefusal.TheVariants as s
+use Rattle.wb_report.specs.Lines.{report_of}
+use Rattle.wb_report.specs.declared.done.Done.TheVariants as done
+use Rattle.wb_report.specs.declared.outcome.Outcome.TheVariants as o
+use Rattle.wb_report.specs.declared.refusal.Refusal.TheVariants as r
+use Rattle.wb_report.specs.declared.spec_reason.SpecReason.TheVariants as t
+use Rattle.wb_resolved.specs.declared.resolved.ResolvedParts.{ResolvedParts}
+use Rattle.wb_world.specs.Shelf.{Files}
+use Rattle.wb_program.specs.Asked.{Asked, Read, file_of, certified_host, certified_extension, certify_reads}
+use Rattle.wb_program.specs.Asked as a
+use Rattle.wb_program.specs.CertifyReport.{CertifyReport, ExtensionsReport, IsExtensionNamed}
+use Rattle.wb_program.specs.Files.{KnownFile}
+use Rattle.wb_program.specs.Reads.{Passes, StopsAt, ComesTo, IsMissing, IsFaulty}
+use Rattle.wb_program.specs.Words.{Asks, texts}
+use Rattle.wb_program.specs.Inner.Extensions.{RefusedExtension, EndsAtExtension, LeadsTo, StopsFrom, CertifyStops}
+use Rattle.wb_program.specs.Inner.Hosts.{IsHostFile, RefusedHost}
+use Rattle.wb_program.specs.Inner.Stopped.{Outside, Stopped, GoesOn}
+use Rattle.wb_program.specs.declared.reading.ReadFailure.{ReadFailure}
+use Rattle.wb_program.specs.declared.reading.ReadFailure.TheVariants.{Absent, ReadFault, NoMemory}
+use Rattle.wb_program.specs.declared.status.Status.{Status}
+use Rattle.wb_program.specs.declared.status.Status.TheVariants.{Done, Usage}
+use Rattle.wb_program.proofs.CauseLemmas.{stops_first, stops_since}
+use Rattle.wb_program.proofs.HostLemmas.{refused_checks}
+
+-- the texts of words are as many
+pub few_texts : (words : List (String Global)) (most : ℕ) → length words ≤ most → length (texts words) ≤ most
+few_texts words most few = subst (λ (n : ℕ). n ≤ most) (sym (length-map words string_bytes)) few
+
+-- the texts from a place on begin with that of the word there
+pub texts_from : (words : List (String Global)) (at : ℕ) (word : String Global) (file : List ℕ) → at < length words
+    → word ≡ get_or words at word → file ≡ string_bytes word → drop at (texts words) ≡ file ∷ drop (at + 1) (texts words)
+texts_from words at word file within is same =
+    let here : drop at (texts words) ≡ texts (drop at words) = drop-map string_bytes at words in
+    let split : texts (drop at words) ≡ string_bytes word ∷ texts (drop (at + 1) words) = ap texts (drop_from words at word within is) in
+    let later : drop (at + 1) (texts words) ≡ texts (drop (at + 1) words) = drop-map string_bytes (at + 1) words in
+    cc (here, split, later, same)
+
+-- and past the last there is none
+pub texts_past : (words : List (String Global)) (at : ℕ) → length words ≤ at → drop at (texts words) ≡ []
+texts_past words at past = drop_past (texts words) at (few_texts words at past)
+
+-- a text that is too long is refused for that
+pub too_long_extension : (host : ResolvedParts) (operations : List OperationSignature) (contents : List ℕ) → 1048576 < length contents
+    → IsExtensionRefusal host operations contents (f.Specification (r.Specification t.TooLong))
+too_long_extension host operations contents long = inl (record { refusal = s.TooLong; cause = long; shows = refl })
+
+-- a refused extension has the report of its refusal
+pub refused_ends : (operations : List OperationSignature) (known : Option Files) (host : ResolvedParts) (file : List ℕ)
+    (refusal : FileRefusal) (status : Status) (bytes : List ℕ)
+    → KnownFile known file (λ contents. IsExtensionRefusal host operations contents refusal) → RefusedExtension file refusal status bytes
+    → EndsAtExtension operations known host file status bytes
+refused_ends operations known host file (f.Specification shown) status bytes cause (ends, line) files names =
+    inl (ends, record { shown = shown; cause = cause; line = line })
+refused_ends operations known host file (f.WrongHost name) status bytes cause (ends, line) files names =
+    inr (inl (ends, record { name = name; cause = cause; line = line }))
+refused_ends operations known host file (f.Certification shown) status bytes cause (ends, line) files names =
+    inr (inr (inl (ends, record { shown = shown; cause = cause; line = line })))
+refused_ends operations known host file (f.NoMemory error) status bytes cause none_shown files names = absurd none_shown
+
+-- a certified extension has its name
+pub is_named : (operations : List OperationSignature) (known : Option Files) (host : ResolvedParts) (file name : List ℕ)
+    (value : ResolvedParts) → KnownFile known file (λ contents. IsExtensionText host operations contents value)
+    → IsOneExtension value name → IsExtensionNamed operations known host file name
+is_named operations known host file name value is named = record { value = value; contents = is; named = named }
+
+module _ (operations : List OperationSignature) (known : Option Files) (host : ResolvedParts) (files : List (List ℕ)) where
+  -- before the first extension
+  pub leads_first : LeadsTo operations known host files 0 []
+  leads_first status bytes report = report
+
+  -- after a certified one
+  pub leads_on : (at : ℕ) (file name : List ℕ) (names : List (List ℕ)) → drop at files ≡ file ∷ drop (at + 1) files
+      → IsExtensionNamed operations known host file name → LeadsTo operations known host files at names
+      → LeadsTo operations known host files (at + 1) (names ++ name ∷ [])
+  leads_on at file name names here is leads status bytes report =
+      leads status bytes (subst (λ (left : List (List ℕ)). ExtensionsReport operations known host left names status bytes) (sym here)
+      (inr (inr (inr (name, is, report)))))
+
+  -- at one that is refused
+  pub leads_refused : (at : ℕ) (file : List ℕ) (names : List (List ℕ)) (status : Status) (bytes : List ℕ)
+      → drop at files ≡ file ∷ drop (at + 1) files → EndsAtExtension operations known host file status bytes
+      → LeadsTo operations known host files at names → ExtensionsReport operations known host files [] status bytes
+  leads_refused at file names status bytes here ends leads =
+      leads status bytes (subst (λ (left : List (List ℕ)). ExtensionsReport operations known host left names status bytes) (sym here)
+      (ends (drop (at + 1) files) names))
+
+  -- after the last one
+  pub leads_last : (at : ℕ) (names : List (List ℕ)) (status : Status) (bytes : List ℕ) → drop at files ≡ [] → status ≡ Done
+      → bytes ≡ report_of (o.Done (done.Certified host.host names)) → LeadsTo operations known host files at names
+      → ExtensionsReport operations known host files [] status bytes
+  leads_last at names status bytes none_left ends line leads =
+      leads status bytes (subst (λ (left : List (List ℕ)). ExtensionsReport operations known host left names status bytes) (sym none_left)
+      (ends, line))
+
+-- a run that stops after a file that passes
+passes_on : (operations : List OperationSignature) (before now : Outside) (read : Read) (reads : List Read) (failure : ReadFailure)
+    → Passes operations before.files read → Stopped before now (λ P. StopsAt operations before.files P reads) failure
+    → Stopped before now (λ P. StopsAt operations before.files P (read ∷ reads)) failure
+passes_on operations before now read reads Absent passes stopped = inr (passes, stopped)
+passes_on operations before now read reads ReadFault passes stopped = inr (passes, stopped)
+passes_on operations before now read reads NoMemory passes stopped = tt
+
+module _ (operations : List OperationSignature) (before : Outside) (host : ResolvedParts) (files : List (List ℕ)) where
+  -- before the first extension
+  pub stops_from_first : StopsFrom operations before.files host files before 0
+  stops_from_first place is now failure stopped = stopped
+
+  -- after a certified one
+  pub stops_on : (at : ℕ) (file name : List ℕ) → drop at files ≡ file ∷ drop (at + 1) files
+      → IsExtensionNamed operations before.files host file name → StopsFrom operations before.files host files before at
+      → StopsFrom operations before.files host files before (at + 1)
+  stops_on at file name here is from place is_host now failure stopped =
+      from place is_host now failure
+      (subst (λ (left : List (List ℕ)). Stopped before now
+      (λ P. StopsAt operations before.files P (map (certified_extension place) left)) failure) (sym here)
+      (passes_on operations before now (certified_extension place file) (map (certified_extension place) (drop (at + 1) files)) failure
+      (record { beside = host; is_host = is_host; value = is.value; is_extension = is.contents }) stopped))
+
+  -- at one of them
+  pub stops_here : (at : ℕ) (file : List ℕ) (now : Outside) (failure : ReadFailure) → drop at files ≡ file ∷ drop (at + 1) files
+      → StopsFrom operations before.files host files before at → Stopped before now (λ P. P file) failure → (place : List ℕ)
+      → KnownFile before.files place (λ contents. IsHostText operations contents host)
+      → Stopped before now (λ P. StopsAt operations before.files P (map (certified_extension place) files)) failure
+  stops_here at file now failure here from stopped place is_host =
+      from place is_host now failure
+      (subst (λ (left : List (List ℕ)). Stopped before now
+      (λ P. StopsAt operations before.files P (map (certified_extension place) left)) failure) (sym here)
+      (stops_first operations before now (certified_extension place file) file (map (certified_extension place) (drop (at + 1) files))
+      failure (λ P is. inl is) stopped))
+
+-- a run that is missing a file later misses it since it began, and so at a list of files
+stops_at_since : (operations : List OperationSignature) (known later : Option Files) (P Q : List ℕ → Type 0) (reads : List Read)
+    → later ≡ known → ((file : List ℕ) → P file → Q file) → StopsAt operations later P reads → StopsAt operations known Q reads
+stops_at_since operations known later P Q [] same since stops = stops
+stops_at_since operations known later P Q (read ∷ reads) same since (inl here) = inl (since (file_of read) here)
+stops_at_since operations known later P Q (read ∷ reads) same since (inr (passes, stops)) =
+    inr (
+      subst (λ (files : Option Files). Passes operations files read) same passes,
+      stops_at_since operations known later P Q reads same since stops,
+    )
+
+-- a run that stops later at one of some files stops there since it began
+pub stops_before : (operations : List OperationSignature) (before between now : Outside) (reads : List Read) (failure : ReadFailure)
+    → GoesOn before between → Stopped between now (λ P. StopsAt operations between.files P reads) failure
+    → Stopped before now (λ P. StopsAt operations before.files P reads) failure
+stops_before operations before between now reads Absent kept stopped =
+    stops_at_since operations before.files between.files (IsMissing between.files between.absences now.absences)
+    (IsMissing before.files before.absences now.absences) reads kept.files
+    (λ file missing. stops_since before between now file Absent kept missing) stopped
+stops_before operations before between now reads ReadFault kept stopped =
+    stops_at_since operations before.files between.files (IsFaulty between.faults now.faults) (IsFaulty before.faults now.faults) reads
+    kept.files (λ file faulty. stops_since before between now file ReadFault kept faulty) stopped
+stops_before operations before between now reads NoMemory kept stopped = tt
+
+-- a run of `certify` that stops at its host
+pub certify_stops_first : (operations : List OperationSignature) (before now : Outside) (host : List ℕ) (extensions : List (List ℕ))
+    (failure : ReadFailure) → length extensions ≤ 64 → Stopped before now (λ P. P host) failure
+    → Stopped before now (CertifyStops operations before.files host extensions) failure
+certify_stops_first operations before now host extensions Absent few stopped = (few, inl stopped)
+certify_stops_first operations before now host extensions ReadFault few stopped = (few, inl stopped)
+certify_stops_first operations before now host extensions NoMemory few stopped = tt
+
+-- a run of `certify` that stops at an extension
+pub certify_stops_later : (operations : List OperationSignature) (before now : Outside) (host : List ℕ) (extensions : List (List ℕ))
+    (failure : ReadFailure) → length extensions ≤ 64 → Passes operations before.files (certified_host host)
+    → Stopped before now (λ P. StopsAt operations before.files P (map (certified_extension host) extensions)) failure
+    → Stopped before now (CertifyStops operations before.files host extensions) failure
+certify_stops_later operations before now host extensions Absent few passes stopped = (few, inr (passes, stopped))
+certify_stops_later operations before now host extensions ReadFault few passes stopped = (few, inr (passes, stopped))
+certify_stops_later operations before now host extensions NoMemory few passes stopped = tt
+
+-- a run of `certify` comes to read one of its files
+pub certify_comes_to : (operations : List OperationSignature) (before now : Outside) (words : List (List ℕ)) (host : List ℕ)
+    (extensions : List (List ℕ)) (failure : ReadFailure) → Asks words (a.certify host extensions)
+    → Stopped before now (CertifyStops operations before.files host extensions) failure
+    → Stopped before now (ComesTo operations words before.files) failure
+certify_comes_to operations before now words host extensions Absent asks stopped = record {
+  asked = a.certify host extensions;
+  asks = asks;
+  reads = certified_host host ∷ map (certified_extension host) extensions;
+  are_reads = certify_reads stopped.0;
+  stops = stopped.1;
+}
+certify_comes_to operations before now words host extensions ReadFault asks stopped = record {
+  asked = a.certify host extensions;
+  asks = asks;
+  reads = certified_host host ∷ map (certified_extension host) extensions;
+  are_reads = certify_reads stopped.0;
+  stops = stopped.1;
+}
+certify_comes_to operations before now words host extensions NoMemory asks stopped = tt
+
+-- `certify` of a file that is no certified host
+pub certify_refused : (operations : List OperationSignature) (known : Option Files) (host : List ℕ) (extensions : List (List ℕ))
+    (refusal : HostRefusal) (status : Status) (bytes : List ℕ) → length extensions ≤ 64
+    → KnownFile known host (λ contents. IsHostRefusal operations contents refusal) → RefusedHost host refusal status bytes
+    → CertifyReport operations known host extensions status bytes
+certify_refused operations known host extensions refusal status bytes few cause shown =
+    inr (few, refused_checks operations known host (λ r. ExtensionsReport operations known r extensions []) refusal status bytes cause shown)
+
+-- `certify` of a certified host
+pub certify_certified : (operations : List OperationSignature) (known : Option Files) (host : List ℕ) (extensions : List (List ℕ))
+    (value : ResolvedParts) (status : Status) (bytes : List ℕ) → length extensions ≤ 64 → IsHostFile operations known host value
+    → ExtensionsReport operations known value extensions [] status bytes → CertifyReport operations known host extensions status bytes
+certify_certified operations known host extensions value status bytes few is report = inr (few, (inr (inr (value, is.contents, report))))
+
+-- a report of extensions isn't that of words that are no command
+extensions_no_usage : (operations : List OperationSignature) (known : Option Files) (host : ResolvedParts) (files names : List (List ℕ))
+    (status : Status) (bytes : List ℕ) → ExtensionsReport operations known host files names status bytes → status ≡ Usage → ⊥
+extensions_no_usage operations known host [] names status bytes (same, line) usage = absurd (cc)
+extensions_no_usage operations known host (file ∷ files) names status bytes (inl (same, line)) usage = absurd (cc)
+extensions_no_usage operations known host (file ∷ files) names status bytes (inr (inl (same, line))) usage = absurd (cc)
+extensions_no_usage operations known host (file ∷ files) names status bytes (inr (inr (inl (same, line)))) usage = absurd (cc)
+extensions_no_usage operations known host (file ∷ files) names status bytes (inr (inr (inr (name, is, more)))) usage =
+    extensions_no_usage operations known host files (names ++ name ∷ []) status bytes more usage
+
+-- nor is a report of `certify`
+pub certify_no_usage : (operations : List OperationSignature) (known : Option Files) (host : List ℕ) (extensions : List (List ℕ))
+    (status : Status) (bytes : List ℕ) → CertifyReport operations known host extensions status bytes → status ≡ Usage → ⊥
+certify_no_usage operations known host extensions status bytes (inl (same, line)) usage = absurd (cc)
+certify_no_usage operations known host extensions status bytes (inr (few, inl (same, line))) usage = absurd (cc)
+certify_no_usage operations known host extensions status bytes (inr (few, inr (inl (same, line)))) usage = absurd (cc)
+certify_no_usage operations known host extensions status bytes (inr (few, inr (inr (value, is, more)))) usage =
+    extensions_no_usage operations known value extensions [] status bytes more usage

@@ -1,0 +1,71 @@
+-- Extensions are read after their host, and their report comes after that host's checks.
+use Rattle.std.proofs.Common.{rules, ◌≡◌, ◌≤◌, ◌∙◌, sym, ℕ, List, [], Option, IfOk, length, map, subst, arith}
+use Rattle.wb_hosts.specs.Contents.{IsHostText, IsHostRefusal}
+use Rattle.wb_world.specs.Shelf.{Files}
+use Rattle.wb_program.specs.Asked.{certified_extension}
+use Rattle.wb_program.specs.CertifyReport.{CertifyReport, ExtensionsReport}
+use Rattle.wb_program.specs.Files.{KnownFile}
+use Rattle.wb_program.specs.Reads.{StopsAt}
+use Rattle.wb_program.specs.Words.{texts}
+use Rattle.wb_program.specs.Inner.Extensions.{CertifyStops}
+use Rattle.wb_program.specs.Inner.Hosts.{IsHostFile, RefusedHost}
+use Rattle.wb_program.specs.Inner.Stopped.{outside, Stopped}
+use Rattle.wb_program.specs.declared.answer.Answer.{Answer}
+use Rattle.wb_program.proofs.CauseLemmas.{on_ok, on_err, some_certified}
+use Rattle.wb_program.proofs.ExtensionLemmas.{few_texts, certify_certified, certify_refused, certify_stops_later, stops_before}
+use Rattle.wb_program.proofs.certify.answer_certify.Goals as goal
+
+pub returns-in-Ok-clause-ok : goal.returns-in-Ok-clause-ok
+returns-in-Ok-clause-ok g c =
+    let files = g.S.Shelf.files c.args.shelf.now in
+    let operations = c.args.operations.now.signatures in
+    let r = c.in-Ok.certified.resolved in
+    let extensions = texts c.args.extensions.now in
+    let few : length extensions ≤ 64 = few_texts c.args.extensions.now 64 (omega arith) in
+    let is : IsHostFile operations files c.args.host.now r = search rules in
+    let IsAnswered : Option Files → Answer → Type 0 = λ known answer.
+    ExtensionsReport operations known r extensions [] answer.status answer.report.items in
+    let report : IfOk c.answer_extensions.result (IsAnswered files) =
+    subst (λ (known : Option Files). IfOk c.answer_extensions.result (IsAnswered known)) c.certified_of.ensures.goes_on.files
+    c.answer_extensions.ensures.ok in
+    on_ok c.answer_extensions.result (IsAnswered files)
+    (λ answer. CertifyReport operations files c.args.host.now extensions answer.status answer.report.items)
+    (λ answer shown. certify_certified operations files c.args.host.now extensions r answer.status answer.report.items few is shown)
+    report
+
+pub returns-in-Ok-clause-stopped : goal.returns-in-Ok-clause-stopped
+returns-in-Ok-clause-stopped g c =
+    let files = g.S.Shelf.files c.args.shelf.now in
+    let operations = c.args.operations.now.signatures in
+    let host = c.args.host.now in
+    let extensions = texts c.args.extensions.now in
+    let before = outside files (g.S.Shelf.absences c.args.shelf.now) (g.S.Shelf.faults c.args.shelf.now) in
+    let between = outside (g.S.Shelf.files c.certified_of.new.shelf) (g.S.Shelf.absences c.certified_of.new.shelf)
+    (g.S.Shelf.faults c.certified_of.new.shelf) in
+    let now = outside (g.S.Shelf.files c.answer_extensions.new.shelf) (g.S.Shelf.absences c.answer_extensions.new.shelf)
+    (g.S.Shelf.faults c.answer_extensions.new.shelf) in
+    let few : length extensions ≤ 64 = few_texts c.args.extensions.now 64 (omega arith) in
+    let is : IsHostFile operations files host c.in-Ok.certified.resolved = search rules in
+    on_err c.answer_extensions.result
+    (Stopped between now (λ P. StopsAt operations between.files P (map (certified_extension host) extensions)))
+    (Stopped before now (CertifyStops operations files host extensions))
+    (λ failure stopped. certify_stops_later operations before now host extensions failure few
+    (some_certified operations files host c.in-Ok.certified.resolved is.contents)
+    (stops_before operations before between now (map (certified_extension host) extensions) failure c.certified_of.ensures.goes_on stopped))
+    (c.answer_extensions.ensures.stopped host
+    (subst (λ (known : Option Files). KnownFile known host (λ contents. IsHostText operations contents c.in-Ok.certified.resolved))
+    (sym c.certified_of.ensures.goes_on.files) is.contents))
+
+pub returns-in_ok-refused_host-in-Err-clause-ok : goal.returns-in_ok-refused_host-in-Err-clause-ok
+returns-in_ok-refused_host-in-Err-clause-ok g c =
+    let known = g.S.Shelf.files c.args.shelf.now in
+    let operations = c.args.operations.now.signatures in
+    let extensions = texts c.args.extensions.now in
+    let answer = c.in_ok-refused_host-in-Err.field-0 in
+    let few : length extensions ≤ 64 = few_texts c.args.extensions.now 64 (omega arith) in
+    let cause : KnownFile known c.args.host.now (λ contents. IsHostRefusal operations contents c.in-Err.refusal) = search rules in
+    let word : c.in_ok-file.file ≡ c.args.host.now = c.in_ok-file.ensures.ok ∙ c.as_bytes.ensures.value in
+    let shown : RefusedHost c.args.host.now c.in-Err.refusal answer.status answer.report.items =
+    subst (λ (file : List ℕ). RefusedHost file c.in-Err.refusal answer.status answer.report.items) word
+    c.in_ok-refused_host-in-Err.ensures in
+    certify_refused operations known c.args.host.now extensions c.in-Err.refusal answer.status answer.report.items few cause shown

@@ -1,0 +1,30 @@
+-- A file is a certified extension of this name, or the run ends with its refusal.
+use Rattle.std.proofs.Common.{rules, ◌≡◌, ◌∙◌, subst, List, ℕ}
+use Rattle.wb_beside.specs.Extensions.{IsOneExtension}
+use Rattle.wb_extension_files.specs.Contents.{IsExtensionText, IsExtensionRefusal}
+use Rattle.wb_program.specs.Files.{KnownFile}
+use Rattle.wb_program.specs.Inner.Extensions.{RefusedExtension}
+use Rattle.wb_program.proofs.ExtensionLemmas.{is_named, refused_ends}
+use Rattle.wb_program.proofs.certify.name_of.Goals as goal
+
+pub returns-in_ok-extension_name-in-Ok-clause-ok : goal.returns-in_ok-extension_name-in-Ok-clause-ok
+returns-in_ok-extension_name-in-Ok-clause-ok g c =
+    let known = g.S.Shelf.files c.args.shelf.now in
+    let host = c.args.host.now.resolved in
+    let operations = c.args.operations.now.signatures in
+    let is : KnownFile known c.args.file.now (λ contents. IsExtensionText host operations contents c.in-Ok.extension.resolved) = search rules in
+    let named : IsOneExtension c.in-Ok.extension.resolved c.in_ok-extension_name-in-Ok.field-0 = search rules in
+    is_named operations known host c.args.file.now c.in_ok-extension_name-in-Ok.field-0 c.in-Ok.extension.resolved is named
+
+pub returns-in_ok-refused_extension-in-Err-clause-refused : goal.returns-in_ok-refused_extension-in-Err-clause-refused
+returns-in_ok-refused_extension-in-Err-clause-refused g c =
+    let known = g.S.Shelf.files c.args.shelf.now in
+    let host = c.args.host.now.resolved in
+    let operations = c.args.operations.now.signatures in
+    let answer = c.in_ok-refused_extension-in-Err.field-0 in
+    let cause : KnownFile known c.args.file.now (λ contents. IsExtensionRefusal host operations contents c.in-Err.refusal) = search rules in
+    let word : c.in_ok-word.word ≡ c.args.file.now = c.in_ok-word.ensures.ok ∙ c.as_bytes.ensures.value in
+    let shown : RefusedExtension c.args.file.now c.in-Err.refusal answer.status answer.report.items =
+    subst (λ (file : List ℕ). RefusedExtension file c.in-Err.refusal answer.status answer.report.items) word
+    c.in_ok-refused_extension-in-Err.ensures in
+    refused_ends operations known host c.args.file.now c.in-Err.refusal answer.status answer.report.items cause shown

@@ -1,0 +1,48 @@
+-- What is made of the file of an extension, and of several in their order.
+use Rattle.std.specs.Prelude.{◌≡◌, ◌≤◌, ℕ, Option, List, [], ◌∷◌, drop, length, map}
+use Rattle.wb_extension_files.specs.declared.refusal.FileRefusal.{FileRefusal}
+use Rattle.wb_extension_files.specs.declared.refusal.FileRefusal.TheVariants as f
+use Rattle.wb_hosts.specs.Contents.{IsHostText}
+use Rattle.wb_operations.specs.Operations.{OperationSignature}
+use Rattle.wb_report.specs.Lines.{report_of}
+use Rattle.wb_report.specs.declared.outcome.Outcome.TheVariants as o
+use Rattle.wb_resolved.specs.declared.resolved.ResolvedParts.{ResolvedParts}
+use Rattle.wb_world.specs.Shelf.{Files}
+use Rattle.wb_program.specs.Asked.{certified_host, certified_extension}
+use Rattle.wb_program.specs.CertifyReport.{ExtensionsReport}
+use Rattle.wb_program.specs.Checks.{Report, Ends}
+use Rattle.wb_program.specs.Files.{KnownFile}
+use Rattle.wb_program.specs.Reads.{StopsAt}
+use Rattle.wb_program.specs.Inner.Stopped.{Outside, Stopped}
+use Rattle.wb_program.specs.declared.reading.ReadFailure.{ReadFailure}
+use Rattle.wb_program.specs.declared.status.Status.{Status}
+use Rattle.wb_program.specs.declared.status.Status.TheVariants.{SpecRefused, NotCertified, WrongHost}
+
+-- a refused extension: the status of its sort, and the line that says why; want of memory has no line
+abbrev pub RefusedExtension : List ℕ → FileRefusal → Report
+RefusedExtension file (f.Specification shown) = Ends SpecRefused (λ bytes. bytes ≡ report_of (o.Refused file shown))
+RefusedExtension file (f.WrongHost name) = Ends WrongHost (λ bytes. bytes ≡ report_of (o.WrongHost file name))
+RefusedExtension file (f.Certification shown) = Ends NotCertified (λ bytes. bytes ≡ report_of (o.Refused file shown))
+RefusedExtension file (f.NoMemory error) = λ status bytes. ⊥
+
+-- the report of a run that ends at an extension, whatever comes after it
+abbrev pub EndsAtExtension : List OperationSignature → Option Files → ResolvedParts → List ℕ → Report
+EndsAtExtension operations known host file status bytes =
+    (files names : List (List ℕ)) → ExtensionsReport operations known host (file ∷ files) names status bytes
+
+module _ (operations : List OperationSignature) (known : Option Files) (host : ResolvedParts) (files : List (List ℕ)) where
+  -- a report of the extensions from a place on, after certified ones of these names, is one of all of them
+  abbrev pub LeadsTo : ℕ → List (List ℕ) → Type 0
+  LeadsTo at names = (status : Status) (bytes : List ℕ) → ExtensionsReport operations known host (drop at files) names status bytes
+      → ExtensionsReport operations known host files [] status bytes
+
+  -- a run that stops at an extension from a place on stops at one of all of them, whatever file has the host
+  abbrev pub StopsFrom : Outside → ℕ → Type 0
+  StopsFrom before at = (file : List ℕ) → KnownFile known file (λ contents. IsHostText operations contents host) → (now : Outside)
+      (failure : ReadFailure) → Stopped before now (λ P. StopsAt operations known P (map (certified_extension file) (drop at files))) failure
+      → Stopped before now (λ P. StopsAt operations known P (map (certified_extension file) files)) failure
+
+-- a run stops at the host or, where there aren't too many, at one of the extensions
+abbrev pub CertifyStops : List OperationSignature → Option Files → List ℕ → List (List ℕ) → (List ℕ → Type 0) → Type 0
+CertifyStops operations known host extensions P =
+    (length extensions ≤ 64) × StopsAt operations known P (certified_host host ∷ map (certified_extension host) extensions)

@@ -1,0 +1,213 @@
+//! What does `certify HOST EXT..` answer, and which certified extension of a host is in a file?
+//!
+//! The host comes first, by the checks in `check`, and then each extension in order. What a certified extension is, and why contents are
+//! none, is found by `wb_extension_files`.
+
+ghost use Rattle.std.specs.Prelude.{◌≡◌, ◌++◌, IfOk, IfErr, OnOk, List, ℕ, [], ◌∷◌, map};
+ghost use Rattle.wb_beside.specs.Extensions.{IsOneExtension};
+ghost use Rattle.wb_extension_files.specs.Contents.{IsExtensionText, IsExtensionRefusal};
+ghost use Rattle.wb_hosts.specs.Contents.{IsHostText};
+ghost use Rattle.wb_report.specs.Lines.{report_of};
+ghost use Rattle.wb_program.specs.Asked.{certified_extension};
+ghost use Rattle.wb_program.specs.CertifyReport.{CertifyReport, ExtensionsReport, IsExtensionNamed};
+ghost use Rattle.wb_program.specs.Files.{KnownFile};
+ghost use Rattle.wb_program.specs.Reads.{StopsAt};
+ghost use Rattle.wb_program.specs.Words.{texts};
+ghost use Rattle.wb_program.specs.Inner.Extensions.{CertifyStops, EndsAtExtension, RefusedExtension};
+ghost use Rattle.wb_program.specs.Inner.Hosts.{ReadIs};
+ghost use Rattle.wb_program.specs.Inner.Stopped.{outside, Stopped, GoesOn};
+
+use crate::answer::{Answer, reported};
+use crate::check::{certified_of, refused_host};
+use crate::reading::{Contents, ReadFailure, read_file};
+use crate::status::Status;
+use std::alloc::{AllocError, Global};
+use wb_base::{Bytes, FILE_LIMIT, Sequence};
+use wb_beside::CertifiedExtension;
+use wb_certify::CertifiedHost;
+use wb_extension_files::{FileRefusal, extension_of};
+use wb_operations::{Meaning, OperationTable};
+use wb_report::{Done, Outcome, Refusal, SpecReason};
+use wb_world::Shelf;
+
+// The most extensions that a command takes.
+const MOST: usize = 64;
+
+// The answer to `certify HOST EXT..`.
+pub(crate) fn answer_certify<S: Shelf, M: Meaning>(
+    alloc: Global,
+    shelf: &mut S,
+    host: &str,
+    extensions: &[String],
+    operations: &OperationTable<M>,
+) -> Result<Answer, ReadFailure>
+    ensures ok { IfOk result (λ answer. CertifyReport operations.now.signatures (S.files shelf.old) host.now (texts extensions.now) answer.status answer.report.items) }
+    ensures stopped { IfErr result (Stopped (outside (S.files shelf.old) (S.absences shelf.old) (S.faults shelf.old))
+        (outside (S.files shelf.new) (S.absences shelf.new) (S.faults shelf.new))
+        (CertifyStops operations.now.signatures (S.files shelf.old) host.now (texts extensions.now))) }
+    ensures goes_on { GoesOn (outside (S.files shelf.old) (S.absences shelf.old) (S.faults shelf.old))
+        (outside (S.files shelf.new) (S.absences shelf.new) (S.faults shelf.new)) }
+{
+    if extensions.len() > MOST {
+        return Ok(reported(alloc, Status::TooManyExtensions, Outcome::TooManyExtensions)?);
+    }
+    let file = Bytes::from_slice(alloc, host.as_bytes())?;
+    match certified_of(alloc, shelf, host, operations)? {
+        Ok(certified) => {
+            // As in `check`, the host is dropped by a call.
+            let held = [certified];
+            answer_extensions(alloc, shelf, &held[0], extensions, operations)
+        }
+        Err(refusal) => Ok(refused_host(alloc, file, refusal)?),
+    }
+}
+
+// The answer for the files of extensions, in their order.
+fn answer_extensions<S: Shelf, M: Meaning>(
+    alloc: Global,
+    shelf: &mut S,
+    host: &CertifiedHost,
+    files: &[String],
+    operations: &OperationTable<M>,
+) -> Result<Answer, ReadFailure>
+    requires { host.now.operations ≡ operations.now.signatures }
+    ensures ok { IfOk result (λ answer. ExtensionsReport operations.now.signatures (S.files shelf.old) host.now.resolved (texts files.now) [] answer.status answer.report.items) }
+    ensures stopped { (file : List ℕ) → KnownFile (S.files shelf.old) file (λ contents. IsHostText operations.now.signatures contents host.now.resolved)
+        → IfErr result (Stopped (outside (S.files shelf.old) (S.absences shelf.old) (S.faults shelf.old))
+        (outside (S.files shelf.new) (S.absences shelf.new) (S.faults shelf.new))
+        (λ P. StopsAt operations.now.signatures (S.files shelf.old) P (map (certified_extension file) (texts files.now)))) }
+    ensures goes_on { GoesOn (outside (S.files shelf.old) (S.absences shelf.old) (S.faults shelf.old))
+        (outside (S.files shelf.new) (S.absences shelf.new) (S.faults shelf.new)) }
+{
+    let mut names = Vec::new(alloc);
+    let mut at = 0;
+    'files: while at < files.len() {
+        match name_of(alloc, shelf, host, files[at].as_str(), operations)? {
+            Ok(name) => push_name(&mut names, name)?,
+            Err(answer) => return Ok(answer),
+        }
+        at += 1;
+    }
+    Ok(all_certified(alloc, host, names)?)
+}
+
+// Appends a name.
+fn push_name(names: &mut Vec<Bytes>, name: Bytes) -> Result<(), AllocError>
+    ensures { OnOk result (names.new.items ≡ names.old.items ++ name ∷ []) }
+{
+    names.push(name)?;
+    Ok(())
+}
+
+// The name of the certified extension of a file, or the answer for one that is none.
+fn name_of<S: Shelf, M: Meaning>(
+    alloc: Global,
+    shelf: &mut S,
+    host: &CertifiedHost,
+    file: &str,
+    operations: &OperationTable<M>,
+) -> Result<Result<Bytes, Answer>, ReadFailure>
+    requires { host.now.operations ≡ operations.now.signatures }
+    ensures ok { IfOk result (λ read. IfOk read (IsExtensionNamed operations.now.signatures (S.files shelf.old) host.now.resolved file.now)) }
+    ensures refused { IfOk result (λ read. IfErr read (λ answer. EndsAtExtension operations.now.signatures (S.files shelf.old) host.now.resolved file.now answer.status answer.report.items)) }
+    ensures stopped { IfErr result (Stopped (outside (S.files shelf.old) (S.absences shelf.old) (S.faults shelf.old))
+        (outside (S.files shelf.new) (S.absences shelf.new) (S.faults shelf.new)) (λ P. P file.now)) }
+    ensures goes_on { GoesOn (outside (S.files shelf.old) (S.absences shelf.old) (S.faults shelf.old))
+        (outside (S.files shelf.new) (S.absences shelf.new) (S.faults shelf.new)) }
+{
+    let word = Bytes::from_slice(alloc, file.as_bytes())?;
+    match certified_beside(alloc, shelf, host, file, operations)? {
+        Ok(extension) => Ok(Ok(extension_name(alloc, extension)?)),
+        Err(refusal) => Ok(Err(refused_extension(alloc, word, refusal)?)),
+    }
+}
+
+// Reads and certifies the extension of a file beside a host.
+fn certified_beside<S: Shelf, M: Meaning>(
+    alloc: Global,
+    shelf: &mut S,
+    host: &CertifiedHost,
+    file: &str,
+    operations: &OperationTable<M>,
+) -> Result<Result<CertifiedExtension, FileRefusal>, ReadFailure>
+    requires { host.now.operations ≡ operations.now.signatures }
+    ensures ok { IfOk result (λ read. IfOk read (λ extension. KnownFile (S.files shelf.old) file.now
+        (λ contents. IsExtensionText host.now.resolved operations.now.signatures contents extension.resolved))) }
+    ensures refused { IfOk result (λ read. IfErr read (λ refusal. KnownFile (S.files shelf.old) file.now
+        (λ contents. IsExtensionRefusal host.now.resolved operations.now.signatures contents refusal))) }
+    ensures stopped { IfErr result (Stopped (outside (S.files shelf.old) (S.absences shelf.old) (S.faults shelf.old))
+        (outside (S.files shelf.new) (S.absences shelf.new) (S.faults shelf.new)) (λ P. P file.now)) }
+    ensures goes_on { GoesOn (outside (S.files shelf.old) (S.absences shelf.old) (S.faults shelf.old))
+        (outside (S.files shelf.new) (S.absences shelf.new) (S.faults shelf.new)) }
+{
+    let contents = read_file(alloc, shelf, file, FILE_LIMIT)?;
+    Ok(extension_in(alloc, host, contents, operations))
+}
+
+// The certified extension that was read.
+fn extension_in<M: Meaning>(
+    alloc: Global,
+    host: &CertifiedHost,
+    contents: Contents,
+    operations: &OperationTable<M>,
+) -> Result<CertifiedExtension, FileRefusal>
+    requires { host.now.operations ≡ operations.now.signatures }
+    ensures ok { IfOk result (λ extension. ReadIs contents (λ bytes. IsExtensionText host.now.resolved operations.now.signatures bytes extension.resolved)) }
+    ensures refused { IfErr result (λ refusal. ReadIs contents (λ bytes. IsExtensionRefusal host.now.resolved operations.now.signatures bytes refusal)) }
+{
+    match contents {
+        Contents::Whole(bytes) => extension_of(alloc, host, &bytes, operations),
+        Contents::TooLong => Err(FileRefusal::Specification(Refusal::Specification(
+            SpecReason::TooLong,
+        ))),
+    }
+}
+
+// The name of a certified extension.
+fn extension_name(alloc: Global, extension: CertifiedExtension) -> Result<Bytes, AllocError>
+    ensures { IfOk result (IsOneExtension extension.resolved) }
+{
+    // An array lets go of what it holds by a call, so that the drop of an extension is proved once and part by part.
+    let held = [extension];
+    Bytes::from_slice(alloc, held[0].name())
+}
+
+// The answer for a file that is no certified extension.
+fn refused_extension(alloc: Global, file: Bytes, refusal: FileRefusal) -> Result<Answer, AllocError>
+    ensures { IfOk result (λ answer. RefusedExtension file refusal answer.status answer.report.items) }
+{
+    match refusal {
+        FileRefusal::Specification(refusal) => reported(
+            alloc,
+            Status::SpecRefused,
+            Outcome::Refused { file, refusal },
+        ),
+        FileRefusal::WrongHost(host) => {
+            reported(alloc, Status::WrongHost, Outcome::WrongHost { file, host })
+        }
+        FileRefusal::Certification(refusal) => reported(
+            alloc,
+            Status::NotCertified,
+            Outcome::Refused { file, refusal },
+        ),
+        FileRefusal::NoMemory(error) => Err(error),
+    }
+}
+
+// The answer for a host and extensions of these names that are certified.
+fn all_certified(
+    alloc: Global,
+    host: &CertifiedHost,
+    names: Vec<Bytes>,
+) -> Result<Answer, AllocError>
+    ensures status { IfOk result (λ answer. answer.status ≡ Status.Done) }
+    ensures report { IfOk result (λ answer. answer.report.items ≡ report_of (Outcome.Done (Done.Certified host.now.resolved.host names.items))) }
+{
+    let host = Bytes::from_slice(alloc, host.name())?;
+    let extensions = Sequence::from_vec(names);
+    reported(
+        alloc,
+        Status::Done,
+        Outcome::Done(Done::Certified { host, extensions }),
+    )
+}
