@@ -1,0 +1,235 @@
+//! Is the answer of an evaluation the one that is asked for?
+//!
+//! A row has a term, an attribute of its root, how many steps there are, and the answer. Each host is certified first.
+
+ghost use Rattle.std.specs.Prelude.{◌≡◌, ◌<◌, ◌↔◌, ℕ, [], length, IfSome, IsTrue};
+ghost use Rattle.wb_attributes.specs.Modular.{EachProduction};
+ghost use Rattle.wb_attributes.specs.Occurrences.{Goes, HasFlowType};
+ghost use Rattle.wb_attributes.specs.WellDefined.{IsWellDefinedProduction};
+ghost use Rattle.wb_evaluation.specs.Evaluable.{IsAsked};
+ghost use Rattle.wb_operations.specs.Standard.{standard_signatures};
+ghost use Rattle.wb_resolved.specs.declared.attributes.Direction.TheVariants.{Synthesized};
+ghost use Rattle.wb_types.specs.Rules.{KindsOk};
+ghost use Rattle.wb_values.specs.Fits.{FitsTree};
+ghost use Rattle.wb_values.specs.ValuesIn.{tree_in};
+
+use std::alloc::Global;
+use wb_certify::{CertifiedHost, certify_host};
+use wb_evaluator::{Evaluated, evaluate};
+use wb_operations::{OperationSignatures, standard_table};
+use wb_reader::read_spec;
+use wb_resolved::{Attribution, AttributionParts, Direction, Occurrence};
+use wb_syntax::Spec;
+use wb_terms::read_term;
+use wb_values::{TreeId, TreeStore, Value};
+
+// What an evaluation is to answer.
+#[derive(Clone, Copy)]
+pub(crate) enum Answer {
+    // This number.
+    Int(i64),
+    // This text.
+    Text(&'static str),
+    // A fault of the operation of this name, with this code.
+    Fault(&'static str, u32),
+    // That there are too few steps.
+    MoreSteps,
+}
+
+// A term, the name of an attribute, how many steps there are, and the answer.
+pub(crate) type Row = (&'static str, &'static str, u64, Answer);
+
+// Whether each row has its answer in the host of this text.
+pub(crate) fn rows_answer(alloc: Global, text: &str, rows: &[Row]) -> bool {
+    match read_spec(alloc, text.as_bytes()) {
+        Ok(spec) => spec_answers(alloc, &spec, rows),
+        Err(_) => false,
+    }
+}
+
+// The same for the host of this specification.
+fn spec_answers(alloc: Global, spec: &Spec, rows: &[Row]) -> bool {
+    match standard_table(alloc) {
+        Ok(operations) => match certify_host(alloc, spec, &operations) {
+            Ok(host) => host_answers(alloc, &host, rows),
+            Err(_) => false,
+        },
+        Err(_) => false,
+    }
+}
+
+// The same for a certified host.
+fn host_answers(alloc: Global, host: &CertifiedHost, rows: &[Row]) -> bool
+    requires { host.now.operations ≡ standard_signatures }
+{
+    all_answer(alloc, &host.resolved().parts().attributes, rows)
+}
+
+// The same for attributes that are well defined and of their kinds.
+fn all_answer(alloc: Global, attributes: &Attribution, rows: &[Row]) -> bool
+    requires productions { EachProduction attributes.now (IsWellDefinedProduction attributes.now) }
+    requires kinds { KindsOk attributes.now standard_signatures }
+{
+    'rows: for row in rows {
+        if !row_answers(alloc, attributes, *row) {
+            return false;
+        }
+    }
+    true
+}
+
+// Whether a row has its answer.
+fn row_answers(alloc: Global, attributes: &Attribution, row: Row) -> bool
+    requires productions { EachProduction attributes.now (IsWellDefinedProduction attributes.now) }
+    requires kinds { KindsOk attributes.now standard_signatures }
+{
+    let mut store = TreeStore::new(alloc);
+    match read_term(
+        alloc,
+        row.0.as_bytes(),
+        &attributes.parts().signatures,
+        &mut store,
+    ) {
+        Ok(root) => tree_answers(alloc, attributes, &mut store, root, row),
+        Err(_) => false,
+    }
+}
+
+// The same, where the tree of the term is read.
+fn tree_answers(
+    alloc: Global,
+    attributes: &Attribution,
+    store: &mut TreeStore,
+    root: TreeId,
+    row: Row,
+) -> bool
+    requires productions { EachProduction attributes.now (IsWellDefinedProduction attributes.now) }
+    requires kinds { KindsOk attributes.now standard_signatures }
+    requires there { root.0 < length store.old }
+    requires fits { (nonterminal : ℕ) × FitsTree attributes.now.signatures (tree_in store.old root.0) nonterminal }
+{
+    match asked_at(attributes, store, root, row.1.as_bytes()) {
+        Some(attribute) => attribute_answers(
+            alloc, attributes, store, root, attribute, row.2, row.3,
+        ),
+        None => false,
+    }
+}
+
+// Whether this attribute of a tree has the answer within so many steps.
+fn attribute_answers(
+    alloc: Global,
+    attributes: &Attribution,
+    store: &mut TreeStore,
+    root: TreeId,
+    attribute: usize,
+    steps: u64,
+    answer: Answer,
+) -> bool
+    requires productions { EachProduction attributes.now (IsWellDefinedProduction attributes.now) }
+    requires kinds { KindsOk attributes.now standard_signatures }
+    requires there { root.0 < length store.old }
+    requires asked { IsAsked attributes.now (tree_in store.old root.0) attribute }
+{
+    match standard_table(alloc) {
+        Ok(operations) => match evaluate(
+            alloc,
+            attributes,
+            store,
+            root,
+            attribute,
+            steps,
+            &operations,
+        ) {
+            Ok(given) => shows(&given, operations.signatures(), answer),
+            Err(_) => false,
+        },
+        Err(_) => false,
+    }
+}
+
+// Whether what is given is the answer.
+fn shows(given: &Evaluated, operations: &OperationSignatures, answer: Answer) -> bool {
+    match given {
+        Evaluated::Value(value) => shows_value(value, answer),
+        Evaluated::Fault { operation, code } => match answer {
+            Answer::Fault(name, wanted) => {
+                *code == wanted && is_operation(operations, *operation, name)
+            }
+            _ => false,
+        },
+        Evaluated::MoreSteps => matches!(answer, Answer::MoreSteps),
+    }
+}
+
+// Whether a value is the answer.
+fn shows_value(value: &Value, answer: Answer) -> bool {
+    match answer {
+        Answer::Int(wanted) => match value {
+            Value::Int(number) => *number == wanted,
+            _ => false,
+        },
+        Answer::Text(wanted) => match value {
+            Value::Text(text) => text.as_slice() == wanted.as_bytes(),
+            _ => false,
+        },
+        _ => false,
+    }
+}
+
+// Whether the operation of this number has the name.
+fn is_operation(operations: &OperationSignatures, number: usize, name: &str) -> bool {
+    number < operations.len() && operations.name(number) == name.as_bytes()
+}
+
+// The synthesized attribute of this name that may be asked at the root.
+fn asked_at(attributes: &Attribution, store: &TreeStore, root: TreeId, name: &[u8]) -> Option<usize>
+    requires there { root.0 < length store.now }
+    requires fits { (nonterminal : ℕ) × FitsTree attributes.now.signatures (tree_in store.now root.0) nonterminal }
+    ensures { IfSome result (IsAsked attributes.now (tree_in store.now root.0)) }
+{
+    let production = store.production(root);
+    let signatures = &attributes.parts().signatures;
+    if production < signatures.len() {
+        asked_of(attributes.parts(), signatures.left(production), name)
+    } else {
+        None
+    }
+}
+
+// The synthesized attribute of this name on a nonterminal, where it needs nothing.
+fn asked_of(attributes: &AttributionParts, nonterminal: usize, name: &[u8]) -> Option<usize>
+    ensures goes { IfSome result (Goes attributes.now Synthesized) }
+    ensures flow_type { IfSome result (λ x. HasFlowType attributes.now x nonterminal []) }
+{
+    for occurrence in attributes.occurrences.as_slice() {
+        if is_free(occurrence, nonterminal) && is_named(attributes, occurrence.attribute, name) {
+            return Some(occurrence.attribute);
+        }
+    }
+    None
+}
+
+// Whether an occurrence is on this nonterminal and needs nothing.
+fn is_free(occurrence: &Occurrence, nonterminal: usize) -> bool
+    ensures { IsTrue result → (occurrence.now.nonterminal ≡ nonterminal) × (occurrence.now.needs ≡ []) }
+{
+    occurrence.nonterminal == nonterminal && occurrence.needs.is_empty()
+}
+
+// Whether the attribute of this number is synthesized and has the name.
+fn is_named(attributes: &AttributionParts, number: usize, name: &[u8]) -> bool
+    ensures { IsTrue result → Goes attributes.now Synthesized number }
+{
+    let list = attributes.attributes.as_slice();
+    number < list.len()
+        && is_synthesized(list[number].direction)
+        && list[number].name.as_slice() == name
+}
+
+// Whether values go up.
+fn is_synthesized(direction: Direction) -> bool
+    ensures { IsTrue result ↔ (direction ≡ Synthesized) }
+{
+    matches!(direction, Direction::Synthesized)
+}
