@@ -332,3 +332,25 @@ fn an_equal_expression_is_copied(rt: HostRuntime) -> Result<(), RegexRefusal> {
     assert!(rt; is_copied(rt.alloc())?);
     Ok(())
 }
+
+// The expression of a text, put behind a prefix, as it is shown.
+fn shown_behind(alloc: Global, prefix: &[u8], text: &[u8]) -> Result<Vec<u8>, RegexRefusal> {
+    let regex = read_regex(alloc, text)?;
+    let longer = regex.prefixed(prefix)?;
+    let mut shown = Vec::new(alloc);
+    show(longer.nodes(), &mut shown)?;
+    Ok(shown)
+}
+
+#[test]
+fn an_expression_is_put_behind_a_prefix(rt: HostRuntime) -> Result<(), RegexRefusal> {
+    let cases: [(&[u8], &[u8], &[u8]); 3] = [
+        (b"a", b"b", b"<61><62>."),
+        (b"e::", b"x", b"<65><3a>.<3a>.<78>."),
+        (b"a", b"(b|c*)d?e", b"<61><62><63>*|<64>?.<65>.."),
+    ];
+    for (prefix, text, wanted) in cases {
+        assert!(rt; shown_behind(rt.alloc(), prefix, text)?.as_slice() == wanted);
+    }
+    Ok(())
+}

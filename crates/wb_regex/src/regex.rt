@@ -1,12 +1,14 @@
 //! Regular expressions as values. They come from a text alone, by `read`.
 
-ghost use Rattle.std.specs.Prelude.{◌≡◌, [], length, IfOk};
+ghost use Rattle.std.specs.Prelude.{◌≡◌, ◌<◌, [], length, IfOk};
 ghost use Rattle.wb_regex.specs.Matches.{Matches};
 ghost use Rattle.wb_regex.specs.Filled.{Filled};
+ghost use Rattle.wb_regex.specs.Prefixed.{IsPrefixed};
 ghost use Rattle.wb_regex.specs.Covers.{Covers};
 ghost use Rattle.wb_regex.specs.Whole.{tree_of, IsWhole};
 
 use crate::RegexNode;
+use crate::prefix::prefixed;
 use std::alloc::AllocError;
 use std::marker::Model;
 
@@ -59,5 +61,16 @@ impl Regex {
         Ok(Regex {
             nodes: self.nodes.clone()?,
         })
+    }
+
+    /// The expression of the texts that are the prefix and then a text of this one.
+    ///
+    /// It takes time and memory that are linear in both. The only error is want of memory.
+    pub fn prefixed(&self, prefix: &[u8]) -> Result<Regex, AllocError>
+        requires not_empty { 0 < length prefix.now }
+        ensures ok { IfOk result (IsPrefixed prefix.now self.now) }
+    {
+        let nodes = prefixed(*self.nodes.allocator(), prefix, &self.nodes)?;
+        Ok(Regex::from_nodes(nodes))
     }
 }
