@@ -102,6 +102,20 @@ impl TreeStore {
         Ok(tree)
     }
 
+    /// Makes room for so many times as many trees as there are from a place on, and for as many children as these have. It is a hint: where
+    /// there is no memory for so much, there is no more room than before. The trees stay as they are.
+    pub fn make_room(&mut self, from: usize, times: usize)
+        requires { from ≤ length self.old }
+        ensures { self.new ≡ self.old }
+    {
+        let nodes = self.nodes.as_slice();
+        let first = begin(nodes, from);
+        let more_nodes = (self.nodes.len() - from).saturating_mul(times);
+        let more_values = (self.values.len() - first).saturating_mul(times);
+        let _nodes = self.nodes.reserve_exact(more_nodes);
+        let _values = self.values.reserve_exact(more_values);
+    }
+
     /// Keeps the first trees, so many of them, and takes the others away. Takes no memory.
     pub fn truncate(&mut self, len: usize)
         requires { len ≤ length self.old }
