@@ -12,15 +12,14 @@ use Rattle.wb_regex.specs.declared.node.RegexNode.TheVariants as n
 use Rattle.wb_lemmas.proofs.Elements.{all_from_contained}
 use Rattle.wb_automata.specs.declared.pairs.Groups.{Groups}
 use Rattle.wb_automata.specs.declared.predecessor.Predecessor.{Predecessor}
-use Rattle.wb_automata.specs.declared.tables.Tables.{Tables}
+use Rattle.wb_positions.specs.declared.tables.Tables.{Tables}
 use Rattle.wb_automata.specs.Automata.{Path, IsEarlier}
 use Rattle.wb_automata.specs.Paths.{path_by, path_on, paths_of}
-use Rattle.wb_automata.specs.Rows.{row}
+use Rattle.wb_positions.specs.Rows.{row}
 use Rattle.wb_automata.specs.Inner.Found.{on}
-use Rattle.wb_automata.specs.Inner.Pairs.{Adds, Any, AreApart, AreEarlier, AreFirsts, AreMet, AreTwo, CompletesBoth, HasEnd}
-use Rattle.wb_automata.specs.Inner.Pairs.{IsAfter, IsBegun, IsClosed, IsLeastCompletion, IsLed}
-use Rattle.wb_automata.specs.Inner.Pairs.{IsMetBy, IsMetUpTo, IsNoCompletion, IsPassed, IsPassing, IsWalked, Met, path_at}
-use Rattle.wb_automata.specs.Inner.Pairs.{met_of, start_pair}
+use Rattle.wb_automata.specs.Inner.Pairs.{Adds, Any, AreApart, AreEarlier, AreFirsts, AreMet, AreTwo, CompletesBoth, HasEnd, IsAfter}
+use Rattle.wb_automata.specs.Inner.Pairs.{IsBegun, IsClosed, IsLeastCompletion, IsLed, IsMetBy, IsMetUpTo, IsNoCompletion, IsPassed}
+use Rattle.wb_automata.specs.Inner.Pairs.{IsPassing, IsWalked, Met, path_at, met_of, start_pair}
 use Rattle.wb_automata.proofs.LeastLemmas.{at_most}
 use Rattle.wb_automata.proofs.OrderLemmas.{IsLatest, earlier_last, earlier_more, earlier_next, latest_last, latest_more, latest_next}
 use Rattle.wb_automata.proofs.PlaceLemmas.{paths_more, paths_none}

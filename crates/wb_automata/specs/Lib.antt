@@ -1,6 +1,6 @@
 -- what the states of an automaton say of the texts that lead to them
 pub mod Automata
--- the order of texts, and lists that rise
+-- the order of texts
 pub mod Order
 -- the least texts that two expressions share and that one matches
 pub mod Overlaps
@@ -10,7 +10,7 @@ pub mod Kept
 pub mod Moves
 -- paths of states, by where each was found from
 pub mod Paths
--- lists of lists
+-- lists in one list
 pub mod Rows
 -- what only proofs need
 pub mod Inner

@@ -8,25 +8,15 @@
 
 mod accepted;
 mod automaton;
-mod classes;
-mod concatenated;
-mod ends;
 mod explore;
 mod flat_rows;
 mod least;
 mod moves;
 mod pairs;
-mod positions;
-mod post_order;
 mod predecessor;
-mod repeated;
-mod rows;
 mod shared;
 mod states;
-mod tables;
-mod terminals;
 mod text;
-mod transition;
 
 pub use automaton::Automaton;
 pub use least::{least_text, overlap};

@@ -10,8 +10,8 @@ use Rattle.std.proofs.lemmas.Nat.Bits.{bit_at-zero, bit_at-lt, bit_at_and, bit_a
 use Rattle.std.proofs.lemmas.Option.{same_Some, slice_get_within}
 use Rattle.wb_lemmas.proofs.Booleans.{or_left, or_right}
 use Rattle.wb_lemmas.proofs.Parts.{append_nothing_left, append_nothing_right}
-use Rattle.wb_automata.proofs.JoinLemmas.{covers_below, covers_parts}
-use Rattle.wb_automata.specs.Inner.Nodes.{AreParts}
+use Rattle.wb_positions.proofs.JoinLemmas.{covers_below, covers_parts}
+use Rattle.wb_positions.specs.Parts.{AreParts}
 use Rattle.wb_regex.specs.Covers as w
 use Rattle.wb_regex.specs.Matches.{Matches, HoldsByte, byte, both, left, right, none, more, once, absent, present}
 use Rattle.wb_regex.specs.Tree.{Tree, Set, Sequence, Choice, Star, Plus, Maybe}

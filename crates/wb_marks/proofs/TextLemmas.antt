@@ -3,7 +3,7 @@ use Rattle.std.proofs.Common.{◌≡◌, ◌≤◌, ◌+◌, ℕ, List, [], ◌�
 use Rattle.std.proofs.Common.{refl, sym, ◌∙◌, ap, subst, arith, inl, inr, append_assoc, length-append}
 use Rattle.std.proofs.lemmas.Bool.{cases_lt}
 use Rattle.wb_lemmas.proofs.Places.{at_within, at_once, push_keeps, push_last, push_before}
-use Rattle.wb_automata.proofs.JoinLemmas.{covers_below}
+use Rattle.wb_positions.proofs.JoinLemmas.{covers_below}
 use Rattle.wb_regex.specs.Covers as w
 use Rattle.wb_regex.specs.Matches.{Matches, byte, both}
 use Rattle.wb_regex.specs.Tree.{Tree}

@@ -4,7 +4,7 @@
 //! each node of an expression are found from those of its parts.
 
 ghost use Rattle.std.specs.Prelude.{◌≡◌, ◌<◌, ℕ, [], IfOk, IsTrue, length};
-ghost use Rattle.wb_automata.specs.Inner.Nodes.{AreParts, PartsBelow};
+ghost use Rattle.wb_positions.specs.Parts.{AreParts, PartsBelow};
 ghost use Rattle.wb_regex.specs.Matches.{HoldsByte, Matches};
 ghost use Rattle.wb_marks.specs.Inner.FirstBytes.{Begin, BeginWithin, beginning_of, choice, maybe, sequence, union};
 

@@ -3,7 +3,7 @@
 //! Two such expressions share a text only where it is one text, so keywords that begin alike are told apart without their places.
 
 ghost use Rattle.std.specs.Prelude.{◌≡◌, ◌≤◌, ◌<◌, ◌+◌, ◌≢◌, ℕ, IfOk, IfSome, IfNone, IsSomeAnd, IsTrue, true};
-ghost use Rattle.wb_automata.specs.Inner.Transitions.{has_byte};
+ghost use Rattle.wb_positions.specs.Leaves.{has_byte};
 ghost use Rattle.wb_marks.specs.Inner.Texts.{Adds, AddsSingle, IsSingle, MatchesOnly};
 ghost use Rattle.wb_regex.specs.Matches.{HoldsByte};
 

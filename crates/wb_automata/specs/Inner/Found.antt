@@ -1,10 +1,15 @@
 -- States that are found one after another, each with its places and with the path by which it was found.
-use Rattle.std.specs.Prelude.{◌≡◌, ◌<◌, ◌≤◌, ◌↔◌, ◌⊎◌, ℕ, true, Option, Some, None, List, [], ◌∷◌, ◌++◌, Contains, length, slice_get}
+use Rattle.std.specs.Prelude.{◌≡◌, ℕ, ◌<◌, ◌≤◌, List, [], true, length, Contains, ◌↔◌, ◌⊎◌, Option, Some, None, ◌∷◌, ◌++◌, slice_get}
 use Rattle.wb_regex.specs.declared.node.RegexNode.{RegexNode}
-use Rattle.wb_automata.specs.declared.tables.Tables.{Tables}
+use Rattle.wb_positions.specs.Rows.{row}
+use Rattle.wb_positions.specs.declared.tables.Tables.{Tables}
+use Rattle.wb_positions.specs.Leaves.{holds_of}
+use Rattle.wb_positions.specs.Transitions.{Ahead, IsPlaceList}
 use Rattle.wb_automata.specs.Automata.{Path, IsEarlier}
-use Rattle.wb_automata.specs.Rows.{row}
-use Rattle.wb_automata.specs.Inner.Transitions.{holds_of, Reads, IsPlaceList}
+
+-- the leaf is where the byte leads from the set
+abbrev pub Reads : Tables → List ℕ → ℕ → ℕ → Type 0
+Reads t set b q = (holds_of t.nodes.items q b ≡ true) × Ahead t.follow set q
 
 -- the places of each state, and its path
 pub record Found : Type 0 where

@@ -1,0 +1,21 @@
+//! The position automaton of several regular expressions: which leaf may come after which, with which leaves a match may begin
+//! and end, and which bytes no leaf tells apart.
+//!
+//! It is Glushkov's: the leaf that was read last is the state. What is made of it lies above, in `wb_automata`.
+#![tactic(auto)]
+
+mod classes;
+mod concatenated;
+mod ends;
+mod positions;
+mod post_order;
+mod repeated;
+mod rows;
+mod tables;
+mod terminals;
+mod transition;
+
+pub use classes::{Classes, classes_of};
+pub use rows::{Leaves, Rows};
+pub use tables::{Tables, tables_of};
+pub use transition::{holds, reading, successors};
