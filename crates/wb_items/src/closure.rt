@@ -16,7 +16,27 @@ use wb_base::{Grammar, Sequence, push};
 use wb_grammars::Item;
 use wb_termset::TermSet;
 
-// The items of the closure of a kernel, in order.
+/// The items of the closure of a kernel, with those of the kernel first. The only error is want of memory.
+pub fn kernel_closure(
+    alloc: Global,
+    grammar: &Grammar,
+    rules: &[Numbers],
+    kernel: &[Item],
+) -> Result<Vec<Item>, AllocError>
+    requires { AreProductions grammar.now rules.now }
+    ensures { IfOk result (λ closure. (item : Item) → Contains closure.items item ↔ InClosure grammar.now (Contains kernel.now) item) }
+{
+    let mut opened = TermSet::new(alloc, grammar.nonterminals())?;
+    let mut closure = Vec::from_slice(alloc, kernel)?;
+    let mut place = 0;
+    'places: while place < closure.len() {
+        open(grammar, rules, kernel, place, &mut opened, &mut closure)?;
+        place += 1;
+    }
+    Ok(closure)
+}
+
+// The same in order, each once.
 pub(crate) fn close(
     alloc: Global,
     grammar: &Grammar,
@@ -27,13 +47,7 @@ pub(crate) fn close(
     ensures exact { IfOk result (λ closure. (item : Item) → Contains closure item ↔ InClosure grammar.now (Contains kernel.now) item) }
     ensures in_order { IfOk result (λ closure. AreInOrder closure) }
 {
-    let mut opened = TermSet::new(alloc, grammar.nonterminals())?;
-    let mut closure = Vec::from_slice(alloc, kernel)?;
-    let mut place = 0;
-    'places: while place < closure.len() {
-        open(grammar, rules, kernel, place, &mut opened, &mut closure)?;
-        place += 1;
-    }
+    let mut closure = kernel_closure(alloc, grammar, rules, kernel)?;
     closure.sort()?;
     let list = deduplicated(alloc, &closure)?;
     Ok(list)

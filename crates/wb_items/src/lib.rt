@@ -20,6 +20,7 @@ mod search;
 mod table;
 mod transitions;
 
+pub use closure::kernel_closure;
 pub use dot::symbol_after;
 pub use item_lookahead::ItemLookahead;
 pub use kernels::Kernels;

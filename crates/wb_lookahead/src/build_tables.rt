@@ -2,13 +2,15 @@
 //!
 //! One kernel's row is made in `rows.rt`; how tables are asked is in `parser_tables.rt`.
 
-ghost use Rattle.std.specs.Prelude.{◌≡◌, ◌+◌, ◌<◌, IfErr, IfOk, OnOk};
+ghost use Rattle.std.specs.Prelude.{◌≡◌, ◌+◌, ◌<◌, ◌++◌, ◌∷◌, [], ℕ, Bool, List, IfErr, IfOk, OnOk, length, map};
 ghost use Rattle.wb_items.specs.Kernels.{AreKernels, count_of};
 ghost use Rattle.wb_items.specs.LookaheadSets.{AreLookaheads};
-ghost use Rattle.wb_lookahead.specs.Inner.Parts.{ArePartsUpTo};
+ghost use Rattle.wb_lookahead.specs.Codes.{action_at};
+ghost use Rattle.wb_lookahead.specs.Inner.Parts.{ArePartsUpTo, HasRow, ValidIn};
+ghost use Rattle.wb_lookahead.specs.Inner.Rows.{AreGotos};
 ghost use Rattle.wb_lookahead.specs.Tables.{AreTables, IsTableRefusal};
 
-use crate::action::TableRefusal;
+use crate::action::{Action, TableRefusal};
 use crate::codes::codes_of;
 use crate::matrix::Matrix;
 use crate::parser_tables::Tables;
@@ -91,12 +93,46 @@ fn add_kernel(
     ensures ok { OnOk result (ArePartsUpTo kernels.now parts.new (state + 1)) }
     ensures refused { IfErr result (IsTableRefusal kernels.now) }
 {
+    add_gotos(alloc, grammar, kernels, state, &mut parts.gotos)?;
     let row = actions_at(alloc, grammar, kernels, lookaheads, state)?;
-    let actions = codes_of(alloc, &row)?;
-    let gotos = gotos_at(alloc, grammar, kernels, state)?;
-    let valid = valid_in(alloc, &row)?;
-    parts.actions.add(&actions)?;
-    parts.gotos.add(&gotos)?;
-    push(&mut parts.valid, valid)?;
+    add_row(alloc, &row, parts)?;
     Ok(())
+}
+
+// Adds the codes of the kernels to which the nonterminals lead.
+fn add_gotos(
+    alloc: Global,
+    grammar: &Grammar,
+    kernels: &Kernels,
+    state: usize,
+    gotos: &mut Matrix,
+) -> Result<(), AllocError>
+    requires kernels { AreKernels kernels.now }
+    requires grammar { kernels.now.grammar ≡ grammar.now }
+    requires state { state < count_of kernels.now }
+    requires width { gotos.old.width ≡ kernels.now.grammar.nonterminals }
+    ensures { OnOk result ((row : List ℕ) × AreGotos kernels.now state row kernels.now.grammar.nonterminals × HasRow gotos.old row gotos.new) }
+{
+    let row = gotos_at(alloc, grammar, kernels, state)?;
+    gotos.add(&row)
+}
+
+// Adds the codes of actions, and the terminals that have one.
+fn add_row(alloc: Global, row: &[Action], parts: &mut Parts) -> Result<(), AllocError>
+    requires { length row.now ≡ parts.old.actions.width }
+    ensures actions { OnOk result ((codes : List ℕ) × (map action_at codes ≡ row.now) × HasRow parts.old.actions codes parts.new.actions) }
+    ensures gotos { parts.new.gotos ≡ parts.old.gotos }
+    ensures valid { OnOk result ((set : List Bool) × ValidIn row.now set × (parts.new.valid.items ≡ parts.old.valid.items ++ set ∷ [])) }
+{
+    add_codes(alloc, row, &mut parts.actions)?;
+    push(&mut parts.valid, valid_in(alloc, row)?)
+}
+
+// Adds the codes of actions.
+fn add_codes(alloc: Global, row: &[Action], actions: &mut Matrix) -> Result<(), AllocError>
+    requires { length row.now ≡ actions.old.width }
+    ensures { OnOk result ((codes : List ℕ) × (map action_at codes ≡ row.now) × HasRow actions.old codes actions.new) }
+{
+    let codes = codes_of(alloc, row)?;
+    actions.add(&codes)
 }

@@ -1,9 +1,13 @@
 -- Tables in the making: what was made for the first kernels.
-use Rattle.std.specs.Prelude.{◌≡◌, ◌<◌, ℕ, [], length, map, slice_index_or}
+use Rattle.std.specs.Prelude.{◌≡◌, ◌≢◌, ◌<◌, ◌++◌, ◌∷◌, ◌↔◌, ℕ, Bool, List, [], length, map, slice_index_or}
 use Rattle.wb_items.specs.Kernels.{KernelsView}
 use Rattle.wb_lookahead.specs.declared.build_tables.Parts.{Parts}
 use Rattle.wb_lookahead.specs.Codes.{action_at}
-use Rattle.wb_lookahead.specs.Matrices.{AreMatrices}
+use Rattle.wb_lookahead.specs.Contents.{action_in}
+use Rattle.wb_lookahead.specs.Matrices.{AreMatrices, MatrixView}
+use Rattle.wb_lookahead.specs.declared.action.Action.{Action}
+use Rattle.wb_lookahead.specs.declared.action.Action.TheVariants.{None}
+use Rattle.wb_termset.specs.Sets.{IsMember}
 use Rattle.wb_lookahead.specs.Inner.Rows.{AreGotos, IsRowOf}
 use Rattle.wb_lookahead.specs.Tables.{IsValidSet}
 
@@ -15,3 +19,12 @@ pub record ArePartsUpTo (kernels : KernelsView) (parts : Parts) (n : ℕ) : Type
   pub actions : (s : ℕ) → s < n → IsRowOf kernels s (map action_at (slice_index_or parts.actions.rows s []))
   pub gotos : (s : ℕ) → s < n → AreGotos kernels s (slice_index_or parts.gotos.rows s []) kernels.grammar.nonterminals
   pub valid : (s : ℕ) → s < n → IsValidSet kernels s (slice_index_or parts.valid.items s [])
+
+-- the matrix has this row after those of the other
+abbrev pub HasRow : MatrixView → List ℕ → MatrixView → Type 0
+HasRow old row new = new ≡ record { width = old.width; rows = old.rows ++ row ∷ [] }
+
+-- the set is that of the terminals on which the row has an action
+pub record ValidIn (row : List Action) (set : List Bool) : Type 0 where
+  pub len : length set ≡ length row
+  pub each : (t : ℕ) → IsMember set t ↔ (action_in row t ≢ None)
