@@ -8,7 +8,7 @@ use Rattle.std.proofs.lemmas.List.{length-replicate, get_or-replicate, get_or_pa
 use Rattle.std.proofs.lemmas.Option.{same_Some}
 use Rattle.wb_graph.specs.Graphs.{Edge, IsEdge, IsEdgeBelow, Walk, IsReached, AreReached}
 use Rattle.wb_graph.specs.Graphs.Walk.{stay, step}
-use Rattle.wb_graph.specs.Inner.Worklist.{State, marked, IsMarked, IsWorklist, AdvancesTo}
+use Rattle.wb_graph.specs.Inner.Worklist.{State, marked, IsMarked, IsReaching, IsWorklist, AdvancesTo}
 use Rattle.wb_graph.specs.Inner.Taking.{IsLinked, IsTaken, NothingTaken, Takes}
 use Rattle.wb_lemmas.proofs.Places.{at_push, push_keeps, push_last, nothing_at}
 use Rattle.wb_lemmas.proofs.Members.{place_of}
@@ -229,12 +229,6 @@ worklist_reached edges from s h empty sound starts = record {
     along : (u v : ℕ) → IsMarked s u → Walk edges u v → IsMarked s v
     along u v on (stay _ is) = subst (IsMarked s) is on
     along u v on (step t _ walk edge) = on_edge t v (along u t on walk) edge
-
--- a worklist that has reached nothing but what walks from the first vertices reach
-pub record IsReaching (count : ℕ) (edges : List Edge) (from : List ℕ) (s : State) : Type 0 where
-  pub worklist : IsWorklist edges None s
-  pub len : length s.reached ≡ count
-  pub sound : (v : ℕ) → IsMarked s v → IsReached edges from v
 
 -- with nothing reached
 pub reaching_begun : (count : ℕ) (edges : List Edge) (from firsts links : List ℕ) → All (IsEdgeBelow count) edges →

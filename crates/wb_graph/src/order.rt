@@ -1,11 +1,13 @@
 //! A topological order of a graph, or a cycle, which rules every order out.
 
-ghost use Rattle.std.specs.Prelude.{◌≡◌, ℕ, All, Contains, IfOk, Some, slice_get, drop};
+ghost use Rattle.std.specs.Prelude.{◌≡◌, ℕ, [], All, Contains, IfOk, Some, length, slice_get, drop};
 ghost use Rattle.wb_graph.specs.Graphs.{IsEdgeBelow};
 ghost use Rattle.wb_graph.specs.Orders.{IsAnswer, ExcludesOther};
+ghost use Rattle.wb_graph.specs.Inner.Search.{state_of, IsSearch};
 
 use crate::search::Search;
 use std::alloc::{AllocError, Global};
+use std::mem::replace;
 
 /// What `order_of` answers.
 #[derive(Debug, Drop)]
@@ -25,12 +27,29 @@ pub fn order_of(alloc: Global, count: usize, edges: &[(usize, usize)]) -> Result
     ensures exact { IfOk result (ExcludesOther count edges.now) }
 {
     let mut search = Search::new(alloc, count, edges)?;
+    order_by(alloc, count, edges, &mut search)
+}
+
+// The same by a search that has met no vertex.
+fn order_by(
+    alloc: Global,
+    count: usize,
+    edges: &[(usize, usize)],
+    search: &mut Search,
+) -> Result<Order, AllocError>
+    requires edges { All (IsEdgeBelow count) edges.now }
+    requires search { IsSearch edges.now [] (state_of search.old) }
+    requires path { search.old.path.items ≡ [] }
+    requires len { length search.old.colours.items ≡ count }
+    ensures ok { IfOk result (IsAnswer count edges.now) }
+    ensures exact { IfOk result (ExcludesOther count edges.now) }
+{
     'roots: for root in 0..count {
         if let Some(vertex) = search.visit(edges, root)? {
             return Ok(Order::Cycle(cycle_from(alloc, &search.path, vertex)?));
         }
     }
-    Ok(Order::Sorted(search.finished))
+    Ok(Order::Sorted(replace(&mut search.finished, Vec::new(alloc))))
 }
 
 // The path from the vertex on.

@@ -36,9 +36,11 @@ impl Search {
         ensures len { IfOk result (λ made. length made.colours.items ≡ count) }
         ensures path { IfOk result (λ made. made.path.items ≡ []) }
     {
+        let untaken = EdgeLists::new(alloc, count, edges)?;
+        let colours = vec![in alloc; Colour::White; count]?;
         Ok(Search {
-            untaken: EdgeLists::new(alloc, count, edges)?,
-            colours: vec![in alloc; Colour::White; count]?,
+            untaken,
+            colours,
             path: Vec::new(alloc),
             finished: Vec::new(alloc),
         })

@@ -1,14 +1,15 @@
 //! The strongly connected components of a graph, numbered so that edges lead to smaller numbers or stay.
 //!
 //! With them 'is on a cycle' is a comparison of two numbers. The search is in `groups`.
-ghost use Rattle.std.specs.Prelude.{◌≡◌, ◌<◌, ◌↔◌, [], All, IfOk, IsTrue, length, slice_get, Some};
+ghost use Rattle.std.specs.Prelude.{◌≡◌, ◌<◌, ◌↔◌, [], All, IfOk, IsTrue, None, length, slice_get, Some};
 ghost use Rattle.wb_graph.specs.Components.{ComponentsView, AreComponents};
 ghost use Rattle.wb_graph.specs.Graphs.{IsEdgeBelow};
-ghost use Rattle.wb_graph.specs.Inner.Groups.{IsClosedMark, AreNumbers};
+ghost use Rattle.wb_graph.specs.Inner.Groups.{state_of, IsGrouping, IsClosedMark, AreNumbers};
 
 use crate::groups::{Groups, Mark};
 use std::alloc::{AllocError, Global};
 use std::marker::Model;
+use std::mem::replace;
 
 /// The strongly connected components of a graph: a number for each vertex, from 0 to below `len()`.
 ///
@@ -73,14 +74,27 @@ pub fn strong_components(
     ensures { IfOk result (AreComponents count edges.now) }
 {
     let mut groups = Groups::new(alloc, count, edges)?;
+    components_by(alloc, count, edges, &mut groups)
+}
+
+// The same by a search that has met no vertex.
+fn components_by(
+    alloc: Global,
+    count: usize,
+    edges: &[(usize, usize)],
+    groups: &mut Groups,
+) -> Result<Components, AllocError>
+    requires grouping { IsGrouping edges.now None (state_of groups.old) }
+    requires len { length groups.old.marks.items ≡ count }
+    requires path { groups.old.path.items ≡ [] }
+    ensures { IfOk result (AreComponents count edges.now) }
+{
     'roots: for root in 0..count {
         groups.visit(edges, root)?;
     }
     let numbers = numbers_of(alloc, &groups.marks)?;
-    Ok(Components {
-        numbers,
-        roots: groups.roots,
-    })
+    let roots = replace(&mut groups.roots, Vec::new(alloc));
+    Ok(Components { numbers, roots })
 }
 
 // The numbers of vertices that are all closed.

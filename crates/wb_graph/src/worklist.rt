@@ -2,7 +2,7 @@
 
 ghost use Rattle.std.specs.Prelude.{◌≡◌, ◌<◌, All, length, slice_index_or, false, None, IfOk, OnOk};
 ghost use Rattle.wb_graph.specs.Graphs.{IsEdgeBelow, AreReached};
-ghost use Rattle.wb_graph.specs.Inner.Worklist.{worklist_of, marked, IsWorklist, AdvancesTo};
+ghost use Rattle.wb_graph.specs.Inner.Worklist.{worklist_of, marked, IsReaching, IsWorklist, AdvancesTo};
 
 use crate::edge_lists::EdgeLists;
 use std::alloc::{AllocError, Global};
@@ -25,12 +25,7 @@ pub fn reachable_from(
         reached: vec![in alloc; false; count]?,
         waiting: Vec::new(alloc),
     };
-    'starts: for &start in from {
-        worklist.mark(start)?;
-    }
-    'steps: while !worklist.waiting.is_empty() {
-        worklist.advance(edges)?;
-    }
+    worklist.reach(edges, from)?;
     Ok(worklist.reached)
 }
 
@@ -43,6 +38,21 @@ struct Worklist {
 }
 
 impl Worklist {
+    // Reaches what walks from these vertices reach.
+    fn reach(&mut self, edges: &[(usize, usize)], from: &[usize]) -> Result<(), AllocError>
+        requires from { All (λ v. v < length self.old.reached.items) from.now }
+        requires reaching { IsReaching (length self.old.reached.items) edges.now from.now (worklist_of self.old) }
+        ensures { OnOk result (AreReached (length self.old.reached.items) edges.now from.now self.new.reached.items) }
+    {
+        'starts: for &start in from {
+            self.mark(start)?;
+        }
+        'steps: while !self.waiting.is_empty() {
+            self.advance(edges)?;
+        }
+        Ok(())
+    }
+
     // Takes one edge of the vertex that waits last, or lets it wait no more.
     fn advance(&mut self, edges: &[(usize, usize)]) -> Result<(), AllocError>
         requires waiting { 0 < length self.old.waiting.items }

@@ -1,7 +1,7 @@
 -- A worklist over a graph: what it keeps of the vertices reached, and of those of which edges may be left.
 use Rattle.std.specs.Prelude.{◌≡◌, ◌<◌, ◌+◌, ◌*◌, ◌⊎◌, ◌++◌, ◌∷◌, [], ℕ, Bool, true, false, Option, Some, None, List, All, length}
 use Rattle.std.specs.Prelude.{slice_get, slice_set, slice_index, slice_index_or, sum}
-use Rattle.wb_graph.specs.Graphs.{Edge, IsEdge, IsEdgeBelow}
+use Rattle.wb_graph.specs.Graphs.{Edge, IsEdge, IsEdgeBelow, IsReached}
 use Rattle.wb_graph.specs.Inner.Taking.{IsLinked, IsTaken}
 use Rattle.wb_graph.specs.declared.worklist.Worklist.{Worklist}
 
@@ -46,3 +46,9 @@ pub record AdvancesTo (edges : List Edge) (old new : State) : Type 0 where
   pub keeps : (v : ℕ) → IsMarked old v → IsMarked new v
   pub grows : (v : ℕ) → IsMarked new v → IsMarked old v ⊎ ((u : ℕ) × (IsMarked old u) × (IsEdge edges u v))
   pub fewer : 2 * sum new.firsts + length new.waiting < 2 * sum old.firsts + length old.waiting
+
+-- a worklist that has reached nothing but what walks from the first vertices reach
+pub record IsReaching (count : ℕ) (edges : List Edge) (from : List ℕ) (s : State) : Type 0 where
+  pub worklist : IsWorklist edges None s
+  pub len : length s.reached ≡ count
+  pub sound : (v : ℕ) → IsMarked s v → IsReached edges from v

@@ -1,7 +1,7 @@
 use Rattle.std.proofs.Common.{◌≡◌, ◌<◌, ℕ, [], None, Some, length, slice_get}
 use Rattle.wb_graph.specs.Inner.Groups.{state_of, IsGrouping}
 use Rattle.wb_graph.specs.declared.groups.Mark.TheVariants.{New}
-use Rattle.wb_graph.proofs.strongly_connected.strong_components.Given as goal
+use Rattle.wb_graph.proofs.strongly_connected.components_by.Given as goal
 
 abbrev pub invariant-roots : goal.invariant-roots
 invariant-roots l = record {

@@ -1,7 +1,7 @@
 use Rattle.std.proofs.Common.{◌≡◌, ◌<◌, ℕ, [], Some, length, slice_get}
 use Rattle.wb_graph.specs.Inner.Search.{state_of, IsSearch}
 use Rattle.wb_graph.specs.declared.search.Colour.TheVariants.{White}
-use Rattle.wb_graph.proofs.order.order_of.Given as goal
+use Rattle.wb_graph.proofs.order.order_by.Given as goal
 
 abbrev pub invariant-roots : goal.invariant-roots
 invariant-roots l = record {

@@ -4,13 +4,13 @@ use Rattle.wb_graph.specs.Orders.{IsOrder, IsSimpleCycle}
 use Rattle.wb_graph.specs.Inner.Search.{state_of, ClosesPath, Visits}
 use Rattle.wb_graph.proofs.CallerLemmas.{order_excludes_cycle}
 use Rattle.wb_graph.proofs.OrderLemmas.{closed_cycle, simple_cycle, searched_order}
-use Rattle.wb_graph.proofs.order.order_of.Goals as goal
+use Rattle.wb_graph.proofs.order.order_by.Goals as goal
 
 pub roots-init : goal.roots-init
 roots-init c = record {
-  search = c.in_ok-search.ensures.search;
-  path = c.in_ok-search.ensures.path;
-  len = c.in_ok-search.ensures.len;
+  search = c.requires.search;
+  path = c.requires.path;
+  len = c.requires.len;
   met = λ v less. absurd (omega arith);
 }
 
@@ -43,18 +43,18 @@ returns-in-Some-clause-exact c list is_order =
     let path = c.visit.new.self.path.items in
     let closes : ClosesPath c.args.edges.now path c.in-Some.vertex = rw c.in-Some.is at c.in_ok-vertex.ensures.met in
     let (i, at) = closes.on_path in
-    order_excludes_cycle c.args.count c.args.edges.now list (drop i path) c.requires is_order
+    order_excludes_cycle c.args.count c.args.edges.now list (drop i path) c.requires.edges is_order
     (closed_cycle c.args.edges.now path c.in-Some.vertex i closes at)
 
 pub returns-clause-ok : goal.returns-clause-ok
 returns-clause-ok c =
     let h = c.roots.invariant in
-    subst (λ n. IsOrder n c.args.edges.now c.roots.search.finished.items) h.len
-    (searched_order c.args.edges.now [] (state_of c.roots.search) h.search h.path (λ v less. h.met v (omega (arith, h.len))))
+    rw c.replace.ensures.value (subst (λ n. IsOrder n c.args.edges.now c.roots.search.finished.items) h.len
+    (searched_order c.args.edges.now [] (state_of c.roots.search) h.search h.path (λ v less. h.met v (omega (arith, h.len)))))
 
 pub returns-clause-exact : goal.returns-clause-exact
 returns-clause-exact c list is_cycle =
     let h = c.roots.invariant in
     let order = subst (λ n. IsOrder n c.args.edges.now c.roots.search.finished.items) h.len
     (searched_order c.args.edges.now [] (state_of c.roots.search) h.search h.path (λ v less. h.met v (omega (arith, h.len)))) in
-    order_excludes_cycle c.args.count c.args.edges.now c.roots.search.finished.items list c.requires order is_cycle
+    order_excludes_cycle c.args.count c.args.edges.now c.roots.search.finished.items list c.requires.edges order is_cycle
