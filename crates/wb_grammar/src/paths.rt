@@ -29,14 +29,47 @@ pub(crate) fn path(
         return Ok(None);
     }
     let mut places = vec![in alloc; 0; count]?;
+    let trail = trail_to(alloc, edges, to, &mut places)?;
+    path_by(alloc, &places, &trail, from)
+}
+
+// The trail that goes back from a vertex, and for each vertex that was met one more than the place of its link, else 0.
+fn trail_to(
+    alloc: Global,
+    edges: &[(usize, usize)],
+    to: usize,
+    places: &mut Vec<usize>,
+) -> Result<Vec<(usize, usize)>, AllocError>
+    requires edges { All (IsEdgeBelow (length places.old.items)) edges.now }
+    requires to { to < length places.old.items }
+    requires none { (v : ℕ) → slice_index places.old.items v ≡ 0 }
+    ensures len { OnOk result (length places.new.items ≡ length places.old.items) }
+    ensures trail { IfOk result (λ trail. IsTrail edges.now to places.new.items trail.items) }
+    ensures closed { OnOk result (IsBackClosed edges.now places.new.items) }
+{
     let mut trail = Vec::new(alloc);
     push(&mut trail, (to, 0))?;
     places[to] = 1;
-    'sweeps: while sweep(edges, &mut places, &mut trail)? {}
+    'sweeps: while sweep(edges, places, &mut trail)? {}
+    Ok(trail)
+}
+
+// The path from a vertex by the trail, if the vertex was met.
+fn path_by(
+    alloc: Global,
+    places: &[usize],
+    trail: &[(usize, usize)],
+    from: usize,
+) -> Result<Option<Vec<usize>>, AllocError>
+    requires from { from < length places.now }
+    requires trail { (edges : List Edge) × (to : ℕ) × IsTrail edges to places.now trail.now }
+    ensures { IfOk result (λ found. (edges : List Edge) (to : ℕ) → IsTrail edges to places.now trail.now → IsBackClosed edges places.now → MatchOption found (¬ IsReached edges (from ∷ []) to) (λ path. IsPathTo edges from path.items to)) }
+{
     if places[from] == 0 {
         return Ok(None);
     }
-    Ok(Some(walk_back(alloc, &trail, places[from] - 1)?))
+    let back = walk_back(alloc, trail, places[from] - 1)?;
+    Ok(Some(back))
 }
 
 // Whether a walk leads from a vertex to another.

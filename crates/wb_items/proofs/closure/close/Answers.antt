@@ -17,5 +17,5 @@ returns-clause-exact c item =
       (λ has. whole.0 (Contains-permutation after before item (IsPermutation-sym before after moved)
           (subst (λ xs. Contains xs item) c.deref.ensures.value ((c.in_ok-list.ensures.same item).0 has)))),
       (λ within. (c.in_ok-list.ensures.same item).1
-          (subst (λ xs. Contains xs item) (sym c.deref.ensures.value) (Contains-permutation before after item moved (whole.1 within))))
+          (subst (λ xs. Contains xs item) (sym c.deref.ensures.value) (Contains-permutation before after item moved (whole.1 within)))),
     )
