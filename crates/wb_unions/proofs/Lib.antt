@@ -12,6 +12,7 @@ pub mod CycleLemmas
 pub mod HostTerminalLemmas
 pub mod LookaheadLemmas
 pub mod TerminalLemmas
+pub mod TwinLemmas
 pub mod RenamingLemmas
 pub mod NumberLemmas
 pub mod FitLemmas

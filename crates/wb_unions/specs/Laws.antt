@@ -47,6 +47,12 @@ HasTwins w part =
     AreProductiveIn w part → (prefix : List Symbol) (i : Item) (t u : ℕ) → IsValidItemIn w part prefix i t →
     IsSymbolIn w part (Terminal u) → phi w u ≡ phi w t → IsValidItemIn w part prefix i u
 
+-- where a terminal is valid, so is each other one of the part that phi takes to the same
+abbrev pub HasValidTwins : World → Part → Type 0
+HasValidTwins w part =
+    AreProductiveIn w part → (prefix : List Symbol) (t u : ℕ) → IsValidTerminalIn w part prefix t → IsSymbolIn w part (Terminal u) →
+    phi w u ≡ phi w t → IsValidTerminalIn w part prefix u
+
 -- two terminals that are valid at a prefix of the union are valid together, up to marks, in a certified grammar or an envelope
 abbrev pub AreTogether : World → ℕ → Type 0
 AreTogether w n =

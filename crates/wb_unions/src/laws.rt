@@ -9,7 +9,7 @@ ghost use Rattle.wb_unions.specs.Example.{example};
 ghost use Rattle.wb_unions.specs.Homes.{AreComposableApart};
 ghost use Rattle.wb_unions.specs.Laws.{AreTogether, HasHostLookaheads, HasOneHome, HasPartLookaheads};
 ghost use Rattle.wb_unions.specs.NumberLaws.{AreTogetherIn, HasHostKernels, HasNamesOnce};
-ghost use Rattle.wb_unions.specs.Laws.{HasTwins, IsDeterministicUnion};
+ghost use Rattle.wb_unions.specs.Laws.{HasTwins, HasValidTwins, IsDeterministicUnion};
 ghost use Rattle.wb_unions.specs.NumberLaws.{IsDeterministicComposition, IsSameBut, IsSpreadOnce};
 ghost use Rattle.wb_unions.specs.Laws.{KeepsHostTerminals};
 ghost use Rattle.wb_unions.specs.NumberLaws.{KeepsHostTerminalsOf};
@@ -41,9 +41,11 @@ pub fn cases_law()
     ensures of_extension { (w : World) (n : ℕ) → IsMarked w → HasOneHome w n }
 {}
 
-/// What is valid with a marker or a hole is valid with each other one of the part on the same nonterminal.
+/// What is valid with a marker or a hole is valid with each other one of the part on the same nonterminal; and where the one is valid, whether
+/// it is shifted or a lookahead, the other is.
 pub fn twins_law()
-    ensures { (w : World) (part : Part) → IsMarked w → HasTwins w part }
+    ensures items { (w : World) (part : Part) → IsMarked w → HasTwins w part }
+    ensures terminals { (w : World) (part : Part) → IsMarked w → HasValidTwins w part }
 {}
 
 /// Two terminals that are valid at a prefix of the union are valid together, up to markers, in a certified grammar with the kernel or in an
