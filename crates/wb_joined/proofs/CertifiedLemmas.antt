@@ -25,7 +25,7 @@ use Rattle.wb_united.specs.Bridges.{begins, bridge_in_list, mark_by}
 use Rattle.wb_united.specs.Certificates.{AreCertified, IsCertifiedBy, IsCertifiedPiece}
 use Rattle.wb_united.specs.Laws.{HasTogether, IsUnited, KeepsHost}
 use Rattle.wb_united.specs.Pieces.{IsPiece, Piece}
-use Rattle.wb_united.proofs.ApartLemmas.{has_together}
+use Rattle.wb_united.proofs.TogetherLemmas.{has_together}
 use Rattle.wb_united.proofs.CertificateLemmas.{certified_by}
 use Rattle.wb_united.proofs.UnitedLemmas.{is_united, keeps_host}
 use Rattle.wb_joined.specs.Joined.{AreCertifiedApart, AreCertifiedBoth, Extended, is_marker_in, piece_in, pieces_in}

@@ -51,8 +51,8 @@ pub fn host_law()
     ensures { (host : ResolvedParts) (h : GrammarView) (operations : List OperationSignature) (extensions : List Extended) → AreCertifiedApart host h operations extensions → KeepsHost h host.extensible (pieces_in extensions) }
 {}
 
-/// Two terminals, no markers, that are valid together in their union are so in one of the certified grammars or in an envelope, and those of
-/// two extensions never are.
+/// Two terminals that are valid together in their union, no markers, or one a marker and the other of its extension, are so in one of the
+/// certified grammars or in an envelope, and those of two extensions that are no markers never are.
 pub fn together_law()
     ensures { (host : ResolvedParts) (h : GrammarView) (operations : List OperationSignature) (extensions : List Extended) → AreCertifiedApart host h operations extensions → HasTogether h host.extensible (pieces_in extensions) }
 {}

@@ -41,8 +41,8 @@ pub fn cases_law()
     ensures of_extension { (w : World) (n : ℕ) → IsMarked w → HasOneHome w n }
 {}
 
-/// What is valid with a marker or a hole is valid with each other one of the part on the same nonterminal; and where the one is valid, whether
-/// it is shifted or a lookahead, the other is.
+/// What is valid with a marker or a hole is valid with each other one of the part on the same nonterminal; and where the one is valid, the
+/// other is, whether it can be shifted there or is a lookahead.
 pub fn twins_law()
     ensures items { (w : World) (part : Part) → IsMarked w → HasTwins w part }
     ensures terminals { (w : World) (part : Part) → IsMarked w → HasValidTwins w part }

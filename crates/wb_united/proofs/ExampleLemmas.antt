@@ -7,7 +7,7 @@ use Rattle.wb_base.specs.declared.symbol.Symbol.{Symbol}
 use Rattle.wb_base.specs.declared.symbol.Symbol.TheVariants.{Terminal}
 use Rattle.wb_base.specs.Grammar.{GrammarView}
 use Rattle.wb_grammars.specs.declared.item.Item.{Item}
-use Rattle.wb_grammars.specs.Items.{IsKernelItem, start, start_item}
+use Rattle.wb_grammars.specs.Items.{IsKernelItem, start_item}
 use Rattle.wb_grammars.specs.Productions.{IsProduction}
 use Rattle.wb_grammars.proofs.ClosureLemmas.{first_kernel}
 use Rattle.wb_grammars.specs.Closure.{InClosure, kernel, opened}

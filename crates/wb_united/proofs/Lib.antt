@@ -11,6 +11,7 @@ pub mod UnionGrammarLemmas
 pub mod UnionCoverLemmas
 pub mod CompositionLemmas
 pub mod ApartLemmas
+pub mod TogetherLemmas
 pub mod UnitedLemmas
 pub mod SingleLemmas
 pub mod ExampleLemmas

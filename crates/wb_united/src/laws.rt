@@ -39,8 +39,8 @@ pub fn host_law()
     ensures { (host : GrammarView) (extensible : List ℕ) (pieces : List Piece) → AreCertified host extensible pieces → KeepsHost host extensible pieces }
 {}
 
-/// Two terminals, no markers, that are valid together in the union are so in one of the certified grammars or in an envelope, and those of two
-/// extensions never are.
+/// Two terminals that are valid together in the union, no markers, or one a marker and the other of its extension, are so in one of the
+/// certified grammars or in an envelope, and those of two extensions that are no markers never are.
 pub fn together_law()
     ensures { (host : GrammarView) (extensible : List ℕ) (pieces : List Piece) → AreCertified host extensible pieces → HasTogether host extensible pieces }
 {}
