@@ -35,7 +35,7 @@ module _ (host : GrammarView) (extensible : List ℕ) (own : LexiconView) (writt
       (facts.own, facts.within)
 
   -- one place, one extension
-  one_piece : (k l : ℕ) (x y : WrittenPiece) → slice_get written k ≡ Some x → slice_get written l ≡ Some y → k ≡ l → y ≡ x
+  pub one_piece : (k l : ℕ) (x y : WrittenPiece) → slice_get written k ≡ Some x → slice_get written l ≡ Some y → k ≡ l → y ≡ x
   one_piece k l x y at there same = same_Some y x (sym there ∙ (ap (slice_get written) (sym same) ∙ at))
 
   -- rows of the host and of an extension with it by the numbers of the union
@@ -188,7 +188,10 @@ module _ (host : GrammarView) (extensible : List ℕ) (own : LexiconView) (writt
       marker_host k x marker.listed marker.terminal u t text marker.marker marker.is t_less
       (turned host extensible own written certified apart prefix r)
   two_bare t u text (of_layout b low high t_is) (of_host u_less vu) r =
-      two_bare u t text (of_host u_less vu) (of_layout b low high t_is) (turned host extensible own written certified apart prefix r)
+      with_host host extensible own written certified apart prefix u b u text u_less u_less
+      (moved host extensible own written certified apart prefix u t (host_row host extensible own written u)
+      (host_row host extensible own written b) text (host_is u u_less) t_is (turned host extensible own written certified apart prefix r))
+      vu vu (inr (low, high))
   two_bare t u text (of_layout b low high t_is) (of_layout c low' high' u_is) r =
       layouts host extensible own written certified apart prefix b c text low high low' high'
       (moved host extensible own written certified apart prefix t u (host_row host extensible own written b)

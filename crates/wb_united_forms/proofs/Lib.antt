@@ -5,3 +5,6 @@ pub mod ReadLemmas
 pub mod ClashLemmas
 pub mod PairLemmas
 pub mod BareLemmas
+pub mod DecidedLemmas
+pub mod BeatsLemmas
+pub mod LanguageLemmas

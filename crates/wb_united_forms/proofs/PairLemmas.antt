@@ -232,5 +232,5 @@ module _ (host : GrammarView) (extensible : List ℕ) (own : LexiconView) (writt
       u < length own.expressions → Rivals (host_row host extensible own written t) (host_row host extensible own written u) text → ⊥
   layouts t u text t_low t_high u_low u_high r =
       no_clash_in_host host extensible own written certified.are_pieces apart t u text r []
-      (start_item (with_holes_of host extensible), (end_of (with_holes_of host extensible), start)) (inr (is_host_layout t t_low t_high))
+      (start_item (with_holes_of host extensible), end_of (with_holes_of host extensible), start) (inr (is_host_layout t t_low t_high))
       (inr (is_host_layout u u_low u_high))
