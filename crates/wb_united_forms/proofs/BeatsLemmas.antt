@@ -1,5 +1,4 @@
 -- Forms that beat each other in a ring are of terminals that are preferred in a ring.
-use Rattle.std.proofs.Common.{◌≡◌, ◌≢◌, [], ℕ, List, sym, subst}
 use Rattle.std.specs.Prelude.{Contains}
 use Rattle.wb_languages.specs.declared.form.Form.{Form}
 use Rattle.wb_languages.specs.Languages.{LanguageView}

@@ -1,26 +1,23 @@
 -- In the language of the union one form beats the other, and there are no rings; and each form has its expression.
-use Rattle.std.proofs.Common.{◌≡◌, ◌≢◌, ◌<◌, ◌≤◌, ◌+◌, ◌∙◌, ◌⊎◌, ◌++◌, [], ℕ, List, Some, length, map, slice_get, get_or, refl, sym, ap, subst}
+use Rattle.std.proofs.Common.{◌≡◌, ◌<◌, ◌+◌, ◌∙◌, ◌++◌, [], ℕ, List, Some, length, map, slice_get, sym, ap, subst}
 use Rattle.std.proofs.Common.{inl, inr, arith}
-use Rattle.std.specs.Prelude.{Contains}
 use Rattle.std.specs.List.{range_with_len}
-use Rattle.std.proofs.lemmas.Bool.{cases_eq}
 use Rattle.std.proofs.lemmas.List.FromFn.{get_or-range_with_len, length-range_with_len}
-use Rattle.std.proofs.lemmas.Option.{get_or_from_slice_get, same_Some, slice_get_within}
+use Rattle.std.proofs.lemmas.Option.{get_or_from_slice_get, slice_get_within}
 use Rattle.wb_automata.specs.Automata.{IsMatch}
 use Rattle.wb_base.specs.declared.symbol.Symbol.{Symbol}
 use Rattle.wb_base.specs.Grammar.{GrammarView}
 use Rattle.wb_contexts.specs.Considered.{LexiconView}
 use Rattle.wb_grammars.specs.Lookaheads.{IsValidTerminal}
-use Rattle.wb_lemmas.proofs.Places.{append_keeps, at_append, at_once, at_within}
+use Rattle.wb_lemmas.proofs.Places.{at_append, at_once, at_within}
 use Rattle.wb_languages.specs.declared.form.Form.{Form}
 use Rattle.wb_languages.specs.Languages.{LanguageView, bare, forms_of}
 use Rattle.wb_languages.specs.Winners.{IsConsideredForm, layout, valid}
-use Rattle.wb_languages.proofs.BareLemmas.{forms_count, layout_bare}
+use Rattle.wb_languages.proofs.BareLemmas.{forms_count}
 use Rattle.wb_united.specs.Certificates.{AreCertified}
-use Rattle.wb_united.specs.Laws.{in_union}
 use Rattle.wb_united.specs.UnitedWorlds.{united}
 use Rattle.wb_united.proofs.ApartLemmas.{into_is}
-use Rattle.wb_united.proofs.FactLemmas.{into_by, map_at}
+use Rattle.wb_united.proofs.FactLemmas.{map_at}
 use Rattle.wb_united.proofs.UnionGrammarLemmas.{terminal_below}
 use Rattle.wb_united_forms.specs.Written.{WrittenPiece, pieces_of}
 use Rattle.wb_united_forms.specs.Apart.{AreWrittenApart}

@@ -1,9 +1,7 @@
 -- The language of the union is decided and written: what its laws say.
-use Rattle.std.proofs.Common.{◌≡◌, ◌≢◌, ◌<◌, ◌≤◌, ◌+◌, ◌∙◌, ◌⊎◌, ◌++◌, ◌∷◌, [], ℕ, List, Some, length, map, slice_get, refl, sym, ap, subst, inl, inr}
-use Rattle.std.proofs.Common.{arith}
-use Rattle.std.specs.Prelude.{Contains}
+use Rattle.std.proofs.Common.{◌≡◌, ◌≢◌, ◌<◌, ◌+◌, ◌∙◌, ◌⊎◌, ◌++◌, [], ℕ, List, Some, map, slice_get, sym, ap, subst, inl, inr}
 use Rattle.std.proofs.lemmas.Bool.{cases_eq}
-use Rattle.std.proofs.lemmas.Option.{same_Some, slice_get_within}
+use Rattle.std.proofs.lemmas.Option.{slice_get_within}
 use Rattle.wb_automata.specs.Automata.{IsMatch}
 use Rattle.wb_base.specs.declared.symbol.Symbol.{Symbol}
 use Rattle.wb_base.specs.Grammar.{GrammarView}
@@ -21,8 +19,8 @@ use Rattle.wb_united.proofs.FactLemmas.{at_map}
 use Rattle.wb_united_forms.specs.Written.{WrittenPiece, pieces_of}
 use Rattle.wb_united_forms.specs.Apart.{AreWrittenApart, IsMarkerRow}
 use Rattle.wb_united_forms.specs.Forms.{IsMarkerOf, prefix_of}
-use Rattle.wb_united_forms.specs.Languages.{IsTextOf, IsUnitedLanguage}
-use Rattle.wb_united_forms.specs.Rows.{Reads, of_extension, of_host}
+use Rattle.wb_united_forms.specs.Languages.{IsUnitedLanguage}
+use Rattle.wb_united_forms.specs.Rows.{Reads}
 use Rattle.wb_united_forms.proofs.BareLemmas.{marker_marker, one_piece, two_bare}
 use Rattle.wb_united_forms.proofs.BeatsLemmas.{ring_of_three, ring_of_two}
 use Rattle.wb_united_forms.proofs.ClashLemmas.{Ordered}
@@ -143,25 +141,9 @@ module _ (host : GrammarView) (extensible : List ℕ) (own : LexiconView) (writt
   pub decided : AreDecided l
   decided = record { pairs = pairs; no_two = no_two; no_three = no_three }
 
-  -- no terminal or layout matches the empty text
-  some_text : (number : ℕ) → ¬ Reads host extensible own written number []
-  some_text number (of_host t e matches) = apart.of_host.clear.rows.no_empty t matches
-  some_text number (of_extension k x t at e matches) =
-      (apart_at host extensible own written certified.are_pieces apart k x at).clear.rows.no_empty t matches
-
-  nothing_after : (a b : List ℕ) → [] ≡ a ++ b → b ≡ []
-  nothing_after [] b e = sym e
-  nothing_after (c ∷ a) b e = absurd (cc)
-
-  no_empty : (place : ℕ) → ¬ IsMatch l.expressions place []
-  no_empty place matches =
-      let (f, at) = form_at host extensible own written l certified apart is place
-      (slice_get_within l.expressions place matches.tree matches.at) in
-      let t = (is.expressions place f at []).0 matches in
-      some_text f.terminal (subst (Reads host extensible own written f.terminal) (nothing_after f.prefix t.lexeme t.is) t.reads)
-
-  pub is_written : IsWritten l
-  is_written = record {
+  -- each form has its expression
+  pub is_written : ((place : ℕ) → ¬ IsMatch l.expressions place []) → IsWritten l
+  is_written no_empty = record {
     forms_below = λ place f at. subst (λ (g : GrammarView). f.terminal < g.terminals) (sym is.grammar)
         (form_below host extensible own written l certified apart is f (is.forms.each place f at));
     layout_numbers = λ k t at. (layout_at host extensible own written l certified apart is k t at).0 ∙

@@ -1,6 +1,7 @@
 //! Laws of the definitions: what each says is proved, and there is nothing to run.
 
-ghost use Rattle.std.specs.Prelude.{ℕ, List};
+ghost use Rattle.std.specs.Prelude.{[], ℕ, List};
+ghost use Rattle.wb_automata.specs.Automata.{IsMatch};
 ghost use Rattle.wb_base.specs.Grammar.{GrammarView};
 ghost use Rattle.wb_contexts.specs.Considered.{LexiconView};
 ghost use Rattle.wb_languages.specs.Facts.{AreDecided, IsWritten};
@@ -16,7 +17,8 @@ pub fn decided_law()
     ensures { (host : GrammarView) (extensible : List ℕ) (own : LexiconView) (written : List WrittenPiece) (l : LanguageView) → AreCertified host extensible (pieces_of written) → AreWrittenApart host extensible own written → IsUnitedLanguage host extensible own written l → AreDecided l }
 {}
 
-/// Each form of that language has its expression, which matches only texts that begin with the form's prefix, and not the empty one.
+/// Each form of that language has its expression, which matches only texts that begin with the form's prefix; where none matches the empty text,
+/// this is all that scanning asks of them.
 pub fn written_law()
-    ensures { (host : GrammarView) (extensible : List ℕ) (own : LexiconView) (written : List WrittenPiece) (l : LanguageView) → AreCertified host extensible (pieces_of written) → AreWrittenApart host extensible own written → IsUnitedLanguage host extensible own written l → IsWritten l }
+    ensures { (host : GrammarView) (extensible : List ℕ) (own : LexiconView) (written : List WrittenPiece) (l : LanguageView) → AreCertified host extensible (pieces_of written) → AreWrittenApart host extensible own written → IsUnitedLanguage host extensible own written l → ((place : ℕ) → ¬ IsMatch l.expressions place []) → IsWritten l }
 {}
