@@ -1,3 +1,4 @@
+pub mod ExtendLemmas
 pub mod LeafLemmas
 pub mod StateLemmas
 pub mod StepLemmas

@@ -12,6 +12,9 @@ use std::alloc::{AllocError, Global};
 use wb_scan::Language;
 use wb_values::TreeStore;
 
+// Of texts that are no longer there is nothing to save.
+const SHORT: usize = 1024;
+
 /// The one tree of a text in a language, or the one stop. The only error is want of memory.
 ///
 /// The children of the tree's nodes are its trees and lexemes, in order; a lexeme is without the prefix of its form. After a tree the store
@@ -54,11 +57,27 @@ fn read_all(
 {
     let _tables = language.tables();
     let mut stack = Stack::new(alloc);
+    let before = store.len();
+    let mut part = text.len() / 16 + SHORT;
     let mut at = 0;
     'leaves: loop {
         match take_leaf(alloc, language, text, &mut stack, store, at)? {
             Round::Goes(after) => at = after,
             Round::Done(parsed) => return Ok(parsed),
         }
+        part = make_room(store, before, text.len(), at, part);
     }
+}
+
+// Makes room for what a whole text needs, once a part of it is read, by what this part took: memory that grows step by step is moved at each
+// step. Answers how much is to be read before it is done again, which is all of the text.
+fn make_room(store: &mut TreeStore, before: usize, size: usize, at: usize, part: usize) -> usize
+    requires { before ≤ length store.old }
+    ensures { store.new ≡ store.old }
+{
+    if at <= part {
+        return part;
+    }
+    store.make_room(before, size / at);
+    size
 }

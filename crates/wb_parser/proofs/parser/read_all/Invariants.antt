@@ -9,6 +9,7 @@ invariant-leaves l = record {
   sound : IsSound l.language l.stack.states.items l.stack.values.items l.store;
   ready : IsReady l.language l.text l.stack.states.items l.stack.values.items l.store l.at;
   extends : Extends l.initial.store l.store;
+  before : l.before ≤ length l.store;
 }
 
 abbrev pub decreases-leaves : goal.decreases-leaves
