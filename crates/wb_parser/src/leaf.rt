@@ -7,12 +7,14 @@ ghost use Rattle.wb_values.specs.declared.value.Value.TheVariants.{Text, Tree as
 ghost use Rattle.wb_languages.specs.Tokens.{NextToken, over};
 ghost use Rattle.wb_parser.specs.declared.parsed.Parsed.TheVariants.{Tree};
 ghost use Rattle.wb_parser.specs.Parses.{Extends, IsParsed};
+ghost use Rattle.wb_parser.specs.Inner.Rules.{AreRules};
 ghost use Rattle.wb_parser.specs.Inner.Steps.{IsAt, IsSound, IsRound, IsReady, StaysSound};
 
 use crate::Parsed;
+use crate::rules::Rule;
 use crate::stack::{Stack, top};
 use crate::step::{Outcome, reduce_all};
-use std::alloc::{AllocError, Global};
+use std::alloc::AllocError;
 use wb_base::Bytes;
 use wb_languages::StopKind;
 use wb_scan::{Language, Scanned, scan};
@@ -29,13 +31,14 @@ pub(crate) enum Round {
 
 // Takes the next leaf of the text, from a place on.
 pub(crate) fn take_leaf(
-    alloc: Global,
     language: &Language,
+    rules: &[Rule],
     text: &[u8],
     stack: &mut Stack,
     store: &mut TreeStore,
     at: usize,
 ) -> Result<Round, AllocError>
+    requires rules { AreRules language.now.language.grammar rules.now }
     requires at { at ≤ length text.now }
     requires sound { IsSound language.now stack.old.states.items stack.old.values.items store.old }
     ensures round { IfOk result (λ round. IsReady language.now text.now stack.old.states.items stack.old.values.items store.old at → IsRound language.now text.now stack.new.states.items stack.new.values.items store.new at round) }
@@ -47,16 +50,18 @@ pub(crate) fn take_leaf(
             at: place,
             kind: StopKind::NoToken,
         })),
-        Scanned::End { at: place } => Ok(Round::Done(finish(language, stack, store, place)?)),
+        Scanned::End { at: place } => Ok(Round::Done(finish(
+            language, rules, stack, store, place,
+        )?)),
         Scanned::Token {
             terminal,
             at: place,
             lexeme,
             end,
         } => {
-            match reduce_all(language, stack, store, terminal)? {
+            match reduce_all(language, rules, stack, store, terminal)? {
                 Outcome::Shifts(target) => {
-                    push_leaf(alloc, stack, target, &text[lexeme..end])?;
+                    push_leaf(stack, target, &text[lexeme..end])?;
                     Ok(Round::Goes(end))
                 }
                 _ => Ok(Round::Done(Parsed::Stopped {
@@ -69,15 +74,11 @@ pub(crate) fn take_leaf(
 }
 
 // Pushes a leaf: its state and its lexeme.
-fn push_leaf(
-    alloc: Global,
-    stack: &mut Stack,
-    state: usize,
-    lexeme: &[u8],
-) -> Result<(), AllocError>
+fn push_leaf(stack: &mut Stack, state: usize, lexeme: &[u8]) -> Result<(), AllocError>
     ensures states { OnOk result (stack.new.states.items ≡ stack.old.states.items ++ state ∷ []) }
     ensures values { OnOk result (stack.new.values.items ≡ stack.old.values.items ++ Text lexeme.now ∷ []) }
 {
+    let alloc = *stack.states.allocator();
     stack.states.push(state)?;
     let text = Bytes::from_slice(alloc, lexeme)?;
     stack.values.push(Value::Text(text))?;
@@ -87,16 +88,18 @@ fn push_leaf(
 // What the text is at its end, where this place is: whole, or stopped there.
 fn finish(
     language: &Language,
+    rules: &[Rule],
     stack: &mut Stack,
     store: &mut TreeStore,
     place: usize,
 ) -> Result<Parsed, AllocError>
+    requires rules { AreRules language.now.language.grammar rules.now }
     requires sound { IsSound language.now stack.old.states.items stack.old.values.items store.old }
     ensures parsed { IfOk result (λ parsed. (text : List ℕ) (prefix : List Symbol) (at : ℕ) → NextToken language.now.language text prefix at (over place) → IsAt language.now text stack.old.states.items stack.old.values.items store.old prefix at → IsParsed language.now.language text store.new parsed) }
     ensures extends { Extends store.old store.new }
 {
     let end = language.grammar().terminals();
-    match reduce_all(language, stack, store, end)? {
+    match reduce_all(language, rules, stack, store, end)? {
         Outcome::Accepts => Ok(parsed_of(&stack.values, place, end)),
         _ => Ok(Parsed::Stopped {
             at: place,

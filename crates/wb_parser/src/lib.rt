@@ -8,6 +8,7 @@ mod leaf;
 mod parsed;
 mod parser;
 mod reduce;
+mod rules;
 mod stack;
 mod step;
 

@@ -7,6 +7,7 @@ ghost use Rattle.wb_parser.specs.Parses.{Extends, IsParsed, KeepsStore, FitsSign
 
 use crate::Parsed;
 use crate::leaf::{Round, take_leaf};
+use crate::rules::rules_of;
 use crate::stack::Stack;
 use std::alloc::{AllocError, Global};
 use wb_scan::Language;
@@ -56,12 +57,13 @@ fn read_all(
     ensures extends { Extends store.old store.new }
 {
     let _tables = language.tables();
+    let rules = rules_of(alloc, language.grammar())?;
     let mut stack = Stack::new(alloc);
     let before = store.len();
     let mut part = text.len() / 16 + SHORT;
     let mut at = 0;
     'leaves: loop {
-        match take_leaf(alloc, language, text, &mut stack, store, at)? {
+        match take_leaf(language, &rules, text, &mut stack, store, at)? {
             Round::Goes(after) => at = after,
             Round::Done(parsed) => return Ok(parsed),
         }

@@ -6,8 +6,10 @@ ghost use Rattle.wb_values.specs.ValuesIn.{IsIn};
 ghost use Rattle.wb_lookahead.specs.Contents.{size_of, goto_of};
 ghost use Rattle.wb_languages.specs.Parts.{AreTablesOf};
 ghost use Rattle.wb_parser.specs.Parses.{Extends};
+ghost use Rattle.wb_parser.specs.Inner.Rules.{AreRules};
 ghost use Rattle.wb_parser.specs.Inner.Stacks.{IsReduction, IsMoved};
 
+use crate::rules::Rule;
 use crate::stack::{Stack, top};
 use std::alloc::AllocError;
 use wb_lookahead::Tables;
@@ -17,10 +19,12 @@ use wb_values::{TreeStore, Value};
 // Reduces by a production: its node takes the place of its children.
 pub(crate) fn reduce(
     language: &Language,
+    rules: &[Rule],
     stack: &mut Stack,
     store: &mut TreeStore,
     production: usize,
 ) -> Result<(), AllocError>
+    requires rules { AreRules language.now.language.grammar rules.now }
     requires production { production < length language.now.language.grammar.productions }
     requires states { All (λ s. s < size_of language.now.tables) stack.old.states.items }
     requires values { All (IsIn (length store.old)) stack.old.values.items }
@@ -29,11 +33,11 @@ pub(crate) fn reduce(
     ensures values { OnOk result (All (IsIn (length store.new)) stack.new.values.items) }
     ensures extends { Extends store.old store.new }
 {
-    let grammar = language.grammar();
-    let left = grammar.left(production);
-    let width = grammar.right(production).len().min(stack.values.len());
+    let tables = language.tables();
+    let rule = rules[production];
+    let width = rule.width.min(stack.values.len());
     let tree = store.build_from(production, &mut stack.values, width)?;
-    move_states(language.tables(), &mut stack.states, width, left)?;
+    move_states(tables, &mut stack.states, width, rule.left)?;
     stack.values.push(Value::Tree(tree))?;
     Ok(())
 }

@@ -4,9 +4,11 @@ ghost use Rattle.std.specs.Prelude.{◌≡◌, ◌<◌, ◌≤◌, ◌+◌, ◌^
 ghost use Rattle.wb_lookahead.specs.Contents.{size_of};
 ghost use Rattle.wb_values.specs.ValuesIn.{IsIn};
 ghost use Rattle.wb_parser.specs.Parses.{Extends};
+ghost use Rattle.wb_parser.specs.Inner.Rules.{AreRules};
 ghost use Rattle.wb_parser.specs.Inner.Steps.{HasOutcome, IsReduced, ShiftsBelow, IsSound};
 
 use crate::reduce::reduce;
+use crate::rules::Rule;
 use crate::stack::{Stack, top};
 use std::alloc::AllocError;
 use wb_lookahead::Action;
@@ -29,10 +31,12 @@ pub(crate) enum Outcome {
 // Reduces while that is the action on the terminal, or on the end of the text.
 pub(crate) fn reduce_all(
     language: &Language,
+    rules: &[Rule],
     stack: &mut Stack,
     store: &mut TreeStore,
     terminal: usize,
 ) -> Result<Outcome, AllocError>
+    requires rules { AreRules language.now.language.grammar rules.now }
     requires terminal { terminal ≤ language.now.language.grammar.terminals }
     requires sound { IsSound language.now stack.old.states.items stack.old.values.items store.old }
     ensures outcome { IfOk result (HasOutcome language.now terminal stack.old.states.items stack.old.values.items store.old stack.new.states.items stack.new.values.items store.new) }
@@ -42,7 +46,7 @@ pub(crate) fn reduce_all(
     ensures extends { Extends store.old store.new }
 {
     'reductions: loop {
-        let outcome = step(language, stack, store, terminal)?;
+        let outcome = step(language, rules, stack, store, terminal)?;
         match outcome {
             Outcome::Reduced => {}
             Outcome::Shifts(target) => return Ok(Outcome::Shifts(target)),
@@ -55,10 +59,12 @@ pub(crate) fn reduce_all(
 // Takes the one action on the terminal, but for a shift, which is left to the caller.
 fn step(
     language: &Language,
+    rules: &[Rule],
     stack: &mut Stack,
     store: &mut TreeStore,
     terminal: usize,
 ) -> Result<Outcome, AllocError>
+    requires rules { AreRules language.now.language.grammar rules.now }
     requires terminal { terminal ≤ language.now.language.grammar.terminals }
     requires sound { IsSound language.now stack.old.states.items stack.old.values.items store.old }
     ensures outcome { IfOk result (HasOutcome language.now terminal stack.old.states.items stack.old.values.items store.old stack.new.states.items stack.new.values.items store.new) }
@@ -74,7 +80,7 @@ fn step(
         Action::Accept => Ok(Outcome::Accepts),
         Action::None => Ok(Outcome::Stops),
         Action::Reduce(production) => {
-            reduce(language, stack, store, production)?;
+            reduce(language, rules, stack, store, production)?;
             Ok(Outcome::Reduced)
         }
     }

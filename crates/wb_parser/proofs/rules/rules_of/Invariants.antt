@@ -1,0 +1,11 @@
+use Rattle.std.proofs.Common.{◌≡◌, ℕ, length, Some}
+use Rattle.std.specs.Prelude.{slice_get}
+use Rattle.wb_parser.specs.declared.rules.Rule.{Rule}
+use Rattle.wb_parser.specs.Inner.Rules.{IsRule}
+use Rattle.wb_parser.proofs.rules.rules_of.Given as goal
+
+abbrev pub invariant-productions : goal.invariant-productions
+invariant-productions l = record {
+  count : length l.rules.items ≡ l.production;
+  each : (p : ℕ) (rule : Rule) → slice_get l.rules.items p ≡ Some rule → IsRule l.grammar p rule;
+}
