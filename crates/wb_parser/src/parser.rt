@@ -20,7 +20,8 @@ const SHORT: usize = 1024;
 ///
 /// The children of the tree's nodes are its trees and lexemes, in order; a lexeme is without the prefix of its form. After a tree the store
 /// begins with what it held before. After a stop, and after want of memory, it is as before. A stack of states and values, one of each for
-/// each root, is all that is kept beside the store.
+/// each root, and two numbers for each production are all that is kept beside the store, in which a sixteenth of a long text tells how much
+/// room is made for all of it.
 pub fn parse(
     alloc: Global,
     language: &Language,
