@@ -46,7 +46,7 @@ abbrev pub layout_of : Terminal → Bool
 layout_of t = is_layout t.kind
 
 -- what a mapped list has at a place comes from there
-from_map : {X Y : Type 0} (f : X → Y) (xs : List X) (k : ℕ) (y : Y) → slice_get (map f xs) k ≡ Some y →
+pub from_map : {X Y : Type 0} (f : X → Y) (xs : List X) (k : ℕ) (y : Y) → slice_get (map f xs) k ≡ Some y →
     (x : X) × (slice_get xs k ≡ Some x) × (f x ≡ y)
 from_map {X} {Y} f xs k y at =
     let less : k < length xs = let a = slice_get_within (map f xs) k y at in let b = length-map xs f in omega (arith, a, b) in
