@@ -1,0 +1,2 @@
+-- how many symbols a union has
+pub mod Totals

@@ -1,0 +1,4 @@
+-- what is lent of an extension
+pub mod Additions
+-- what only proofs need
+pub mod Inner

@@ -1,0 +1,17 @@
+//! What is lent of an extension?
+
+use wb_base::Grammar;
+use wb_resolved::{Preference, Terminal};
+
+/// An extension with its host, by numbers, as it was certified.
+///
+/// The grammar is that of host and extension, and so are terminals and preferences: the host's numbers stay, and layout comes after the
+/// grammar's terminals.
+#[derive(Clone, Copy)]
+pub struct Addition<'a> {
+    pub grammar: &'a Grammar,
+    pub terminals: &'a [Terminal],
+    pub preferences: &'a [Preference],
+    /// The name of the extension.
+    pub name: &'a [u8],
+}

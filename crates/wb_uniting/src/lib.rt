@@ -1,0 +1,11 @@
+//! The language of a union, from the parts of a host and its extensions by number.
+//!
+//! Each extension is lent with the host's part in it, as it was certified. What holds of the union is in `wb_united` and `wb_united_forms`.
+#![tactic(auto)]
+
+mod addition;
+mod grammar;
+mod own_productions;
+
+pub use addition::Addition;
+pub use grammar::united_grammar;
