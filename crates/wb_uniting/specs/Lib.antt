@@ -1,4 +1,6 @@
 -- what is lent of an extension
 pub mod Additions
+-- what is lent of a host with extensions
+pub mod Lents
 -- what only proofs need
 pub mod Inner

@@ -15,3 +15,15 @@ pub struct Addition<'a> {
     /// The name of the extension.
     pub name: &'a [u8],
 }
+
+/// A host with extensions that are certified with it alone, each by numbers.
+///
+/// Terminals and preferences are those of the host, with layout after the grammar's terminals.
+#[derive(Clone, Copy)]
+pub struct Lent<'a> {
+    pub grammar: &'a Grammar,
+    pub extensible: &'a [usize],
+    pub terminals: &'a [Terminal],
+    pub preferences: &'a [Preference],
+    pub extensions: &'a [Addition<'a>],
+}

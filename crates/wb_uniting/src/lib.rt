@@ -6,6 +6,7 @@
 mod addition;
 mod grammar;
 mod own_productions;
+mod withdrawn;
 
-pub use addition::Addition;
+pub use addition::{Addition, Lent};
 pub use grammar::united_grammar;
