@@ -1,9 +1,9 @@
 -- What words ask, by their verb and how they split.
-use Rattle.std.proofs.Common.{◌≡◌, ◌≢◌, inl, inr, ℕ, List, [], ◌∷◌, All, Contains, Option, Some, None, IfSome, IfNone, refl, sym, ap, subst, ◌∙◌}
+use Rattle.std.proofs.Common.{◌≡◌, ◌≢◌, inl, inr, ℕ, List, [], ◌∷◌, Contains, Option, Some, None, IfSome, IfNone, sym, ap, subst, ◌∙◌}
 use Rattle.std.specs.Borrow.{Bor}
 use lib.Chars.{codes}
 use Rattle.wb_lemmas.proofs.Elements.{all_weaker}
-use Rattle.wb_lemmas.proofs.Members.{contains_cases, contains_first, contains_later, contains_one, nothing_in}
+use Rattle.wb_lemmas.proofs.Members.{contains_cases, contains_first, contains_later, nothing_in}
 use Rattle.wb_words.specs.Asked.{Asked}
 use Rattle.wb_words.specs.Commands.{asked_by}
 use Rattle.wb_words.specs.Words.{Asks, AreOptions, Given, Says, Splits, Verb, verb_text, says_value, says_show, says_check, says_certify}
@@ -11,7 +11,7 @@ use Rattle.wb_words.specs.Words.{says_compose, says_tree, says_run, says_generat
 use Rattle.wb_words.specs.declared.command.Command.{Command}
 use Rattle.wb_words.specs.Inner.Parts.{IsSplit, HasNoSplit}
 use Rattle.wb_words.specs.Inner.Sayings.{IsSaid, NeverSaid}
-use Rattle.wb_words.specs.Inner.Slots.{AreSlots, all_names}
+use Rattle.wb_words.specs.Inner.Slots.{all_names}
 use Rattle.wb_words.proofs.OneAsked.{one_split, verb_text-injective}
 use Rattle.wb_words.proofs.SplitLemmas.{no_known_options}
 
@@ -126,11 +126,11 @@ module _ (words : List (List ℕ)) (first : List ℕ) (rest : List (List ℕ)) (
           let (text, same) = one_rest asked asks in
           let verbs : asks.verb ≡ verb = verb_text-injective asks.verb verb (sym text ∙ begins) in
           let one = one_split rest asks.options splits.options asks.positional later
-              (subst (λ (ws : List (List ℕ)). Splits ws asks.options asks.positional) (sym same) asks.splits) splits.splits in
+          (subst (λ (ws : List (List ℕ)). Splits ws asks.options asks.positional) (sym same) asks.splits) splits.splits in
           let says : Says verb splits.options later asked =
-              subst (λ (v : Verb). Says v splits.options later asked) verbs
-              (subst (λ (os : List Given). Says asks.verb os later asked) one.0
-              (subst (λ (ws : List (List ℕ)). Says asks.verb asks.options ws asked) one.1 asks.says)) in
+          subst (λ (v : Verb). Says v splits.options later asked) verbs
+          (subst (λ (os : List Given). Says asks.verb os later asked) one.0
+          (subst (λ (ws : List (List ℕ)). Says asks.verb asks.options ws asked) one.1 asks.says)) in
           never splits.options asked splits.values says
 
 -- what holds of an answer, from what holds of it

@@ -1,14 +1,14 @@
 -- What verbs say of some words.
-use Rattle.std.proofs.Common.{◌≡◌, ◌≤◌, ◌-◌, ◌^◌, inl, inr, ℕ, List, [], ◌∷◌, Option, Some, None, Contains, String, Global, string_bytes, length, take, drop, map, get_or, slice_get, refl, sym, ap, subst, ◌∙◌, arith}
+use Rattle.std.proofs.Common.{◌≡◌, ◌≤◌, ◌-◌, ◌^◌, inl, inr, ℕ, List, [], ◌∷◌, Option, Some, None, String, Global, string_bytes, length, take, drop, get_or, slice_get, refl, sym, ap, subst, ◌∙◌, arith}
 use Rattle.std.specs.Prelude.{option_map}
 use Rattle.std.proofs.lemmas.Option.{slice_get-map}
 use Rattle.std.specs.Borrow.{Bor}
 use lib.Chars.{codes}
-use Rattle.wb_lemmas.proofs.Members.{contains_at, contains_first, contains_later, place_of}
+use Rattle.wb_lemmas.proofs.Members.{contains_at}
 use Rattle.wb_lemmas.proofs.Parts.{take_to_end}
 use Rattle.wb_words.specs.Asked.{Asked}
 use Rattle.wb_words.specs.Asked as a
-use Rattle.wb_words.specs.Words.{Given, HasOption, HasNumber, HasSteps, AreOptions, Says, Value, Show, Check, Certify, Compose, Tree, Run, Generate, texts}
+use Rattle.wb_words.specs.Words.{Given, HasOption, HasNumber, HasSteps, Says, Value, Show, Check, Certify, Compose, Tree, Run, Generate, texts}
 use Rattle.wb_words.specs.Words.{says_value, says_show, says_check, says_certify, says_compose, says_tree, says_run, says_generate}
 use Rattle.wb_words.specs.Inner.Numbers.{IsNumberFrom}
 use Rattle.wb_words.specs.Inner.Sayings.{GivesOnly, NeverSaid}

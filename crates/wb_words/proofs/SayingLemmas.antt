@@ -1,5 +1,5 @@
 -- What verbs say with options and positional words.
-use Rattle.std.proofs.Common.{◌≡◌, ◌≢◌, ◌<◌, ◌+◌, ◌⊎◌, inl, inr, ℕ, zero, suc, List, [], ◌∷◌, Contains, Option, Some, None, true, false, length, slice_get, refl, sym, ap, subst, ◌∙◌, arith}
+use Rattle.std.proofs.Common.{◌≡◌, ◌<◌, ◌+◌, ◌⊎◌, inl, inr, ℕ, List, [], ◌∷◌, Contains, Option, Some, None, true, false, length, slice_get, refl, sym, ap, subst, ◌∙◌, arith}
 use Rattle.std.specs.Prelude.{option_map}
 use Rattle.std.proofs.lemmas.Bool.Decides.{eqb_tells}
 use Rattle.std.proofs.lemmas.List.Elements.{All-head}
@@ -123,7 +123,7 @@ module _ (options : List Given) (slots : List Slot) (are : AreSlots options slot
   only_allowed ks names pairs allowed k w there =
       let (name, at, has) = slot_named k w there in
       let known : Contains names name = all_contained (λ (p : Given). Contains names p.name) options (record { name = name; value = w.now })
-          allowed.known (contains_at options (record { name = name; value = w.now }) has.place has.given) in
+      allowed.known (contains_at options (record { name = name; value = w.now }) has.place has.given) in
       place_allowed ks names pairs k name known at
 
   -- where none are given there are none

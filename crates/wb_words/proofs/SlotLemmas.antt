@@ -1,5 +1,5 @@
 -- Slots of options, one option after another.
-use Rattle.std.proofs.Common.{◌≡◌, ◌≢◌, ◌≤◌, ◌<◌, ◌+◌, ◌*◌, ◌⊎◌, inl, inr, ℕ, zero, suc, List, [], ◌∷◌, ◌++◌, All, Contains, Option, Some, None, map, length, slice_get, slice_set, refl, sym, ap, subst, ◌∙◌, arith}
+use Rattle.std.proofs.Common.{◌≡◌, ◌≢◌, ◌+◌, ◌⊎◌, inl, inr, ℕ, zero, suc, List, [], ◌∷◌, ◌++◌, All, Contains, Option, Some, None, length, slice_get, slice_set, refl, sym, ap, subst, ◌∙◌, arith}
 use Rattle.std.specs.Prelude.{◌==◌, if◌then◌else◌, option_map}
 use Rattle.std.proofs.lemmas.List.{map-append}
 use Rattle.std.proofs.lemmas.List.Elements.{All-nil, All-head, All-push}
@@ -28,19 +28,19 @@ slot_by k = if k == 236 then 0 else if k == 213 then 1 else if k == 216 then 2 e
 -- the slot of a name is its place
 slot_back : (k : ℕ) (name : List ℕ) → slice_get all_names k ≡ Some name → slot_by (key name) ≡ k
 unfolding slot_by key
-slot_back zero name is = 
+slot_back zero name is =
     let same : codes "text" ≡ name = cc is in
     subst (λ (n : List ℕ). slot_by (key n) ≡ 0) same refl
-slot_back (suc zero) name is = 
+slot_back (suc zero) name is =
     let same : codes "attr" ≡ name = cc is in
     subst (λ (n : List ℕ). slot_by (key n) ≡ 1) same refl
-slot_back (suc (suc zero)) name is = 
+slot_back (suc (suc zero)) name is =
     let same : codes "steps" ≡ name = cc is in
     subst (λ (n : List ℕ). slot_by (key n) ≡ 2) same refl
-slot_back (suc (suc (suc zero))) name is = 
+slot_back (suc (suc (suc zero))) name is =
     let same : codes "number" ≡ name = cc is in
     subst (λ (n : List ℕ). slot_by (key n) ≡ 3) same refl
-slot_back (suc (suc (suc (suc zero)))) name is = 
+slot_back (suc (suc (suc (suc zero)))) name is =
     let same : codes "size" ≡ name = cc is in
     subst (λ (n : List ℕ). slot_by (key n) ≡ 4) same refl
 slot_back (suc (suc (suc (suc (suc k))))) name is = absurd (cc is)
@@ -129,11 +129,11 @@ module _ (options : List Given) (name value : List ℕ) where
       let has : HasOption options name w.now = are.each k name (Some w) at taken in
       let all = options ++ given name value ∷ more in
       let first : slice_get (names_of all) has.place ≡ Some name =
-          slice_get-map (λ (o : Given). o.name) all has.place
-          ∙ ap (option_map (λ (o : Given). o.name)) (append_keeps options (given name value ∷ more) has.place (given name w.now) has.given) in
+      slice_get-map (λ (o : Given). o.name) all has.place
+      ∙ ap (option_map (λ (o : Given). o.name)) (append_keeps options (given name value ∷ more) has.place (given name w.now) has.given) in
       let second : slice_get (names_of all) (length options) ≡ Some name =
-          slice_get-map (λ (o : Given). o.name) all (length options)
-          ∙ ap (option_map (λ (o : Given). o.name)) (append_seam options (given name value) more) in
+      slice_get-map (λ (o : Given). o.name) all (length options)
+      ∙ ap (option_map (λ (o : Given). o.name)) (append_seam options (given name value) more) in
       let same : has.place ≡ length options = allowed.once name has.place (length options) first second in
       let within = slice_get_within options has.place (given name w.now) has.given in
       omega (arith, same, within)

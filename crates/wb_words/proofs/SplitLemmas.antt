@@ -1,5 +1,5 @@
 -- What words split into, one option after another.
-use Rattle.std.proofs.Common.{◌≡◌, ◌<◌, ◌++◌, IfNone, ℕ, List, [], ◌∷◌, All, Contains, Option, Some, None, Bool, true, false, length, get_or, slice_get, slice_set, refl, sym, ap, subst, ◌∙◌, append_assoc, arith}
+use Rattle.std.proofs.Common.{◌≡◌, ◌<◌, ◌++◌, IfNone, ℕ, List, [], ◌∷◌, All, Contains, Option, Some, None, true, false, length, get_or, slice_get, slice_set, refl, sym, ap, subst, ◌∙◌, append_assoc, arith}
 use Rattle.std.proofs.lemmas.List.{append-nil}
 use Rattle.std.proofs.lemmas.List.Elements.{All-nil, All-cons}
 use Rattle.std.specs.Borrow.{Bor}

@@ -10,9 +10,13 @@ pub enum Command<'a> {
         attribute: &'a str,
     },
     /// `show SPEC`
-    Show { file: &'a str },
+    Show {
+        file: &'a str,
+    },
     /// `check HOST`
-    Check { host: &'a str },
+    Check {
+        host: &'a str,
+    },
     /// `certify HOST EXT..`
     Certify {
         host: &'a str,

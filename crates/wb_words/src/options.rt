@@ -10,9 +10,13 @@ ghost use Rattle.wb_words.specs.Inner.Slots.{all_names};
 
 // The slots of options.
 pub(crate) const TEXT: usize = 0;
+
 pub(crate) const ATTRIBUTE: usize = 1;
+
 pub(crate) const STEPS: usize = 2;
+
 pub(crate) const NUMBER: usize = 3;
+
 pub(crate) const SIZE: usize = 4;
 
 // The values of options, each in its slot.

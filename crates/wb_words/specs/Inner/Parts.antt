@@ -1,5 +1,5 @@
 -- What stands at the beginning of some words.
-use Rattle.std.specs.Prelude.{◌≡◌, ◌<◌, ◌≤◌, ◌++◌, ◌⊎◌, ℕ, List, [], ◌∷◌, All, Option, Some, None, drop}
+use Rattle.std.specs.Prelude.{◌≡◌, ◌<◌, ◌≤◌, ◌++◌, ◌⊎◌, ℕ, List, ◌∷◌, All, Option, drop}
 use Rattle.std.specs.Borrow.{Bor}
 use lib.Chars.{codes}
 use Rattle.wb_words.specs.Words.{Given, IsOptionName, IsPositional, Splits, AreOptions}

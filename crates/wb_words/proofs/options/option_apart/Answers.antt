@@ -8,14 +8,14 @@ pub returns-then-words-at-eq1-clause-part : goal.returns-then-words-at-eq1-claus
 returns-then-words-at-eq1-clause-part c =
     let count : length (texts c.args.words.now) ≡ length c.args.words.now = length-map c.args.words.now string_bytes in
     let last : length (texts c.args.words.now) ≤ c.args.at + 1 =
-        (let one = c.if-words-at-eq1.true in let at = c.requires.at in omega (arith, count, one, at)) in
+    (let one = c.if-words-at-eq1.true in let at = c.requires.at in omega (arith, count, one, at)) in
     no_value_at_all (drop c.args.at (texts c.args.words.now)) c.args.name.now c.requires.name
     (last_place (texts c.args.words.now) c.args.at (45 ∷ 45 ∷ c.args.name.now) c.requires.there last)
 
 pub returns-then-is_positional-clause-part : goal.returns-then-is_positional-clause-part
 returns-then-is_positional-clause-part c =
     let within : c.args.at + 1 < length c.args.words.now =
-        (let more = c.if-words-at-eq1.false in let at = c.requires.at in omega (arith, more, at)) in
+    (let more = c.if-words-at-eq1.false in let at = c.requires.at in omega (arith, more, at)) in
     let value : IsPositional c.as_str-value.result.now = search rules in
     record {
       is_name = c.requires.name;
@@ -27,7 +27,7 @@ returns-then-is_positional-clause-part c =
 pub returns-clause-part : goal.returns-clause-part
 returns-clause-part c =
     let within : c.args.at + 1 < length c.args.words.now =
-        (let more = c.if-words-at-eq1.false in let at = c.requires.at in omega (arith, more, at)) in
+    (let more = c.if-words-at-eq1.false in let at = c.requires.at in omega (arith, more, at)) in
     let bad : ¬ IsPositional c.as_str-value.result.now = search rules in
     no_value_apart (drop c.args.at (texts c.args.words.now)) (drop (c.args.at + 2) (texts c.args.words.now)) c.args.name.now
     c.as_str-value.result.now c.requires.name bad

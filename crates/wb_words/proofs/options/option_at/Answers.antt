@@ -1,4 +1,4 @@
-use Rattle.std.proofs.Common.{rules, ◌≡◌, ◌<◌, ◌+◌, ◌++◌, ◌∷◌, ℕ, List, Some, length, drop, slice_get, inr, ap, ◌∙◌, arith}
+use Rattle.std.proofs.Common.{rules, ◌≡◌, ◌+◌, ◌++◌, ◌∷◌, ℕ, List, Some, drop, inr, ap, ◌∙◌, arith}
 use lib.Chars.{codes}
 use Rattle.wb_words.specs.Words.{IsOptionName, IsPositional, texts}
 use Rattle.wb_words.proofs.PartLemmas.{from_place, no_value_joined}

@@ -1,4 +1,4 @@
-use Rattle.std.proofs.Common.{◌≡◌, ◌≤◌, ◌-◌, ℕ, length, drop}
+use Rattle.std.proofs.Common.{◌≡◌, ◌≤◌, ◌-◌, length, drop}
 use Rattle.wb_words.specs.Words.{texts}
 use Rattle.wb_words.specs.Inner.Parts.{IsBegun}
 use Rattle.wb_words.proofs.options.options_of.Given as goal

@@ -1,4 +1,4 @@
-use Rattle.std.proofs.Common.{rules, ◌≡◌, ◌-◌, ◌∷◌, [], Option, Result, Some, None, IfSome, IfNone, arith, ℕ, List, length, take, drop, string_bytes, refl, subst, sym, ◌∙◌}
+use Rattle.std.proofs.Common.{rules, ◌≡◌, ◌-◌, arith, ℕ, List, length, take, drop, string_bytes, refl, subst, sym}
 use lib.Chars.{codes}
 use Rattle.wb_words.specs.Asked.{Asked}
 use Rattle.wb_words.specs.Commands.{asked_by}
@@ -29,7 +29,7 @@ returns-in-value-clause-some c =
     let later = take (length rest - at) (drop at rest) in
     let split : IsSplit (texts rest) (drop at (texts rest)) slots = search rules in
     let splits : IsSplit (texts rest) (texts later) slots =
-        subst (λ (ws : List (List ℕ)). IsSplit (texts rest) ws slots) (sym (rest_texts rest at)) split in
+    subst (λ (ws : List (List ℕ)). IsSplit (texts rest) ws slots) (sym (rest_texts rest at)) split in
     let verb : c.as_str.result.now ≡ codes "value" = search rules in
     let line = more_texts c.args.words.now c.verb-item.result c.as_str.result.now (omega arith) c.verb-item.is c.as_str.ensures.value in
     on_some c.value_of.result (IsSaid Value slots (texts later)) (λ command. Asks words (asked_by command))
@@ -44,7 +44,7 @@ returns-in-value-clause-none c =
     let later = take (length rest - at) (drop at rest) in
     let split : IsSplit (texts rest) (drop at (texts rest)) slots = search rules in
     let splits : IsSplit (texts rest) (texts later) slots =
-        subst (λ (ws : List (List ℕ)). IsSplit (texts rest) ws slots) (sym (rest_texts rest at)) split in
+    subst (λ (ws : List (List ℕ)). IsSplit (texts rest) ws slots) (sym (rest_texts rest at)) split in
     let verb : c.as_str.result.now ≡ codes "value" = search rules in
     let line = more_texts c.args.words.now c.verb-item.result c.as_str.result.now (omega arith) c.verb-item.is c.as_str.ensures.value in
     on_nothing c.value_of.result (NeverSaid Value slots (texts later)) ((asked : Asked) → ¬ Asks words asked)
@@ -59,7 +59,7 @@ returns-in-show-clause-some c =
     let later = take (length rest - at) (drop at rest) in
     let split : IsSplit (texts rest) (drop at (texts rest)) slots = search rules in
     let splits : IsSplit (texts rest) (texts later) slots =
-        subst (λ (ws : List (List ℕ)). IsSplit (texts rest) ws slots) (sym (rest_texts rest at)) split in
+    subst (λ (ws : List (List ℕ)). IsSplit (texts rest) ws slots) (sym (rest_texts rest at)) split in
     let verb : c.as_str.result.now ≡ codes "show" = search rules in
     let line = more_texts c.args.words.now c.verb-item.result c.as_str.result.now (omega arith) c.verb-item.is c.as_str.ensures.value in
     on_some c.show_of.result (IsSaid Show slots (texts later)) (λ command. Asks words (asked_by command))
@@ -74,7 +74,7 @@ returns-in-show-clause-none c =
     let later = take (length rest - at) (drop at rest) in
     let split : IsSplit (texts rest) (drop at (texts rest)) slots = search rules in
     let splits : IsSplit (texts rest) (texts later) slots =
-        subst (λ (ws : List (List ℕ)). IsSplit (texts rest) ws slots) (sym (rest_texts rest at)) split in
+    subst (λ (ws : List (List ℕ)). IsSplit (texts rest) ws slots) (sym (rest_texts rest at)) split in
     let verb : c.as_str.result.now ≡ codes "show" = search rules in
     let line = more_texts c.args.words.now c.verb-item.result c.as_str.result.now (omega arith) c.verb-item.is c.as_str.ensures.value in
     on_nothing c.show_of.result (NeverSaid Show slots (texts later)) ((asked : Asked) → ¬ Asks words asked)
@@ -89,7 +89,7 @@ returns-in-check-clause-some c =
     let later = take (length rest - at) (drop at rest) in
     let split : IsSplit (texts rest) (drop at (texts rest)) slots = search rules in
     let splits : IsSplit (texts rest) (texts later) slots =
-        subst (λ (ws : List (List ℕ)). IsSplit (texts rest) ws slots) (sym (rest_texts rest at)) split in
+    subst (λ (ws : List (List ℕ)). IsSplit (texts rest) ws slots) (sym (rest_texts rest at)) split in
     let verb : c.as_str.result.now ≡ codes "check" = search rules in
     let line = more_texts c.args.words.now c.verb-item.result c.as_str.result.now (omega arith) c.verb-item.is c.as_str.ensures.value in
     on_some c.check_of.result (IsSaid Check slots (texts later)) (λ command. Asks words (asked_by command))
@@ -104,7 +104,7 @@ returns-in-check-clause-none c =
     let later = take (length rest - at) (drop at rest) in
     let split : IsSplit (texts rest) (drop at (texts rest)) slots = search rules in
     let splits : IsSplit (texts rest) (texts later) slots =
-        subst (λ (ws : List (List ℕ)). IsSplit (texts rest) ws slots) (sym (rest_texts rest at)) split in
+    subst (λ (ws : List (List ℕ)). IsSplit (texts rest) ws slots) (sym (rest_texts rest at)) split in
     let verb : c.as_str.result.now ≡ codes "check" = search rules in
     let line = more_texts c.args.words.now c.verb-item.result c.as_str.result.now (omega arith) c.verb-item.is c.as_str.ensures.value in
     on_nothing c.check_of.result (NeverSaid Check slots (texts later)) ((asked : Asked) → ¬ Asks words asked)
@@ -119,7 +119,7 @@ returns-in-certify-clause-some c =
     let later = take (length rest - at) (drop at rest) in
     let split : IsSplit (texts rest) (drop at (texts rest)) slots = search rules in
     let splits : IsSplit (texts rest) (texts later) slots =
-        subst (λ (ws : List (List ℕ)). IsSplit (texts rest) ws slots) (sym (rest_texts rest at)) split in
+    subst (λ (ws : List (List ℕ)). IsSplit (texts rest) ws slots) (sym (rest_texts rest at)) split in
     let verb : c.as_str.result.now ≡ codes "certify" = search rules in
     let line = more_texts c.args.words.now c.verb-item.result c.as_str.result.now (omega arith) c.verb-item.is c.as_str.ensures.value in
     on_some c.certify_of.result (IsSaid Certify slots (texts later)) (λ command. Asks words (asked_by command))
@@ -134,7 +134,7 @@ returns-in-certify-clause-none c =
     let later = take (length rest - at) (drop at rest) in
     let split : IsSplit (texts rest) (drop at (texts rest)) slots = search rules in
     let splits : IsSplit (texts rest) (texts later) slots =
-        subst (λ (ws : List (List ℕ)). IsSplit (texts rest) ws slots) (sym (rest_texts rest at)) split in
+    subst (λ (ws : List (List ℕ)). IsSplit (texts rest) ws slots) (sym (rest_texts rest at)) split in
     let verb : c.as_str.result.now ≡ codes "certify" = search rules in
     let line = more_texts c.args.words.now c.verb-item.result c.as_str.result.now (omega arith) c.verb-item.is c.as_str.ensures.value in
     on_nothing c.certify_of.result (NeverSaid Certify slots (texts later)) ((asked : Asked) → ¬ Asks words asked)
@@ -149,7 +149,7 @@ returns-in-compose-clause-some c =
     let later = take (length rest - at) (drop at rest) in
     let split : IsSplit (texts rest) (drop at (texts rest)) slots = search rules in
     let splits : IsSplit (texts rest) (texts later) slots =
-        subst (λ (ws : List (List ℕ)). IsSplit (texts rest) ws slots) (sym (rest_texts rest at)) split in
+    subst (λ (ws : List (List ℕ)). IsSplit (texts rest) ws slots) (sym (rest_texts rest at)) split in
     let verb : c.as_str.result.now ≡ codes "compose" = search rules in
     let line = more_texts c.args.words.now c.verb-item.result c.as_str.result.now (omega arith) c.verb-item.is c.as_str.ensures.value in
     on_some c.compose_of.result (IsSaid Compose slots (texts later)) (λ command. Asks words (asked_by command))
@@ -164,7 +164,7 @@ returns-in-compose-clause-none c =
     let later = take (length rest - at) (drop at rest) in
     let split : IsSplit (texts rest) (drop at (texts rest)) slots = search rules in
     let splits : IsSplit (texts rest) (texts later) slots =
-        subst (λ (ws : List (List ℕ)). IsSplit (texts rest) ws slots) (sym (rest_texts rest at)) split in
+    subst (λ (ws : List (List ℕ)). IsSplit (texts rest) ws slots) (sym (rest_texts rest at)) split in
     let verb : c.as_str.result.now ≡ codes "compose" = search rules in
     let line = more_texts c.args.words.now c.verb-item.result c.as_str.result.now (omega arith) c.verb-item.is c.as_str.ensures.value in
     on_nothing c.compose_of.result (NeverSaid Compose slots (texts later)) ((asked : Asked) → ¬ Asks words asked)
@@ -179,7 +179,7 @@ returns-in-tree-clause-some c =
     let later = take (length rest - at) (drop at rest) in
     let split : IsSplit (texts rest) (drop at (texts rest)) slots = search rules in
     let splits : IsSplit (texts rest) (texts later) slots =
-        subst (λ (ws : List (List ℕ)). IsSplit (texts rest) ws slots) (sym (rest_texts rest at)) split in
+    subst (λ (ws : List (List ℕ)). IsSplit (texts rest) ws slots) (sym (rest_texts rest at)) split in
     let verb : c.as_str.result.now ≡ codes "tree" = search rules in
     let line = more_texts c.args.words.now c.verb-item.result c.as_str.result.now (omega arith) c.verb-item.is c.as_str.ensures.value in
     on_some c.tree_of.result (IsSaid Tree slots (texts later)) (λ command. Asks words (asked_by command))
@@ -194,7 +194,7 @@ returns-in-tree-clause-none c =
     let later = take (length rest - at) (drop at rest) in
     let split : IsSplit (texts rest) (drop at (texts rest)) slots = search rules in
     let splits : IsSplit (texts rest) (texts later) slots =
-        subst (λ (ws : List (List ℕ)). IsSplit (texts rest) ws slots) (sym (rest_texts rest at)) split in
+    subst (λ (ws : List (List ℕ)). IsSplit (texts rest) ws slots) (sym (rest_texts rest at)) split in
     let verb : c.as_str.result.now ≡ codes "tree" = search rules in
     let line = more_texts c.args.words.now c.verb-item.result c.as_str.result.now (omega arith) c.verb-item.is c.as_str.ensures.value in
     on_nothing c.tree_of.result (NeverSaid Tree slots (texts later)) ((asked : Asked) → ¬ Asks words asked)
@@ -209,7 +209,7 @@ returns-in-run-clause-some c =
     let later = take (length rest - at) (drop at rest) in
     let split : IsSplit (texts rest) (drop at (texts rest)) slots = search rules in
     let splits : IsSplit (texts rest) (texts later) slots =
-        subst (λ (ws : List (List ℕ)). IsSplit (texts rest) ws slots) (sym (rest_texts rest at)) split in
+    subst (λ (ws : List (List ℕ)). IsSplit (texts rest) ws slots) (sym (rest_texts rest at)) split in
     let verb : c.as_str.result.now ≡ codes "run" = search rules in
     let line = more_texts c.args.words.now c.verb-item.result c.as_str.result.now (omega arith) c.verb-item.is c.as_str.ensures.value in
     on_some c.run_of.result (IsSaid Run slots (texts later)) (λ command. Asks words (asked_by command))
@@ -224,7 +224,7 @@ returns-in-run-clause-none c =
     let later = take (length rest - at) (drop at rest) in
     let split : IsSplit (texts rest) (drop at (texts rest)) slots = search rules in
     let splits : IsSplit (texts rest) (texts later) slots =
-        subst (λ (ws : List (List ℕ)). IsSplit (texts rest) ws slots) (sym (rest_texts rest at)) split in
+    subst (λ (ws : List (List ℕ)). IsSplit (texts rest) ws slots) (sym (rest_texts rest at)) split in
     let verb : c.as_str.result.now ≡ codes "run" = search rules in
     let line = more_texts c.args.words.now c.verb-item.result c.as_str.result.now (omega arith) c.verb-item.is c.as_str.ensures.value in
     on_nothing c.run_of.result (NeverSaid Run slots (texts later)) ((asked : Asked) → ¬ Asks words asked)
@@ -239,7 +239,7 @@ returns-in-generate-clause-some c =
     let later = take (length rest - at) (drop at rest) in
     let split : IsSplit (texts rest) (drop at (texts rest)) slots = search rules in
     let splits : IsSplit (texts rest) (texts later) slots =
-        subst (λ (ws : List (List ℕ)). IsSplit (texts rest) ws slots) (sym (rest_texts rest at)) split in
+    subst (λ (ws : List (List ℕ)). IsSplit (texts rest) ws slots) (sym (rest_texts rest at)) split in
     let verb : c.as_str.result.now ≡ codes "generate" = search rules in
     let line = more_texts c.args.words.now c.verb-item.result c.as_str.result.now (omega arith) c.verb-item.is c.as_str.ensures.value in
     on_some c.generate_of.result (IsSaid Generate slots (texts later)) (λ command. Asks words (asked_by command))
@@ -254,9 +254,8 @@ returns-in-generate-clause-none c =
     let later = take (length rest - at) (drop at rest) in
     let split : IsSplit (texts rest) (drop at (texts rest)) slots = search rules in
     let splits : IsSplit (texts rest) (texts later) slots =
-        subst (λ (ws : List (List ℕ)). IsSplit (texts rest) ws slots) (sym (rest_texts rest at)) split in
+    subst (λ (ws : List (List ℕ)). IsSplit (texts rest) ws slots) (sym (rest_texts rest at)) split in
     let verb : c.as_str.result.now ≡ codes "generate" = search rules in
     let line = more_texts c.args.words.now c.verb-item.result c.as_str.result.now (omega arith) c.verb-item.is c.as_str.ensures.value in
     on_nothing c.generate_of.result (NeverSaid Generate slots (texts later)) ((asked : Asked) → ¬ Asks words asked)
     (λ never. never_asks words c.as_str.result.now (texts rest) line slots (texts later) splits Generate verb never) c.generate_of.ensures.none
-

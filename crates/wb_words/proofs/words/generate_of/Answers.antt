@@ -1,4 +1,4 @@
-use Rattle.std.proofs.Common.{rules, ◌≡◌, ◌<◌, ◌-◌, ◌^◌, ◌∷◌, [], ℕ, Option, Some, None, arith, length, take, drop, slice_get, ap, sym, subst, ◌∙◌}
+use Rattle.std.proofs.Common.{rules, ◌-◌, ◌^◌, ◌∷◌, [], Some, None, arith, length, take, drop}
 use Rattle.wb_words.specs.Words.{Generate, texts}
 use Rattle.wb_words.specs.Inner.Numbers.{IsNumberFrom}
 use Rattle.wb_words.specs.Inner.Sayings.{GivesOnly, NeverSaid}

@@ -1,4 +1,4 @@
-use Rattle.std.proofs.Common.{rules, ◌≡◌, ◌<◌, ◌≤◌, Contains, Some, None, length, slice_get, Bor, List, ℕ, true, false, sym, ◌∙◌, arith, refl}
+use Rattle.std.proofs.Common.{rules, ◌≡◌, ◌<◌, Contains, Some, length, true, false, sym, ◌∙◌, arith, refl}
 use Rattle.std.proofs.lemmas.Option.{slice_get_within}
 use Rattle.wb_words.proofs.SplitLemmas.{taken_slot, free_slot}
 use Rattle.wb_words.proofs.SayingLemmas.{only_more, only_free, true_is_false}
@@ -32,7 +32,8 @@ loop-slot-preserved c =
     ]
 
 pub returns : goal.returns
-returns c =
-    ((λ yes. λ k w there. c.loop-slot.invariant k w
-    (let within = slice_get_within c.args.slots.now k (Some w) there in let over = c.loop-slot-test.false in let five = c.told-slots in omega (arith, within, over, five)) there),
-    λ only. refl)
+returns c = (
+  (λ yes. λ k w there. c.loop-slot.invariant k w
+      (let within = slice_get_within c.args.slots.now k (Some w) there in let over = c.loop-slot-test.false in let five = c.told-slots in omega (arith, within, over, five)) there),
+  λ only. refl,
+)

@@ -1,8 +1,7 @@
-use Rattle.std.proofs.Common.{rules, ◌≡◌, ◌<◌, ◌-◌, ◌^◌, ◌∷◌, [], ℕ, Option, Some, None, arith, length, take, drop, slice_get, ap, sym, subst, ◌∙◌}
-use Rattle.wb_words.specs.Words.{Run, HasSteps, Given, texts}
+use Rattle.std.proofs.Common.{rules, ◌-◌, ◌∷◌, [], Some, None, arith, length, take, drop, sym, subst}
+use Rattle.wb_words.specs.Words.{Run, HasSteps, texts}
 use Rattle.wb_words.specs.Inner.Numbers.{IsNumberFrom}
 use Rattle.wb_words.specs.Inner.Sayings.{GivesOnly, NeverSaid}
-use Rattle.wb_words.specs.Inner.Slots.{AreSlots}
 use Rattle.wb_words.proofs.SplitLemmas.{on_none, slot_at}
 use Rattle.wb_words.proofs.SaidLemmas.{said_run, never_run, run_wants_text, run_wants_attribute, run_wants_steps, steps_given, steps_absent, more_texts}
 use Rattle.wb_words.proofs.words.run_of.Goals as goal

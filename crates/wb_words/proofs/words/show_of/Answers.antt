@@ -1,4 +1,4 @@
-use Rattle.std.proofs.Common.{rules, ◌≡◌, [], ◌∷◌, ap, arith, string_bytes}
+use Rattle.std.proofs.Common.{rules, [], arith}
 use Rattle.wb_words.specs.Words.{Show, texts}
 use Rattle.wb_words.specs.Inner.Sayings.{GivesOnly}
 use Rattle.wb_words.proofs.SayingLemmas.{never_with_options, no_options}

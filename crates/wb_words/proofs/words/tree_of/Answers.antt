@@ -1,6 +1,5 @@
-use Rattle.std.proofs.Common.{rules, ◌≡◌, ◌<◌, ◌-◌, ◌^◌, ◌∷◌, [], ℕ, Option, Some, None, arith, length, take, drop, slice_get, ap, sym, subst, ◌∙◌}
+use Rattle.std.proofs.Common.{rules, ◌-◌, ◌∷◌, [], Some, None, arith, length, take, drop}
 use Rattle.wb_words.specs.Words.{Tree, texts}
-use Rattle.wb_words.specs.Inner.Numbers.{IsNumberFrom}
 use Rattle.wb_words.specs.Inner.Sayings.{GivesOnly, NeverSaid}
 use Rattle.wb_words.proofs.SplitLemmas.{on_none, slot_at}
 use Rattle.wb_words.proofs.SaidLemmas.{said_tree, never_tree, tree_wants_text, more_texts}
