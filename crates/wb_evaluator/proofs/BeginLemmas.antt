@@ -16,7 +16,7 @@ use Rattle.wb_evaluator.proofs.SitesLemmas.{root_path}
 use Rattle.wb_evaluator.specs.Inner.Machines.{HasTree, AreNamed, IsNode, IsMachine}
 use Rattle.wb_evaluator.specs.Inner.Memos.{count, path_in, numbered, recall, IsWhole}
 use Rattle.wb_evaluator.specs.Inner.State.{start}
-use Rattle.wb_evaluator.specs.Inner.Tables.{at}
+use Rattle.wb_rules.specs.Tables.{at}
 use Rattle.wb_evaluator.specs.declared.machine.Key.TheVariants as key
 use Rattle.wb_evaluator.specs.declared.machine.Machine.{Machine}
 

@@ -27,7 +27,7 @@ use Rattle.wb_evaluator.specs.Inner.Machines.{HasTree, tree_named, named, IsKey,
 use Rattle.wb_evaluator.specs.Inner.Machines.{Runs}
 use Rattle.wb_evaluator.specs.Inner.Memos.{count, path_in, numbered, recall, IsWhole}
 use Rattle.wb_evaluator.specs.Inner.Sites.{path_at, paths_of, IsSites}
-use Rattle.wb_evaluator.specs.Inner.Tables.{at}
+use Rattle.wb_rules.specs.Tables.{at}
 use Rattle.wb_evaluator.specs.Inner.State.{IsState}
 use Rattle.wb_evaluator.specs.declared.machine.Key.{Key}
 use Rattle.wb_evaluator.specs.declared.machine.Key.TheVariants as key

@@ -1,7 +1,6 @@
 pub mod AnsweringLemmas
 pub mod MachineLemmas
 pub mod TaskLemmas
-pub mod TableLemmas
 pub mod SitesLemmas
 pub mod MemoLemmas
 pub mod RunLemmas
@@ -11,7 +10,6 @@ pub mod VisitLemmas
 pub mod DoneLemmas
 pub mod TreeTaskLemmas
 pub mod CallTaskLemmas
-pub mod TargetLemmas
 pub mod StepLemmas
 pub mod LeaveLemmas
 pub mod BeginLemmas

@@ -10,12 +10,12 @@ use Rattle.wb_evaluation.specs.Instances.{Path, down}
 use Rattle.wb_evaluator.proofs.SitesLemmas.{site_path, kept_path}
 use Rattle.wb_evaluator.specs.Inner.Memos.{count, path_in, numbered, recall, IsWhole, IsGrown, IsBelow}
 use Rattle.wb_evaluator.specs.Inner.Sites.{step_of, link, path_at, paths_of, IsSites}
-use Rattle.wb_evaluator.specs.Inner.Tables.{at}
+use Rattle.wb_rules.specs.Tables.{at}
 use Rattle.wb_evaluator.specs.declared.memo.Memo.{Memo}
 use Rattle.wb_evaluator.specs.declared.sites.Origin.{Origin}
 use Rattle.wb_evaluator.specs.declared.sites.Sites.{Sites}
 use Rattle.wb_evaluator.specs.declared.sites.Step.{Step}
-use Rattle.wb_evaluator.specs.declared.table.Table.{Table}
+use Rattle.wb_rules.specs.declared.table.Table.{Table}
 
 -- a value more is that of no number before
 still_numbered : (values : List Value) (value : Value) (n : ℕ) → ((k : ℕ) → n ≡ suc k → k < length values)

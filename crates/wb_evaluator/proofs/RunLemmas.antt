@@ -29,7 +29,7 @@ use Rattle.wb_evaluator.specs.Inner.Machines.{HasTree, tree_named, named, IsKey,
 use Rattle.wb_evaluator.specs.Inner.Machines.{IsMemo, IsMachine, Runs, with_memo}
 use Rattle.wb_evaluator.specs.Inner.Memos.{count, path_in, numbered, recall, IsWhole, IsGrown, IsBelow}
 use Rattle.wb_evaluator.specs.Inner.Sites.{step_of}
-use Rattle.wb_evaluator.specs.Inner.Tables.{in_row, rows_of}
+use Rattle.wb_rules.specs.Tables.{in_row, rows_of}
 use Rattle.wb_evaluator.specs.declared.machine.Key.{Key}
 use Rattle.wb_evaluator.specs.declared.machine.Key.TheVariants as key
 use Rattle.wb_evaluator.specs.declared.machine.Machine.{Machine}

@@ -1,6 +1,5 @@
 -- Words of private functions.
 pub mod Answering
-pub mod Tables
 pub mod Sites
 pub mod Memos
 pub mod State

@@ -11,6 +11,7 @@ ghost use Rattle.wb_evaluator.specs.Inner.Machines.{IsMachine};
 ghost use Rattle.wb_evaluator.specs.Inner.Answering.{IsTurned, turns_left};
 ghost use Rattle.wb_evaluator.specs.Inner.Works.{IsExtended};
 ghost use Rattle.wb_operations.specs.Kept.{IsKept};
+ghost use Rattle.wb_rules.specs.Indexes.{AreIndexes};
 ghost use Rattle.wb_types.specs.Rules.{KindsOk};
 ghost use Rattle.wb_values.specs.ValuesIn.{tree_in};
 
@@ -23,6 +24,7 @@ use crate::work::{Ran, Work};
 use std::alloc::{AllocError, Global};
 use wb_operations::{Meaning, OperationRefusal, OperationTable};
 use wb_resolved::Attribution;
+use wb_rules::RuleIndex;
 use wb_values::{TreeId, TreeStore, Value};
 
 /// The value or the fault of a synthesized attribute of a tree, or that more instances are needed than there are steps.
@@ -62,8 +64,11 @@ pub fn evaluate<M: Meaning>(
         return Ok(Evaluated::MoreSteps);
     }
     let _ = operations.signatures().len();
+    let lists = attributes.parts();
+    let rules = RuleIndex::new(alloc, lists.productions.as_slice())?;
     let context = Context {
-        attributes: attributes.parts(),
+        attributes: lists,
+        rules: &rules,
         operations,
     };
     let mut machine = begin(alloc, &context, store, root, attribute)?;
@@ -85,6 +90,7 @@ fn turn<M: Meaning>(
 ) -> Result<Option<Evaluated>, AllocError>
     requires whole { IsMachine context.now.attributes.now (record { signatures = context.now.operations.now.signatures; meaning = M.meaning }) store.old machine.old }
     requires within { machine.old.entered ≤ steps }
+    requires rules { AreIndexes context.now.attributes.now.productions context.now.rules.now.rows.items }
     requires kept { IsKept context.now.operations.now.signatures context.now.operations.now.built_in context.now.operations.now.runs.items M.meaning
         (λ run vs. ⟦<Box<dyn Fn(&[Value]) -> Result<Value, OperationRefusal>> as Fn(&[Value]) -> Result<Value, OperationRefusal>>⟧.pre run vs)
         (λ run vs r. ⟦<Box<dyn Fn(&[Value]) -> Result<Value, OperationRefusal>> as Fn(&[Value]) -> Result<Value, OperationRefusal>>⟧.post run vs r) }

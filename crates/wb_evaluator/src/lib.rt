@@ -11,11 +11,9 @@ mod expression;
 mod machine;
 mod memo;
 mod perform;
-mod rules;
 mod run;
 mod sites;
 mod steps;
-mod table;
 mod visit;
 mod work;
 

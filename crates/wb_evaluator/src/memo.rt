@@ -7,7 +7,7 @@ ghost use Rattle.wb_evaluator.specs.Inner.Sites.{link, step_of, path_at, paths_o
 ghost use Rattle.wb_evaluator.specs.Inner.Memos.{recall, IsWhole, IsGrown, IsBelow};
 
 use crate::sites::{Sites, Step};
-use crate::table::Table;
+use wb_rules::Table;
 use std::alloc::{AllocError, Global};
 use wb_values::{TreeId, Value};
 

@@ -10,17 +10,18 @@ ghost use Rattle.wb_evaluator.specs.Inner.Machines.{IsMachine, IsSame};
 ghost use Rattle.wb_evaluator.specs.Inner.Sites.{step_of};
 ghost use Rattle.wb_evaluator.specs.Inner.Starts.{IsAtWork, IsStarting, IsAlone, HasProduction, IsProductionAt, IsForwarding};
 ghost use Rattle.wb_evaluator.specs.Inner.Works.{IsExtended, IsRan};
+ghost use Rattle.wb_rules.specs.Indexes.{AreIndexes, IsIndexOf};
 ghost use Rattle.wb_evaluator.specs.declared.machine.Key.TheVariants.{Synthesized, Inherited, Tree};
 
 use crate::context::Context;
 use crate::machine::{Key, Machine};
 use crate::perform::evaluate_tasks;
-use crate::rules::{equation_for, forward_nodes, local_nodes};
 use crate::sites::Step;
 use crate::work::{Ran, Task, Work};
 use std::alloc::AllocError;
 use wb_operations::{Meaning, OperationRefusal};
-use wb_resolved::{Node, Place, Production, Target};
+use wb_resolved::{Node, Place, Target};
+use wb_rules::{Rules, equation_for, forward_nodes, local_nodes};
 use wb_values::{TreeStore, Value};
 
 // Works on the last instance.
@@ -31,6 +32,7 @@ pub(crate) fn run<M: Meaning>(
     work: &mut Work,
 ) -> Result<Ran, AllocError>
     requires whole { IsMachine context.now.attributes.now (record { signatures = context.now.operations.now.signatures; meaning = M.meaning }) store.old machine.old }
+    requires rules { AreIndexes context.now.attributes.now.productions context.now.rules.now.rows.items }
     requires kept { IsKept context.now.operations.now.signatures context.now.operations.now.built_in context.now.operations.now.runs.items M.meaning
         (λ run vs. ⟦<Box<dyn Fn(&[Value]) -> Result<Value, OperationRefusal>> as Fn(&[Value]) -> Result<Value, OperationRefusal>>⟧.pre run vs)
         (λ run vs r. ⟦<Box<dyn Fn(&[Value]) -> Result<Value, OperationRefusal>> as Fn(&[Value]) -> Result<Value, OperationRefusal>>⟧.post run vs r) }
@@ -59,6 +61,7 @@ fn run_tree<M: Meaning>(
     site: usize,
 ) -> Result<Ran, AllocError>
     requires works { IsAtWork context.now.attributes.now (record { signatures = context.now.operations.now.signatures; meaning = M.meaning }) store.old machine.old (Tree site) }
+    requires rules { AreIndexes context.now.attributes.now.productions context.now.rules.now.rows.items }
     requires kept { IsKept context.now.operations.now.signatures context.now.operations.now.built_in context.now.operations.now.runs.items M.meaning
         (λ run vs. ⟦<Box<dyn Fn(&[Value]) -> Result<Value, OperationRefusal>> as Fn(&[Value]) -> Result<Value, OperationRefusal>>⟧.pre run vs)
         (λ run vs r. ⟦<Box<dyn Fn(&[Value]) -> Result<Value, OperationRefusal>> as Fn(&[Value]) -> Result<Value, OperationRefusal>>⟧.post run vs r) }
@@ -67,14 +70,14 @@ fn run_tree<M: Meaning>(
     ensures store { IsExtended store.old store.new }
 {
     let origin = machine.memo.sites.origins[site - 1];
-    let production = production_at(context, machine, store, origin.parent);
+    let rules = rules_at(context, machine, store, origin.parent);
     let parent = origin.parent;
     match origin.step {
-        Step::Local(x) => match local_nodes(production, x) {
+        Step::Local(x) => match local_nodes(rules.production, x) {
             Some(nodes) => evaluate_at(context, machine, store, work, parent, nodes),
             None => unreachable!(),
         },
-        Step::Forward => match forward_nodes(production) {
+        Step::Forward => match forward_nodes(rules.production) {
             Some(nodes) => evaluate_at(context, machine, store, work, parent, nodes),
             None => unreachable!(),
         },
@@ -92,6 +95,7 @@ fn run_inherited<M: Meaning>(
     attribute: usize,
 ) -> Result<Ran, AllocError>
     requires works { IsAtWork context.now.attributes.now (record { signatures = context.now.operations.now.signatures; meaning = M.meaning }) store.old machine.old (Inherited site attribute) }
+    requires rules { AreIndexes context.now.attributes.now.productions context.now.rules.now.rows.items }
     requires kept { IsKept context.now.operations.now.signatures context.now.operations.now.built_in context.now.operations.now.runs.items M.meaning
         (λ run vs. ⟦<Box<dyn Fn(&[Value]) -> Result<Value, OperationRefusal>> as Fn(&[Value]) -> Result<Value, OperationRefusal>>⟧.pre run vs)
         (λ run vs r. ⟦<Box<dyn Fn(&[Value]) -> Result<Value, OperationRefusal>> as Fn(&[Value]) -> Result<Value, OperationRefusal>>⟧.post run vs r) }
@@ -100,8 +104,8 @@ fn run_inherited<M: Meaning>(
     ensures store { IsExtended store.old store.new }
 {
     let origin = machine.memo.sites.origins[site - 1];
-    let production = production_at(context, machine, store, origin.parent);
-    match equation_for(production, target_below(origin.step, attribute)) {
+    let rules = rules_at(context, machine, store, origin.parent);
+    match equation_for(&rules, target_below(origin.step, attribute)) {
         Some(nodes) => evaluate_at(context, machine, store, work, origin.parent, nodes),
         None => {
             let key = Key::Inherited {
@@ -123,6 +127,7 @@ fn run_synthesized<M: Meaning>(
     attribute: usize,
 ) -> Result<Ran, AllocError>
     requires works { IsAtWork context.now.attributes.now (record { signatures = context.now.operations.now.signatures; meaning = M.meaning }) store.old machine.old (Synthesized site attribute) }
+    requires rules { AreIndexes context.now.attributes.now.productions context.now.rules.now.rows.items }
     requires kept { IsKept context.now.operations.now.signatures context.now.operations.now.built_in context.now.operations.now.runs.items M.meaning
         (λ run vs. ⟦<Box<dyn Fn(&[Value]) -> Result<Value, OperationRefusal>> as Fn(&[Value]) -> Result<Value, OperationRefusal>>⟧.pre run vs)
         (λ run vs r. ⟦<Box<dyn Fn(&[Value]) -> Result<Value, OperationRefusal>> as Fn(&[Value]) -> Result<Value, OperationRefusal>>⟧.post run vs r) }
@@ -133,8 +138,8 @@ fn run_synthesized<M: Meaning>(
     if machine.memo.trees[site].is_none() {
         return Ok(Ran::Needs(Key::Tree { site }));
     }
-    let production = production_at(context, machine, store, site);
-    match equation_for(production, Target::Top(attribute)) {
+    let rules = rules_at(context, machine, store, site);
+    match equation_for(&rules, Target::Top(attribute)) {
         Some(nodes) => evaluate_at(context, machine, store, work, site, nodes),
         None => run_forward(context, machine, store, site, attribute),
     }
@@ -204,22 +209,27 @@ fn evaluate_at<M: Meaning>(
     evaluate_tasks(context, machine, store, work, site, nodes)
 }
 
-// The production at a site whose tree is known.
-fn production_at<'a, M: Meaning>(
+// The rules of the production at a site whose tree is known.
+fn rules_at<'a, M: Meaning>(
     context: &Context<'a, M>,
     machine: &Machine,
     store: &TreeStore,
     site: usize,
-) -> &'a Production
+) -> Rules<'a>
     requires there { site < length machine.now.memo.trees.items }
     requires production { HasProduction context.now.attributes.now store.now machine.now site }
-    ensures { IsProductionAt context.now.attributes.now store.now machine.now site result.now }
+    requires rules { AreIndexes context.now.attributes.now.productions context.now.rules.now.rows.items }
+    ensures production { IsProductionAt context.now.attributes.now store.now machine.now site result.production.now }
+    ensures equations { IsIndexOf result.production.now.equations (length result.production.now.equations) result.equations.now }
 {
     match machine.memo.trees[site] {
         Some(tree) => {
             let number = store.production(tree);
             let productions = context.attributes.productions.as_slice();
-            &productions[number]
+            Rules {
+                production: &productions[number],
+                equations: &context.rules.rows[number],
+            }
         }
         None => unreachable!(),
     }

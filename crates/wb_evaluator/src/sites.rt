@@ -5,7 +5,7 @@
 ghost use Rattle.std.specs.Prelude.{◌≡◌, ◌≢◌, ◌≤◌, ◌<◌, ℕ, suc, [], ◌∷◌, ◌++◌, length, OnOk, IfOk};
 ghost use Rattle.wb_evaluator.specs.Inner.Sites.{link, IsOther, HasRows, IsSites};
 
-use crate::table::Table;
+use wb_rules::Table;
 use std::alloc::{AllocError, Global};
 
 // A step down from a node.

@@ -4,7 +4,7 @@ use Rattle.wb_values.specs.declared.value.TreeId.{TreeId}
 use Rattle.wb_values.specs.declared.value.Value.{Value}
 use Rattle.wb_evaluation.specs.Instances.{down}
 use Rattle.wb_evaluator.specs.Inner.Sites.{step_of, path_at, paths_of, IsSites}
-use Rattle.wb_evaluator.specs.Inner.Tables.{at}
+use Rattle.wb_rules.specs.Tables.{at}
 use Rattle.wb_evaluator.specs.declared.memo.Memo.{Memo}
 use Rattle.wb_evaluator.specs.declared.sites.Origin.{Origin}
 use Rattle.wb_evaluator.specs.declared.sites.Step.{Step}

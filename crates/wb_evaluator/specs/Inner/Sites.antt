@@ -3,7 +3,7 @@ use Rattle.std.specs.Prelude.{◌≡◌, ◌≢◌, ◌≤◌, ◌⊎◌, ℕ, s
 use Rattle.wb_attributes.specs.Vertices.{child, made, local, forward}
 use Rattle.wb_attributes.specs.Vertices as vertices
 use Rattle.wb_evaluation.specs.Instances.{Path, root, down}
-use Rattle.wb_evaluator.specs.Inner.Tables.{at}
+use Rattle.wb_rules.specs.Tables.{at}
 use Rattle.wb_evaluator.specs.declared.sites.Origin.{Origin}
 use Rattle.wb_evaluator.specs.declared.sites.Sites.{Sites}
 use Rattle.wb_evaluator.specs.declared.sites.Step.{Step}

@@ -14,8 +14,8 @@ use Rattle.wb_evaluator.proofs.answering.evaluate.Goals as goal
 pub begin-requires-clause-evaluable : goal.begin-requires-clause-evaluable
 begin-requires-clause-evaluable g c =
     subst (λ (a : AttributionParts). IsEvaluable a
-    (record { signatures = c.args.operations.now.signatures; meaning = g.M.Meaning.meaning })) (sym c.parts.ensures.parts) (record {
-      attribution = c.parts.ensures.whole;
+    (record { signatures = c.args.operations.now.signatures; meaning = g.M.Meaning.meaning })) (sym c.parts-lists.ensures.parts) (record {
+      attribution = c.parts-lists.ensures.whole;
       productions = c.requires.productions;
       kinds = c.requires.kinds;
       with_operations = record {
@@ -62,40 +62,40 @@ returns-in-Some-clause-store g c =
 
 pub returns-in-Some-clause-value : goal.returns-in-Some-clause-value
 returns-in-Some-clause-value g c =
-    let a = c.parts.result.now in
+    let a = c.parts-lists.result.now in
     let extended = extended_twice c.args.store.now c.turns.store c.turn.new.store c.turns.invariant.store c.turn.ensures.store in
     let answered = subst (IsTurned a
     (record { signatures = c.args.operations.now.signatures; meaning = g.M.Meaning.meaning }) c.turn.new.store c.turns.machine c.turn.new.machine c.args.steps) c.in-Some.is c.in_ok-answer.ensures.turned in
-    (answered_at a c.args.attributes.now c.parts.ensures.parts
+    (answered_at a c.args.attributes.now c.parts-lists.ensures.parts
     (record { signatures = c.args.operations.now.signatures; meaning = g.M.Meaning.meaning }) c.args.store.now c.turn.new.store c.turns.machine c.args.root c.args.attribute c.args.steps
     c.in-Some.answer (c.turns.invariant.root ∙ c.in_ok-machine.ensures.root)
     (c.turns.invariant.attribute ∙ c.in_ok-machine.ensures.attribute) extended c.requires.there answered).0
 
 pub returns-in-Some-clause-fault : goal.returns-in-Some-clause-fault
 returns-in-Some-clause-fault g c =
-    let a = c.parts.result.now in
+    let a = c.parts-lists.result.now in
     let extended = extended_twice c.args.store.now c.turns.store c.turn.new.store c.turns.invariant.store c.turn.ensures.store in
     let answered = subst (IsTurned a
     (record { signatures = c.args.operations.now.signatures; meaning = g.M.Meaning.meaning }) c.turn.new.store c.turns.machine c.turn.new.machine c.args.steps) c.in-Some.is c.in_ok-answer.ensures.turned in
-    (answered_at a c.args.attributes.now c.parts.ensures.parts
+    (answered_at a c.args.attributes.now c.parts-lists.ensures.parts
     (record { signatures = c.args.operations.now.signatures; meaning = g.M.Meaning.meaning }) c.args.store.now c.turn.new.store c.turns.machine c.args.root c.args.attribute c.args.steps
     c.in-Some.answer (c.turns.invariant.root ∙ c.in_ok-machine.ensures.root)
     (c.turns.invariant.attribute ∙ c.in_ok-machine.ensures.attribute) extended c.requires.there answered).1
 
 pub returns-in-Some-clause-more : goal.returns-in-Some-clause-more
 returns-in-Some-clause-more g c =
-    let a = c.parts.result.now in
+    let a = c.parts-lists.result.now in
     let extended = extended_twice c.args.store.now c.turns.store c.turn.new.store c.turns.invariant.store c.turn.ensures.store in
     let answered = subst (IsTurned a
     (record { signatures = c.args.operations.now.signatures; meaning = g.M.Meaning.meaning }) c.turn.new.store c.turns.machine c.turn.new.machine c.args.steps) c.in-Some.is c.in_ok-answer.ensures.turned in
-    (answered_at a c.args.attributes.now c.parts.ensures.parts
+    (answered_at a c.args.attributes.now c.parts-lists.ensures.parts
     (record { signatures = c.args.operations.now.signatures; meaning = g.M.Meaning.meaning }) c.args.store.now c.turn.new.store c.turns.machine c.args.root c.args.attribute c.args.steps
     c.in-Some.answer (c.turns.invariant.root ∙ c.in_ok-machine.ensures.root)
     (c.turns.invariant.attribute ∙ c.in_ok-machine.ensures.attribute) extended c.requires.there answered).2
 
 pub turns-preserved : goal.turns-preserved
 turns-preserved g c =
-    let goes = subst (IsTurned c.parts.result.now
+    let goes = subst (IsTurned c.parts-lists.result.now
     (record { signatures = c.args.operations.now.signatures; meaning = g.M.Meaning.meaning }) c.turn.new.store c.turns.machine c.turn.new.machine c.args.steps) c.in_default.is c.in_ok-answer.ensures.turned in
     record {
       whole = goes.whole;

@@ -15,8 +15,8 @@ index-origin-requires g c =
     (record { signatures = c.args.context.now.operations.now.signatures; meaning = g.M.Meaning.meaning }) c.args.store.now c.args.machine.now c.args.site c.args.attribute c.requires.works).1 in
     search rules
 
-pub production_at-production-requires-clause-there : goal.production_at-production-requires-clause-there
-production_at-production-requires-clause-there g c =
+pub rules_at-rules-requires-clause-there : goal.rules_at-rules-requires-clause-there
+rules_at-rules-requires-clause-there g c =
     let o = c.index-origin.result.now in
     let (some, within) = inherited_some c.args.context.now.attributes.now
     (record { signatures = c.args.context.now.operations.now.signatures; meaning = g.M.Meaning.meaning }) c.args.store.now c.args.machine.now c.args.site c.args.attribute c.requires.works in
@@ -25,8 +25,8 @@ production_at-production-requires-clause-there g c =
     inherited_there c.args.context.now.attributes.now
     (record { signatures = c.args.context.now.operations.now.signatures; meaning = g.M.Meaning.meaning }) c.args.store.now c.args.machine.now c.args.site c.args.attribute c.requires.works o at
 
-pub production_at-production-requires-clause-production : goal.production_at-production-requires-clause-production
-production_at-production-requires-clause-production g c =
+pub rules_at-rules-requires-clause-production : goal.rules_at-rules-requires-clause-production
+rules_at-rules-requires-clause-production g c =
     let o = c.index-origin.result.now in
     let (some, within) = inherited_some c.args.context.now.attributes.now
     (record { signatures = c.args.context.now.operations.now.signatures; meaning = g.M.Meaning.meaning }) c.args.store.now c.args.machine.now c.args.site c.args.attribute c.requires.works in
@@ -44,8 +44,8 @@ evaluate_at-requires-clause-starting g c =
     slice_get-get_or c.args.machine.now.memo.sites.origins.items (c.args.site - 1) o within ∙ ap Some (sym c.index-origin.ensures) in
     let rule = c.in-Some.ensures.some in
     inherited_starting c.args.context.now.attributes.now
-    (record { signatures = c.args.context.now.operations.now.signatures; meaning = g.M.Meaning.meaning }) c.args.store.now c.args.machine.now c.args.site c.args.attribute c.requires.works o at c.production_at-production.result.now c.in-Some.nodes.now
-    c.production_at-production.ensures (subst (λ (v : Vertex). IsRule c.production_at-production.result.now v c.in-Some.nodes.now) c.target_below.ensures rule)
+    (record { signatures = c.args.context.now.operations.now.signatures; meaning = g.M.Meaning.meaning }) c.args.store.now c.args.machine.now c.args.site c.args.attribute c.requires.works o at c.rules_at-rules.result.production.now c.in-Some.nodes.now
+    c.rules_at-rules.ensures.production (subst (λ (v : Vertex). IsRule c.rules_at-rules.result.production.now v c.in-Some.nodes.now) c.target_below.ensures rule)
 
 pub read_alone-requires : goal.read_alone-requires
 read_alone-requires g c =
@@ -56,5 +56,5 @@ read_alone-requires g c =
     slice_get-get_or c.args.machine.now.memo.sites.origins.items (c.args.site - 1) o within ∙ ap Some (sym c.index-origin.ensures) in
     let none = c.in-None.ensures.none in
     inherited_alone c.args.context.now.attributes.now
-    (record { signatures = c.args.context.now.operations.now.signatures; meaning = g.M.Meaning.meaning }) c.args.store.now c.args.machine.now c.args.site c.args.attribute c.requires.works o at c.production_at-production.result.now
-    c.production_at-production.ensures (subst (λ (v : Vertex). ¬ HasRule c.production_at-production.result.now v) c.target_below.ensures none)
+    (record { signatures = c.args.context.now.operations.now.signatures; meaning = g.M.Meaning.meaning }) c.args.store.now c.args.machine.now c.args.site c.args.attribute c.requires.works o at c.rules_at-rules.result.production.now
+    c.rules_at-rules.ensures.production (subst (λ (v : Vertex). ¬ HasRule c.rules_at-rules.result.production.now v) c.target_below.ensures none)

@@ -13,8 +13,8 @@ returns-then-is_none-clause-ran g c =
     synthesized_wanted c.args.context.now.attributes.now
     (record { signatures = c.args.context.now.operations.now.signatures; meaning = g.M.Meaning.meaning }) c.args.store.now c.args.machine.now c.args.site c.args.attribute c.requires.works none
 
-pub production_at-production-requires-clause-production : goal.production_at-production-requires-clause-production
-production_at-production-requires-clause-production g c =
+pub rules_at-rules-requires-clause-production : goal.rules_at-rules-requires-clause-production
+rules_at-rules-requires-clause-production g c =
     let within = synthesized_within c.args.context.now.attributes.now
     (record { signatures = c.args.context.now.operations.now.signatures; meaning = g.M.Meaning.meaning }) c.args.store.now c.args.machine.now c.args.site c.args.attribute c.requires.works in
     let there : slice_get c.args.machine.now.memo.trees.items c.args.site ≡ Some c.index.result.now =
@@ -25,11 +25,11 @@ production_at-production-requires-clause-production g c =
 pub evaluate_at-requires-clause-starting : goal.evaluate_at-requires-clause-starting
 evaluate_at-requires-clause-starting g c =
     synthesized_starting c.args.context.now.attributes.now
-    (record { signatures = c.args.context.now.operations.now.signatures; meaning = g.M.Meaning.meaning }) c.args.store.now c.args.machine.now c.args.site c.args.attribute c.requires.works c.production_at-production.result.now c.in-Some.nodes.now
-    c.production_at-production.ensures c.in-Some.ensures.some
+    (record { signatures = c.args.context.now.operations.now.signatures; meaning = g.M.Meaning.meaning }) c.args.store.now c.args.machine.now c.args.site c.args.attribute c.requires.works c.rules_at-rules.result.production.now c.in-Some.nodes.now
+    c.rules_at-rules.ensures.production c.in-Some.ensures.some
 
 pub run_forward-requires : goal.run_forward-requires
 run_forward-requires g c =
     synthesized_forward c.args.context.now.attributes.now
-    (record { signatures = c.args.context.now.operations.now.signatures; meaning = g.M.Meaning.meaning }) c.args.store.now c.args.machine.now c.args.site c.args.attribute c.requires.works c.production_at-production.result.now
-    c.production_at-production.ensures c.in-None.ensures.none
+    (record { signatures = c.args.context.now.operations.now.signatures; meaning = g.M.Meaning.meaning }) c.args.store.now c.args.machine.now c.args.site c.args.attribute c.requires.works c.rules_at-rules.result.production.now
+    c.rules_at-rules.ensures.production c.in-None.ensures.none

@@ -15,8 +15,8 @@ index-origin-requires g c =
     (record { signatures = c.args.context.now.operations.now.signatures; meaning = g.M.Meaning.meaning }) c.args.store.now c.args.machine.now c.args.site c.requires.works).1 in
     search rules
 
-pub production_at-production-requires-clause-there : goal.production_at-production-requires-clause-there
-production_at-production-requires-clause-there g c =
+pub rules_at-rules-requires-clause-there : goal.rules_at-rules-requires-clause-there
+rules_at-rules-requires-clause-there g c =
     let o = c.index-origin.result.now in
     let (some, within) = tree_some c.args.context.now.attributes.now
     (record { signatures = c.args.context.now.operations.now.signatures; meaning = g.M.Meaning.meaning }) c.args.store.now c.args.machine.now c.args.site c.requires.works in
@@ -25,8 +25,8 @@ production_at-production-requires-clause-there g c =
     tree_within c.args.context.now.attributes.now
     (record { signatures = c.args.context.now.operations.now.signatures; meaning = g.M.Meaning.meaning }) c.args.store.now c.args.machine.now c.args.site c.requires.works o at
 
-pub production_at-production-requires-clause-production : goal.production_at-production-requires-clause-production
-production_at-production-requires-clause-production g c =
+pub rules_at-rules-requires-clause-production : goal.rules_at-rules-requires-clause-production
+rules_at-rules-requires-clause-production g c =
     let o = c.index-origin.result.now in
     let (some, within) = tree_some c.args.context.now.attributes.now
     (record { signatures = c.args.context.now.operations.now.signatures; meaning = g.M.Meaning.meaning }) c.args.store.now c.args.machine.now c.args.site c.requires.works in
@@ -44,8 +44,8 @@ evaluate_at-requires-clause-starting g c =
     slice_get-get_or c.args.machine.now.memo.sites.origins.items (c.args.site - 1) o within ∙ ap Some (sym c.index-origin.ensures) in
     let rule = c.in-Some.ensures.some in
     tree_starting c.args.context.now.attributes.now
-    (record { signatures = c.args.context.now.operations.now.signatures; meaning = g.M.Meaning.meaning }) c.args.store.now c.args.machine.now c.args.site c.requires.works o at (local c.in-Local.x) c.production_at-production.result.now c.in-Some.nodes.now
-    (ap step_of c.in-Local.is) c.production_at-production.ensures rule
+    (record { signatures = c.args.context.now.operations.now.signatures; meaning = g.M.Meaning.meaning }) c.args.store.now c.args.machine.now c.args.site c.requires.works o at (local c.in-Local.x) c.rules_at-rules.result.production.now c.in-Some.nodes.now
+    (ap step_of c.in-Local.is) c.rules_at-rules.ensures.production rule
 
 pub unreachable-requires : goal.unreachable-requires
 unreachable-requires g c =
@@ -56,7 +56,7 @@ unreachable-requires g c =
     slice_get-get_or c.args.machine.now.memo.sites.origins.items (c.args.site - 1) o within ∙ ap Some (sym c.index-origin.ensures) in
     tree_never c.args.context.now.attributes.now
     (record { signatures = c.args.context.now.operations.now.signatures; meaning = g.M.Meaning.meaning }) c.args.store.now c.args.machine.now c.args.site c.requires.works o at (local c.in-Local.x)
-    c.production_at-production.result.now (ap step_of c.in-Local.is) c.production_at-production.ensures c.in-None.ensures.none
+    c.rules_at-rules.result.production.now (ap step_of c.in-Local.is) c.rules_at-rules.ensures.production c.in-None.ensures.none
 
 pub evaluate_at-requires-in-Some-forward_nodes-clause-starting : goal.evaluate_at-requires-in-Some-forward_nodes-clause-starting
 evaluate_at-requires-in-Some-forward_nodes-clause-starting g c =
@@ -67,7 +67,7 @@ evaluate_at-requires-in-Some-forward_nodes-clause-starting g c =
     slice_get-get_or c.args.machine.now.memo.sites.origins.items (c.args.site - 1) o within ∙ ap Some (sym c.index-origin.ensures) in
     tree_starting c.args.context.now.attributes.now
     (record { signatures = c.args.context.now.operations.now.signatures; meaning = g.M.Meaning.meaning }) c.args.store.now c.args.machine.now c.args.site c.requires.works o at forward
-    c.production_at-production.result.now c.in-Some-forward_nodes.nodes.now (ap step_of c.in-Forward.is) c.production_at-production.ensures
+    c.rules_at-rules.result.production.now c.in-Some-forward_nodes.nodes.now (ap step_of c.in-Forward.is) c.rules_at-rules.ensures.production
     c.in-Some-forward_nodes.ensures.some
 
 pub unreachable-requires-in-None-forward_nodes : goal.unreachable-requires-in-None-forward_nodes
@@ -79,7 +79,7 @@ unreachable-requires-in-None-forward_nodes g c =
     slice_get-get_or c.args.machine.now.memo.sites.origins.items (c.args.site - 1) o within ∙ ap Some (sym c.index-origin.ensures) in
     tree_never c.args.context.now.attributes.now
     (record { signatures = c.args.context.now.operations.now.signatures; meaning = g.M.Meaning.meaning }) c.args.store.now c.args.machine.now c.args.site c.requires.works o at forward
-    c.production_at-production.result.now (ap step_of c.in-Forward.is) c.production_at-production.ensures c.in-None-forward_nodes.ensures.none
+    c.rules_at-rules.result.production.now (ap step_of c.in-Forward.is) c.rules_at-rules.ensures.production c.in-None-forward_nodes.ensures.none
 
 pub unreachable-requires-in-Child : goal.unreachable-requires-in-Child
 unreachable-requires-in-Child g c =

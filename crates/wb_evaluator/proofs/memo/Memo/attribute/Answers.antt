@@ -2,7 +2,7 @@ use Rattle.std.proofs.Common.{rules, ◌≡◌, ◌≢◌, ◌∙◌, ◌-◌, �
 use Rattle.std.proofs.lemmas.Option.{slice_get-get_or}
 use Rattle.wb_values.specs.declared.value.Value.{Value}
 use Rattle.wb_evaluator.specs.Inner.Memos.{IsWhole, numbered, recall}
-use Rattle.wb_evaluator.specs.Inner.Tables.{at}
+use Rattle.wb_rules.specs.Tables.{at}
 use Rattle.wb_evaluator.specs.declared.memo.Memo.{Memo}
 use Rattle.wb_evaluator.proofs.memo.Memo.attribute.Goals as goal
 

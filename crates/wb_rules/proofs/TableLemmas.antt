@@ -2,7 +2,7 @@
 use Rattle.std.proofs.Common.{◌++◌, ◌∷◌, zero, suc, refl, ◌≡◌, ◌≢◌, ◌<◌, ◌∙◌, ℕ, List, [], Vec, Global, length, get_or, ap, subst, sym}
 use Rattle.std.specs.List.{slice_set}
 use Rattle.std.proofs.lemmas.List.{get_or-set_same, get_or-set_other, map-set, get_or-map, length-map}
-use Rattle.wb_evaluator.specs.Inner.Tables.{at, in_row, rows_of}
+use Rattle.wb_rules.specs.Tables.{at, in_row, rows_of}
 
 pub written_at : (rows : List (Vec ℕ Global)) (i : ℕ) (w : Vec ℕ Global) (column number : ℕ) → i < length rows
     → in_row w.items column ≡ number → at (slice_set rows i w) i column ≡ number

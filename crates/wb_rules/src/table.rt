@@ -3,20 +3,22 @@
 //! As rows that grow as far as they are written. What is not written is 0.
 
 ghost use Rattle.std.specs.Prelude.{◌≡◌, ◌≢◌, ◌<◌, ℕ, suc, [], length, OnOk};
-ghost use Rattle.wb_evaluator.specs.Inner.Tables.{at, in_row};
+ghost use Rattle.wb_rules.specs.Tables.{at, in_row};
 
 use std::alloc::{AllocError, Global};
 
-// Numbers by row and column.
+/// Numbers by row and column.
 #[derive(Drop)]
-pub(crate) struct Table {
+pub struct Table {
+    /// Where rows are kept.
     pub alloc: Global,
+    /// The rows.
     pub rows: Vec<Vec<usize>>,
 }
 
 impl Table {
-    // No rows.
-    pub(crate) fn new(alloc: Global) -> Table
+    /// No rows.
+    pub fn new(alloc: Global) -> Table
         ensures { result.rows.items ≡ [] }
     {
         Table {
@@ -25,8 +27,8 @@ impl Table {
         }
     }
 
-    // Adds an empty row after the others.
-    pub(crate) fn add_row(&mut self) -> Result<(), AllocError>
+    /// Adds an empty row after the others.
+    pub fn add_row(&mut self) -> Result<(), AllocError>
         ensures len { OnOk result (length self.new.rows.items ≡ suc (length self.old.rows.items)) }
         ensures kept { OnOk result ((i column : ℕ) → at self.new.rows.items i column ≡ at self.old.rows.items i column) }
     {
@@ -36,8 +38,8 @@ impl Table {
         Ok(())
     }
 
-    // The number at a place, or 0.
-    pub(crate) fn get(&self, row: usize, column: usize) -> usize
+    /// The number at a place, or 0.
+    pub fn get(&self, row: usize, column: usize) -> usize
         ensures { result ≡ at self.now.rows.items row column }
     {
         if row < self.rows.len() {
@@ -47,8 +49,8 @@ impl Table {
         }
     }
 
-    // Writes the number at a place of a row that is there.
-    pub(crate) fn set(&mut self, row: usize, column: usize, number: usize) -> Result<(), AllocError>
+    /// Writes the number at a place of a row that is there. The only error is want of memory.
+    pub fn set(&mut self, row: usize, column: usize, number: usize) -> Result<(), AllocError>
         requires { row < length self.old.rows.items }
         ensures len { OnOk result (length self.new.rows.items ≡ length self.old.rows.items) }
         ensures set { OnOk result (at self.new.rows.items row column ≡ number) }
@@ -58,17 +60,39 @@ impl Table {
         write(&mut self.rows[row], column, number)?;
         Ok(())
     }
+
+    /// Writes the number at a place, after as many rows as that takes. The only error is want of memory.
+    pub fn put(&mut self, row: usize, column: usize, number: usize) -> Result<(), AllocError>
+        ensures set { OnOk result (at self.new.rows.items row column ≡ number) }
+        ensures columns { OnOk result ((other : ℕ) → other ≢ column → at self.new.rows.items row other ≡ at self.old.rows.items row other) }
+        ensures rows { OnOk result ((i other : ℕ) → i ≢ row → at self.new.rows.items i other ≡ at self.old.rows.items i other) }
+    {
+        self.add_rows(row)?;
+        self.set(row, column, number)?;
+        Ok(())
+    }
+
+    // Adds empty rows until this one is there.
+    fn add_rows(&mut self, row: usize) -> Result<(), AllocError>
+        ensures there { OnOk result (row < length self.new.rows.items) }
+        ensures kept { OnOk result ((i column : ℕ) → at self.new.rows.items i column ≡ at self.old.rows.items i column) }
+    {
+        'rows: while self.rows.len() <= row {
+            self.add_row()?;
+        }
+        Ok(())
+    }
 }
 
 // The number at a place of a row, or 0.
-fn number_in(row: &Vec<usize>, column: usize) -> usize
+pub(crate) fn number_in(row: &Vec<usize>, column: usize) -> usize
     ensures { result ≡ in_row row.now.items column }
 {
     if column < row.len() { row[column] } else { 0 }
 }
 
 // Writes a number at a place of a row, which grows as far as that.
-fn write(row: &mut Vec<usize>, column: usize, number: usize) -> Result<(), AllocError>
+pub(crate) fn write(row: &mut Vec<usize>, column: usize, number: usize) -> Result<(), AllocError>
     ensures set { OnOk result (in_row row.new.items column ≡ number) }
     ensures kept { OnOk result ((other : ℕ) → other ≢ column → in_row row.new.items other ≡ in_row row.old.items other) }
 {

@@ -1,6 +1,6 @@
 use Rattle.std.proofs.Common.{rules}
-use Rattle.wb_evaluator.proofs.TableLemmas.{written_at, written_other, other_row}
-use Rattle.wb_evaluator.proofs.table.Table.set.Goals as goal
+use Rattle.wb_rules.proofs.TableLemmas.{written_at, written_other, other_row}
+use Rattle.wb_rules.proofs.table.Table.set.Goals as goal
 
 pub returns-clause-set : goal.returns-clause-set
 returns-clause-set c =

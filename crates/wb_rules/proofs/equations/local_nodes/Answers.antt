@@ -1,8 +1,8 @@
 use Rattle.std.proofs.Common.{rules, ◌≡◌, ◌≤◌, ◌<◌, length, refl, slice_get, Some}
 use Rattle.wb_lemmas.proofs.Places.{read_at}
 use Rattle.wb_attributes.specs.Rules as r
-use Rattle.wb_evaluator.proofs.TargetLemmas.{no_local}
-use Rattle.wb_evaluator.proofs.rules.local_nodes.Goals as goal
+use Rattle.wb_rules.proofs.TargetLemmas.{no_local}
+use Rattle.wb_rules.proofs.equations.local_nodes.Goals as goal
 
 pub returns-then-x-locals-clause-some : goal.returns-then-x-locals-clause-some
 returns-then-x-locals-clause-some c =

@@ -1,0 +1,3 @@
+mod TableLemmas
+mod TargetLemmas
+mod IndexLemmas

@@ -1,0 +1,30 @@
+//! Where are the rules of each production found, by its number?
+
+ghost use Rattle.std.specs.Prelude.{◌≡◌, ◌<◌, length, slice_get, Some, IfOk};
+ghost use Rattle.wb_rules.specs.Indexes.{IsIndexOf, AreIndexes};
+
+use crate::equations::{Equations, Rules, equations_of};
+use std::alloc::{AllocError, Global};
+use wb_resolved::{AttributionParts, Production};
+
+/// The equations of each production, by its number.
+#[derive(Drop)]
+pub struct RuleIndex {
+    /// Those of each production.
+    pub rows: Vec<Equations>,
+}
+
+impl RuleIndex {
+    /// The index of these productions. The only error is want of memory.
+    pub fn new(alloc: Global, productions: &[Production]) -> Result<RuleIndex, AllocError>
+        ensures { IfOk result (λ made. AreIndexes productions.now made.rows.items) }
+    {
+        let mut rows = Vec::new(alloc);
+        'productions: for production in productions {
+            rows.reserve(1)?;
+            let row = equations_of(alloc, production)?;
+            rows.push_reserved(row);
+        }
+        Ok(RuleIndex { rows })
+    }
+}
