@@ -17,13 +17,14 @@ use Rattle.wb_evaluator.specs.Inner.Machines.{HasTree, AreNamed, IsNode, IsMachi
 use Rattle.wb_evaluator.specs.Inner.Memos.{count, path_in, numbered, recall, IsWhole}
 use Rattle.wb_evaluator.specs.Inner.State.{start}
 use Rattle.wb_rules.specs.Tables.{at}
+use Rattle.wb_evaluator.specs.declared.machine.Frame.{Frame}
 use Rattle.wb_evaluator.specs.declared.machine.Key.TheVariants as key
 use Rattle.wb_evaluator.specs.declared.machine.Machine.{Machine}
 
 module _ (a : AttributionParts) (operations : Operations) (trees : List Tree) (m : Machine) (evaluable : IsEvaluable a operations)
     (inside : m.root.0 < length trees) (asked : IsAsked a (tree_in trees m.root.0) m.attribute) (whole : IsWhole m.memo)
     (origins : m.memo.sites.origins.items ≡ []) (its_trees : m.memo.trees.items ≡ Some m.root ∷ []) (values : m.memo.values.items ≡ [])
-    (stack : m.stack.items ≡ key.Synthesized 0 m.attribute ∷ []) (entered : m.entered ≡ 1) where
+    (stack : m.stack.items ≡ key.Synthesized 0 m.attribute ∷ []) (frames : m.frames.items ≡ None ∷ []) (entered : m.entered ≡ 1) where
   no_sites : count m.memo ≡ 0
   no_sites = ap length origins
 
@@ -47,6 +48,10 @@ module _ (a : AttributionParts) (operations : Operations) (trees : List Tree) (m
   below_root : (i : ℕ) (q : Path) (b : _) → i ≤ count m.memo → path_in m.memo i ≡ down q b → ⊥
   below_root zero q b le is = let h = sym root_here ∙ is in cc h
   below_root (suc i) q b le is = omega (arith, le, no_sites)
+
+  no_frame : (i : ℕ) (f : Frame) → slice_get (None ∷ []) i ≡ Some (Some f) → ⊥
+  no_frame zero f has = cc has
+  no_frame (suc i) f has = cc has
 
   pub begun : IsMachine a operations trees m
   begun = record {
@@ -79,4 +84,8 @@ module _ (a : AttributionParts) (operations : Operations) (trees : List Tree) (m
     complete = λ r has. inl has;
     stack = subst (λ ks. AreNamed m.memo ks [] (start a operations (tree_in trees m.root.0) m.attribute ∷ [])) (sym stack)
         (omega arith, ap (λ (q : Path). synthesized_at q m.attribute ∷ []) (sym root_here));
+    frames = record {
+      count = ap length frames ∙ sym (ap length stack);
+      each = λ i k f at has. absurd (no_frame i f (subst (λ fs. slice_get fs i ≡ Some (Some f)) frames has));
+    };
   }

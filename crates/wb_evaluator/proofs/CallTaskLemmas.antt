@@ -33,7 +33,8 @@ use Rattle.wb_evaluator.proofs.TreeTaskLemmas.{IsPopped, pop, values_size}
 use Rattle.wb_evaluator.specs.Inner.Machines.{Runs}
 use Rattle.wb_evaluator.specs.Inner.Memos.{path_in}
 use Rattle.wb_evaluator.specs.Inner.Tasks.{Job, visit, build, call, choose, popped, below, on_top, resume}
-use Rattle.wb_evaluator.specs.Inner.Works.{stack_of, IsJob, Stacked, size_at, task_size, left_to_do, ValuesFit, JobsFit, IsEvaluating}
+use Rattle.wb_evaluator.specs.Inner.Jobs.{stack_of, IsJob, Stacked, ValuesFit, JobsFit}
+use Rattle.wb_evaluator.specs.Inner.Works.{size_at, task_size, left_to_do, IsEvaluating}
 use Rattle.wb_evaluator.specs.declared.machine.Machine.{Machine}
 use Rattle.wb_evaluator.specs.declared.work.Task.{Task}
 use Rattle.wb_evaluator.specs.declared.work.Task.TheVariants as task

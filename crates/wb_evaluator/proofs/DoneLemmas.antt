@@ -32,12 +32,13 @@ use Rattle.wb_evaluator.proofs.MachineLemmas.{never_missed}
 use Rattle.wb_evaluator.proofs.StackLemmas.{size_stands, sizes_stand, left_push, left_visiting}
 use Rattle.wb_evaluator.proofs.VisitLemmas.{IsVisiting, visiting_of, at_once, read_known, read_new, parts_of_build, parts_of_call, parts_of_choice, call_known}
 use Rattle.wb_evaluator.proofs.VisitLemmas.{ready, grown}
-use Rattle.wb_evaluator.specs.Inner.Machines.{tree_named, named, IsKey, Runs, Wants, IsSame, with_memo}
+use Rattle.wb_evaluator.specs.Inner.Machines.{tree_named, named, IsKey, Runs, IsSame, with_memo}
 use Rattle.wb_evaluator.specs.Inner.Memos.{path_in}
 use Rattle.wb_evaluator.specs.Inner.Reached.{IsReady, HasChild}
 use Rattle.wb_evaluator.specs.Inner.Sites.{step_of}
 use Rattle.wb_evaluator.specs.Inner.Tasks.{resume}
-use Rattle.wb_evaluator.specs.Inner.Works.{visiting, stack_of, node_size, size_at, task_size, left_to_do, IsEvaluating, IsReading}
+use Rattle.wb_evaluator.specs.Inner.Jobs.{visiting, stack_of}
+use Rattle.wb_evaluator.specs.Inner.Works.{node_size, size_at, task_size, left_to_do, IsEvaluating, Parks, IsReading}
 use Rattle.wb_evaluator.specs.Inner.Works.{HasChildAt, IsChildPushed, IsLess, IsDone, IsReadBelow, way_to, IsExtended}
 use Rattle.wb_evaluator.specs.declared.machine.Key.{Key}
 use Rattle.wb_evaluator.specs.declared.machine.Key.TheVariants as key
@@ -212,12 +213,14 @@ module _ (a : AttributionParts) (operations : Operations) (trees : List Tree) (m
   read_done : (after : Machine) (e : Expression) (v : IsVisiting a operations trees after site nodes old.tasks.items old.values.items e) (k : Key)
       → IsKey after.memo k
       → ((rest : t.Value → Walk) → walk_expression operations (path_in after.memo site) (children_of (tree_in trees v.id.0)) e rest ≡ read (named after.memo k) rest)
-      → (result : Option Key) → IsReading after old new k result → IsSame m after → Done after result
-  read_done after e v k is_key is None (w, has, tasks, values) same =
+      → Stands nodes at e → (result : Option Key) → IsReading after old new k result → IsSame m after → Done after result
+  read_done after e v k is_key is stands None (w, has, tasks, values) same =
       pushed_done after w e (read_known a operations trees after site nodes old.tasks.items old.values.items e v k is_key is w has) tasks values same
-  read_done after e v k is_key is (Some other) (key_is, none, tasks, values) same = record {
-    after_it = subst (Wants a operations trees after) (sym key_is)
-        (read_new a operations trees after site nodes old.tasks.items old.values.items e v k is_key is none);
+  read_done after e v k is_key is stands (Some other) (key_is, none, tasks, values) same = record {
+    after_it = subst (Parks a operations trees after site nodes (new.tasks.items ++ task.Visit at ∷ []) new.values.items) (sym key_is)
+        (subst (λ vs. Parks a operations trees after site nodes (new.tasks.items ++ task.Visit at ∷ []) vs.items k) (sym values)
+        (subst (λ ts. Parks a operations trees after site nodes (ts.items ++ task.Visit at ∷ []) old.values.items k) (sym tasks)
+        (read_new a operations trees after site nodes old.tasks.items old.values.items e v k is_key is none at stands)));
     same = same;
     less = tt;
   }
@@ -228,7 +231,7 @@ module _ (a : AttributionParts) (operations : Operations) (trees : List Tree) (m
       let (e, stands, v) = v_of in
       let e_is : e ≡ x.Top y = of_node nodes at e (n.Top y) stands has in
       let v' = subst (IsVisiting a operations trees m site nodes old.tasks.items old.values.items) e_is v in
-      read_done m (x.Top y) v' (key.Inherited site y) ev.there (λ rest. refl) result reading (same_machine m)
+      read_done m (x.Top y) v' (key.Inherited site y) ev.there (λ rest. refl) (subst (Stands nodes at) e_is stands) result reading (same_machine m)
 
   -- one step down
   module _ (after : Machine) (way : Step) (result : Option Key) where
@@ -270,7 +273,8 @@ module _ (a : AttributionParts) (operations : Operations) (trees : List Tree) (m
       let path = path_below after (way_to at_place) result _ r in
       read_done after (x.Read at_place y) w (key.Synthesized r.below y) r.reached.2.there
       (λ rest. ap (λ s. read (synthesized_at (down (path_in after.memo site) s) y) rest) (sym (way_is at_place))
-      ∙ ap (λ (p : Path). read (synthesized_at p y) rest) (sym path)) result r.reading (same_after after (way_to at_place) result after r.machine)
+      ∙ ap (λ (p : Path). read (synthesized_at p y) rest) (sym path)) (subst (Stands nodes at) e_is stands) result r.reading
+      (same_after after (way_to at_place) result after r.machine)
 
   pub forward_done : (y : ℕ) → HasNode nodes at (n.Forward y) → (after : Machine) (result : Option Key)
       → IsReadBelow trees m after site step.Forward (λ below. key.Synthesized below y) old new result → Done after result
@@ -282,7 +286,8 @@ module _ (a : AttributionParts) (operations : Operations) (trees : List Tree) (m
       let w = visiting_after after step.Forward result (x.Forward y) v' _ r in
       let path = path_below after step.Forward result _ r in
       read_done after (x.Forward y) w (key.Synthesized r.below y) r.reached.2.there
-      (λ rest. ap (λ (p : Path). read (synthesized_at p y) rest) (sym path)) result r.reading (same_after after step.Forward result after r.machine)
+      (λ rest. ap (λ (p : Path). read (synthesized_at p y) rest) (sym path)) (subst (Stands nodes at) e_is stands) result r.reading
+      (same_after after step.Forward result after r.machine)
 
   pub local_done : (c : ℕ) → HasNode nodes at (n.Label (place.Local c)) → (after : Machine) (result : Option Key)
       → IsReadBelow trees m after site (step.Local c) (λ below. key.Tree below) old new result → Done after result
@@ -295,7 +300,8 @@ module _ (a : AttributionParts) (operations : Operations) (trees : List Tree) (m
       let path = path_below after (step.Local c) result _ r in
       read_done after (x.Label (place.Local c)) w (key.Tree r.below)
       (r.reached.2.there, (path_in after.memo site, local c, path))
-      (λ rest. ap (λ (p : Path). read (tree_named p) rest) (sym path)) result r.reading (same_after after (step.Local c) result after r.machine)
+      (λ rest. ap (λ (p : Path). read (tree_named p) rest) (sym path)) (subst (Stands nodes at) e_is stands) result r.reading
+      (same_after after (step.Local c) result after r.machine)
 
   -- parts are visited first
   pub build_done : (p : ℕ) (places : List ℕ) → HasNode nodes at (n.Build p places)

@@ -17,13 +17,15 @@ use Rattle.wb_values.specs.Tree.{Tree}
 use Rattle.wb_values.specs.ValuesIn.{tree_in, value_in, IsIn}
 use Rattle.wb_evaluation.proofs.KindLemmas.{kinded}
 use Rattle.wb_evaluation.proofs.LawLemmas.{setting_of}
-use Rattle.wb_evaluation.specs.Answers.{at_made, HasAnswer}
+use Rattle.wb_evaluation.proofs.AnswerLemmas.{one_node}
+use Rattle.wb_evaluation.specs.Answers.{IsNodeAt, at_made, HasAnswer}
 use Rattle.wb_evaluation.specs.Evaluable.{IsAsked}
 use Rattle.wb_evaluation.specs.Instances.{Path, down, Instance, synthesized_at, inherited_at, tree_at}
 use Rattle.wb_evaluation.specs.Walks.{value, done}
+use Rattle.wb_evaluator.proofs.FrameLemmas.{set_here, set_there, frames_moved, frames_left}
 use Rattle.wb_evaluator.proofs.MachineLemmas.{leaves}
-use Rattle.wb_evaluator.proofs.StepLemmas.{named_less, last_key, this_value, memo_synthesized, memo_inherited, still_recalled, same_key, same_named, paths, counts}
-use Rattle.wb_evaluator.specs.Inner.Machines.{HasTree, tree_named, named, IsKey, AreNamed, IsRecalled, IsValueOf, IsNode, IsMachine, IsTree, IsKeptIn}
+use Rattle.wb_evaluator.proofs.StepLemmas.{named_less, last_key, this_value, memo_synthesized, memo_inherited, still_recalled, same_key, same_named, paths, counts, tree_new}
+use Rattle.wb_evaluator.specs.Inner.Machines.{HasTree, tree_named, named, IsKey, AreNamed, IsRecalled, IsValueOf, IsNode, IsMachine, IsTree, IsKeptIn, AreSuspended}
 use Rattle.wb_evaluator.specs.Inner.Machines.{Runs}
 use Rattle.wb_evaluator.specs.Inner.Memos.{count, path_in, numbered, recall, IsWhole}
 use Rattle.wb_evaluator.specs.Inner.Sites.{path_at, paths_of, IsSites}
@@ -39,19 +41,6 @@ pub named_length : (m : Memo) (ks : List Key) (base is : List Instance) → AreN
 named_length m [] base is same = let h = ap length same in omega (arith, h)
 named_length m (k ∷ ks) base is (is_key, rest) = let h = named_length m ks (named m k ∷ base) is rest in omega (arith, h)
 
--- an element that is set
-set_here : {X : Type 0} (xs : List X) (i : ℕ) (x : X) → i < length xs → slice_get (slice_set xs i x) i ≡ Some x
-set_here [] i x lt = absurd (omega arith)
-set_here (y ∷ xs) zero x lt = refl
-set_here (y ∷ xs) (suc i) x lt = set_here xs i x (omega (arith, lt))
-
-set_there : {X : Type 0} (xs : List X) (i j : ℕ) (x : X) → j ≢ i → slice_get (slice_set xs i x) j ≡ slice_get xs j
-set_there [] i j x d = refl
-set_there (y ∷ xs) zero zero x d = absurd (d refl)
-set_there (y ∷ xs) zero (suc j) x d = refl
-set_there (y ∷ xs) (suc i) zero x d = refl
-set_there (y ∷ xs) (suc i) (suc j) x d = set_there xs i j x (λ e. d (ap suc e))
-
 module _ (a : AttributionParts) (operations : Operations) (trees : List Tree) (m : Machine) (v : Value)
     (runs : Runs a operations trees m (done (value (value_in trees v)))) (inside : IsIn (length trees) v) where
   abbrev r : IsMachine a operations trees m
@@ -66,8 +55,9 @@ module _ (a : AttributionParts) (operations : Operations) (trees : List Tree) (m
       (kept.keys k is_key, subst (λ (i : Instance). AreNamed new ks (i ∷ base) is) (sym (kept.names k)) (names_same new kept ks (named m.memo k ∷ base) is rest))
 
   pub left : (new : Machine) (front : List Key) (k : Key) → m.stack.items ≡ front ++ k ∷ [] → 0 < length front → IsKept new.memo
-      → new.root ≡ m.root → new.attribute ≡ m.attribute → new.entered ≡ m.entered → new.stack.items ≡ front → IsMachine a operations trees new
-  left new front k stack_is some kept root_is attribute count_is new_stack =
+      → new.root ≡ m.root → new.attribute ≡ m.attribute → new.entered ≡ m.entered → new.stack.items ≡ front
+      → new.frames.items ≡ take (length front) m.frames.items → IsMachine a operations trees new
+  left new front k stack_is some kept root_is attribute count_is new_stack new_frames =
       let named_all = subst (λ (ks : List Key). AreNamed m.memo ks [] (r.this ∷ r.waiting)) stack_is r.stack in
       let (is_key, (rest, same, below)) = named_less m.memo front k [] (r.this ∷ r.waiting) named_all in
       let waiting_is : r.waiting ≡ rest = cc same in
@@ -95,6 +85,11 @@ module _ (a : AttributionParts) (operations : Operations) (trees : List Tree) (m
             | inr recalled ↦ inr (kept.recalled z recalled)
           ];
           stack = subst (λ (ks : List Key). AreNamed new.memo ks [] (j ∷ js)) (sym new_stack) (names_same new.memo kept front [] (j ∷ js) below);
+          frames = subst (λ (ks : List Key). AreSuspended a operations trees r.top new.attribute r.all new.memo ks new.frames.items) (sym new_stack)
+              (subst (λ (y : ℕ). AreSuspended a operations trees r.top y r.all new.memo front new.frames.items) (sym attribute)
+              (frames_moved a operations trees r.top m.attribute r.all m.memo new.memo front new.frames.items
+              (frames_left a operations trees r.top m.attribute r.all m.memo front m.stack.items k m.frames.items new.frames.items r.frames stack_is new_frames)
+              (let c = kept.counts in omega (arith, c)) (λ n le. kept.paths n) (λ n id le has. kept.trees_kept n id has) kept.keys (λ c is. kept.names c)));
         }
 
   -- an attribute's value
@@ -110,6 +105,9 @@ module _ (a : AttributionParts) (operations : Operations) (trees : List Tree) (m
       recalled = still_recalled a operations trees m v runs inside new site x whole sites its_trees set kept;
       this_recalled = subst (IsRecalled new) (sym this_is)
           (site, v, there, paths a operations trees m v runs inside new site x whole sites its_trees set kept site, set);
+      paths = paths a operations trees m v runs inside new site x whole sites its_trees set kept;
+      counts = counts a operations trees m v runs inside new site x whole sites its_trees set kept;
+      trees_kept = λ i id has. (id, tree_new a operations trees m v runs inside new site x whole sites its_trees set kept i id has, refl);
       keys = same_key a operations trees m v runs inside new site x whole sites its_trees set kept;
       names = same_named a operations trees m v runs inside new site x whole sites its_trees set kept;
     }
@@ -120,6 +118,9 @@ module _ (a : AttributionParts) (operations : Operations) (trees : List Tree) (m
       recalled = still_recalled a operations trees m v runs inside new site x whole sites its_trees set kept;
       this_recalled = subst (IsRecalled new) (sym this_is)
           (site, v, there, paths a operations trees m v runs inside new site x whole sites its_trees set kept site, set);
+      paths = paths a operations trees m v runs inside new site x whole sites its_trees set kept;
+      counts = counts a operations trees m v runs inside new site x whole sites its_trees set kept;
+      trees_kept = λ i id has. (id, tree_new a operations trees m v runs inside new site x whole sites its_trees set kept i id has, refl);
       keys = same_key a operations trees m v runs inside new site x whole sites its_trees set kept;
       names = same_named a operations trees m v runs inside new site x whole sites its_trees set kept;
     }
@@ -217,6 +218,17 @@ module _ (a : AttributionParts) (operations : Operations) (trees : List Tree) (m
       };
       recalled = tree_recalled;
       this_recalled = subst (IsRecalled new) (sym this_is) (site, id, omega (arith, le, same_count), same_path site ∙ path, tree_here);
+      paths = same_path;
+      counts = same_count;
+      trees_kept = λ i other has. elim (cases_eq i site) [
+        | inl e ↦ (
+          id,
+          subst (λ (z : ℕ). HasTree new z id) (sym e) tree_here,
+          one_node a operations r.top here_node.is_node
+              (subst (λ (p : Path). IsNodeAt a operations r.top p (tree_in trees other.0)) (ap (path_in m.memo) e ∙ path) (r.memo.nodes i other has).is_node),
+        )
+        | inr d ↦ (other, ap (λ ts. slice_get ts i) set ∙ set_there m.memo.trees.items site i (Some id) d ∙ has, refl)
+      ];
       keys = tree_keys;
       names = tree_names;
     } where

@@ -3,6 +3,7 @@ pub mod MachineLemmas
 pub mod TaskLemmas
 pub mod SitesLemmas
 pub mod MemoLemmas
+pub mod FrameLemmas
 pub mod RunLemmas
 pub mod ChildLemmas
 pub mod StackLemmas
@@ -14,3 +15,4 @@ pub mod StepLemmas
 pub mod LeaveLemmas
 pub mod BeginLemmas
 pub mod StartLemmas
+pub mod ParkLemmas

@@ -93,9 +93,12 @@ module _ (a : AttributionParts) (operations : Operations) (top : Tree) (y : ℕ)
   abbrev Come : List Instance → Instance → Walk → Type 0
   Come = HasCome a operations top y
 
-  passed_more : {all : List Instance} {v w : Walk} (x : Instance) → Pass all v w → Pass (all ++ x ∷ []) v w
+  pub passed_more : {all : List Instance} {v w : Walk} (x : Instance) → Pass all v w → Pass (all ++ x ∷ []) v w
   passed_more x at_once = at_once
   passed_more {all} x (by_read {r = r} is has p) = by_read is (push_contains all x r has) (passed_more x p)
+
+  pub come_more : {all : List Instance} {i : Instance} {w : Walk} (x : Instance) → Come all i w → Come (all ++ x ∷ []) i w
+  come_more x c = record { at = c.at; is_node = c.is_node; passed = passed_more x c.passed }
 
   passed_on : {all : List Instance} {u : Walk} {r : Instance} {rest : Value → Walk} {v : Value} → Pass all u (read r rest) → Is r (value v)
       → Contains all r → Pass all u (rest v)

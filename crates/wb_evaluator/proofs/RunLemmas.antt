@@ -23,6 +23,7 @@ use Rattle.wb_evaluation.specs.Answers.{IsNodeAt, at_made, HasAnswer}
 use Rattle.wb_evaluation.specs.Instances.{Path, root, down, Instance, synthesized_at, inherited_at, tree_at}
 use Rattle.wb_evaluation.specs.Needed.{next}
 use Rattle.wb_evaluation.specs.Walks.{value, Walk, read}
+use Rattle.wb_evaluator.proofs.FrameLemmas.{frames_moved, more_frames}
 use Rattle.wb_evaluator.proofs.MachineLemmas.{never_waiting, goes_on, reads_here}
 use Rattle.wb_evaluator.proofs.SitesLemmas.{one_site}
 use Rattle.wb_evaluator.specs.Inner.Machines.{HasTree, tree_named, named, IsKey, AreNamed, tree_value, known, IsRecalled, IsValueOf, IsNode}
@@ -171,6 +172,10 @@ module _ (a : AttributionParts) (operations : Operations) (trees : List Tree) wh
             | inr recalled ↦ inr (grown_recalled m.memo new parent site step its_tree r.top r.all r.memo whole grown below there has given i recalled)
           ];
           stack = grown_stack m.memo new parent site step its_tree r.top r.all r.memo whole grown below there has given m.stack.items [] _ r.stack;
+          frames = frames_moved a operations trees r.top m.attribute r.all m.memo new m.stack.items m.frames.items r.frames grown.more grown.paths
+              (λ i id le had. (id, grown.trees i le ∙ had, refl))
+              (grown_key m.memo new parent site step its_tree r.top r.all r.memo whole grown below there has given)
+              (grown_named m.memo new parent site step its_tree r.top r.all r.memo whole grown below there has given);
         };
         come = runs.come;
       }
@@ -307,6 +312,8 @@ module _ (a : AttributionParts) (operations : Operations) (trees : List Tree) wh
       };
       complete = r.complete;
       stack = r.stack;
+      frames = more_frames a operations trees r.top m.attribute r.all more m.memo m.stack.items m.frames.items r.frames
+          (λ i id has. (r.memo.nodes i id has).inside);
     }
 
     pub more_runs : (m : Machine) (w : Walk) → Runs_ m w → Runs a operations (trees ++ more) m w

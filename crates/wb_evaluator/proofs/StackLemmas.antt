@@ -19,7 +19,8 @@ use Rattle.wb_evaluator.proofs.TaskLemmas.{visits, count}
 use Rattle.wb_evaluator.proofs.TaskLemmas.{size as size_of}
 use Rattle.std.proofs.lemmas.List.{append_assoc}
 use Rattle.wb_evaluator.specs.Inner.Tasks.{Job, visit, pushed}
-use Rattle.wb_evaluator.specs.Inner.Works.{visiting, stack_of, IsJob, Stacked, sum_of, node_size, size_at, task_size, left_to_do, more_kinds, ValuesFit}
+use Rattle.wb_evaluator.specs.Inner.Jobs.{visiting, stack_of, IsJob, Stacked, more_kinds, ValuesFit}
+use Rattle.wb_evaluator.specs.Inner.Works.{sum_of, node_size, size_at, task_size, left_to_do}
 use Rattle.wb_evaluator.specs.declared.work.Task.{Task}
 use Rattle.wb_evaluator.specs.declared.work.Task.TheVariants as task
 

@@ -1,5 +1,5 @@
 -- What an evaluation keeps as it enters an instance and leaves it.
-use Rattle.std.proofs.Common.{◌≡◌, ◌≢◌, ◌∙◌, ◌⊎◌, ◌<◌, ◌+◌, ◌-◌, ◌++◌, inl, inr, ℕ, suc, List, [], ◌∷◌, Some, length}
+use Rattle.std.proofs.Common.{◌≡◌, ◌≢◌, ◌∙◌, ◌⊎◌, ◌<◌, ◌+◌, ◌-◌, ◌++◌, inl, inr, ℕ, suc, List, [], ◌∷◌, Some, None, length}
 use Rattle.std.proofs.Common.{refl, sym, ap, subst, arith, slice_get, Contains, take}
 use Rattle.std.proofs.lemmas.Bool.{cases_eq}
 use Rattle.std.proofs.lemmas.Option.{same_Some}
@@ -19,10 +19,11 @@ use Rattle.wb_evaluation.proofs.ReadLemmas.{IsThere}
 use Rattle.wb_evaluation.specs.Evaluable.{IsAsked}
 use Rattle.wb_evaluation.specs.Instances.{Path, Instance, synthesized_at, inherited_at, tree_at}
 use Rattle.wb_evaluation.specs.Walks.{value, done}
+use Rattle.wb_evaluator.proofs.FrameLemmas.{frames_entered}
 use Rattle.wb_evaluator.proofs.MachineLemmas.{enters, answers_here}
 use Rattle.wb_evaluator.proofs.RunLemmas.{goes_synthesized, goes_inherited}
 use Rattle.wb_evaluator.specs.Inner.Machines.{HasTree, tree_named, named, IsKey, AreNamed, IsRecalled, IsValueOf, IsNode, IsMemo, IsMachine}
-use Rattle.wb_evaluator.specs.Inner.Machines.{Runs, Wants}
+use Rattle.wb_evaluator.specs.Inner.Machines.{Runs, Wants, AreSuspended}
 use Rattle.wb_evaluator.specs.Inner.Memos.{count, path_in, recall, IsWhole}
 use Rattle.wb_evaluator.specs.Inner.Sites.{path_at, paths_of}
 use Rattle.wb_evaluator.specs.Inner.State.{IsState}
@@ -71,8 +72,9 @@ module _ (a : AttributionParts) (operations : Operations) (trees : List Tree) wh
     }
 
   pub entered : (m : Machine) (k : Key) (new : Machine) → Wants a operations trees m k → new.memo ≡ m.memo → new.root ≡ m.root
-      → new.attribute ≡ m.attribute → new.stack.items ≡ m.stack.items ++ k ∷ [] → new.entered ≡ m.entered + 1 → IsMachine a operations trees new
-  entered m k new w memo root_is attribute stack count_is =
+      → new.attribute ≡ m.attribute → new.stack.items ≡ m.stack.items ++ k ∷ [] → new.entered ≡ m.entered + 1
+      → new.frames.items ≡ m.frames.items ++ None ∷ [] → IsMachine a operations trees new
+  entered m k new w memo root_is attribute stack count_is frames_are =
       let r = w.runs.machine in
       let i = named m.memo k in
       let e = enters a operations r.top m.attribute r.state w.runs.come w.fresh in
@@ -98,6 +100,12 @@ module _ (a : AttributionParts) (operations : Operations) (trees : List Tree) wh
         stack = subst (λ (ks : List Key). AreNamed new.memo ks [] (i ∷ r.this ∷ r.waiting)) (sym stack)
             (subst (λ (mm : Memo). AreNamed mm (m.stack.items ++ k ∷ []) [] (i ∷ r.this ∷ r.waiting)) (sym memo)
             (named_more m.memo m.stack.items k [] (r.this ∷ r.waiting) r.stack w.is_key));
+        frames = subst (λ (ks : List Key). AreSuspended a operations trees r.top new.attribute (r.all ++ i ∷ []) new.memo ks new.frames.items) (sym stack)
+            (subst (AreSuspended a operations trees r.top new.attribute (r.all ++ i ∷ []) new.memo (m.stack.items ++ k ∷ [])) (sym frames_are)
+            (subst (λ (y : ℕ). AreSuspended a operations trees r.top y (r.all ++ i ∷ []) new.memo (m.stack.items ++ k ∷ []) (m.frames.items ++ None ∷ []))
+            (sym attribute)
+            (subst (λ (mm : Memo). AreSuspended a operations trees r.top m.attribute (r.all ++ i ∷ []) mm (m.stack.items ++ k ∷ []) (m.frames.items ++ None ∷ []))
+            (sym memo) (frames_entered a operations trees r.top m.attribute r.all m.memo m.stack.items m.frames.items k i r.frames))));
       }
 
   -- the instance at work is needed
@@ -135,7 +143,7 @@ module _ (a : AttributionParts) (operations : Operations) (trees : List Tree) wh
       tree_old : (i : ℕ) (id : TreeId) → HasTree new i id → HasTree m.memo i id
       tree_old i id has = subst (λ ts. slice_get ts.items i ≡ Some (Some id)) its_trees has
 
-      tree_new : (i : ℕ) (id : TreeId) → HasTree m.memo i id → HasTree new i id
+      pub tree_new : (i : ℕ) (id : TreeId) → HasTree m.memo i id → HasTree new i id
       tree_new i id has = subst (λ ts. slice_get ts.items i ≡ Some (Some id)) (sym its_trees) has
 
       cell : (i y : ℕ) → ((i ≡ site) × (y ≡ x)) ⊎ (recall new i y ≡ recall m.memo i y)

@@ -2,7 +2,7 @@
 use Rattle.std.proofs.Common.{◌≡◌, ◌∙◌, ◌≤◌, ◌+◌, ◌-◌, ◌++◌, ℕ, zero, suc, List, [], ◌∷◌, Some, All, length}
 use Rattle.std.proofs.Common.{refl, sym, ap, subst, arith, slice_get, take, drop}
 use Rattle.std.proofs.lemmas.List.{get_or_append_left, length-drop, length-append}
-use Rattle.std.proofs.lemmas.List.Elements.{All-push, All-head, All-tail}
+use Rattle.std.proofs.lemmas.List.Elements.{All-push}
 use Rattle.wb_lemmas.proofs.Elements.{all_left, all_right, all_weaker}
 use Rattle.wb_lemmas.proofs.Places.{push_last, default_at}
 use Rattle.wb_attributes.specs.Modular.{IsProduction}
@@ -20,6 +20,7 @@ use Rattle.wb_values.specs.Tree.{Plain, int, bool, text, Tree, node, plain, Valu
 use Rattle.wb_values.specs.Tree as t
 use Rattle.wb_values.specs.ValuesIn.{tree_in, value_in, values_in, IsIn}
 use Rattle.wb_evaluation.specs.Instances.{Path}
+use Rattle.wb_evaluator.proofs.FrameLemmas.{values_more}
 use Rattle.wb_evaluator.proofs.RunLemmas.{more_runs, still_in}
 use Rattle.wb_evaluator.proofs.StackLemmas.{unstacked, stack_push, stack_append, fit_length, kinds_length, fit_popped}
 use Rattle.wb_evaluator.proofs.TaskLemmas.{popped_all, below_all}
@@ -27,7 +28,8 @@ use Rattle.wb_evaluator.proofs.TaskLemmas.{size as size_of}
 use Rattle.wb_evaluator.specs.Inner.Machines.{Runs}
 use Rattle.wb_evaluator.specs.Inner.Memos.{path_in}
 use Rattle.wb_evaluator.specs.Inner.Tasks.{Job, visit, build, call, choose, popped, below, pushed, resume}
-use Rattle.wb_evaluator.specs.Inner.Works.{stack_of, IsJob, Stacked, more_kinds, ValuesFit, JobsFit, IsEvaluating}
+use Rattle.wb_evaluator.specs.Inner.Jobs.{stack_of, IsJob, Stacked, more_kinds, ValuesFit, JobsFit}
+use Rattle.wb_evaluator.specs.Inner.Works.{IsEvaluating}
 use Rattle.wb_evaluator.specs.declared.machine.Machine.{Machine}
 use Rattle.wb_evaluator.specs.declared.work.Task.{Task}
 use Rattle.wb_evaluator.specs.declared.work.Task.TheVariants as task
@@ -49,19 +51,6 @@ split zero [] = refl
 split (suc k) [] = refl
 split zero (x ∷ xs) = refl
 split (suc k) (x ∷ xs) = ap (λ l. x ∷ l) (split k xs)
-
--- values among more trees
-pub values_more : (trees others : List Tree) (xs : List Value) → All (IsIn (length trees)) xs → values_in (trees ++ others) xs ≡ values_in trees xs
-values_more trees others [] inside = refl
-values_more trees others (x ∷ xs) inside =
-    ap (λ (v : t.Value). more v (values_in (trees ++ others) xs)) (value_more_ trees others x (All-head (IsIn (length trees)) x xs inside))
-    ∙ ap (more (value_in trees x)) (values_more trees others xs (All-tail (IsIn (length trees)) x xs inside))
-  where
-    value_more_ : (trees others : List Tree) (v : Value) → IsIn (length trees) v → value_in (trees ++ others) v ≡ value_in trees v
-    value_more_ trees others (stored.Int z) h = refl
-    value_more_ trees others (stored.Bool z) h = refl
-    value_more_ trees others (stored.Text z) h = refl
-    value_more_ trees others (stored.Tree id) h = ap t.tree (get_or_append_left trees others (node 0 empty) id.0 h)
 
 module _ (a : AttributionParts) (operations : Operations) (trees : List Tree) (m : Machine) (site : ℕ) (nodes : List Node) (tasks : List Task)
     (values : List Value) where

@@ -37,13 +37,15 @@ use Rattle.wb_evaluation.specs.Walks.{value, Walk, done, read, number_of, walk_e
 use Rattle.wb_evaluator.proofs.RunLemmas.{reads_there, runs_on, value_known, not_entered, grown_runs, IsGiven}
 use Rattle.wb_evaluator.proofs.StackLemmas.{unstacked, stacked, visits_stacked, stack_push, count_stands}
 use Rattle.wb_evaluator.proofs.TaskLemmas.{visits, count, step_choice, step_build, step_call}
-use Rattle.wb_evaluator.specs.Inner.Machines.{HasTree, named, IsKey, known, IsNode, Runs, Wants, with_memo}
+use Rattle.wb_evaluator.specs.Inner.Machines.{HasTree, named, IsKey, known, IsNode, Runs, with_memo}
 use Rattle.wb_evaluator.specs.Inner.Memos.{path_in, IsWhole, IsGrown}
 use Rattle.wb_evaluator.specs.Inner.Memos as memos
 use Rattle.wb_evaluator.specs.Inner.Reached.{IsReady, IsGivenTree, IsReached}
 use Rattle.wb_evaluator.specs.Inner.Sites.{step_of}
+use Rattle.wb_evaluator.specs.Inner.State.{HasCome}
 use Rattle.wb_evaluator.specs.Inner.Tasks.{Job, visit, build, call, choose, resume}
-use Rattle.wb_evaluator.specs.Inner.Works.{visiting, stack_of, IsJob, Stacked, more_kinds, ValuesFit, IsTyped, JobsFit, IsEvaluating}
+use Rattle.wb_evaluator.specs.Inner.Jobs.{visiting, stack_of, IsJob, Stacked, more_kinds, ValuesFit, IsTyped, JobsFit}
+use Rattle.wb_evaluator.specs.Inner.Works.{IsEvaluating, Parks}
 use Rattle.wb_evaluator.specs.declared.machine.Key.{Key}
 use Rattle.wb_evaluator.specs.declared.machine.Machine.{Machine}
 use Rattle.wb_evaluator.specs.declared.memo.Memo.{Memo}
@@ -192,7 +194,10 @@ module _ (a : AttributionParts) (operations : Operations) (trees : List Tree) wh
     -- one that reads an instance
     module _ (key : Key) (is_key : IsKey m.memo key) (is : (rest : t.Value → Walk) → walk_expression operations q vs e rest ≡ read (named m.memo key) rest) where
       abbrev reading : Runs a operations trees m (read (named m.memo key) rest_of)
-      reading = subst (Runs a operations trees m) (is rest_of) v.runs
+      reading = record {
+        machine = v.runs.machine;
+        come = subst (HasCome a operations v.runs.machine.top m.attribute v.runs.machine.all v.runs.machine.this) (is rest_of) v.runs.come;
+      }
 
       pub read_known : (w : Value) → known m.memo key ≡ Some w → IsEvaluating a operations trees m site nodes tasks (values ++ w ∷ [])
       read_known w has =
@@ -203,12 +208,30 @@ module _ (a : AttributionParts) (operations : Operations) (trees : List Tree) wh
           (value_fits (value_in trees w) (subst (λ (u : Walk). Goes (Sound s) u (done (value (value_in trees w)))) (sym (is (finish operations))) goes))
           inside
 
-      pub read_new : known m.memo key ≡ None → Wants a operations trees m key
-      read_new none = record {
-        next = rest_of;
-        runs = reading;
-        is_key = is_key;
-        fresh = not_entered a operations trees m key rest_of reading is_key none;
+      pub read_new : known m.memo key ≡ None → (place : ℕ) → Stands nodes place e
+          → Parks a operations trees m site nodes (tasks ++ task.Visit place ∷ []) values key
+      unfolding resume
+      read_new none place stands = record {
+        wants = record {
+          next = rest_of;
+          runs = reading;
+          is_key = is_key;
+          fresh = not_entered a operations trees m key rest_of reading is_key none;
+        };
+        waits = record {
+          id = v.id;
+          has = v.has;
+          there = v.there;
+          production = v.production;
+          is = v.is;
+          jobs = visit e ∷ v.rest;
+          stacked = stacked operations.signatures nodes tasks (task.Visit place) (visit e) [] v.rest v.stacked (stands, v.small);
+          kinds = v.kinds;
+          inside = v.inside;
+          values_fit = v.values_fit;
+          jobs_fit = (v.kind, v.typed, v.jobs_fit);
+          come = v.runs.come;
+        };
       }
 
     -- a tree

@@ -1,6 +1,6 @@
 //! How is an attribute of a root evaluated?
 //!
-//! Instances are entered as they are read, and each is worked on again once what it reads is known. What is done at one is in `run`.
+//! Instances are entered as they are read, and each goes on where it waited once what it reads is known. What is done at one is in `run`.
 
 ghost use Rattle.std.specs.Prelude.{◌<◌, ◌≤◌, length, IfOk};
 ghost use Rattle.wb_attributes.specs.Modular.{EachProduction};
@@ -20,7 +20,7 @@ use crate::evaluated::Evaluated;
 use crate::machine::Machine;
 use crate::run::run;
 use crate::steps::{begin, enter, leave};
-use crate::work::{Ran, Work};
+use crate::work::{Ran, Works};
 use std::alloc::{AllocError, Global};
 use wb_operations::{Meaning, OperationRefusal, OperationTable};
 use wb_resolved::Attribution;
@@ -29,7 +29,8 @@ use wb_values::{TreeId, TreeStore, Value};
 
 /// The value or the fault of a synthesized attribute of a tree, or that more instances are needed than there are steps.
 ///
-/// Want of memory may come at any step.
+/// Each instance's expression is gone through once: where it reads one whose value isn't known, it waits with what it has, and goes on from
+/// there. Only that read is made again. Want of memory may come at any step.
 pub fn evaluate<M: Meaning>(
     alloc: Global,
     attributes: &Attribution,
@@ -72,20 +73,20 @@ pub fn evaluate<M: Meaning>(
         operations,
     };
     let mut machine = begin(alloc, &context, store, root, attribute)?;
-    let mut work = Work::new(alloc);
+    let mut works = Works::new(alloc);
     'turns: loop {
-        if let Some(answer) = turn(&context, &mut machine, store, &mut work, steps)? {
+        if let Some(answer) = turn(&context, &mut machine, store, &mut works, steps)? {
             return Ok(answer);
         }
     }
 }
 
 // Works on the last instance once, and enters what it reads or leaves it.
-fn turn<M: Meaning>(
-    context: &Context<M>,
-    machine: &mut Machine,
+fn turn<'a, M: Meaning>(
+    context: &Context<'a, M>,
+    machine: &mut Machine<'a>,
     store: &mut TreeStore,
-    work: &mut Work,
+    works: &mut Works,
     steps: u64,
 ) -> Result<Option<Evaluated>, AllocError>
     requires whole { IsMachine context.now.attributes.now (record { signatures = context.now.operations.now.signatures; meaning = M.meaning }) store.old machine.old }
@@ -97,7 +98,7 @@ fn turn<M: Meaning>(
     ensures turned { IfOk result (IsTurned context.now.attributes.now (record { signatures = context.now.operations.now.signatures; meaning = M.meaning }) store.new machine.old machine.new steps) }
     ensures store { IsExtended store.old store.new }
 {
-    match run(context, machine, store, work)? {
+    match run(context, machine, store, works)? {
         Ran::Value(answer) => {
             if machine.stack.len() == 1 {
                 return Ok(Some(Evaluated::Value(answer)));

@@ -12,7 +12,9 @@ ghost use Rattle.wb_evaluator.specs.Inner.Reached.{HasChild, IsTreeChild, IsChil
 
 use crate::memo::Memo;
 use crate::sites::Step;
+use crate::work::Work;
 use std::alloc::AllocError;
+use wb_resolved::Node;
 use wb_values::{TreeId, TreeStore, Value};
 
 // An instance, by the site of its path.
@@ -23,17 +25,27 @@ pub(crate) enum Key {
     Tree { site: usize },
 }
 
-// The memo, the attribute that is asked of the root, the instances that wait with the one at work last, and how many were entered.
+// An expression at a site, with what is left of it.
 #[derive(Drop)]
-pub(crate) struct Machine {
+pub(crate) struct Frame<'a> {
+    pub site: usize,
+    pub nodes: &'a [Node],
+    pub work: Work,
+}
+
+// The memo, the attribute that is asked of the root, the instances that wait with the one at work last, the frames of those whose
+// expressions wait, and how many were entered.
+#[derive(Drop)]
+pub(crate) struct Machine<'a> {
     pub memo: Memo,
     pub root: TreeId,
     pub attribute: usize,
     pub stack: Vec<Key>,
+    pub frames: Vec<Option<Frame<'a>>>,
     pub entered: u64,
 }
 
-impl Machine {
+impl<'a> Machine<'a> {
     // The value that is known for a key.
     pub(crate) fn known(&self, key: Key) -> Result<Option<Value>, AllocError>
         requires whole { IsWhole self.now.memo }

@@ -6,7 +6,7 @@ ghost use Rattle.std.specs.Prelude.{◌≡◌, ◌<◌, ◌+◌, ◌++◌, ◌�
 ghost use Rattle.wb_operations.specs.Kept.{IsKept};
 ghost use Rattle.wb_evaluation.specs.Walks.{done, fault};
 ghost use Rattle.wb_evaluator.specs.Inner.Machines.{IsSame, Runs};
-ghost use Rattle.wb_evaluator.specs.Inner.Works.{IsEvaluating, IsExtended, IsRan, IsOver, IsLeftAfter, HasFault, HasTruth, left_to_do, task_size};
+ghost use Rattle.wb_evaluator.specs.Inner.Works.{IsEvaluating, IsExtended, IsRanAt, IsOver, IsLeftAfter, HasFault, HasTruth, left_to_do, task_size};
 ghost use Rattle.wb_values.specs.declared.value.Value.TheVariants.{Bool};
 ghost use Rattle.wb_evaluator.specs.declared.work.Task.TheVariants.{Build, Call, Choose};
 
@@ -32,7 +32,7 @@ pub(crate) fn evaluate_tasks<M: Meaning>(
     requires kept { IsKept context.now.operations.now.signatures context.now.operations.now.built_in context.now.operations.now.runs.items M.meaning
         (λ run vs. ⟦<Box<dyn Fn(&[Value]) -> Result<Value, OperationRefusal>> as Fn(&[Value]) -> Result<Value, OperationRefusal>>⟧.pre run vs)
         (λ run vs r. ⟦<Box<dyn Fn(&[Value]) -> Result<Value, OperationRefusal>> as Fn(&[Value]) -> Result<Value, OperationRefusal>>⟧.post run vs r) }
-    ensures ran { IfOk result (IsRan context.now.attributes.now (record { signatures = context.now.operations.now.signatures; meaning = M.meaning }) store.new machine.new) }
+    ensures ran { IfOk result (IsRanAt context.now.attributes.now (record { signatures = context.now.operations.now.signatures; meaning = M.meaning }) store.new machine.new site nodes.now work.new) }
     ensures same { OnOk result (IsSame machine.old machine.new) }
     ensures store { IsExtended store.old store.new }
 {
@@ -67,7 +67,10 @@ fn perform<M: Meaning>(
 {
     match task {
         Task::Visit(at) => match visit(context, machine, store, work, site, nodes, at)? {
-            Some(key) => Ok(Some(Ran::Needs(key))),
+            Some(key) => {
+                work.push_task(task)?;
+                Ok(Some(Ran::Needs(key)))
+            }
             None => Ok(None),
         },
         Task::Build { production, count } => {

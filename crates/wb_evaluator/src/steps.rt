@@ -2,7 +2,7 @@
 //!
 //! It enters one that is read and wasn't entered, and leaves one whose value is there. What is done at one is in `run`.
 
-ghost use Rattle.std.specs.Prelude.{◌≡◌, ◌<◌, ◌≤◌, ◌+◌, ◌^◌, ◌++◌, ◌∷◌, [], ◌-◌, Some, slice_get, length, suc, IfOk, OnOk};
+ghost use Rattle.std.specs.Prelude.{◌≡◌, ◌<◌, ◌≤◌, ◌+◌, ◌^◌, ◌++◌, ◌∷◌, [], ◌-◌, Some, None, slice_get, length, suc, IfOk, OnOk};
 ghost use Rattle.wb_values.specs.ValuesIn.{tree_in, value_in, IsIn};
 ghost use Rattle.wb_evaluation.specs.Evaluable.{IsEvaluable, IsAsked};
 ghost use Rattle.wb_evaluation.specs.Walks.{done, value};
@@ -10,20 +10,20 @@ ghost use Rattle.wb_values.specs.declared.value.Value.TheVariants.{Tree};
 ghost use Rattle.wb_evaluator.specs.Inner.Machines.{IsMachine, IsTree, IsKeptIn, Runs, Wants, with_memo};
 
 use crate::context::Context;
-use crate::machine::{Key, Machine};
+use crate::machine::{Frame, Key, Machine};
 use crate::memo::Memo;
 use std::alloc::{AllocError, Global};
 use wb_operations::Meaning;
 use wb_values::{TreeId, TreeStore, Value};
 
 // An attribute of the root is entered.
-pub(crate) fn begin<M: Meaning>(
+pub(crate) fn begin<'a, M: Meaning>(
     alloc: Global,
-    context: &Context<M>,
+    context: &Context<'a, M>,
     store: &TreeStore,
     root: TreeId,
     attribute: usize,
-) -> Result<Machine, AllocError>
+) -> Result<Machine<'a>, AllocError>
     requires evaluable { IsEvaluable context.now.attributes.now (record { signatures = context.now.operations.now.signatures; meaning = M.meaning }) }
     requires there { root.0 < length store.now }
     requires asked { IsAsked context.now.attributes.now (tree_in store.now root.0) attribute }
@@ -34,12 +34,15 @@ pub(crate) fn begin<M: Meaning>(
 {
     let mut stack = Vec::new(alloc);
     push_key(&mut stack, Key::Synthesized { site: 0, attribute })?;
+    let mut frames = Vec::new(alloc);
+    push_idle(&mut frames)?;
     let memo = Memo::new(alloc, root)?;
     Ok(Machine {
         memo,
         root,
         attribute,
         stack,
+        frames,
         entered: 1,
     })
 }
@@ -60,6 +63,7 @@ pub(crate) fn enter<M: Meaning>(
     ensures stack { OnOk result (length machine.new.stack.items ≡ suc (length machine.old.stack.items)) }
 {
     push_key(&mut machine.stack, key)?;
+    push_idle(&mut machine.frames)?;
     machine.entered += 1;
     Ok(())
 }
@@ -84,6 +88,7 @@ pub(crate) fn leave<M: Meaning>(
     let key = machine.stack[at];
     keep(context, machine, store, key, answer)?;
     machine.stack.truncate(at);
+    machine.frames.truncate(at);
     Ok(())
 }
 
@@ -124,6 +129,15 @@ fn push_key(stack: &mut Vec<Key>, key: Key) -> Result<(), AllocError>
 {
     stack.reserve(1)?;
     stack.push_reserved(key);
+    Ok(())
+}
+
+// Adds no frame after others.
+fn push_idle(frames: &mut Vec<Option<Frame>>) -> Result<(), AllocError>
+    ensures { OnOk result (frames.new.items ≡ frames.old.items ++ None ∷ []) }
+{
+    frames.reserve(1)?;
+    frames.push_reserved(None);
     Ok(())
 }
 

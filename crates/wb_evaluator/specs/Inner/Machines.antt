@@ -1,26 +1,35 @@
 -- What an evaluation keeps from one instance to the next.
-use Rattle.std.specs.Prelude.{◌≡◌, ◌⊎◌, ◌≤◌, ◌<◌, ℕ, List, [], ◌∷◌, Option, Some, None, Contains, length, slice_get}
+use Rattle.std.specs.Global.{Global}
+use Rattle.std.specs.Prelude.{◌≡◌, ◌⊎◌, ◌≤◌, ◌<◌, ℕ, List, [], ◌∷◌, Option, Some, None, All, Vec, Contains, length, slice_get}
+use Rattle.wb_attributes.specs.Modular.{IsProduction}
 use Rattle.wb_attributes.specs.Occurrences.{Goes}
 use Rattle.wb_attributes.specs.Vertices.{Made, child, made}
+use Rattle.wb_base.specs.declared.symbol.Kind.{Kind}
 use Rattle.wb_operations.specs.Operations.{Operations}
 use Rattle.wb_resolved.specs.declared.attributes.Direction.TheVariants.{Synthesized, Inherited}
 use Rattle.wb_resolved.specs.declared.attribution.AttributionParts.{AttributionParts}
+use Rattle.wb_resolved.specs.declared.production.Production.{Production}
+use Rattle.wb_resolved.specs.Expression.{Node}
 use Rattle.wb_values.specs.declared.value.TreeId.{TreeId}
 use Rattle.wb_values.specs.declared.value.Value.{Value}
 use Rattle.wb_values.specs.declared.value.Value.TheVariants as stored
-use Rattle.wb_values.specs.Tree.{Tree}
+use Rattle.wb_values.specs.Tree.{Tree, production_of, children_of}
 use Rattle.wb_values.specs.ValuesIn.{tree_in, value_in, IsIn}
 use Rattle.wb_evaluation.specs.Answers.{IsNodeAt, HasAnswer}
 use Rattle.wb_evaluation.specs.Evaluable.{IsEvaluable, IsAsked}
 use Rattle.wb_evaluation.specs.Instances.{Path, down, Instance, synthesized_at, inherited_at, tree_at}
 use Rattle.wb_evaluation.specs.Walks.{value, Walk, read}
+use Rattle.wb_evaluator.specs.Inner.Jobs.{stack_of, Stacked, ValuesFit, JobsFit}
 use Rattle.wb_evaluator.specs.Inner.Memos.{count, path_in, recall, IsWhole}
 use Rattle.wb_evaluator.specs.Inner.State.{IsState, HasCome}
+use Rattle.wb_evaluator.specs.Inner.Tasks.{Job, resume}
+use Rattle.wb_evaluator.specs.declared.machine.Frame.{Frame}
 use Rattle.wb_evaluator.specs.declared.machine.Key.{Key}
 use Rattle.wb_evaluator.specs.declared.machine.Key.TheVariants as key
 use Rattle.wb_evaluator.specs.declared.machine.Machine.{Machine}
 use Rattle.wb_evaluator.specs.declared.memo.Memo.{Memo}
 use Rattle.wb_evaluator.specs.declared.sites.Origin.{Origin}
+use Rattle.wb_evaluator.specs.declared.work.Task.{Task}
 
 -- the site has this tree
 abbrev pub HasTree : Memo → ℕ → TreeId → Type 0
@@ -90,6 +99,29 @@ module _ (a : AttributionParts) (operations : Operations) (trees : List Tree) wh
     pub inherited : (site x : ℕ) (v : Value) → site ≤ count m → Goes a Inherited x → recall m site x ≡ Some v
         → IsValueOf top all (inherited_at (path_in m site) x) v
 
+  -- an expression at a site waits: the tasks that are left, on these values, are what is left of the instance's walk
+  pub record IsSuspended (top : Tree) (attribute : ℕ) (all : List Instance) (m : Memo) (i : Instance) (site : ℕ) (nodes : List Node)
+      (tasks : List Task) (values : List Value) : Type 0 where
+    pub id : TreeId
+    pub has : HasTree m site id
+    pub there : site ≤ count m
+    pub production : Production
+    pub is : IsProduction a (production_of (tree_in trees id.0)) production
+    pub jobs : List Job
+    pub stacked : Stacked operations.signatures nodes tasks [] jobs
+    pub kinds : List Kind
+    pub inside : All (IsIn (length trees)) values
+    pub values_fit : ValuesFit a.signatures (stack_of trees values) kinds
+    pub jobs_fit : JobsFit a operations production jobs kinds
+    pub come : HasCome a operations top attribute all i
+        (resume operations (path_in m site) (children_of (tree_in trees id.0)) jobs (stack_of trees values))
+
+  -- each key has a frame or none, and a frame is that of the key's instance
+  pub record AreSuspended (top : Tree) (attribute : ℕ) (all : List Instance) (m : Memo) (keys : List Key) (frames : List (Option Frame)) : Type 0 where
+    pub count : length frames ≡ length keys
+    pub each : (i : ℕ) (k : Key) (f : Frame) → slice_get keys i ≡ Some k → slice_get frames i ≡ Some (Some f)
+        → IsKey m k × IsSuspended top attribute all m (named m k) f.site f.nodes.now f.work.tasks.items f.work.values.items
+
   pub record IsMachine (m : Machine) : Type 0 where
     pub top : Tree
     pub root_inside : m.root.0 < length trees
@@ -104,6 +136,7 @@ module _ (a : AttributionParts) (operations : Operations) (trees : List Tree) wh
     pub memo : IsMemo top all m.memo
     pub complete : (r : Instance) → Contains all r → Contains (this ∷ waiting) r ⊎ IsRecalled m.memo r
     pub stack : AreNamed m.memo m.stack.items [] (this ∷ waiting)
+    pub frames : AreSuspended top m.attribute all m.memo m.stack.items m.frames.items
 
   -- the walk of the instance at work has come to this
   pub record Runs (m : Machine) (w : Walk) : Type 0 where
@@ -122,12 +155,19 @@ module _ (a : AttributionParts) (operations : Operations) (trees : List Tree) wh
     pub memo : IsMemo r.top r.all new
     pub recalled : (i : Instance) → IsRecalled m.memo i → IsRecalled new i
     pub this_recalled : IsRecalled new r.this
+    pub paths : (i : ℕ) → path_in new i ≡ path_in m.memo i
+    pub counts : count new ≡ count m.memo
+    pub trees_kept : (i : ℕ) (id : TreeId) → HasTree m.memo i id → (other : TreeId) × HasTree new i other × (tree_in trees other.0 ≡ tree_in trees id.0)
     pub keys : (k : Key) → IsKey m.memo k → IsKey new k
     pub names : (k : Key) → named new k ≡ named m.memo k
 
 -- a machine with another memo
 abbrev pub with_memo : Machine → Memo → Machine
-with_memo m memo = record { memo = memo; root = m.root; attribute = m.attribute; stack = m.stack; entered = m.entered }
+with_memo m memo = record { memo = memo; root = m.root; attribute = m.attribute; stack = m.stack; frames = m.frames; entered = m.entered }
+
+-- a machine with other frames
+abbrev pub with_frames : Machine → Vec (Option Frame) Global → Machine
+with_frames m frames = record { memo = m.memo; root = m.root; attribute = m.attribute; stack = m.stack; frames = frames; entered = m.entered }
 
 -- two machines have the same instances on the stack, and ask the same
 pub record IsSame (old new : Machine) : Type 0 where

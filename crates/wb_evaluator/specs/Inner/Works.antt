@@ -24,7 +24,7 @@ use Rattle.wb_evaluator.specs.declared.work.Ran.{Ran}
 use Rattle.wb_evaluator.specs.declared.work.Ran.TheVariants as ran
 use Rattle.wb_evaluation.proofs.ExpressionLemmas.{IsIn as IsPart}
 use Rattle.wb_resolved.specs.Named.{IsNamedNode}
-use Rattle.wb_evaluator.specs.Inner.Machines.{HasTree, known, Runs, Wants, IsSame, with_memo}
+use Rattle.wb_evaluator.specs.Inner.Machines.{HasTree, known, IsSuspended, Runs, Wants, IsSame, with_memo}
 use Rattle.wb_evaluator.specs.Inner.Reached.{HasChild, IsReached}
 use Rattle.wb_evaluator.specs.Inner.Memos.{count, path_in, IsWhole, IsGrown}
 use Rattle.wb_evaluator.specs.declared.sites.Step.{Step}
@@ -37,30 +37,7 @@ use Rattle.wb_evaluator.specs.declared.machine.Machine.{Machine}
 use Rattle.wb_evaluator.specs.declared.work.Task.{Task}
 use Rattle.wb_evaluator.specs.declared.work.Work.{Work}
 use Rattle.wb_evaluator.specs.declared.work.Task.TheVariants as task
-
--- visits of nodes at these places, the first on top
-abbrev pub visiting : List ℕ → List Task
-visiting [] = []
-visiting (place ∷ places) = visiting places ++ task.Visit place ∷ []
-
--- the values of a stack, the last on top
-abbrev pub stack_of : List Tree → List Value → List tree.Value
-stack_of trees values = pushed (values_in trees values) []
-
-module _ (operations : List OperationSignature) (nodes : List Node) where
-  -- the task is the job
-  abbrev pub IsJob : Task → Job → Type 0
-  IsJob (task.Visit at) (visit e) = Stands nodes at e × (size e ≤ length nodes)
-  IsJob (task.Build p n) (build q k) = (p ≡ q) × (n ≡ k)
-  IsJob (task.Call number n) (call name k) = (number_of operations name ≡ Some number) × (n ≡ k)
-  IsJob (task.Choose h f) (choose holds fails) =
-      (Stands nodes h holds × (size holds ≤ length nodes)) × (Stands nodes f fails × (size fails ≤ length nodes))
-  IsJob other job = ⊥
-
-  -- the tasks are the jobs, the last task first, with these jobs below
-  abbrev pub Stacked : List Task → List Job → List Job → Type 0
-  Stacked [] base jobs = jobs ≡ base
-  Stacked (t ∷ ts) base jobs = (j : Job) × IsJob t j × Stacked ts (j ∷ base) jobs
+use Rattle.wb_evaluator.specs.Inner.Jobs.{stack_of, Stacked, ValuesFit, JobsFit}
 
 -- how many nodes the expression at a place has, down to so many levels
 abbrev pub sum_of : (ℕ → ℕ) → List ℕ → ℕ
@@ -87,34 +64,6 @@ abbrev pub left_to_do : List Node → List Task → ℕ
 left_to_do nodes [] = 0
 left_to_do nodes (t ∷ ts) = task_size nodes t + left_to_do nodes ts
 
--- kinds of a stack with more values
-abbrev pub more_kinds : List Kind → List Kind → List Kind
-more_kinds [] kinds = kinds
-more_kinds (k ∷ ks) kinds = more_kinds ks (k ∷ kinds)
-
--- the values are of the kinds, one by one
-abbrev pub ValuesFit : List Signature → List tree.Value → List Kind → Type 0
-ValuesFit signatures [] kinds = kinds ≡ []
-ValuesFit signatures (v ∷ vs) kinds = (k : Kind) × (rest : List Kind) × (kinds ≡ k ∷ rest) × FitsValue signatures v k × ValuesFit signatures vs rest
-
-module _ (a : AttributionParts) (operations : Operations) (production : Production) where
-  -- an expression of the production of this kind, in which all is named
-  pub record IsTyped (e : Expression) (is : Kind) : Type 0 where
-    pub has_kind : HasKind a operations.signatures production e is
-    pub named : (part : Node) → IsPart e part → (owner : ℕ) × IsNamedNode a production owner part
-
-  -- the jobs are done on a stack of values of these kinds
-  abbrev pub JobsFit : List Job → List Kind → Type 0
-  JobsFit [] kinds = Unit {0}
-  JobsFit (visit e ∷ jobs) kinds = (is : Kind) × IsTyped e is × JobsFit jobs (is ∷ kinds)
-  JobsFit (build p n ∷ jobs) kinds = (s : Signature) × (rest : List Kind) × (slice_get a.signatures p ≡ Some s) × (length s.children ≡ n)
-      × (kinds ≡ more_kinds s.children rest) × JobsFit jobs (kind.Tree s.left ∷ rest)
-  JobsFit (call name n ∷ jobs) kinds = (number : ℕ) × (s : OperationSignature) × (rest : List Kind)
-      × (slice_get operations.signatures number ≡ Some s) × (s.name ≡ name) × (length s.takes ≡ n) × (kinds ≡ more_kinds s.takes rest)
-      × JobsFit jobs (s.gives ∷ rest)
-  JobsFit (choose holds fails ∷ jobs) kinds = (is : Kind) × (rest : List Kind) × (kinds ≡ kind.Bool ∷ rest) × IsTyped holds is × IsTyped fails is
-      × JobsFit jobs (is ∷ rest)
-
 module _ (a : AttributionParts) (operations : Operations) (trees : List Tree) where
   -- an expression is evaluated at a site, and these tasks are left on these values
   pub record IsEvaluating (m : Machine) (site : ℕ) (nodes : List Node) (tasks : List Task) (values : List Value) : Type 0 where
@@ -132,10 +81,16 @@ module _ (a : AttributionParts) (operations : Operations) (trees : List Tree) wh
     pub runs : Runs a operations trees m
         (resume operations (path_in m.memo site) (children_of (tree_in trees id.0)) jobs (stack_of trees values))
 
-  -- after a task: the others are left, or an instance is read that wasn't entered
-  abbrev pub IsAfter : Machine → ℕ → List Node → List Task → List Value → Option Key → Type 0
-  IsAfter m site nodes tasks values None = IsEvaluating m site nodes tasks values
-  IsAfter m site nodes tasks values (Some key) = Wants a operations trees m key
+  -- an instance is read that wasn't entered, and these tasks wait for it
+  pub record Parks (m : Machine) (site : ℕ) (nodes : List Node) (tasks : List Task) (values : List Value) (k : Key) : Type 0 where
+    pub wants : Wants a operations trees m k
+    pub waits : IsSuspended a operations trees wants.runs.machine.top m.attribute wants.runs.machine.all m.memo wants.runs.machine.this site nodes
+        tasks values
+
+  -- after a task: the others are left, or it waits as before for an instance that wasn't entered
+  abbrev pub IsAfter : Machine → ℕ → List Node → List Task → List Value → Task → Option Key → Type 0
+  IsAfter m site nodes tasks values t None = IsEvaluating m site nodes tasks values
+  IsAfter m site nodes tasks values t (Some key) = Parks m site nodes (tasks ++ t ∷ []) values key
 
 -- what is known for the key was pushed, or nothing is known and the key is the answer
 abbrev pub IsReading : Machine → Work → Work → Key → Option Key → Type 0
@@ -162,7 +117,7 @@ IsLess new old (Some key) = Unit {0}
 module _ (a : AttributionParts) (operations : Operations) (trees : List Tree) where
   -- a task is done, which was on top of the tasks
   pub record IsDone (old new : Machine) (site : ℕ) (nodes : List Node) (before after : Work) (t : Task) (result : Option Key) : Type 0 where
-    pub after_it : IsAfter a operations trees new site nodes after.tasks.items after.values.items result
+    pub after_it : IsAfter a operations trees new site nodes after.tasks.items after.values.items t result
     pub same : IsSame old new
     pub less : IsLess (left_to_do nodes after.tasks.items) (left_to_do nodes before.tasks.items + task_size nodes t) result
 
@@ -192,11 +147,17 @@ module _ (a : AttributionParts) (operations : Operations) (trees : List Tree) wh
   IsRan m (ran.Fault operation code) = Runs a operations trees m (done (fault operation code))
   IsRan m (ran.Needs key) = Wants a operations trees m key
 
-  -- the evaluation of an expression goes on, and less is left to do; or it is over
+  -- the evaluation of an expression is over, or its tasks wait for an instance that wasn't entered
+  abbrev pub IsRanAt : Machine → ℕ → List Node → Work → Ran → Type 0
+  IsRanAt m site nodes work (ran.Value v) = IsRan m (ran.Value v)
+  IsRanAt m site nodes work (ran.Fault operation code) = IsRan m (ran.Fault operation code)
+  IsRanAt m site nodes work (ran.Needs key) = Parks a operations trees m site nodes work.tasks.items work.values.items key
+
+  -- it goes on, and less is left to do; or it is over
   abbrev pub IsOver : Machine → ℕ → List Node → Work → ℕ → Option Ran → Type 0
   IsOver m site nodes work before None =
       IsEvaluating a operations trees m site nodes work.tasks.items work.values.items × (left_to_do nodes work.tasks.items < before)
-  IsOver m site nodes work before (Some r) = IsRan m r
+  IsOver m site nodes work before (Some r) = IsRanAt m site nodes work r
 
 -- less is left to do than with the task
 abbrev pub IsLeftAfter : List Node → Work → Work → Task → Type 0

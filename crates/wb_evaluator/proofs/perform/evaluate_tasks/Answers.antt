@@ -3,6 +3,7 @@ use Rattle.wb_values.specs.declared.value.Value.{Value}
 use Rattle.wb_evaluator.specs.Inner.Works.{IsEvaluating, IsOver, left_to_do, task_size}
 use Rattle.wb_evaluator.specs.declared.work.Task.{Task}
 use Rattle.wb_evaluator.proofs.CallTaskLemmas.{at_end, ends}
+use Rattle.wb_evaluator.proofs.DoneLemmas.{extended_twice, same_twice}
 use Rattle.wb_evaluator.proofs.StackLemmas.{smaller}
 use Rattle.wb_evaluator.proofs.perform.evaluate_tasks.Goals as goal
 
@@ -46,3 +47,19 @@ returns-clause-ran g c =
     (subst (λ (ts : List Task). IsEvaluating c.args.context.now.attributes.now
     (record { signatures = c.args.context.now.operations.now.signatures; meaning = g.M.Meaning.meaning }) m.store m.machine c.args.site
     c.args.nodes.now ts m.work.values.items) none m.invariant.evaluating))
+
+pub tasks-preserved : goal.tasks-preserved
+tasks-preserved g c =
+    let nodes = c.args.nodes.now in
+    let over : IsOver c.args.context.now.attributes.now
+    (record { signatures = c.args.context.now.operations.now.signatures; meaning = g.M.Meaning.meaning }) c.perform.new.store
+    c.perform.new.machine c.args.site nodes c.perform.new.work (left_to_do nodes c.pop.new.self.items + task_size nodes c.in-Some.task)
+    c.in_ok-ran.field-0 = c.in_ok-ran.ensures.over in
+    record {
+      evaluating = (subst (IsOver c.args.context.now.attributes.now
+          (record { signatures = c.args.context.now.operations.now.signatures; meaning = g.M.Meaning.meaning }) c.perform.new.store
+          c.perform.new.machine c.args.site nodes c.perform.new.work (left_to_do nodes c.pop.new.self.items + task_size nodes c.in-Some.task))
+          c.in_default-2.is over).0;
+      same = same_twice c.args.machine.now c.tasks.machine c.perform.new.machine c.tasks.invariant.same c.in_ok-ran.ensures.same;
+      store = extended_twice c.args.store.now c.tasks.store c.perform.new.store c.tasks.invariant.store c.perform.ensures.store;
+    }

@@ -12,8 +12,8 @@ overflow_sub-last g c =
     (record { signatures = c.args.context.now.operations.now.signatures; meaning = g.M.Meaning.meaning }) c.args.store.now c.args.machine.now
     c.args.site c.args.nodes.now c.requires.starting).0
 
-pub evaluate_tasks-requires-clause-evaluating : goal.evaluate_tasks-requires-clause-evaluating
-evaluate_tasks-requires-clause-evaluating g c =
+pub go_on-requires-clause-evaluating : goal.go_on-requires-clause-evaluating
+go_on-requires-clause-evaluating g c =
     let it = (starts c.args.context.now.attributes.now
     (record { signatures = c.args.context.now.operations.now.signatures; meaning = g.M.Meaning.meaning }) c.args.store.now c.args.machine.now
     c.args.site c.args.nodes.now c.requires.starting).1 in

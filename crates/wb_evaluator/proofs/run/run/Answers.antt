@@ -1,23 +1,27 @@
-use Rattle.std.proofs.Common.{rules, ◌≡◌, ◌-◌, length, get_or, subst}
-use Rattle.wb_evaluator.specs.declared.machine.Key.{Key}
-use Rattle.wb_evaluator.specs.declared.machine.Key.TheVariants as key
-use Rattle.wb_evaluator.proofs.StartLemmas.{at_work}
+use Rattle.std.proofs.Common.{rules, ◌≡◌, ◌∙◌, ◌≤◌, ◌<◌, ◌-◌, Option, Some, None, length, refl, ap, sym, subst, arith, slice_get}
+use Rattle.std.specs.List.{slice_set}
+use Rattle.wb_lemmas.proofs.Places.{at_within, read_at}
+use Rattle.wb_evaluator.proofs.ParkLemmas.{resumed, started}
+use Rattle.wb_evaluator.proofs.StartLemmas.{stack_some}
+use Rattle.wb_evaluator.specs.declared.machine.Frame.{Frame}
 use Rattle.wb_evaluator.proofs.run.run.Goals as goal
 
-pub run_synthesized-requires-clause-works : goal.run_synthesized-requires-clause-works
-run_synthesized-requires-clause-works g c =
-    at_work c.args.context.now.attributes.now
-    (record { signatures = c.args.context.now.operations.now.signatures; meaning = g.M.Meaning.meaning }) c.args.store.now c.args.machine.now c.requires.whole
-    (key.Synthesized c.in-Synthesized.site c.in-Synthesized.attribute) (subst (λ (k : Key). k ≡ get_or c.args.machine.now.stack.items (length c.args.machine.now.stack.items - 1) k) c.in-Synthesized.is (search rules))
-
-pub run_inherited-requires-clause-works : goal.run_inherited-requires-clause-works
-run_inherited-requires-clause-works g c =
-    at_work c.args.context.now.attributes.now
-    (record { signatures = c.args.context.now.operations.now.signatures; meaning = g.M.Meaning.meaning }) c.args.store.now c.args.machine.now c.requires.whole
-    (key.Inherited c.in-Inherited.site c.in-Inherited.attribute) (subst (λ (k : Key). k ≡ get_or c.args.machine.now.stack.items (length c.args.machine.now.stack.items - 1) k) c.in-Inherited.is (search rules))
-
-pub run_tree-requires-clause-works : goal.run_tree-requires-clause-works
-run_tree-requires-clause-works g c =
-    at_work c.args.context.now.attributes.now
-    (record { signatures = c.args.context.now.operations.now.signatures; meaning = g.M.Meaning.meaning }) c.args.store.now c.args.machine.now c.requires.whole
-    (key.Tree c.in-Tree.site) (subst (λ (k : Key). k ≡ get_or c.args.machine.now.stack.items (length c.args.machine.now.stack.items - 1) k) c.in-Tree.is (search rules))
+pub resume-requires-clause-evaluating : goal.resume-requires-clause-evaluating
+resume-requires-clause-evaluating g c =
+    let m = c.args.machine.now in
+    let r = c.requires.whole in
+    let some = stack_some c.args.context.now.attributes.now
+    (record { signatures = c.args.context.now.operations.now.signatures; meaning = g.M.Meaning.meaning }) c.args.store.now m r in
+    let (k, at) = at_within m.stack.items (length m.stack.items - 1) (omega (arith, some)) in
+    let last : c.len-at.result - 1 ≡ length m.stack.items - 1 = search rules in
+    let count = r.frames.count in
+    let within : length m.stack.items - 1 < length m.frames.items = omega (arith, some, count) in
+    let within' : c.len-at.result - 1 < length m.frames.items = subst (λ n. n < length m.frames.items) (sym last) within in
+    let found : slice_get m.frames.items (c.len-at.result - 1) ≡ Some c.index_mut.result.now =
+    read_at m.frames.items m.frames.items (c.len-at.result - 1) c.index_mut.result.now refl within' (search rules) in
+    let frame_is : c.index_mut.result.now ≡ Some c.in-Some.frame = search rules in
+    let none : c.replace.new.dest ≡ None = search rules in
+    resumed c.args.context.now.attributes.now
+    (record { signatures = c.args.context.now.operations.now.signatures; meaning = g.M.Meaning.meaning }) c.args.store.now m r _
+    (ap (λ (x : Option Frame). slice_set m.frames.items (c.len-at.result - 1) x) none ∙ ap (λ n. slice_set m.frames.items n None) last)
+    k c.in-Some.frame at (sym (ap (slice_get m.frames.items) last) ∙ found ∙ ap Some frame_is)

@@ -1,5 +1,5 @@
 use Rattle.std.proofs.Common.{◌≡◌, ◌++◌, ◌≤◌, length, drop}
-use Rattle.wb_evaluator.specs.Inner.Works.{visiting}
+use Rattle.wb_evaluator.specs.Inner.Jobs.{visiting}
 use Rattle.wb_evaluator.proofs.work.Work.push_visits.Given as goal
 
 abbrev pub invariant-places : goal.invariant-places
