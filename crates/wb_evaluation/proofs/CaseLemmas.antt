@@ -1,6 +1,6 @@
 -- What an instance answers and reads, case by case.
-use Rattle.std.proofs.Common.{◌≡◌, ◌∙◌, ◌⊎◌, ◌↔◌, inl, inr, ℕ, Option, Some, None, sym, subst, ap}
-use Rattle.wb_attributes.specs.Vertices.{Made, forward, Step, child, made, top_synthesized, inherited, tree_of}
+use Rattle.std.proofs.Common.{◌≡◌, ◌∙◌, ◌⊎◌, ◌↔◌, inl, inr, ℕ, Option, Some, None, refl, sym, subst, ap}
+use Rattle.wb_attributes.specs.Vertices.{Made, local, forward, Step, child, made, top_synthesized, inherited, tree_of}
 use Rattle.wb_operations.specs.Operations.{Operations}
 use Rattle.wb_resolved.specs.declared.attribution.AttributionParts.{AttributionParts}
 use Rattle.wb_resolved.specs.Expression.{Expression}
@@ -10,11 +10,11 @@ use Rattle.wb_evaluation.proofs.OutcomeLemmas.{EndsAt, ComesAt, Is, read_ends, d
 use Rattle.wb_evaluation.proofs.OutcomeLemmas.{outcome_ends, ends_outcome, reads_come, come_reads}
 use Rattle.wb_evaluation.specs.Answers.{IsNodeAt, at_root, at_child, at_made, by_walk, at_done, at_value, at_fault}
 use Rattle.wb_evaluation.specs.Cases.{ReadsTree, IsByExpression, ReadsByExpression, IsByEquation, IsByForward, IsAfterTree, IsInherited}
-use Rattle.wb_evaluation.specs.Cases.{IsTree, HasCases}
+use Rattle.wb_evaluation.specs.Cases.{IsTree, AreUndefined, HasCases}
 use Rattle.wb_evaluation.specs.Instances.{Path, root, down, Instance, synthesized_at, inherited_at, tree_at, home}
 use Rattle.wb_evaluation.specs.Needed.{here, after, ReadsNext}
 use Rattle.wb_evaluation.specs.Outcomes.{HasOutcome, Reads}
-use Rattle.wb_evaluation.specs.Walks.{Outcome, value, fault, Walk, read, with_tree, walk_expression, finish, walk_top}
+use Rattle.wb_evaluation.specs.Walks.{Outcome, value, fault, Walk, read, missing, value_at, with_tree, walk_expression, finish, walk_top}
 use Rattle.wb_evaluation.specs.Walks.{walk_below, walk_made, tree_rule, walk_synthesized, walk_of}
 
 module _ (a : AttributionParts) (operations : Operations) (top : Tree) where
@@ -303,5 +303,63 @@ module _ (a : AttributionParts) (operations : Operations) (top : Tree) where
     reads = λ t e there rule. expression_reads (tree_at q m) q t e there (made_walk q m t (Some e) rule);
   }
 
+  -- what nothing defines
+  no_end : {w : Walk} {o : Outcome} → w ≡ missing → EndsAt a operations top w o → ⊥
+  no_end {w} {o} is d = missing_ends a operations top (subst (λ (z : Walk). EndsAt a operations top z o) is d)
+
+  no_synthesized : (q : Path) (y : ℕ) (t : Tree) (o : Outcome) → Node q t → tree_rule operations a t (top_synthesized y) ≡ None
+      → tree_rule operations a t (tree_of forward) ≡ None → ¬ Is a operations top (synthesized_at q y) o
+  no_synthesized q y t o there none nothing has =
+      no_end (ap (λ (z : Option Expression). walk_top operations q (children_of t) y z (tree_rule operations a t (tree_of forward))) none
+      ∙ ap (walk_top operations q (children_of t) y None) nothing) (from_node q y t o there has)
+
+  no_child : (q : Path) (k y : ℕ) (t : Tree) (o : Outcome) → Node q t → ((u : Tree) → value_at (children_of t) k ≡ Some (tree u) → ⊥)
+      → ¬ Is a operations top (synthesized_at (down q (child k)) y) o
+  unfolding walk_of
+  no_child q k y t o there none has =
+      by_value (value_at (children_of t) k) refl ((at_home (synthesized_at (down q (child k)) y) t o there).0 has) where
+        by_value : (v : Option Value) → value_at (children_of t) k ≡ v
+            → EndsAt a operations top (with_tree v (Synthesized (down q (child k)) y)) o → ⊥
+        by_value None is d = missing_ends a operations top d
+        by_value (Some (plain c)) is d = missing_ends a operations top d
+        by_value (Some (tree u)) is d = none u is
+
+  no_top : (y : ℕ) (o : Outcome) → ¬ Is a operations top (inherited_at root y) o
+  unfolding walk_of
+  no_top y o (by_walk n d) = missing_ends a operations top d
+
+  no_inherited : (q : Path) (b : Step) (y : ℕ) (t : Tree) (o : Outcome) → Node q t → tree_rule operations a t (inherited b y) ≡ None
+      → (b ≡ made forward → ⊥) → ¬ Is a operations top (inherited_at (down q b) y) o
+  no_inherited q b y t o there none other has =
+      no_end (below_walk q b y t None none ∙ by_step b other) ((at_home (inherited_at (down q b) y) t o there).0 has) where
+        by_step : (b : Step) → (b ≡ made forward → ⊥) → walk_below operations q (children_of t) b y None ≡ missing
+        by_step (child k) other = refl
+        by_step (made (local x)) other = refl
+        by_step (made forward) other = absurd (other refl)
+
+  no_made : (q : Path) (m : Made) (t : Tree) (o : Outcome) → Node q t → tree_rule operations a t (tree_of m) ≡ None
+      → ¬ Is a operations top (tree_at q m) o
+  no_made q m t o there none has = no_end (made_walk q m t None none) ((at_home (tree_at q m) t o there).0 has)
+
+  no_home : (i : Instance) (o : Outcome) → ((t : Tree) → ¬ Node (home i) t) → ¬ Is a operations top i o
+  no_home i o nowhere (by_walk {t = t} n d) = nowhere t n
+
+  pub undefined_ones : AreUndefined a operations top
+  undefined_ones = record {
+    synthesized = no_synthesized;
+    of_plain_child = no_child;
+    of_root = no_top;
+    inherited_one = λ q b y t o there none other. no_inherited q b y t o there none other;
+    made_tree = no_made;
+    nowhere = no_home;
+  }
+
   pub has_cases : HasCases a operations top
-  has_cases = record { by_equation = by_equation; by_forward = by_forward; after_tree = after_tree; inherits = inherits; tree = tree_case }
+  has_cases = record {
+    by_equation = by_equation;
+    by_forward = by_forward;
+    after_tree = after_tree;
+    inherits = inherits;
+    tree = tree_case;
+    undefined_ones = undefined_ones;
+  }

@@ -12,3 +12,4 @@ pub mod DefinedLemmas
 pub mod OutcomeLemmas
 pub mod CaseLemmas
 pub mod LawLemmas
+pub mod FiniteLemmas

@@ -1,13 +1,14 @@
 -- What an instance answers and reads, case by case.
-use Rattle.std.specs.Prelude.{◌≡◌, ◌↔◌, ◌⊎◌, ℕ, Some, None}
-use Rattle.wb_attributes.specs.Vertices.{Made, forward, Step, made, top_synthesized, inherited, tree_of}
+use Rattle.std.specs.Prelude.{◌≡◌, ◌≢◌, ◌↔◌, ◌⊎◌, ℕ, Some, None}
+use Rattle.wb_attributes.specs.Vertices.{Made, forward, Step, child, made, top_synthesized, inherited, tree_of}
 use Rattle.wb_operations.specs.Operations.{Operations}
 use Rattle.wb_values.specs.Tree.{Tree, Value, children_of}
+use Rattle.wb_values.specs.Tree as values
 use Rattle.wb_evaluation.specs.Answers.{IsNodeAt, HasAnswer}
-use Rattle.wb_evaluation.specs.Instances.{Path, down, Instance, synthesized_at, inherited_at, tree_at}
+use Rattle.wb_evaluation.specs.Instances.{Path, root, down, Instance, synthesized_at, inherited_at, tree_at, home}
 use Rattle.wb_evaluation.specs.Needed.{ReadsNext}
 use Rattle.wb_evaluation.specs.Outcomes.{HasOutcome, Reads}
-use Rattle.wb_evaluation.specs.Walks.{Outcome, value, fault, tree_rule}
+use Rattle.wb_evaluation.specs.Walks.{Outcome, value, fault, value_at, tree_rule}
 use Rattle.wb_resolved.specs.declared.attribution.AttributionParts.{AttributionParts}
 use Rattle.wb_resolved.specs.Expression.{Expression}
 
@@ -69,6 +70,24 @@ module _ (a : AttributionParts) (operations : Operations) (top : Tree) where
     pub reads : (t : Tree) (e : Expression) → IsNodeAt a operations top q t → tree_rule operations a t (tree_of k) ≡ Some e
         → ReadsByExpression (tree_at q k) q t e
 
+  -- what nothing defines has no answer
+  pub record AreUndefined : Type 0 where
+    -- a synthesized attribute of a node whose production neither has an equation for it nor forwards, and one of a child that is no tree
+    pub synthesized : (q : Path) (y : ℕ) (t : Tree) (o : Outcome) → IsNodeAt a operations top q t
+        → tree_rule operations a t (top_synthesized y) ≡ None → tree_rule operations a t (tree_of forward) ≡ None
+        → ¬ HasAnswer a operations top (synthesized_at q y) o
+    pub of_plain_child : (q : Path) (k y : ℕ) (t : Tree) (o : Outcome) → IsNodeAt a operations top q t
+        → ((u : Tree) → value_at (children_of t) k ≢ Some (values.tree u)) → ¬ HasAnswer a operations top (synthesized_at (down q (child k)) y) o
+    -- an inherited attribute of the root, and one of a child or local for which the production one step up has no equation
+    pub of_root : (y : ℕ) (o : Outcome) → ¬ HasAnswer a operations top (inherited_at root y) o
+    pub inherited_one : (q : Path) (b : Step) (y : ℕ) (t : Tree) (o : Outcome) → IsNodeAt a operations top q t
+        → tree_rule operations a t (inherited b y) ≡ None → b ≢ made forward → ¬ HasAnswer a operations top (inherited_at (down q b) y) o
+    -- the tree of a local or forward that the production doesn't have
+    pub made_tree : (q : Path) (k : Made) (t : Tree) (o : Outcome) → IsNodeAt a operations top q t → tree_rule operations a t (tree_of k) ≡ None
+        → ¬ HasAnswer a operations top (tree_at q k) o
+    -- whatever has no node at its home
+    pub nowhere : (i : Instance) (o : Outcome) → ((t : Tree) → ¬ IsNodeAt a operations top (home i) t) → ¬ HasAnswer a operations top i o
+
   -- the cases of an answer
   pub record HasCases : Type 0 where
     pub by_equation : (q : Path) (y : ℕ) → IsByEquation q y
@@ -76,3 +95,4 @@ module _ (a : AttributionParts) (operations : Operations) (top : Tree) where
     pub after_tree : (q : Path) (k : Made) (y : ℕ) → IsAfterTree q k y
     pub inherits : (q : Path) (b : Step) (y : ℕ) → IsInherited q b y
     pub tree : (q : Path) (k : Made) → IsTree q k
+    pub undefined_ones : AreUndefined

@@ -3,7 +3,9 @@
 ghost use Rattle.std.specs.Prelude.{ℕ, Contains};
 ghost use Rattle.wb_evaluation.specs.Cases.{HasCases};
 ghost use Rattle.wb_evaluation.specs.Evaluable.{IsEvaluable, IsAsked};
-ghost use Rattle.wb_evaluation.specs.Laws.{HasOneAnswer, HasKinds, IsReadBack, IsRuleRead, IsWellFounded};
+ghost use Rattle.wb_evaluation.specs.Laws.{HasOneAnswer, HasSomeAnswer, HasKinds, IsReadBack, IsRuleRead, IsWellFounded};
+ghost use Rattle.wb_evaluation.specs.Instances.{root, synthesized_at};
+ghost use Rattle.wb_evaluation.specs.Needed.{NeedsMoreThan};
 ghost use Rattle.wb_operations.specs.Operations.{Operations};
 ghost use Rattle.wb_resolved.specs.declared.attribution.AttributionParts.{AttributionParts};
 ghost use Rattle.wb_resolved.specs.declared.production.Production.{Production};
@@ -28,7 +30,7 @@ pub fn rule_law()
 {}
 
 /// An instance answers and reads by the equation for it, by the forward, by the equation of the production one step up, or by the expression
-/// of its tree, which is read before all else at a path that ends in a local or forward.
+/// of its tree, which is read before all else at a path that ends in a local or forward. One that nothing defines has no answer.
 pub fn cases_law()
     ensures { (a : AttributionParts) (operations : Operations) (top : Tree) → HasCases a operations top }
 {}
@@ -42,4 +44,9 @@ pub fn kinds_law()
 /// itself.
 pub fn needs_law()
     ensures { (a : AttributionParts) (operations : Operations) (top : Tree) (attribute : ℕ) → IsEvaluable a operations → IsAsked a top attribute → IsWellFounded a operations top attribute }
+{}
+
+/// There, what is asked has an answer where finitely many instances are needed: no more than some number.
+pub fn answers_law()
+    ensures { (a : AttributionParts) (operations : Operations) (top : Tree) (attribute n : ℕ) → IsEvaluable a operations → IsAsked a top attribute → ¬ NeedsMoreThan a operations top (synthesized_at root attribute) n → HasSomeAnswer a operations top (synthesized_at root attribute) }
 {}
