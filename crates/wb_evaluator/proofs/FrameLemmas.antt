@@ -104,7 +104,7 @@ module _ (a : AttributionParts) (operations : Operations) (trees : List Tree) (t
         let (is_key, w) = were.each i k f at has in (
           keys_kept k is_key,
           moved old new (named old k) (named new k) f.site f.nodes.now f.work.tasks.items f.work.values.items w (sym (names k is_key))
-          (paths f.site w.there) (trees_kept f.site w.id w.there w.has) grown,
+              (paths f.site w.there) (trees_kept f.site w.id w.there w.has) grown,
         );
   }
 

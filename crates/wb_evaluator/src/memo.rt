@@ -7,8 +7,8 @@ ghost use Rattle.wb_evaluator.specs.Inner.Sites.{link, step_of, path_at, paths_o
 ghost use Rattle.wb_evaluator.specs.Inner.Memos.{recall, IsWhole, IsGrown, IsBelow};
 
 use crate::sites::{Sites, Step};
-use wb_rules::Table;
 use std::alloc::{AllocError, Global};
+use wb_rules::Table;
 use wb_values::{TreeId, Value};
 
 // The sites, the tree of each where it is known, and the numbers of the values of attributes, from 1 on.

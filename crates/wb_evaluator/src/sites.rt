@@ -5,8 +5,8 @@
 ghost use Rattle.std.specs.Prelude.{◌≡◌, ◌≢◌, ◌≤◌, ◌<◌, ℕ, suc, [], ◌∷◌, ◌++◌, length, OnOk, IfOk};
 ghost use Rattle.wb_evaluator.specs.Inner.Sites.{link, IsOther, HasRows, IsSites};
 
-use wb_rules::Table;
 use std::alloc::{AllocError, Global};
+use wb_rules::Table;
 
 // A step down from a node.
 #[derive(Clone, Copy)]
