@@ -1,6 +1,7 @@
 -- What is known of a resolved host after each test.
 use Rattle.std.proofs.Common.{◌≡◌, ◌∙◌, Result, Ok, Err, IfOk, IfErr, Some, None, ℕ, List, [], All, length, map, sym, ap, subst, inr}
 use Rattle.std.specs.Prelude.{Option, option_map}
+use Rattle.wb_attributes.specs.Modular.{AreWellDefinedAttributes}
 use Rattle.wb_base.specs.Grammar.{GrammarView}
 use Rattle.wb_complete.specs.Refusals.{CompleteOk}
 use Rattle.wb_determinism.specs.Lexicons.{preference_pairs}
@@ -17,6 +18,7 @@ use Rattle.wb_determinism.specs.Hosts.{AreHostParts}
 use Rattle.wb_determinism.specs.declared.parts.HostParts.{HostParts}
 use Rattle.wb_certify.specs.Hosts.{IsCertified, IsCertifiedValue}
 use Rattle.wb_certify.specs.Refusals.{IsAttributeRefusal, IsDeterministic, start_of}
+use Rattle.wb_certify.specs.WellDefined.{HasWellDefinedAttributes}
 use Rattle.wb_certify.specs.Inner.Complete.{AreComplete}
 
 -- pairs that were listed are the preferences
@@ -54,15 +56,12 @@ flow_refused r parts start (Err refusal) same is complete refused =
       subst (λ (q : ResolvedParts). IsTrueFlowRefusal q.attributes refusal) same refused,
     )
 
--- all tests together
-pub certified : (r : ResolvedParts) (operations : List OperationSignature) → r.attributes.extensions ≡ []
-    → KindsOk r.attributes operations → IsDeterministic r → AreComplete r → FlowsOk r.attributes → IsCertifiedValue r operations
-certified r operations alone kinds is complete flows = record {
+-- what is complete and keeps to its flow types is well defined
+pub well_defined : (r : ResolvedParts) (operations : List OperationSignature) → r.attributes.extensions ≡ []
+    → KindsOk r.attributes operations → AreComplete r → FlowsOk r.attributes → HasWellDefinedAttributes r operations
+well_defined r operations alone kinds complete flows = record {
   alone = alone;
   kinds = kinds;
-  grammar = is.grammar;
-  start = is.start;
-  deterministic = is.deterministic;
   attributes = record {
     productions = λ number production there. record {
       top = complete.top number production there;
@@ -72,14 +71,24 @@ certified r operations alone kinds is complete flows = record {
       acyclic = flows.acyclic number production there;
     };
     forward_needs = flows.forward_needs;
-    start_inherits = started.start_inherits;
+    start_inherits = complete.start_inherits;
     forwards = tt;
     forward_equations = tt;
   };
 }
-  where
-    started : CompleteOk r.attributes (Some is.grammar.start) None
-    started = subst (λ (o : Option GrammarView). CompleteOk r.attributes (option_map (λ (g : GrammarView). g.start) o) None) is.start complete
+
+-- all tests together
+pub certified : (r : ResolvedParts) (operations : List OperationSignature) → r.attributes.extensions ≡ []
+    → KindsOk r.attributes operations → IsDeterministic r → AreComplete r → FlowsOk r.attributes → IsCertifiedValue r operations
+certified r operations alone kinds is complete flows = record {
+  alone = alone;
+  kinds = kinds;
+  grammar = is.grammar;
+  start = is.start;
+  deterministic = is.deterministic;
+  attributes = subst (λ (o : Option GrammarView). AreWellDefinedAttributes r.attributes (option_map (λ (g : GrammarView). g.start) o) None)
+      is.start (well_defined r operations alone kinds complete flows).attributes;
+}
 
 -- what is kept of it, with copies
 pub kept_of : (r copied : ResolvedParts) (operations kept : List OperationSignature) (parts : HostParts) → copied ≡ r → kept ≡ operations

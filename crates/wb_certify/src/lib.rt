@@ -7,8 +7,10 @@ mod certified;
 mod host;
 mod refusal;
 mod value;
+mod well_defined;
 
 pub use certified::CertifiedHost;
 pub use host::certify_host;
 pub use refusal::CertifyRefusal;
 pub use value::certify_resolved;
+pub use well_defined::check_well_defined;

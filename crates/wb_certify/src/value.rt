@@ -152,7 +152,7 @@ fn check_attributes<M: Meaning>(
 }
 
 // Whether attributes are complete and keep to their flow types.
-fn attribute_refusal(alloc: Global, resolved: &Resolved) -> Result<(), AttributeRefusal>
+pub(crate) fn attribute_refusal(alloc: Global, resolved: &Resolved) -> Result<(), AttributeRefusal>
     ensures ok { IfOk result (λ done. AreComplete resolved.now × FlowsOk resolved.now.attributes) }
     ensures refused { IfErr result (λ refusal. IsAttributeRefusal resolved.now (start_of resolved.now) refusal) }
 {

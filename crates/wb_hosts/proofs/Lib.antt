@@ -1,3 +1,4 @@
 pub mod OneAnswer
 mod Shown
+mod UnresolvedLemmas
 mod ValueLemmas

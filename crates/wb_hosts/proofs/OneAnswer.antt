@@ -46,8 +46,10 @@ use Rattle.wb_types.specs.Rules.{KindsOk}
 use Rattle.wb_types.specs.declared.refusal.TypeRefusal.{TypeRefusal}
 use Rattle.wb_types.specs.declared.refusal.TypeRefusal.TheVariants as k
 use Rattle.wb_certify.specs.Refusals.{IsTypeMemory, IsAttributeMemory}
+use Rattle.wb_certify.specs.WellDefined.{HasWellDefinedAttributes, IsWellDefinedRefusal}
 use Rattle.wb_hosts.specs.Contents.{StandsFor, IsHostText, IsBadText, HasBadNames, IsOfKinds, IsRefusedValue}
-use Rattle.wb_hosts.specs.OneAnswer.{HaveOneAnswer}
+use Rattle.wb_hosts.specs.OneAnswer.{HaveOneAnswer, HaveOneWellDefined}
+use Rattle.wb_hosts.specs.WellDefined.{IsWellDefinedText, IsIllDefined}
 
 -- nothing is no something, and a host no extension
 none_some : {X : Type 0} {x : X} → None ≡ Some x → ⊥
@@ -229,5 +231,63 @@ module _ (operations : List OperationSignature) (contents : List ℕ) where
           let ok = kinds_before second.value operations other second.refusal second.reason second.meets second.shows in
           kinds_refuse value.value operations (subst (λ (z : ResolvedParts). KindsOk z.attributes operations) same ok) value.refusal
           value.reason value.meets
+    ];
+  }
+
+module _ (r : ResolvedParts) (operations : List OperationSignature) where
+  -- a value whose attributes are well defined isn't refused
+  well_defined_excludes : HasWellDefinedAttributes r operations → (shown : Refusal) (refusal : CertifyRefusal)
+      → IsWellDefinedRefusal r operations refusal → refusal_shown r refusal ≡ Some shown → ⊥
+  well_defined_excludes is shown (c.Names refusal) reason shows = absurd reason
+  well_defined_excludes is shown (c.Types refusal) reason shows = kinds_exclude r operations is.kinds refusal reason.0 reason.1
+  well_defined_excludes is shown c.NoStart reason shows = absurd reason
+  well_defined_excludes is shown (c.Determinism refusal) reason shows = absurd reason
+  well_defined_excludes is shown (c.Attributes refusal) reason shows =
+      attributes_exclude r operations (start_of r) is.attributes refusal reason.0.reason reason.1
+  well_defined_excludes is shown (c.NoMemory error) reason shows = none_some shows
+
+  -- a refusal for kinds is false where another rule fails
+  kinds_or_other : (shown : Refusal) (first second : CertifyRefusal) → IsWellDefinedRefusal r operations first → IsOfKinds first
+      → IsWellDefinedRefusal r operations second → ¬ IsOfKinds second → refusal_shown r second ≡ Some shown → ⊥
+  kinds_or_other shown (c.Types refusal) (c.Attributes other) first of_kinds second not_of_kinds shows =
+      kinds_exclude r operations second.0.kinds refusal first.0 first.1
+  kinds_or_other shown (c.Types refusal) (c.Types other) first of_kinds second not_of_kinds shows = not_of_kinds tt
+  kinds_or_other shown (c.Types refusal) (c.Names other) first of_kinds second not_of_kinds shows = absurd second
+  kinds_or_other shown (c.Types refusal) c.NoStart first of_kinds second not_of_kinds shows = absurd second
+  kinds_or_other shown (c.Types refusal) (c.Determinism other) first of_kinds second not_of_kinds shows = absurd second
+  kinds_or_other shown (c.Types refusal) (c.NoMemory error) first of_kinds second not_of_kinds shows = none_some shows
+  kinds_or_other shown (c.Names refusal) second first of_kinds reason not_of_kinds shows = absurd of_kinds
+  kinds_or_other shown c.NoStart second first of_kinds reason not_of_kinds shows = absurd of_kinds
+  kinds_or_other shown (c.Determinism refusal) second first of_kinds reason not_of_kinds shows = absurd of_kinds
+  kinds_or_other shown (c.Attributes refusal) second first of_kinds reason not_of_kinds shows = absurd of_kinds
+  kinds_or_other shown (c.NoMemory error) second first of_kinds reason not_of_kinds shows = absurd of_kinds
+
+module _ (operations : List OperationSignature) (contents : List ℕ) where
+  no_ill_defined : (r : ResolvedParts) (shown : Refusal) (Meets : CertifyRefusal → Type 0) → IsWellDefinedText operations contents r
+      → IsIllDefined operations contents Meets shown → ⊥
+  no_ill_defined r shown Meets is refused =
+      let same = one_value contents r refused.value is.stands refused.stands in
+      well_defined_excludes refused.value operations
+      (subst (λ (z : ResolvedParts). HasWellDefinedAttributes z operations) same is.well_defined) shown refused.refusal refused.reason
+      refused.shows
+
+  -- contents have one answer
+  pub one_well_defined : HaveOneWellDefined operations contents
+  one_well_defined = record {
+    one = λ r s first second. one_value contents r s first.stands second.stands;
+    no_specification = λ r shown is refused. elim refused [
+      | inl bad ↦ no_bad_text contents shown is.stands.spec is.stands.accepted bad
+      | inr (inl bad) ↦ no_bad_names contents shown r is.stands bad
+      | inr (inr value) ↦ no_ill_defined r shown IsOfKinds is value
+    ];
+    no_certification = λ r shown is refused. no_ill_defined r shown (λ refusal. ¬ IsOfKinds refusal) is refused;
+    one_sort = λ shown other first second. elim first [
+      | inl bad ↦ no_bad_text contents shown second.stands.spec second.stands.accepted bad
+      | inr (inl bad) ↦ no_bad_names contents shown second.value second.stands bad
+      | inr (inr value) ↦
+          let same = one_value contents value.value second.value value.stands second.stands in
+          let first_reason = subst (λ (z : ResolvedParts). IsWellDefinedRefusal z operations value.refusal) same value.reason in
+          kinds_or_other second.value operations other value.refusal second.refusal first_reason value.meets second.reason second.meets
+          second.shows
     ];
   }

@@ -29,6 +29,7 @@ use Rattle.wb_shown.specs.Shows.{written_reason, name_reason, of_spec, of_gramma
 use Rattle.wb_shown.specs.Shows.{inherited_reason, refusal_shown}
 use Rattle.wb_syntax.specs.SpecText.{SpecView}
 use Rattle.wb_types.specs.declared.refusal.TypeRefusal.TheVariants as k
+use Rattle.wb_certify.specs.WellDefined.{IsWellDefinedRefusal}
 use Rattle.wb_hosts.specs.Inner.Refused.{IsCertifyMemory}
 
 -- something is not nothing
@@ -130,3 +131,16 @@ value_shown r operations c.NoStart reason other is = some_none is
 value_shown r operations (c.Determinism refusal) reason other is = determinism_shown r r.grammar refusal reason.0.reason reason.1 is
 value_shown r operations (c.Attributes refusal) reason other is = attributes_shown r (start_of r) refusal reason.0.reason reason.1 is
 value_shown r operations (c.NoMemory error) reason other is = other tt
+
+-- of a value whose attributes aren't well defined
+pub ill_defined_shown : (r : ResolvedParts) (operations : List OperationSignature) (refusal : CertifyRefusal)
+    → IsWellDefinedRefusal r operations refusal → ¬ IsCertifyMemory refusal → refusal_shown r refusal ≡ None → ⊥
+ill_defined_shown r operations (c.Names refusal) reason other is = absurd reason
+ill_defined_shown r operations (c.Types (k.UnknownOperation name)) reason other is = some_none is
+ill_defined_shown r operations (c.Types (k.WrongArity at)) reason other is = some_none is
+ill_defined_shown r operations (c.Types (k.TypeMismatch at)) reason other is = some_none is
+ill_defined_shown r operations (c.Types (k.NoMemory error)) reason other is = reason.1 tt
+ill_defined_shown r operations c.NoStart reason other is = absurd reason
+ill_defined_shown r operations (c.Determinism refusal) reason other is = absurd reason
+ill_defined_shown r operations (c.Attributes refusal) reason other is = attributes_shown r (start_of r) refusal reason.0.reason reason.1 is
+ill_defined_shown r operations (c.NoMemory error) reason other is = other tt

@@ -1,6 +1,7 @@
 -- A refusal of a value is one of the contents that stand for it.
 use Rattle.std.proofs.Common.{◌≡◌, inl, inr, List, ℕ, Some, sym, subst}
 use Rattle.wb_certify.specs.Refusals.{IsValueRefusal}
+use Rattle.wb_certify.specs.WellDefined.{IsWellDefinedRefusal}
 use Rattle.wb_certify.specs.declared.refusal.CertifyRefusal.{CertifyRefusal}
 use Rattle.wb_certify.specs.declared.refusal.CertifyRefusal.TheVariants as c
 use Rattle.wb_operations.specs.Operations.{OperationSignature}
@@ -8,6 +9,7 @@ use Rattle.wb_report.specs.declared.refusal.Refusal.{Refusal}
 use Rattle.wb_resolved.specs.declared.resolved.ResolvedParts.{ResolvedParts}
 use Rattle.wb_shown.specs.Shows.{refusal_shown}
 use Rattle.wb_hosts.specs.Contents.{StandsFor, IsOfKinds, IsRefusedValue, IsHostRefusal}
+use Rattle.wb_hosts.specs.WellDefined.{IsIllDefined, IsWellDefinedTextRefusal}
 use Rattle.wb_hosts.specs.declared.refusal.HostRefusal.{HostRefusal}
 use Rattle.wb_hosts.specs.declared.refusal.HostRefusal.TheVariants as h
 use Rattle.wb_hosts.specs.Inner.Refused.{IsSort}
@@ -33,3 +35,19 @@ module _ (operations : List OperationSignature) (contents : List ℕ) (r : Resol
     value_refused (c.Determinism refusal) reason shows sort is = certification (c.Determinism refusal) reason (λ z. z) shows sort is
     value_refused (c.Attributes refusal) reason shows sort is = certification (c.Attributes refusal) reason (λ z. z) shows sort is
     value_refused (c.NoMemory error) reason shows sort is = certification (c.NoMemory error) reason (λ z. z) shows sort is
+
+    -- and one of attributes is too
+    pub ill_defined_refused : (refusal : CertifyRefusal) → IsWellDefinedRefusal r operations refusal → refusal_shown r refusal ≡ Some shown
+        → (sort : HostRefusal) → IsSort refusal shown sort → IsWellDefinedTextRefusal operations contents sort
+    ill_defined_refused (c.Types refusal) reason shows sort is =
+        subst (IsWellDefinedTextRefusal operations contents) (sym is)
+        (inr (inr (record { value = r; stands = stands; refusal = c.Types refusal; reason = reason; meets = tt; shows = shows })))
+    ill_defined_refused (c.Attributes refusal) reason shows sort is =
+        subst (IsWellDefinedTextRefusal operations contents) (sym is)
+        (record { value = r; stands = stands; refusal = c.Attributes refusal; reason = reason; meets = λ z. z; shows = shows })
+    ill_defined_refused (c.NoMemory error) reason shows sort is =
+        subst (IsWellDefinedTextRefusal operations contents) (sym is)
+        (record { value = r; stands = stands; refusal = c.NoMemory error; reason = tt; meets = λ z. z; shows = shows })
+    ill_defined_refused (c.Names refusal) reason shows sort is = absurd reason
+    ill_defined_refused c.NoStart reason shows sort is = absurd reason
+    ill_defined_refused (c.Determinism refusal) reason shows sort is = absurd reason

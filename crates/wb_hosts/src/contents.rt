@@ -5,11 +5,11 @@
 ghost use Rattle.std.specs.Prelude.{◌≡◌, IfErr, IfOk, List, ℕ};
 ghost use Rattle.wb_certify.specs.Refusals.{IsNameMemory, IsValueRefusal};
 ghost use Rattle.wb_names.specs.Resolving.{IsHostNameRefusal};
-ghost use Rattle.wb_operations.specs.Operations.{OperationSignature};
 ghost use Rattle.wb_reader.specs.OneAnswer.{IsNoMemory};
 ghost use Rattle.wb_reader.specs.Refusals.{HasCause, IsAcceptedText};
 ghost use Rattle.wb_hosts.specs.Contents.{IsHostRefusal, IsHostText, StandsFor};
 ghost use Rattle.wb_hosts.specs.Inner.Refused.{IsCertifyMemory, IsSort};
+ghost use Rattle.wb_hosts.specs.Inner.Unresolved.{IsUnresolved};
 
 use crate::HostRefusal;
 use std::alloc::Global;
@@ -44,9 +44,9 @@ pub fn host_of<M: Meaning>(
 }
 
 // The numbered value that contents stand for.
-fn value_of(alloc: Global, contents: &[u8]) -> Result<Resolved, HostRefusal>
+pub(crate) fn value_of(alloc: Global, contents: &[u8]) -> Result<Resolved, HostRefusal>
     ensures ok { IfOk result (StandsFor contents.now) }
-    ensures refused { (operations : List OperationSignature) → IfErr result (IsHostRefusal operations contents.now) }
+    ensures refused { IfErr result (IsUnresolved contents.now) }
 {
     let spec = spec_of(alloc, contents)?;
     match resolve_host(alloc, &spec) {
@@ -59,7 +59,7 @@ fn value_of(alloc: Global, contents: &[u8]) -> Result<Resolved, HostRefusal>
 // The specification that contents are.
 fn spec_of(alloc: Global, contents: &[u8]) -> Result<Spec, HostRefusal>
     ensures ok { IfOk result (IsAcceptedText contents.now) }
-    ensures refused { (operations : List OperationSignature) → IfErr result (IsHostRefusal operations contents.now) }
+    ensures refused { IfErr result (IsUnresolved contents.now) }
 {
     match read_spec(alloc, contents) {
         Ok(spec) => Ok(spec),
@@ -71,7 +71,7 @@ fn spec_of(alloc: Global, contents: &[u8]) -> Result<Spec, HostRefusal>
 // What is shown of contents that are no specification.
 fn bad_text(refusal: &SpecRefusal) -> HostRefusal
     requires { ¬ IsNoMemory refusal.now }
-    ensures { (operations : List OperationSignature) (contents : List ℕ) → HasCause contents refusal.now → IsHostRefusal operations contents result }
+    ensures { (contents : List ℕ) → HasCause contents refusal.now → IsUnresolved contents result }
 {
     match written_rule(refusal) {
         Ok(reason) => match of_spec(reason) {
@@ -86,7 +86,7 @@ fn bad_text(refusal: &SpecRefusal) -> HostRefusal
 fn bad_names(spec: &Spec, refusal: &NameRefusal) -> HostRefusal
     requires names { IsHostNameRefusal spec.now refusal.now }
     requires memory { ¬ IsNameMemory refusal.now }
-    ensures { (operations : List OperationSignature) (contents : List ℕ) → IsAcceptedText contents spec.now → IsHostRefusal operations contents result }
+    ensures { (contents : List ℕ) → IsAcceptedText contents spec.now → IsUnresolved contents result }
 {
     match name_rule(refusal) {
         Ok(reason) => match of_spec(reason) {
@@ -116,7 +116,7 @@ fn bad_value<M: Meaning>(
 }
 
 // A refusal of the sort that the rule is of.
-fn of_sort(refusal: &CertifyRefusal, shown: Refusal) -> HostRefusal
+pub(crate) fn of_sort(refusal: &CertifyRefusal, shown: Refusal) -> HostRefusal
     ensures { IsSort refusal.now shown result }
 {
     match refusal {

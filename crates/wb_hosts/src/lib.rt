@@ -1,4 +1,4 @@
-//! Which certified host are the contents of a file?
+//! Which certified host are the contents of a file, or which host whose attributes are well defined?
 //!
 //! Here reading, names and certification meet, and refusals get the names that reports show. What a certified host is stands in
 //! `wb_certify`, the lines in `wb_report`.
@@ -7,7 +7,9 @@
 mod contents;
 mod laws;
 mod refusal;
+mod well_defined;
 
 pub use contents::host_of;
-pub use laws::one_answer_law;
+pub use laws::{one_answer_law, one_well_defined_law};
 pub use refusal::HostRefusal;
+pub use well_defined::well_defined_host_of;

@@ -1,0 +1,53 @@
+//! Which host with well-defined attributes are the contents of a file? Nothing is asked of its grammar.
+
+ghost use Rattle.std.specs.Prelude.{◌≡◌, IfErr, IfOk, List, ℕ};
+ghost use Rattle.wb_certify.specs.WellDefined.{IsWellDefinedRefusal};
+ghost use Rattle.wb_hosts.specs.Contents.{StandsFor};
+ghost use Rattle.wb_hosts.specs.WellDefined.{IsWellDefinedText, IsWellDefinedTextRefusal};
+ghost use Rattle.wb_hosts.specs.Inner.Refused.{IsCertifyMemory};
+
+use crate::HostRefusal;
+use crate::contents::{of_sort, value_of};
+use std::alloc::Global;
+use wb_certify::{CertifyRefusal, check_well_defined};
+use wb_operations::{Meaning, OperationTable};
+use wb_resolved::Resolved;
+use wb_shown::shown_refusal;
+
+/// The host with well-defined attributes over a table of operations that the contents of a file are, or why they are none.
+///
+/// It may have no start, and nothing is asked of its grammar. Which of several examples of a refusal is shown is left open. No clause
+/// bounds the time.
+pub fn well_defined_host_of<M: Meaning>(
+    alloc: Global,
+    contents: &[u8],
+    operations: &OperationTable<M>,
+) -> Result<Resolved, HostRefusal>
+    ensures host { IfOk result (IsWellDefinedText operations.now.signatures contents.now) }
+    ensures refused { IfErr result (IsWellDefinedTextRefusal operations.now.signatures contents.now) }
+{
+    let resolved = value_of(alloc, contents)?;
+    match check_well_defined(alloc, &resolved, operations) {
+        Ok(()) => Ok(resolved),
+        Err(CertifyRefusal::NoMemory(error)) => Err(HostRefusal::NoMemory(error)),
+        Err(refusal) => Err(ill_defined(alloc, &resolved, operations, &refusal)),
+    }
+}
+
+// What is shown of a value whose attributes aren't well defined.
+fn ill_defined<M: Meaning>(
+    alloc: Global,
+    resolved: &Resolved,
+    operations: &OperationTable<M>,
+    refusal: &CertifyRefusal,
+) -> HostRefusal
+    requires reason { IsWellDefinedRefusal resolved.now operations.now.signatures refusal.now }
+    requires memory { ¬ IsCertifyMemory refusal.now }
+    ensures { (contents : List ℕ) → StandsFor contents resolved.now → IsWellDefinedTextRefusal operations.now.signatures contents result }
+{
+    match shown_refusal(alloc, resolved, refusal) {
+        Ok(Some(shown)) => of_sort(refusal, shown),
+        Ok(None) => unreachable!(),
+        Err(error) => HostRefusal::NoMemory(error),
+    }
+}
