@@ -4,6 +4,7 @@
 #![tactic(auto)]
 
 mod addition;
+mod forms;
 mod grammar;
 mod own_productions;
 mod withdrawn;
