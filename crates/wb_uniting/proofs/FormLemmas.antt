@@ -1,11 +1,11 @@
 -- Forms of the union, terminal by terminal.
-use Rattle.std.proofs.Common.{◌≡◌, ◌≢◌, ◌∙◌, ◌+◌, ◌<◌, ◌≤◌, ◌⊎◌, ◌++◌, ◌∷◌, [], ℕ, List, Some, length, map, slice_get, refl, sym, ap, subst}
+use Rattle.std.proofs.Common.{◌≡◌, ◌≢◌, ◌∙◌, ◌+◌, ◌<◌, ◌≤◌, ◌⊎◌, ◌++◌, ◌∷◌, [], ℕ, List, Some, length, slice_get, sym, ap, subst}
 use Rattle.std.proofs.Common.{inl, inr, arith, length-append}
 use Rattle.std.specs.Prelude.{Contains}
-use Rattle.std.proofs.lemmas.Bool.{cases_eq, cases_lt}
+use Rattle.std.proofs.lemmas.Bool.{cases_lt}
 use Rattle.std.proofs.lemmas.Option.{same_Some, slice_get_within}
 use Rattle.wb_lemmas.proofs.Members.{push_contains, push_contains_last}
-use Rattle.wb_lemmas.proofs.Places.{append_seam, at_push, push_before}
+use Rattle.wb_lemmas.proofs.Places.{append_seam, push_before}
 use Rattle.wb_languages.specs.declared.form.Form.{Form}
 use Rattle.wb_regex.specs.Tree.{Tree}
 use Rattle.wb_uniting.specs.declared.addition.Lent.{Lent}
@@ -76,7 +76,8 @@ module _ (lent : Lent) where
   -- a terminal with one form
   pub one_more : (n : ℕ) (forms : List Form) (expressions : List Tree) (form : Form) (tree : Tree) →
       AreFormsBelow lent n forms expressions → IsFormIn lent form → form.terminal ≡ n → Writes lent tree form →
-      ((f : Form) → IsFormIn lent f → f.terminal ≡ n → f ≡ form) → AreFormsBelow lent (n + 1) (forms ++ form ∷ []) (expressions ++ tree ∷ [])
+      ((f : Form) → IsFormIn lent f → f.terminal ≡ n → f ≡ form) →
+      AreFormsBelow lent (n + 1) (forms ++ form ∷ []) (expressions ++ tree ∷ [])
   one_more n forms expressions form tree b is e writes only = record {
     sound = sound_push (n + 1) forms expressions form tree (sound_wider n (n + 1) forms expressions (omega arith) b.sound) is
         (omega (arith, e)) (fresh_form n forms expressions form b.sound e) writes;

@@ -1,27 +1,23 @@
 -- The union's grammar as its productions are added one after another.
-use Rattle.std.proofs.Common.{◌≡◌, ◌∙◌, ◌+◌, ◌-◌, ◌<◌, ◌≤◌, ℕ, zero, suc, List, [], ◌∷◌, ◌++◌, take, length, map, sym, ap, get_or, arith, subst}
-use Rattle.std.proofs.Common.{IfSome, slice_get, refl, drop, Option, Some, None, length-append, inl, inr}
+use Rattle.std.proofs.Common.{◌≡◌, ◌∙◌, ◌+◌, ◌-◌, ◌<◌, ◌≤◌, ℕ, zero, suc, List, [], ◌∷◌, ◌++◌, take, length, map, sym, ap, get_or}
+use Rattle.std.proofs.Common.{IfSome, slice_get, refl, Option, Some, None, inl, inr, arith, subst}
 use Rattle.std.proofs.lemmas.Bool.{cases_lt}
 use Rattle.std.proofs.lemmas.List.Elements.{All-cons, All-head, All-nil, All-tail}
 use Rattle.std.specs.Prelude.{All}
-use Rattle.std.proofs.lemmas.List.{map-append, take_more, length-map}
-use Rattle.std.proofs.lemmas.Option.{get_or_from_slice_get, slice_get-get_or, slice_get_within}
+use Rattle.std.proofs.lemmas.List.{map-append, take_more}
+use Rattle.std.proofs.lemmas.Option.{get_or_from_slice_get, slice_get_within}
 use Rattle.wb_base.specs.declared.symbol.Symbol.{Symbol}
 use Rattle.wb_base.specs.declared.symbol.Symbol.TheVariants.{Nonterminal, Terminal}
 use Rattle.wb_base.specs.Grammar.{GrammarView, IsSymbolBelow, Production}
-use Rattle.wb_lemmas.proofs.Elements.{all_at}
 use Rattle.wb_lemmas.proofs.Parts.{append_assoc}
 use Rattle.wb_lemmas.proofs.Places.{at_within}
 use Rattle.wb_unions.specs.Blocks.{lift}
 use Rattle.wb_unions.specs.Renamings.{renamed}
-use Rattle.wb_united.specs.Pieces.{Extends}
 use Rattle.wb_united.specs.Places.{total_of}
 use Rattle.wb_united.specs.Unions.{added_nonterminals, added_terminals, lifted_by, own_productions, productions_after, renamed_production}
 use Rattle.wb_united.proofs.PlaceLemmas.{lift_below, lift_past}
 use Rattle.wb_united.proofs.ProductionLemmas.{drop_at}
-use Rattle.wb_uniting.specs.declared.addition.Addition.{Addition}
-use Rattle.wb_uniting.specs.Additions.{grammar_in}
-use Rattle.wb_uniting.specs.Inner.Totals.{AreAdded, AreBefore, AreTotals}
+use Rattle.wb_uniting.specs.Inner.Totals.{AreAdded, AreTotals}
 
 -- a list that was mapped so far, with one element more
 pub map_more : {X Y : Type 0} (f : X → Y) (xs : List X) (i : ℕ) (d : X) → i < length xs →
@@ -45,8 +41,8 @@ total_part f g (y ∷ xs) (suc i) x at = let rest = total_part f g xs i x at in 
 -- the productions of one extension more
 pub productions_push : (host : GrammarView) (t a : ℕ) (xs : List GrammarView) (x : GrammarView) →
     productions_after host t a (xs ++ x ∷ []) ≡ productions_after host t a xs ++
-    map (renamed_production (lifted_by host (t + total_of (map (added_terminals host) xs)) (a + total_of (map (added_nonterminals host) xs)) 0))
-    (own_productions host x)
+    map (renamed_production (lifted_by host (t + total_of (map (added_terminals host) xs))
+    (a + total_of (map (added_nonterminals host) xs)) 0)) (own_productions host x)
 productions_push host t a [] x =
     let e : t ≡ t + 0 = omega arith in
     let f : a ≡ a + 0 = omega arith in
@@ -84,7 +80,8 @@ copied_more old made after g p left right within is_left is_right was now =
     let same : (left, right) ≡ q = λ z. (l z, r z) in
     now ∙ ap (λ (m : GrammarView). record m { productions = m.productions ++ (left, right) ∷ [] }) was
     ∙ ap (λ ps. record old { productions = ps })
-    (ap (λ z. take p g.productions ++ z ∷ []) same ∙ ap (λ z. take p g.productions ++ z ∷ []) (sym (get_or_from_slice_get g.productions p q q at))
+    (ap (λ z. take p g.productions ++ z ∷ []) same
+    ∙ ap (λ z. take p g.productions ++ z ∷ []) (sym (get_or_from_slice_get g.productions p q q at))
     ∙ sym (take_more g.productions p q within))
 
 -- an extension's own productions that were added, with one more
@@ -183,7 +180,8 @@ lifted_below host t a terminals nonterminals total_t total_a fits_t fits_a [] al
 lifted_below host t a terminals nonterminals total_t total_a fits_t fits_a (x ∷ xs) all =
     All-cons (IsSymbolBelow total_t total_a) (renamed (lifted_by host t a 0) x) (map (renamed (lifted_by host t a 0)) xs)
     (one x (All-head (IsSymbolBelow terminals nonterminals) x xs all))
-    (lifted_below host t a terminals nonterminals total_t total_a fits_t fits_a xs (All-tail (IsSymbolBelow terminals nonterminals) x xs all))
+    (lifted_below host t a terminals nonterminals total_t total_a fits_t fits_a xs
+    (All-tail (IsSymbolBelow terminals nonterminals) x xs all))
   where
     one : (y : Symbol) → IsSymbolBelow terminals nonterminals y → IsSymbolBelow total_t total_a (renamed (lifted_by host t a 0) y)
     one (Terminal u) less = lift_within host.terminals t terminals total_t u less fits_t

@@ -1,15 +1,12 @@
 -- Which forms a terminal of the union has, and what their expressions match.
-use Rattle.std.proofs.Common.{◌≡◌, ◌≢◌, ◌∙◌, ◌+◌, ◌<◌, ◌≤◌, ◌⊎◌, ◌++◌, [], ℕ, List, Some, length, map, slice_get, refl, sym, ap, subst}
+use Rattle.std.proofs.Common.{◌≡◌, ◌∙◌, ◌<◌, ◌≤◌, ◌⊎◌, [], ℕ, List, Some, map, slice_get, refl, sym, ap, subst}
 use Rattle.std.proofs.Common.{inl, inr, arith}
-use Rattle.std.specs.Prelude.{◌↔◌, Contains}
-use Rattle.std.proofs.lemmas.Bool.{cases_eq, cases_lt}
-use Rattle.std.proofs.lemmas.Option.{same_Some}
+use Rattle.std.proofs.lemmas.Bool.{cases_eq}
 use Rattle.wb_automata.specs.Automata.{IsMatch}
-use Rattle.wb_base.specs.Grammar.{GrammarView}
 use Rattle.wb_lemmas.proofs.Places.{at_once}
 use Rattle.wb_languages.specs.declared.form.Form.{Form}
 use Rattle.wb_languages.specs.Languages.{bare}
-use Rattle.wb_regex.specs.Matches.{Matches, ShareText}
+use Rattle.wb_regex.specs.Matches.{Matches}
 use Rattle.wb_regex.specs.Tree.{Tree}
 use Rattle.wb_resolved.specs.declared.terminal.Terminal.{Terminal}
 use Rattle.wb_unions.specs.Worlds as world
@@ -20,7 +17,7 @@ use Rattle.wb_united.specs.Places.{count_before}
 use Rattle.wb_united.specs.UnitedWorlds.{terminal_sizes}
 use Rattle.wb_united_forms.specs.Written.{IsOwnRow, WrittenPiece, pieces_of}
 use Rattle.wb_united_forms.specs.Apart.{IsMarkerRow}
-use Rattle.wb_united_forms.specs.Forms.{IsForm, IsMarkerOf, IsOfOther, IsWithdrawn, kept, of_extension, of_host, prefix_of, prefixed}
+use Rattle.wb_united_forms.specs.Forms.{IsMarkerOf, IsWithdrawn, kept, of_extension, of_host, prefix_of, prefixed}
 use Rattle.wb_united_forms.specs.Languages.{IsTextOf}
 use Rattle.wb_united_forms.specs.Rows as reads
 use Rattle.wb_united_forms.specs.Rows.{Reads, host_row, piece_row}
@@ -30,9 +27,8 @@ use Rattle.wb_united_forms.proofs.RowLemmas.{host_below, other_not_own, row_is, 
 use Rattle.wb_uniting.specs.declared.addition.Addition.{Addition}
 use Rattle.wb_uniting.specs.declared.addition.Lent.{Lent}
 use Rattle.wb_uniting.specs.Inner.FormsMade.{IsFormIn, Writes}
-use Rattle.wb_uniting.specs.Inner.Sharing.{SharesWithOther}
-use Rattle.wb_uniting.specs.Lents.{IsUnitable, all_in, host_in, own_in, written_in}
-use Rattle.wb_regex.specs.Prefixed.{IsPrefixed, IsPrefixedText}
+use Rattle.wb_uniting.specs.Lents.{IsUnitable, all_in, own_in, written_in}
+use Rattle.wb_regex.specs.Prefixed.{IsPrefixed}
 
 -- the expression of a row
 abbrev pub pattern_of : Terminal → Tree
@@ -74,8 +70,8 @@ module _ (lent : Lent) (ok : IsUnitable lent) where
   one_extension k l x y at there t u mine other same = elim (cases_eq k l) [
     | inl e ↦ e
     | inr differ ↦ absurd (other_not_own lent.grammar.now lent.extensible.now (own_in lent) (all_in lent) ok.certified.are_pieces k l x y at
-        there differ t u mine (sym (row_is lent.grammar.now lent.extensible.now (own_in lent) (all_in lent) ok.certified.are_pieces l y there
-        u other.1) ∙ (same ∙ row_is lent.grammar.now lent.extensible.now (own_in lent) (all_in lent) ok.certified.are_pieces k x at t
+        there differ t u mine (sym (row_is lent.grammar.now lent.extensible.now (own_in lent) (all_in lent) ok.certified.are_pieces l y
+        there u other.1) ∙ (same ∙ row_is lent.grammar.now lent.extensible.now (own_in lent) (all_in lent) ok.certified.are_pieces k x at t
         mine.1)))
   ]
 
@@ -102,8 +98,8 @@ module _ (lent : Lent) (ok : IsUnitable lent) where
       let other = own_marker l y marker.listed marker.terminal marker.marker in
       let same = sym marker.is ∙ n_is in
       let k_is = one_extension k l x y at marker.listed t marker.terminal mine other same in
-      let y_is = one_piece lent.grammar.now lent.extensible.now (own_in lent) (all_in lent) ok.certified ok.apart [] k l x y at marker.listed
-      k_is in (
+      let y_is = one_piece lent.grammar.now lent.extensible.now (own_in lent) (all_in lent) ok.certified ok.apart [] k l x y at
+      marker.listed k_is in (
         k_is,
         y_is,
         one_terminal k x at t marker.terminal mine.1
@@ -161,7 +157,8 @@ module _ (lent : Lent) (ok : IsUnitable lent) where
       let far = past_host k t (own_marker k x at t mark).0 in absurd (omega (arith, far, is, low))
   marker_form k x at t (a, mark) form (of_extension l y u there other n_is e) is =
       let k_is = one_extension k l x y at there t u (own_marker k x at t (a, mark)) (other.own, other.within) (sym n_is ∙ is) in
-      let y_is = one_piece lent.grammar.now lent.extensible.now (own_in lent) (all_in lent) ok.certified ok.apart [] k l x y at there k_is in
+      let y_is = one_piece lent.grammar.now lent.extensible.now (own_in lent) (all_in lent) ok.certified ok.apart [] k l x y at there
+      k_is in
       let t_is = one_terminal k x at t u (own_marker k x at t (a, mark)).1
       (subst (λ (z : WrittenPiece). u < z.piece.grammar.terminals) y_is other.within) (ap (λ z. number_in z u) k_is ∙ (sym n_is ∙ is)) in
       let there' : x.piece.mark t ≡ world.bare = subst (λ z. x.piece.mark z ≡ world.bare) t_is
@@ -203,8 +200,8 @@ module _ (lent : Lent) (ok : IsUnitable lent) where
     there_reads : (t : ℕ) (row : Terminal) (text : List ℕ) → t < x.grammar.now.terminals → slice_get x.terminals.now t ≡ Some row →
         ReadsIn (number_in k t) text → Matches row.pattern text
     there_reads t row text less row_at r = at_match x.terminals.now t row text row_at
-        (reads_piece lent.grammar.now lent.extensible.now (own_in lent) (all_in lent) ok.certified.are_pieces ok.apart k (written_in x) listed
-        t text (subst (λ z. ReadsIn z text)
+        (reads_piece lent.grammar.now lent.extensible.now (own_in lent) (all_in lent) ok.certified.are_pieces ok.apart k (written_in x)
+        listed t text (subst (λ z. ReadsIn z text)
         (row_is lent.grammar.now lent.extensible.now (own_in lent) (all_in lent) ok.certified.are_pieces k (written_in x) listed t less) r))
 
     -- its expression writes its bare form

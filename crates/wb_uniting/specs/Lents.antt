@@ -1,5 +1,5 @@
 -- A host with extensions as they are lent, as what unions are made of.
-use Rattle.std.specs.Prelude.{◌≡◌, ◌≤◌, ℕ, Bool, true, false, List, Option, Some, None, map, slice_get, length}
+use Rattle.std.specs.Prelude.{Bool, true, false, List, Option, Some, None, map, slice_get}
 use Rattle.wb_base.specs.Grammar.{GrammarView}
 use Rattle.wb_contexts.specs.Considered.{LexiconView}
 use Rattle.wb_resolved.specs.declared.terminal.Preference.{Preference}
