@@ -1,9 +1,8 @@
 -- How a certified extension is written beside its host: no clash at its prefixes and envelopes, and markers that are ordered.
-use Rattle.std.proofs.Common.{◌≡◌, ◌≢◌, ◌≤◌, ◌<◌, ◌+◌, ◌-◌, ◌∷◌, ◌⊎◌, inl, inr, [], ℕ, zero, suc, Bool, true, false, List, Option, Some, None}
-use Rattle.std.proofs.Common.{length, map, slice_get, ap, refl, sym, subst, ◌∙◌, arith}
+use Rattle.std.proofs.Common.{◌≡◌, inl, inr, [], ℕ, zero, suc, Bool, true, false, List, Option, Some, None}
+use Rattle.std.proofs.Common.{length, slice_get, ap, refl, sym, subst, ◌∙◌, arith}
 use Rattle.std.specs.Prelude.{slice_index_or}
 use Rattle.std.proofs.lemmas.Option.{same_Some}
-use Rattle.wb_automata.specs.Automata.{IsMatch}
 use Rattle.wb_base.specs.declared.symbol.Symbol.{Symbol}
 use Rattle.wb_base.specs.Grammar.{GrammarView}
 use Rattle.wb_base.specs.Identifiers.{IsName}
@@ -15,10 +14,9 @@ use Rattle.wb_extensions.specs.declared.numbers.Numbers.{Numbers}
 use Rattle.wb_extensions.specs.Images.{is_marker_row, is_marking}
 use Rattle.wb_extensions.specs.Numbers.{production_up, up_by}
 use Rattle.wb_grammars.specs.declared.item.Item.{Item}
-use Rattle.wb_grammars.specs.Items.{IsKernelItem, IsViablePrefix}
+use Rattle.wb_grammars.specs.Items.{IsKernelItem}
 use Rattle.wb_lemmas.proofs.Elements.{all_at}
 use Rattle.wb_lemmas.proofs.Places.{default_at}
-use Rattle.wb_lexical.specs.Clash.{AreOrdered}
 use Rattle.wb_marking.specs.Holes.{with_holes_of}
 use Rattle.wb_marks.specs.Clashes.{HasNoMarkerClash, IsRival}
 use Rattle.wb_names.specs.Resolving.{ResolvesExtension}
@@ -32,19 +30,24 @@ use Rattle.wb_syntax.specs.SpecText.{SpecView}
 use Rattle.wb_unions.specs.Numbered.{HostKernel, IsNewHostKernel}
 use Rattle.wb_unions.specs.Renamings.{Renaming, renamed_item}
 use Rattle.wb_unions.specs.Worlds.{bare, on}
-use Rattle.wb_united.specs.Bridges.{bridge_in_list, mark_by, piece_of}
+use Rattle.wb_united.specs.Bridges.{bridge_in_list, mark_by}
 use Rattle.wb_united.specs.Numberings.{up_of}
+use Rattle.wb_united_forms.specs.Envelopes as forms
 use Rattle.wb_united_forms.specs.Apart.{AreMarkersOrdered, HasNoNewClash, IsMarkerRow, IsPieceApart, IsRivalRow}
-use Rattle.wb_united_forms.specs.Written.{IsLayoutRow, WrittenPiece}
+use Rattle.wb_joined.specs.Written.{written_with}
 use Rattle.wb_joined.proofs.WrittenLemmas.{from_map, has_rows, no_colon, pattern_of, written_beside}
 use Rattle.wb_joined.proofs.WrittenRows.{host_owner}
 
--- an extension as it is written
-abbrev pub written_with : ResolvedParts → GrammarView → WrittenPiece
-written_with r g = record {
-  piece = piece_of g (λ t. is_marker_row (slice_get r.terminals t));
-  name = slice_index_or r.attributes.extensions 0 [];
-  lexicon = lexicon_of r g;
+-- a clash in an envelope in the words of unions is one in those of the test
+clash_there : (g : GrammarView) (Kernel : Item → Type 0) (lexicon : LexiconView) (left right : ℕ) (text : List ℕ) →
+    forms.IsEnvelopeClash g Kernel lexicon left right text → IsEnvelopeClash g Kernel lexicon left right text
+clash_there g Kernel lexicon left right text c = record {
+  different = c.different;
+  left_considered = c.left_considered;
+  right_considered = c.right_considered;
+  left_matches = c.left_matches;
+  right_matches = c.right_matches;
+  unordered = c.unordered;
 }
 
 -- by the same numbers of productions kernels are new alike
@@ -105,9 +108,11 @@ module _ (host r : ResolvedParts) (spec : SpecView) (names : ResolvesExtension h
   rival_row : (own rival : Terminal) (t : ℕ) → own.owner ≡ 1 → slice_get r.terminals t ≡ Some rival →
       IsRivalRow h host.extensible (lexicon_of host h) (written_with r g) t → IsRival own rival
   rival_row own rival t mine at (inl low) =
-      inl (host_owner host r spec names host_whole whole h g host_start start alone t rival at (λ is. let a = is.0 in omega (arith, a, low)))
+      inl (host_owner host r spec names host_whole whole h g host_start start alone t rival at (λ is.
+      let a = is.0 in omega (arith, a, low)))
   rival_row own rival t mine at (inr (inl (far, under))) =
-      inl (host_owner host r spec names host_whole whole h g host_start start alone t rival at (λ is. let a = is.1 in omega (arith, a, far)))
+      inl (host_owner host r spec names host_whole whole h g host_start start alone t rival at (λ is.
+      let a = is.1 in omega (arith, a, far)))
   rival_row own rival t mine at (inr (inr marker)) =
       let (row, there, is) = marker_row t marker in
       let same = same_Some row rival (sym there ∙ at) in
@@ -139,7 +144,8 @@ module _ (host r : ResolvedParts) (spec : SpecView) (names : ResolvesExtension h
   -- the name has no colon
   name_is : IsName (slice_index_or r.attributes.extensions 0 [])
   name_is =
-      let first : slice_get r.attributes.extensions 0 ≡ Some spec.name = ap (λ (xs : List (List ℕ)). slice_get xs 0) names.value.extensions in
+      let first : slice_get r.attributes.extensions 0 ≡ Some spec.name =
+      ap (λ (xs : List (List ℕ)). slice_get xs 0) names.value.extensions in
       subst IsName (sym (default_at r.attributes.extensions 0 [] spec.name first))
       (all_at IsName r.attributes.extensions 0 spec.name whole.attributes.named.extensions first)
 
@@ -154,7 +160,8 @@ module _ (host r : ResolvedParts) (spec : SpecView) (names : ResolvesExtension h
       new = new_same (with_holes_of h host.extensible) (with_holes_of g host.extensible) (up_by m) (up_of h g) agree prefix new;
       clash = subst (λ K. IsEnvelopeClash (with_holes_of h host.extensible) K (record (lexicon_of r g) { scanned = h.terminals }) left right
           text) (sym (kernels_same (with_holes_of h host.extensible) (with_holes_of g host.extensible) (up_by m) (up_of h g) agree prefix))
-          clash;
+          (clash_there (with_holes_of h host.extensible) (HostKernel (with_holes_of g host.extensible) (up_of h g) prefix)
+          (record (lexicon_of r g) { scanned = h.terminals }) left right text clash);
     }
       where
         there : HasNoEnvelopeClash (with_holes_of h host.extensible) (with_holes_of g host.extensible) m

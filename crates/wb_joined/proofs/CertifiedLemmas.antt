@@ -116,7 +116,7 @@ module _ (host : ResolvedParts) (h : GrammarView) (operations : List OperationSi
       (all_pieces P gives rest (All-tail Each e rest all))
 
   module _ (extensions : List Extended) (apart : AreCertifiedApart host h operations extensions) where
-    host_is : IsDeterministicHost host h
+    pub host_is : IsDeterministicHost host h
     host_is =
         subst (IsDeterministicHost host)
         (same_Some apart.host_certified.grammar h (sym apart.host_certified.start ∙ apart.host_start)) apart.host_certified.deterministic

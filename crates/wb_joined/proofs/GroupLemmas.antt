@@ -1,5 +1,5 @@
 -- Rows that don't lead: where those that don't are one stretch, they follow in their order.
-use Rattle.std.proofs.Common.{◌≡◌, ◌≤◌, ◌<◌, ◌+◌, ◌∷◌, [], ℕ, zero, suc, List, Some, length, slice_get, ap, refl, arith}
+use Rattle.std.proofs.Common.{◌≡◌, ◌≤◌, ◌<◌, ◌+◌, ◌∷◌, ℕ, zero, suc, List, Some, length, slice_get, ap, refl, arith}
 use Rattle.wb_lemmas.proofs.Places.{nothing_at}
 use Rattle.wb_numbering.specs.Sources.{Splits, follows, leads, nothing}
 

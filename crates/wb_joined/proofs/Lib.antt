@@ -7,3 +7,9 @@ pub mod OwnLemmas
 pub mod JoinedLemmas
 pub mod NumberLemmas
 pub mod CertifiedLemmas
+pub mod GroupLemmas
+pub mod WrittenRows
+pub mod WrittenPreferences
+pub mod WrittenLemmas
+pub mod ApartLemmas
+pub mod WrittenApart

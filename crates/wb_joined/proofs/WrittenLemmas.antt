@@ -1,7 +1,7 @@
 -- What is scanned of a host, and of a host with an extension: rows, markers and names.
-use Rattle.std.proofs.Common.{◌≡◌, ◌≢◌, ◌≤◌, ◌<◌, ◌+◌, ◌-◌, ◌∷◌, ◌⊎◌, inl, inr, [], ℕ, zero, suc, Bool, true, false, List, Option, Some, None}
+use Rattle.std.proofs.Common.{◌≡◌, ◌≢◌, ◌≤◌, ◌<◌, ◌∷◌, inl, inr, [], ℕ, zero, suc, Bool, true, false, List, Some}
 use Rattle.std.proofs.Common.{length, map, slice_get, ap, refl, sym, subst, ◌∙◌, arith}
-use Rattle.std.specs.Prelude.{All, Contains, ◌↔◌, slice_index_or}
+use Rattle.std.specs.Prelude.{All, Contains}
 use Rattle.std.specs.List.{list_all}
 use Rattle.std.proofs.lemmas.List.Elements.{All-cons, All-nil}
 use Rattle.std.proofs.lemmas.Bool.{cases_lt}
@@ -10,7 +10,6 @@ use Rattle.std.proofs.lemmas.Option.{same_Some, slice_get_within}
 use Rattle.wb_automata.specs.Automata.{IsMatch}
 use Rattle.wb_base.specs.Grammar.{GrammarView}
 use Rattle.wb_base.specs.Identifiers.{IsIdentifier, IsName, is_letter, is_name_byte}
-use Rattle.wb_contexts.specs.Considered.{LexiconView}
 use Rattle.wb_determinism.specs.Lexicons.{is_layout, lexicon_of}
 use Rattle.wb_graph.specs.Graphs.{IsEdgeBelow}
 use Rattle.wb_lemmas.proofs.Elements.{all_at, all_from_contained}
@@ -21,7 +20,6 @@ use Rattle.wb_names.specs.Resolving.{ResolvesExtension}
 use Rattle.wb_numbering.proofs.RowLemmas.{contains_map}
 use Rattle.wb_regex.specs.Tree.{Tree}
 use Rattle.wb_resolved.specs.declared.resolved.ResolvedParts.{ResolvedParts}
-use Rattle.wb_resolved.specs.declared.terminal.Preference.{Preference}
 use Rattle.wb_resolved.specs.declared.terminal.Terminal.{Terminal}
 use Rattle.wb_resolved.specs.declared.terminal.TerminalKind.{TerminalKind}
 use Rattle.wb_resolved.specs.declared.terminal.TerminalKind.TheVariants.{Plain, Ignore, Marking}
@@ -31,11 +29,11 @@ use Rattle.wb_syntax.specs.SpecText.{SpecView}
 use Rattle.wb_termset.specs.Sets.{IsMember}
 use Rattle.wb_unions.specs.Worlds.{Mark}
 use Rattle.wb_united_forms.specs.Apart.{colon}
-use Rattle.wb_united_forms.specs.Written.{HasRows, IsLayoutRow, IsWrittenBeside, WrittenPiece}
+use Rattle.wb_united_forms.specs.Written.{HasRows, IsLayoutRow, IsWrittenBeside}
 use Rattle.wb_joined.proofs.InRange.{grammar_of}
 use Rattle.wb_joined.proofs.RowLemmas.{map_at}
-use Rattle.wb_joined.proofs.WrittenPreferences.{IsMovedPair, pair_of, preferences_are, preferred}
-use Rattle.wb_joined.proofs.WrittenRows.{RowUp, row_up, rows_len, up, up_past}
+use Rattle.wb_joined.proofs.WrittenPreferences.{pair_of, preferences_are, preferred}
+use Rattle.wb_joined.proofs.WrittenRows.{row_up, rows_len, up, up_past}
 
 -- the expression of a row
 abbrev pub pattern_of : Terminal → Tree
@@ -103,15 +101,18 @@ module _ (r : ResolvedParts) (g : GrammarView) (whole : IsResolved r) (start : r
   has_rows = record {
     scanned = refl;
     no_fewer = (let least = of_grammar.terminals_len in let long = length-map r.terminals pattern_of in omega (arith, least, long));
-    layout = λ t. (λ (is : IsMember (map layout_of r.terminals) t). layout_row t is,
-        λ (is : IsLayoutRow g.terminals (lexicon_of r g) t). row_layout t is);
+    layout = λ t. (
+      λ (is : IsMember (map layout_of r.terminals) t). layout_row t is,
+      λ (is : IsLayoutRow g.terminals (lexicon_of r g) t). row_layout t is,
+    );
     within = all_from_contained (IsEdgeBelow (length (map pattern_of r.terminals))) (map pair_of r.preferences) below;
   }
     where
       below : (p : ℕ × ℕ) → Contains (map pair_of r.preferences) p → IsEdgeBelow (length (map pattern_of r.terminals)) p
       below p has =
           let (q, listed, same) = contains_map pair_of r.preferences p has in
-          let named = (let (j, at) = place_of r.preferences q listed in all_at (IsNamedPreference r) r.preferences j q whole.preferences at) in
+          let named = (let (j, at) = place_of r.preferences q listed in
+          all_at (IsNamedPreference r) r.preferences j q whole.preferences at) in
           let a = slice_get_within r.terminals q.first named.first.terminal named.first.is in
           let b = slice_get_within r.terminals q.second named.second.terminal named.second.is in
           let long = length-map r.terminals pattern_of in
@@ -158,7 +159,8 @@ module _ (host r : ResolvedParts) (spec : SpecView) (names : ResolvesExtension h
       IsMatch (map pattern_of r.terminals) (up host r spec names host_whole whole h g host_start start alone t) text →
       IsMatch (map pattern_of host.terminals) t text
   match_down t text m =
-      let (row, at, is) = from_map pattern_of r.terminals (up host r spec names host_whole whole h g host_start start alone t) m.tree m.at in
+      let (row, at, is) =
+      from_map pattern_of r.terminals (up host r spec names host_whole whole h g host_start start alone t) m.tree m.at in
       let less = within t (slice_get_within r.terminals (up host r spec names host_whole whole h g host_start start alone t) row at) in
       let (was, there) = at_within host.terminals t less in
       let y = row_up host r spec names host_whole whole h g host_start start alone t was there in
@@ -187,9 +189,11 @@ module _ (host r : ResolvedParts) (spec : SpecView) (names : ResolvesExtension h
         (let long = rows_len host r spec names host_whole whole h g host_start start alone in
         let a = length-map r.terminals pattern_of in
         let b = length-map host.terminals pattern_of in omega (arith, long, a, b));
-    matches = λ t text. (λ (m : IsMatch (map pattern_of host.terminals) t text). match_up t text m,
-        λ (m : IsMatch (map pattern_of r.terminals) (up host r spec names host_whole whole h g host_start start alone t) text).
-        match_down t text m);
+    matches = λ t text. (
+      λ (m : IsMatch (map pattern_of host.terminals) t text). match_up t text m,
+      λ (m : IsMatch (map pattern_of r.terminals) (up host r spec names host_whole whole h g host_start start alone t) text).
+          match_down t text m,
+    );
     preferred = preferred host r spec names host_whole whole h g host_start start alone;
     preferences = λ t u has. elim (preferences_are host r spec names host_whole whole h g host_start start alone t u has) [
       | inl p ↦ inl (record { first = p.first; second = p.second; listed = p.listed; first_is = p.first_is; second_is = p.second_is })

@@ -1,9 +1,9 @@
 -- With an extension the host's preferences stay, and each other one names a terminal of the extension.
-use Rattle.std.proofs.Common.{◌≡◌, ◌≢◌, ◌≤◌, ◌<◌, ◌∷◌, ◌⊎◌, inl, inr, [], ℕ, List, Some, Contains, map, slice_get, ap, refl, sym, subst}
+use Rattle.std.proofs.Common.{◌≡◌, ◌≤◌, ◌<◌, ◌⊎◌, inl, inr, [], ℕ, List, Some, Contains, map, ap, refl, sym, subst}
 use Rattle.std.proofs.Common.{◌∙◌, arith}
 use Rattle.std.proofs.lemmas.Bool.{cases_lt}
 use Rattle.std.proofs.lemmas.Option.{same_Some}
-use Rattle.wb_lemmas.proofs.Members.{contains_at, contains_first, place_of}
+use Rattle.wb_lemmas.proofs.Members.{contains_at, place_of}
 use Rattle.wb_lemmas.proofs.Places.{append_keeps}
 use Rattle.wb_lemmas.proofs.Zips.{beside, zip_at}
 use Rattle.wb_base.specs.Grammar.{GrammarView}
@@ -12,10 +12,9 @@ use Rattle.wb_naming.specs.declared.declaration.Declaration.TheVariants as d
 use Rattle.wb_naming.specs.Declarations.{Items, PreferenceDeclaration, plain_items, preference_of, preferences}
 use Rattle.wb_naming.specs.Declares.{item_declarations}
 use Rattle.wb_naming.specs.Orphan as orphan
-use Rattle.wb_numbering.specs.Moved.{IsMovedNumber, IsMovedPreference, IsMovedTerminal}
+use Rattle.wb_numbering.specs.Moved.{IsMovedNumber, IsMovedPreference}
 use Rattle.wb_numbering.specs.Numbering.{IsNumber, numbering_of}
 use Rattle.wb_numbering.specs.Resolves.{IsPreference}
-use Rattle.wb_numbering.specs.Rows.{IsPreferenceRow}
 use Rattle.wb_numbering.specs.Sources.{sources}
 use Rattle.wb_numbering.proofs.Carrying.{name_at, row_at}
 use Rattle.wb_numbering.proofs.NumberLemmas.{differ_left}
@@ -33,7 +32,7 @@ use Rattle.wb_syntax.specs.declared.item.PlainForm.TheVariants as i
 use Rattle.wb_syntax.specs.SpecText.{SpecView}
 use Rattle.wb_joined.proofs.KeptLemmas as k
 use Rattle.wb_joined.proofs.RowLemmas.{map_at}
-use Rattle.wb_joined.proofs.WrittenRows.{RowUp, names_apart, row_down, row_up, up}
+use Rattle.wb_joined.proofs.WrittenRows.{names_apart, row_down, row_up, up}
 
 -- the preferences that items write they declare
 preference_declares : (items : Items) (x : PreferenceDeclaration) → Contains (preferences items) x

@@ -1,19 +1,16 @@
 -- With an extension the host's terminals and layout are written as they were, layout after all terminals, and each other terminal is the
 -- extension's own.
-use Rattle.std.proofs.Common.{◌≡◌, ◌≢◌, ◌≤◌, ◌<◌, ◌+◌, ◌-◌, ◌++◌, ◌∷◌, ◌⊎◌, inl, inr, [], ℕ, zero, suc, List, Some, Contains, map}
+use Rattle.std.proofs.Common.{◌≡◌, ◌≢◌, ◌≤◌, ◌<◌, ◌+◌, ◌-◌, ◌++◌, ◌⊎◌, inl, inr, [], ℕ, Some, Contains, map}
 use Rattle.std.proofs.Common.{length, slice_get, ap, refl, sym, subst, ◌∙◌, arith}
-use Rattle.std.specs.List.{AllZip}
 use Rattle.std.proofs.lemmas.Bool.{cases_lt}
 use Rattle.std.proofs.lemmas.List.{length-append, length-map}
 use Rattle.std.proofs.lemmas.Option.{same_Some, slice_get_within}
 use Rattle.std.proofs.lemmas.Slice.Zip.{AllZip-long}
-use Rattle.wb_lemmas.proofs.Elements.{all_at}
 use Rattle.wb_lemmas.proofs.Members.{contains_at, contains_first, place_of}
 use Rattle.wb_lemmas.proofs.Places.{append_after, append_keeps, at_once, at_within}
 use Rattle.wb_lemmas.proofs.Zips.{zip_at}
 use Rattle.wb_base.specs.Grammar.{GrammarView}
 use Rattle.wb_names.specs.Resolving.{ResolvesExtension}
-use Rattle.wb_naming.specs.declared.declaration.Declaration.{Declaration}
 use Rattle.wb_naming.specs.declared.declaration.Declaration.TheVariants as d
 use Rattle.wb_naming.specs.declared.declaration.Sort.{Sort}
 use Rattle.wb_naming.specs.declared.declaration.Sort.TheVariants as sort
@@ -32,8 +29,7 @@ use Rattle.wb_numbering.proofs.PreferencesOnce.{IsAtSource, at_source, new, old}
 use Rattle.wb_numbering.proofs.Selected.{kept_from}
 use Rattle.wb_resolved.specs.declared.resolved.ResolvedParts.{ResolvedParts}
 use Rattle.wb_resolved.specs.declared.terminal.Terminal.{Terminal}
-use Rattle.wb_resolved.specs.declared.terminal.TerminalKind.{TerminalKind}
-use Rattle.wb_resolved.specs.declared.terminal.TerminalKind.TheVariants.{Plain, Ignore, Marking}
+use Rattle.wb_resolved.specs.declared.terminal.TerminalKind.TheVariants.{Ignore}
 use Rattle.wb_resolved.specs.Resolved.{IsResolved}
 use Rattle.wb_syntax.specs.declared.item.Item.{Item}
 use Rattle.wb_syntax.specs.declared.item.ItemForm.{ItemForm}
@@ -46,7 +42,7 @@ use Rattle.wb_unions.specs.Blocks.{lift}
 use Rattle.wb_united.proofs.PlaceLemmas.{lift_below, lift_past}
 use Rattle.wb_joined.proofs.GroupLemmas.{IsStretch, follow_count, follow_kept}
 use Rattle.wb_joined.proofs.KeptLemmas as k
-use Rattle.wb_joined.proofs.RowLemmas.{map_at, new_at}
+use Rattle.wb_joined.proofs.RowLemmas.{map_at}
 
 -- what items write of terminals they declare
 lexical_declares : (items : Items) (x : LexicalDeclaration) → Contains (lexicals items) x
@@ -57,8 +53,8 @@ lexical_declares items x has =
     (from z.0.form z.2) where
       from : (form : ItemForm Pattern) → lexical_of form ≡ Some x → Contains (form_declarations form) (d.Symbol x.name (role_sort x.role))
       from (f.Lexical is name pattern) e =
-          let same : (record { role = is; name = name; pattern = pattern }) ≡ x = same_Some (record { role = is; name = name; pattern = pattern })
-          x e in
+          let same : (record { role = is; name = name; pattern = pattern }) ≡ x =
+          same_Some (record { role = is; name = name; pattern = pattern }) x e in
           subst (λ (y : LexicalDeclaration). Contains (form_declarations (f.Lexical is name pattern)) (d.Symbol y.name (role_sort y.role)))
           same (contains_first (d.Symbol name (role_sort is)) [])
       from (f.Plain plain) e = absurd (cc e)
@@ -214,9 +210,14 @@ module _ (host r : ResolvedParts) (spec : SpecView) (names : ResolvesExtension h
           × (t ≡ up v) × IsMovedTerminal (k.move host r spec names host_whole whole h g host_start start) was row
       by u less e =
           let (was, there) = at_within host.terminals u less in
-          let x = row_up u was there in
-          (u, was, there, e, subst (IsMovedTerminal (k.move host r spec names host_whole whole h g host_start start) was)
-          (at_once r.terminals (up u) x.row row x.there (ap (slice_get r.terminals) (sym e) ∙ at)) x.moved)
+          let x = row_up u was there in (
+            u,
+            was,
+            there,
+            e,
+            subst (IsMovedTerminal (k.move host r spec names host_whole whole h g host_start start) was)
+                (at_once r.terminals (up u) x.row row x.there (ap (slice_get r.terminals) (sym e) ∙ at)) x.moved,
+          )
 
   -- the rows of the host are the host's, and the others are the extension's
   pub host_owner : (t : ℕ) (row : Terminal) → slice_get r.terminals t ≡ Some row → ¬ ((h.terminals ≤ t) × (t < g.terminals)) →
@@ -241,7 +242,8 @@ module _ (host r : ResolvedParts) (spec : SpecView) (names : ResolvesExtension h
         order = omega (arith, less);
         one = d.Symbol was.name (terminal_sort was.kind);
         other = d.Symbol was.name is;
-        at_first = append_keeps (base_declarations host) (item_declarations spec.items) u (d.Symbol was.name (terminal_sort was.kind)) there;
+        at_first =
+            append_keeps (base_declarations host) (item_declarations spec.items) u (d.Symbol was.name (terminal_sort was.kind)) there;
         at_second = append_after (base_declarations host) (item_declarations spec.items) j ∙ own_at;
         same = duplicate.symbol;
         shown = refl;

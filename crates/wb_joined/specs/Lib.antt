@@ -2,3 +2,5 @@
 pub mod Joined
 -- what keeps its numbers with an extension
 pub mod Numbers
+-- how they are written
+pub mod Written

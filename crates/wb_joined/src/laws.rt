@@ -1,14 +1,19 @@
 //! Laws of the definitions: what each says is proved, and there is nothing to run.
 
-ghost use Rattle.std.specs.Prelude.{◌≡◌, List, [], ◌∷◌};
+ghost use Rattle.std.specs.Prelude.{◌≡◌, List, [], ◌∷◌, map};
+ghost use Rattle.wb_base.specs.Different.{Differ};
 ghost use Rattle.wb_base.specs.Grammar.{GrammarView};
+ghost use Rattle.wb_determinism.specs.Lexicons.{lexicon_of};
 ghost use Rattle.wb_operations.specs.Operations.{OperationSignature};
 ghost use Rattle.wb_resolved.specs.declared.resolved.ResolvedParts.{ResolvedParts};
 ghost use Rattle.wb_united.specs.Certificates.{AreCertified, IsCertifiedPiece};
 ghost use Rattle.wb_united.specs.Laws.{HasSameKernels, HasTogether, IsUnited, KeepsHost};
 ghost use Rattle.wb_united.specs.Pieces.{ArePieces};
+ghost use Rattle.wb_united_forms.specs.Apart.{AreWrittenApart};
+ghost use Rattle.wb_united_forms.specs.Written.{pieces_of};
 ghost use Rattle.wb_joined.specs.Joined.{AreCertifiedApart, AreCertifiedBoth, Extended, piece_in, pieces_in};
 ghost use Rattle.wb_joined.specs.Numbers.{KeepsNumbers};
+ghost use Rattle.wb_joined.specs.Written.{name_in, written_in};
 
 /// With a certified extension what is of the grammar of a certified host keeps its numbers, and what is added is the extension's own: no
 /// abstract nonterminal of the host becomes one of the grammar.
@@ -55,4 +60,11 @@ pub fn host_law()
 /// certified grammars or in an envelope, and those of two extensions that are no markers never are.
 pub fn together_law()
     ensures { (host : ResolvedParts) (h : GrammarView) (operations : List OperationSignature) (extensions : List Extended) → AreCertifiedApart host h operations extensions → HasTogether h host.extensible (pieces_in extensions) }
+{}
+
+/// A certified host and extensions that are certified with it alone, and have different names, are what the laws on forms ask for: they are
+/// certified, and written so that no two terminals or layouts clash.
+pub fn written_law()
+    ensures certified { (host : ResolvedParts) (h : GrammarView) (operations : List OperationSignature) (extensions : List Extended) → AreCertifiedApart host h operations extensions → AreCertified h host.extensible (pieces_of (written_in extensions)) }
+    ensures apart { (host : ResolvedParts) (h : GrammarView) (operations : List OperationSignature) (extensions : List Extended) → AreCertifiedApart host h operations extensions → Differ (map (λ (e : Extended). name_in e.resolved) extensions) → AreWrittenApart h host.extensible (lexicon_of host h) (written_in extensions) }
 {}
