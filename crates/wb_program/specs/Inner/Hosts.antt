@@ -29,15 +29,6 @@ pub record IsHostFile (operations : List OperationSignature) (known : Option Fil
   pub certified : IsCertifiedValue r operations
   pub contents : KnownFile known file (λ contents. IsHostText operations contents r)
 
-<<<<<<< HEAD
-=======
--- the file is a host of this value whose attributes are well defined
-pub record IsWellDefinedFile (operations : List OperationSignature) (known : Option Files) (file : List ℕ) (r : ResolvedParts) : Type 0
-  where
-    pub well_defined : HasWellDefinedAttributes r operations
-    pub contents : KnownFile known file (λ contents. IsWellDefinedText operations contents r)
-
->>>>>>> 2f04aa7f (Layout)
 -- a refused host: the status of its sort, and the line that says why; want of memory has no line
 abbrev pub RefusedHost : List ℕ → HostRefusal → Report
 RefusedHost file (h.Specification shown) = Ends SpecRefused (λ bytes. bytes ≡ report_of (o.Refused file shown))
