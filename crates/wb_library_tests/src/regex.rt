@@ -333,8 +333,11 @@ fn an_equal_expression_is_copied(rt: HostRuntime) -> Result<(), RegexRefusal> {
     Ok(())
 }
 
-// The expression of a text, put behind a prefix, as it is shown.
+// The expression of a text, put behind a prefix that isn't empty, as it is shown.
 fn shown_behind(alloc: Global, prefix: &[u8], text: &[u8]) -> Result<Vec<u8>, RegexRefusal> {
+    if prefix.is_empty() {
+        return Ok(Vec::new(alloc));
+    }
     let regex = read_regex(alloc, text)?;
     let longer = regex.prefixed(prefix)?;
     let mut shown = Vec::new(alloc);
