@@ -53,7 +53,7 @@ module _ (a : AttributionParts) (is : IsAttribution a) (start : ℕ) where
   abbrev pub part : Part
   part = union (length a.extensions)
 
-  only_occurrence : (m x : ℕ) (r s : Occurrence) → Contains a.occurrences r → IsFor m x r → Contains a.occurrences s → IsFor m x s → s ≡ r
+  pub only_occurrence : (m x : ℕ) (r s : Occurrence) → Contains a.occurrences r → IsFor m x r → Contains a.occurrences s → IsFor m x s → s ≡ r
   only_occurrence m x r s has for listed also =
       let (i, at) = place_of a.occurrences s listed in
       let (j, there) = place_of a.occurrences r has in
@@ -154,7 +154,7 @@ module _ (a : AttributionParts) (is : IsAttribution a) (start : ℕ) where
     abbrev from_written : Owner → ℕ × List Node → Bool → Option (List Node)
     from_written o r same = elim same [ true ↦ Some r.1 | false ↦ None ]
 
-    written_to : (v : Vertex) (owner : ℕ) (nodes : List Node) → rule_at production v ≡ Some (owner, nodes)
+    pub written_to : (v : Vertex) (owner : ℕ) (nodes : List Node) → rule_at production v ≡ Some (owner, nodes)
         → w.writes (owner_of owner) p v ≡ Some nodes
     written_to v owner nodes rule =
         written_is (owner_of owner) v ∙ ap (written_by (owner_of owner)) rule ∙ ap (from_written (owner_of owner) (owner, nodes)) (owner_again (owner_of owner))
@@ -180,7 +180,7 @@ module _ (a : AttributionParts) (is : IsAttribution a) (start : ℕ) where
           (e, contains_first e rest, vertex_equal v (target_vertex e.target) same, sym (same_Some (e.owner, e.nodes) r here))
       cases false same here later = let (f, has, target, written) = later here in (f, contains_later e f rest has, target, written)
 
-    some_equation : (v : Vertex) (f : Equation) (r : Written) (equations : List Equation) → Contains equations f
+    pub some_equation : (v : Vertex) (f : Equation) (r : Written) (equations : List Equation) → Contains equations f
         → v ≡ target_vertex f.target
         → ((g : Equation) → Contains equations g → v ≡ target_vertex g.target → (g.owner, g.nodes) ≡ r) → equation_at v equations ≡ Some r
     some_equation v f r [] has target each = absurd (nothing_in f has)
@@ -203,7 +203,7 @@ module _ (a : AttributionParts) (is : IsAttribution a) (start : ℕ) where
     target_at e i there =
         slice_get-map (λ (z : Equation). z.target) production.equations i ∙ ap (option_map (λ (z : Equation). z.target)) there
 
-    one_equation : (e f : Equation) → Contains production.equations e → Contains production.equations f
+    pub one_equation : (e f : Equation) → Contains production.equations e → Contains production.equations f
         → target_vertex e.target ≡ target_vertex f.target → e ≡ f
     one_equation e f he hf same =
         let (i, first) = place_of production.equations e he in
@@ -213,7 +213,7 @@ module _ (a : AttributionParts) (is : IsAttribution a) (start : ℕ) where
         at_once production.equations j e f (subst (λ k. slice_get production.equations k ≡ Some e) equal first) second
 
     -- a vertex that an equation defines is looked for among the equations
-    rule_at_target : (e : Equation)
+    pub rule_at_target : (e : Equation)
         → rule_at production (target_vertex e.target) ≡ equation_at (target_vertex e.target) production.equations
     rule_at_target e = go e.target where
       go : (t : Target) → rule_at production (target_vertex t) ≡ equation_at (target_vertex t) production.equations

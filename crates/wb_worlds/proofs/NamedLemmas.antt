@@ -55,7 +55,7 @@ use Rattle.wb_worlds.proofs.StayLemmas.{forward_below}
 use Rattle.wb_worlds.proofs.FoundLemmas.{owner_again, goes_to, IsFor, found_occurrence, tree_from, owner_equal, sees_to}
 
 -- a rule of a production, and whose it is
-data IsRuleOf (production : Production) (v : Vertex) (owner : ℕ) (nodes : List Node) : Type 0 where
+pub data IsRuleOf (production : Production) (v : Vertex) (owner : ℕ) (nodes : List Node) : Type 0 where
   of_equation : (e : Equation) → Contains production.equations e → v ≡ target_vertex e.target → owner ≡ e.owner → nodes ≡ e.nodes
       → IsRuleOf production v owner nodes
   of_local : (x : ℕ) (l : Local) → slice_get production.locals x ≡ Some l → v ≡ tree_of (local x) → owner ≡ l.owner → nodes ≡ l.nodes
@@ -81,13 +81,13 @@ module _ (a : AttributionParts) (is : IsAttribution a) (start : ℕ) (first : Is
       subst (Sees (owner_of owner)) (sym equal) (sees_to owner seen.attribute.owner seen.seen)
 
   -- who declares an occurrence
-  declares_to : (d : Direction) (m x : ℕ) (r : Occurrence) → Contains a.occurrences r → IsFor m x r → Goes a d x
+  pub declares_to : (d : Direction) (m x : ℕ) (r : Occurrence) → Contains a.occurrences r → IsFor m x r → Goes a d x
       → w.declares d (owner_of r.owner) m x ≡ true
   declares_to d m x r has for goes =
       ap (λ b. b && declared_by (owner_of r.owner) (occurrence_at m x a.occurrences)) (goes_to d (slice_get a.attributes x) goes)
       ∙ ap (declared_by (owner_of r.owner)) (occurrence_found a is start m x r has for) ∙ owner_again (owner_of r.owner)
 
-  abbrev IsDeclared : Owner → ℕ → ℕ → Type 0
+  abbrev pub IsDeclared : Owner → ℕ → ℕ → Type 0
   IsDeclared o m x = (r : Occurrence) × Contains a.occurrences r × (m ≡ r.nonterminal) × (x ≡ r.attribute) × (o ≡ owner_of r.owner)
       × (occurrence_at m x a.occurrences ≡ Some r)
 
@@ -98,12 +98,12 @@ module _ (a : AttributionParts) (is : IsAttribution a) (start : ℕ) (first : Is
       let (has, for) = found_occurrence m x r a.occurrences there in
       (r, has, for.0, for.1, owner_equal o (owner_of r.owner) declared, there)
 
-  declared_from : (d : Direction) (o : Owner) (m x : ℕ) → IsTrue (w.declares d o m x) → IsDeclared o m x
+  pub declared_from : (d : Direction) (o : Owner) (m x : ℕ) → IsTrue (w.declares d o m x) → IsDeclared o m x
   declared_from d o m x declares =
       let (goes, declared) = both (goes_so d (slice_get a.attributes x)) (declared_by o (occurrence_at m x a.occurrences)) declares in
       declared_in o m x (occurrence_at m x a.occurrences) refl declared
 
-  occurrence_named : (r : Occurrence) → Contains a.occurrences r → IsNamedOccurrence a r
+  pub occurrence_named : (r : Occurrence) → Contains a.occurrences r → IsNamedOccurrence a r
   occurrence_named r has = all_contained (IsNamedOccurrence a) a.occurrences r is.named.occurrences has
 
   occurs_seen : (owner : ℕ) (d : Direction) (x m : ℕ) → SeesOccurrence a owner d x m → OccursIn w (part_of (owner_of owner)) d m x
@@ -189,18 +189,18 @@ module _ (a : AttributionParts) (is : IsAttribution a) (start : ℕ) (first : Is
   child_seen p k m there = child_seen_in p k m (slice_get a.productions p) refl there
 
   module _ (p : ℕ) (production : Production) (at : slice_get a.productions p ≡ Some production) where
-    local_named : (x : ℕ) (l : Local) → slice_get production.locals x ≡ Some l → IsNamedLocal a production l
+    pub local_named : (x : ℕ) (l : Local) → slice_get production.locals x ≡ Some l → IsNamedLocal a production l
     local_named x l has =
         all_contained (IsNamedLocal a production) production.locals l (named a is start p production at).locals (contains_at production.locals l x has)
 
-    place_owner_is : (x : ℕ) → w.local_owner p x ≡ owner_of (place_owner production (place.Local x))
+    pub place_owner_is : (x : ℕ) → w.local_owner p x ≡ owner_of (place_owner production (place.Local x))
     place_owner_is x = ap (place_owner_in (place.Local x)) at
 
-    local_owner_is : (x : ℕ) (l : Local) → slice_get production.locals x ≡ Some l → w.local_owner p x ≡ owner_of l.owner
+    pub local_owner_is : (x : ℕ) (l : Local) → slice_get production.locals x ≡ Some l → w.local_owner p x ≡ owner_of l.owner
     local_owner_is x l has = place_owner_is x ∙ ap (λ z. owner_of (owner_of_local production z)) has
 
     -- the local that is there
-    abbrev IsLocal : ℕ → ℕ → Type 0
+    abbrev pub IsLocal : ℕ → ℕ → Type 0
     IsLocal x m = (l : Local) × (slice_get production.locals x ≡ Some l) × (l.nonterminal ≡ m)
 
     local_in : (x m : ℕ) (l : Option Local) → slice_get production.locals x ≡ l
@@ -208,7 +208,7 @@ module _ (a : AttributionParts) (is : IsAttribution a) (start : ℕ) (first : Is
     local_in x m None there same = absurd (cc same)
     local_in x m (Some l) there same = let equal : l.nonterminal ≡ m = cc same in (l, there, equal)
 
-    local_of : (x m : ℕ) → w.local_at p x ≡ Some m → IsLocal x m
+    pub local_of : (x m : ℕ) → w.local_at p x ≡ Some m → IsLocal x m
     local_of x m there =
         let kinds = tree_from m (kind_at production (place.Local x)) (sym (ap (λ z. tree_in (kind_in (place.Local x) z)) at) ∙ there) in
         local_in x m (slice_get production.locals x) refl kinds
@@ -312,7 +312,7 @@ module _ (a : AttributionParts) (is : IsAttribution a) (start : ℕ) (first : Is
     rule_of_found (synthesized s y) r found = of_equation_in (synthesized s y) r found
     rule_of_found (inherited s y) r found = of_equation_in (inherited s y) r found
 
-    there_of : (v : Vertex) (owner : ℕ) (nodes : List Node) → IsRuleOf production v owner nodes → numbers.Sees owner production.owner
+    pub there_of : (v : Vertex) (owner : ℕ) (nodes : List Node) → IsRuleOf production v owner nodes → numbers.Sees owner production.owner
     there_of v owner nodes (of_equation e has target same known) =
         let equation = all_contained (IsNamedEquation a production) production.equations e (named a is start p production at).equations has in
         subst (λ z. numbers.Sees z production.owner) (sym same) equation.there
@@ -423,12 +423,12 @@ module _ (a : AttributionParts) (is : IsAttribution a) (start : ℕ) (first : Is
         (all_contained (IsNamedNode a production owner) nodes node (named_of v owner nodes rule) has) reads
 
   -- whose rule it is that an owner writes
-  record IsSource (o : Owner) (p : ℕ) (v : Vertex) (nodes : List Node) : Type 0 where
-    production : Production
-    at : slice_get a.productions p ≡ Some production
-    owner : ℕ
-    same : o ≡ owner_of owner
-    rule : IsRuleOf production v owner nodes
+  pub record IsSource (o : Owner) (p : ℕ) (v : Vertex) (nodes : List Node) : Type 0 where
+    pub production : Production
+    pub at : slice_get a.productions p ≡ Some production
+    pub owner : ℕ
+    pub same : o ≡ owner_of owner
+    pub rule : IsRuleOf production v owner nodes
 
   source_by : (o : Owner) (nodes : List Node) (r : Written) (same : Bool) → elim same [ true ↦ Some r.1 | false ↦ None ] ≡ Some nodes
       → (same ≡ true) × (r.1 ≡ nodes)
@@ -453,7 +453,7 @@ module _ (a : AttributionParts) (is : IsAttribution a) (start : ℕ) (first : Is
   source_in o p v nodes None at writes = absurd (cc writes)
   source_in o p v nodes (Some production) at writes = source_at o p v nodes production at (rule_at production v) refl writes
 
-  source : (o : Owner) (p : ℕ) (v : Vertex) (nodes : List Node) → w.writes o p v ≡ Some nodes → IsSource o p v nodes
+  pub source : (o : Owner) (p : ℕ) (v : Vertex) (nodes : List Node) → w.writes o p v ≡ Some nodes → IsSource o p v nodes
   source o p v nodes writes = source_in o p v nodes (slice_get a.productions p) refl writes
 
   local_seen_in : (p x m : ℕ) (r : Option Production) → slice_get a.productions p ≡ r → w.local_at p x ≡ Some m

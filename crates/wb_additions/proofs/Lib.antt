@@ -1,0 +1,9 @@
+pub mod SplitLemmas
+pub mod PositionLemmas
+pub mod MoveLemmas
+pub mod StayLemmas
+pub mod ContextLemmas
+pub mod ExtendedLemmas
+pub mod AddedLemmas
+pub mod HostLemmas
+pub mod LawLemmas

@@ -1,0 +1,16 @@
+pub mod JoinedLemmas
+pub mod PlacedLemmas
+pub mod TwiceLemmas
+pub mod NumberLemmas
+pub mod EachLemmas
+pub mod RowLemmas
+pub mod ContainLemmas
+pub mod ProductionLemmas
+pub mod MadeLemmas
+pub mod SourceLemmas
+pub mod DifferLemmas
+pub mod OrderLemmas
+pub mod WithinLemmas
+pub mod GroupedLemmas
+pub mod UnionLemmas
+pub mod GrammarLemmas

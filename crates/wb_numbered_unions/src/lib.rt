@@ -1,0 +1,6 @@
+//! The attributes of a host and its extensions as lists in the numbers of their union: the host's rows, and then those of each extension.
+//!
+//! The definitions are in `specs/`. Each function is a law, whose body is empty.
+#![tactic(auto)]
+
+pub mod laws;

@@ -1,0 +1,2 @@
+-- new numbers by blocks
+pub mod NewNumbers

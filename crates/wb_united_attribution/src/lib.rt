@@ -1,0 +1,15 @@
+//! The attributes of a host and its extensions, from rows that are lent.
+//!
+//! What holds of them is in `wb_united_attributes` and `wb_numbered_unions`; rows in new numbers are made in `wb_renumbered`.
+#![tactic(auto)]
+
+mod addition;
+mod attributes;
+mod nonterminals;
+mod placed;
+mod productions;
+mod union;
+mod written;
+
+pub use addition::{Addition, Rows};
+pub use union::{UnitedRows, united_rows};
