@@ -35,15 +35,15 @@ abbrev pub pattern_of : Terminal → Tree
 pattern_of t = t.pattern
 
 -- forms are one by their terminal and their prefix
-same_form : (f g : Form) → f.terminal ≡ g.terminal → f.prefix ≡ g.prefix → f ≡ g
+pub same_form : (f g : Form) → f.terminal ≡ g.terminal → f.prefix ≡ g.prefix → f ≡ g
 same_form f g t p = λ j. record { terminal = t j; prefix = p j }
 
 -- the expression at a place matches
-match_at : (rows : List Terminal) (t : ℕ) (row : Terminal) (text : List ℕ) → slice_get rows t ≡ Some row → Matches row.pattern text →
+pub match_at : (rows : List Terminal) (t : ℕ) (row : Terminal) (text : List ℕ) → slice_get rows t ≡ Some row → Matches row.pattern text →
     IsMatch (map pattern_of rows) t text
 match_at rows t row text at m = record { tree = row.pattern; at = at_map pattern_of rows t row at; matches = m }
 
-at_match : (rows : List Terminal) (t : ℕ) (row : Terminal) (text : List ℕ) → slice_get rows t ≡ Some row →
+pub at_match : (rows : List Terminal) (t : ℕ) (row : Terminal) (text : List ℕ) → slice_get rows t ≡ Some row →
     IsMatch (map pattern_of rows) t text → Matches row.pattern text
 at_match rows t row text at m =
     let (other, there, is) = map_at pattern_of rows t m.tree m.at in
@@ -59,7 +59,7 @@ module _ (lent : Lent) (ok : IsUnitable lent) where
   Listed k x = slice_get (all_in lent) k ≡ Some x
 
   -- it is past the host's
-  past_host : (k t : ℕ) → lent.grammar.now.terminals ≤ t → lent.grammar.now.terminals ≤ number_in k t
+  pub past_host : (k t : ℕ) → lent.grammar.now.terminals ≤ t → lent.grammar.now.terminals ≤ number_in k t
   past_host k t far =
       let e = lift_past lent.grammar.now.terminals
       (count_before (terminal_sizes lent.grammar.now lent.extensible.now (pieces_of (all_in lent))) k) t far in omega (arith, e, far)
@@ -83,16 +83,16 @@ module _ (lent : Lent) (ok : IsUnitable lent) where
       (same ∙ row_is lent.grammar.now lent.extensible.now (own_in lent) (all_in lent) ok.certified.are_pieces k x at t less))
 
   -- a marker of the extension is its own
-  own_marker : (k : ℕ) (x : WrittenPiece) → Listed k x → (m : ℕ) →
+  pub own_marker : (k : ℕ) (x : WrittenPiece) → Listed k x → (m : ℕ) →
       IsMarkerRow lent.grammar.now lent.extensible.now (own_in lent) x m → IsOwnRow lent.grammar.now (own_in lent) x m
   own_marker k x at m marker = marker_own lent.grammar.now lent.extensible.now (own_in lent) (all_in lent) ok.certified ok.apart [] k x at m
       marker
 
-  abbrev IsMarkerAt : ℕ → WrittenPiece → ℕ → Type 0
+  abbrev pub IsMarkerAt : ℕ → WrittenPiece → ℕ → Type 0
   IsMarkerAt k x n = IsMarkerOf lent.grammar.now lent.extensible.now (own_in lent) (all_in lent) k x n
 
   -- the number of a marker of some extension is that of this one
-  marker_same : (k l : ℕ) (x y : WrittenPiece) → Listed k x → (t n : ℕ) → IsOwnRow lent.grammar.now (own_in lent) x t →
+  pub marker_same : (k l : ℕ) (x y : WrittenPiece) → Listed k x → (t n : ℕ) → IsOwnRow lent.grammar.now (own_in lent) x t →
       n ≡ number_in k t → (marker : IsMarkerAt l y n) → (k ≡ l) × (y ≡ x) × (marker.terminal ≡ t)
   marker_same k l x y at t n mine n_is marker =
       let other = own_marker l y marker.listed marker.terminal marker.marker in
@@ -166,7 +166,7 @@ module _ (lent : Lent) (ok : IsUnitable lent) where
       let bad : world.on a ≡ world.bare = sym mark ∙ there' in absurd (cc bad)
 
   -- what is read at a number
-  abbrev ReadsIn : ℕ → List ℕ → Type 0
+  abbrev pub ReadsIn : ℕ → List ℕ → Type 0
   ReadsIn n text = Reads lent.grammar.now lent.extensible.now (own_in lent) (all_in lent) n text
 
   -- the expression of a terminal of the host writes its bare form
@@ -187,17 +187,17 @@ module _ (lent : Lent) (ok : IsUnitable lent) where
       here = host_below lent.grammar.now lent.extensible.now (own_in lent) (all_in lent) ok.certified.are_pieces t less
 
   module _ (k : ℕ) (x : Addition) (at : slice_get lent.extensions.now k ≡ Some x) where
-    listed : Listed k (written_in x)
+    pub listed : Listed k (written_in x)
     listed = at_map written_in lent.extensions.now k x at
 
     -- what is read at the number of a terminal of an extension is what its row matches
-    reads_there : (t : ℕ) (row : Terminal) (text : List ℕ) → t < x.grammar.now.terminals → slice_get x.terminals.now t ≡ Some row →
+    pub reads_there : (t : ℕ) (row : Terminal) (text : List ℕ) → t < x.grammar.now.terminals → slice_get x.terminals.now t ≡ Some row →
         Matches row.pattern text → ReadsIn (number_in k t) text
     reads_there t row text less row_at m = reads.of_extension k (written_in x) t listed
         (row_is lent.grammar.now lent.extensible.now (own_in lent) (all_in lent) ok.certified.are_pieces k (written_in x) listed t less)
         (match_at x.terminals.now t row text row_at m)
 
-    there_reads : (t : ℕ) (row : Terminal) (text : List ℕ) → t < x.grammar.now.terminals → slice_get x.terminals.now t ≡ Some row →
+    pub there_reads : (t : ℕ) (row : Terminal) (text : List ℕ) → t < x.grammar.now.terminals → slice_get x.terminals.now t ≡ Some row →
         ReadsIn (number_in k t) text → Matches row.pattern text
     there_reads t row text less row_at r = at_match x.terminals.now t row text row_at
         (reads_piece lent.grammar.now lent.extensible.now (own_in lent) (all_in lent) ok.certified.are_pieces ok.apart k (written_in x)

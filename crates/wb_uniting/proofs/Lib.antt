@@ -1,3 +1,9 @@
 pub mod GrammarLemmas
 pub mod FormLemmas
 pub mod KindLemmas
+pub mod FirstByteLemmas
+pub mod WithdrawnLemmas
+pub mod MadeLemmas
+pub mod WholeLemmas
+pub mod SharingLemmas
+pub mod OpenedLemmas

@@ -1,5 +1,9 @@
 -- how many symbols a union has
 pub mod Totals
+-- with which bytes texts begin
+pub mod FirstBytes
+-- what is known of a host with extensions while forms are made
+pub mod Opened
 -- which terminals share a text with an expression
 pub mod Sharing
 -- forms of the union as they are made

@@ -1,12 +1,12 @@
 -- A host with extensions as they are lent, as what unions are made of.
-use Rattle.std.specs.Prelude.{Bool, true, false, List, Option, Some, None, map, slice_get}
+use Rattle.std.specs.Prelude.{ℕ, Bool, true, false, IsTrue, List, Option, Some, None, All, map, slice_get}
 use Rattle.wb_base.specs.Grammar.{GrammarView}
 use Rattle.wb_contexts.specs.Considered.{LexiconView}
 use Rattle.wb_resolved.specs.declared.terminal.Preference.{Preference}
 use Rattle.wb_resolved.specs.declared.terminal.Terminal.{Terminal}
 use Rattle.wb_resolved.specs.declared.terminal.TerminalKind.{TerminalKind}
 use Rattle.wb_resolved.specs.declared.terminal.TerminalKind.TheVariants.{Plain, Ignore, Marking}
-use Rattle.wb_united.specs.Bridges.{piece_of}
+use Rattle.wb_united.specs.Bridges.{BeginsBridge, piece_of}
 use Rattle.wb_united.specs.Certificates.{AreCertified}
 use Rattle.wb_united_forms.specs.Apart.{AreWrittenApart}
 use Rattle.wb_united_forms.specs.Written.{WrittenPiece, pieces_of}
@@ -38,10 +38,14 @@ lexicon_with g terminals preferences = record {
   preferences = map (λ (p : Preference). (p.first, p.second)) preferences;
 }
 
+-- which terminals of an extension are markers
+abbrev pub is_marker_in : Addition → ℕ → Bool
+is_marker_in x t = is_marker_row (slice_get x.terminals.now t)
+
 -- an extension as it is written
 abbrev pub written_in : Addition → WrittenPiece
 written_in x = record {
-  piece = piece_of x.grammar.now (λ t. is_marker_row (slice_get x.terminals.now t));
+  piece = piece_of x.grammar.now (is_marker_in x);
   name = x.name.now;
   lexicon = lexicon_with x.grammar.now x.terminals.now x.preferences.now;
 }
@@ -56,7 +60,13 @@ own_in lent = lexicon_with lent.grammar.now lent.terminals.now lent.preferences.
 abbrev pub all_in : Lent → List WrittenPiece
 all_in lent = map written_in lent.extensions.now
 
--- the host and each extension are certified, and they are written apart
+-- each marker of the extension begins one of its productions, whose left side is extensible
+abbrev pub HasBridges : Lent → Addition → Type 0
+HasBridges lent x =
+    (t : ℕ) → IsTrue (is_marker_in x t) → BeginsBridge lent.grammar.now lent.extensible.now x.grammar.now (is_marker_in x) t
+
+-- the host and each extension are certified, they are written apart, and markers begin bridges
 pub record IsUnitable (lent : Lent) : Type 0 where
   pub certified : AreCertified lent.grammar.now lent.extensible.now (pieces_of (all_in lent))
   pub apart : AreWrittenApart lent.grammar.now lent.extensible.now (own_in lent) (all_in lent)
+  pub bridges : All (HasBridges lent) lent.extensions.now

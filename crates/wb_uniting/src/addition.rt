@@ -1,5 +1,7 @@
 //! What is lent of an extension?
 
+ghost use Rattle.std.specs.Prelude.{◌≡◌, ◌<◌, Some, length, slice_get};
+
 use wb_base::Grammar;
 use wb_resolved::{Preference, Terminal};
 
@@ -26,4 +28,12 @@ pub struct Lent<'a> {
     pub terminals: &'a [Terminal],
     pub preferences: &'a [Preference],
     pub extensions: &'a [Addition<'a>],
+}
+
+// The row of this number.
+pub(crate) fn row_of<'a>(extension: &'a Addition, number: usize) -> &'a Terminal
+    requires { number < length extension.now.terminals.now }
+    ensures { slice_get extension.now.terminals.now number ≡ Some result.now }
+{
+    &extension.terminals[number]
 }

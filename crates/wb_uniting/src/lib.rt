@@ -4,10 +4,14 @@
 #![tactic(auto)]
 
 mod addition;
-mod forms;
+mod extension_forms;
+mod first_bytes;
 mod grammar;
 mod own_productions;
+mod union_forms;
 mod withdrawn;
+mod written;
 
 pub use addition::{Addition, Lent};
 pub use grammar::united_grammar;
+pub use union_forms::{UnitedForms, united_forms};

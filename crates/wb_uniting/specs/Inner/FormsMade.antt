@@ -1,13 +1,16 @@
 -- Forms of the union as they are made, terminal by terminal, with their expressions.
-use Rattle.std.specs.Prelude.{◌≡◌, ◌<◌, ◌↔◌, ◌++◌, ◌∷◌, [], ℕ, List, Some, Contains, length, slice_get}
+use Rattle.std.specs.Prelude.{◌≡◌, ◌<◌, ◌↔◌, ◌++◌, ◌∷◌, [], ℕ, Bool, true, false, List, Some, Contains, drop, length, map, slice_get}
 use Rattle.wb_base.specs.Different.{Differ}
 use Rattle.wb_languages.specs.declared.form.Form.{Form}
+use Rattle.wb_languages.specs.Languages.{bare}
 use Rattle.wb_regex.specs.Matches.{Matches}
 use Rattle.wb_regex.specs.Tree.{Tree}
+use Rattle.wb_resolved.specs.declared.terminal.Terminal.{Terminal}
 use Rattle.wb_united_forms.specs.Apart.{colon}
 use Rattle.wb_united_forms.specs.Forms.{IsForm, IsWithdrawn}
 use Rattle.wb_united_forms.specs.Languages.{IsTextOf}
 use Rattle.wb_uniting.specs.declared.addition.Lent.{Lent}
+use Rattle.wb_uniting.specs.declared.union_forms.UnitedForms.{UnitedForms}
 use Rattle.wb_uniting.specs.Lents.{all_in, own_in}
 use Rattle.wb_regex.specs.Prefixed.{IsPrefixed}
 
@@ -15,6 +18,10 @@ module _ (lent : Lent) where
   -- a form of the union
   abbrev pub IsFormIn : Form → Type 0
   IsFormIn form = IsForm lent.grammar.now lent.extensible.now (own_in lent) (all_in lent) form
+
+  -- a marker that is withdrawn
+  abbrev pub IsWithdrawnIn : ℕ → Type 0
+  IsWithdrawnIn n = IsWithdrawn lent.grammar.now lent.extensible.now (own_in lent) (all_in lent) n
 
   -- the expression matches the texts of the form
   abbrev pub Writes : Tree → Form → Type 0
@@ -36,9 +43,34 @@ module _ (lent : Lent) where
 
   -- these are the withdrawn markers before the terminal of this number, in order
   pub record AreWithdrawnBelow (bound : ℕ) (withdrawn : List ℕ) : Type 0 where
-    pub each : (n : ℕ) → Contains withdrawn n ↔
-        ((n < bound) × IsWithdrawn lent.grammar.now lent.extensible.now (own_in lent) (all_in lent) n)
+    pub each : (n : ℕ) → Contains withdrawn n ↔ ((n < bound) × IsWithdrawnIn n)
     pub rising : (i j m n : ℕ) → slice_get withdrawn i ≡ Some m → slice_get withdrawn j ≡ Some n → i < j → m < n
+
+  -- the forms of terminals before the one of this number are made, with their expressions, and withdrawn markers are listed
+  pub record AreMadeBelow (bound : ℕ) (made : UnitedForms) : Type 0 where
+    pub forms : AreFormsBelow bound made.forms.items made.expressions.items
+    pub withdrawn : AreWithdrawnBelow bound made.withdrawn.items
+
+  -- the expressions of the host's layout were added
+  abbrev pub AreLayoutAdded : List Tree → List Tree → Type 0
+  AreLayoutAdded old new = new ≡ old ++ map (λ (t : Terminal). t.pattern) (drop lent.grammar.now.terminals lent.terminals.now)
+
+-- a bare form was added with its expression
+pub record IsBareAdded (old new : UnitedForms) (number : ℕ) (pattern : Tree) : Type 0 where
+  pub forms_are : new.forms.items ≡ old.forms.items ++ bare number ∷ []
+  pub expressions_are : new.expressions.items ≡ old.expressions.items ++ pattern ∷ []
+  pub withdrawn_are : new.withdrawn.items ≡ old.withdrawn.items
+
+-- a marker was listed as withdrawn
+pub record IsListed (old new : UnitedForms) (number : ℕ) : Type 0 where
+  pub forms_are : new.forms.items ≡ old.forms.items
+  pub expressions_are : new.expressions.items ≡ old.expressions.items
+  pub withdrawn_are : new.withdrawn.items ≡ old.withdrawn.items ++ number ∷ []
+
+-- the one or the other
+abbrev pub IsChosen : Bool → UnitedForms → UnitedForms → ℕ → Tree → Type 0
+IsChosen true old new number pattern = IsListed old new number
+IsChosen false old new number pattern = IsBareAdded old new number pattern
 
 -- a form with the prefix, and an expression that matches its texts, were added
 pub record IsPrefixedAdded (old new : List Form) (was now : List Tree) (terminal : ℕ) (prefix : List ℕ) (pattern : Tree) : Type 0 where

@@ -1,23 +1,15 @@
-//! Which forms has a terminal of the union, and which expression has each?
+//! How is a form of a terminal written down, with its expression?
 //!
-//! A marker has its prefixed form, and its bare one where no terminal of another extension shares a text with it.
+//! The bare form has the terminal's expression, and the prefixed one that expression behind the extension's name and two colons.
 
-ghost use Rattle.std.specs.Prelude.{◌≡◌, ◌≤◌, ◌<◌, ◌+◌, ◌++◌, ◌∷◌, [], All, IfOk, IfSome, OnOk, Some, length, slice_get};
+ghost use Rattle.std.specs.Prelude.{◌≡◌, ◌<◌, ◌++◌, ◌∷◌, [], IfOk, OnOk, length};
 ghost use Rattle.wb_languages.specs.Languages.{bare};
-ghost use Rattle.wb_united.specs.Laws.{in_union};
-ghost use Rattle.wb_united_forms.specs.Written.{pieces_of};
-ghost use Rattle.wb_uniting.specs.declared.addition.Addition.{Addition};
-ghost use Rattle.wb_uniting.specs.Additions.{HasTerminals};
-ghost use Rattle.wb_uniting.specs.Lents.{IsUnitable, all_in};
-ghost use Rattle.wb_uniting.specs.Inner.FormsMade.{AreFormsBelow, AreWithdrawnBelow, IsPrefixedAdded, IsPrefixOf};
+ghost use Rattle.wb_uniting.specs.Inner.FormsMade.{IsPrefixedAdded, IsPrefixOf};
 
-use crate::withdrawn::shares_with_other;
-use crate::{Addition, Lent};
 use std::alloc::{AllocError, Global};
 use wb_base::{Bytes, push};
 use wb_languages::Form;
 use wb_regex::Regex;
-use wb_resolved::TerminalKind;
 
 // Adds the bare form of a terminal.
 pub(crate) fn add_bare(
@@ -41,7 +33,7 @@ pub(crate) fn add_bare(
 }
 
 // Adds the prefixed form of a marker.
-fn add_prefixed(
+pub(crate) fn add_prefixed(
     forms: &mut Vec<Form>,
     expressions: &mut Vec<Regex>,
     terminal: usize,
@@ -57,7 +49,7 @@ fn add_prefixed(
 }
 
 // The name of an extension and two colons.
-fn prefix_of(alloc: Global, name: &[u8]) -> Result<Bytes, AllocError>
+pub(crate) fn prefix_of(alloc: Global, name: &[u8]) -> Result<Bytes, AllocError>
     ensures { IfOk result (IsPrefixOf name.now) }
 {
     let mut prefix = Vec::from_slice(alloc, name)?;

@@ -1,0 +1,2 @@
+mod WrittenLemmas
+mod ComposedLemmas

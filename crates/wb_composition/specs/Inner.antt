@@ -1,0 +1,2 @@
+-- what is lent to the union
+pub mod Lending

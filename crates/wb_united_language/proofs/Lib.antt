@@ -1,0 +1,6 @@
+mod TableLemmas
+mod RowLemmas
+mod PreferenceLemmas
+mod SetLemmas
+mod UnionLemmas
+mod PartLemmas

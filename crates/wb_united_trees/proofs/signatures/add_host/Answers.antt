@@ -1,0 +1,13 @@
+use Rattle.std.proofs.Common.{rules, ◌≡◌, arith}
+use Rattle.wb_shown.specs.Names.{productions_in}
+use Rattle.wb_united_trees.proofs.TableLemmas.{host_next}
+use Rattle.wb_united_trees.proofs.signatures.add_host.Goals as goal
+
+pub productions-preserved : goal.productions-preserved
+productions-preserved c =
+    let count : c.productions_in-count.result ≡ productions_in c.args.host.now.grammar = search rules in
+    host_next c.args.host.now c.parts.ensures.whole c.signatures_in-signatures.result.now c.args.made.now c.productions.made c.add.new.self
+    c.productions.production (record { name = c.name.result.now; left = c.left.result; children = c.children.result.now })
+    c.signatures_in-signatures.ensures.signatures (omega (arith, c.productions-test.true, count))
+    c.productions.invariant c.name.ensures c.left.ensures
+    c.children.ensures c.in_ok-add.ensures.ok

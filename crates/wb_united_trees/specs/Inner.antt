@@ -1,0 +1,2 @@
+-- what tables of names and signatures are made of
+pub mod Tables
