@@ -7,7 +7,7 @@ ghost use Rattle.wb_attributes.specs.Modular.{EachProduction};
 ghost use Rattle.wb_attributes.specs.Occurrences.{Goes, HasFlowType};
 ghost use Rattle.wb_attributes.specs.WellDefined.{IsWellDefinedProduction};
 ghost use Rattle.wb_evaluation.specs.Evaluable.{IsAsked};
-ghost use Rattle.wb_operations.specs.Standard.{standard_signatures};
+ghost use Rattle.wb_operations.specs.Kept.{IsKept};
 ghost use Rattle.wb_resolved.specs.declared.attributes.Direction.TheVariants.{Synthesized};
 ghost use Rattle.wb_types.specs.Rules.{KindsOk};
 ghost use Rattle.wb_values.specs.Fits.{FitsTree};
@@ -16,7 +16,9 @@ ghost use Rattle.wb_values.specs.ValuesIn.{tree_in};
 use std::alloc::Global;
 use wb_certify::{CertifiedHost, certify_host};
 use wb_evaluator::{Evaluated, evaluate};
-use wb_operations::{OperationSignatures, standard_table};
+use wb_operations::{
+    Meaning, OperationRefusal, OperationSignatures, OperationTable, standard_table,
+};
 use wb_reader::read_spec;
 use wb_resolved::{Attribution, AttributionParts, Direction, Occurrence};
 use wb_syntax::Spec;
@@ -39,39 +41,78 @@ pub(crate) enum Answer {
 // A term, the name of an attribute, how many steps there are, and the answer.
 pub(crate) type Row = (&'static str, &'static str, u64, Answer);
 
-// Whether each row has its answer in the host of this text.
+// Whether each row has its answer in the host of this text, by the standard operations.
 pub(crate) fn rows_answer(alloc: Global, text: &str, rows: &[Row]) -> bool {
+    match standard_table(alloc) {
+        Ok(operations) => table_answers(alloc, text, &operations, rows),
+        Err(_) => false,
+    }
+}
+
+// The same by the operations of a table.
+pub(crate) fn table_answers<M: Meaning>(
+    alloc: Global,
+    text: &str,
+    operations: &OperationTable<M>,
+    rows: &[Row],
+) -> bool
+    requires kept { IsKept operations.now.signatures operations.now.built_in operations.now.runs.items M.meaning
+        (λ run vs. ⟦<Box<dyn Fn(&[Value]) -> Result<Value, OperationRefusal>> as Fn(&[Value]) -> Result<Value, OperationRefusal>>⟧.pre run vs)
+        (λ run vs r. ⟦<Box<dyn Fn(&[Value]) -> Result<Value, OperationRefusal>> as Fn(&[Value]) -> Result<Value, OperationRefusal>>⟧.post run vs r) }
+{
     match read_spec(alloc, text.as_bytes()) {
-        Ok(spec) => spec_answers(alloc, &spec, rows),
+        Ok(spec) => spec_answers(alloc, &spec, operations, rows),
         Err(_) => false,
     }
 }
 
 // The same for the host of this specification.
-fn spec_answers(alloc: Global, spec: &Spec, rows: &[Row]) -> bool {
-    match standard_table(alloc) {
-        Ok(operations) => match certify_host(alloc, spec, &operations) {
-            Ok(host) => host_answers(alloc, &host, rows),
-            Err(_) => false,
-        },
+fn spec_answers<M: Meaning>(
+    alloc: Global,
+    spec: &Spec,
+    operations: &OperationTable<M>,
+    rows: &[Row],
+) -> bool
+    requires kept { IsKept operations.now.signatures operations.now.built_in operations.now.runs.items M.meaning
+        (λ run vs. ⟦<Box<dyn Fn(&[Value]) -> Result<Value, OperationRefusal>> as Fn(&[Value]) -> Result<Value, OperationRefusal>>⟧.pre run vs)
+        (λ run vs r. ⟦<Box<dyn Fn(&[Value]) -> Result<Value, OperationRefusal>> as Fn(&[Value]) -> Result<Value, OperationRefusal>>⟧.post run vs r) }
+{
+    match certify_host(alloc, spec, operations) {
+        Ok(host) => host_answers(alloc, &host, operations, rows),
         Err(_) => false,
     }
 }
 
 // The same for a certified host.
-fn host_answers(alloc: Global, host: &CertifiedHost, rows: &[Row]) -> bool
-    requires { host.now.operations ≡ standard_signatures }
+fn host_answers<M: Meaning>(
+    alloc: Global,
+    host: &CertifiedHost,
+    operations: &OperationTable<M>,
+    rows: &[Row],
+) -> bool
+    requires over { host.now.operations ≡ operations.now.signatures }
+    requires kept { IsKept operations.now.signatures operations.now.built_in operations.now.runs.items M.meaning
+        (λ run vs. ⟦<Box<dyn Fn(&[Value]) -> Result<Value, OperationRefusal>> as Fn(&[Value]) -> Result<Value, OperationRefusal>>⟧.pre run vs)
+        (λ run vs r. ⟦<Box<dyn Fn(&[Value]) -> Result<Value, OperationRefusal>> as Fn(&[Value]) -> Result<Value, OperationRefusal>>⟧.post run vs r) }
 {
-    all_answer(alloc, &host.resolved().parts().attributes, rows)
+    all_answer(alloc, &host.resolved().parts().attributes, operations, rows)
 }
 
 // The same for attributes that are well defined and of their kinds.
-fn all_answer(alloc: Global, attributes: &Attribution, rows: &[Row]) -> bool
+fn all_answer<M: Meaning>(
+    alloc: Global,
+    attributes: &Attribution,
+    operations: &OperationTable<M>,
+    rows: &[Row],
+) -> bool
     requires productions { EachProduction attributes.now (IsWellDefinedProduction attributes.now) }
-    requires kinds { KindsOk attributes.now standard_signatures }
+    requires kinds { KindsOk attributes.now operations.now.signatures }
+    requires kept { IsKept operations.now.signatures operations.now.built_in operations.now.runs.items M.meaning
+        (λ run vs. ⟦<Box<dyn Fn(&[Value]) -> Result<Value, OperationRefusal>> as Fn(&[Value]) -> Result<Value, OperationRefusal>>⟧.pre run vs)
+        (λ run vs r. ⟦<Box<dyn Fn(&[Value]) -> Result<Value, OperationRefusal>> as Fn(&[Value]) -> Result<Value, OperationRefusal>>⟧.post run vs r) }
 {
     'rows: for row in rows {
-        if !row_answers(alloc, attributes, *row) {
+        if !row_answers(alloc, attributes, operations, *row) {
             return false;
         }
     }
@@ -79,9 +120,17 @@ fn all_answer(alloc: Global, attributes: &Attribution, rows: &[Row]) -> bool
 }
 
 // Whether a row has its answer.
-fn row_answers(alloc: Global, attributes: &Attribution, row: Row) -> bool
+fn row_answers<M: Meaning>(
+    alloc: Global,
+    attributes: &Attribution,
+    operations: &OperationTable<M>,
+    row: Row,
+) -> bool
     requires productions { EachProduction attributes.now (IsWellDefinedProduction attributes.now) }
-    requires kinds { KindsOk attributes.now standard_signatures }
+    requires kinds { KindsOk attributes.now operations.now.signatures }
+    requires kept { IsKept operations.now.signatures operations.now.built_in operations.now.runs.items M.meaning
+        (λ run vs. ⟦<Box<dyn Fn(&[Value]) -> Result<Value, OperationRefusal>> as Fn(&[Value]) -> Result<Value, OperationRefusal>>⟧.pre run vs)
+        (λ run vs r. ⟦<Box<dyn Fn(&[Value]) -> Result<Value, OperationRefusal>> as Fn(&[Value]) -> Result<Value, OperationRefusal>>⟧.post run vs r) }
 {
     let mut store = TreeStore::new(alloc);
     match read_term(
@@ -90,61 +139,36 @@ fn row_answers(alloc: Global, attributes: &Attribution, row: Row) -> bool
         &attributes.parts().signatures,
         &mut store,
     ) {
-        Ok(root) => tree_answers(alloc, attributes, &mut store, root, row),
+        Ok(root) => tree_answers(alloc, attributes, &mut store, root, operations, row),
         Err(_) => false,
     }
 }
 
 // The same, where the tree of the term is read.
-fn tree_answers(
+fn tree_answers<M: Meaning>(
     alloc: Global,
     attributes: &Attribution,
     store: &mut TreeStore,
     root: TreeId,
+    operations: &OperationTable<M>,
     row: Row,
 ) -> bool
     requires productions { EachProduction attributes.now (IsWellDefinedProduction attributes.now) }
-    requires kinds { KindsOk attributes.now standard_signatures }
+    requires kinds { KindsOk attributes.now operations.now.signatures }
     requires there { root.0 < length store.old }
     requires fits { (nonterminal : ℕ) × FitsTree attributes.now.signatures (tree_in store.old root.0) nonterminal }
+    requires kept { IsKept operations.now.signatures operations.now.built_in operations.now.runs.items M.meaning
+        (λ run vs. ⟦<Box<dyn Fn(&[Value]) -> Result<Value, OperationRefusal>> as Fn(&[Value]) -> Result<Value, OperationRefusal>>⟧.pre run vs)
+        (λ run vs r. ⟦<Box<dyn Fn(&[Value]) -> Result<Value, OperationRefusal>> as Fn(&[Value]) -> Result<Value, OperationRefusal>>⟧.post run vs r) }
 {
     match asked_at(attributes, store, root, row.1.as_bytes()) {
-        Some(attribute) => attribute_answers(
-            alloc, attributes, store, root, attribute, row.2, row.3,
-        ),
-        None => false,
-    }
-}
-
-// Whether this attribute of a tree has the answer within so many steps.
-fn attribute_answers(
-    alloc: Global,
-    attributes: &Attribution,
-    store: &mut TreeStore,
-    root: TreeId,
-    attribute: usize,
-    steps: u64,
-    answer: Answer,
-) -> bool
-    requires productions { EachProduction attributes.now (IsWellDefinedProduction attributes.now) }
-    requires kinds { KindsOk attributes.now standard_signatures }
-    requires there { root.0 < length store.old }
-    requires asked { IsAsked attributes.now (tree_in store.old root.0) attribute }
-{
-    match standard_table(alloc) {
-        Ok(operations) => match evaluate(
-            alloc,
-            attributes,
-            store,
-            root,
-            attribute,
-            steps,
-            &operations,
+        Some(attribute) => match evaluate(
+            alloc, attributes, store, root, attribute, row.2, operations,
         ) {
-            Ok(given) => shows(&given, operations.signatures(), answer),
+            Ok(given) => shows(&given, operations.signatures(), row.3),
             Err(_) => false,
         },
-        Err(_) => false,
+        None => false,
     }
 }
 

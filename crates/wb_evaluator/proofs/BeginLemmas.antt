@@ -12,19 +12,19 @@ use Rattle.wb_evaluation.specs.Answers.{at_root}
 use Rattle.wb_evaluation.specs.Evaluable.{IsEvaluable, IsAsked}
 use Rattle.wb_evaluation.specs.Instances.{Path, root, down, synthesized_at}
 use Rattle.wb_evaluator.proofs.MachineLemmas.{begins}
-use Rattle.wb_evaluator.proofs.SitesLemmas.{root_path}
+use Rattle.wb_memo.proofs.SitesLemmas.{root_path}
 use Rattle.wb_evaluator.specs.Inner.Machines.{HasTree, AreNamed, IsNode, IsMachine}
-use Rattle.wb_evaluator.specs.Inner.Memos.{count, path_in, numbered, recall, IsWhole}
+use Rattle.wb_memo.specs.Memos.{count, path_in, numbered, recall, IsWhole}
+use Rattle.wb_evaluator.specs.Inner.Piles.{Wait, waits, IsPiled}
 use Rattle.wb_evaluator.specs.Inner.State.{start}
-use Rattle.wb_rules.specs.Tables.{at}
-use Rattle.wb_evaluator.specs.declared.machine.Frame.{Frame}
+use Rattle.wb_memo.specs.Rows.{at}
 use Rattle.wb_evaluator.specs.declared.machine.Key.TheVariants as key
 use Rattle.wb_evaluator.specs.declared.machine.Machine.{Machine}
 
 module _ (a : AttributionParts) (operations : Operations) (trees : List Tree) (m : Machine) (evaluable : IsEvaluable a operations)
     (inside : m.root.0 < length trees) (asked : IsAsked a (tree_in trees m.root.0) m.attribute) (whole : IsWhole m.memo)
     (origins : m.memo.sites.origins.items ≡ []) (its_trees : m.memo.trees.items ≡ Some m.root ∷ []) (values : m.memo.values.items ≡ [])
-    (stack : m.stack.items ≡ key.Synthesized 0 m.attribute ∷ []) (frames : m.frames.items ≡ None ∷ []) (entered : m.entered ≡ 1) where
+    (stack : m.stack.items ≡ key.Synthesized 0 m.attribute ∷ []) (frames : waits m.frames ≡ None ∷ []) (piled : IsPiled m.frames) (entered : m.entered ≡ 1) where
   no_sites : count m.memo ≡ 0
   no_sites = ap length origins
 
@@ -36,8 +36,8 @@ module _ (a : AttributionParts) (operations : Operations) (trees : List Tree) (m
   only_root (suc i) id has = absurd (let h = sym (ap (λ ts. slice_get ts (suc i)) its_trees) ∙ has in cc h)
 
   nothing_known : (i x : ℕ) → recall m.memo i x ≡ None
-  nothing_known i x = by_number (at m.memo.cells.rows.items i x) refl where
-    by_number : (n : ℕ) → at m.memo.cells.rows.items i x ≡ n → recall m.memo i x ≡ None
+  nothing_known i x = by_number (at m.memo.cells i x) refl where
+    by_number : (n : ℕ) → at m.memo.cells i x ≡ n → recall m.memo i x ≡ None
     by_number zero is = ap (numbered m.memo.values.items) is
     by_number (suc n) is =
         absurd (let lt = whole.numbers i x n is in let l = ap length values in omega (arith, lt, l))
@@ -49,7 +49,7 @@ module _ (a : AttributionParts) (operations : Operations) (trees : List Tree) (m
   below_root zero q b le is = let h = sym root_here ∙ is in cc h
   below_root (suc i) q b le is = omega (arith, le, no_sites)
 
-  no_frame : (i : ℕ) (f : Frame) → slice_get (None ∷ []) i ≡ Some (Some f) → ⊥
+  no_frame : (i : ℕ) (f : Wait) → slice_get (None ∷ []) i ≡ Some (Some f) → ⊥
   no_frame zero f has = cc has
   no_frame (suc i) f has = cc has
 
@@ -88,4 +88,5 @@ module _ (a : AttributionParts) (operations : Operations) (trees : List Tree) (m
       count = ap length frames ∙ sym (ap length stack);
       each = λ i k f at has. absurd (no_frame i f (subst (λ fs. slice_get fs i ≡ Some (Some f)) frames has));
     };
+    piled = piled;
   }

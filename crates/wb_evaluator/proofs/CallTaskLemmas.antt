@@ -31,7 +31,7 @@ use Rattle.wb_evaluator.proofs.TaskLemmas.{popped_all, below_all}
 use Rattle.wb_evaluator.proofs.TaskLemmas.{size as size_of}
 use Rattle.wb_evaluator.proofs.TreeTaskLemmas.{IsPopped, pop, values_size}
 use Rattle.wb_evaluator.specs.Inner.Machines.{Runs}
-use Rattle.wb_evaluator.specs.Inner.Memos.{path_in}
+use Rattle.wb_memo.specs.Memos.{path_in}
 use Rattle.wb_evaluator.specs.Inner.Tasks.{Job, visit, build, call, choose, popped, below, on_top, resume}
 use Rattle.wb_evaluator.specs.Inner.Jobs.{stack_of, IsJob, Stacked, ValuesFit, JobsFit}
 use Rattle.wb_evaluator.specs.Inner.Works.{size_at, task_size, left_to_do, IsEvaluating}

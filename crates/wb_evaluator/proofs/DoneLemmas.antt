@@ -33,9 +33,9 @@ use Rattle.wb_evaluator.proofs.StackLemmas.{size_stands, sizes_stand, left_push,
 use Rattle.wb_evaluator.proofs.VisitLemmas.{IsVisiting, visiting_of, at_once, read_known, read_new, parts_of_build, parts_of_call, parts_of_choice, call_known}
 use Rattle.wb_evaluator.proofs.VisitLemmas.{ready, grown}
 use Rattle.wb_evaluator.specs.Inner.Machines.{tree_named, named, IsKey, Runs, IsSame, with_memo}
-use Rattle.wb_evaluator.specs.Inner.Memos.{path_in}
+use Rattle.wb_memo.specs.Memos.{path_in}
 use Rattle.wb_evaluator.specs.Inner.Reached.{IsReady, HasChild}
-use Rattle.wb_evaluator.specs.Inner.Sites.{step_of}
+use Rattle.wb_memo.specs.Sites.{step_of}
 use Rattle.wb_evaluator.specs.Inner.Tasks.{resume}
 use Rattle.wb_evaluator.specs.Inner.Jobs.{visiting, stack_of}
 use Rattle.wb_evaluator.specs.Inner.Works.{node_size, size_at, task_size, left_to_do, IsEvaluating, Parks, IsReading}
@@ -43,8 +43,8 @@ use Rattle.wb_evaluator.specs.Inner.Works.{HasChildAt, IsChildPushed, IsLess, Is
 use Rattle.wb_evaluator.specs.declared.machine.Key.{Key}
 use Rattle.wb_evaluator.specs.declared.machine.Key.TheVariants as key
 use Rattle.wb_evaluator.specs.declared.machine.Machine.{Machine}
-use Rattle.wb_evaluator.specs.declared.sites.Step.{Step}
-use Rattle.wb_evaluator.specs.declared.sites.Step.TheVariants as step
+use Rattle.wb_memo.specs.declared.sites.Step.{Step}
+use Rattle.wb_memo.specs.declared.sites.Step.TheVariants as step
 use Rattle.wb_evaluator.specs.declared.work.Task.{Task}
 use Rattle.wb_evaluator.specs.declared.work.Task.TheVariants as task
 use Rattle.wb_evaluator.specs.declared.work.Work.{Work}

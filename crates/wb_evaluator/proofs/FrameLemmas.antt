@@ -1,5 +1,5 @@
 -- Frames: expressions that wait, as the memo, the store and the instances that were entered grow, and as one is kept or taken.
-use Rattle.std.proofs.Common.{◌≡◌, ◌≢◌, ◌∙◌, ◌≤◌, ◌<◌, ◌-◌, ◌++◌, inl, inr, ℕ, zero, suc, List, [], ◌∷◌, Option, Some, None, All, length, refl, sym}
+use Rattle.std.proofs.Common.{◌≡◌, ◌≢◌, ◌∙◌, ◌≤◌, ◌<◌, ◌++◌, inl, inr, ℕ, zero, suc, List, [], ◌∷◌, Option, Some, None, All, length, refl, sym}
 use Rattle.std.proofs.Common.{ap, subst, arith, slice_get, length-append, take}
 use Rattle.std.specs.List.{slice_set}
 use Rattle.std.proofs.lemmas.Bool.{cases_eq}
@@ -22,12 +22,12 @@ use Rattle.wb_evaluation.specs.Instances.{Path, Instance}
 use Rattle.wb_evaluator.proofs.MachineLemmas.{come_more}
 use Rattle.wb_evaluator.specs.Inner.Jobs.{stack_of, ValuesFit}
 use Rattle.wb_evaluator.specs.Inner.Machines.{HasTree, named, IsKey, IsSuspended, AreSuspended}
-use Rattle.wb_evaluator.specs.Inner.Memos.{count, path_in}
+use Rattle.wb_memo.specs.Memos.{count, path_in}
+use Rattle.wb_evaluator.specs.Inner.Piles.{Wait}
 use Rattle.wb_evaluator.specs.Inner.State.{HasCome}
 use Rattle.wb_evaluator.specs.Inner.Tasks.{pushed, resume}
-use Rattle.wb_evaluator.specs.declared.machine.Frame.{Frame}
 use Rattle.wb_evaluator.specs.declared.machine.Key.{Key}
-use Rattle.wb_evaluator.specs.declared.memo.Memo.{Memo}
+use Rattle.wb_memo.specs.declared.memo.Memo.{Memo}
 use Rattle.wb_evaluator.specs.declared.work.Task.{Task}
 
 -- an element that is set
@@ -63,7 +63,7 @@ still_inside trees others (stored.Text s) inside = tt
 still_inside trees others (stored.Tree id) inside = let l = length-append trees others in omega (arith, l, inside)
 
 module _ (a : AttributionParts) (operations : Operations) (trees : List Tree) (top : Tree) (attribute : ℕ) (all : List Instance) where
-  abbrev pub Frames : Memo → List Key → List (Option Frame) → Type 0
+  abbrev pub Frames : Memo → List Key → List (Option Wait) → Type 0
   Frames = AreSuspended a operations trees top attribute all
 
   -- at another memo, where the site has its path and an equal tree
@@ -94,7 +94,7 @@ module _ (a : AttributionParts) (operations : Operations) (trees : List Tree) (t
             (resume operations (path_in new site) (children_of (tree_in trees id.0)) w.jobs stack)) same two;
       }
 
-  pub frames_moved : (old new : Memo) (keys : List Key) (frames : List (Option Frame)) → Frames old keys frames → count old ≤ count new
+  pub frames_moved : (old new : Memo) (keys : List Key) (frames : List (Option Wait)) → Frames old keys frames → count old ≤ count new
       → ((i : ℕ) → i ≤ count old → path_in new i ≡ path_in old i)
       → ((i : ℕ) (id : TreeId) → i ≤ count old → HasTree old i id → (other : TreeId) × HasTree new i other × (tree_in trees other.0 ≡ tree_in trees id.0))
       → ((k : Key) → IsKey old k → IsKey new k) → ((k : Key) → IsKey old k → named new k ≡ named old k) → Frames new keys frames
@@ -103,7 +103,7 @@ module _ (a : AttributionParts) (operations : Operations) (trees : List Tree) (t
     each = λ i k f at has.
         let (is_key, w) = were.each i k f at has in (
           keys_kept k is_key,
-          moved old new (named old k) (named new k) f.site f.nodes.now f.work.tasks.items f.work.values.items w (sym (names k is_key))
+          moved old new (named old k) (named new k) f.site f.nodes f.tasks f.values w (sym (names k is_key))
               (paths f.site w.there) (trees_kept f.site w.id w.there w.has) grown,
         );
   }
@@ -127,7 +127,7 @@ module _ (a : AttributionParts) (operations : Operations) (trees : List Tree) (t
     come = come_more a operations top attribute x w.come;
   }
 
-  pub frames_entered : (m : Memo) (keys : List Key) (frames : List (Option Frame)) (k : Key) (x : Instance) → Frames m keys frames
+  pub frames_entered : (m : Memo) (keys : List Key) (frames : List (Option Wait)) (k : Key) (x : Instance) → Frames m keys frames
       → AreSuspended a operations trees top attribute (all ++ x ∷ []) m (keys ++ k ∷ []) (frames ++ None ∷ [])
   frames_entered m keys frames k x were = record {
     count = let l = length-append keys (k ∷ []) in let n = length-append frames (None ∷ []) in let c = were.count in omega (arith, l, n, c);
@@ -136,14 +136,14 @@ module _ (a : AttributionParts) (operations : Operations) (trees : List Tree) (t
       | inl before ↦ elim (at_push keys k j i at) [
         | inl old ↦
             let (is_key, w) = were.each i j f old before in
-            (is_key, entered_one m (named m j) x f.site f.nodes.now f.work.tasks.items f.work.values.items w)
+            (is_key, entered_one m (named m j) x f.site f.nodes f.tasks f.values w)
         | inr (last, same) ↦ absurd (let lt = slice_get_within frames i (Some f) before in let c = were.count in omega (arith, lt, last, c))
       ]
     ];
   }
 
   -- an instance is left
-  pub frames_left : (m : Memo) (front keys : List Key) (k : Key) (frames rest : List (Option Frame)) → Frames m keys frames
+  pub frames_left : (m : Memo) (front keys : List Key) (k : Key) (frames rest : List (Option Wait)) → Frames m keys frames
       → keys ≡ front ++ k ∷ [] → rest ≡ take (length front) frames → Frames m front rest
   frames_left m front keys k frames rest were keys_are rest_is = record {
     count =
@@ -155,13 +155,13 @@ module _ (a : AttributionParts) (operations : Operations) (trees : List Tree) (t
         omega (arith, r, t);
     each = λ i j f at has.
         were.each i j f (subst (λ (ks : List Key). slice_get ks i ≡ Some j) (sym keys_are) (append_keeps front (k ∷ []) i j at))
-        (at_take frames (length front) i (Some f) (subst (λ (fs : List (Option Frame)). slice_get fs i ≡ Some (Some f)) rest_is has)).1;
+        (at_take frames (length front) i (Some f) (subst (λ (fs : List (Option Wait)). slice_get fs i ≡ Some (Some f)) rest_is has)).1;
   }
 
   -- a frame is taken, or kept
-  pub frames_set : (m : Memo) (keys : List Key) (frames : List (Option Frame)) (n : ℕ) (x : Option Frame) → Frames m keys frames → n < length keys
-      → ((k : Key) (f : Frame) → slice_get keys n ≡ Some k → x ≡ Some f → IsKey m k
-      × IsSuspended a operations trees top attribute all m (named m k) f.site f.nodes.now f.work.tasks.items f.work.values.items)
+  pub frames_set : (m : Memo) (keys : List Key) (frames : List (Option Wait)) (n : ℕ) (x : Option Wait) → Frames m keys frames → n < length keys
+      → ((k : Key) (f : Wait) → slice_get keys n ≡ Some k → x ≡ Some f → IsKey m k
+      × IsSuspended a operations trees top attribute all m (named m k) f.site f.nodes f.tasks f.values)
       → Frames m keys (slice_set frames n x)
   frames_set m keys frames n x were within its = record {
     count = length-set frames n x ∙ were.count;
@@ -200,7 +200,7 @@ module _ (a : AttributionParts) (operations : Operations) (trees : List Tree) (t
               (resume operations (path_in m site) (children_of z) w.jobs (stack_of trees values))) (sym tree_is) w.come);
         }
 
-    pub more_frames : (m : Memo) (keys : List Key) (frames : List (Option Frame)) → Frames m keys frames
+    pub more_frames : (m : Memo) (keys : List Key) (frames : List (Option Wait)) → Frames m keys frames
         → ((i : ℕ) (id : TreeId) → HasTree m i id → id.0 < length trees)
         → AreSuspended a operations (trees ++ others) top attribute all m keys frames
     more_frames m keys frames were within = record {
@@ -208,6 +208,6 @@ module _ (a : AttributionParts) (operations : Operations) (trees : List Tree) (t
       each = λ i k f at has.
           let (is_key, w) = were.each i k f at has in (
             is_key,
-            more_suspended m (named m k) f.site f.nodes.now f.work.tasks.items f.work.values.items w (within f.site w.id w.has),
+            more_suspended m (named m k) f.site f.nodes f.tasks f.values w (within f.site w.id w.has),
           );
     }

@@ -1,5 +1,5 @@
 -- An instance is left with its value: the memo knows it, and the one that waited is at work.
-use Rattle.std.proofs.Common.{◌≡◌, ◌≢◌, ◌∙◌, ◌⊎◌, ◌≤◌, ◌<◌, ◌+◌, ◌-◌, ◌++◌, inl, inr, ℕ, zero, suc, List, [], ◌∷◌, Some, length}
+use Rattle.std.proofs.Common.{◌≡◌, ◌≢◌, ◌∙◌, ◌⊎◌, ◌≤◌, ◌<◌, ◌+◌, ◌-◌, ◌++◌, inl, inr, ℕ, suc, List, [], ◌∷◌, Some, length}
 use Rattle.std.proofs.Common.{refl, sym, ap, subst, arith, slice_get, Contains, take}
 use Rattle.std.specs.List.{slice_set}
 use Rattle.std.proofs.lemmas.Bool.{cases_eq}
@@ -27,14 +27,15 @@ use Rattle.wb_evaluator.proofs.MachineLemmas.{leaves}
 use Rattle.wb_evaluator.proofs.StepLemmas.{named_less, last_key, this_value, memo_synthesized, memo_inherited, still_recalled, same_key, same_named, paths, counts, tree_new}
 use Rattle.wb_evaluator.specs.Inner.Machines.{HasTree, tree_named, named, IsKey, AreNamed, IsRecalled, IsValueOf, IsNode, IsMachine, IsTree, IsKeptIn, AreSuspended}
 use Rattle.wb_evaluator.specs.Inner.Machines.{Runs}
-use Rattle.wb_evaluator.specs.Inner.Memos.{count, path_in, numbered, recall, IsWhole}
-use Rattle.wb_evaluator.specs.Inner.Sites.{path_at, paths_of, IsSites}
-use Rattle.wb_rules.specs.Tables.{at}
+use Rattle.wb_memo.specs.Memos.{count, path_in, numbered, recall, IsWhole}
+use Rattle.wb_memo.specs.Sites.{path_at, paths_of, IsSites}
+use Rattle.wb_memo.specs.Rows.{at}
+use Rattle.wb_evaluator.specs.Inner.Piles.{waits, IsPiled}
 use Rattle.wb_evaluator.specs.Inner.State.{IsState}
 use Rattle.wb_evaluator.specs.declared.machine.Key.{Key}
 use Rattle.wb_evaluator.specs.declared.machine.Key.TheVariants as key
 use Rattle.wb_evaluator.specs.declared.machine.Machine.{Machine}
-use Rattle.wb_evaluator.specs.declared.memo.Memo.{Memo}
+use Rattle.wb_memo.specs.declared.memo.Memo.{Memo}
 
 -- as many instances as keys
 pub named_length : (m : Memo) (ks : List Key) (base is : List Instance) → AreNamed m ks base is → length is ≡ length ks + length base
@@ -56,8 +57,8 @@ module _ (a : AttributionParts) (operations : Operations) (trees : List Tree) (m
 
   pub left : (new : Machine) (front : List Key) (k : Key) → m.stack.items ≡ front ++ k ∷ [] → 0 < length front → IsKept new.memo
       → new.root ≡ m.root → new.attribute ≡ m.attribute → new.entered ≡ m.entered → new.stack.items ≡ front
-      → new.frames.items ≡ take (length front) m.frames.items → IsMachine a operations trees new
-  left new front k stack_is some kept root_is attribute count_is new_stack new_frames =
+      → waits new.frames ≡ take (length front) (waits m.frames) → IsPiled new.frames → IsMachine a operations trees new
+  left new front k stack_is some kept root_is attribute count_is new_stack new_frames piled =
       let named_all = subst (λ (ks : List Key). AreNamed m.memo ks [] (r.this ∷ r.waiting)) stack_is r.stack in
       let (is_key, (rest, same, below)) = named_less m.memo front k [] (r.this ∷ r.waiting) named_all in
       let waiting_is : r.waiting ≡ rest = cc same in
@@ -85,11 +86,12 @@ module _ (a : AttributionParts) (operations : Operations) (trees : List Tree) (m
             | inr recalled ↦ inr (kept.recalled z recalled)
           ];
           stack = subst (λ (ks : List Key). AreNamed new.memo ks [] (j ∷ js)) (sym new_stack) (names_same new.memo kept front [] (j ∷ js) below);
-          frames = subst (λ (ks : List Key). AreSuspended a operations trees r.top new.attribute r.all new.memo ks new.frames.items) (sym new_stack)
-              (subst (λ (y : ℕ). AreSuspended a operations trees r.top y r.all new.memo front new.frames.items) (sym attribute)
-              (frames_moved a operations trees r.top m.attribute r.all m.memo new.memo front new.frames.items
-              (frames_left a operations trees r.top m.attribute r.all m.memo front m.stack.items k m.frames.items new.frames.items r.frames stack_is new_frames)
+          frames = subst (λ (ks : List Key). AreSuspended a operations trees r.top new.attribute r.all new.memo ks (waits new.frames)) (sym new_stack)
+              (subst (λ (y : ℕ). AreSuspended a operations trees r.top y r.all new.memo front (waits new.frames)) (sym attribute)
+              (frames_moved a operations trees r.top m.attribute r.all m.memo new.memo front (waits new.frames)
+              (frames_left a operations trees r.top m.attribute r.all m.memo front m.stack.items k (waits m.frames) (waits new.frames) r.frames stack_is new_frames)
               (let c = kept.counts in omega (arith, c)) (λ n le. kept.paths n) (λ n id le has. kept.trees_kept n id has) kept.keys (λ c is. kept.names c)));
+          piled = piled;
         }
 
   -- an attribute's value
@@ -152,7 +154,7 @@ module _ (a : AttributionParts) (operations : Operations) (trees : List Tree) (m
 
     same_recall : (i y : ℕ) → recall new i y ≡ recall m.memo i y
     same_recall i y =
-        ap (λ vs. numbered vs.items (at new.cells.rows.items i y)) values ∙ ap (λ cs. numbered m.memo.values.items (at cs.rows.items i y)) cells
+        ap (λ vs. numbered vs.items (at new.cells i y)) values ∙ ap (λ cs. numbered m.memo.values.items (at cs i y)) cells
 
     within : site < length m.memo.trees.items
     within = let t = r.memo.whole.trees in omega (arith, le, t)
@@ -187,9 +189,9 @@ module _ (a : AttributionParts) (operations : Operations) (trees : List Tree) (m
         whole = record {
           sites = subst IsSites (sym sites) r.memo.whole.sites;
           trees = ap length set ∙ length-set m.memo.trees.items site (Some id) ∙ r.memo.whole.trees ∙ ap suc (sym same_count);
-          rows = ap (λ cs. length cs.rows.items) cells ∙ r.memo.whole.rows ∙ ap suc (sym same_count);
+          rows = let c = ap length cells in let l = r.memo.whole.rows in omega (arith, c, l, same_count);
           numbers = λ i y n is. subst (λ vs. n < length vs.items) (sym values)
-              (r.memo.whole.numbers i y n (sym (ap (λ cs. at cs.rows.items i y) cells) ∙ is));
+              (r.memo.whole.numbers i y n (sym (ap (λ cs. at cs i y) cells) ∙ is));
         };
         nodes = λ i other has. subst (λ (p : Path). IsNode a operations trees r.top p other) (sym (same_path i)) (elim (tree_cases i other has) [
           | inl (e, f) ↦ subst (λ (z : ℕ). IsNode a operations trees r.top (path_in m.memo z) other) (sym e)

@@ -1,8 +1,6 @@
 pub mod AnsweringLemmas
 pub mod MachineLemmas
 pub mod TaskLemmas
-pub mod SitesLemmas
-pub mod MemoLemmas
 pub mod FrameLemmas
 pub mod RunLemmas
 pub mod ChildLemmas
@@ -15,4 +13,5 @@ pub mod StepLemmas
 pub mod LeaveLemmas
 pub mod BeginLemmas
 pub mod StartLemmas
+pub mod PileLemmas
 pub mod ParkLemmas

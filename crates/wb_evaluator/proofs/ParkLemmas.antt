@@ -1,8 +1,7 @@
 -- An expression that waits is kept with its instance, and taken when that is at work again.
-use Rattle.std.proofs.Common.{◌≡◌, ◌∙◌, ◌≤◌, ◌<◌, ◌-◌, ◌++◌, ℕ, List, [], ◌∷◌, Option, Some, None, Vec, Global, length, sym, ap, subst, arith, slice_get}
+use Rattle.std.proofs.Common.{◌≡◌, ◌∙◌, ◌<◌, ◌-◌, ℕ, List, Some, None, length, sym, subst, arith, slice_get}
 use Rattle.std.specs.List.{slice_set}
 use Rattle.std.proofs.lemmas.Option.{same_Some}
-use Rattle.wb_lemmas.proofs.Places.{at_once}
 use Rattle.wb_operations.specs.Operations.{Operations}
 use Rattle.wb_resolved.specs.declared.attribution.AttributionParts.{AttributionParts}
 use Rattle.wb_resolved.specs.Expression.{Node}
@@ -12,23 +11,25 @@ use Rattle.wb_values.specs.ValuesIn.{tree_in}
 use Rattle.wb_evaluation.specs.Instances.{Instance}
 use Rattle.wb_evaluator.proofs.FrameLemmas.{frames_set}
 use Rattle.wb_evaluator.proofs.LeaveLemmas.{key_here}
+use Rattle.wb_evaluator.proofs.PileLemmas.{waits_length}
 use Rattle.wb_evaluator.proofs.StartLemmas.{stack_some}
 use Rattle.wb_evaluator.specs.Inner.Jobs.{stack_of}
-use Rattle.wb_evaluator.specs.Inner.Machines.{named, IsKey, IsSuspended, AreSuspended, IsMachine, Wants, with_frames}
-use Rattle.wb_evaluator.specs.Inner.Memos.{path_in}
+use Rattle.wb_evaluator.specs.Inner.Machines.{named, IsSuspended, AreSuspended, IsMachine, Wants, with_frames}
+use Rattle.wb_memo.specs.Memos.{path_in}
+use Rattle.wb_evaluator.specs.Inner.Piles.{Wait, wait, waits, IsPiled}
 use Rattle.wb_evaluator.specs.Inner.State.{HasCome}
 use Rattle.wb_evaluator.specs.Inner.Tasks.{resume}
 use Rattle.wb_evaluator.specs.Inner.Works.{IsEvaluating, Parks}
-use Rattle.wb_evaluator.specs.declared.machine.Frame.{Frame}
+use Rattle.wb_evaluator.specs.declared.frames.Frames.{Frames}
 use Rattle.wb_evaluator.specs.declared.machine.Key.{Key}
 use Rattle.wb_evaluator.specs.declared.machine.Machine.{Machine}
 use Rattle.wb_evaluator.specs.declared.work.Task.{Task}
 
 module _ (a : AttributionParts) (operations : Operations) (trees : List Tree) (m : Machine) where
   -- a machine with other frames
-  abbrev framed : (r : IsMachine a operations trees m) (frames : Vec (Option Frame) Global)
-      → AreSuspended a operations trees r.top m.attribute r.all m.memo m.stack.items frames.items → IsMachine a operations trees (with_frames m frames)
-  framed r frames suspended = record {
+  abbrev framed : (r : IsMachine a operations trees m) (frames : Frames)
+      → AreSuspended a operations trees r.top m.attribute r.all m.memo m.stack.items (waits frames) → IsPiled frames → IsMachine a operations trees (with_frames m frames)
+  framed r frames suspended piled = record {
     top = r.top;
     root_inside = r.root_inside;
     root_is = r.root_is;
@@ -43,24 +44,33 @@ module _ (a : AttributionParts) (operations : Operations) (trees : List Tree) (m
     complete = r.complete;
     stack = r.stack;
     frames = suspended;
+    piled = piled;
   }
 
-  module _ (r : IsMachine a operations trees m) (frames : Vec (Option Frame) Global)
-      (taken : frames.items ≡ slice_set m.frames.items (length m.stack.items - 1) None) where
-    without : AreSuspended a operations trees r.top m.attribute r.all m.memo m.stack.items frames.items
+  -- each instance has a frame or none
+  pub rows_count : IsMachine a operations trees m → length m.frames.rows.items ≡ length m.stack.items
+  rows_count r = sym (waits_length m.frames.rows.items m.frames.tasks.items m.frames.values.items) ∙ r.frames.count
+
+  pub rows_some : IsMachine a operations trees m → 0 < length m.frames.rows.items
+  rows_some r = let c = rows_count r in let s = stack_some a operations trees m r in omega (arith, c, s)
+
+  module _ (r : IsMachine a operations trees m) (frames : Frames)
+      (piled : IsPiled frames)
+      (taken : waits frames ≡ slice_set (waits m.frames) (length m.stack.items - 1) None) where
+    without : AreSuspended a operations trees r.top m.attribute r.all m.memo m.stack.items (waits frames)
     without =
         let some = stack_some a operations trees m r in
         subst (AreSuspended a operations trees r.top m.attribute r.all m.memo m.stack.items) (sym taken)
-        (frames_set a operations trees r.top m.attribute r.all m.memo m.stack.items m.frames.items (length m.stack.items - 1) None r.frames
+        (frames_set a operations trees r.top m.attribute r.all m.memo m.stack.items (waits m.frames) (length m.stack.items - 1) None r.frames
         (omega (arith, some)) (λ k f at same. absurd (cc same)))
 
     -- the frame of the instance at work is taken
     pub started : IsMachine a operations trees (with_frames m frames)
-    started = framed r frames without
+    started = framed r frames without piled
 
-    pub resumed : (k : Key) (f : Frame) → slice_get m.stack.items (length m.stack.items - 1) ≡ Some k
-        → slice_get m.frames.items (length m.stack.items - 1) ≡ Some (Some f)
-        → IsEvaluating a operations trees (with_frames m frames) f.site f.nodes.now f.work.tasks.items f.work.values.items
+    pub resumed : (k : Key) (f : Wait) → slice_get m.stack.items (length m.stack.items - 1) ≡ Some k
+        → slice_get (waits m.frames) (length m.stack.items - 1) ≡ Some (Some f)
+        → IsEvaluating a operations trees (with_frames m frames) f.site f.nodes f.tasks f.values
     resumed k f at has =
         let (is_key, w) = r.frames.each (length m.stack.items - 1) k f at has in
         let (its, this_is) = key_here a operations trees m r k at in
@@ -77,46 +87,36 @@ module _ (a : AttributionParts) (operations : Operations) (trees : List Tree) (m
           values_fit = w.values_fit;
           jobs_fit = w.jobs_fit;
           runs = record {
-            machine = framed r frames without;
+            machine = framed r frames without piled;
             come = subst (λ (i : Instance). HasCome a operations r.top m.attribute r.all i (resume operations (path_in m.memo f.site)
-                (children_of (tree_in trees w.id.0)) w.jobs (stack_of trees f.work.values.items))) (sym this_is) w.come;
+                (children_of (tree_in trees w.id.0)) w.jobs (stack_of trees f.values))) (sym this_is) w.come;
           };
         }
 
-  -- the frame of the instance at work is kept
+  -- what is left at the instance at work is kept
   module _ (site : ℕ) (nodes : List Node) (tasks : List Task) (values : List Value) (key : Key) (p : Parks a operations trees m site nodes tasks values key)
-      (frames : Vec (Option Frame) Global) (f : Frame) (site_is : f.site ≡ site) (nodes_are : f.nodes.now ≡ nodes)
-      (tasks_are : f.work.tasks.items ≡ tasks) (values_are : f.work.values.items ≡ values)
-      (kept : frames.items ≡ slice_set m.frames.items (length m.stack.items - 1) (Some f)) where
+      (frames : Frames) (piled : IsPiled frames)
+      (kept : waits frames ≡ slice_set (waits m.frames) (length m.stack.items - 1) (Some (wait site nodes tasks values))) where
     abbrev r : IsMachine a operations trees m
     r = p.wants.runs.machine
 
-    its_frame : IsSuspended a operations trees r.top m.attribute r.all m.memo r.this f.site f.nodes.now f.work.tasks.items f.work.values.items
-    its_frame =
-        subst (λ (n : ℕ). IsSuspended a operations trees r.top m.attribute r.all m.memo r.this n f.nodes.now f.work.tasks.items f.work.values.items) (sym site_is)
-        (subst (λ (ns : List Node). IsSuspended a operations trees r.top m.attribute r.all m.memo r.this site ns f.work.tasks.items f.work.values.items)
-        (sym nodes_are)
-        (subst (λ (ts : List Task). IsSuspended a operations trees r.top m.attribute r.all m.memo r.this site nodes ts f.work.values.items) (sym tasks_are)
-        (subst (IsSuspended a operations trees r.top m.attribute r.all m.memo r.this site nodes tasks) (sym values_are) p.waits)))
-
-    with_it : AreSuspended a operations trees r.top m.attribute r.all m.memo m.stack.items frames.items
+    with_it : AreSuspended a operations trees r.top m.attribute r.all m.memo m.stack.items (waits frames)
     with_it =
         let some = stack_some a operations trees m r in
         subst (AreSuspended a operations trees r.top m.attribute r.all m.memo m.stack.items) (sym kept)
-        (frames_set a operations trees r.top m.attribute r.all m.memo m.stack.items m.frames.items (length m.stack.items - 1) (Some f) r.frames
-        (omega (arith, some)) (λ k other at same.
+        (frames_set a operations trees r.top m.attribute r.all m.memo m.stack.items (waits m.frames) (length m.stack.items - 1)
+        (Some (wait site nodes tasks values)) r.frames (omega (arith, some)) (λ k other at same.
         let (is_key, this_is) = key_here a operations trees m r k at in
-        let f_is : f ≡ other = same_Some f other same in (
+        let f_is : wait site nodes tasks values ≡ other = same_Some (wait site nodes tasks values) other same in (
           is_key,
-          subst (λ (z : Frame). IsSuspended a operations trees r.top m.attribute r.all m.memo (named m.memo k) z.site z.nodes.now z.work.tasks.items
-              z.work.values.items) f_is (subst (λ (i : Instance). IsSuspended a operations trees r.top m.attribute r.all m.memo i f.site f.nodes.now
-              f.work.tasks.items f.work.values.items) this_is its_frame),
+          subst (λ (z : Wait). IsSuspended a operations trees r.top m.attribute r.all m.memo (named m.memo k) z.site z.nodes z.tasks z.values) f_is
+              (subst (λ (i : Instance). IsSuspended a operations trees r.top m.attribute r.all m.memo i site nodes tasks values) this_is p.waits),
         )))
 
     pub parked : Wants a operations trees (with_frames m frames) key
     parked = record {
       next = p.wants.next;
-      runs = record { machine = framed r frames with_it; come = p.wants.runs.come };
+      runs = record { machine = framed r frames with_it piled; come = p.wants.runs.come };
       is_key = p.wants.is_key;
       fresh = p.wants.fresh;
     }

@@ -2,7 +2,7 @@
 use Rattle.std.proofs.Common.{◌≡◌, ◌∙◌, ◌≤◌, ◌<◌, ◌++◌, inl, inr, ℕ, zero, suc, List, [], ◌∷◌, Option, Some, None, length, refl, sym, ap, subst, arith}
 use Rattle.std.proofs.Common.{slice_get, length-append, Contains, get_or}
 use Rattle.std.proofs.lemmas.Bool.{cases_lt}
-use Rattle.std.proofs.lemmas.List.{get_or_append_left, length-map}
+use Rattle.std.proofs.lemmas.List.{get_or_append_left}
 use Rattle.std.proofs.lemmas.Option.{slice_get_within, same_Some}
 use Rattle.wb_lemmas.proofs.Members.{contains_first}
 use Rattle.wb_attributes.specs.Occurrences.{Goes}
@@ -25,17 +25,17 @@ use Rattle.wb_evaluation.specs.Needed.{next}
 use Rattle.wb_evaluation.specs.Walks.{value, Walk, read}
 use Rattle.wb_evaluator.proofs.FrameLemmas.{frames_moved, more_frames}
 use Rattle.wb_evaluator.proofs.MachineLemmas.{never_waiting, goes_on, reads_here}
-use Rattle.wb_evaluator.proofs.SitesLemmas.{one_site}
+use Rattle.wb_memo.proofs.SitesLemmas.{one_site}
 use Rattle.wb_evaluator.specs.Inner.Machines.{HasTree, tree_named, named, IsKey, AreNamed, tree_value, known, IsRecalled, IsValueOf, IsNode}
 use Rattle.wb_evaluator.specs.Inner.Machines.{IsMemo, IsMachine, Runs, with_memo}
-use Rattle.wb_evaluator.specs.Inner.Memos.{count, path_in, numbered, recall, IsWhole, IsGrown, IsBelow}
-use Rattle.wb_evaluator.specs.Inner.Sites.{step_of}
-use Rattle.wb_rules.specs.Tables.{in_row, rows_of}
+use Rattle.wb_memo.specs.Memos.{count, path_in, numbered, recall, IsWhole, IsGrown, IsBelow}
+use Rattle.wb_evaluator.specs.Inner.Piles.{waits}
+use Rattle.wb_memo.specs.Sites.{step_of}
 use Rattle.wb_evaluator.specs.declared.machine.Key.{Key}
 use Rattle.wb_evaluator.specs.declared.machine.Key.TheVariants as key
 use Rattle.wb_evaluator.specs.declared.machine.Machine.{Machine}
-use Rattle.wb_evaluator.specs.declared.memo.Memo.{Memo}
-use Rattle.wb_evaluator.specs.declared.sites.Step.{Step}
+use Rattle.wb_memo.specs.declared.memo.Memo.{Memo}
+use Rattle.wb_memo.specs.declared.sites.Step.{Step}
 
 -- nothing is known of a site that isn't there
 past_rows : {X : Type 0} (xs : List (List X)) (i : ℕ) → length xs ≤ i → get_or xs i [] ≡ []
@@ -45,9 +45,8 @@ past_rows (x ∷ xs) (suc i) le = past_rows xs i (omega (arith, le))
 
 none_past : (m : Memo) (i x : ℕ) → IsWhole m → count m < i → recall m i x ≡ None
 none_past m i x whole lt =
-    let l = length-map m.cells.rows.items (λ row. row.items) in
     let r = whole.rows in
-    ap (λ (row : List ℕ). numbered m.values.items (in_row row x)) (past_rows (rows_of m.cells.rows.items) i (omega (arith, l, r, lt)))
+    ap (λ (row : List ℕ). numbered m.values.items (get_or row x 0)) (past_rows m.cells i (omega (arith, r, lt)))
 
 module _ (a : AttributionParts) (operations : Operations) (trees : List Tree) where
   abbrev pub Runs_ : Machine → Walk → Type 0
@@ -172,10 +171,11 @@ module _ (a : AttributionParts) (operations : Operations) (trees : List Tree) wh
             | inr recalled ↦ inr (grown_recalled m.memo new parent site step its_tree r.top r.all r.memo whole grown below there has given i recalled)
           ];
           stack = grown_stack m.memo new parent site step its_tree r.top r.all r.memo whole grown below there has given m.stack.items [] _ r.stack;
-          frames = frames_moved a operations trees r.top m.attribute r.all m.memo new m.stack.items m.frames.items r.frames grown.more grown.paths
+          frames = frames_moved a operations trees r.top m.attribute r.all m.memo new m.stack.items (waits m.frames) r.frames grown.more grown.paths
               (λ i id le had. (id, grown.trees i le ∙ had, refl))
               (grown_key m.memo new parent site step its_tree r.top r.all r.memo whole grown below there has given)
               (grown_named m.memo new parent site step its_tree r.top r.all r.memo whole grown below there has given);
+          piled = r.piled;
         };
         come = runs.come;
       }
@@ -312,8 +312,9 @@ module _ (a : AttributionParts) (operations : Operations) (trees : List Tree) wh
       };
       complete = r.complete;
       stack = r.stack;
-      frames = more_frames a operations trees r.top m.attribute r.all more m.memo m.stack.items m.frames.items r.frames
+      frames = more_frames a operations trees r.top m.attribute r.all more m.memo m.stack.items (waits m.frames) r.frames
           (λ i id has. (r.memo.nodes i id has).inside);
+      piled = r.piled;
     }
 
     pub more_runs : (m : Machine) (w : Walk) → Runs_ m w → Runs a operations (trees ++ more) m w

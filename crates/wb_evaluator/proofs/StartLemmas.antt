@@ -33,11 +33,11 @@ use Rattle.std.proofs.lemmas.Option.{slice_get-get_or}
 use Rattle.wb_evaluator.proofs.LeaveLemmas.{named_length, key_here}
 use Rattle.wb_evaluator.proofs.MachineLemmas.{never_missed, goes_on}
 use Rattle.wb_evaluator.proofs.RunLemmas.{runs_on, not_entered, grown_runs, IsGiven}
-use Rattle.wb_evaluator.proofs.SitesLemmas.{site_path, root_path}
+use Rattle.wb_memo.proofs.SitesLemmas.{site_path, root_path}
 use Rattle.wb_evaluator.specs.Inner.Machines.{HasTree, tree_named, tree_value, named, IsKey, known, IsMachine, Runs, Wants, with_memo}
-use Rattle.wb_evaluator.specs.Inner.Memos.{count, path_in, IsWhole, IsGrown}
+use Rattle.wb_memo.specs.Memos.{count, path_in, IsWhole, IsGrown}
 use Rattle.wb_evaluator.specs.Inner.Reached.{IsReached}
-use Rattle.wb_evaluator.specs.Inner.Sites.{step_of}
+use Rattle.wb_memo.specs.Sites.{step_of}
 use Rattle.wb_evaluator.specs.Inner.Starts.{HasProduction, IsProductionAt, IsAtWork, IsStarting, IsAlone, IsForwarding}
 use Rattle.wb_evaluator.specs.Inner.State.{Passed, at_once}
 use Rattle.wb_evaluator.specs.Inner.Tasks.{visit, resume}
@@ -45,9 +45,9 @@ use Rattle.wb_evaluator.specs.Inner.Works.{IsEvaluating}
 use Rattle.wb_evaluator.specs.declared.machine.Key.{Key}
 use Rattle.wb_evaluator.specs.declared.machine.Key.TheVariants as key
 use Rattle.wb_evaluator.specs.declared.machine.Machine.{Machine}
-use Rattle.wb_evaluator.specs.declared.memo.Memo.{Memo}
-use Rattle.wb_evaluator.specs.declared.sites.Origin.{Origin}
-use Rattle.wb_evaluator.specs.declared.sites.Step.TheVariants as step
+use Rattle.wb_memo.specs.declared.memo.Memo.{Memo}
+use Rattle.wb_memo.specs.declared.sites.Origin.{Origin}
+use Rattle.wb_memo.specs.declared.sites.Step.TheVariants as step
 use Rattle.wb_evaluator.specs.declared.work.Task.TheVariants as task
 
 -- a rule of a production, or none

@@ -24,13 +24,14 @@ use Rattle.wb_evaluator.proofs.MachineLemmas.{enters, answers_here}
 use Rattle.wb_evaluator.proofs.RunLemmas.{goes_synthesized, goes_inherited}
 use Rattle.wb_evaluator.specs.Inner.Machines.{HasTree, tree_named, named, IsKey, AreNamed, IsRecalled, IsValueOf, IsNode, IsMemo, IsMachine}
 use Rattle.wb_evaluator.specs.Inner.Machines.{Runs, Wants, AreSuspended}
-use Rattle.wb_evaluator.specs.Inner.Memos.{count, path_in, recall, IsWhole}
-use Rattle.wb_evaluator.specs.Inner.Sites.{path_at, paths_of}
+use Rattle.wb_memo.specs.Memos.{count, path_in, recall, IsWhole}
+use Rattle.wb_memo.specs.Sites.{path_at, paths_of}
+use Rattle.wb_evaluator.specs.Inner.Piles.{waits, IsPiled}
 use Rattle.wb_evaluator.specs.Inner.State.{IsState}
 use Rattle.wb_evaluator.specs.declared.machine.Key.{Key}
 use Rattle.wb_evaluator.specs.declared.machine.Key.TheVariants as key
 use Rattle.wb_evaluator.specs.declared.machine.Machine.{Machine}
-use Rattle.wb_evaluator.specs.declared.memo.Memo.{Memo}
+use Rattle.wb_memo.specs.declared.memo.Memo.{Memo}
 
 -- keys that are pushed and popped
 named_more : (m : Memo) (ks : List Key) (k : Key) (base is : List Instance) → AreNamed m ks base is → IsKey m k
@@ -73,8 +74,8 @@ module _ (a : AttributionParts) (operations : Operations) (trees : List Tree) wh
 
   pub entered : (m : Machine) (k : Key) (new : Machine) → Wants a operations trees m k → new.memo ≡ m.memo → new.root ≡ m.root
       → new.attribute ≡ m.attribute → new.stack.items ≡ m.stack.items ++ k ∷ [] → new.entered ≡ m.entered + 1
-      → new.frames.items ≡ m.frames.items ++ None ∷ [] → IsMachine a operations trees new
-  entered m k new w memo root_is attribute stack count_is frames_are =
+      → waits new.frames ≡ waits m.frames ++ None ∷ [] → IsPiled new.frames → IsMachine a operations trees new
+  entered m k new w memo root_is attribute stack count_is frames_are piled =
       let r = w.runs.machine in
       let i = named m.memo k in
       let e = enters a operations r.top m.attribute r.state w.runs.come w.fresh in
@@ -100,12 +101,13 @@ module _ (a : AttributionParts) (operations : Operations) (trees : List Tree) wh
         stack = subst (λ (ks : List Key). AreNamed new.memo ks [] (i ∷ r.this ∷ r.waiting)) (sym stack)
             (subst (λ (mm : Memo). AreNamed mm (m.stack.items ++ k ∷ []) [] (i ∷ r.this ∷ r.waiting)) (sym memo)
             (named_more m.memo m.stack.items k [] (r.this ∷ r.waiting) r.stack w.is_key));
-        frames = subst (λ (ks : List Key). AreSuspended a operations trees r.top new.attribute (r.all ++ i ∷ []) new.memo ks new.frames.items) (sym stack)
+        frames = subst (λ (ks : List Key). AreSuspended a operations trees r.top new.attribute (r.all ++ i ∷ []) new.memo ks (waits new.frames)) (sym stack)
             (subst (AreSuspended a operations trees r.top new.attribute (r.all ++ i ∷ []) new.memo (m.stack.items ++ k ∷ [])) (sym frames_are)
-            (subst (λ (y : ℕ). AreSuspended a operations trees r.top y (r.all ++ i ∷ []) new.memo (m.stack.items ++ k ∷ []) (m.frames.items ++ None ∷ []))
+            (subst (λ (y : ℕ). AreSuspended a operations trees r.top y (r.all ++ i ∷ []) new.memo (m.stack.items ++ k ∷ []) ((waits m.frames) ++ None ∷ []))
             (sym attribute)
-            (subst (λ (mm : Memo). AreSuspended a operations trees r.top m.attribute (r.all ++ i ∷ []) mm (m.stack.items ++ k ∷ []) (m.frames.items ++ None ∷ []))
-            (sym memo) (frames_entered a operations trees r.top m.attribute r.all m.memo m.stack.items m.frames.items k i r.frames))));
+            (subst (λ (mm : Memo). AreSuspended a operations trees r.top m.attribute (r.all ++ i ∷ []) mm (m.stack.items ++ k ∷ []) ((waits m.frames) ++ None ∷ []))
+            (sym memo) (frames_entered a operations trees r.top m.attribute r.all m.memo m.stack.items (waits m.frames) k i r.frames))));
+        piled = piled;
       }
 
   -- the instance at work is needed

@@ -18,7 +18,7 @@ use Rattle.wb_values.specs.Fits.{FitsValue, FitAll}
 use Rattle.wb_values.specs.Signature.{Signature}
 use Rattle.wb_values.specs.Tree.{Plain, int, bool, text, Tree, node, plain, Values, empty, more, production_of, children_of}
 use Rattle.wb_values.specs.Tree as t
-use Rattle.wb_values.specs.ValuesIn.{tree_in, value_in, values_in, IsIn}
+use Rattle.wb_values.specs.ValuesIn.{tree_in, values_in, IsIn}
 use Rattle.wb_evaluation.specs.Instances.{Path}
 use Rattle.wb_evaluator.proofs.FrameLemmas.{values_more}
 use Rattle.wb_evaluator.proofs.RunLemmas.{more_runs, still_in}
@@ -26,7 +26,7 @@ use Rattle.wb_evaluator.proofs.StackLemmas.{unstacked, stack_push, stack_append,
 use Rattle.wb_evaluator.proofs.TaskLemmas.{popped_all, below_all}
 use Rattle.wb_evaluator.proofs.TaskLemmas.{size as size_of}
 use Rattle.wb_evaluator.specs.Inner.Machines.{Runs}
-use Rattle.wb_evaluator.specs.Inner.Memos.{path_in}
+use Rattle.wb_memo.specs.Memos.{path_in}
 use Rattle.wb_evaluator.specs.Inner.Tasks.{Job, visit, build, call, choose, popped, below, pushed, resume}
 use Rattle.wb_evaluator.specs.Inner.Jobs.{stack_of, IsJob, Stacked, more_kinds, ValuesFit, JobsFit}
 use Rattle.wb_evaluator.specs.Inner.Works.{IsEvaluating}

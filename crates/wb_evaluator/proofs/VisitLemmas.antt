@@ -38,19 +38,19 @@ use Rattle.wb_evaluator.proofs.RunLemmas.{reads_there, runs_on, value_known, not
 use Rattle.wb_evaluator.proofs.StackLemmas.{unstacked, stacked, visits_stacked, stack_push, count_stands}
 use Rattle.wb_evaluator.proofs.TaskLemmas.{visits, count, step_choice, step_build, step_call}
 use Rattle.wb_evaluator.specs.Inner.Machines.{HasTree, named, IsKey, known, IsNode, Runs, with_memo}
-use Rattle.wb_evaluator.specs.Inner.Memos.{path_in, IsWhole, IsGrown}
-use Rattle.wb_evaluator.specs.Inner.Memos as memos
+use Rattle.wb_memo.specs.Memos.{path_in, IsWhole, IsGrown}
+use Rattle.wb_memo.specs.Memos as memos
 use Rattle.wb_evaluator.specs.Inner.Reached.{IsReady, IsGivenTree, IsReached}
-use Rattle.wb_evaluator.specs.Inner.Sites.{step_of}
+use Rattle.wb_memo.specs.Sites.{step_of}
 use Rattle.wb_evaluator.specs.Inner.State.{HasCome}
 use Rattle.wb_evaluator.specs.Inner.Tasks.{Job, visit, build, call, choose, resume}
 use Rattle.wb_evaluator.specs.Inner.Jobs.{visiting, stack_of, IsJob, Stacked, more_kinds, ValuesFit, IsTyped, JobsFit}
 use Rattle.wb_evaluator.specs.Inner.Works.{IsEvaluating, Parks}
 use Rattle.wb_evaluator.specs.declared.machine.Key.{Key}
 use Rattle.wb_evaluator.specs.declared.machine.Machine.{Machine}
-use Rattle.wb_evaluator.specs.declared.memo.Memo.{Memo}
-use Rattle.wb_evaluator.specs.declared.sites.Step.{Step}
-use Rattle.wb_evaluator.specs.declared.sites.Step.TheVariants as step
+use Rattle.wb_memo.specs.declared.memo.Memo.{Memo}
+use Rattle.wb_memo.specs.declared.sites.Step.{Step}
+use Rattle.wb_memo.specs.declared.sites.Step.TheVariants as step
 use Rattle.wb_evaluator.specs.declared.work.Task.{Task}
 use Rattle.wb_evaluator.specs.declared.work.Task.TheVariants as task
 

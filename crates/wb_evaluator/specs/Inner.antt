@@ -1,10 +1,9 @@
 -- Words of private functions.
 pub mod Answering
-pub mod Sites
-pub mod Memos
 pub mod State
 pub mod Tasks
 pub mod Jobs
+pub mod Piles
 pub mod Machines
 pub mod Reached
 pub mod Works

@@ -20,7 +20,7 @@ use crate::evaluated::Evaluated;
 use crate::machine::Machine;
 use crate::run::run;
 use crate::steps::{begin, enter, leave};
-use crate::work::{Ran, Works};
+use crate::work::{Ran, Work};
 use std::alloc::{AllocError, Global};
 use wb_operations::{Meaning, OperationRefusal, OperationTable};
 use wb_resolved::Attribution;
@@ -73,9 +73,9 @@ pub fn evaluate<M: Meaning>(
         operations,
     };
     let mut machine = begin(alloc, &context, store, root, attribute)?;
-    let mut works = Works::new(alloc);
+    let mut work = Work::new(alloc);
     'turns: loop {
-        if let Some(answer) = turn(&context, &mut machine, store, &mut works, steps)? {
+        if let Some(answer) = turn(&context, &mut machine, store, &mut work, steps)? {
             return Ok(answer);
         }
     }
@@ -86,7 +86,7 @@ fn turn<'a, M: Meaning>(
     context: &Context<'a, M>,
     machine: &mut Machine<'a>,
     store: &mut TreeStore,
-    works: &mut Works,
+    work: &mut Work,
     steps: u64,
 ) -> Result<Option<Evaluated>, AllocError>
     requires whole { IsMachine context.now.attributes.now (record { signatures = context.now.operations.now.signatures; meaning = M.meaning }) store.old machine.old }
@@ -98,7 +98,7 @@ fn turn<'a, M: Meaning>(
     ensures turned { IfOk result (IsTurned context.now.attributes.now (record { signatures = context.now.operations.now.signatures; meaning = M.meaning }) store.new machine.old machine.new steps) }
     ensures store { IsExtended store.old store.new }
 {
-    match run(context, machine, store, works)? {
+    match run(context, machine, store, work)? {
         Ran::Value(answer) => {
             if machine.stack.len() == 1 {
                 return Ok(Some(Evaluated::Value(answer)));

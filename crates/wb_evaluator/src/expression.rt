@@ -5,17 +5,17 @@
 ghost use Rattle.std.specs.Prelude.{◌≡◌, ◌≤◌, ◌<◌, ◌++◌, ◌∷◌, [], length, OnOk, IfOk};
 ghost use Rattle.wb_operations.specs.Kept.{IsKept};
 ghost use Rattle.wb_evaluator.specs.Inner.Machines.{IsKey, Wants, IsSame};
-ghost use Rattle.wb_evaluator.specs.Inner.Memos.{count, IsWhole};
+ghost use Rattle.wb_memo.specs.Memos.{count, IsWhole};
 ghost use Rattle.wb_evaluator.specs.Inner.Reached.{IsReady};
 ghost use Rattle.wb_evaluator.specs.declared.machine.Key.TheVariants.{Synthesized, Tree};
-ghost use Rattle.wb_evaluator.specs.declared.sites.Step.TheVariants.{Local};
+ghost use Rattle.wb_memo.specs.declared.sites.Step.TheVariants.{Local};
 ghost use Rattle.wb_evaluator.specs.Inner.Works.{IsEvaluating, IsAfter, IsReading, HasChildAt, IsChildPushed, IsReadBelow, IsDone, way_to, left_to_do, task_size};
 ghost use Rattle.wb_evaluator.specs.declared.work.Task.TheVariants.{Visit};
 
 use crate::machine::{Key, Machine, child_value};
-use crate::sites::Step;
 use crate::work::{Task, Work};
 use std::alloc::AllocError;
+use wb_memo::Step;
 use wb_operations::{Meaning, OperationRefusal, OperationTable};
 use wb_resolved::{Node, Place};
 use wb_values::{TreeStore, Value};

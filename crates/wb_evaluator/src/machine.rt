@@ -7,14 +7,12 @@ ghost use Rattle.wb_values.specs.Tree.{children_of};
 ghost use Rattle.wb_values.specs.ValuesIn.{tree_in, value_in, IsIn};
 ghost use Rattle.wb_evaluation.specs.Walks.{value_at};
 ghost use Rattle.wb_evaluator.specs.Inner.Machines.{IsKey, known, with_memo};
-ghost use Rattle.wb_evaluator.specs.Inner.Memos.{count, IsWhole, IsGrown};
+ghost use Rattle.wb_memo.specs.Memos.{count, IsWhole, IsGrown};
 ghost use Rattle.wb_evaluator.specs.Inner.Reached.{HasChild, IsTreeChild, IsChild, IsReady, IsReached};
 
-use crate::memo::Memo;
-use crate::sites::Step;
-use crate::work::Work;
+use crate::frames::Frames;
 use std::alloc::AllocError;
-use wb_resolved::Node;
+use wb_memo::{Memo, Step};
 use wb_values::{TreeId, TreeStore, Value};
 
 // An instance, by the site of its path.
@@ -25,14 +23,6 @@ pub(crate) enum Key {
     Tree { site: usize },
 }
 
-// An expression at a site, with what is left of it.
-#[derive(Drop)]
-pub(crate) struct Frame<'a> {
-    pub site: usize,
-    pub nodes: &'a [Node],
-    pub work: Work,
-}
-
 // The memo, the attribute that is asked of the root, the instances that wait with the one at work last, the frames of those whose
 // expressions wait, and how many were entered.
 #[derive(Drop)]
@@ -41,7 +31,7 @@ pub(crate) struct Machine<'a> {
     pub root: TreeId,
     pub attribute: usize,
     pub stack: Vec<Key>,
-    pub frames: Vec<Option<Frame<'a>>>,
+    pub frames: Frames<'a>,
     pub entered: u64,
 }
 

@@ -7,19 +7,18 @@ ghost use Rattle.wb_operations.specs.Kept.{IsKept};
 ghost use Rattle.wb_attributes.specs.Rules.{target_vertex};
 ghost use Rattle.wb_attributes.specs.Vertices.{inherited};
 ghost use Rattle.wb_evaluator.specs.Inner.Machines.{IsMachine, IsSame, Wants};
-ghost use Rattle.wb_evaluator.specs.Inner.Sites.{step_of};
+ghost use Rattle.wb_memo.specs.Sites.{step_of};
 ghost use Rattle.wb_evaluator.specs.Inner.Starts.{IsAtWork, IsStarting, IsAlone, HasProduction, IsProductionAt, IsForwarding};
 ghost use Rattle.wb_evaluator.specs.Inner.Works.{IsEvaluating, IsExtended, IsRan, Parks};
 ghost use Rattle.wb_rules.specs.Indexes.{AreIndexes, IsIndexOf};
 ghost use Rattle.wb_evaluator.specs.declared.machine.Key.TheVariants.{Synthesized, Inherited, Tree};
 
 use crate::context::Context;
-use crate::machine::{Frame, Key, Machine};
+use crate::machine::{Key, Machine};
 use crate::perform::evaluate_tasks;
-use crate::sites::Step;
-use crate::work::{Ran, Task, Works};
+use crate::work::{Ran, Task, Work};
 use std::alloc::AllocError;
-use std::mem::replace;
+use wb_memo::Step;
 use wb_operations::{Meaning, OperationRefusal};
 use wb_resolved::{Node, Place, Target};
 use wb_rules::{Rules, equation_for, forward_nodes, local_nodes};
@@ -30,7 +29,7 @@ pub(crate) fn run<'a, M: Meaning>(
     context: &Context<'a, M>,
     machine: &mut Machine<'a>,
     store: &mut TreeStore,
-    works: &mut Works,
+    work: &mut Work,
 ) -> Result<Ran, AllocError>
     requires whole { IsMachine context.now.attributes.now (record { signatures = context.now.operations.now.signatures; meaning = M.meaning }) store.old machine.old }
     requires rules { AreIndexes context.now.attributes.now.productions context.now.rules.now.rows.items }
@@ -41,33 +40,10 @@ pub(crate) fn run<'a, M: Meaning>(
     ensures same { OnOk result (IsSame machine.old machine.new) }
     ensures store { IsExtended store.old store.new }
 {
-    let at = machine.stack.len() - 1;
-    match replace(&mut machine.frames[at], None) {
-        Some(frame) => resume(context, machine, store, works, frame),
-        None => start(context, machine, store, works),
+    match machine.frames.take(work)? {
+        Some(frame) => go_on(context, machine, store, work, frame.site, frame.nodes),
+        None => start(context, machine, store, work),
     }
-}
-
-// Goes on with a frame, which is that of the last instance.
-fn resume<'a, M: Meaning>(
-    context: &Context<'a, M>,
-    machine: &mut Machine<'a>,
-    store: &mut TreeStore,
-    works: &mut Works,
-    frame: Frame<'a>,
-) -> Result<Ran, AllocError>
-    requires evaluating { IsEvaluating context.now.attributes.now (record { signatures = context.now.operations.now.signatures; meaning = M.meaning }) store.old machine.old frame.site frame.nodes.now frame.work.tasks.items frame.work.values.items }
-    requires kept { IsKept context.now.operations.now.signatures context.now.operations.now.built_in context.now.operations.now.runs.items M.meaning
-        (λ run vs. ⟦<Box<dyn Fn(&[Value]) -> Result<Value, OperationRefusal>> as Fn(&[Value]) -> Result<Value, OperationRefusal>>⟧.pre run vs)
-        (λ run vs r. ⟦<Box<dyn Fn(&[Value]) -> Result<Value, OperationRefusal>> as Fn(&[Value]) -> Result<Value, OperationRefusal>>⟧.post run vs r) }
-    ensures ran { IfOk result (IsRan context.now.attributes.now (record { signatures = context.now.operations.now.signatures; meaning = M.meaning }) store.new machine.new) }
-    ensures same { OnOk result (IsSame machine.old machine.new) }
-    ensures store { IsExtended store.old store.new }
-{
-    let site = frame.site;
-    let nodes = frame.nodes;
-    works.resume(frame.work)?;
-    go_on(context, machine, store, works, site, nodes)
 }
 
 // Works on the last instance from the start.
@@ -75,7 +51,7 @@ fn start<'a, M: Meaning>(
     context: &Context<'a, M>,
     machine: &mut Machine<'a>,
     store: &mut TreeStore,
-    works: &mut Works,
+    work: &mut Work,
 ) -> Result<Ran, AllocError>
     requires whole { IsMachine context.now.attributes.now (record { signatures = context.now.operations.now.signatures; meaning = M.meaning }) store.old machine.old }
     requires rules { AreIndexes context.now.attributes.now.productions context.now.rules.now.rows.items }
@@ -89,12 +65,12 @@ fn start<'a, M: Meaning>(
     let at = machine.stack.len() - 1;
     match machine.stack[at] {
         Key::Synthesized { site, attribute } => {
-            run_synthesized(context, machine, store, works, site, attribute)
+            run_synthesized(context, machine, store, work, site, attribute)
         }
         Key::Inherited { site, attribute } => {
-            run_inherited(context, machine, store, works, site, attribute)
+            run_inherited(context, machine, store, work, site, attribute)
         }
-        Key::Tree { site } => run_tree(context, machine, store, works, site),
+        Key::Tree { site } => run_tree(context, machine, store, work, site),
     }
 }
 
@@ -103,7 +79,7 @@ fn run_tree<'a, M: Meaning>(
     context: &Context<'a, M>,
     machine: &mut Machine<'a>,
     store: &mut TreeStore,
-    works: &mut Works,
+    work: &mut Work,
     site: usize,
 ) -> Result<Ran, AllocError>
     requires works { IsAtWork context.now.attributes.now (record { signatures = context.now.operations.now.signatures; meaning = M.meaning }) store.old machine.old (Tree site) }
@@ -120,11 +96,11 @@ fn run_tree<'a, M: Meaning>(
     let parent = origin.parent;
     match origin.step {
         Step::Local(x) => match local_nodes(rules.production, x) {
-            Some(nodes) => evaluate_at(context, machine, store, works, parent, nodes),
+            Some(nodes) => evaluate_at(context, machine, store, work, parent, nodes),
             None => unreachable!(),
         },
         Step::Forward => match forward_nodes(rules.production) {
-            Some(nodes) => evaluate_at(context, machine, store, works, parent, nodes),
+            Some(nodes) => evaluate_at(context, machine, store, work, parent, nodes),
             None => unreachable!(),
         },
         Step::Child(_) => unreachable!(),
@@ -136,7 +112,7 @@ fn run_inherited<'a, M: Meaning>(
     context: &Context<'a, M>,
     machine: &mut Machine<'a>,
     store: &mut TreeStore,
-    works: &mut Works,
+    work: &mut Work,
     site: usize,
     attribute: usize,
 ) -> Result<Ran, AllocError>
@@ -152,7 +128,7 @@ fn run_inherited<'a, M: Meaning>(
     let origin = machine.memo.sites.origins[site - 1];
     let rules = rules_at(context, machine, store, origin.parent);
     match equation_for(&rules, target_below(origin.step, attribute)) {
-        Some(nodes) => evaluate_at(context, machine, store, works, origin.parent, nodes),
+        Some(nodes) => evaluate_at(context, machine, store, work, origin.parent, nodes),
         None => {
             let key = Key::Inherited {
                 site: origin.parent,
@@ -168,7 +144,7 @@ fn run_synthesized<'a, M: Meaning>(
     context: &Context<'a, M>,
     machine: &mut Machine<'a>,
     store: &mut TreeStore,
-    works: &mut Works,
+    work: &mut Work,
     site: usize,
     attribute: usize,
 ) -> Result<Ran, AllocError>
@@ -186,7 +162,7 @@ fn run_synthesized<'a, M: Meaning>(
     }
     let rules = rules_at(context, machine, store, site);
     match equation_for(&rules, Target::Top(attribute)) {
-        Some(nodes) => evaluate_at(context, machine, store, works, site, nodes),
+        Some(nodes) => evaluate_at(context, machine, store, work, site, nodes),
         None => run_forward(context, machine, store, site, attribute),
     }
 }
@@ -236,7 +212,7 @@ fn evaluate_at<'a, M: Meaning>(
     context: &Context<'a, M>,
     machine: &mut Machine<'a>,
     store: &mut TreeStore,
-    works: &mut Works,
+    work: &mut Work,
     site: usize,
     nodes: &'a [Node],
 ) -> Result<Ran, AllocError>
@@ -248,23 +224,23 @@ fn evaluate_at<'a, M: Meaning>(
     ensures same { OnOk result (IsSame machine.old machine.new) }
     ensures store { IsExtended store.old store.new }
 {
-    works.current.tasks.clear();
-    works.current.values.clear();
+    work.tasks.clear();
+    work.values.clear();
     let last = nodes.len() - 1;
-    works.current.push_task(Task::Visit(last))?;
-    go_on(context, machine, store, works, site, nodes)
+    work.push_task(Task::Visit(last))?;
+    go_on(context, machine, store, work, site, nodes)
 }
 
-// Evaluates the expression of the current work, which is kept where it waits.
+// Evaluates the expression whose work this is, which is kept where it waits.
 fn go_on<'a, M: Meaning>(
     context: &Context<'a, M>,
     machine: &mut Machine<'a>,
     store: &mut TreeStore,
-    works: &mut Works,
+    work: &mut Work,
     site: usize,
     nodes: &'a [Node],
 ) -> Result<Ran, AllocError>
-    requires evaluating { IsEvaluating context.now.attributes.now (record { signatures = context.now.operations.now.signatures; meaning = M.meaning }) store.old machine.old site nodes.now works.old.current.tasks.items works.old.current.values.items }
+    requires evaluating { IsEvaluating context.now.attributes.now (record { signatures = context.now.operations.now.signatures; meaning = M.meaning }) store.old machine.old site nodes.now work.old.tasks.items work.old.values.items }
     requires kept { IsKept context.now.operations.now.signatures context.now.operations.now.built_in context.now.operations.now.runs.items M.meaning
         (λ run vs. ⟦<Box<dyn Fn(&[Value]) -> Result<Value, OperationRefusal>> as Fn(&[Value]) -> Result<Value, OperationRefusal>>⟧.pre run vs)
         (λ run vs r. ⟦<Box<dyn Fn(&[Value]) -> Result<Value, OperationRefusal>> as Fn(&[Value]) -> Result<Value, OperationRefusal>>⟧.post run vs r) }
@@ -272,9 +248,9 @@ fn go_on<'a, M: Meaning>(
     ensures same { OnOk result (IsSame machine.old machine.new) }
     ensures store { IsExtended store.old store.new }
 {
-    match evaluate_tasks(context, machine, store, &mut works.current, site, nodes)? {
+    match evaluate_tasks(context, machine, store, work, site, nodes)? {
         Ran::Needs(key) => {
-            park(context, machine, store, works, site, nodes, key);
+            park(context, machine, store, work, site, nodes, key)?;
             Ok(Ran::Needs(key))
         }
         Ran::Value(value) => Ok(Ran::Value(value)),
@@ -282,23 +258,22 @@ fn go_on<'a, M: Meaning>(
     }
 }
 
-// Keeps the current work in the frame of the last instance.
+// Keeps the work in the frame of the last instance.
 fn park<'a, M: Meaning>(
     context: &Context<'a, M>,
     machine: &mut Machine<'a>,
     store: &TreeStore,
-    works: &mut Works,
+    work: &mut Work,
     site: usize,
     nodes: &'a [Node],
     key: Key,
-)
-    requires parks { Parks context.now.attributes.now (record { signatures = context.now.operations.now.signatures; meaning = M.meaning }) store.now machine.old site nodes.now works.old.current.tasks.items works.old.current.values.items key }
-    ensures wants { Wants context.now.attributes.now (record { signatures = context.now.operations.now.signatures; meaning = M.meaning }) store.now machine.new key }
-    ensures same { IsSame machine.old machine.new }
+) -> Result<(), AllocError>
+    requires parks { Parks context.now.attributes.now (record { signatures = context.now.operations.now.signatures; meaning = M.meaning }) store.now machine.old site nodes.now work.old.tasks.items work.old.values.items key }
+    ensures wants { OnOk result (Wants context.now.attributes.now (record { signatures = context.now.operations.now.signatures; meaning = M.meaning }) store.now machine.new key) }
+    ensures same { OnOk result (IsSame machine.old machine.new) }
 {
-    let work = works.suspend();
-    let at = machine.stack.len() - 1;
-    machine.frames[at] = Some(Frame { site, nodes, work });
+    machine.frames.keep(site, nodes, work)?;
+    Ok(())
 }
 
 // The rules of the production at a site whose tree is known.

@@ -2,7 +2,7 @@
 //!
 //! It enters one that is read and wasn't entered, and leaves one whose value is there. What is done at one is in `run`.
 
-ghost use Rattle.std.specs.Prelude.{◌≡◌, ◌<◌, ◌≤◌, ◌+◌, ◌^◌, ◌++◌, ◌∷◌, [], ◌-◌, Some, None, slice_get, length, suc, IfOk, OnOk};
+ghost use Rattle.std.specs.Prelude.{◌≡◌, ◌<◌, ◌≤◌, ◌+◌, ◌^◌, ◌++◌, ◌∷◌, [], ◌-◌, Some, slice_get, length, suc, IfOk, OnOk};
 ghost use Rattle.wb_values.specs.ValuesIn.{tree_in, value_in, IsIn};
 ghost use Rattle.wb_evaluation.specs.Evaluable.{IsEvaluable, IsAsked};
 ghost use Rattle.wb_evaluation.specs.Walks.{done, value};
@@ -10,10 +10,12 @@ ghost use Rattle.wb_values.specs.declared.value.Value.TheVariants.{Tree};
 ghost use Rattle.wb_evaluator.specs.Inner.Machines.{IsMachine, IsTree, IsKeptIn, Runs, Wants, with_memo};
 
 use crate::context::Context;
-use crate::machine::{Frame, Key, Machine};
-use crate::memo::Memo;
+use crate::frames::Frames;
+use crate::machine::{Key, Machine};
 use std::alloc::{AllocError, Global};
+use wb_memo::Memo;
 use wb_operations::Meaning;
+use wb_resolved::AttributionParts;
 use wb_values::{TreeId, TreeStore, Value};
 
 // An attribute of the root is entered.
@@ -34,9 +36,9 @@ pub(crate) fn begin<'a, M: Meaning>(
 {
     let mut stack = Vec::new(alloc);
     push_key(&mut stack, Key::Synthesized { site: 0, attribute })?;
-    let mut frames = Vec::new(alloc);
-    push_idle(&mut frames)?;
-    let memo = Memo::new(alloc, root)?;
+    let mut frames = Frames::new(alloc);
+    frames.enter()?;
+    let memo = Memo::new(alloc, root, room_for(context.attributes))?;
     Ok(Machine {
         memo,
         root,
@@ -45,6 +47,11 @@ pub(crate) fn begin<'a, M: Meaning>(
         frames,
         entered: 1,
     })
+}
+
+// For how many values of a site there is room at once: for those of all attributes, where there are few.
+fn room_for(attributes: &AttributionParts) -> usize {
+    attributes.attributes.as_slice().len().min(16)
 }
 
 // Enters an instance.
@@ -63,7 +70,7 @@ pub(crate) fn enter<M: Meaning>(
     ensures stack { OnOk result (length machine.new.stack.items ≡ suc (length machine.old.stack.items)) }
 {
     push_key(&mut machine.stack, key)?;
-    push_idle(&mut machine.frames)?;
+    machine.frames.enter()?;
     machine.entered += 1;
     Ok(())
 }
@@ -88,7 +95,7 @@ pub(crate) fn leave<M: Meaning>(
     let key = machine.stack[at];
     keep(context, machine, store, key, answer)?;
     machine.stack.truncate(at);
-    machine.frames.truncate(at);
+    machine.frames.leave();
     Ok(())
 }
 
@@ -129,15 +136,6 @@ fn push_key(stack: &mut Vec<Key>, key: Key) -> Result<(), AllocError>
 {
     stack.reserve(1)?;
     stack.push_reserved(key);
-    Ok(())
-}
-
-// Adds no frame after others.
-fn push_idle(frames: &mut Vec<Option<Frame>>) -> Result<(), AllocError>
-    ensures { OnOk result (frames.new.items ≡ frames.old.items ++ None ∷ []) }
-{
-    frames.reserve(1)?;
-    frames.push_reserved(None);
     Ok(())
 }
 

@@ -7,7 +7,6 @@ ghost use Rattle.wb_evaluator.specs.Inner.Jobs.{visiting};
 
 use crate::machine::Key;
 use std::alloc::{AllocError, Global};
-use std::mem::replace;
 use wb_values::Value;
 
 // A task, with positions of nodes.
@@ -68,46 +67,6 @@ impl Work {
             left -= 1;
             self.push_task(Task::Visit(places[left]))?;
         }
-        Ok(())
-    }
-}
-
-// The work on the expression at work, and works that are done with, whose memory is used again.
-#[derive(Drop)]
-pub(crate) struct Works {
-    pub current: Work,
-    pub spare: Vec<Work>,
-    pub alloc: Global,
-}
-
-impl Works {
-    // Nothing to do.
-    pub(crate) fn new(alloc: Global) -> Works {
-        Works {
-            current: Work::new(alloc),
-            spare: Vec::new(alloc),
-            alloc,
-        }
-    }
-
-    // Takes the current work out, for one that is done with.
-    pub(crate) fn suspend(&mut self) -> Work
-        ensures { result ≡ self.old.current }
-    {
-        let next = match self.spare.pop() {
-            Some(work) => work,
-            None => Work::new(self.alloc),
-        };
-        replace(&mut self.current, next)
-    }
-
-    // Goes on with a work.
-    pub(crate) fn resume(&mut self, work: Work) -> Result<(), AllocError>
-        ensures { OnOk result (self.new.current ≡ work) }
-    {
-        self.spare.reserve(1)?;
-        let done = replace(&mut self.current, work);
-        self.spare.push_reserved(done);
         Ok(())
     }
 }

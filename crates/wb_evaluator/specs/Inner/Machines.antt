@@ -1,6 +1,5 @@
 -- What an evaluation keeps from one instance to the next.
-use Rattle.std.specs.Global.{Global}
-use Rattle.std.specs.Prelude.{◌≡◌, ◌⊎◌, ◌≤◌, ◌<◌, ℕ, List, [], ◌∷◌, Option, Some, None, All, Vec, Contains, length, slice_get}
+use Rattle.std.specs.Prelude.{◌≡◌, ◌⊎◌, ◌≤◌, ◌<◌, ℕ, List, [], ◌∷◌, Option, Some, None, All, Contains, length, slice_get}
 use Rattle.wb_attributes.specs.Modular.{IsProduction}
 use Rattle.wb_attributes.specs.Occurrences.{Goes}
 use Rattle.wb_attributes.specs.Vertices.{Made, child, made}
@@ -20,15 +19,16 @@ use Rattle.wb_evaluation.specs.Evaluable.{IsEvaluable, IsAsked}
 use Rattle.wb_evaluation.specs.Instances.{Path, down, Instance, synthesized_at, inherited_at, tree_at}
 use Rattle.wb_evaluation.specs.Walks.{value, Walk, read}
 use Rattle.wb_evaluator.specs.Inner.Jobs.{stack_of, Stacked, ValuesFit, JobsFit}
-use Rattle.wb_evaluator.specs.Inner.Memos.{count, path_in, recall, IsWhole}
+use Rattle.wb_memo.specs.Memos.{count, path_in, recall, IsWhole}
 use Rattle.wb_evaluator.specs.Inner.State.{IsState, HasCome}
 use Rattle.wb_evaluator.specs.Inner.Tasks.{Job, resume}
-use Rattle.wb_evaluator.specs.declared.machine.Frame.{Frame}
+use Rattle.wb_evaluator.specs.Inner.Piles.{Wait, waits, IsPiled}
+use Rattle.wb_evaluator.specs.declared.frames.Frames.{Frames}
 use Rattle.wb_evaluator.specs.declared.machine.Key.{Key}
 use Rattle.wb_evaluator.specs.declared.machine.Key.TheVariants as key
 use Rattle.wb_evaluator.specs.declared.machine.Machine.{Machine}
-use Rattle.wb_evaluator.specs.declared.memo.Memo.{Memo}
-use Rattle.wb_evaluator.specs.declared.sites.Origin.{Origin}
+use Rattle.wb_memo.specs.declared.memo.Memo.{Memo}
+use Rattle.wb_memo.specs.declared.sites.Origin.{Origin}
 use Rattle.wb_evaluator.specs.declared.work.Task.{Task}
 
 -- the site has this tree
@@ -116,11 +116,11 @@ module _ (a : AttributionParts) (operations : Operations) (trees : List Tree) wh
     pub come : HasCome a operations top attribute all i
         (resume operations (path_in m site) (children_of (tree_in trees id.0)) jobs (stack_of trees values))
 
-  -- each key has a frame or none, and a frame is that of the key's instance
-  pub record AreSuspended (top : Tree) (attribute : ℕ) (all : List Instance) (m : Memo) (keys : List Key) (frames : List (Option Frame)) : Type 0 where
+  -- each key has an expression that waits or none, and it is that of the key's instance
+  pub record AreSuspended (top : Tree) (attribute : ℕ) (all : List Instance) (m : Memo) (keys : List Key) (frames : List (Option Wait)) : Type 0 where
     pub count : length frames ≡ length keys
-    pub each : (i : ℕ) (k : Key) (f : Frame) → slice_get keys i ≡ Some k → slice_get frames i ≡ Some (Some f)
-        → IsKey m k × IsSuspended top attribute all m (named m k) f.site f.nodes.now f.work.tasks.items f.work.values.items
+    pub each : (i : ℕ) (k : Key) (f : Wait) → slice_get keys i ≡ Some k → slice_get frames i ≡ Some (Some f)
+        → IsKey m k × IsSuspended top attribute all m (named m k) f.site f.nodes f.tasks f.values
 
   pub record IsMachine (m : Machine) : Type 0 where
     pub top : Tree
@@ -136,7 +136,8 @@ module _ (a : AttributionParts) (operations : Operations) (trees : List Tree) wh
     pub memo : IsMemo top all m.memo
     pub complete : (r : Instance) → Contains all r → Contains (this ∷ waiting) r ⊎ IsRecalled m.memo r
     pub stack : AreNamed m.memo m.stack.items [] (this ∷ waiting)
-    pub frames : AreSuspended top m.attribute all m.memo m.stack.items m.frames.items
+    pub frames : AreSuspended top m.attribute all m.memo m.stack.items (waits m.frames)
+    pub piled : IsPiled m.frames
 
   -- the walk of the instance at work has come to this
   pub record Runs (m : Machine) (w : Walk) : Type 0 where
@@ -166,7 +167,7 @@ abbrev pub with_memo : Machine → Memo → Machine
 with_memo m memo = record { memo = memo; root = m.root; attribute = m.attribute; stack = m.stack; frames = m.frames; entered = m.entered }
 
 -- a machine with other frames
-abbrev pub with_frames : Machine → Vec (Option Frame) Global → Machine
+abbrev pub with_frames : Machine → Frames → Machine
 with_frames m frames = record { memo = m.memo; root = m.root; attribute = m.attribute; stack = m.stack; frames = frames; entered = m.entered }
 
 -- two machines have the same instances on the stack, and ask the same

@@ -5,10 +5,10 @@ use Rattle.wb_values.specs.Tree.{Tree, Value, tree, children_of}
 use Rattle.wb_values.specs.ValuesIn.{tree_in}
 use Rattle.wb_evaluation.specs.Walks.{value_at}
 use Rattle.wb_evaluator.specs.Inner.Machines.{HasTree}
-use Rattle.wb_evaluator.specs.Inner.Memos.{IsBelow}
-use Rattle.wb_evaluator.specs.declared.memo.Memo.{Memo}
-use Rattle.wb_evaluator.specs.declared.sites.Step.{Step}
-use Rattle.wb_evaluator.specs.declared.sites.Step.TheVariants as step
+use Rattle.wb_memo.specs.Memos.{IsBelow}
+use Rattle.wb_memo.specs.declared.memo.Memo.{Memo}
+use Rattle.wb_memo.specs.declared.sites.Step.{Step}
+use Rattle.wb_memo.specs.declared.sites.Step.TheVariants as step
 
 -- the tree has a child there
 abbrev pub HasChild : List Tree → TreeId → ℕ → Type 0

@@ -14,7 +14,7 @@ use Rattle.wb_evaluation.specs.Instances.{down, synthesized_at, tree_at}
 use Rattle.wb_evaluation.specs.Rules.{rule_of}
 use Rattle.wb_evaluation.specs.Walks.{read, walk_expression, finish}
 use Rattle.wb_evaluator.specs.Inner.Machines.{HasTree, named, IsKey, IsMachine, Runs}
-use Rattle.wb_evaluator.specs.Inner.Memos.{count, path_in}
+use Rattle.wb_memo.specs.Memos.{count, path_in}
 use Rattle.wb_evaluator.specs.declared.machine.Key.{Key}
 use Rattle.wb_evaluator.specs.declared.machine.Machine.{Machine}
 

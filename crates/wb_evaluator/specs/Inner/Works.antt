@@ -2,36 +2,27 @@
 use Rattle.std.specs.Prelude.{◌≡◌, ◌≤◌, ◌<◌, ◌+◌, ◌*◌, ℕ, zero, suc, pos, Bool, List, [], ◌∷◌, ◌++◌, Option, Some, None, All, length, slice_get, slice_index_or}
 use Rattle.wb_attributes.specs.Modular.{IsProduction}
 use Rattle.wb_base.specs.declared.symbol.Kind.{Kind}
-use Rattle.wb_base.specs.declared.symbol.Kind.TheVariants as kind
 use Rattle.wb_expressions.specs.declared.node.Node.TheVariants as n
-use Rattle.wb_expressions.specs.Expression.{size}
-use Rattle.wb_expressions.specs.Places.{Stands}
-use Rattle.wb_operations.specs.Operations.{OperationSignature, Operations}
+use Rattle.wb_operations.specs.Operations.{Operations}
 use Rattle.wb_resolved.specs.declared.attribution.AttributionParts.{AttributionParts}
 use Rattle.wb_resolved.specs.declared.production.Production.{Production}
-use Rattle.wb_resolved.specs.Expression.{Expression, Node}
-use Rattle.wb_types.specs.Kinds.{HasKind}
+use Rattle.wb_resolved.specs.Expression.{Node}
 use Rattle.wb_values.specs.declared.value.TreeId.{TreeId}
 use Rattle.wb_values.specs.declared.value.Value.{Value}
 use Rattle.wb_values.specs.declared.value.Value.TheVariants as stored
-use Rattle.wb_values.specs.Fits.{FitsValue}
-use Rattle.wb_values.specs.Signature.{Signature}
 use Rattle.wb_values.specs.Tree.{Tree, production_of, children_of}
-use Rattle.wb_values.specs.Tree as tree
-use Rattle.wb_values.specs.ValuesIn.{tree_in, value_in, values_in, IsIn}
-use Rattle.wb_evaluation.specs.Walks.{number_of, value_at, value, fault, done}
+use Rattle.wb_values.specs.ValuesIn.{tree_in, value_in, IsIn}
+use Rattle.wb_evaluation.specs.Walks.{value_at, value, fault, done}
 use Rattle.wb_evaluator.specs.declared.work.Ran.{Ran}
 use Rattle.wb_evaluator.specs.declared.work.Ran.TheVariants as ran
-use Rattle.wb_evaluation.proofs.ExpressionLemmas.{IsIn as IsPart}
-use Rattle.wb_resolved.specs.Named.{IsNamedNode}
 use Rattle.wb_evaluator.specs.Inner.Machines.{HasTree, known, IsSuspended, Runs, Wants, IsSame, with_memo}
 use Rattle.wb_evaluator.specs.Inner.Reached.{HasChild, IsReached}
-use Rattle.wb_evaluator.specs.Inner.Memos.{count, path_in, IsWhole, IsGrown}
-use Rattle.wb_evaluator.specs.declared.sites.Step.{Step}
-use Rattle.wb_evaluator.specs.declared.sites.Step.TheVariants as step
+use Rattle.wb_memo.specs.Memos.{count, path_in, IsWhole, IsGrown}
+use Rattle.wb_memo.specs.declared.sites.Step.{Step}
+use Rattle.wb_memo.specs.declared.sites.Step.TheVariants as step
 use Rattle.wb_resolved.specs.declared.equation.Place.{Place}
 use Rattle.wb_resolved.specs.declared.equation.Place.TheVariants as place
-use Rattle.wb_evaluator.specs.Inner.Tasks.{Job, visit, build, call, choose, pushed, resume}
+use Rattle.wb_evaluator.specs.Inner.Tasks.{Job, resume}
 use Rattle.wb_evaluator.specs.declared.machine.Key.{Key}
 use Rattle.wb_evaluator.specs.declared.machine.Machine.{Machine}
 use Rattle.wb_evaluator.specs.declared.work.Task.{Task}

@@ -1,17 +1,28 @@
-use Rattle.std.proofs.Common.{rules, ◌≡◌, ◌∙◌, ◌-◌, Some, length, refl, ap}
+use Rattle.std.proofs.Common.{◌∙◌, ◌-◌, Some, ap}
 use Rattle.std.specs.List.{slice_set}
-use Rattle.wb_evaluator.proofs.ParkLemmas.{parked}
-use Rattle.wb_evaluator.specs.declared.machine.Frame.{Frame}
-use Rattle.wb_evaluator.specs.declared.work.Work.{Work}
+use Rattle.wb_evaluator.proofs.ParkLemmas.{parked, rows_count, rows_some}
+use Rattle.wb_evaluator.specs.Inner.Piles.{wait, waits}
 use Rattle.wb_evaluator.proofs.run.park.Goals as goal
+
+pub keep-requires-clause-piled : goal.keep-requires-clause-piled
+keep-requires-clause-piled g c = c.requires.parks.wants.runs.machine.piled
+
+pub keep-requires-clause-some : goal.keep-requires-clause-some
+keep-requires-clause-some g c =
+    rows_some c.args.context.now.attributes.now
+    (record { signatures = c.args.context.now.operations.now.signatures; meaning = g.M.Meaning.meaning }) c.args.store.now c.args.machine.now
+    c.requires.parks.wants.runs.machine
 
 pub returns-clause-wants : goal.returns-clause-wants
 returns-clause-wants g c =
-    let frame : Frame = record { site = c.args.site; nodes = c.args.nodes; work = c.suspend-work.result } in
-    let work_is : c.suspend-work.result ≡ c.args.works.now.current = search rules in
-    let last : c.len-at.result - 1 ≡ length c.args.machine.now.stack.items - 1 = search rules in
+    let m = c.args.machine.now in
+    let tasks = c.args.work.now.tasks.items in
+    let values = c.args.work.now.values.items in
+    let count = rows_count c.args.context.now.attributes.now
+    (record { signatures = c.args.context.now.operations.now.signatures; meaning = g.M.Meaning.meaning }) c.args.store.now m
+    c.requires.parks.wants.runs.machine in
+    let e = c.in_ok-keep.ensures in
     parked c.args.context.now.attributes.now
-    (record { signatures = c.args.context.now.operations.now.signatures; meaning = g.M.Meaning.meaning }) c.args.store.now c.args.machine.now
-    c.args.site c.args.nodes.now c.args.works.now.current.tasks.items c.args.works.now.current.values.items c.args.key c.requires.parks _ frame
-    refl refl (ap (λ (w : Work). w.tasks.items) work_is) (ap (λ (w : Work). w.values.items) work_is)
-    (ap (λ n. slice_set c.args.machine.now.frames.items n (Some frame)) last)
+    (record { signatures = c.args.context.now.operations.now.signatures; meaning = g.M.Meaning.meaning }) c.args.store.now m
+    c.args.site c.args.nodes.now tasks values c.args.key c.requires.parks c.keep.new.self e.piled
+    (e.waits ∙ ap (λ n. slice_set (waits m.frames) (n - 1) (Some (wait c.args.site c.args.nodes.now tasks values))) count)

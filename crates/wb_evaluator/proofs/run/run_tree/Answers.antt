@@ -1,7 +1,7 @@
 use Rattle.std.proofs.Common.{rules, ◌≡◌, ◌∙◌, ◌-◌, Some, slice_get, sym, ap}
 use Rattle.std.proofs.lemmas.Option.{slice_get-get_or}
 use Rattle.wb_attributes.specs.Vertices.{local, forward}
-use Rattle.wb_evaluator.specs.Inner.Sites.{step_of}
+use Rattle.wb_memo.specs.Sites.{step_of}
 use Rattle.wb_evaluator.proofs.StartLemmas.{tree_some, tree_within, tree_production, tree_starting, tree_never, tree_no_child}
 use Rattle.wb_evaluator.proofs.run.run_tree.Goals as goal
 

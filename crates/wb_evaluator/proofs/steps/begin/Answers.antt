@@ -6,6 +6,6 @@ pub returns-clause-whole : goal.returns-clause-whole
 returns-clause-whole g c =
     begun c.args.context.now.attributes.now
     (record { signatures = c.args.context.now.operations.now.signatures; meaning = g.M.Meaning.meaning }) c.args.store.now
-    (record { memo = c.in_ok-memo.memo; root = c.args.root; attribute = c.args.attribute; stack = c.push_key.new.stack; frames = c.push_idle.new.frames; entered = 1 })
+    (record { memo = c.in_ok-memo.memo; root = c.args.root; attribute = c.args.attribute; stack = c.push_key.new.stack; frames = c.enter.new.self; entered = 1 })
     c.requires.evaluable c.requires.there c.requires.asked c.in_ok-memo.ensures.whole c.in_ok-memo.ensures.origins c.in_ok-memo.ensures.trees
-    c.in_ok-memo.ensures.values (search rules) (search rules) refl
+    c.in_ok-memo.ensures.values (search rules) (search rules) c.in_ok-enter.ensures.piled refl

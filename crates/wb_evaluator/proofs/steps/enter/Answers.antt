@@ -11,6 +11,6 @@ returns-clause-whole g c =
       root = c.args.machine.now.root;
       attribute = c.args.machine.now.attribute;
       stack = c.push_key.new.stack;
-      frames = c.push_idle.new.frames;
+      frames = c.enter.new.self;
       entered = c.args.machine.now.entered + 1;
-    }) c.requires.wants refl refl refl c.in_ok-push_key.ensures refl c.in_ok-push_idle.ensures
+    }) c.requires.wants refl refl refl c.in_ok-push_key.ensures refl c.in_ok-enter.ensures.waits c.in_ok-enter.ensures.piled

@@ -12,7 +12,7 @@ use Rattle.wb_evaluator.proofs.DoneLemmas.{choice_done, call_there, number_there
 use Rattle.wb_evaluator.specs.Inner.Reached.{IsReady}
 use Rattle.wb_evaluator.specs.Inner.Works.{IsReadBelow}
 use Rattle.wb_evaluator.specs.declared.machine.Key.TheVariants as key
-use Rattle.wb_evaluator.specs.declared.sites.Step.{Step}
+use Rattle.wb_memo.specs.declared.sites.Step.{Step}
 use Rattle.wb_evaluator.proofs.visit.visit.Goals as goal
 
 pub visit_child-requires-clause-child : goal.visit_child-requires-clause-child

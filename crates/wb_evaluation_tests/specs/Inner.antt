@@ -1,0 +1,2 @@
+-- What a table of the tests means.
+pub mod Odd

@@ -1,0 +1,2 @@
+-- what a table of the tests means
+pub mod Inner

@@ -1,0 +1,102 @@
+//! Are the operations of the table called that is given, and not the standard ones?
+//!
+//! A table of two operations: one adds, with a fault of its own where the second number is 4, and one reads a number.
+
+ghost use Rattle.wb_evaluation_tests.specs.Inner.Odd.{odd, odd_sum};
+ghost use Rattle.wb_operations.specs.Given.{FitKinds, IsGiven, plains_of};
+ghost use Rattle.wb_operations.specs.Takes.{one_text, two_ints};
+
+use crate::answers::{Answer, Row, table_answers};
+use crate::hosts::SUMS;
+use std::alloc::{AllocError, Global};
+use std::test::Fail;
+use wb_base::Kind;
+use wb_operations::{Meaning, OperationRefusal, OperationTable, standard_to_int};
+use wb_values::Value;
+
+// What the two operations mean.
+struct Odd;
+
+impl Meaning for Odd {
+    ghost use Rattle.wb_evaluation_tests.specs.Inner.Odd.{odd};
+
+    ghost meaning = { odd };
+}
+
+// A sum, or fault 9 where the second number is 4.
+fn odd_sum(x: i64, y: i64) -> Result<Value, OperationRefusal>
+    ensures { IsGiven (odd_sum x y) result }
+{
+    if y == 4 {
+        Err(OperationRefusal::Fault(9))
+    } else {
+        match x.checked_add(y) {
+            Some(sum) => Ok(Value::Int(sum)),
+            None => Err(OperationRefusal::Fault(1)),
+        }
+    }
+}
+
+// The same of two values.
+fn odd_add(arguments: &[Value]) -> Result<Value, OperationRefusal>
+    requires { FitKinds two_ints arguments.now }
+    ensures { IsGiven (odd 0 (plains_of arguments.now)) result }
+{
+    match arguments {
+        [Value::Int(x), Value::Int(y)] => odd_sum(*x, *y),
+        _ => unreachable!(),
+    }
+}
+
+// A number from a text.
+#[tactic(auto, unfolding(wb_operations::specs::Standard::standard_at, wb_operations::specs::Standard::standard_operations))]
+fn odd_to_int(arguments: &[Value]) -> Result<Value, OperationRefusal>
+    requires { FitKinds one_text arguments.now }
+    ensures { IsGiven (odd 1 (plains_of arguments.now)) result }
+{
+    standard_to_int(arguments)
+}
+
+// Whether each row has its answer by a table of both.
+fn odd_answers(alloc: Global, rows: &[Row]) -> Result<bool, AllocError> {
+    let mut table: OperationTable<Odd> = OperationTable::new(alloc);
+    let sum = Box::new(
+        alloc,
+        |arguments: &[Value]|
+            requires { FitKinds two_ints arguments.now }
+            ensures { IsGiven (odd 0 (plains_of arguments.now)) result }
+        { odd_add(arguments) },
+    )?;
+    table.add(b"add", &[Kind::Int, Kind::Int], Kind::Int, sum)?;
+    let read = Box::new(
+        alloc,
+        |arguments: &[Value]|
+            requires { FitKinds one_text arguments.now }
+            ensures { IsGiven (odd 1 (plains_of arguments.now)) result }
+        { odd_to_int(arguments) },
+    )?;
+    table.add(b"to_int", &[Kind::Text], Kind::Int, read)?;
+    Ok(table_answers(alloc, SUMS, &table, rows))
+}
+
+// The fault comes where the second number is 4, and not where the first is.
+static ODD: [Row; 2] = [
+    (
+        "plus(term(num(\"3\")), \"+\", num(\"4\"))",
+        "value",
+        1_000_000,
+        Answer::Fault("add", 9),
+    ),
+    (
+        "plus(term(num(\"4\")), \"+\", num(\"3\"))",
+        "value",
+        1_000_000,
+        Answer::Int(7),
+    ),
+];
+
+#[test]
+fn the_operations_of_the_table_are_called(rt: HostRuntime) -> Result<(), Fail> {
+    assert!(rt; odd_answers(rt.alloc(), &ODD)?);
+    Ok(())
+}

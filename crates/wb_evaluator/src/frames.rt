@@ -1,0 +1,163 @@
+//! Which expressions wait, and what is left of each?
+//!
+//! What is left of all lies in two lists, one part after another, so that one that waits takes no memory of its own.
+
+ghost use Rattle.std.specs.Prelude.{◌≡◌, ◌≤◌, ◌<◌, ◌-◌, ◌++◌, ◌∷◌, [], None, Some, length, take, drop, reverse, OnOk, IfOk};
+ghost use Rattle.std.specs.List.{slice_set};
+ghost use Rattle.wb_evaluator.specs.Inner.Piles.{wait, waits, IsPiled, IsTaken};
+
+use crate::work::{Task, Work};
+use std::alloc::{AllocError, Global};
+use std::mem::replace;
+use wb_resolved::Node;
+use wb_values::Value;
+
+// An expression at a site, with how many tasks and values are left of it.
+#[derive(Clone, Copy)]
+pub(crate) struct Frame<'a> {
+    pub site: usize,
+    pub nodes: &'a [Node],
+    pub tasks: usize,
+    pub values: usize,
+}
+
+// A frame or none for each instance, and the tasks and values of the frames, each part with its first last.
+#[derive(Drop)]
+pub(crate) struct Frames<'a> {
+    pub rows: Vec<Option<Frame<'a>>>,
+    pub tasks: Vec<Task>,
+    pub values: Vec<Value>,
+}
+
+impl<'a> Frames<'a> {
+    // No instances.
+    pub(crate) fn new(alloc: Global) -> Frames<'a>
+        ensures rows { result.rows.items ≡ [] }
+        ensures tasks { result.tasks.items ≡ [] }
+        ensures values { result.values.items ≡ [] }
+    {
+        Frames {
+            rows: Vec::new(alloc),
+            tasks: Vec::new(alloc),
+            values: Vec::new(alloc),
+        }
+    }
+
+    // Adds an instance after the others, without a frame.
+    pub(crate) fn enter(&mut self) -> Result<(), AllocError>
+        requires piled { IsPiled self.old }
+        ensures piled { OnOk result (IsPiled self.new) }
+        ensures waits { OnOk result (waits self.new ≡ waits self.old ++ None ∷ []) }
+    {
+        self.rows.reserve(1)?;
+        self.rows.push_reserved(None);
+        Ok(())
+    }
+
+    // Takes the last instance away, with its frame.
+    pub(crate) fn leave(&mut self)
+        requires piled { IsPiled self.old }
+        requires some { 0 < length self.old.rows.items }
+        ensures piled { IsPiled self.new }
+        ensures waits { waits self.new ≡ take (length self.old.rows.items - 1) (waits self.old) }
+    {
+        self.clear_last();
+        let at = self.rows.len() - 1;
+        self.rows.truncate(at);
+    }
+
+    // Keeps what is left of an expression in the frame of the last instance.
+    pub(crate) fn keep(
+        &mut self,
+        site: usize,
+        nodes: &'a [Node],
+        work: &mut Work,
+    ) -> Result<(), AllocError>
+        requires piled { IsPiled self.old }
+        requires some { 0 < length self.old.rows.items }
+        ensures piled { OnOk result (IsPiled self.new) }
+        ensures waits { OnOk result (waits self.new ≡ slice_set (waits self.old) (length self.old.rows.items - 1)
+            (Some (wait site nodes.now work.old.tasks.items work.old.values.items))) }
+    {
+        self.clear_last();
+        let tasks = work.tasks.len();
+        let values = work.values.len();
+        move_end(&mut work.tasks, 0, &mut self.tasks)?;
+        move_end(&mut work.values, 0, &mut self.values)?;
+        let at = self.rows.len() - 1;
+        self.rows[at] = Some(Frame {
+            site,
+            nodes,
+            tasks,
+            values,
+        });
+        Ok(())
+    }
+
+    // The frame of the last instance, which has none then: what is left of it is the work.
+    pub(crate) fn take(&mut self, work: &mut Work) -> Result<Option<Frame<'a>>, AllocError>
+        requires piled { IsPiled self.old }
+        requires some { 0 < length self.old.rows.items }
+        ensures piled { OnOk result (IsPiled self.new) }
+        ensures taken { IfOk result (IsTaken self.old self.new work.new) }
+    {
+        let at = self.rows.len() - 1;
+        match replace(&mut self.rows[at], None) {
+            Some(frame) => {
+                self.take_parts(frame.tasks, frame.values, work)?;
+                Ok(Some(frame))
+            }
+            None => Ok(None),
+        }
+    }
+
+    // Makes the work of the last tasks and values, so many.
+    fn take_parts(&mut self, tasks: usize, values: usize, work: &mut Work) -> Result<(), AllocError>
+        requires tasks { tasks ≤ length self.old.tasks.items }
+        requires values { values ≤ length self.old.values.items }
+        ensures rows { OnOk result (self.new.rows ≡ self.old.rows) }
+        ensures tasks { OnOk result (self.new.tasks.items ≡ take (length self.old.tasks.items - tasks) self.old.tasks.items) }
+        ensures values { OnOk result (self.new.values.items ≡ take (length self.old.values.items - values) self.old.values.items) }
+        ensures work_tasks { OnOk result (work.new.tasks.items ≡ reverse (drop (length self.old.tasks.items - tasks) self.old.tasks.items)) }
+        ensures work_values { OnOk result (work.new.values.items ≡ reverse (drop (length self.old.values.items - values) self.old.values.items)) }
+    {
+        let first_task = self.tasks.len() - tasks;
+        let first_value = self.values.len() - values;
+        work.tasks.clear();
+        work.values.clear();
+        move_end(&mut self.tasks, first_task, &mut work.tasks)?;
+        move_end(&mut self.values, first_value, &mut work.values)?;
+        Ok(())
+    }
+
+    // Takes the frame of the last instance away.
+    fn clear_last(&mut self)
+        requires piled { IsPiled self.old }
+        requires some { 0 < length self.old.rows.items }
+        ensures piled { IsPiled self.new }
+        ensures rows { self.new.rows.items ≡ slice_set self.old.rows.items (length self.old.rows.items - 1) None }
+        ensures waits { waits self.new ≡ slice_set (waits self.old) (length self.old.rows.items - 1) None }
+    {
+        let at = self.rows.len() - 1;
+        if let Some(frame) = replace(&mut self.rows[at], None) {
+            let tasks = self.tasks.len() - frame.tasks;
+            let values = self.values.len() - frame.values;
+            self.tasks.truncate(tasks);
+            self.values.truncate(values);
+        }
+    }
+}
+
+// Moves what is in a list from a place on after what is in another, the last first.
+fn move_end<T: Drop>(from: &mut Vec<T>, start: usize, to: &mut Vec<T>) -> Result<(), AllocError>
+    requires { start ≤ length from.old.items }
+    ensures from { OnOk result (from.new.items ≡ take start from.old.items) }
+    ensures to { OnOk result (to.new.items ≡ to.old.items ++ reverse (drop start from.old.items)) }
+{
+    'items: while from.len() > start {
+        to.reserve(1)?;
+        let item = from.take_last();
+        to.push_reserved(item);
+    }
+    Ok(())
+}

@@ -1,0 +1,8 @@
+-- numbers by row and column
+pub mod Rows
+-- nodes by number, and the paths that they are
+pub mod Sites
+-- what is known of them
+pub mod Memos
+-- words of private functions
+pub mod Inner
