@@ -5,15 +5,11 @@
 #![tactic(auto)]
 
 #[cfg(test)]
-mod eval;
-#[cfg(test)]
 mod predictive;
 #[cfg(test)]
 mod printer;
 #[cfg(test)]
 mod reader;
-#[cfg(test)]
-mod small_reader;
 #[cfg(test)]
 mod terms;
 #[cfg(test)]

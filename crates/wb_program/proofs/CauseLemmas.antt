@@ -3,50 +3,49 @@ use Rattle.std.proofs.Common.{◌≡◌, ◌≤◌, inl, inr, ℕ, List, [], ◌
 use Rattle.std.proofs.Common.{refl}
 use Rattle.wb_world.specs.Cause.{Rose}
 use Rattle.wb_world.specs.Shelf.{Files}
-use Rattle.wb_small.specs.declared.numbered.SmallSpec.{SmallSpec}
 use Rattle.wb_hosts.specs.Contents.{IsHostText}
+use Rattle.wb_hosts.specs.WellDefined.{IsWellDefinedText}
 use Rattle.wb_operations.specs.Operations.{OperationSignature}
 use Rattle.wb_resolved.specs.declared.resolved.ResolvedParts.{ResolvedParts}
-use Rattle.wb_program.specs.Asked.{Asked, Read, AreReads, IsBuilt, value_is_built, show_is_built, check_is_built}
-use Rattle.wb_program.specs.Asked.{certify_is_built, certify_reads, tree_is_built}
-use Rattle.wb_program.specs.Asked.{value_reads, show_reads, check_reads, tree_reads, file_of, small_host, small_term, certified_host}
-use Rattle.wb_program.specs.Asked.{parsed_text}
+use Rattle.wb_words.specs.Asked.{Asked}
+use Rattle.wb_words.specs.Asked as a
+use Rattle.wb_words.specs.Words.{Asks}
+use Rattle.wb_program.specs.Built.{Read, AreReads, IsBuilt, InCommandSet, value_is_built, show_is_built, check_is_built}
+use Rattle.wb_program.specs.Built.{certify_is_built, certify_reads, compose_is_built, tree_is_built}
+use Rattle.wb_program.specs.Built.{value_reads, show_reads, check_reads, tree_reads, file_of, certified_host, well_defined_host}
+use Rattle.wb_program.specs.Built.{parsed_text, written_term}
 use Rattle.wb_program.specs.Files.{FileIs, KnownFile, KnownAbsent}
-use Rattle.wb_program.specs.HostsAndTerms.{IsHost}
-use Rattle.wb_program.specs.Reads.{Passes, StopsAt, ComesTo, IsMissing, IsFaulty}
-use Rattle.wb_program.specs.Words.{Asks, InCommandSet}
+use Rattle.wb_program.specs.Reads.{Passes, StopsAt, StopsSeveral, ReadsTo, ComesTo, IsMissing, IsFaulty}
 use Rattle.wb_program.specs.Inner.Stopped.{Outside, Stopped, GoesOn}
 use Rattle.wb_program.specs.declared.reading.ReadFailure.{ReadFailure}
 use Rattle.wb_program.specs.declared.reading.ReadFailure.TheVariants.{Absent, ReadFault, NoMemory}
 
 -- a count that rose after it had not fallen rose since then
-rose_since : (before between now : ℕ) → before ≤ between → Rose between now → Rose before now
+pub rose_since : (before between now : ℕ) → before ≤ between → Rose between now → Rose before now
 rose_since before between now kept (inl rose) = inl (omega arith)
 rose_since before between now kept (inr full) = inr full
 
 -- the next lemma, of one file
-some_host_file : (file : Option (List ℕ)) (spec : SmallSpec) → FileIs file (IsHost spec) → FileIs file (λ c. (s : SmallSpec) × IsHost s c)
-some_host_file None spec is = is
-some_host_file (Some contents) spec is = (spec, is)
+some_file : (file : Option (List ℕ)) (Is : List ℕ → ResolvedParts → Type 0) (r : ResolvedParts) → FileIs file (λ contents. Is contents r)
+    → FileIs file (λ contents. (s : ResolvedParts) × Is contents s)
+some_file None Is r is = is
+some_file (Some contents) Is r is = (r, is)
 
--- a file with the reading of a host passes
-some_host : (operations : List OperationSignature) (known : Option Files) (host : List ℕ) (spec : SmallSpec) → KnownFile known host (IsHost spec)
-    → Passes operations known (small_host host)
-some_host operations None host spec is = tt
-some_host operations (Some files) host spec is = some_host_file (files host) spec is
-
--- the next lemma, of one file
-some_certified_file : (operations : List OperationSignature) (file : Option (List ℕ)) (r : ResolvedParts)
-    → FileIs file (λ contents. IsHostText operations contents r)
-    → FileIs file (λ contents. (s : ResolvedParts) × IsHostText operations contents s)
-some_certified_file operations None r is = is
-some_certified_file operations (Some contents) r is = (r, is)
+-- a file that is a host of this value is one of some value
+some_known : (known : Option Files) (host : List ℕ) (Is : List ℕ → ResolvedParts → Type 0) (r : ResolvedParts)
+    → KnownFile known host (λ contents. Is contents r) → KnownFile known host (λ contents. (s : ResolvedParts) × Is contents s)
+some_known None host Is r is = tt
+some_known (Some files) host Is r is = some_file (files host) Is r is
 
 -- a file that is a certified host passes
 pub some_certified : (operations : List OperationSignature) (known : Option Files) (host : List ℕ) (r : ResolvedParts)
     → KnownFile known host (λ contents. IsHostText operations contents r) → Passes operations known (certified_host host)
-some_certified operations None host r is = tt
-some_certified operations (Some files) host r is = some_certified_file operations (files host) r is
+some_certified operations known host r is = some_known known host (IsHostText operations) r is
+
+-- a file that is a host whose attributes are well defined passes
+some_well_defined : (operations : List OperationSignature) (known : Option Files) (host : List ℕ) (r : ResolvedParts)
+    → KnownFile known host (λ contents. IsWellDefinedText operations contents r) → Passes operations known (well_defined_host host)
+some_well_defined operations known host r is = some_known known host (IsWellDefinedText operations) r is
 
 -- what is kept twice is kept
 pub goes_on_twice : (before between now : Outside) → GoesOn before between → GoesOn between now → GoesOn before now
@@ -84,12 +83,13 @@ stops_next operations before between now first second ReadFault passes kept rose
 stops_next operations before between now first second NoMemory passes kept stopped = tt
 
 -- a run that stops at the term, after its host was read
-pub stops_second : (operations : List OperationSignature) (before between now : Outside) (host term : List ℕ) (spec : SmallSpec)
-    (failure : ReadFailure) → KnownFile before.files host (IsHost spec) → GoesOn before between → Stopped between now (λ P. P term) failure
-    → Stopped before now (λ P. StopsAt operations before.files P (small_host host ∷ small_term term ∷ [])) failure
-stops_second operations before between now host term spec failure is kept stopped =
-    stops_next operations before between now (small_host host) (small_term term) failure (some_host operations before.files host spec is) kept
-    stopped
+pub stops_at_term : (operations : List OperationSignature) (before between now : Outside) (host term : List ℕ) (r : ResolvedParts)
+    (failure : ReadFailure) → KnownFile before.files host (λ contents. IsWellDefinedText operations contents r) → GoesOn before between
+    → Stopped between now (λ P. P term) failure
+    → Stopped before now (λ P. StopsAt operations before.files P (well_defined_host host ∷ written_term term ∷ [])) failure
+stops_at_term operations before between now host term r failure is kept stopped =
+    stops_next operations before between now (well_defined_host host) (written_term term) failure
+    (some_well_defined operations before.files host r is) kept stopped
 
 -- a run that stops at the text, after its host was certified
 pub stops_at_text : (operations : List OperationSignature) (before between now : Outside) (host text : List ℕ) (r : ResolvedParts)
@@ -100,26 +100,28 @@ stops_at_text operations before between now host text r failure is kept stopped 
     stops_next operations before between now (certified_host host) (parsed_text text) failure
     (some_certified operations before.files host r is) kept stopped
 
+-- a run that stops for a reason stops for a weaker one
+pub weaker_stop : (before now : Outside) (C D : (List ℕ → Type 0) → Type 0) (failure : ReadFailure)
+    → ((P : List ℕ → Type 0) → C P → D P) → Stopped before now C failure → Stopped before now D failure
+weaker_stop before now C D Absent weaker stopped = weaker (IsMissing before.files before.absences now.absences) stopped
+weaker_stop before now C D ReadFault weaker stopped = weaker (IsFaulty before.faults now.faults) stopped
+weaker_stop before now C D NoMemory weaker stopped = tt
+
 -- a run of a command stops at one of its files
-pub comes_to : (operations : List OperationSignature) (before now : Outside) (words : List (List ℕ)) (asked : Asked) (reads : List Read)
-    (failure : ReadFailure) → Asks words asked → AreReads asked reads
-    → Stopped before now (λ P. StopsAt operations before.files P reads) failure
+pub reads_to : (operations : List OperationSignature) (before now : Outside) (asked : Asked) (reads : List Read) (failure : ReadFailure)
+    → AreReads asked reads → Stopped before now (λ P. StopsAt operations before.files P reads) failure
+    → Stopped before now (ReadsTo operations before.files asked) failure
+reads_to operations before now asked reads failure are =
+    weaker_stop before now (λ P. StopsAt operations before.files P reads) (ReadsTo operations before.files asked) failure
+    (λ P stops. inl (record { reads = reads; are_reads = are; stops = stops }))
+
+-- and the words ask for it
+pub comes_to : (operations : List OperationSignature) (before now : Outside) (words : List (List ℕ)) (asked : Asked)
+    (failure : ReadFailure) → Asks words asked → Stopped before now (ReadsTo operations before.files asked) failure
     → Stopped before now (ComesTo operations words before.files) failure
-comes_to operations before now words asked reads Absent asks are stops = record {
-  asked = asked;
-  asks = asks;
-  reads = reads;
-  are_reads = are;
-  stops = stops;
-}
-comes_to operations before now words asked reads ReadFault asks are stops = record {
-  asked = asked;
-  asks = asks;
-  reads = reads;
-  are_reads = are;
-  stops = stops;
-}
-comes_to operations before now words asked reads NoMemory asks are stops = tt
+comes_to operations before now words asked failure asks =
+    weaker_stop before now (ReadsTo operations before.files asked) (ComesTo operations words before.files) failure
+    (λ P comes. record { asked = asked; asks = asks; comes = comes })
 
 -- a run that stops at a file later stops at it since it began
 pub stops_since : (before between now : Outside) (file : List ℕ) (failure : ReadFailure) → GoesOn before between
@@ -141,13 +143,32 @@ built_of asked reads check_reads = check_is_built
 built_of asked reads (certify_reads few) = certify_is_built
 built_of asked reads tree_reads = tree_is_built
 
+-- so it is where extensions are composed
+several_built : (operations : List OperationSignature) (known : Option Files) (asked : Asked) (P : List ℕ → Type 0)
+    → StopsSeveral operations known asked P → IsBuilt asked
+several_built operations known (a.value host term attribute) P none = absurd none
+several_built operations known (a.show file) P none = absurd none
+several_built operations known (a.check host) P none = absurd none
+several_built operations known (a.certify host extensions) P none = absurd none
+several_built operations known (a.compose host extensions) P stops = compose_is_built
+several_built operations known (a.tree text host []) P none = absurd none
+several_built operations known (a.tree text host (extension ∷ extensions)) P stops = tree_is_built
+several_built operations known (a.run text attribute steps host extensions) P none = absurd none
+several_built operations known (a.generate number size attribute host extensions) P none = absurd none
+
+-- and so wherever a file is read
+read_built : (operations : List OperationSignature) (known : Option Files) (asked : Asked) (P : List ℕ → Type 0)
+    → ReadsTo operations known asked P → IsBuilt asked
+read_built operations known asked P (inl alone) = built_of asked alone.reads alone.are_reads
+read_built operations known asked P (inr several) = several_built operations known asked P several
+
 -- words that come to read a file are in the command set
 reads_built : (operations : List OperationSignature) (words : List (List ℕ)) (known : Option Files) (P : List ℕ → Type 0)
     → ComesTo operations words known P → InCommandSet words
 reads_built operations words known P comes = record {
   asked = comes.asked;
   asks = comes.asks;
-  built = built_of comes.asked comes.reads comes.are_reads;
+  built = read_built operations known comes.asked P comes.comes;
 }
 
 -- a run that stops at a file that the words name is asked for something built, but for want of memory
@@ -164,6 +185,11 @@ stopped_asked operations before now words NoMemory stopped none_asked = refl
 pub on_ok : {X E : Type 0} (r : Result X E) (P Q : X → Type 0) → ((x : X) → P x → Q x) → IfOk r P → IfOk r Q
 on_ok (Ok x) P Q weaker holds = weaker x holds
 on_ok (Err e) P Q weaker holds = tt
+
+-- the same of two
+pub on_both_ok : {X E : Type 0} (r : Result X E) (P Q R : X → Type 0) → ((x : X) → P x → Q x → R x) → IfOk r P → IfOk r Q → IfOk r R
+on_both_ok (Ok x) P Q R weaker p q = weaker x p q
+on_both_ok (Err e) P Q R weaker p q = tt
 
 -- what holds of an error, from what holds of it
 pub on_err : {X E : Type 0} (r : Result X E) (P Q : E → Type 0) → ((e : E) → P e → Q e) → IfErr r P → IfErr r Q

@@ -1,8 +1,8 @@
 -- What is made of the files of extensions, in their order, is their report; and a run that stops at one of them has its cause.
-use Rattle.std.proofs.Common.{String, Global, string_bytes, get_or, ap}
+use Rattle.std.proofs.Common.{String, Global, string_bytes, get_or, ap, arith}
 use Rattle.std.proofs.lemmas.List.{drop-map, length-map}
 use Rattle.wb_lemmas.proofs.Parts.{drop_from, drop_past}
-use Rattle.std.proofs.Common.{◌≡◌, ◌<◌, ◌≤◌, ◌+◌, ◌++◌, inl, inr, ℕ, List, [], ◌∷◌, Option, length, map, drop, subst, sym, refl}
+use Rattle.std.proofs.Common.{◌≡◌, ◌≢◌, ◌<◌, ◌≤◌, ◌+◌, ◌++◌, inl, inr, ℕ, List, [], ◌∷◌, Option, length, map, drop, subst, sym, refl}
 use Rattle.wb_extension_files.specs.Contents.{IsExtensionText, IsExtensionRefusal}
 use Rattle.wb_extension_files.specs.declared.refusal.FileRefusal.{FileRefusal}
 use Rattle.wb_extension_files.specs.declared.refusal.FileRefusal.TheVariants as f
@@ -18,25 +18,30 @@ use Rattle.wb_report.specs.declared.refusal.Refusal.TheVariants as r
 use Rattle.wb_report.specs.declared.spec_reason.SpecReason.TheVariants as t
 use Rattle.wb_resolved.specs.declared.resolved.ResolvedParts.{ResolvedParts}
 use Rattle.wb_world.specs.Shelf.{Files}
-use Rattle.wb_program.specs.Asked.{Asked, Read, file_of, certified_host, certified_extension, certify_reads}
-use Rattle.wb_program.specs.Asked as a
+use Rattle.wb_words.specs.Asked as a
+use Rattle.wb_words.specs.Words.{texts}
+use Rattle.wb_program.specs.Built.{Read, file_of, certified_host, certified_extension, certify_reads}
 use Rattle.wb_program.specs.CertifyReport.{CertifyReport, ExtensionsReport, IsExtensionNamed}
 use Rattle.wb_program.specs.Files.{KnownFile}
-use Rattle.wb_program.specs.Reads.{Passes, StopsAt, ComesTo, IsMissing, IsFaulty}
-use Rattle.wb_program.specs.Words.{Asks, texts}
+use Rattle.wb_program.specs.Reads.{Passes, StopsAt, ReadsTo, IsMissing, IsFaulty}
 use Rattle.wb_program.specs.Inner.Extensions.{RefusedExtension, EndsAtExtension, LeadsTo, StopsFrom, CertifyStops}
 use Rattle.wb_program.specs.Inner.Hosts.{IsHostFile, RefusedHost}
 use Rattle.wb_program.specs.Inner.Stopped.{Outside, Stopped, GoesOn}
 use Rattle.wb_program.specs.declared.reading.ReadFailure.{ReadFailure}
 use Rattle.wb_program.specs.declared.reading.ReadFailure.TheVariants.{Absent, ReadFault, NoMemory}
 use Rattle.wb_program.specs.declared.status.Status.{Status}
-use Rattle.wb_program.specs.declared.status.Status.TheVariants.{Done, Usage}
-use Rattle.wb_program.proofs.CauseLemmas.{stops_first, stops_since}
+use Rattle.wb_program.specs.declared.status.Status.TheVariants.{Done}
+use Rattle.wb_program.proofs.CauseLemmas.{stops_first, stops_since, weaker_stop}
 use Rattle.wb_program.proofs.HostLemmas.{refused_checks}
 
 -- the texts of words are as many
 pub few_texts : (words : List (String Global)) (most : ℕ) → length words ≤ most → length (texts words) ≤ most
 few_texts words most few = subst (λ (n : ℕ). n ≤ most) (sym (length-map words string_bytes)) few
+
+-- and there is one where there is a word
+pub some_texts : (words : List (String Global)) → 0 < length words → texts words ≢ []
+some_texts [] some same = absurd (omega (arith, some))
+some_texts (word ∷ words) some same = absurd (cc same)
 
 -- the texts from a place on begin with that of the word there
 pub texts_from : (words : List (String Global)) (at : ℕ) (word : String Global) (file : List ℕ) → at < length words
@@ -182,25 +187,17 @@ certify_stops_later operations before now host extensions ReadFault few passes s
 certify_stops_later operations before now host extensions NoMemory few passes stopped = tt
 
 -- a run of `certify` comes to read one of its files
-pub certify_comes_to : (operations : List OperationSignature) (before now : Outside) (words : List (List ℕ)) (host : List ℕ)
-    (extensions : List (List ℕ)) (failure : ReadFailure) → Asks words (a.certify host extensions)
-    → Stopped before now (CertifyStops operations before.files host extensions) failure
-    → Stopped before now (ComesTo operations words before.files) failure
-certify_comes_to operations before now words host extensions Absent asks stopped = record {
-  asked = a.certify host extensions;
-  asks = asks;
-  reads = certified_host host ∷ map (certified_extension host) extensions;
-  are_reads = certify_reads stopped.0;
-  stops = stopped.1;
-}
-certify_comes_to operations before now words host extensions ReadFault asks stopped = record {
-  asked = a.certify host extensions;
-  asks = asks;
-  reads = certified_host host ∷ map (certified_extension host) extensions;
-  are_reads = certify_reads stopped.0;
-  stops = stopped.1;
-}
-certify_comes_to operations before now words host extensions NoMemory asks stopped = tt
+pub certify_reads_to : (operations : List OperationSignature) (before now : Outside) (host : List ℕ) (extensions : List (List ℕ))
+    (failure : ReadFailure) → Stopped before now (CertifyStops operations before.files host extensions) failure
+    → Stopped before now (ReadsTo operations before.files (a.certify host extensions)) failure
+certify_reads_to operations before now host extensions failure =
+    weaker_stop before now (CertifyStops operations before.files host extensions)
+    (ReadsTo operations before.files (a.certify host extensions)) failure
+    (λ P stops. inl (record {
+      reads = certified_host host ∷ map (certified_extension host) extensions;
+      are_reads = certify_reads stops.0;
+      stops = stops.1;
+    }))
 
 -- `certify` of a file that is no certified host
 pub certify_refused : (operations : List OperationSignature) (known : Option Files) (host : List ℕ) (extensions : List (List ℕ))
@@ -208,29 +205,14 @@ pub certify_refused : (operations : List OperationSignature) (known : Option Fil
     → KnownFile known host (λ contents. IsHostRefusal operations contents refusal) → RefusedHost host refusal status bytes
     → CertifyReport operations known host extensions status bytes
 certify_refused operations known host extensions refusal status bytes few cause shown =
-    inr (few, refused_checks operations known host (λ r. ExtensionsReport operations known r extensions []) refusal status bytes cause shown)
+    inr (
+      few,
+      refused_checks (IsHostText operations) (IsHostRefusal operations) known host
+          (λ r. ExtensionsReport operations known r extensions []) refusal status bytes cause shown,
+    )
 
 -- `certify` of a certified host
 pub certify_certified : (operations : List OperationSignature) (known : Option Files) (host : List ℕ) (extensions : List (List ℕ))
     (value : ResolvedParts) (status : Status) (bytes : List ℕ) → length extensions ≤ 64 → IsHostFile operations known host value
     → ExtensionsReport operations known value extensions [] status bytes → CertifyReport operations known host extensions status bytes
 certify_certified operations known host extensions value status bytes few is report = inr (few, (inr (inr (value, is.contents, report))))
-
--- a report of extensions isn't that of words that are no command
-extensions_no_usage : (operations : List OperationSignature) (known : Option Files) (host : ResolvedParts) (files names : List (List ℕ))
-    (status : Status) (bytes : List ℕ) → ExtensionsReport operations known host files names status bytes → status ≡ Usage → ⊥
-extensions_no_usage operations known host [] names status bytes (same, line) usage = absurd (cc)
-extensions_no_usage operations known host (file ∷ files) names status bytes (inl (same, line)) usage = absurd (cc)
-extensions_no_usage operations known host (file ∷ files) names status bytes (inr (inl (same, line))) usage = absurd (cc)
-extensions_no_usage operations known host (file ∷ files) names status bytes (inr (inr (inl (same, line)))) usage = absurd (cc)
-extensions_no_usage operations known host (file ∷ files) names status bytes (inr (inr (inr (name, is, more)))) usage =
-    extensions_no_usage operations known host files (names ++ name ∷ []) status bytes more usage
-
--- nor is a report of `certify`
-pub certify_no_usage : (operations : List OperationSignature) (known : Option Files) (host : List ℕ) (extensions : List (List ℕ))
-    (status : Status) (bytes : List ℕ) → CertifyReport operations known host extensions status bytes → status ≡ Usage → ⊥
-certify_no_usage operations known host extensions status bytes (inl (same, line)) usage = absurd (cc)
-certify_no_usage operations known host extensions status bytes (inr (few, inl (same, line))) usage = absurd (cc)
-certify_no_usage operations known host extensions status bytes (inr (few, inr (inl (same, line)))) usage = absurd (cc)
-certify_no_usage operations known host extensions status bytes (inr (few, inr (inr (value, is, more)))) usage =
-    extensions_no_usage operations known value extensions [] status bytes more usage

@@ -1,14 +1,18 @@
-mod AskLemmas
+mod AnswerLemmas
 mod CauseLemmas
+mod ComposeLemmas
 mod ExtensionLemmas
 mod HostLemmas
 mod Known
-pub mod OneAsked
 mod OneCheck
+mod OneComposeReport
 mod OneExtensionReport
 mod OneHostReport
 pub mod OneReport
+mod OneSeveralReport
+mod OneValueReport
 mod Pieces
 mod Reported
 pub mod ShownAgain
-mod WordLemmas
+mod SeveralLemmas
+mod ShowLemmas

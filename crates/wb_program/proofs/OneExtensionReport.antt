@@ -15,7 +15,7 @@ use Rattle.wb_program.specs.CertifyReport.{IsForOtherHost, IsExtensionNamed, Ext
 use Rattle.wb_program.specs.Files.{FileIs}
 use Rattle.wb_program.specs.declared.status.Status.{Status}
 use Rattle.wb_program.proofs.OneCheck.{on_file}
-use Rattle.wb_program.proofs.OneHostReport.{AreAlike, one_host_report}
+use Rattle.wb_program.proofs.OneHostReport.{AreAlike, one_certified_report}
 
 -- what the contents of a file say of their answers
 abbrev pub ExcludesExtensions : Type 0
@@ -135,7 +135,7 @@ module _ (excludes : ExcludesExtensions) (operations : List OperationSignature) 
       (subst (λ (n : List ℕ). ExtensionsReport operations (Some files) host left (names ++ n ∷ []) t others) same more')
 
 -- what is too many is no more than is taken
-not_few : (extensions : List (List ℕ)) → 64 < length extensions → length extensions ≤ 64 → ⊥
+pub not_few : (extensions : List (List ℕ)) → 64 < length extensions → length extensions ≤ 64 → ⊥
 not_few extensions many few = omega (arith, many, few)
 
 -- two reports of `certify`
@@ -149,5 +149,5 @@ one_certify_report excludes operations files host extensions s t bytes others (i
 one_certify_report excludes operations files host extensions s t bytes others (inr (few, x)) (inl (ends', y)) =
     absurd (not_few extensions y.many few)
 one_certify_report excludes operations files host extensions s t bytes others (inr (few, x)) (inr (few', y)) =
-    one_host_report operations files host s t bytes others (λ r. ExtensionsReport operations (Some files) r extensions [])
+    one_certified_report operations files host s t bytes others (λ r. ExtensionsReport operations (Some files) r extensions [])
     (λ r is. one_extensions_report excludes operations files r extensions [] s t bytes others) x y

@@ -1,94 +1,57 @@
--- A report has a status with which it is written whole.
-use Rattle.std.proofs.Common.{◌≡◌, ◌⊎◌, inl, inr, ℕ, Option, List, [], ◌∷◌, ◌++◌, subst, sym}
-use Rattle.wb_world.specs.Shelf.{Files}
-use Rattle.wb_operations.specs.Operations.{OperationSignature}
+-- A report has a status with which it is written whole, and which isn't that of words that ask for nothing.
+use Rattle.std.proofs.Common.{◌≡◌, ◌≢◌, inl, inr, ℕ, Option, List, [], ◌∷◌, ◌++◌, subst, sym}
+use Rattle.wb_hosts.specs.Contents.{IsHostText, IsHostRefusal}
+use Rattle.wb_hosts.specs.WellDefined.{IsWellDefinedText, IsWellDefinedTextRefusal}
+use Rattle.wb_hosts.specs.declared.refusal.HostRefusal.{HostRefusal}
+use Rattle.wb_operations.specs.Operations.{OperationSignature, Operations}
+use Rattle.wb_reader.specs.Refusals.{IsAcceptedText}
 use Rattle.wb_report.specs.Lines.{report_of}
 use Rattle.wb_report.specs.declared.done.Done.TheVariants as done
 use Rattle.wb_report.specs.declared.outcome.Outcome.TheVariants as o
 use Rattle.wb_resolved.specs.declared.resolved.ResolvedParts.{ResolvedParts}
+use Rattle.wb_root_values.specs.declared.answer.RootAnswer.{RootAnswer}
+use Rattle.wb_root_values.specs.declared.answer.RootAnswer.TheVariants as answered
+use Rattle.wb_syntax.specs.Canonical.{IsCanonical}
+use Rattle.wb_trees.specs.declared.answer.TextAnswer.{TextAnswer}
+use Rattle.wb_trees.specs.declared.answer.TextAnswer.TheVariants as text
+use Rattle.wb_words.specs.Asked.{Asked}
+use Rattle.wb_world.specs.Shelf.{Files}
+use Rattle.wb_program.specs.Built.{IsBuilt, value_is_built, show_is_built, check_is_built, certify_is_built}
+use Rattle.wb_program.specs.Built.{compose_is_built, tree_is_built}
 use Rattle.wb_program.specs.Checks.{Report, Ends, Check}
 use Rattle.wb_program.specs.CertifyReport.{ExtensionsReport, CertifyReport}
 use Rattle.wb_program.specs.CheckReport.{HostChecks, CheckReport}
-use Rattle.wb_eval.specs.declared.answer.SmallAnswer.TheVariants.{Value}
-use Rattle.wb_eval.specs.Answer.{IsAnswer}
-use Rattle.wb_eval.specs.Asked.{IsAskedAttribute, root_of}
-use Rattle.wb_syntax.specs.Canonical.{IsCanonical}
-use Rattle.wb_reader.specs.Refusals.{IsAcceptedText}
+use Rattle.wb_program.specs.ComposeReport.{ComposeReport, ComposedLines, UnitedReport, UnitedTreeReport}
 use Rattle.wb_program.specs.Files.{KnownFile}
-use Rattle.wb_program.specs.HostsAndTerms.{IsHost, IsTerm}
-use Rattle.wb_program.specs.Lines.{value_line}
+use Rattle.wb_program.specs.Report.{IsReportOf, value_report, show_report, check_report, certify_report}
+use Rattle.wb_program.specs.Report.{compose_report, tree_report, united_tree_report}
+use Rattle.wb_program.specs.SeveralChecks.{EachChecks, RefusesEach, SeveralChecks}
 use Rattle.wb_program.specs.ShowReport.{RefusesSpec, ShowReport}
-use Rattle.wb_program.specs.TreeReport.{IsText, IsTooLongText, TextReport, TreeReport}
-use Rattle.wb_program.specs.ValueReport.{RefusesHost, RefusesTerm, LacksAttribute, HasFault, NumberReport, AnswerReport, TermReport}
-use Rattle.wb_program.specs.ValueReport.{ValueReport}
+use Rattle.wb_program.specs.TreeReport.{IsText, IsTooLongText, ShownText, TextReport, TreeReport}
+use Rattle.wb_program.specs.ValueReport.{RootReport, TermReport, ValueReport}
 use Rattle.wb_program.specs.Written.{WritesNothing}
 use Rattle.wb_program.specs.declared.status.Status.{Status}
-use Rattle.wb_program.specs.declared.status.Status.TheVariants.{Done, SpecRefused, OperationFault, UnknownAttribute}
-use Rattle.wb_program.specs.declared.status.Status.TheVariants.{NotCertified, TextStopped, TextTooLong, TooLongToPrint, TooManyExtensions, WrongHost, WriteFault}
+use Rattle.wb_program.specs.declared.status.Status.TheVariants.{Done, Usage, SpecRefused, TextTooLong}
+use Rattle.wb_program.specs.declared.status.Status.TheVariants.{Absent, ReadFault, WriteFault, NoMemory}
 
--- a status of a report that is written whole
-abbrev IsReported : Status → Type 0
-IsReported status = ¬ (WritesNothing status ⊎ (status ≡ WriteFault))
+-- a status of the report of a command that is written whole
+abbrev pub IsReported : Status → Type 0
+IsReported Usage = ⊥
+IsReported Absent = ⊥
+IsReported ReadFault = ⊥
+IsReported WriteFault = ⊥
+IsReported NoMemory = ⊥
+IsReported other = Unit {0}
 
-is_done : IsReported Done
-is_done (inl (inl is)) = absurd (cc)
-is_done (inl (inr (inl is))) = absurd (cc)
-is_done (inl (inr (inr is))) = absurd (cc)
-is_done (inr is) = absurd (cc)
+-- such a status isn't one that isn't
+pub differs : (s t : Status) → IsReported s → ¬ IsReported t → s ≢ t
+differs s t is none same = none (subst IsReported same is)
 
-is_refused : IsReported SpecRefused
-is_refused (inl (inl is)) = absurd (cc)
-is_refused (inl (inr (inl is))) = absurd (cc)
-is_refused (inl (inr (inr is))) = absurd (cc)
-is_refused (inr is) = absurd (cc)
-
-fault : IsReported OperationFault
-fault (inl (inl is)) = absurd (cc)
-fault (inl (inr (inl is))) = absurd (cc)
-fault (inl (inr (inr is))) = absurd (cc)
-fault (inr is) = absurd (cc)
-
-unknown : IsReported UnknownAttribute
-unknown (inl (inl is)) = absurd (cc)
-unknown (inl (inr (inl is))) = absurd (cc)
-unknown (inl (inr (inr is))) = absurd (cc)
-unknown (inr is) = absurd (cc)
-
-not_certified : IsReported NotCertified
-not_certified (inl (inl is)) = absurd (cc)
-not_certified (inl (inr (inl is))) = absurd (cc)
-not_certified (inl (inr (inr is))) = absurd (cc)
-not_certified (inr is) = absurd (cc)
-
-stopped : IsReported TextStopped
-stopped (inl (inl is)) = absurd (cc)
-stopped (inl (inr (inl is))) = absurd (cc)
-stopped (inl (inr (inr is))) = absurd (cc)
-stopped (inr is) = absurd (cc)
-
-long_text : IsReported TextTooLong
-long_text (inl (inl is)) = absurd (cc)
-long_text (inl (inr (inl is))) = absurd (cc)
-long_text (inl (inr (inr is))) = absurd (cc)
-long_text (inr is) = absurd (cc)
-
-long_tree : IsReported TooLongToPrint
-long_tree (inl (inl is)) = absurd (cc)
-long_tree (inl (inr (inl is))) = absurd (cc)
-long_tree (inl (inr (inr is))) = absurd (cc)
-long_tree (inr is) = absurd (cc)
-
-too_many : IsReported TooManyExtensions
-too_many (inl (inl is)) = absurd (cc)
-too_many (inl (inr (inl is))) = absurd (cc)
-too_many (inl (inr (inr is))) = absurd (cc)
-too_many (inr is) = absurd (cc)
-
-wrong_host : IsReported WrongHost
-wrong_host (inl (inl is)) = absurd (cc)
-wrong_host (inl (inr (inl is))) = absurd (cc)
-wrong_host (inl (inr (inr is))) = absurd (cc)
-wrong_host (inr is) = absurd (cc)
+-- it writes a report
+pub writes : (s : Status) → IsReported s → ¬ WritesNothing s
+writes s is (inl same) = differs s Absent is (λ none. none) same
+writes s is (inr (inl same)) = differs s ReadFault is (λ none. none) same
+writes s is (inr (inr same)) = differs s NoMemory is (λ none. none) same
 
 -- a check with such a status, and a rest with one
 by_check : {X : Type 0} (ending s : Status) (bytes : List ℕ) (Line : List ℕ → Type 0) (Passes : X → Type 0) (rest : X → Report) →
@@ -101,70 +64,163 @@ by_check ending s bytes Line Passes rest is more (inr (x, passes, goes)) = more 
 by_end : (ending s : Status) (bytes : List ℕ) (Line : List ℕ → Type 0) → IsReported ending → Ends ending Line s bytes → IsReported s
 by_end ending s bytes Line is (same, line) = subst IsReported (sym same) is
 
--- a report of `value`
-pub value_reported : (known : Option Files) (host term attribute : List ℕ) (s : Status) (bytes : List ℕ) →
-    ValueReport known host term attribute s bytes → IsReported s
-value_reported known host term attribute s bytes =
-    by_check SpecRefused s bytes (RefusesHost known host) (λ spec. KnownFile known host (IsHost spec))
-    (λ spec. TermReport known term attribute spec) is_refused (λ spec.
-    by_check SpecRefused s bytes (RefusesTerm known term spec) (λ tree. KnownFile known term (IsTerm spec tree))
-    (λ tree. AnswerReport attribute spec tree) is_refused (λ tree.
-    by_check UnknownAttribute s bytes (LacksAttribute attribute spec tree) (λ number. IsAskedAttribute spec tree attribute number)
-    (λ number. NumberReport attribute spec tree number) unknown (λ number.
-    by_check OperationFault s bytes (HasFault spec tree number) (λ value. IsAnswer spec tree (root_of tree) number (Value value))
-    (λ value. Ends Done (λ line. line ≡ value_line attribute value)) fault (λ value.
-    by_end Done s bytes (λ line. line ≡ value_line attribute value) is_done))))
-
 -- a report of `show`
-pub show_reported : (known : Option Files) (file : List ℕ) (s : Status) (bytes : List ℕ) → ShowReport known file s bytes → IsReported s
+show_reported : (known : Option Files) (file : List ℕ) (s : Status) (bytes : List ℕ) → ShowReport known file s bytes → IsReported s
 show_reported known file s bytes = by_check SpecRefused s bytes (RefusesSpec known file)
-    (λ spec. KnownFile known file (λ contents. IsAcceptedText contents spec)) (λ spec. Ends Done (IsCanonical spec)) is_refused
-    (λ spec. by_end Done s bytes (IsCanonical spec) is_done)
+    (λ spec. KnownFile known file (λ contents. IsAcceptedText contents spec)) (λ spec. Ends Done (IsCanonical spec)) tt
+    (λ spec. by_end Done s bytes (IsCanonical spec) tt)
 
 -- the checks of a host, and a rest with such a status
-by_host : (operations : List OperationSignature) (known : Option Files) (file : List ℕ) (rest : ResolvedParts → Report) (s : Status)
-    (bytes : List ℕ) → ((r : ResolvedParts) → rest r s bytes → IsReported s) → HostChecks operations known file rest s bytes → IsReported s
-by_host operations known file rest s bytes more (inl (same, line)) = subst IsReported (sym same) is_refused
-by_host operations known file rest s bytes more (inr (inl (same, line))) = subst IsReported (sym same) not_certified
-by_host operations known file rest s bytes more (inr (inr (r, passes, goes))) = more r goes
+by_host : (IsHost : List ℕ → ResolvedParts → Type 0) (IsRefused : List ℕ → HostRefusal → Type 0) (known : Option Files) (file : List ℕ)
+    (rest : ResolvedParts → Report) (s : Status) (bytes : List ℕ) → ((r : ResolvedParts) → rest r s bytes → IsReported s)
+    → HostChecks IsHost IsRefused known file rest s bytes → IsReported s
+by_host IsHost IsRefused known file rest s bytes more (inl (same, line)) = subst IsReported (sym same) tt
+by_host IsHost IsRefused known file rest s bytes more (inr (inl (same, line))) = subst IsReported (sym same) tt
+by_host IsHost IsRefused known file rest s bytes more (inr (inr (r, passes, goes))) = more r goes
 
 -- a report of `check`
-pub check_reported : (operations : List OperationSignature) (known : Option Files) (host : List ℕ) (s : Status) (bytes : List ℕ)
+check_reported : (operations : List OperationSignature) (known : Option Files) (host : List ℕ) (s : Status) (bytes : List ℕ)
     → CheckReport operations known host s bytes → IsReported s
 check_reported operations known host s bytes =
-    by_host operations known host (λ r. Ends Done (λ line. line ≡ report_of (o.Done (done.Certified r.host [])))) s bytes
-    (λ r. by_end Done s bytes (λ line. line ≡ report_of (o.Done (done.Certified r.host []))) is_done)
+    by_host (IsHostText operations) (IsHostRefusal operations) known host
+    (λ r. Ends Done (λ line. line ≡ report_of (o.Done (done.Certified r.host [])))) s bytes
+    (λ r. by_end Done s bytes (λ line. line ≡ report_of (o.Done (done.Certified r.host []))) tt)
 
 -- a report of extensions
 extensions_reported : (operations : List OperationSignature) (known : Option Files) (host : ResolvedParts) (files names : List (List ℕ))
     (s : Status) (bytes : List ℕ) → ExtensionsReport operations known host files names s bytes → IsReported s
-extensions_reported operations known host [] names s bytes (same, line) = subst IsReported (sym same) is_done
-extensions_reported operations known host (file ∷ files) names s bytes (inl (same, line)) = subst IsReported (sym same) is_refused
-extensions_reported operations known host (file ∷ files) names s bytes (inr (inl (same, line))) = subst IsReported (sym same) wrong_host
+extensions_reported operations known host [] names s bytes (same, line) = subst IsReported (sym same) tt
+extensions_reported operations known host (file ∷ files) names s bytes (inl (same, line)) = subst IsReported (sym same) tt
+extensions_reported operations known host (file ∷ files) names s bytes (inr (inl (same, line))) = subst IsReported (sym same) tt
 extensions_reported operations known host (file ∷ files) names s bytes (inr (inr (inl (same, line)))) =
-    subst IsReported (sym same) not_certified
+    subst IsReported (sym same) tt
 extensions_reported operations known host (file ∷ files) names s bytes (inr (inr (inr (name, is, more)))) =
     extensions_reported operations known host files (names ++ name ∷ []) s bytes more
 
 -- a report of `certify`
-pub certify_reported : (operations : List OperationSignature) (known : Option Files) (host : List ℕ) (extensions : List (List ℕ))
+certify_reported : (operations : List OperationSignature) (known : Option Files) (host : List ℕ) (extensions : List (List ℕ))
     (s : Status) (bytes : List ℕ) → CertifyReport operations known host extensions s bytes → IsReported s
-certify_reported operations known host extensions s bytes (inl (same, line)) = subst IsReported (sym same) too_many
+certify_reported operations known host extensions s bytes (inl (same, line)) = subst IsReported (sym same) tt
 certify_reported operations known host extensions s bytes (inr (few, report)) =
-    by_host operations known host (λ r. ExtensionsReport operations known r extensions []) s bytes
+    by_host (IsHostText operations) (IsHostRefusal operations) known host (λ r. ExtensionsReport operations known r extensions []) s bytes
     (λ r. extensions_reported operations known r extensions [] s bytes) report
 
 -- a report of a text
 text_reported : (r : ResolvedParts) (text : List ℕ) (s : Status) (bytes : List ℕ) → TextReport r text s bytes → IsReported s
-text_reported r text s bytes (inl (same, line)) = subst IsReported (sym same) stopped
-text_reported r text s bytes (inr (inl (same, line))) = subst IsReported (sym same) long_tree
-text_reported r text s bytes (inr (inr (same, line))) = subst IsReported (sym same) is_done
+text_reported r text s bytes (inl (same, line)) = subst IsReported (sym same) tt
+text_reported r text s bytes (inr (inl (same, line))) = subst IsReported (sym same) tt
+text_reported r text s bytes (inr (inr (same, line))) = subst IsReported (sym same) tt
+
+-- a text that isn't too long, and a rest with such a status
+by_text : (known : Option Files) (file : List ℕ) (rest : List ℕ → Report) (s : Status) (bytes : List ℕ)
+    → ((text : List ℕ) → rest text s bytes → IsReported s)
+    → Check TextTooLong (IsTooLongText known file) (IsText known file) rest s bytes → IsReported s
+by_text known file rest s bytes = by_check TextTooLong s bytes (IsTooLongText known file) (IsText known file) rest tt
 
 -- a report of `tree`
-pub tree_reported : (operations : List OperationSignature) (known : Option Files) (text host : List ℕ) (s : Status) (bytes : List ℕ)
+tree_reported : (operations : List OperationSignature) (known : Option Files) (text host : List ℕ) (s : Status) (bytes : List ℕ)
     → TreeReport operations known text host s bytes → IsReported s
 tree_reported operations known file host s bytes =
-    by_host operations known host
+    by_host (IsHostText operations) (IsHostRefusal operations) known host
     (λ r. Check TextTooLong (IsTooLongText known file) (IsText known file) (λ (text : List ℕ). TextReport r text)) s bytes
-    (λ r. by_check TextTooLong s bytes (IsTooLongText known file) (IsText known file) (λ (text : List ℕ). TextReport r text) long_text
-    (λ text. text_reported r text s bytes))
+    (λ r. by_text known file (λ (text : List ℕ). TextReport r text) s bytes (λ text. text_reported r text s bytes))
+
+-- a report of an attribute at the root of a term
+root_reported : (file attribute : List ℕ) (answer : RootAnswer) (s : Status) (bytes : List ℕ) → RootReport file attribute answer s bytes
+    → IsReported s
+root_reported file attribute (answered.Refused reason) s bytes (same, line) = subst IsReported (sym same) tt
+root_reported file attribute answered.UnknownAttribute s bytes (same, line) = subst IsReported (sym same) tt
+root_reported file attribute (answered.Fault operation code) s bytes (same, line) = subst IsReported (sym same) tt
+root_reported file attribute answered.MoreSteps s bytes (same, line) = subst IsReported (sym same) tt
+root_reported file attribute answered.TooLong s bytes (same, line) = subst IsReported (sym same) tt
+root_reported file attribute (answered.Value printed) s bytes (same, line) = subst IsReported (sym same) tt
+
+-- a report of `value`
+value_reported : (operations : Operations) (known : Option Files) (host file attribute : List ℕ) (s : Status) (bytes : List ℕ)
+    → ValueReport operations known host file attribute s bytes → IsReported s
+value_reported operations known host file attribute s bytes =
+    by_host (IsWellDefinedText operations.signatures) (IsWellDefinedTextRefusal operations.signatures) known host
+    (λ r. Check TextTooLong (IsTooLongText known file) (IsText known file)
+    (λ (text : List ℕ). TermReport operations r.attributes file attribute text)) s bytes
+    (λ r. by_text known file (λ (text : List ℕ). TermReport operations r.attributes file attribute text) s bytes
+    (λ text report. root_reported file attribute report.answer s bytes report.shown))
+
+-- a report of several extensions, and a rest with such a status
+module _ (operations : List OperationSignature) (known : Option Files) (all : List (List ℕ)) (s : Status) (bytes : List ℕ) where
+  -- one that is refused
+  refused_reported : (r : ResolvedParts) (left : List (List ℕ)) (before : List ResolvedParts)
+      → RefusesEach operations known r left before s bytes → IsReported s
+  refused_reported r [] before none = absurd none
+  refused_reported r (file ∷ left) before (inl (inl (same, line))) = subst IsReported (sym same) tt
+  refused_reported r (file ∷ left) before (inl (inr (inl (same, line)))) = subst IsReported (sym same) tt
+  refused_reported r (file ∷ left) before (inl (inr (inr (inl (same, line))))) = subst IsReported (sym same) tt
+  refused_reported r (file ∷ left) before (inl (inr (inr (inr (inl (same, line)))))) = subst IsReported (sym same) tt
+  refused_reported r (file ∷ left) before (inl (inr (inr (inr (inr (same, line)))))) = subst IsReported (sym same) tt
+  refused_reported r (file ∷ left) before (inr (value, is, later)) = refused_reported r left (before ++ value ∷ []) later
+
+  -- each of them
+  each_reported : (rest : ResolvedParts → List ResolvedParts → Report)
+      → ((r : ResolvedParts) (values : List ResolvedParts) → rest r values s bytes → IsReported s) → (r : ResolvedParts)
+      → EachChecks operations known r all (rest r) s bytes → IsReported s
+  each_reported rest more r (inl is) = refused_reported r all [] is
+  each_reported rest more r (inr (values, each, report)) = more r values report
+
+  -- all checks
+  several_reported : (host : List ℕ) (rest : ResolvedParts → List ResolvedParts → Report)
+      → ((r : ResolvedParts) (values : List ResolvedParts) → rest r values s bytes → IsReported s)
+      → SeveralChecks operations known host all rest s bytes → IsReported s
+  several_reported host rest more (inl (same, line)) = subst IsReported (sym same) tt
+  several_reported host rest more (inr (few, report)) =
+      by_host (IsHostText operations) (IsHostRefusal operations) known host (λ r. EachChecks operations known r all (rest r)) s bytes
+      (each_reported rest more) report
+
+-- a report of `compose`
+compose_reported : (operations : List OperationSignature) (known : Option Files) (host : List ℕ) (all : List (List ℕ)) (s : Status)
+    (bytes : List ℕ) → ComposeReport operations known host all s bytes → IsReported s
+compose_reported operations known host all s bytes =
+    several_reported operations known all s bytes host (λ r values. Ends Done (ComposedLines operations r values))
+    (λ r values. by_end Done s bytes (ComposedLines operations r values) tt)
+
+-- the answer of a text
+shown_reported : (answer : TextAnswer) (s : Status) (bytes : List ℕ) → ShownText answer s bytes → IsReported s
+shown_reported (text.Tree printed) s bytes (same, line) = subst IsReported (sym same) tt
+shown_reported (text.Stopped place shown) s bytes (same, line) = subst IsReported (sym same) tt
+shown_reported text.TooLong s bytes (same, line) = subst IsReported (sym same) tt
+
+-- a report of `tree` with extensions
+united_reported : (operations : List OperationSignature) (known : Option Files) (file host : List ℕ) (all : List (List ℕ)) (s : Status)
+    (bytes : List ℕ) → UnitedTreeReport operations known file host all s bytes → IsReported s
+united_reported operations known file host all s bytes =
+    several_reported operations known all s bytes host (λ r values. Check TextTooLong (IsTooLongText known file) (IsText known file)
+    (λ (contents : List ℕ). UnitedReport operations r values contents))
+    (λ r values. by_text known file (λ (contents : List ℕ). UnitedReport operations r values contents) s bytes
+    (λ contents report. shown_reported report.answer s bytes report.shown))
+
+-- the report of what is asked
+pub is_reported : (operations : Operations) (known : Option Files) (s : Status) (bytes : List ℕ) (asked : Asked)
+    → IsReportOf operations known s bytes asked → IsReported s
+is_reported operations known s bytes asked (value_report {host = host} {term = term} {attribute = attribute} report) =
+    value_reported operations known host term attribute s bytes report
+is_reported operations known s bytes asked (show_report {file = file} report) = show_reported known file s bytes report
+is_reported operations known s bytes asked (check_report {host = host} report) =
+    check_reported operations.signatures known host s bytes report
+is_reported operations known s bytes asked (certify_report {host = host} {extensions = extensions} report) =
+    certify_reported operations.signatures known host extensions s bytes report
+is_reported operations known s bytes asked (tree_report {text = text} {host = host} report) =
+    tree_reported operations.signatures known text host s bytes report
+is_reported operations known s bytes asked (compose_report {host = host} {extensions = extensions} report) =
+    compose_reported operations.signatures known host extensions s bytes report
+is_reported operations known s bytes asked
+    (united_tree_report {text = text} {host = host} {extension = extension} {extensions = extensions} report) =
+    united_reported operations.signatures known text host (extension ∷ extensions) s bytes report
+
+-- what has a report is built
+pub is_built : (operations : Operations) (known : Option Files) (s : Status) (bytes : List ℕ) (asked : Asked)
+    → IsReportOf operations known s bytes asked → IsBuilt asked
+is_built operations known s bytes asked (value_report x) = value_is_built
+is_built operations known s bytes asked (show_report x) = show_is_built
+is_built operations known s bytes asked (check_report x) = check_is_built
+is_built operations known s bytes asked (certify_report x) = certify_is_built
+is_built operations known s bytes asked (tree_report x) = tree_is_built
+is_built operations known s bytes asked (compose_report x) = compose_is_built
+is_built operations known s bytes asked (united_tree_report x) = tree_is_built

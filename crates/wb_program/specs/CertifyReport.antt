@@ -12,7 +12,7 @@ use Rattle.wb_report.specs.declared.refusal.Refusal.{Refusal}
 use Rattle.wb_resolved.specs.declared.resolved.ResolvedParts.{ResolvedParts}
 use Rattle.wb_world.specs.Shelf.{Files}
 use Rattle.wb_program.specs.Checks.{Report, Ends}
-use Rattle.wb_program.specs.CheckReport.{HostChecks}
+use Rattle.wb_program.specs.CheckReport.{CertifiedChecks}
 use Rattle.wb_program.specs.Files.{KnownFile}
 use Rattle.wb_program.specs.declared.status.Status.TheVariants.{Done, SpecRefused, NotCertified, TooManyExtensions, WrongHost}
 
@@ -59,4 +59,4 @@ abbrev pub CertifyReport : List OperationSignature → Option Files → List ℕ
 CertifyReport operations known host extensions status bytes =
     Ends TooManyExtensions (AreTooMany extensions) status bytes
     ⊎ ((length extensions ≤ 64)
-    × HostChecks operations known host (λ r. ExtensionsReport operations known r extensions []) status bytes)
+    × CertifiedChecks operations known host (λ r. ExtensionsReport operations known r extensions []) status bytes)

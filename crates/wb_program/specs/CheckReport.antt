@@ -14,21 +14,27 @@ use Rattle.wb_program.specs.Checks.{Report, Ends}
 use Rattle.wb_program.specs.Files.{KnownFile}
 use Rattle.wb_program.specs.declared.status.Status.TheVariants.{Done, SpecRefused, NotCertified}
 
--- the file is no certified host by a refusal of this sort, and the line says why
-pub record RefusesContents (operations : List OperationSignature) (known : Option Files) (file : List ℕ) (Sort : Refusal → HostRefusal)
+-- the file is no such host by a refusal of this sort, and the line says why
+pub record RefusesContents (IsRefused : List ℕ → HostRefusal → Type 0) (known : Option Files) (file : List ℕ) (Sort : Refusal → HostRefusal)
     (bytes : List ℕ) : Type 0 where
   pub shown : Refusal
-  pub cause : KnownFile known file (λ contents. IsHostRefusal operations contents (Sort shown))
+  pub cause : KnownFile known file (λ contents. IsRefused contents (Sort shown))
   pub line : bytes ≡ report_of (o.Refused file shown)
 
--- the host: a rule of specifications fails, or one of certification, or it is certified and the rest speaks of its value
-abbrev pub HostChecks : List OperationSignature → Option Files → List ℕ → (ResolvedParts → Report) → Report
-HostChecks operations known file rest status bytes =
-    Ends SpecRefused (RefusesContents operations known file h.Specification) status bytes
-    ⊎ Ends NotCertified (RefusesContents operations known file h.Certification) status bytes
-    ⊎ ((r : ResolvedParts) × KnownFile known file (λ contents. IsHostText operations contents r) × rest r status bytes)
+-- the host, by which contents are one and why they aren't: a rule of specifications fails, or one of certification, or it is one and the
+-- rest speaks of its value
+abbrev pub HostChecks : (List ℕ → ResolvedParts → Type 0) → (List ℕ → HostRefusal → Type 0) → Option Files → List ℕ
+    → (ResolvedParts → Report) → Report
+HostChecks IsHost IsRefused known file rest status bytes =
+    Ends SpecRefused (RefusesContents IsRefused known file h.Specification) status bytes
+    ⊎ Ends NotCertified (RefusesContents IsRefused known file h.Certification) status bytes
+    ⊎ ((r : ResolvedParts) × KnownFile known file (λ contents. IsHost contents r) × rest r status bytes)
+
+-- the checks of a host that is certified
+abbrev pub CertifiedChecks : List OperationSignature → Option Files → List ℕ → (ResolvedParts → Report) → Report
+CertifiedChecks operations = HostChecks (IsHostText operations) (IsHostRefusal operations)
 
 -- the host, and that it is certified
 abbrev pub CheckReport : List OperationSignature → Option Files → List ℕ → Report
 CheckReport operations known file =
-    HostChecks operations known file (λ r. Ends Done (λ bytes. bytes ≡ report_of (o.Done (done.Certified r.host []))))
+    CertifiedChecks operations known file (λ r. Ends Done (λ bytes. bytes ≡ report_of (o.Done (done.Certified r.host []))))

@@ -1,5 +1,5 @@
 -- What is known of a file by its name. Where a shelf doesn't tell its files, nothing is said.
-use Rattle.std.specs.Prelude.{◌≡◌, ◌<◌, ◌⊎◌, ℕ, Option, Some, None, List, length}
+use Rattle.std.specs.Prelude.{◌≡◌, ℕ, Option, Some, None, List}
 use Rattle.wb_world.specs.Shelf.{Files}
 
 -- a file is there, and its contents meet this
@@ -16,7 +16,3 @@ KnownFile (Some files) name P = FileIs (files name) P
 abbrev pub KnownAbsent : Option Files → List ℕ → Type 0
 KnownAbsent None name = Unit {0}
 KnownAbsent (Some files) name = files name ≡ None
-
--- the contents are longer than a limit, or meet this
-abbrev pub IsTooLongOr : ℕ → (List ℕ → Type 0) → List ℕ → Type 0
-IsTooLongOr limit P contents = (limit < length contents) ⊎ P contents

@@ -1,18 +1,18 @@
--- Words ask one thing at most; words and files have one status at most, with which a run ends, and one text where a refusal has no choice of
--- example.
+-- Words and files have one status at most, with which a run ends, and one text where a refusal has no choice of example.
 use Rattle.std.specs.Prelude.{◌≡◌, ◌≢◌, ◌⊎◌, ℕ, Option, Some, List}
 use Rattle.wb_world.specs.Shelf.{Files}
 use Rattle.wb_operations.specs.Operations.{Operations}
-use Rattle.wb_program.specs.Asked.{Asked, HasOneRefusal}
+use Rattle.wb_words.specs.Asked.{Asked}
+use Rattle.wb_words.specs.Asked as a
+use Rattle.wb_words.specs.Words.{Asks}
 use Rattle.wb_program.specs.Report.{IsReport}
-use Rattle.wb_program.specs.Words.{Asks}
 use Rattle.wb_program.specs.Written.{Wrote, WritesNothing}
 use Rattle.wb_program.specs.declared.status.Status.{Status}
 use Rattle.wb_program.specs.declared.status.Status.TheVariants.{SpecRefused, NotCertified, WriteFault}
 
--- words ask one thing at most
-abbrev pub AskOneThing : Type 0
-AskOneThing = (words : List (List ℕ)) (asked other : Asked) → Asks words asked → Asks words other → asked ≡ other
+-- each refusal of the command has one text; the others may show any true example
+pub data HasOneRefusal : Asked → Type 0 where
+  show_refuses : {file : List ℕ} → HasOneRefusal (a.show file)
 
 -- words and known files have one status at most
 abbrev pub HaveOneStatus : Type 0

@@ -1,19 +1,11 @@
--- what a user asks of the program
-pub mod Asked
--- which words ask what
-pub mod Words
+-- which commands are built, and which files they read
+pub mod Built
 -- the statuses as numbers
 pub mod StatusNumber
 -- what is known of files
 pub mod Files
 -- how reports are stated: checks in their order
 pub mod Checks
--- the lines of reports
-pub mod Lines
--- small hosts and small terms as contents of files
-pub mod HostsAndTerms
--- the report of `value`
-pub mod ValueReport
 -- the report of `show`
 pub mod ShowReport
 -- the report of `check`
@@ -22,13 +14,19 @@ pub mod CheckReport
 pub mod CertifyReport
 -- the report of `tree`
 pub mod TreeReport
+-- the report of `value`
+pub mod ValueReport
+-- the checks of several extensions
+pub mod SeveralChecks
+-- the reports of `compose`, and of `tree` with extensions
+pub mod ComposeReport
 -- the report of words and files
 pub mod Report
 -- which files are read, and the causes of ending at one
 pub mod Reads
 -- what is written
 pub mod Written
--- words ask one thing, and have one status, with which a run ends, and one text
+-- words have one status, with which a run ends, and one text
 pub mod Laws
 -- a canonical text is shown as it is
 pub mod ShownAgain

@@ -1,36 +1,46 @@
 -- Which status and which bytes the words and the files give, where operations mean what they mean.
-use Rattle.std.specs.Prelude.{◌≡◌, ◌⊎◌, ℕ, Option, List, []}
+use Rattle.std.specs.Prelude.{◌≡◌, ◌⊎◌, ℕ, Option, List, [], ◌∷◌}
 use Rattle.wb_world.specs.Shelf.{Files}
 use Rattle.wb_operations.specs.Operations.{Operations}
-use Rattle.wb_program.specs.Asked.{Asked}
-use Rattle.wb_program.specs.Asked as a
+use Rattle.wb_report.specs.Lines.{report_of}
+use Rattle.wb_report.specs.declared.outcome.Outcome.TheVariants as o
+use Rattle.wb_words.specs.Asked.{Asked}
+use Rattle.wb_words.specs.Asked as a
+use Rattle.wb_words.specs.Words.{Asks}
+use Rattle.wb_program.specs.Built.{InCommandSet}
 use Rattle.wb_program.specs.CertifyReport.{CertifyReport}
 use Rattle.wb_program.specs.CheckReport.{CheckReport}
-use Rattle.wb_program.specs.Lines.{usage_line}
+use Rattle.wb_program.specs.ComposeReport.{ComposeReport, UnitedTreeReport}
 use Rattle.wb_program.specs.ShowReport.{ShowReport}
 use Rattle.wb_program.specs.TreeReport.{TreeReport}
 use Rattle.wb_program.specs.ValueReport.{ValueReport}
-use Rattle.wb_program.specs.Words.{Asks, InCommandSet}
 use Rattle.wb_program.specs.declared.status.Status.{Status}
 use Rattle.wb_program.specs.declared.status.Status.TheVariants.{Usage}
 
 -- the report of what is asked, one alternative a command
 pub data IsReportOf (operations : Operations) (known : Option Files) (status : Status) (bytes : List ℕ) : Asked → Type 0 where
-  value_report : {host term attribute : List ℕ} → ValueReport known host term attribute status bytes
+  value_report : {host term attribute : List ℕ} → ValueReport operations known host term attribute status bytes
       → IsReportOf operations known status bytes (a.value host term attribute)
   show_report : {file : List ℕ} → ShowReport known file status bytes → IsReportOf operations known status bytes (a.show file)
   check_report : {host : List ℕ} → CheckReport operations.signatures known host status bytes
       → IsReportOf operations known status bytes (a.check host)
   certify_report : {host : List ℕ} {extensions : List (List ℕ)} → CertifyReport operations.signatures known host extensions status bytes
       → IsReportOf operations known status bytes (a.certify host extensions)
+  compose_report : {host : List ℕ} {extensions : List (List ℕ)} → ComposeReport operations.signatures known host extensions status bytes
+      → IsReportOf operations known status bytes (a.compose host extensions)
+  -- of a host without extensions
   tree_report : {text host : List ℕ} → TreeReport operations.signatures known text host status bytes
       → IsReportOf operations known status bytes (a.tree text host [])
+  -- of one with extensions
+  united_tree_report : {text host extension : List ℕ} {extensions : List (List ℕ)}
+      → UnitedTreeReport operations.signatures known text host (extension ∷ extensions) status bytes
+      → IsReportOf operations known status bytes (a.tree text host (extension ∷ extensions))
 
--- the words ask for no command, and the bytes are the usage line
+-- the words ask for no command that is built, and the bytes are the usage line
 pub record IsUsage (words : List (List ℕ)) (status : Status) (bytes : List ℕ) : Type 0 where
   pub usage : status ≡ Usage
   pub none_asked : ¬ InCommandSet words
-  pub line : bytes ≡ usage_line
+  pub line : bytes ≡ report_of o.Usage
 
 -- the words ask for a command, and this is its report
 pub record IsAnswered (operations : Operations) (words : List (List ℕ)) (known : Option Files) (status : Status) (bytes : List ℕ)

@@ -8,9 +8,11 @@ use Rattle.wb_report.specs.declared.outcome.Outcome.TheVariants as o
 use Rattle.wb_report.specs.declared.shown.ShownStop.{ShownStop}
 use Rattle.wb_resolved.specs.declared.resolved.ResolvedParts.{ResolvedParts}
 use Rattle.wb_trees.specs.Answers.{HasPrintedTree, HasTooLongTree, StopsShown}
+use Rattle.wb_trees.specs.declared.answer.TextAnswer.{TextAnswer}
+use Rattle.wb_trees.specs.declared.answer.TextAnswer.TheVariants as t
 use Rattle.wb_world.specs.Shelf.{Files}
 use Rattle.wb_program.specs.Checks.{Report, Ends, Check}
-use Rattle.wb_program.specs.CheckReport.{HostChecks}
+use Rattle.wb_program.specs.CheckReport.{CertifiedChecks}
 use Rattle.wb_program.specs.Files.{KnownFile}
 use Rattle.wb_program.specs.declared.status.Status.TheVariants.{Done, TextStopped, TextTooLong, TooLongToPrint}
 
@@ -22,6 +24,12 @@ pub record IsTooLongText (known : Option Files) (file bytes : List ℕ) : Type 0
 -- the file is this text, which isn't too long
 abbrev pub IsText : Option Files → List ℕ → List ℕ → Type 0
 IsText known file text = KnownFile known file (λ contents. contents ≡ text) × (length text ≤ 1048576)
+
+-- the status and the line of the answer of a text
+abbrev pub ShownText : TextAnswer → Report
+ShownText (t.Tree printed) = Ends Done (λ bytes. bytes ≡ report_of (o.Done (done.Tree printed)))
+ShownText (t.Stopped place shown) = Ends TextStopped (λ bytes. bytes ≡ report_of (o.Stopped place shown))
+ShownText t.TooLong = Ends TooLongToPrint (λ bytes. bytes ≡ report_of o.TooLongToPrint)
 
 -- the text stops in the host's language, and the line says where and why
 pub record StopsLine (r : ResolvedParts) (text bytes : List ℕ) : Type 0 where
@@ -58,4 +66,5 @@ TextReport r text status bytes =
 -- the host, then the text, then its answer
 abbrev pub TreeReport : List OperationSignature → Option Files → List ℕ → List ℕ → Report
 TreeReport operations known file host =
-    HostChecks operations known host (λ r. Check TextTooLong (IsTooLongText known file) (IsText known file) (λ text. TextReport r text))
+    CertifiedChecks operations known host
+    (λ r. Check TextTooLong (IsTooLongText known file) (IsText known file) (λ text. TextReport r text))

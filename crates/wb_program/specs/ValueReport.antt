@@ -1,57 +1,47 @@
 -- What `value HOST TERM ATTR` reports.
 use Rattle.std.specs.Prelude.{◌≡◌, ℕ, Option, List}
+use Rattle.wb_operations.specs.Operations.{OperationSignature, Operations}
+use Rattle.wb_hosts.specs.WellDefined.{IsWellDefinedText, IsWellDefinedTextRefusal}
+use Rattle.wb_report.specs.Lines.{report_of}
+use Rattle.wb_report.specs.declared.done.Done.TheVariants as done
+use Rattle.wb_report.specs.declared.outcome.Outcome.TheVariants as o
+use Rattle.wb_report.specs.declared.refusal.Refusal.TheVariants as refusal
+use Rattle.wb_resolved.specs.declared.attribution.AttributionParts.{AttributionParts}
+use Rattle.wb_resolved.specs.declared.resolved.ResolvedParts.{ResolvedParts}
+use Rattle.wb_root_values.specs.Answers.{IsRootAnswer}
+use Rattle.wb_root_values.specs.declared.answer.RootAnswer.{RootAnswer}
+use Rattle.wb_root_values.specs.declared.answer.RootAnswer.TheVariants as answered
 use Rattle.wb_world.specs.Shelf.{Files}
-use Rattle.wb_small.specs.declared.numbered.SmallSpec.{SmallSpec}
-use Rattle.wb_small.specs.declared.term.SmallTerm.{SmallTerm}
-use Rattle.wb_eval.specs.declared.answer.SmallAnswer.TheVariants.{Value, Fault}
-use Rattle.wb_eval.specs.Answer.{IsAnswer}
-use Rattle.wb_eval.specs.Asked.{IsAskedAttribute, root_of}
 use Rattle.wb_program.specs.Checks.{Report, Ends, Check}
-use Rattle.wb_program.specs.Files.{KnownFile, IsTooLongOr}
-use Rattle.wb_program.specs.HostsAndTerms.{IsHost, IsNoHost, IsTerm, IsNoTerm}
-use Rattle.wb_program.specs.Lines.{refused_line, unknown_line, fault_line, value_line}
-use Rattle.wb_program.specs.declared.status.Status.TheVariants.{Done, SpecRefused, OperationFault, UnknownAttribute}
+use Rattle.wb_program.specs.CheckReport.{HostChecks}
+use Rattle.wb_program.specs.TreeReport.{IsText, IsTooLongText}
+use Rattle.wb_program.specs.declared.status.Status.{Status}
+use Rattle.wb_program.specs.declared.status.Status.TheVariants.{Done, OperationFault, MoreSteps, TextTooLong, TooLongToPrint}
+use Rattle.wb_program.specs.declared.status.Status.TheVariants.{UnknownAttribute, TermRefused}
 
--- the file isn't a small host, and the line says so
-pub record RefusesHost (known : Option Files) (host bytes : List ℕ) : Type 0 where
-  pub refused : KnownFile known host (IsTooLongOr 1048576 IsNoHost)
-  pub line : bytes ≡ refused_line host
+-- the status and the line of an answer: the term of the file is refused, the attribute can't be asked for, its evaluation fails or needs
+-- more steps, or its value is too long to print, or is printed
+abbrev pub RootReport : (file attribute : List ℕ) → RootAnswer → Report
+RootReport file attribute (answered.Refused reason) = Ends TermRefused (λ bytes. bytes ≡ report_of (o.Refused file (refusal.Term reason)))
+RootReport file attribute answered.UnknownAttribute = Ends UnknownAttribute (λ bytes. bytes ≡ report_of (o.UnknownAttribute attribute))
+RootReport file attribute (answered.Fault operation code) = Ends OperationFault (λ bytes. bytes ≡ report_of (o.Fault operation code))
+RootReport file attribute answered.MoreSteps = Ends MoreSteps (λ bytes. bytes ≡ report_of (o.MoreSteps 1000000))
+RootReport file attribute answered.TooLong = Ends TooLongToPrint (λ bytes. bytes ≡ report_of o.TooLongToPrint)
+RootReport file attribute (answered.Value printed) = Ends Done (λ bytes. bytes ≡ report_of (o.Done (done.Value attribute printed)))
 
--- the file isn't a small term of the host, and the line says so
-pub record RefusesTerm (known : Option Files) (term : List ℕ) (spec : SmallSpec) (bytes : List ℕ) : Type 0 where
-  pub refused : KnownFile known term (IsTooLongOr 1048576 (IsNoTerm spec))
-  pub line : bytes ≡ refused_line term
+-- the text has an answer as a term of a host of these attributes, within 1,000,000 steps, and this is its status and line
+pub record TermReport (operations : Operations) (a : AttributionParts) (file attribute text : List ℕ) (status : Status) (bytes : List ℕ)
+    : Type 0 where
+  pub answer : RootAnswer
+  pub is : IsRootAnswer a operations text attribute 1000000 answer
+  pub shown : RootReport file attribute answer status bytes
 
--- no attribute of the name occurs on the root, and the line says so
-pub record LacksAttribute (attribute : List ℕ) (spec : SmallSpec) (tree : SmallTerm) (bytes : List ℕ) : Type 0 where
-  pub lacks : (number : ℕ) → ¬ IsAskedAttribute spec tree attribute number
-  pub line : bytes ≡ unknown_line attribute
+-- the checks of a host whose attributes are well defined
+abbrev pub WellDefinedChecks : List OperationSignature → Option Files → List ℕ → (ResolvedParts → Report) → Report
+WellDefinedChecks operations = HostChecks (IsWellDefinedText operations) (IsWellDefinedTextRefusal operations)
 
--- the root's attribute has a fault, and the line names it
-pub record HasFault (spec : SmallSpec) (tree : SmallTerm) (number : ℕ) (bytes : List ℕ) : Type 0 where
-  pub code : ℕ
-  pub has : IsAnswer spec tree (root_of tree) number (Fault code)
-  pub line : bytes ≡ fault_line code
-
--- an attribute of the root: its fault, or its value
-abbrev pub NumberReport : List ℕ → SmallSpec → SmallTerm → ℕ → Report
-NumberReport attribute spec tree number =
-    Check OperationFault (HasFault spec tree number) (λ value. IsAnswer spec tree (root_of tree) number (Value value)) (λ value.
-    Ends Done (λ bytes. bytes ≡ value_line attribute value))
-
--- a host and a term: the attribute, then its answer
-abbrev pub AnswerReport : List ℕ → SmallSpec → SmallTerm → Report
-AnswerReport attribute spec tree =
-    Check UnknownAttribute (LacksAttribute attribute spec tree) (λ number. IsAskedAttribute spec tree attribute number) (λ number.
-    NumberReport attribute spec tree number)
-
--- a host: the term, then what is asked of it
-abbrev pub TermReport : Option Files → List ℕ → List ℕ → SmallSpec → Report
-TermReport known term attribute spec =
-    Check SpecRefused (RefusesTerm known term spec) (λ tree. KnownFile known term (IsTerm spec tree))
-    (λ tree. AnswerReport attribute spec tree)
-
--- the host, then the term, then the attribute and its answer
-abbrev pub ValueReport : Option Files → List ℕ → List ℕ → List ℕ → Report
-ValueReport known host term attribute =
-    Check SpecRefused (RefusesHost known host) (λ spec. KnownFile known host (IsHost spec)) (λ spec. TermReport known term attribute spec)
+-- the host, then the term, then its answer
+abbrev pub ValueReport : Operations → Option Files → (host file attribute : List ℕ) → Report
+ValueReport operations known host file attribute =
+    WellDefinedChecks operations.signatures known host (λ r. Check TextTooLong (IsTooLongText known file) (IsText known file)
+    (λ (text : List ℕ). TermReport operations r.attributes file attribute text))

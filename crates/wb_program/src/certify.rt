@@ -8,11 +8,11 @@ ghost use Rattle.wb_beside.specs.Extensions.{IsOneExtension};
 ghost use Rattle.wb_extension_files.specs.Contents.{IsExtensionText, IsExtensionRefusal};
 ghost use Rattle.wb_hosts.specs.Contents.{IsHostText};
 ghost use Rattle.wb_report.specs.Lines.{report_of};
-ghost use Rattle.wb_program.specs.Asked.{certified_extension};
+ghost use Rattle.wb_program.specs.Built.{certified_extension};
 ghost use Rattle.wb_program.specs.CertifyReport.{CertifyReport, ExtensionsReport, IsExtensionNamed};
 ghost use Rattle.wb_program.specs.Files.{KnownFile};
 ghost use Rattle.wb_program.specs.Reads.{StopsAt};
-ghost use Rattle.wb_program.specs.Words.{texts};
+ghost use Rattle.wb_words.specs.Words.{texts};
 ghost use Rattle.wb_program.specs.Inner.Extensions.{CertifyStops, EndsAtExtension, RefusedExtension};
 ghost use Rattle.wb_program.specs.Inner.Hosts.{ReadIs};
 ghost use Rattle.wb_program.specs.Inner.Stopped.{outside, Stopped, GoesOn};
@@ -31,7 +31,7 @@ use wb_report::{Done, Outcome, Refusal, SpecReason};
 use wb_world::Shelf;
 
 // The most extensions that a command takes.
-const MOST: usize = 64;
+pub(crate) const MOST: usize = 64;
 
 // The answer to `certify HOST EXT..`.
 pub(crate) fn answer_certify<S: Shelf, M: Meaning>(
@@ -173,7 +173,11 @@ fn extension_name(alloc: Global, extension: CertifiedExtension) -> Result<Bytes,
 }
 
 // The answer for a file that is no certified extension.
-fn refused_extension(alloc: Global, file: Bytes, refusal: FileRefusal) -> Result<Answer, AllocError>
+pub(crate) fn refused_extension(
+    alloc: Global,
+    file: Bytes,
+    refusal: FileRefusal,
+) -> Result<Answer, AllocError>
     ensures { IfOk result (λ answer. RefusedExtension file refusal answer.status answer.report.items) }
 {
     match refusal {

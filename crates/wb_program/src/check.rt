@@ -6,7 +6,7 @@ ghost use Rattle.std.specs.Prelude.{◌≡◌, IfOk, IfErr, [], ◌∷◌};
 ghost use Rattle.wb_certify.specs.Hosts.{IsCertifiedValue};
 ghost use Rattle.wb_hosts.specs.Contents.{IsHostText, IsHostRefusal};
 ghost use Rattle.wb_report.specs.Lines.{report_of};
-ghost use Rattle.wb_program.specs.Asked.{certified_host};
+ghost use Rattle.wb_program.specs.Built.{certified_host};
 ghost use Rattle.wb_program.specs.CheckReport.{CheckReport};
 ghost use Rattle.wb_program.specs.Files.{KnownFile};
 ghost use Rattle.wb_program.specs.Reads.{StopsAt};

@@ -2,19 +2,19 @@
 //!
 //! The contract of `workbench` says that what is written is a report; these say that there is one at most. There is nothing to run.
 
-ghost use Rattle.wb_program.specs.Laws.{AskOneThing, EndAsReported, HaveOneStatus, HaveOneText};
+ghost use Rattle.wb_program.specs.Laws.{EndAsReported, HaveOneStatus, HaveOneText};
 ghost use Rattle.wb_program.specs.ShownAgain.{IsStable};
 
-/// Words ask for one thing at most, whatever the order and the spelling of their options.
-pub fn one_asked_law()
-    ensures { AskOneThing }
-{}
+use wb_united_trees::laws::{one_answer_law, withdrawn_law};
 
 /// Words and files have at most one status that is reported.
 pub fn one_status_law()
     ensures { HaveOneStatus }
 {
     wb_extension_files::one_answer_law();
+    wb_extension_files::header_law();
+    withdrawn_law();
+    one_answer_law();
 }
 
 /// Words and files have at most one text with a status, but where a refusal may show any true example.
@@ -22,6 +22,9 @@ pub fn one_text_law()
     ensures { HaveOneText }
 {
     wb_extension_files::one_answer_law();
+    wb_extension_files::header_law();
+    withdrawn_law();
+    one_answer_law();
 }
 
 /// Where words and known files have a report, a run ends with its status: with 0 where everything is in order. Else it ends at a file or
@@ -30,6 +33,9 @@ pub fn complete_law()
     ensures { EndAsReported }
 {
     wb_extension_files::one_answer_law();
+    wb_extension_files::header_law();
+    withdrawn_law();
+    one_answer_law();
 }
 
 /// The canonical text of a specification is read as the same one but for places, and is the one canonical text of that, so that

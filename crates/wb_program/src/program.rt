@@ -5,30 +5,35 @@
 ghost use Rattle.std.specs.Prelude.{◌≡◌, ◌≢◌, ◌⊎◌, IfOk, IfErr};
 ghost use Rattle.wb_world.specs.Cause.{Rose};
 ghost use Rattle.wb_operations.specs.Kept.{IsKept};
-ghost use Rattle.wb_program.specs.Words.{texts, InCommandSet};
-ghost use Rattle.wb_program.specs.Reads.{AbsentCause, FaultCause, ComesTo};
+ghost use Rattle.wb_words.specs.Commands.{asked_by};
+ghost use Rattle.wb_words.specs.Words.{texts};
+ghost use Rattle.wb_program.specs.Built.{InCommandSet};
+ghost use Rattle.wb_program.specs.Reads.{AbsentCause, FaultCause, ComesTo, ReadsTo};
 ghost use Rattle.wb_program.specs.Report.{IsReport};
 ghost use Rattle.wb_program.specs.Written.{WritesNothing, Wrote};
+ghost use Rattle.wb_program.specs.Inner.Answered.{IsAnswerTo};
 ghost use Rattle.wb_program.specs.Inner.Stopped.{outside, Stopped, GoesOn};
 
-use crate::answer::{Answer, answer_value, usage};
+use crate::answer::{Answer, usage};
 use crate::certify::answer_certify;
 use crate::check::answer_check;
+use crate::compose::answer_compose;
 use crate::reading::ReadFailure;
 use crate::show::answer_show;
 use crate::status::Status;
 use crate::tree::answer_tree;
-use crate::words::{Command, command_of};
+use crate::united::answer_united;
+use crate::value::answer_value;
 use crate::writing::write_report;
 use std::alloc::Global;
 use wb_operations::{Meaning, OperationRefusal, OperationTable};
 use wb_values::Value;
+use wb_words::{Command, command_of};
 use wb_world::{Shelf, Sink};
 
 /// All that the program does: reads the words as a command, reads the files that they name, and writes the report.
 ///
-/// Equations may name the operations of the table. `check`, `certify` and `tree` hold the equations of a host against their signatures, `value` knows
-/// `add` alone, and no command that is built calls one.
+/// Equations may name the operations of the table. Those of a host are held against their signatures, and `value` calls them.
 ///
 /// The whole report is made before its first byte is written. Want of memory may come at any step before
 /// that. How many reads and writes there are is left open.
@@ -75,6 +80,9 @@ fn answer<S: Shelf, M: Meaning>(
     shelf: &mut S,
     operations: &OperationTable<M>,
 ) -> Result<Answer, ReadFailure>
+    requires kept { IsKept operations.now.signatures operations.now.built_in operations.now.runs.items M.meaning
+        (λ run vs. ⟦<Box<dyn Fn(&[Value]) -> Result<Value, OperationRefusal>> as Fn(&[Value]) -> Result<Value, OperationRefusal>>⟧.pre run vs)
+        (λ run vs r. ⟦<Box<dyn Fn(&[Value]) -> Result<Value, OperationRefusal>> as Fn(&[Value]) -> Result<Value, OperationRefusal>>⟧.post run vs r) }
     ensures ok { IfOk result (λ answer. IsReport (record { signatures = operations.now.signatures; meaning = M.meaning }) (texts words.now) (S.files shelf.old) answer.status answer.report.items) }
     ensures usage { IfOk result (λ answer. answer.status ≡ Status.Usage → ¬ InCommandSet (texts words.now)) }
     ensures only_usage { IfOk result (λ answer. ¬ InCommandSet (texts words.now) → answer.status ≡ Status.Usage) }
@@ -87,19 +95,51 @@ fn answer<S: Shelf, M: Meaning>(
         (outside (S.files shelf.new) (S.absences shelf.new) (S.faults shelf.new)) }
 {
     match command_of(words) {
-        Some(
-            Command::Value {
-                host,
-                term,
-                attribute,
-            },
-        ) => answer_value(alloc, shelf, host, term, attribute),
-        Some(Command::Show { file }) => answer_show(alloc, shelf, file),
-        Some(Command::Check { host }) => answer_check(alloc, shelf, host, operations),
-        Some(Command::Certify { host, extensions }) => {
+        Some(command) => answer_to(alloc, shelf, command, operations),
+        None => Ok(usage(alloc)?),
+    }
+}
+
+// The answer to a command. One that isn't built is answered as words that are none.
+fn answer_to<S: Shelf, M: Meaning>(
+    alloc: Global,
+    shelf: &mut S,
+    command: Command<'_>,
+    operations: &OperationTable<M>,
+) -> Result<Answer, ReadFailure>
+    requires kept { IsKept operations.now.signatures operations.now.built_in operations.now.runs.items M.meaning
+        (λ run vs. ⟦<Box<dyn Fn(&[Value]) -> Result<Value, OperationRefusal>> as Fn(&[Value]) -> Result<Value, OperationRefusal>>⟧.pre run vs)
+        (λ run vs r. ⟦<Box<dyn Fn(&[Value]) -> Result<Value, OperationRefusal>> as Fn(&[Value]) -> Result<Value, OperationRefusal>>⟧.post run vs r) }
+    ensures ok { IfOk result (λ answer. IsAnswerTo (record { signatures = operations.now.signatures; meaning = M.meaning }) (S.files shelf.old) (asked_by command.entry) answer.status answer.report.items) }
+    ensures stopped { IfErr result (Stopped (outside (S.files shelf.old) (S.absences shelf.old) (S.faults shelf.old))
+        (outside (S.files shelf.new) (S.absences shelf.new) (S.faults shelf.new)) (ReadsTo operations.now.signatures (S.files shelf.old) (asked_by command.entry))) }
+    ensures goes_on { GoesOn (outside (S.files shelf.old) (S.absences shelf.old) (S.faults shelf.old))
+        (outside (S.files shelf.new) (S.absences shelf.new) (S.faults shelf.new)) }
+{
+    match command {
+        Command::Value {
+            host,
+            term,
+            attribute,
+        } => answer_value(alloc, shelf, host, term, attribute, operations),
+        Command::Show { file } => answer_show(alloc, shelf, file),
+        Command::Check { host } => answer_check(alloc, shelf, host, operations),
+        Command::Certify { host, extensions } => {
             answer_certify(alloc, shelf, host, extensions, operations)
         }
-        Some(Command::Tree { text, host }) => answer_tree(alloc, shelf, text, host, operations),
-        None => Ok(usage(alloc)?),
+        Command::Tree {
+            text,
+            host,
+            extensions,
+        } => {
+            if extensions.is_empty() {
+                return answer_tree(alloc, shelf, text, host, operations);
+            }
+            answer_united(alloc, shelf, text, host, extensions, operations)
+        }
+        Command::Compose { host, extensions } => {
+            answer_compose(alloc, shelf, host, extensions, operations)
+        }
+        _ => Ok(usage(alloc)?),
     }
 }

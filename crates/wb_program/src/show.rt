@@ -1,25 +1,26 @@
 //! What does `show SPEC` answer?
 //!
-//! The canonical text, or why the file isn't a specification: both come from `wb_printer` and `wb_reader`, and become a report here.
+//! The canonical text comes from `wb_printer`, why a file isn't a specification from `wb_reader`.
 
 ghost use Rattle.std.specs.Prelude.{◌≡◌, IfOk, IfErr, List, [], ◌∷◌};
 ghost use Rattle.wb_operations.specs.Operations.{OperationSignature};
 ghost use Rattle.wb_reader.specs.OneAnswer.{IsNoMemory};
-ghost use Rattle.wb_program.specs.Asked.{specification};
-ghost use Rattle.wb_program.specs.Lines.{spec_refused_line};
+ghost use Rattle.wb_program.specs.Built.{specification};
+ghost use Rattle.wb_program.specs.Checks.{Ends};
 ghost use Rattle.wb_program.specs.Reads.{StopsAt};
 ghost use Rattle.wb_program.specs.ShowReport.{ShowReport};
-ghost use Rattle.wb_program.specs.Inner.Shown.{ContentsShow};
+ghost use Rattle.wb_program.specs.Inner.Shown.{ContentsShow, ShowsRefusal};
 ghost use Rattle.wb_program.specs.Inner.Stopped.{outside, Stopped, GoesOn};
 
-use crate::answer::Answer;
-use crate::lines;
+use crate::answer::{Answer, reported};
 use crate::reading::{Contents, ReadFailure, read_file};
 use crate::status::Status;
 use std::alloc::{AllocError, Global};
-use wb_base::FILE_LIMIT;
+use wb_base::{Bytes, FILE_LIMIT};
 use wb_printer::print_spec;
 use wb_reader::{SpecRefusal, read_spec};
+use wb_report::{Outcome, Refusal};
+use wb_shown::written_rule;
 use wb_world::Shelf;
 
 // The answer to `show SPEC`.
@@ -58,11 +59,18 @@ fn answer_contents(alloc: Global, file: &str, contents: Contents) -> Result<Answ
 // The answer for a file that isn't taken.
 fn refused(alloc: Global, file: &str, refusal: &SpecRefusal) -> Result<Answer, AllocError>
     requires { ¬ IsNoMemory refusal.now }
-    ensures status { IfOk result (λ answer. answer.status ≡ Status.SpecRefused) }
-    ensures report { IfOk result (λ answer. answer.report.items ≡ spec_refused_line file.now refusal.now) }
+    ensures { IfOk result (λ answer. Ends Status.SpecRefused (ShowsRefusal refusal.now file.now) answer.status answer.report.items) }
 {
-    Ok(Answer {
-        status: Status::SpecRefused,
-        report: lines::spec_refused(alloc, file, refusal)?,
-    })
+    let file = Bytes::from_slice(alloc, file.as_bytes())?;
+    match written_rule(refusal)? {
+        Some(reason) => {
+            let refusal = Refusal::Specification(reason);
+            reported(
+                alloc,
+                Status::SpecRefused,
+                Outcome::Refused { file, refusal },
+            )
+        }
+        None => unreachable!(),
+    }
 }

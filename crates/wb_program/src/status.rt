@@ -12,14 +12,16 @@ pub enum Status {
     Done = 0,
     /// The words are no command.
     Usage = 2,
-    /// A file isn't a specification, or a term, of the form that the command asks for.
+    /// A file isn't a specification of the form that the command asks for.
     SpecRefused = 3,
-    /// A host isn't certified: a rule of grammars, scanners or attributes fails.
+    /// A rule of grammars, scanners or attributes fails for a host or an extension.
     NotCertified = 4,
     /// The text stops: it has no tree.
     TextStopped = 5,
     /// The answer of the evaluation is the fault of an operation.
     OperationFault = 6,
+    /// The evaluation needs more steps than it is given.
+    MoreSteps = 7,
     /// A file that the words name wasn't found.
     Absent = 8,
     /// A file that the words name couldn't be read.
@@ -28,16 +30,20 @@ pub enum Status {
     WriteFault = 10,
     /// Memory was wanting.
     NoMemory = 11,
-    /// The text has more bytes than a text may have.
+    /// The text or term has more bytes than one may have.
     TextTooLong = 12,
-    /// The printed tree has more bytes than are printed.
+    /// The printed value or tree has more bytes than are printed.
     TooLongToPrint = 13,
     /// The words name too many extensions.
     TooManyExtensions = 14,
+    /// Two extensions have one name.
+    DuplicateExtension = 15,
     /// An extension is for another host.
     WrongHost = 16,
-    /// No attribute of that name occurs on the root of the term.
+    /// No synthesized attribute of that name can be asked for at the root.
     UnknownAttribute = 17,
+    /// A file isn't a term of its host.
+    TermRefused = 18,
 }
 
 impl Status {

@@ -4,11 +4,11 @@
 
 ghost use Rattle.std.specs.Prelude.{◌≡◌, List, ℕ, Some, IfOk, IfErr, [], ◌∷◌};
 ghost use Rattle.wb_base.specs.Grammar.{GrammarView};
-ghost use Rattle.wb_program.specs.Asked.{certified_host, parsed_text};
+ghost use Rattle.wb_program.specs.Built.{certified_host, parsed_text};
 ghost use Rattle.wb_program.specs.Checks.{Check};
 ghost use Rattle.wb_program.specs.Reads.{StopsAt};
-ghost use Rattle.wb_program.specs.TreeReport.{IsText, IsTooLongText, TextReport, TreeReport};
-ghost use Rattle.wb_program.specs.Inner.Hosts.{ReadText, ShownText};
+ghost use Rattle.wb_program.specs.TreeReport.{IsText, IsTooLongText, ShownText, TextReport, TreeReport};
+ghost use Rattle.wb_program.specs.Inner.Hosts.{ReadText};
 ghost use Rattle.wb_program.specs.Inner.Stopped.{outside, Stopped, GoesOn};
 
 use crate::answer::{Answer, reported};
@@ -73,7 +73,7 @@ fn answer_contents(
     contents: Contents,
     host: &CertifiedHost,
 ) -> Result<Answer, AllocError>
-    ensures { (g : GrammarView) → host.now.resolved.grammar ≡ Some g → IfOk result (λ answer. ReadText host.now.resolved contents answer.status answer.report.items) }
+    ensures { (g : GrammarView) → host.now.resolved.grammar ≡ Some g → IfOk result (λ answer. ReadText (TextReport host.now.resolved) contents answer.status answer.report.items) }
 {
     match contents {
         Contents::Whole(bytes) => shown_text(alloc, text_answer(alloc, host, &bytes)?),
@@ -82,7 +82,7 @@ fn answer_contents(
 }
 
 // The answer for what a text is.
-fn shown_text(alloc: Global, answer: TextAnswer) -> Result<Answer, AllocError>
+pub(crate) fn shown_text(alloc: Global, answer: TextAnswer) -> Result<Answer, AllocError>
     ensures { IfOk result (λ made. ShownText answer made.status made.report.items) }
 {
     match answer {

@@ -4,14 +4,11 @@
 //! are in `check`.
 
 use crate::runs::status_to;
-use crate::specifications::{KW0, MINI};
+use crate::specifications::{KW0, MINI, TINY};
 use std::alloc::{AllocError, Global};
 use std::test::Fail;
 use wb_program::Status;
 use wb_world::MemorySink;
-
-const TINY: &str =
-    "format 1; host tiny; ignore Space /[ ]+/; terminal Num /[0-9]+/; terminal Plus /\\+/; nonterminal E; nonterminal T; start E; extensible T; syn value : int; occurs value on E; occurs value on T; concrete plus : E ::= a : E p : Plus b : T { top.value = @add(a.value, b.value); } concrete term : E ::= t : T { top.value = t.value; } concrete num : T ::= n : Num { top.value = @to_int(n.lexeme); }";
 
 const ADJ: &str =
     "format 1; host adj; terminal A /a/; terminal X /x/; terminal P /p/; terminal Q /q/; terminal Y /y/; nonterminal S; nonterminal N; nonterminal H; nonterminal G; start S; extensible H; extensible G; concrete sn : S ::= n : N x : X { } concrete sh : S ::= p : P h : H { } concrete sg : S ::= q : Q g : G { } concrete na : N ::= a : A { } concrete hx : H ::= x : X { } concrete gy : G ::= y : Y { }";

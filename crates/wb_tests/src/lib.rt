@@ -9,6 +9,10 @@ mod certify;
 #[cfg(test)]
 mod check;
 #[cfg(test)]
+mod compose;
+#[cfg(test)]
+mod long_values;
+#[cfg(test)]
 mod prefixes;
 #[cfg(test)]
 mod runs;
@@ -16,6 +20,8 @@ mod runs;
 mod show;
 #[cfg(test)]
 mod specifications;
+#[cfg(test)]
+mod swapped;
 #[cfg(test)]
 mod syntax;
 #[cfg(test)]

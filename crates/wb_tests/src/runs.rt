@@ -2,9 +2,12 @@
 //!
 //! For the tests of one command each.
 
+ghost use Rattle.wb_operations.specs.Kept.{IsKept};
+
 use std::alloc::{AllocError, Global};
-use wb_operations::standard_table;
+use wb_operations::{Meaning, OperationRefusal, OperationTable, standard_table};
 use wb_program::{Status, workbench};
+use wb_values::Value;
 use wb_world::{MemoryShelf, MemorySink};
 
 /// The words as the program has them.
@@ -24,10 +27,57 @@ pub fn status_to(
     text: &[u8],
     sink: &mut MemorySink,
 ) -> Result<Status, AllocError> {
-    let mut shelf = MemoryShelf::new(alloc);
-    shelf.add_file("h", host)?;
-    shelf.add_file("t", text)?;
-    let words = words_of(alloc, words)?;
     let operations = standard_table(alloc)?;
-    Ok(workbench(alloc, &words, &mut shelf, sink, &operations))
+    status_by(alloc, words, (host, text), sink, &operations)
+}
+
+/// The same over this table of operations.
+pub fn status_by<M: Meaning>(
+    alloc: Global,
+    words: &[&str],
+    files: (&[u8], &[u8]),
+    sink: &mut MemorySink,
+    operations: &OperationTable<M>,
+) -> Result<Status, AllocError>
+    requires kept { IsKept operations.now.signatures operations.now.built_in operations.now.runs.items M.meaning
+        (λ run vs. ⟦<Box<dyn Fn(&[Value]) -> Result<Value, OperationRefusal>> as Fn(&[Value]) -> Result<Value, OperationRefusal>>⟧.pre run vs)
+        (λ run vs r. ⟦<Box<dyn Fn(&[Value]) -> Result<Value, OperationRefusal>> as Fn(&[Value]) -> Result<Value, OperationRefusal>>⟧.post run vs r) }
+{
+    let mut shelf = MemoryShelf::new(alloc);
+    shelf.add_file("h", files.0)?;
+    shelf.add_file("t", files.1)?;
+    let words = words_of(alloc, words)?;
+    Ok(workbench(alloc, &words, &mut shelf, sink, operations))
+}
+
+/// How a run of these words ends, with a host in the file `h` and others in the files `t`, `u` and `v`.
+pub fn status_of_four(
+    alloc: Global,
+    words: &[&str],
+    files: &[&str; 4],
+    sink: &mut MemorySink,
+) -> Result<Status, AllocError> {
+    let operations = standard_table(alloc)?;
+    status_of_four_by(alloc, words, files, sink, &operations)
+}
+
+// The same over this table of operations.
+fn status_of_four_by<M: Meaning>(
+    alloc: Global,
+    words: &[&str],
+    files: &[&str; 4],
+    sink: &mut MemorySink,
+    operations: &OperationTable<M>,
+) -> Result<Status, AllocError>
+    requires kept { IsKept operations.now.signatures operations.now.built_in operations.now.runs.items M.meaning
+        (λ run vs. ⟦<Box<dyn Fn(&[Value]) -> Result<Value, OperationRefusal>> as Fn(&[Value]) -> Result<Value, OperationRefusal>>⟧.pre run vs)
+        (λ run vs r. ⟦<Box<dyn Fn(&[Value]) -> Result<Value, OperationRefusal>> as Fn(&[Value]) -> Result<Value, OperationRefusal>>⟧.post run vs r) }
+{
+    let mut shelf = MemoryShelf::new(alloc);
+    shelf.add_file("h", files[0].as_bytes())?;
+    shelf.add_file("t", files[1].as_bytes())?;
+    shelf.add_file("u", files[2].as_bytes())?;
+    shelf.add_file("v", files[3].as_bytes())?;
+    let words = words_of(alloc, words)?;
+    Ok(workbench(alloc, &words, &mut shelf, sink, operations))
 }

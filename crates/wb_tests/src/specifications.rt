@@ -55,6 +55,10 @@ concrete paren : Factor ::= o : Open e : Expr c : Close {
   e.env = top.env; top.value = e.value; }
 "#;
 
+/// A host of sums of numbers.
+pub const TINY: &str =
+    "format 1; host tiny; ignore Space /[ ]+/; terminal Num /[0-9]+/; terminal Plus /\\+/; nonterminal E; nonterminal T; start E; extensible T; syn value : int; occurs value on E; occurs value on T; concrete plus : E ::= a : E p : Plus b : T { top.value = @add(a.value, b.value); } concrete term : E ::= t : T { top.value = t.value; } concrete num : T ::= n : Num { top.value = @to_int(n.lexeme); }";
+
 /// A host of sums with an ambiguous grammar.
 pub const AMB: &str = r#"format 1; host amb;
 terminal Num /[0-9]+/; terminal Plus /\+/;
@@ -99,6 +103,53 @@ concrete id : L ::= x : Id { }
 concrete ofl : R ::= l : L { }
 "#;
 
+/// A host of sums.
+pub const CALC0: &str = r#"format 1; host calc0;
+nonterminal E; syn value : int; occurs value on E;
+abstract lit : E ::= n : int { top.value = n; }
+abstract add : E ::= a : E b : E { top.value = @add(a.value, b.value); }
+"#;
+
+/// A host of sums and quotients.
+pub const DIVS: &str = r#"format 1; host calc0;
+nonterminal E; syn value : int; occurs value on E;
+abstract lit : E ::= n : int { top.value = n; }
+abstract add : E ::= a : E b : E { top.value = @add(a.value, b.value); }
+abstract div : E ::= a : E b : E { top.value = @div(a.value, b.value); }
+"#;
+
+/// A host of numbers with quotients and choices.
+pub const CALC: &str = r#"format 1; host calc;
+nonterminal E; syn value : int; occurs value on E;
+abstract lit : E ::= n : int { top.value = n; }
+abstract div : E ::= a : E b : E { top.value = @div(a.value, b.value); }
+abstract first : E ::= a : E b : E { top.value = a.value; }
+abstract pick : E ::= c : E a : E b : E {
+  top.value = if @eq(c.value, 0) then b.value else a.value; }
+"#;
+
+/// A host whose children need each other.
+pub const CYC: &str = r#"format 1; host cyc;
+nonterminal P; nonterminal N; inh i : int; syn s : int; syn v : int;
+occurs i on N; occurs s on N needs { i }; occurs v on P;
+abstract pair : P ::= a : N b : N { a.i = b.s; b.i = a.s; top.v = a.s; }
+abstract leaf : N ::= { top.s = top.i; }
+"#;
+
+/// A host of texts that double.
+pub const DBL: &str =
+    r#"format 1; host dbl; nonterminal E; syn t : text; occurs t on E; abstract z : E ::= { top.t = "x"; } abstract d : E ::= a : E { top.t = @concat(a.t, a.t); }"#;
+
+/// A host whose trees forward without end.
+pub const LOOP: &str = r#"format 1; host loop; terminal X /x/;
+nonterminal S; start S; syn v : int; occurs v on S;
+concrete go : S ::= x : X { forwards to go(x.lexeme); }
+"#;
+
+/// A host of trees with a tree as value.
+pub const TWINS: &str =
+    r#"format 1; host twins; nonterminal E; syn u : E; occurs u on E; abstract z : E ::= { top.u = z(); } abstract p : E ::= a : E b : E { top.u = z(); } abstract d : E ::= a : E { top.u = p(a.u, a.u); }"#;
+
 /// Other specifications.
 pub const OTHERS: [&str; 37] = [
     r#"format 1; extension a for mini;
@@ -125,19 +176,8 @@ concrete sqr : Factor ::= m : Sum o : Open x : Expr c : Close {
     paren("(", x, ")"))), ")"); }
 "#,
     r#"format 1; extension barec for tinyc; marking L /l/; concrete one : T ::= m : L { }"#,
-    r#"format 1; host calc;
-nonterminal E; syn value : int; occurs value on E;
-abstract lit : E ::= n : int { top.value = n; }
-abstract div : E ::= a : E b : E { top.value = @div(a.value, b.value); }
-abstract first : E ::= a : E b : E { top.value = a.value; }
-abstract pick : E ::= c : E a : E b : E {
-  top.value = if @eq(c.value, 0) then b.value else a.value; }
-"#,
-    r#"format 1; host calc0;
-nonterminal E; syn value : int; occurs value on E;
-abstract lit : E ::= n : int { top.value = n; }
-abstract add : E ::= a : E b : E { top.value = @add(a.value, b.value); }
-"#,
+    CALC,
+    CALC0,
     r#"format 1; extension comma for mini;
 marking Dot /dot/; terminal Comma /,/; prefer Dot over Id;
 concrete two : Factor ::= m : Dot o : Open x : Expr k : Comma y : Expr c : Close {
@@ -174,20 +214,10 @@ concrete root : P ::= n : N { n.env = 1; n.store = 2; top.value = n.value; }
 concrete leaf : N ::= x : X { top.value = @add(top.env, top.store); }
 forward on N needs { store };
 "#,
-    r#"format 1; host cyc;
-nonterminal P; nonterminal N; inh i : int; syn s : int; syn v : int;
-occurs i on N; occurs s on N needs { i }; occurs v on P;
-abstract pair : P ::= a : N b : N { a.i = b.s; b.i = a.s; top.v = a.s; }
-abstract leaf : N ::= { top.s = top.i; }
-"#,
+    CYC,
     r#"format 1; extension dash for tiny; marking D /d/; ignore Dash /-/; concrete twin : T ::= m : D t : T { forwards to num(@to_text(@mul(2, t.value))); }"#,
-    r#"format 1; host dbl; nonterminal E; syn t : text; occurs t on E; abstract z : E ::= { top.t = "x"; } abstract d : E ::= a : E { top.t = @concat(a.t, a.t); }"#,
-    r#"format 1; host calc0;
-nonterminal E; syn value : int; occurs value on E;
-abstract lit : E ::= n : int { top.value = n; }
-abstract add : E ::= a : E b : E { top.value = @add(a.value, b.value); }
-abstract div : E ::= a : E b : E { top.value = @div(a.value, b.value); }
-"#,
+    DBL,
+    DIVS,
     r#"format 1; extension dup for tiny; marking D /d/;
 concrete twin : T ::= m : D t : T {
   forwards to num(@to_text(@mul(2, t.value))); }
@@ -211,10 +241,7 @@ concrete one : T ::= m : L { top.value = 1; }
     r#"format 1; extension lonec for tinyc; marking L /l/;
 concrete one : T ::= m : L { top.value = 1; }
 "#,
-    r#"format 1; host loop; terminal X /x/;
-nonterminal S; start S; syn v : int; occurs v on S;
-concrete go : S ::= x : X { forwards to go(x.lexeme); }
-"#,
+    LOOP,
     r#"format 1; extension minus for tiny; marking M /-/; concrete same : T ::= m : M t : T { forwards to t; }"#,
     r#"format 1; host one; terminal X /x/; nonterminal S; start S; concrete go : S ::= x : X { }"#,
     r#"format 1; extension power for mini;
@@ -255,7 +282,7 @@ concrete plus : E ::= a : E p : Plus b : T { top.value = @add(a.value, b.value);
 concrete term : E ::= t : T { top.value = t.value; }
 concrete num : T ::= n : Num { top.value = @to_int(n.lexeme); }
 "#,
-    r#"format 1; host twins; nonterminal E; syn u : E; occurs u on E; abstract z : E ::= { top.u = z(); } abstract p : E ::= a : E b : E { top.u = z(); } abstract d : E ::= a : E { top.u = p(a.u, a.u); }"#,
+    TWINS,
     r#"format 1; extension unfit for pq; marking M /m/;
 concrete mg : G ::= m : M a : A y : Y { forwards to gz("z"); }
 "#,

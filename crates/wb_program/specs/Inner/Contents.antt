@@ -1,7 +1,7 @@
--- What is read of a file, and made of it.
+-- What is read of a file.
 use Rattle.std.specs.Prelude.{◌≡◌, ◌≤◌, ◌<◌, ℕ, Option, Some, None, List, [], length, take}
 use Rattle.wb_world.specs.Shelf.{Files}
-use Rattle.wb_program.specs.Files.{KnownFile, IsTooLongOr}
+use Rattle.wb_program.specs.Files.{KnownFile}
 use Rattle.wb_program.specs.declared.reading.Contents.{Contents}
 use Rattle.wb_program.specs.declared.reading.Contents.TheVariants.{Whole, TooLong}
 
@@ -24,17 +24,3 @@ KnownPrefix (Some files) name bytes = IsPrefix (files name) bytes
 abbrev pub ContentsAre : ℕ → Option Files → List ℕ → Contents → Type 0
 ContentsAre limit known name (Whole bytes) = KnownIs known name bytes.items × (length bytes.items ≤ limit)
 ContentsAre limit known name TooLong = KnownFile known name (λ contents. limit < length contents)
-
--- which contents have which reading, and which have none
-module _ {X : Type 0} (IsReading : X → List ℕ → Type 0) (HasNone : List ℕ → Type 0) where
-  -- the contents have this reading, or none
-  abbrev pub ReadsAs : Contents → Option X → Type 0
-  ReadsAs (Whole bytes) (Some reading) = IsReading reading bytes.items
-  ReadsAs (Whole bytes) None = HasNone bytes.items
-  ReadsAs TooLong (Some reading) = ⊥
-  ReadsAs TooLong None = Unit {0}
-
-  -- the file has this reading, or is too long or has none
-  abbrev pub FileReadsAs : ℕ → Option Files → List ℕ → Option X → Type 0
-  FileReadsAs limit known name (Some reading) = KnownFile known name (IsReading reading)
-  FileReadsAs limit known name None = KnownFile known name (IsTooLongOr limit HasNone)

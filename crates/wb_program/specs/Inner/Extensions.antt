@@ -8,7 +8,7 @@ use Rattle.wb_report.specs.Lines.{report_of}
 use Rattle.wb_report.specs.declared.outcome.Outcome.TheVariants as o
 use Rattle.wb_resolved.specs.declared.resolved.ResolvedParts.{ResolvedParts}
 use Rattle.wb_world.specs.Shelf.{Files}
-use Rattle.wb_program.specs.Asked.{certified_host, certified_extension}
+use Rattle.wb_program.specs.Built.{certified_host, certified_extension}
 use Rattle.wb_program.specs.CertifyReport.{ExtensionsReport}
 use Rattle.wb_program.specs.Checks.{Report, Ends}
 use Rattle.wb_program.specs.Files.{KnownFile}
@@ -39,7 +39,8 @@ module _ (operations : List OperationSignature) (known : Option Files) (host : R
   -- a run that stops at an extension from a place on stops at one of all of them, whatever file has the host
   abbrev pub StopsFrom : Outside → ℕ → Type 0
   StopsFrom before at = (file : List ℕ) → KnownFile known file (λ contents. IsHostText operations contents host) → (now : Outside)
-      (failure : ReadFailure) → Stopped before now (λ P. StopsAt operations known P (map (certified_extension file) (drop at files))) failure
+      (failure : ReadFailure)
+      → Stopped before now (λ P. StopsAt operations known P (map (certified_extension file) (drop at files))) failure
       → Stopped before now (λ P. StopsAt operations known P (map (certified_extension file) files)) failure
 
 -- a run stops at the host or, where there aren't too many, at one of the extensions

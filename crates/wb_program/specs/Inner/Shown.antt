@@ -1,27 +1,33 @@
 -- What `show` reports of what was read of a file.
-use Rattle.std.specs.Prelude.{◌≡◌, ℕ, List}
-use Rattle.wb_syntax.specs.Canonical.{IsCanonical}
-use Rattle.wb_reader.specs.Refusals.{HasCause, IsAcceptedText}
-use Rattle.wb_reader.specs.OneAnswer.{IsNoMemory}
+use Rattle.std.specs.Prelude.{◌≡◌, ℕ, List, Some}
+use Rattle.wb_hosts.specs.Contents.{IsBadText}
+use Rattle.wb_reader.specs.Refusals.{IsAcceptedText}
 use Rattle.wb_reader.specs.declared.refusal.SpecRefusal.{SpecRefusal}
-use Rattle.wb_reader.specs.declared.refusal.SpecRefusal.TheVariants as r
+use Rattle.wb_report.specs.Lines.{report_of}
+use Rattle.wb_report.specs.declared.outcome.Outcome.TheVariants as o
+use Rattle.wb_report.specs.declared.refusal.Refusal.{Refusal}
+use Rattle.wb_shown.specs.Shows.{written_reason, of_spec}
+use Rattle.wb_syntax.specs.Canonical.{IsCanonical}
 use Rattle.wb_program.specs.Checks.{Ends, Check}
-use Rattle.wb_program.specs.Lines.{spec_refused_line}
+use Rattle.wb_program.specs.Inner.Hosts.{ReadIs}
 use Rattle.wb_program.specs.declared.reading.Contents.{Contents}
-use Rattle.wb_program.specs.declared.reading.Contents.TheVariants.{Whole, TooLong}
 use Rattle.wb_program.specs.declared.status.Status.{Status}
 use Rattle.wb_program.specs.declared.status.Status.TheVariants.{Done, SpecRefused}
 
--- the contents aren't taken, and the bytes say why
-pub record RefusesText (contents file bytes : List ℕ) : Type 0 where
-  pub refusal : SpecRefusal
-  pub not_memory : ¬ IsNoMemory refusal
-  pub cause : HasCause contents refusal
-  pub line : bytes ≡ spec_refused_line file refusal
+-- the line of a file shows this refusal
+pub record ShowsRefusal (refusal : SpecRefusal) (file bytes : List ℕ) : Type 0 where
+  pub shown : Refusal
+  pub shows : of_spec (written_reason refusal) ≡ Some shown
+  pub line : bytes ≡ report_of (o.Refused file shown)
+
+-- what was read isn't a specification, and the line of the file says why
+pub record RefusesRead (contents : Contents) (file bytes : List ℕ) : Type 0 where
+  pub shown : Refusal
+  pub cause : ReadIs contents (λ text. IsBadText text shown)
+  pub line : bytes ≡ report_of (o.Refused file shown)
 
 -- the report of what was read
 abbrev pub ContentsShow : Contents → Status → List ℕ → List ℕ → Type 0
-ContentsShow (Whole contents) status bytes file =
-    Check SpecRefused (RefusesText contents.items file) (λ spec. IsAcceptedText contents.items spec)
+ContentsShow contents status bytes file =
+    Check SpecRefused (RefusesRead contents file) (λ spec. ReadIs contents (λ text. IsAcceptedText text spec))
     (λ spec. Ends Done (IsCanonical spec)) status bytes
-ContentsShow TooLong status bytes file = Ends SpecRefused (λ bytes. bytes ≡ spec_refused_line file r.TooLong) status bytes

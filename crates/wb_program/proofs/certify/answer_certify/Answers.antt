@@ -2,11 +2,11 @@
 use Rattle.std.proofs.Common.{rules, ◌≡◌, ◌≤◌, ◌∙◌, sym, ℕ, List, [], Option, IfOk, length, map, subst, arith}
 use Rattle.wb_hosts.specs.Contents.{IsHostText, IsHostRefusal}
 use Rattle.wb_world.specs.Shelf.{Files}
-use Rattle.wb_program.specs.Asked.{certified_extension}
+use Rattle.wb_program.specs.Built.{certified_extension}
 use Rattle.wb_program.specs.CertifyReport.{CertifyReport, ExtensionsReport}
 use Rattle.wb_program.specs.Files.{KnownFile}
 use Rattle.wb_program.specs.Reads.{StopsAt}
-use Rattle.wb_program.specs.Words.{texts}
+use Rattle.wb_words.specs.Words.{texts}
 use Rattle.wb_program.specs.Inner.Extensions.{CertifyStops}
 use Rattle.wb_program.specs.Inner.Hosts.{IsHostFile, RefusedHost}
 use Rattle.wb_program.specs.Inner.Stopped.{outside, Stopped}

@@ -2,10 +2,10 @@
 use Rattle.std.proofs.Common.{rules, ◌≡◌, ◌<◌, ◌+◌, ◌++◌, sym, ℕ, List, [], ◌∷◌, Option, IfErr, length, drop, map, subst, arith}
 use Rattle.std.proofs.lemmas.Grind.{common_steps}
 use Rattle.wb_world.specs.Shelf.{Files}
-use Rattle.wb_program.specs.Asked.{certified_extension}
+use Rattle.wb_program.specs.Built.{certified_extension}
 use Rattle.wb_program.specs.CertifyReport.{IsExtensionNamed}
 use Rattle.wb_program.specs.Reads.{StopsAt}
-use Rattle.wb_program.specs.Words.{texts}
+use Rattle.wb_words.specs.Words.{texts}
 use Rattle.wb_program.specs.Inner.Extensions.{EndsAtExtension, LeadsTo}
 use Rattle.wb_program.specs.Inner.Stopped.{outside, Stopped}
 use Rattle.wb_program.proofs.CauseLemmas.{goes_on_twice, on_err, stops_since, ok_of, err_of}

@@ -2,4 +2,9 @@ use Rattle.wb_program.proofs.OneReport.{end_as_reported}
 use Rattle.wb_program.proofs.laws.complete_law.Goals as goal
 
 pub returns : goal.returns
-returns c = end_as_reported c.one_answer_law.ensures
+returns c = end_as_reported (record {
+  extensions = c.one_answer_law.ensures;
+  headers = c.header_law.ensures;
+  withdrawn = c.withdrawn_law.ensures;
+  texts = c.one_answer_law-2.ensures;
+})

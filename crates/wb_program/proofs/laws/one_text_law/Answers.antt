@@ -2,4 +2,9 @@ use Rattle.wb_program.proofs.OneReport.{one_text}
 use Rattle.wb_program.proofs.laws.one_text_law.Goals as goal
 
 pub returns : goal.returns
-returns c = one_text c.one_answer_law.ensures
+returns c = one_text (record {
+  extensions = c.one_answer_law.ensures;
+  headers = c.header_law.ensures;
+  withdrawn = c.withdrawn_law.ensures;
+  texts = c.one_answer_law-2.ensures;
+})

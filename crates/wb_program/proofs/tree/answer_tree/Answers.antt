@@ -1,7 +1,7 @@
 -- A text is read after its host, and its report comes after that host's checks.
 use Rattle.std.proofs.Common.{rules, ℕ, List, [], ◌∷◌, Option, IfOk, subst}
 use Rattle.wb_world.specs.Shelf.{Files}
-use Rattle.wb_program.specs.Asked.{certified_host, parsed_text}
+use Rattle.wb_program.specs.Built.{certified_host, parsed_text}
 use Rattle.wb_program.specs.Checks.{Check}
 use Rattle.wb_program.specs.Reads.{StopsAt}
 use Rattle.wb_program.specs.TreeReport.{IsText, IsTooLongText, TextReport, TreeReport}

@@ -1,0 +1,69 @@
+-- Two reports of `compose`, and of `tree` with extensions, have one status, and one text where nothing is refused.
+use Rattle.std.proofs.Common.{◌≡◌, ℕ, List, Some, length, ap, sym, ◌∙◌, subst}
+use Rattle.wb_operations.specs.Operations.{OperationSignature}
+use Rattle.wb_report.specs.Lines.{report_of}
+use Rattle.wb_report.specs.declared.done.Done.TheVariants as done
+use Rattle.wb_report.specs.declared.outcome.Outcome.TheVariants as o
+use Rattle.wb_resolved.specs.declared.resolved.ResolvedParts.{ResolvedParts}
+use Rattle.wb_trees.specs.declared.answer.TextAnswer.{TextAnswer}
+use Rattle.wb_united_trees.specs.Answers.{HasSameAnswer}
+use Rattle.wb_united_trees.specs.Withdrawn.{HasOneWithdrawn}
+use Rattle.wb_world.specs.Shelf.{Files}
+use Rattle.wb_program.specs.Checks.{Ends, Check}
+use Rattle.wb_program.specs.ComposeReport.{ComposeReport, ComposedLines, UnitedReport, UnitedTreeReport}
+use Rattle.wb_program.specs.TreeReport.{IsText, IsTooLongText, ShownText}
+use Rattle.wb_program.specs.declared.status.Status.{Status}
+use Rattle.wb_program.specs.declared.status.Status.TheVariants.{Done, TextTooLong}
+use Rattle.wb_program.proofs.OneCheck.{AreOne}
+use Rattle.wb_program.proofs.OneExtensionReport.{ExcludesExtensions}
+use Rattle.wb_program.proofs.OneHostReport.{AreAlike, are_alike, one_shown, one_short_report}
+use Rattle.wb_program.proofs.OneSeveralReport.{ExcludesHeaders, one_several_report}
+
+-- what the crates below say of answers
+pub record Answers : Type 0 where
+  pub extensions : ExcludesExtensions
+  pub headers : ExcludesHeaders
+  pub withdrawn : (host : ResolvedParts) (operations : List OperationSignature) (extensions : List ResolvedParts)
+      → HasOneWithdrawn host operations extensions
+  pub texts : (host : ResolvedParts) (operations : List OperationSignature) (extensions : List ResolvedParts)
+      → HasSameAnswer host operations extensions extensions
+
+module _ (answers : Answers) (operations : List OperationSignature) (files : Files) (r : ResolvedParts) (values : List ResolvedParts)
+    (s t : Status) (bytes others : List ℕ) where
+  -- what is composed has one list of lines
+  one_composed : Ends Done (ComposedLines operations r values) s bytes → Ends Done (ComposedLines operations r values) t others
+      → AreOne s t bytes others
+  one_composed (ends, x) (ends', y) = (
+    ends ∙ sym ends',
+    x.lines
+        ∙ (ap (λ (names : List (List ℕ)). report_of (o.Done (done.Composed r.host (length values) names)))
+        (answers.withdrawn r operations values x.names y.names x.withdrawn y.withdrawn) ∙ sym y.lines),
+  )
+
+  -- a text has one report
+  one_united : (text : List ℕ) → UnitedReport operations r values text s bytes → UnitedReport operations r values text t others
+      → AreOne s t bytes others
+  one_united text x y =
+      let same : y.answer ≡ x.answer = answers.texts r operations values text y.answer x.answer y.is x.is in
+      one_shown x.answer s t bytes others x.shown (subst (λ (z : TextAnswer). ShownText z t others) same y.shown)
+
+-- two reports of `compose`
+pub one_compose_report : Answers → (operations : List OperationSignature) (files : Files) (host : List ℕ) (all : List (List ℕ))
+    (s t : Status) (bytes others : List ℕ) → ComposeReport operations (Some files) host all s bytes
+    → ComposeReport operations (Some files) host all t others → AreAlike s t bytes others
+one_compose_report answers operations files host all s t bytes others =
+    one_several_report answers.extensions answers.headers operations files host all
+    (λ r values. Ends Done (ComposedLines operations r values)) s t bytes others
+    (λ r values p q. are_alike s t bytes others (one_composed answers operations files r values s t bytes others p q))
+
+-- two reports of `tree` with extensions
+pub one_united_report : Answers → (operations : List OperationSignature) (files : Files) (file host : List ℕ) (all : List (List ℕ))
+    (s t : Status) (bytes others : List ℕ) → UnitedTreeReport operations (Some files) file host all s bytes
+    → UnitedTreeReport operations (Some files) file host all t others → AreAlike s t bytes others
+one_united_report answers operations files file host all s t bytes others =
+    one_several_report answers.extensions answers.headers operations files host all
+    (λ r values. Check TextTooLong (IsTooLongText (Some files) file) (IsText (Some files) file)
+    (λ (text : List ℕ). UnitedReport operations r values text)) s t bytes others
+    (λ r values p q. are_alike s t bytes others (one_short_report files file s t bytes others
+    (λ (text : List ℕ). UnitedReport operations r values text)
+    (λ text. one_united answers operations files r values s t bytes others text) p q))

@@ -1,0 +1,76 @@
+-- Extensions are read after their host, and their report comes after that host's checks.
+use Rattle.std.proofs.Common.{rules, ◌≡◌, ◌≤◌, ◌∙◌, ℕ, List, [], Option, IfOk, length, subst, arith}
+use Rattle.wb_hosts.specs.Contents.{IsHostRefusal}
+use Rattle.wb_operations.specs.Operations.{OperationSignature}
+use Rattle.wb_resolved.specs.declared.resolved.ResolvedParts.{ResolvedParts}
+use Rattle.wb_words.specs.Words.{texts}
+use Rattle.wb_world.specs.Shelf.{Files}
+use Rattle.wb_program.specs.Checks.{Report, Ends}
+use Rattle.wb_program.specs.ComposeReport.{ComposedLines}
+use Rattle.wb_program.specs.Reads.{StopsComposed, StopsEach}
+use Rattle.wb_program.specs.declared.status.Status.TheVariants.{Done}
+use Rattle.wb_program.specs.Files.{KnownFile}
+use Rattle.wb_program.specs.SeveralChecks.{EachChecks, SeveralChecks}
+use Rattle.wb_program.specs.Inner.Hosts.{IsHostFile, RefusedHost}
+use Rattle.wb_program.specs.Inner.Stopped.{outside, Stopped}
+use Rattle.wb_program.specs.declared.answer.Answer.{Answer}
+use Rattle.wb_program.proofs.ComposeLemmas.{several_certified, several_refused, composed_later, then_first}
+use Rattle.wb_program.proofs.CauseLemmas.{on_ok, on_err}
+use Rattle.wb_program.proofs.ExtensionLemmas.{few_texts}
+use Rattle.wb_program.proofs.compose.answer_compose.Goals as goal
+
+pub returns-in-Ok-clause-ok : goal.returns-in-Ok-clause-ok
+returns-in-Ok-clause-ok g c =
+    let files = g.S.Shelf.files c.args.shelf.now in
+    let between = g.S.Shelf.files c.certified_of.new.shelf in
+    let operations = c.args.operations.now.signatures in
+    let r = c.in-Ok.certified.resolved in
+    let extensions = texts c.args.extensions.now in
+    let few : length extensions ≤ 64 = few_texts c.args.extensions.now 64 (omega arith) in
+    let is : IsHostFile operations files c.args.host.now r = search rules in
+    let rest : Option Files → ResolvedParts → List ResolvedParts → Report = λ known r values. Ends Done (ComposedLines operations r values) in
+    let IsAnswered : Option Files → Answer → Type 0 = λ known answer.
+    EachChecks operations known r extensions (rest known r) answer.status answer.report.items in
+    let report : IfOk c.compose_files.result (IsAnswered files) =
+    subst (λ (known : Option Files). IfOk c.compose_files.result (IsAnswered known)) c.certified_of.ensures.goes_on.files
+    c.compose_files.ensures.ok in
+    on_ok c.compose_files.result (IsAnswered files)
+    (λ answer. SeveralChecks operations files c.args.host.now extensions (rest files) answer.status answer.report.items)
+    (λ answer shown. several_certified operations files c.args.host.now extensions (rest files) r answer.status answer.report.items few is
+    shown)
+    report
+
+pub returns-in-Ok-clause-stopped : goal.returns-in-Ok-clause-stopped
+returns-in-Ok-clause-stopped g c =
+    let files = g.S.Shelf.files c.args.shelf.now in
+    let operations = c.args.operations.now.signatures in
+    let host = c.args.host.now in
+    let r = c.in-Ok.certified.resolved in
+    let extensions = texts c.args.extensions.now in
+    let before = outside files (g.S.Shelf.absences c.args.shelf.now) (g.S.Shelf.faults c.args.shelf.now) in
+    let between = outside (g.S.Shelf.files c.certified_of.new.shelf) (g.S.Shelf.absences c.certified_of.new.shelf)
+    (g.S.Shelf.faults c.certified_of.new.shelf) in
+    let now = outside (g.S.Shelf.files c.compose_files.new.shelf) (g.S.Shelf.absences c.compose_files.new.shelf)
+    (g.S.Shelf.faults c.compose_files.new.shelf) in
+    let few : length extensions ≤ 64 = few_texts c.args.extensions.now 64 (omega arith) in
+    let is : IsHostFile operations files host r = search rules in
+    on_err c.compose_files.result (Stopped between now (λ P. StopsEach operations between.files r P extensions []))
+    (Stopped before now (λ P. StopsComposed operations files host extensions P ⊥))
+    (λ failure stopped. composed_later operations before between now host extensions r (λ P. ⊥) failure (λ P Q weaker none. none) few is
+    c.certified_of.ensures.goes_on (then_first operations between now r extensions (λ P. ⊥) failure stopped))
+    c.compose_files.ensures.stopped
+
+pub returns-in_ok-refused_host-in-Err-clause-ok : goal.returns-in_ok-refused_host-in-Err-clause-ok
+returns-in_ok-refused_host-in-Err-clause-ok g c =
+    let known = g.S.Shelf.files c.args.shelf.now in
+    let operations = c.args.operations.now.signatures in
+    let extensions = texts c.args.extensions.now in
+    let answer = c.in_ok-refused_host-in-Err.field-0 in
+    let few : length extensions ≤ 64 = few_texts c.args.extensions.now 64 (omega arith) in
+    let cause : KnownFile known c.args.host.now (λ contents. IsHostRefusal operations contents c.in-Err.refusal) = search rules in
+    let word : c.in_ok-file.file ≡ c.args.host.now = c.in_ok-file.ensures.ok ∙ c.as_bytes.ensures.value in
+    let shown : RefusedHost c.args.host.now c.in-Err.refusal answer.status answer.report.items =
+    subst (λ (file : List ℕ). RefusedHost file c.in-Err.refusal answer.status answer.report.items) word
+    c.in_ok-refused_host-in-Err.ensures in
+    several_refused operations known c.args.host.now extensions
+    (λ r values. Ends Done (ComposedLines operations r values)) c.in-Err.refusal answer.status answer.report.items few cause shown

@@ -1,0 +1,9 @@
+-- The report of what was read is that of the file.
+use Rattle.wb_program.proofs.ShowLemmas.{show_checks}
+use Rattle.wb_program.proofs.show.answer_show.Goals as goal
+
+pub returns-clause-ok : goal.returns-clause-ok
+returns-clause-ok g c =
+    let answer = c.in_ok-answer_contents.field-0 in
+    show_checks (g.S.Shelf.files c.args.shelf.now) c.args.file.now c.in_ok-contents.contents answer.status answer.report.items
+    c.in_ok-contents.ensures.ok c.in_ok-answer_contents.ensures

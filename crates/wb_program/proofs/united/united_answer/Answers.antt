@@ -1,0 +1,15 @@
+-- The answer of a text is shown.
+use Rattle.wb_united_trees.specs.Unions.{all_resolved}
+use Rattle.wb_program.specs.ComposeReport.{UnitedReport}
+use Rattle.wb_program.specs.TreeReport.{ShownText}
+use Rattle.wb_program.proofs.CauseLemmas.{on_ok}
+use Rattle.wb_program.proofs.united.united_answer.Goals as goal
+
+pub returns : goal.returns
+returns c =
+    let host = c.args.host.now in
+    let values = all_resolved c.args.extensions.now in
+    let text = c.in_ok-answer.answer in
+    on_ok c.shown_text.result (λ answer. ShownText text answer.status answer.report.items)
+    (λ answer. UnitedReport host.operations host.resolved values c.args.text.now answer.status answer.report.items)
+    (λ answer shown. record { answer = text; is = c.in_ok-answer.ensures; shown = shown }) c.shown_text.ensures

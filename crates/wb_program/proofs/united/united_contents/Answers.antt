@@ -1,0 +1,16 @@
+-- What was read is a text, and its answer is shown.
+use Rattle.std.proofs.Common.{ℕ, List, IfOk, sym, subst}
+use Rattle.wb_united_trees.specs.Unions.{all_resolved}
+use Rattle.wb_program.specs.ComposeReport.{UnitedReport}
+use Rattle.wb_program.specs.Inner.Hosts.{ReadText}
+use Rattle.wb_program.specs.declared.reading.Contents.{Contents}
+use Rattle.wb_program.proofs.united.united_contents.Goals as goal
+
+pub returns-in-Whole : goal.returns-in-Whole
+returns-in-Whole c =
+    let host = c.args.host.now in
+    let values = all_resolved c.args.extensions.now in
+    subst (λ (contents : Contents). IfOk c.united_answer.result (λ answer. ReadText (UnitedReport host.operations host.resolved values) contents
+    answer.status answer.report.items)) (sym c.in-Whole.is)
+    (subst (λ (text : List ℕ). IfOk c.united_answer.result (λ answer. UnitedReport host.operations host.resolved values text answer.status
+    answer.report.items)) c.deref.ensures.value c.united_answer.ensures)

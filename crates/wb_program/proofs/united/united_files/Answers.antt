@@ -1,0 +1,44 @@
+-- A text is read after the extensions, and its report comes after theirs.
+use Rattle.std.proofs.Common.{ℕ, List, [], Option, IfOk, inr, subst}
+use Rattle.wb_beside.specs.Kept.{ExtensionView}
+use Rattle.wb_operations.specs.Operations.{OperationSignature}
+use Rattle.wb_resolved.specs.declared.resolved.ResolvedParts.{ResolvedParts}
+use Rattle.wb_united_trees.specs.Unions.{all_resolved}
+use Rattle.wb_words.specs.Words.{texts}
+use Rattle.wb_world.specs.Shelf.{Files}
+use Rattle.wb_program.specs.Checks.{Check}
+use Rattle.wb_program.specs.ComposeReport.{UnitedReport}
+use Rattle.wb_program.specs.SeveralChecks.{AreEach, EachChecks}
+use Rattle.wb_program.specs.TreeReport.{IsText, IsTooLongText}
+use Rattle.wb_program.specs.declared.answer.Answer.{Answer}
+use Rattle.wb_program.specs.declared.status.Status.TheVariants.{TextTooLong}
+use Rattle.wb_program.proofs.CauseLemmas.{ok_of, on_ok}
+use Rattle.wb_program.proofs.united.united_files.Goals as goal
+
+pub returns-in-Ok-clause-ok : goal.returns-in-Ok-clause-ok
+returns-in-Ok-clause-ok g c =
+    let known = g.S.Shelf.files c.args.shelf.now in
+    let between = g.S.Shelf.files c.read_extensions.new.shelf in
+    let signatures = c.args.operations.now.signatures in
+    let host = c.args.host.now in
+    let files = texts c.args.files.now in
+    let file = c.args.text.now in
+    let es = c.in-Ok.extensions.items in
+    let each : AreEach signatures known host.resolved files [] (all_resolved es) =
+    ok_of c.in_ok-extensions.field-0 c.in-Ok.extensions (λ list. AreEach signatures known host.resolved files [] (all_resolved list.items))
+    c.in-Ok.is c.in_ok-extensions.ensures.ok in
+    let IsAnswered : List OperationSignature → List ExtensionView → Option Files → Answer → Type 0 = λ operations list told answer.
+    Check TextTooLong (IsTooLongText told file) (IsText told file)
+    (λ (text : List ℕ). UnitedReport operations host.resolved (all_resolved list) text) answer.status answer.report.items in
+    let listed : IfOk c.united_text.result (IsAnswered host.operations es between) =
+    subst (λ (list : List ExtensionView). IfOk c.united_text.result (IsAnswered host.operations list between)) c.deref.ensures.value
+    c.united_text.ensures.ok in
+    let signed : IfOk c.united_text.result (IsAnswered signatures es between) =
+    subst (λ (operations : List OperationSignature). IfOk c.united_text.result (IsAnswered operations es between)) c.requires listed in
+    let report : IfOk c.united_text.result (IsAnswered signatures es known) =
+    subst (λ (told : Option Files). IfOk c.united_text.result (IsAnswered signatures es told)) c.read_extensions.ensures.goes_on.files signed in
+    on_ok c.united_text.result (IsAnswered signatures es known)
+    (λ answer. EachChecks signatures known host.resolved files (λ (values : List ResolvedParts).
+    Check TextTooLong (IsTooLongText known file) (IsText known file) (λ (text : List ℕ). UnitedReport signatures host.resolved values text))
+    answer.status answer.report.items)
+    (λ answer shown. inr (all_resolved es, each, shown)) report

@@ -1,0 +1,71 @@
+-- A term is read after its host, and its report comes after that host's checks.
+use Rattle.std.proofs.Common.{rules, ℕ, List, [], ◌∷◌, Option, IfOk, sym, subst}
+use Rattle.wb_attributes.specs.Modular.{EachProduction}
+use Rattle.wb_attributes.specs.WellDefined.{IsWellDefinedProduction}
+use Rattle.wb_operations.specs.Operations.{Operations}
+use Rattle.wb_resolved.specs.declared.resolved.ResolvedParts.{ResolvedParts}
+use Rattle.wb_world.specs.Shelf.{Files}
+use Rattle.wb_program.specs.Built.{well_defined_host, written_term}
+use Rattle.wb_program.specs.Checks.{Check}
+use Rattle.wb_program.specs.Reads.{StopsAt}
+use Rattle.wb_program.specs.TreeReport.{IsText, IsTooLongText}
+use Rattle.wb_program.specs.ValueReport.{TermReport, ValueReport}
+use Rattle.wb_program.specs.Inner.Hosts.{IsWellDefinedFile}
+use Rattle.wb_program.specs.Inner.Stopped.{outside, Stopped}
+use Rattle.wb_program.specs.declared.answer.Answer.{Answer}
+use Rattle.wb_program.specs.declared.status.Status.TheVariants.{TextTooLong}
+use Rattle.wb_program.proofs.CauseLemmas.{goes_on_twice, on_ok, on_err, stops_at_term}
+use Rattle.wb_program.proofs.HostLemmas.{value_well_defined}
+use Rattle.wb_program.proofs.value.answer_value.Goals as goal
+
+pub answer_term-requires-clause-productions : goal.answer_term-requires-clause-productions
+answer_term-requires-clause-productions g c =
+    let signatures = c.args.operations.now.signatures in
+    let is : IsWellDefinedFile signatures (g.S.Shelf.files c.args.shelf.now) c.args.host.now c.in-Ok.resolved = search rules in
+    subst (λ (r : ResolvedParts). EachProduction r.attributes (IsWellDefinedProduction r.attributes)) (sym c.parts.ensures.parts)
+    is.well_defined.attributes.productions
+
+pub returns-in-Ok-clause-ok : goal.returns-in-Ok-clause-ok
+returns-in-Ok-clause-ok g c =
+    let files = g.S.Shelf.files c.args.shelf.now in
+    let r = c.in-Ok.resolved in
+    let file = c.args.term.now in
+    let attribute = c.args.attribute.now in
+    let operations : Operations = record { signatures = c.args.operations.now.signatures; meaning = g.M.Meaning.meaning } in
+    let is : IsWellDefinedFile operations.signatures files c.args.host.now r = search rules in
+    let between = g.S.Shelf.files c.well_defined_of.new.shelf in
+    let IsAnswered : ResolvedParts → Option Files → Answer → Type 0 = λ q known answer.
+    Check TextTooLong (IsTooLongText known file) (IsText known file)
+    (λ (text : List ℕ). TermReport operations q.attributes file attribute text) answer.status answer.report.items in
+    let said : IfOk c.answer_term.result (IsAnswered r between) =
+    subst (λ (q : ResolvedParts). IfOk c.answer_term.result (IsAnswered q between)) c.parts.ensures.parts c.answer_term.ensures.ok in
+    let report : IfOk c.answer_term.result (IsAnswered r files) =
+    subst (λ (known : Option Files). IfOk c.answer_term.result (IsAnswered r known)) c.well_defined_of.ensures.goes_on.files said in
+    on_ok c.answer_term.result (IsAnswered r files)
+    (λ answer. ValueReport operations files c.args.host.now file attribute answer.status answer.report.items)
+    (λ answer shown. value_well_defined operations files c.args.host.now file attribute r answer.status answer.report.items is shown)
+    report
+
+pub returns-in-Ok-clause-stopped : goal.returns-in-Ok-clause-stopped
+returns-in-Ok-clause-stopped g c =
+    let files = g.S.Shelf.files c.args.shelf.now in
+    let signatures = c.args.operations.now.signatures in
+    let before = outside files (g.S.Shelf.absences c.args.shelf.now) (g.S.Shelf.faults c.args.shelf.now) in
+    let between = outside (g.S.Shelf.files c.well_defined_of.new.shelf) (g.S.Shelf.absences c.well_defined_of.new.shelf)
+    (g.S.Shelf.faults c.well_defined_of.new.shelf) in
+    let now = outside (g.S.Shelf.files c.answer_term.new.shelf) (g.S.Shelf.absences c.answer_term.new.shelf)
+    (g.S.Shelf.faults c.answer_term.new.shelf) in
+    let is : IsWellDefinedFile signatures files c.args.host.now c.in-Ok.resolved = search rules in
+    on_err c.answer_term.result (Stopped between now (λ P. P c.args.term.now))
+    (Stopped before now (λ P. StopsAt signatures files P (well_defined_host c.args.host.now ∷ written_term c.args.term.now ∷ [])))
+    (λ failure stopped. stops_at_term signatures before between now c.args.host.now c.args.term.now c.in-Ok.resolved failure is.contents
+    c.well_defined_of.ensures.goes_on stopped)
+    c.answer_term.ensures.stopped
+
+pub returns-in-Ok-clause-goes_on : goal.returns-in-Ok-clause-goes_on
+returns-in-Ok-clause-goes_on g c =
+    goes_on_twice (outside (g.S.Shelf.files c.args.shelf.now) (g.S.Shelf.absences c.args.shelf.now) (g.S.Shelf.faults c.args.shelf.now))
+    (outside (g.S.Shelf.files c.well_defined_of.new.shelf) (g.S.Shelf.absences c.well_defined_of.new.shelf)
+    (g.S.Shelf.faults c.well_defined_of.new.shelf))
+    (outside (g.S.Shelf.files c.answer_term.new.shelf) (g.S.Shelf.absences c.answer_term.new.shelf) (g.S.Shelf.faults c.answer_term.new.shelf))
+    c.well_defined_of.ensures.goes_on c.answer_term.ensures.goes_on

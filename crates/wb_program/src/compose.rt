@@ -1,0 +1,120 @@
+//! What does `compose HOST EXT..` answer?
+//!
+//! The host comes first, by the checks in `check`, then the extensions, by those in `several`, and then the language that `wb_composition`
+//! composes of them.
+
+ghost use Rattle.std.specs.Prelude.{◌≡◌, IfOk, IfErr, ℕ, List, []};
+ghost use Rattle.wb_composition.specs.Composed.{IsComposed};
+ghost use Rattle.wb_resolved.specs.declared.resolved.ResolvedParts.{ResolvedParts};
+ghost use Rattle.wb_united_trees.specs.Unions.{all_resolved};
+ghost use Rattle.wb_words.specs.Words.{texts};
+ghost use Rattle.wb_program.specs.Checks.{Ends};
+ghost use Rattle.wb_program.specs.ComposeReport.{ComposeReport, ComposedLines};
+ghost use Rattle.wb_program.specs.Reads.{StopsComposed, StopsEach};
+ghost use Rattle.wb_program.specs.SeveralChecks.{EachChecks};
+ghost use Rattle.wb_program.specs.Inner.Several.{AreApart};
+ghost use Rattle.wb_program.specs.Inner.Stopped.{outside, Stopped, GoesOn};
+
+use crate::answer::{Answer, reported};
+use crate::certify::MOST;
+use crate::check::{certified_of, refused_host};
+use crate::reading::ReadFailure;
+use crate::several::read_extensions;
+use crate::status::Status;
+use std::alloc::{AllocError, Global};
+use wb_base::Bytes;
+use wb_beside::CertifiedExtension;
+use wb_certify::CertifiedHost;
+use wb_composition::{Composed, compose};
+use wb_operations::{Meaning, OperationTable};
+use wb_report::{Done, Outcome};
+use wb_united_trees::withdrawn_names;
+use wb_world::Shelf;
+
+// The answer to `compose HOST EXT..`.
+pub(crate) fn answer_compose<S: Shelf, M: Meaning>(
+    alloc: Global,
+    shelf: &mut S,
+    host: &str,
+    extensions: &[String],
+    operations: &OperationTable<M>,
+) -> Result<Answer, ReadFailure>
+    ensures ok { IfOk result (λ answer. ComposeReport operations.now.signatures (S.files shelf.old) host.now (texts extensions.now) answer.status answer.report.items) }
+    ensures stopped { IfErr result (Stopped (outside (S.files shelf.old) (S.absences shelf.old) (S.faults shelf.old))
+        (outside (S.files shelf.new) (S.absences shelf.new) (S.faults shelf.new)) (λ P. StopsComposed operations.now.signatures (S.files shelf.old) host.now (texts extensions.now) P ⊥)) }
+    ensures goes_on { GoesOn (outside (S.files shelf.old) (S.absences shelf.old) (S.faults shelf.old))
+        (outside (S.files shelf.new) (S.absences shelf.new) (S.faults shelf.new)) }
+{
+    if extensions.len() > MOST {
+        return Ok(reported(alloc, Status::TooManyExtensions, Outcome::TooManyExtensions)?);
+    }
+    let file = Bytes::from_slice(alloc, host.as_bytes())?;
+    match certified_of(alloc, shelf, host, operations)? {
+        Ok(certified) => {
+            // As in `check`, the host is dropped by a call.
+            let held = [certified];
+            compose_files(alloc, shelf, &held[0], extensions, operations)
+        }
+        Err(refusal) => Ok(refused_host(alloc, file, refusal)?),
+    }
+}
+
+// The answer for the extensions of files with a host.
+fn compose_files<S: Shelf, M: Meaning>(
+    alloc: Global,
+    shelf: &mut S,
+    host: &CertifiedHost,
+    files: &[String],
+    operations: &OperationTable<M>,
+) -> Result<Answer, ReadFailure>
+    requires { host.now.operations ≡ operations.now.signatures }
+    ensures ok { IfOk result (λ answer. EachChecks operations.now.signatures (S.files shelf.old) host.now.resolved (texts files.now)
+        (λ (values : List ResolvedParts). Ends Status.Done (ComposedLines operations.now.signatures host.now.resolved values)) answer.status answer.report.items) }
+    ensures stopped { IfErr result (Stopped (outside (S.files shelf.old) (S.absences shelf.old) (S.faults shelf.old))
+        (outside (S.files shelf.new) (S.absences shelf.new) (S.faults shelf.new)) (λ P. StopsEach operations.now.signatures (S.files shelf.old) host.now.resolved P (texts files.now) [])) }
+    ensures goes_on { GoesOn (outside (S.files shelf.old) (S.absences shelf.old) (S.faults shelf.old))
+        (outside (S.files shelf.new) (S.absences shelf.new) (S.faults shelf.new)) }
+{
+    match read_extensions(alloc, shelf, host, files, operations)? {
+        Ok(extensions) => Ok(answer_composed(alloc, host, &extensions)?),
+        Err(answer) => Ok(answer),
+    }
+}
+
+// The answer for extensions with a host.
+fn answer_composed(
+    alloc: Global,
+    host: &CertifiedHost,
+    extensions: &[CertifiedExtension],
+) -> Result<Answer, AllocError>
+    requires { AreApart host.now extensions.now }
+    ensures { IfOk result (λ answer. Ends Status.Done (ComposedLines host.now.operations host.now.resolved (all_resolved extensions.now)) answer.status answer.report.items) }
+{
+    // As in `check`, what is composed is dropped by a call.
+    let held = [compose(alloc, host, extensions)?];
+    composed_lines(alloc, host, extensions, &held[0])
+}
+
+// The answer for what is composed of them.
+fn composed_lines(
+    alloc: Global,
+    host: &CertifiedHost,
+    extensions: &[CertifiedExtension],
+    composed: &Composed,
+) -> Result<Answer, AllocError>
+    requires { IsComposed host.now extensions.now composed.now.language.language composed.now.withdrawn.items }
+    ensures { IfOk result (λ answer. Ends Status.Done (ComposedLines host.now.operations host.now.resolved (all_resolved extensions.now)) answer.status answer.report.items) }
+{
+    let count = extensions.len();
+    let prefixed = withdrawn_names(alloc, host, extensions, composed)?;
+    let host = Bytes::from_slice(alloc, host.name())?;
+    reported(
+        alloc,
+        Status::Done,
+        Outcome::Done(Done::Composed {
+            host,
+            extensions: count,
+            prefixed,
+        }),
+    )
+}

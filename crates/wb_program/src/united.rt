@@ -1,0 +1,138 @@
+//! What does `tree --text FILE HOST EXT..` answer where there are extensions?
+//!
+//! The host and the extensions come as in `compose`, and then the text, whose answer in their language is found by `wb_united_trees`.
+
+ghost use Rattle.std.specs.Prelude.{◌≡◌, IfOk, IfErr, ℕ, List, []};
+ghost use Rattle.wb_resolved.specs.declared.resolved.ResolvedParts.{ResolvedParts};
+ghost use Rattle.wb_united_trees.specs.Unions.{all_resolved};
+ghost use Rattle.wb_words.specs.Words.{texts};
+ghost use Rattle.wb_program.specs.Checks.{Check};
+ghost use Rattle.wb_program.specs.ComposeReport.{UnitedReport, UnitedTreeReport};
+ghost use Rattle.wb_program.specs.Reads.{StopsComposed};
+ghost use Rattle.wb_program.specs.SeveralChecks.{EachChecks};
+ghost use Rattle.wb_program.specs.TreeReport.{IsText, IsTooLongText};
+ghost use Rattle.wb_program.specs.Inner.Hosts.{ReadText};
+ghost use Rattle.wb_program.specs.Inner.Several.{AreApart, StopsThen};
+ghost use Rattle.wb_program.specs.Inner.Stopped.{outside, Stopped, GoesOn};
+
+use crate::answer::{Answer, reported};
+use crate::certify::MOST;
+use crate::check::{certified_of, refused_host};
+use crate::reading::{Contents, ReadFailure, read_file};
+use crate::several::read_extensions;
+use crate::status::Status;
+use crate::tree::shown_text;
+use std::alloc::{AllocError, Global};
+use wb_base::{Bytes, FILE_LIMIT};
+use wb_beside::CertifiedExtension;
+use wb_certify::CertifiedHost;
+use wb_composition::compose;
+use wb_operations::{Meaning, OperationTable};
+use wb_report::Outcome;
+use wb_united_trees::united_text_answer;
+use wb_world::Shelf;
+
+// The answer to `tree --text FILE HOST EXT..`.
+pub(crate) fn answer_united<S: Shelf, M: Meaning>(
+    alloc: Global,
+    shelf: &mut S,
+    text: &str,
+    host: &str,
+    extensions: &[String],
+    operations: &OperationTable<M>,
+) -> Result<Answer, ReadFailure>
+    ensures ok { IfOk result (λ answer. UnitedTreeReport operations.now.signatures (S.files shelf.old) text.now host.now (texts extensions.now) answer.status answer.report.items) }
+    ensures stopped { IfErr result (Stopped (outside (S.files shelf.old) (S.absences shelf.old) (S.faults shelf.old))
+        (outside (S.files shelf.new) (S.absences shelf.new) (S.faults shelf.new)) (λ P. StopsComposed operations.now.signatures (S.files shelf.old) host.now (texts extensions.now) P (P text.now))) }
+    ensures goes_on { GoesOn (outside (S.files shelf.old) (S.absences shelf.old) (S.faults shelf.old))
+        (outside (S.files shelf.new) (S.absences shelf.new) (S.faults shelf.new)) }
+{
+    if extensions.len() > MOST {
+        return Ok(reported(alloc, Status::TooManyExtensions, Outcome::TooManyExtensions)?);
+    }
+    let file = Bytes::from_slice(alloc, host.as_bytes())?;
+    match certified_of(alloc, shelf, host, operations)? {
+        Ok(certified) => {
+            // As in `check`, the host is dropped by a call.
+            let held = [certified];
+            united_files(alloc, shelf, text, &held[0], extensions, operations)
+        }
+        Err(refusal) => Ok(refused_host(alloc, file, refusal)?),
+    }
+}
+
+// The answer for the text of a file in the language of a host with the extensions of files.
+fn united_files<S: Shelf, M: Meaning>(
+    alloc: Global,
+    shelf: &mut S,
+    text: &str,
+    host: &CertifiedHost,
+    files: &[String],
+    operations: &OperationTable<M>,
+) -> Result<Answer, ReadFailure>
+    requires { host.now.operations ≡ operations.now.signatures }
+    ensures ok { IfOk result (λ answer. EachChecks operations.now.signatures (S.files shelf.old) host.now.resolved (texts files.now)
+        (λ (values : List ResolvedParts). Check Status.TextTooLong (IsTooLongText (S.files shelf.old) text.now) (IsText (S.files shelf.old) text.now)
+        (λ (contents : List ℕ). UnitedReport operations.now.signatures host.now.resolved values contents)) answer.status answer.report.items) }
+    ensures stopped { IfErr result (Stopped (outside (S.files shelf.old) (S.absences shelf.old) (S.faults shelf.old))
+        (outside (S.files shelf.new) (S.absences shelf.new) (S.faults shelf.new)) (λ P. StopsThen operations.now.signatures (S.files shelf.old) host.now.resolved P (texts files.now) (P text.now))) }
+    ensures goes_on { GoesOn (outside (S.files shelf.old) (S.absences shelf.old) (S.faults shelf.old))
+        (outside (S.files shelf.new) (S.absences shelf.new) (S.faults shelf.new)) }
+{
+    match read_extensions(alloc, shelf, host, files, operations)? {
+        Ok(extensions) => united_text(alloc, shelf, text, host, &extensions),
+        Err(answer) => Ok(answer),
+    }
+}
+
+// The answer for the text of a file in the language of a host with extensions.
+fn united_text<S: Shelf>(
+    alloc: Global,
+    shelf: &mut S,
+    file: &str,
+    host: &CertifiedHost,
+    extensions: &[CertifiedExtension],
+) -> Result<Answer, ReadFailure>
+    requires { AreApart host.now extensions.now }
+    ensures ok { IfOk result (λ answer. Check Status.TextTooLong (IsTooLongText (S.files shelf.old) file.now) (IsText (S.files shelf.old) file.now)
+        (λ (text : List ℕ). UnitedReport host.now.operations host.now.resolved (all_resolved extensions.now) text) answer.status answer.report.items) }
+    ensures stopped { IfErr result (Stopped (outside (S.files shelf.old) (S.absences shelf.old) (S.faults shelf.old))
+        (outside (S.files shelf.new) (S.absences shelf.new) (S.faults shelf.new)) (λ P. P file.now)) }
+    ensures goes_on { GoesOn (outside (S.files shelf.old) (S.absences shelf.old) (S.faults shelf.old))
+        (outside (S.files shelf.new) (S.absences shelf.new) (S.faults shelf.new)) }
+{
+    let contents = read_file(alloc, shelf, file, FILE_LIMIT)?;
+    Ok(united_contents(alloc, contents, host, extensions)?)
+}
+
+// The answer for what was read of the file.
+fn united_contents(
+    alloc: Global,
+    contents: Contents,
+    host: &CertifiedHost,
+    extensions: &[CertifiedExtension],
+) -> Result<Answer, AllocError>
+    requires { AreApart host.now extensions.now }
+    ensures { IfOk result (λ answer. ReadText (UnitedReport host.now.operations host.now.resolved (all_resolved extensions.now)) contents answer.status answer.report.items) }
+{
+    match contents {
+        Contents::Whole(bytes) => united_answer(alloc, host, extensions, &bytes),
+        Contents::TooLong => reported(alloc, Status::TextTooLong, Outcome::TextTooLong),
+    }
+}
+
+// The answer for a text.
+fn united_answer(
+    alloc: Global,
+    host: &CertifiedHost,
+    extensions: &[CertifiedExtension],
+    text: &[u8],
+) -> Result<Answer, AllocError>
+    requires { AreApart host.now extensions.now }
+    ensures { IfOk result (λ answer. UnitedReport host.now.operations host.now.resolved (all_resolved extensions.now) text.now answer.status answer.report.items) }
+{
+    // As in `check`, what is composed is dropped by a call.
+    let held = [compose(alloc, host, extensions)?];
+    let answer = united_text_answer(alloc, host, extensions, &held[0], text)?;
+    shown_text(alloc, answer)
+}

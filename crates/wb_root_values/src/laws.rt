@@ -1,0 +1,11 @@
+//! What do the definitions say of themselves?
+
+ghost use Rattle.wb_operations.specs.Operations.{Operations};
+ghost use Rattle.wb_resolved.specs.Attribution.{IsAttribution};
+ghost use Rattle.wb_resolved.specs.declared.attribution.AttributionParts.{AttributionParts};
+ghost use Rattle.wb_root_values.specs.Answers.{HasOneAnswer};
+
+/// A term, the name of an attribute and a number of steps have one answer at most.
+pub fn one_answer_law()
+    ensures { (a : AttributionParts) (operations : Operations) → IsAttribution a → HasOneAnswer a operations }
+{}

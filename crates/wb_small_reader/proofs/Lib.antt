@@ -1,4 +1,0 @@
-pub mod CallerLemmas
-mod HostTextLemmas
-mod Refusals
-mod TermTextLemmas
