@@ -1,0 +1,5 @@
+mod CountLemmas
+mod ChoiceLemmas
+mod MakeLemmas
+mod TextLemmas
+mod LoopLemmas
