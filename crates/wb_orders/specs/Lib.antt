@@ -1,0 +1,2 @@
+-- reports with extensions in two orders
+pub mod Laws

@@ -1,0 +1,9 @@
+//! Laws of the definitions: what each says is proved, and there is nothing to run.
+
+ghost use Rattle.wb_orders.specs.Laws.{HaveOneOrder};
+
+/// Where `tree` reports the answer of a text in the language of a host with extensions, it reports the same with these in every other
+/// order: the same status, and the same bytes.
+pub fn order_law()
+    ensures { HaveOneOrder }
+{}
