@@ -1,4 +1,5 @@
+use Rattle.wb_orders.proofs.ReportLemmas.{one_order}
 use Rattle.wb_orders.proofs.laws.order_law.Goals as goal
 
 pub returns : goal.returns
-returns c = ?
+returns c = one_order
