@@ -1,12 +1,11 @@
 -- Extensions that pass their checks in one order pass them in every other, with their values in that order.
-use Rattle.std.proofs.Common.{◌≡◌, ◌≤◌, ◌<◌, ◌+◌, ◌∙◌, ◌++◌, ◌∷◌, [], ℕ, zero, suc, List, Option, Some, None, Contains, length, map, slice_get}
+use Rattle.std.proofs.Common.{◌≡◌, ◌≤◌, ◌∙◌, ◌++◌, ◌∷◌, [], ℕ, zero, suc, List, Option, Some, None, Contains, length, slice_get}
 use Rattle.std.proofs.Common.{slice_index_or, ◌⊎◌, inl, inr, ap, sym, refl, subst, arith}
 use Rattle.std.proofs.lemmas.List.{append_assoc, append-nil, length-map, map-append}
 use Rattle.std.proofs.lemmas.Option.{same_Some, slice_get_within}
 use Rattle.wb_base.specs.Different.{Differ}
 use Rattle.wb_evaluator.proofs.MachineLemmas.{no_more}
 use Rattle.wb_extension_files.specs.Contents.{IsExtensionText}
-use Rattle.wb_extension_files.specs.Specifications.{IsSpecFor}
 use Rattle.wb_joined.specs.Written.{name_in}
 use Rattle.wb_lemmas.proofs.Members.{contains_at, place_of}
 use Rattle.wb_lemmas.proofs.Places.{append_keeps, append_seam, at_once, at_push, nothing_at}
@@ -15,7 +14,7 @@ use Rattle.wb_program.specs.Files.{FileIs}
 use Rattle.wb_program.specs.SeveralChecks.{AreEach, HasName, IsNextText, names_of}
 use Rattle.wb_reader.proofs.OneText.{one_text as one_read}
 use Rattle.wb_reordered_unions.specs.Orders.{IsReordering}
-use Rattle.wb_reordered_unions.proofs.NumberLemmas.{reordering_back, reordering_map}
+use Rattle.wb_reordered_unions.proofs.NumberLemmas.{reordering_map}
 use Rattle.wb_resolved.specs.declared.resolved.ResolvedParts.{ResolvedParts}
 use Rattle.wb_syntax.specs.SpecText.{SpecView}
 use Rattle.wb_world.specs.Shelf.{Files}
@@ -75,8 +74,7 @@ module _ (operations : List OperationSignature) (files : Files) (host : Resolved
       one_read contents next.text.stands.spec spec next.text.stands.accepted.1 next.named.is.accepted.1 in
       let one : value.attributes.extensions ≡ next.text.stands.spec.name ∷ [] = next.text.stands.names.value.extensions in
       let name : name_in value ≡ spec.name =
-      ap (λ (names : List (List ℕ)). slice_index_or names 0 []) one ∙ ap (λ (x : SpecView). x.name) same in
-      (
+      ap (λ (names : List (List ℕ)). slice_index_or names 0 []) one ∙ ap (λ (x : SpecView). x.name) same in (
         record { named = record { spec = spec; is = next.named.is; named = sym name }; text = next.text },
         subst (λ (z : List ℕ). ¬ Contains (names_of before) z) (sym next.named.named ∙ sym name) next.new,
       )
@@ -107,7 +105,7 @@ module _ (operations : List OperationSignature) (files : Files) (host : Resolved
         are = rest.are ∙ append_assoc before (v ∷ []) rest.later;
         hold = (
           file_is (files file) (λ contents. IsNextText operations host before contents v) (IsOf v)
-          (λ contents p. (is_of before v contents p).0) next,
+              (λ contents p. (is_of before v contents p).0) next,
           rest.hold,
         );
         differ = rest.differ;
@@ -121,9 +119,9 @@ module _ (operations : List OperationSignature) (files : Files) (host : Resolved
   each_is (file ∷ left) before (v ∷ later) hold differ = (
     v,
     file_is (files file) (IsOf v) (λ contents. IsNextText operations host before contents v)
-    (λ contents p. record { name = name_in v; named = p.named; new = new; text = p.text }) hold.0,
+        (λ contents p. record { name = name_in v; named = p.named; new = new; text = p.text }) hold.0,
     subst (λ (z : List ResolvedParts). AreEach operations (Some files) host left (before ++ v ∷ []) z) joined
-    (each_is left (before ++ v ∷ []) later hold.1 (subst (λ (z : List ResolvedParts). Differ (names_of z)) (sym joined) differ)),
+        (each_is left (before ++ v ∷ []) later hold.1 (subst (λ (z : List ResolvedParts). Differ (names_of z)) (sym joined) differ)),
   )
     where
       joined : (before ++ v ∷ []) ++ later ≡ before ++ v ∷ later

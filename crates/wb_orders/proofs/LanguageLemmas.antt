@@ -172,31 +172,30 @@ module _ (host : GrammarView) (extensible : List ℕ) (own : LexiconView) (writt
   matches_as : (place : ℕ) (form : Form) → slice_get (forms_of in_other_order) place ≡ Some form → (text : List ℕ)
       → IsMatch l.expressions place text ↔ IsTextOf host extensible own others form text
   matches_as place form at text =
-      let c : Comes place form = comes place form at in
-      (
+      let c : Comes place form = comes place form at in (
         λ matches. subst (λ z. IsTextOf host extensible own others z text) (sym c.new)
-        (text_there host extensible own written others to from ok re c.old text ((is.expressions place c.old c.at text).0 matches)),
+            (text_there host extensible own written others to from ok re c.old text ((is.expressions place c.old c.at text).0 matches)),
         λ h. (is.expressions place c.old c.at text).1
-        (subst (λ z. IsTextOf host extensible own written z text) (ap (renamed_form s) c.new ∙ form_back c.old)
-        (text_there host extensible own others written from to there_ok (reordering_back re) form text h)),
+            (subst (λ z. IsTextOf host extensible own written z text) (ap (renamed_form s) c.new ∙ form_back c.old)
+            (text_there host extensible own others written from to there_ok (reordering_back re) form text h)),
       )
 
   prefers_as : (one other : ℕ) → Contains (map pair_to l.preferences) (one, other) ↔ Prefers host extensible own others one other
   prefers_as one other = (
     λ has.
-    let (i, at) = place_of (map pair_to l.preferences) (one, other) has in
-    let (p, p_at, same) = map_at pair_to l.preferences i (one, other) at in
-    let there : Prefers host extensible own others (r.terminal p.0) (r.terminal p.1) =
-    prefers_there host extensible own written others to from ok re p.0 p.1
-    ((is.preferences p.0 p.1).0 (contains_at l.preferences p i p_at)) in
-    subst (λ (z : ℕ × ℕ). Prefers host extensible own others z.0 z.1) (sym same) there,
+        let (i, at) = place_of (map pair_to l.preferences) (one, other) has in
+        let (p, p_at, same) = map_at pair_to l.preferences i (one, other) at in
+        let there : Prefers host extensible own others (r.terminal p.0) (r.terminal p.1) =
+        prefers_there host extensible own written others to from ok re p.0 p.1
+        ((is.preferences p.0 p.1).0 (contains_at l.preferences p i p_at)) in
+        subst (λ (z : ℕ × ℕ). Prefers host extensible own others z.0 z.1) (sym same) there,
     λ prefers.
-    let has = (is.preferences (s.terminal one) (s.terminal other)).1
-    (prefers_there host extensible own others written from to there_ok (reordering_back re) one other prefers) in
-    let (i, at) = place_of l.preferences (s.terminal one, s.terminal other) has in
-    let same : pair_to (s.terminal one, s.terminal other) ≡ (one, other) = λ z. (redone.terminal one z, redone.terminal other z) in
-    contains_at (map pair_to l.preferences) (one, other) i
-    (at_map pair_to l.preferences i (s.terminal one, s.terminal other) at ∙ ap Some same),
+        let has = (is.preferences (s.terminal one) (s.terminal other)).1
+        (prefers_there host extensible own others written from to there_ok (reordering_back re) one other prefers) in
+        let (i, at) = place_of l.preferences (s.terminal one, s.terminal other) has in
+        let same : pair_to (s.terminal one, s.terminal other) ≡ (one, other) = λ z. (redone.terminal one z, redone.terminal other z) in
+        contains_at (map pair_to l.preferences) (one, other) i
+        (at_map pair_to l.preferences i (s.terminal one, s.terminal other) at ∙ ap Some same),
   )
 
   -- it is a language of the union in that order

@@ -1,5 +1,5 @@
 -- A report of a text's answer is one with the extensions in every other order.
-use Rattle.std.proofs.Common.{◌≡◌, ◌<◌, ◌≤◌, ◌++◌, ◌∙◌, ◌⊎◌, ◌∷◌, [], ℕ, List, Option, Some, None, All, length, map, slice_get}
+use Rattle.std.proofs.Common.{◌≡◌, ◌++◌, ◌∙◌, ◌∷◌, [], ℕ, List, Option, Some, None, All, length, map}
 use Rattle.std.proofs.Common.{ap, sym, refl, subst, inl, inr, arith}
 use Rattle.std.proofs.lemmas.Bool.{cases_lt}
 use Rattle.std.proofs.lemmas.List.Elements.{All-head, All-tail}
@@ -13,7 +13,7 @@ use Rattle.wb_languages.specs.Languages.{LanguageView}
 use Rattle.wb_languages.specs.Shown.{Shows, values_of}
 use Rattle.wb_lemmas.proofs.Elements.{all_at, all_from_places}
 use Rattle.wb_operations.specs.Operations.{OperationSignature}
-use Rattle.wb_program.specs.ComposeReport.{UnitedReport, UnitedTreeReport}
+use Rattle.wb_program.specs.ComposeReport.{UnitedReport}
 use Rattle.wb_program.specs.SeveralChecks.{RefusesEach, RefusesNext}
 use Rattle.wb_program.specs.TreeReport.{ShownText}
 use Rattle.wb_program.specs.declared.status.Status.{Status}
@@ -28,7 +28,6 @@ use Rattle.wb_terms.specs.Printed.{printed_tree}
 use Rattle.wb_trees.specs.declared.answer.TextAnswer.{TextAnswer}
 use Rattle.wb_trees.specs.declared.answer.TextAnswer.TheVariants as a
 use Rattle.wb_unions.specs.Renamings.{Renaming}
-use Rattle.wb_united.proofs.FactLemmas.{at_map, map_at}
 use Rattle.wb_united_trees.specs.Answers.{HasPrintedTree, IsAnswerIn, IsUnitedTextAnswer}
 use Rattle.wb_united_trees.specs.Names.{stop_shown, terminals_of}
 use Rattle.wb_united_trees.specs.Signatures.{signatures_of}
@@ -141,8 +140,7 @@ module _ (host : ResolvedParts) (operations : List OperationSignature) (extensio
         let same = same_union_answers u.grammar host.extensible own old new to from pieces written_re l m is.of_union m_is in
         let ok = (same_language u.grammar host.extensible own old new to from pieces written_re l m is.of_union m_is).0 is.language in
         let (y, y_is) = answer_here (names_to u.grammar host.extensible old new to) l m same (terminals_of host extensions)
-        (terminals_of host others) (signatures_of host extensions) (signatures_of host others) text x answers in
-        (
+        (terminals_of host others) (signatures_of host extensions) (signatures_of host others) text x answers in (
           y,
           record {
             whole = union_there;
