@@ -29,13 +29,6 @@ file_says : (file : Option (List ℕ)) (P : List ℕ → Type 0) (Q : Type 0) �
 file_says None P Q says p = absurd p
 file_says (Some contents) P Q says p = says contents p
 
--- the place of what is there in a mapped list
-named_at : (values : List ResolvedParts) (k : ℕ) (v : ResolvedParts) → slice_get values k ≡ Some v
-    → slice_get (names_of values) k ≡ Some (name_in v)
-named_at [] k v at = cc
-named_at (x ∷ values) zero v at = cc
-named_at (x ∷ values) (suc k) v at = named_at values k v at
-
 -- a list whose elements differ and one more that it doesn't contain
 different_push : {X : Type 0} (xs : List X) (x : X) → Differ xs → ¬ Contains xs x → Differ (xs ++ x ∷ [])
 different_push {X} xs x different new y i j first second = cases (at_push xs x y i first) (at_push xs x y j second) where
@@ -148,8 +141,8 @@ module _ (operations : List OperationSignature) (files : Files) (host : Resolved
   held_at (first ∷ left) (v ∷ values) (suc k) file hold at = held_at left values k file hold.1 at
 
   -- the file of the value at a place
-  file_at : (left : List (List ℕ)) (values : List ResolvedParts) (k : ℕ) (v : ResolvedParts) → Hold left values → slice_get values k ≡ Some v
-      → (file : List ℕ) × (slice_get left k ≡ Some file)
+  file_at : (left : List (List ℕ)) (values : List ResolvedParts) (k : ℕ) (v : ResolvedParts) → Hold left values
+      → slice_get values k ≡ Some v → (file : List ℕ) × (slice_get left k ≡ Some file)
   file_at [] values k v hold at = absurd (nothing_at v k (sym (ap (λ z. slice_get z k) hold) ∙ at))
   file_at (file ∷ left) [] k v hold at = absurd hold
   file_at (file ∷ left) (w ∷ values) zero v hold at = (file, refl)

@@ -1,5 +1,6 @@
 -- The union of a host and extensions has a language in every order of the extensions, where it has one in one.
-use Rattle.std.proofs.Common.{◌≡◌, ◌<◌, ◌≤◌, ◌+◌, ◌∙◌, ℕ, List, Some, Contains, length, map, slice_get, ap, sym, refl, subst, inl, inr, arith}
+use Rattle.std.proofs.Common.{◌≡◌, ◌<◌, ◌≤◌, ◌+◌, ◌∙◌, ℕ, List, Some, Contains, length, map, slice_get, ap, sym, refl, subst}
+use Rattle.std.proofs.Common.{inl, inr, arith}
 use Rattle.std.specs.List.{range_with_len}
 use Rattle.std.proofs.lemmas.List.{length-map}
 use Rattle.std.proofs.lemmas.List.FromFn.{get_or-range_with_len, length-range_with_len}
@@ -106,7 +107,8 @@ module _ (host : GrammarView) (extensible : List ℕ) (own : LexiconView) (writt
       let one = no_more_numbers n k r.terminal s.terminal undone.terminal
       (union_leads host extensible (pieces_of written) (pieces_of others) to from ok (pieces_reordered re)).terminals in
       let two = no_more_numbers k n s.terminal r.terminal redone.terminal
-      (union_leads host extensible (pieces_of others) (pieces_of written) from to there_ok (pieces_reordered (reordering_back re))).terminals in
+      (union_leads host extensible (pieces_of others) (pieces_of written) from to there_ok
+      (pieces_reordered (reordering_back re))).terminals in
       omega (arith, one, two)
 
   -- a form there and back
