@@ -1,0 +1,12 @@
+use Rattle.std.proofs.Common.{◌≡◌, ◌∙◌, None, ap, sym}
+use Rattle.wb_resolved.specs.declared.terminal.Terminal.{Terminal}
+use Rattle.wb_united_expressions.proofs.AddedLemmas.{read_next}
+use Rattle.wb_united_expressions.proofs.rows.add_own.Goals as goal
+
+pub rows-preserved : goal.rows-preserved
+rows-preserved c =
+    let own : c.in_ok-made.made ≡ c.index-rows-number.result.pattern =
+    c.in_ok-made.ensures.same ∙ sym (ap (λ (row : Terminal). row.pattern) c.index-rows-number.is) in
+    read_next None c.args.from c.args.to c.args.rows.now c.requires c.rows.number c.index-rows-number.result c.args.expressions.now.items
+    c.rows.expressions.items c.push.new.list.items c.in_ok-made.made c.rows.auto.number c.rows-test.true c.index-rows-number.is
+    c.rows.invariant own c.in_ok-push.ensures.ok

@@ -1,0 +1,2 @@
+-- expressions as they are added
+pub mod Added
