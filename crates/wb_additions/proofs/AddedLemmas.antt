@@ -33,8 +33,8 @@ use Rattle.wb_numbered_unions.specs.Numbers.{locals_in}
 use Rattle.wb_additions.specs.Extended.{IsExtendedBy}
 use Rattle.wb_additions.specs.Hosts.{rows_of}
 use Rattle.wb_additions.proofs.ContextLemmas.{n, m, nonterminal_groups, production_split, production_groups, attribute_parts, occurrence_parts}
-use Rattle.wb_additions.proofs.ExtendedLemmas.{up, addition, equations_in, own_locals, own_equations, local_parts, equation_parts}
-use Rattle.wb_additions.proofs.ExtendedLemmas.{locals_there, equations_there}
+use Rattle.wb_additions.proofs.AdditionRows.{up, addition, equations_in, own_locals, own_equations}
+use Rattle.wb_additions.proofs.HostProductions.{local_parts, equation_parts, locals_there, equations_there}
 use Rattle.wb_additions.proofs.PositionLemmas.{group_at}
 use Rattle.wb_additions.proofs.SplitLemmas.{Parts}
 

@@ -25,7 +25,7 @@ use Rattle.wb_numbered_unions.specs.United.{host_production, united_nonterminals
 use Rattle.wb_numbered_unions.specs.United.{united_attribution}
 use Rattle.wb_numbered_unions.proofs.PlacedLemmas.{after_alone, grouped_alone}
 use Rattle.wb_additions.specs.Hosts.{rows_of}
-use Rattle.wb_additions.proofs.ExtendedLemmas.{production_row, attributed_of}
+use Rattle.wb_additions.proofs.AdditionRows.{production_row, attributed_of}
 use Rattle.wb_additions.proofs.StayLemmas.{map_stays, map_stays_all, option_stays, Stays, nonterminal_stays, attribute_stays}
 use Rattle.wb_additions.proofs.StayLemmas.{occurrence_stays, child_stays, equation_stays, local_stays, forward_stays}
 

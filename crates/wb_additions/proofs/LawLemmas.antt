@@ -8,7 +8,8 @@ use Rattle.wb_resolved.specs.Grammar.{IsGrammarOf}
 use Rattle.wb_additions.specs.Extended.{IsExtendedBy, IsHostAlone, IsHostWith}
 use Rattle.wb_additions.specs.Hosts.{IsOfRows}
 use Rattle.wb_additions.proofs.AddedLemmas.{host_once, host_roles, is_addition}
-use Rattle.wb_additions.proofs.ExtendedLemmas.{addition, attributes_with}
+use Rattle.wb_additions.proofs.AdditionRows.{addition}
+use Rattle.wb_additions.proofs.ExtendedLemmas.{attributes_with}
 use Rattle.wb_additions.proofs.HostLemmas.{host_alone_is}
 
 pub is_host_with : (host r : ResolvedParts) (name : List ℕ) (items : Items) (g : GrammarView) → IsExtendedBy host r name items g

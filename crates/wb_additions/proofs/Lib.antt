@@ -3,6 +3,8 @@ pub mod PositionLemmas
 pub mod MoveLemmas
 pub mod StayLemmas
 pub mod ContextLemmas
+pub mod AdditionRows
+pub mod HostProductions
 pub mod ExtendedLemmas
 pub mod AddedLemmas
 pub mod HostLemmas
