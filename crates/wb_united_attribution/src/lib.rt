@@ -7,9 +7,7 @@ mod addition;
 mod attributes;
 mod nonterminals;
 mod placed;
-mod productions;
 mod union;
-mod written;
 
 pub use addition::{Addition, Rows};
 pub use union::{UnitedRows, united_rows};

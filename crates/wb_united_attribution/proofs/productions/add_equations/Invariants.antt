@@ -1,7 +1,0 @@
-use Rattle.std.proofs.Common.{◌≡◌, ◌++◌, map, take}
-use Rattle.std.specs.List.{flat_map}
-use Rattle.wb_united_attribution.specs.Inner.Gathered.{equations_by}
-use Rattle.wb_united_attribution.proofs.productions.add_equations.Given as goal
-
-abbrev pub invariant-rows : goal.invariant-rows
-invariant-rows l = l.made.items ≡ l.initial.made.items ++ equations_by l.numbers (take l.row-index l.rows)
