@@ -122,19 +122,21 @@ def yacc(host):
     return "\n".join([*out, "%%", PRINTING])
 
 
-def flex_pattern(expression):
-    """An expression as flex writes it."""
-    def char(c):
-        return c if c.isalnum() else f"\\x{ord(c):02x}"
-
+def written(expression, char, between):
+    """An expression with its bytes by `char`, and `between` between its pieces and those of its sets."""
     out = []
     for sort, piece in hosts.pieces(expression):
         if sort == "set":
             negated, ranges = hosts.members(piece)
-            out.append("[" + "^" * negated + "".join(char(a) if a == b else f"{char(a)}-{char(b)}" for a, b in ranges) + "]")
+            out.append("[" + "^" * negated + between.join(char(a) if a == b else f"{char(a)}-{char(b)}" for a, b in ranges) + "]")
         else:
             out.append(char(piece) if sort == "byte" else piece)
-    return "".join(out)
+    return between.join(out)
+
+
+def flex_pattern(expression):
+    """An expression as flex writes it."""
+    return written(expression, lambda c: c if c.isalnum() else f"\\x{ord(c):02x}", "")
 
 
 def flex(host):
@@ -163,18 +165,8 @@ def menhir(host):
 
 def ocamllex(host):
     """The scanner for ocamllex."""
-    def char(c):
-        return f"'\\{ord(c):03d}'"
-
     def pattern(expression):
-        out = []
-        for sort, piece in hosts.pieces(expression):
-            if sort == "set":
-                negated, ranges = hosts.members(piece)
-                out.append("[" + "^" * negated + " ".join(char(a) if a == b else f"{char(a)}-{char(b)}" for a, b in ranges) + "]")
-            else:
-                out.append(char(piece) if sort == "byte" else piece)
-        return " ".join(out)
+        return written(expression, lambda c: f"'\\{ord(c):03d}'", " ")
 
     out = ["{ open Parser }", "rule token = parse"] + [f"  | {pattern(expression)} {{ token lexbuf }}" for _, expression in host.ignored]
     out += [f"  | {pattern(expression)} {{ T_{name} (Lexing.lexeme lexbuf) }}" for name, expression in host.terminals]
