@@ -25,7 +25,7 @@ use Rattle.wb_numbered_unions.specs.Joined.{place_after}
 use Rattle.wb_numbered_unions.proofs.PlacedLemmas.{alone, host_alone, after_below, alone_below, Fits}
 use Rattle.wb_additions.specs.Extended.{file_on, IsExtendedBy}
 use Rattle.wb_additions.proofs.PositionLemmas.{MovedTo, part_at, place, group_at, moved_is}
-use Rattle.wb_additions.proofs.SplitLemmas.{LeadFirst, Parts, Groups, AreSplit, parts, groups}
+use Rattle.wb_additions.proofs.SplitLemmas.{LeadFirst, Parts, Groups, AreSplit, parts, groups, groups_leading}
 
 pub names_left : (xs ys : List Entry) → NamesDiffer (xs ++ ys) → NamesDiffer xs
 names_left xs ys differ i j owner other name at at' sees =
@@ -82,6 +82,25 @@ module _ (host r : ResolvedParts) (name : List ℕ) (items : Items) (h : Grammar
   terminal_groups =
       (groups IsScanned (IsMovedTerminal m) (IsTerminalRow n 1 items) host.terminals (lexicals items) h.terminals r.terminals lead_terminals
       ex.value.terminals).in_groups
+
+  -- each group that leads is as long as what leads
+  pub nonterminals_leading : length nonterminal_groups.leading ≡ length ex.value.nonterminals.leading
+  unfolding nonterminal_groups
+  nonterminals_leading =
+      groups_leading (IsInGrammarOf file) (IsMovedNonterminal m) (IsNonterminalRow n 1 items) host.attributes.nonterminals
+      (nonterminals items) h.nonterminals r.attributes.nonterminals lead_nonterminals ex.value.nonterminals
+
+  pub productions_leading : length production_groups.leading ≡ length ex.value.productions.leading
+  unfolding production_split
+  productions_leading =
+      groups_leading IsConcrete (IsExtendedProduction n 1 items m) (IsProductionRow n 1 items) host.attributes.productions
+      (productions items) (length h.productions) r.attributes.productions lead_productions ex.value.productions
+
+  pub terminals_leading : length terminal_groups.leading ≡ length ex.value.terminals.leading
+  unfolding terminal_groups
+  terminals_leading =
+      groups_leading IsScanned (IsMovedTerminal m) (IsTerminalRow n 1 items) host.terminals (lexicals items) h.terminals r.terminals
+      lead_terminals ex.value.terminals
 
   pub attribute_parts : Parts (IsMovedAttribute m) (IsAttributeRow n 1 items) host.attributes.attributes (attributes items)
       r.attributes.attributes

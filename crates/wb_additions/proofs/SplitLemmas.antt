@@ -4,6 +4,7 @@ use Rattle.std.proofs.Common.{sym, ap, subst, inl, inr, arith}
 use Rattle.std.specs.Prelude.{All}
 use Rattle.std.specs.List.{AllZip}
 use Rattle.std.proofs.lemmas.List.Elements.{All-nil, All-cons}
+use Rattle.std.proofs.lemmas.Slice.Zip.{AllZip-long}
 use Rattle.wb_numbering.specs.Sources.{sources, IsFrom, Splits, nothing, leads, follows, AreGrouped}
 
 -- of a list the first so many lead, and no others
@@ -188,3 +189,13 @@ groups P M W before declared count rows first grouped =
       leads_all = h.leads_all;
       follows_all = h.follows_all;
     }
+
+-- what leads has as many rows
+pub groups_leading : {A B C : Type 0} (P : A ⊎ B → Type 0) (M : A → C → Type 0) (W : B → C → Type 0) (before : List A) (declared : List B)
+    (count : ℕ) (rows : List C) (first : LeadFirst (λ (x : A). P (inl x)) count before)
+    (grouped : AreGrouped P (IsFrom M W) (sources before declared) rows)
+    → length (groups P M W before declared count rows first grouped).in_groups.leading ≡ length grouped.leading
+unfolding groups
+groups_leading P M W before declared count rows first grouped =
+    let (one, two, are, all, others) = split_zip (IsFrom M W) grouped.leading grouped.following rows grouped.are_rows in
+    AllZip-long (IsFrom M W) grouped.leading one all

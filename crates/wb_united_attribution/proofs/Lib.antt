@@ -1,2 +1,4 @@
 pub mod NumberedLemmas
 pub mod UnitedLemmas
+pub mod ProductionLemmas
+pub mod PartLemmas

@@ -1,9 +1,11 @@
 -- Lists with numbers: one element more, and lists of lists put together.
-use Rattle.std.proofs.Common.{◌≡◌, ◌∙◌, ◌+◌, ◌<◌, ◌++◌, ◌∷◌, [], ℕ, zero, suc, List, Some, length, map, take, slice_get, get_or, refl, sym, ap}
+use Rattle.std.proofs.Common.{◌≡◌, ◌∙◌, ◌+◌, ◌<◌, ◌++◌, ◌∷◌, [], ℕ, zero, suc, List, Some, length, map, take}
+use Rattle.std.proofs.Common.{slice_get, get_or, refl, sym, ap, subst}
 use Rattle.std.proofs.Common.{arith}
 use Rattle.std.proofs.lemmas.List.{length-take-le, map-append, take_more}
 use Rattle.std.proofs.lemmas.Option.{get_or_from_slice_get, slice_get_within}
 use Rattle.std.specs.List.{flat_map}
+use Rattle.wb_numbered_unions.proofs.JoinedLemmas.{append_assoc}
 use Rattle.wb_numbered_unions.specs.Joined.{joined, numbered}
 use Rattle.wb_united.specs.Places.{count_before, total_of}
 
@@ -57,7 +59,8 @@ pub total_next : {X : Type 0} (f : X → ℕ) (xs : List X) (i : ℕ) (x : X) (o
     old ≡ total_of (map f (take i xs)) → new ≡ old + f x → new ≡ total_of (map f (take (i + 1) xs))
 total_next f xs i x old new within is was step =
     let more : take (i + 1) xs ≡ take i xs ++ x ∷ [] = take_more xs i x within ∙ ap (λ z. take i xs ++ z ∷ []) (sym is) in
-    let sums = ap (λ zs. total_of (map f zs)) more ∙ (ap total_of (map-append f (take i xs) (x ∷ [])) ∙ total_more (map f (take i xs)) (f x)) in
+    let sums = ap (λ zs. total_of (map f zs)) more ∙ (ap total_of (map-append f (take i xs) (x ∷ []))
+    ∙ total_more (map f (take i xs)) (f x)) in
     omega (arith, sums, was, step)
 
 -- a list with numbers and one element more
@@ -71,3 +74,45 @@ numbered_next f xs i x old new at was step =
     step ∙ (ap (λ zs. zs ++ f i x ∷ []) was ∙ (ap (λ k. numbered f 0 (take i xs) ++ f k x ∷ [])
     (let e : i ≡ 0 + length (take i xs) = omega (arith, len) in e) ∙ (sym (numbered_more f 0 (take i xs) x) ∙
     ap (numbered f 0) (sym more))))
+
+-- a list with numbers after another, and one element more
+pub numbered_after : {X Y : Type 0} (f : ℕ → X → Y) (first : ℕ) (xs : List X) (i : ℕ) (x : X) (start old new : List Y) →
+    slice_get xs i ≡ Some x → old ≡ start ++ numbered f first (take i xs) → new ≡ old ++ f (first + i) x ∷ [] →
+    new ≡ start ++ numbered f first (take (i + 1) xs)
+numbered_after f first xs i x start old new at was step =
+    let within = slice_get_within xs i x at in
+    let more : take (i + 1) xs ≡ take i xs ++ x ∷ [] =
+    take_more xs i x within ∙ ap (λ z. take i xs ++ z ∷ []) (get_or_from_slice_get xs i x x at) in
+    let len : i ≡ length (take i xs) = sym (length-take-le i xs (omega (arith, within))) in
+    step ∙ (ap (λ zs. zs ++ f (first + i) x ∷ []) was ∙ (append_assoc start (numbered f first (take i xs)) (f (first + i) x ∷ []) ∙
+    ap (λ zs. start ++ zs) (ap (λ k. numbered f first (take i xs) ++ f (first + k) x ∷ []) len ∙
+    (sym (numbered_more f first (take i xs) x) ∙ ap (numbered f first) (sym more)))))
+
+-- of numbered elements
+pub numbered_numbered : {X Y Z : Type 0} (f : ℕ → Y → Z) (g : ℕ → X → Y) (i : ℕ) (xs : List X) →
+    numbered f i (numbered g i xs) ≡ numbered (λ k x. f k (g k x)) i xs
+numbered_numbered f g i [] = refl
+numbered_numbered f g i (x ∷ xs) = ap (λ zs. f i (g i x) ∷ zs) (numbered_numbered f g (suc i) xs)
+
+pub map_numbered : {X Y Z : Type 0} (f : Y → Z) (g : ℕ → X → Y) (h : X → Z) → ((k : ℕ) (x : X) → f (g k x) ≡ h x) → (i : ℕ) (xs : List X) →
+    map f (numbered g i xs) ≡ map h xs
+map_numbered f g h same i [] = refl
+map_numbered f g h same i (x ∷ xs) = λ j. same i x j ∷ map_numbered f g h same (suc i) xs j
+
+-- equal at each place
+pub numbered_where : {X Y : Type 0} (f g : ℕ → X → Y) (first : ℕ) (xs : List X) →
+    ((i : ℕ) (x : X) → slice_get xs i ≡ Some x → f (first + i) x ≡ g (first + i) x) → numbered f first xs ≡ numbered g first xs
+numbered_where f g first [] same = refl
+numbered_where f g first (x ∷ xs) same =
+    let here : f first x ≡ g first x =
+    (let e : first ≡ first + 0 = omega arith in subst (λ z. f z x ≡ g z x) (sym e) (same 0 x refl)) in
+    λ j. here j ∷ numbered_where f g (suc first) xs (λ i y at. (let e : suc first + i ≡ first + suc i = omega arith in
+    subst (λ z. f z y ≡ g z y) (sym e) (same (suc i) y at))) j
+
+pub numbered_plain : {X Y : Type 0} (f : X → Y) (g : ℕ → X → Y) (first : ℕ) (xs : List X) →
+    ((i : ℕ) (x : X) → slice_get xs i ≡ Some x → f x ≡ g (first + i) x) → map f xs ≡ numbered g first xs
+numbered_plain f g first [] same = refl
+numbered_plain f g first (x ∷ xs) same =
+    let here : f x ≡ g first x = (let e : first ≡ first + 0 = omega arith in subst (λ z. f x ≡ g z x) (sym e) (same 0 x refl)) in
+    λ j. here j ∷ numbered_plain f g (suc first) xs (λ i y at. (let e : suc first + i ≡ first + suc i = omega arith in
+    subst (λ z. f y ≡ g z y) (sym e) (same (suc i) y at))) j

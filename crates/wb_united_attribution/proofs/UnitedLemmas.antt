@@ -6,9 +6,8 @@ use Rattle.wb_numbered_unions.specs.Joined as joined
 use Rattle.wb_numbered_unions.specs.Joined.{numbered}
 use Rattle.wb_numbered_unions.specs.Numbers.{block_of, numbers_of}
 use Rattle.wb_numbered_unions.specs.United.{host_numbers, united_attributes, united_nonterminals, united_occurrences}
-use Rattle.wb_renumbered.specs.declared.numbers.Block.{Block}
 use Rattle.wb_renumbered.specs.declared.numbers.Numbers.{Numbers}
-use Rattle.wb_renumbered.specs.NewNumbers.{grouped_in, map_of, place_in}
+use Rattle.wb_renumbered.specs.NewNumbers.{map_of, place_in}
 use Rattle.wb_unions.specs.Blocks.{spread}
 use Rattle.wb_united.specs.Places.{count_before, total_of}
 use Rattle.wb_united_attributes.specs.Numbers.{NumberMap}
@@ -23,7 +22,7 @@ use Rattle.wb_united_attribution.specs.Inner.Counted.{block_at, counts_in, no_co
 use Rattle.wb_united_attribution.specs.Inner.Gathered.{abstract_nonterminals_in, attributes_in, gathered_attributes, gathered_nonterminals}
 use Rattle.wb_united_attribution.specs.Inner.Gathered.{gathered_occurrences, nonterminals_in, occurrences_in}
 use Rattle.wb_united_attribution.specs.Lent.{addition_in, all_in, rows_in}
-use Rattle.wb_united_attribution.proofs.NumberedLemmas.{count_take, flat_numbered, map_map, map_take, numbered_map, numbered_same}
+use Rattle.wb_united_attribution.proofs.NumberedLemmas.{count_take, flat_numbered, map_take, numbered_map, numbered_same}
 
 -- where no locals move
 abbrev pub unmoved : NumberMap → NumberMap
@@ -36,7 +35,7 @@ unmoved t = record {
 }
 
 module _ (host : Rows) (adds : List Addition) where
-  abbrev all : List union.Addition
+  abbrev pub all : List union.Addition
   all = all_in host adds
 
   -- sums of sizes
@@ -89,7 +88,7 @@ module _ (host : Rows) (adds : List Addition) where
             (total_of (total_is size (size_by lead) same j)) n)
 
   -- the new numbers of the host
-  nothing_before : (sizes : List ℕ) → 0 ≡ count_before sizes 0
+  pub nothing_before : (sizes : List ℕ) → 0 ≡ count_before sizes 0
   nothing_before [] = refl
   nothing_before (size ∷ sizes) = refl
 
@@ -130,7 +129,7 @@ module _ (host : Rows) (adds : List Addition) where
   abbrev pub own_numbers : Numbers
   own_numbers = numbers_at (counts_in host) 0 no_counts [] adds
 
-  gather : {Y : Type 0} (mine : Placed → List Y) (theirs : ℕ → union.Addition → List Y) →
+  pub gather : {Y : Type 0} (mine : Placed → List Y) (theirs : ℕ → union.Addition → List Y) →
       ((k : ℕ) (x : Addition) → mine (placed_at (counts_in host) adds k x) ≡ theirs k (addition_in host x)) →
       flat_map mine placed ≡ joined.joined (numbered theirs 0 all)
   gather mine theirs same =

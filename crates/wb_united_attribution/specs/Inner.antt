@@ -1,4 +1,6 @@
--- lists as they are gathered
-pub mod Gathered
 -- numbers as they are counted
 pub mod Counted
+-- what extensions write
+pub mod Written
+-- lists as they are gathered
+pub mod Gathered

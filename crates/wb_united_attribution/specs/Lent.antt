@@ -1,8 +1,9 @@
 -- What is lent, as the rows of a host and what extensions add to them.
 use Rattle.std.specs.Prelude.{◌++◌, ℕ, List, [], Option, Some, None, drop, length, map, slice_get}
 use Rattle.wb_numbered_unions.specs.Additions as union
-use Rattle.wb_numbered_unions.specs.Numbers.{host_locals, locals_in}
+use Rattle.wb_numbered_unions.specs.Numbers.{locals_in}
 use Rattle.wb_resolved.specs.declared.equation.Equation.{Equation}
+use Rattle.wb_resolved.specs.declared.production.Local.{Local}
 use Rattle.wb_resolved.specs.declared.production.Production.{Production}
 use Rattle.wb_unions.specs.Blocks.{lift}
 use Rattle.wb_united_attribution.specs.declared.addition.Addition.{Addition}
@@ -25,9 +26,18 @@ abbrev pub equations_in : Option Production → List Equation
 equations_in None = []
 equations_in (Some production) = production.equations
 
--- the host's equations on its production of this number
-abbrev pub host_equations : union.Rows → ℕ → List Equation
-host_equations host p = equations_in (slice_get (host.productions ++ host.abstract_productions) p)
+-- on what may be a production of the host, what comes after the host's own in what may be the same production with an extension
+abbrev pub locals_after : Option Production → Option Production → List Local
+locals_after None there = []
+locals_after (Some production) there = drop (length production.locals) (locals_in there)
+
+abbrev pub equations_after : Option Production → Option Production → List Equation
+equations_after None there = []
+equations_after (Some production) there = drop (length production.equations) (equations_in there)
+
+-- what may be the host's production of this number
+abbrev pub host_row : Rows → ℕ → Option Production
+host_row host p = slice_get (host.productions.now ++ host.abstract_productions.now) p
 
 -- what may be the host's production of this number, with the extension
 abbrev pub written_in : Rows → Addition → ℕ → Option Production
@@ -38,8 +48,8 @@ abbrev pub addition_in : Rows → Addition → union.Addition
 addition_in host x = record {
   name = x.name.now;
   rows = rows_in x.rows;
-  locals = λ p. drop (length (host_locals (rows_in host) p)) (locals_in (written_in host x p));
-  equations = λ p. drop (length (host_equations (rows_in host) p)) (equations_in (written_in host x p));
+  locals = λ p. locals_after (host_row host p) (written_in host x p);
+  equations = λ p. equations_after (host_row host p) (written_in host x p);
 }
 
 -- all of them

@@ -7,7 +7,11 @@ mod addition;
 mod attributes;
 mod nonterminals;
 mod placed;
+mod production;
+mod productions;
+pub mod slices;
 mod union;
+mod written;
 
 pub use addition::{Addition, Rows};
-pub use union::{UnitedRows, united_rows};
+pub use union::united_attribution;

@@ -1,5 +1,4 @@
-use Rattle.std.proofs.Common.{◌≡◌, ◌++◌, map, take}
-use Rattle.std.specs.List.{flat_map}
+use Rattle.std.proofs.Common.{◌≡◌, ◌++◌, take}
 use Rattle.wb_united_attribution.specs.Inner.Gathered.{occurrences_by}
 use Rattle.wb_united_attribution.proofs.attributes.add_occurrences.Given as goal
 

@@ -1,4 +1,4 @@
-use Rattle.std.proofs.Common.{◌≡◌, ◌++◌, map, take}
+use Rattle.std.proofs.Common.{◌≡◌, ◌++◌, take}
 use Rattle.std.specs.List.{flat_map}
 use Rattle.wb_united_attribution.specs.Inner.Gathered.{attributes_by, attributes_in}
 use Rattle.wb_united_attribution.proofs.attributes.united_attributes.Given as goal

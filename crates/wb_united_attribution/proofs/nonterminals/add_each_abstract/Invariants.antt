@@ -1,4 +1,4 @@
-use Rattle.std.proofs.Common.{◌≡◌, ◌++◌, map, take}
+use Rattle.std.proofs.Common.{◌≡◌, ◌++◌, take}
 use Rattle.std.specs.List.{flat_map}
 use Rattle.wb_united_attribution.specs.Inner.Gathered.{abstract_nonterminals_in}
 use Rattle.wb_united_attribution.proofs.nonterminals.add_each_abstract.Given as goal

@@ -1,4 +1,4 @@
-use Rattle.std.proofs.Common.{◌≡◌, ◌∙◌, ◌++◌, ◌∷◌, [], List, IfSome, ap, subst, arith}
+use Rattle.std.proofs.Common.{◌≡◌, ◌∙◌, ◌++◌, ◌∷◌, [], IfSome, ap, subst, arith}
 use Rattle.wb_lemmas.proofs.Places.{at_within}
 use Rattle.wb_united_attribution.specs.declared.placed.Placed.{Placed}
 use Rattle.wb_united_attribution.specs.Inner.Counted.{placed_at}

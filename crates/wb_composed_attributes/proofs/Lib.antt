@@ -1,0 +1,2 @@
+mod AdditionLemmas
+mod ComposedLemmas

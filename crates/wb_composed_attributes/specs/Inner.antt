@@ -1,0 +1,2 @@
+-- what is cut out of a host and of extensions
+pub mod Cuts

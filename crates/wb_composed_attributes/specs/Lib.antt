@@ -1,0 +1,2 @@
+-- what only proofs need
+pub mod Inner
