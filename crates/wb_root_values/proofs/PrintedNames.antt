@@ -14,7 +14,7 @@ use Rattle.wb_resolved.specs.declared.attribution.AttributionParts.{AttributionP
 use Rattle.wb_resolved.specs.Named.{IsNamedAttribute}
 use Rattle.wb_resolved.specs.Once.{Entry}
 use Rattle.wb_resolved.specs.Owners.{printed_name}
-use Rattle.wb_root_values.specs.Answers.{IsPrintedAs}
+use Rattle.wb_root_values.specs.Asked.{IsPrintedAs}
 
 -- none of the bytes is a colon
 abbrev HasNoColon : List ℕ → Type 0

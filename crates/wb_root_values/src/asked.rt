@@ -1,11 +1,11 @@
-//! Which attribute may be asked of a tree by a name?
+//! Which attribute may be asked by a name, on a nonterminal or of a tree?
 //!
-//! One that is synthesized, occurs on the tree's nonterminal and needs nothing there. Names are compared as reports print them.
+//! One that is synthesized, occurs there and needs nothing there. Names are compared as reports print them.
 
 ghost use Rattle.std.specs.Prelude.{◌≡◌, ◌↔◌, ◌<◌, ℕ, [], length, IfOk, IsTrue, MatchOption};
 ghost use Rattle.wb_resolved.specs.declared.attributes.Direction.TheVariants.{Synthesized};
 ghost use Rattle.wb_resolved.specs.Owners.{printed_name};
-ghost use Rattle.wb_root_values.specs.Answers.{IsAskedAs};
+ghost use Rattle.wb_root_values.specs.Asked.{IsAskedAs, IsAskedOn};
 ghost use Rattle.wb_root_values.specs.Inner.Free.{HasNoneFree, IsFree, IsFreeOn, IsUpAs};
 ghost use Rattle.wb_values.specs.Fits.{FitsTree};
 ghost use Rattle.wb_values.specs.ValuesIn.{tree_in};
@@ -16,7 +16,21 @@ use wb_resolved::{Attribute, Attribution, AttributionParts, Direction, Occurrenc
 use wb_rows::signatures::printed;
 use wb_values::{Signatures, TreeId, TreeStore};
 
-// The attribute that may be asked of a tree by a name.
+/// The attribute that may be asked by a printed name on a nonterminal. The only error is want of memory.
+pub fn asked_on(
+    alloc: Global,
+    attributes: &Attribution,
+    nonterminal: usize,
+    name: &[u8],
+) -> Result<Option<usize>, AllocError>
+    ensures { IfOk result (λ found. MatchOption found
+        ((attribute : ℕ) → ¬ IsAskedOn attributes.now name.now nonterminal attribute)
+        (IsAskedOn attributes.now name.now nonterminal)) }
+{
+    free_on(alloc, attributes.parts(), nonterminal, name)
+}
+
+// The attribute that may be asked by a name of a tree.
 pub(crate) fn asked_at(
     alloc: Global,
     attributes: &Attribution,
@@ -30,9 +44,8 @@ pub(crate) fn asked_at(
         ((attribute : ℕ) → ¬ IsAskedAs attributes.now (tree_in store.now root.0) name.now attribute)
         (IsAskedAs attributes.now (tree_in store.now root.0) name.now)) }
 {
-    let parts = attributes.parts();
-    let nonterminal = nonterminal_of(&parts.signatures, store, root);
-    free_on(alloc, parts, nonterminal, name)
+    let nonterminal = nonterminal_of(&attributes.parts().signatures, store, root);
+    asked_on(alloc, attributes, nonterminal, name)
 }
 
 // The nonterminal of a tree.

@@ -4,8 +4,14 @@ ghost use Rattle.wb_operations.specs.Operations.{Operations};
 ghost use Rattle.wb_resolved.specs.Attribution.{IsAttribution};
 ghost use Rattle.wb_resolved.specs.declared.attribution.AttributionParts.{AttributionParts};
 ghost use Rattle.wb_root_values.specs.Answers.{HasOneAnswer};
+ghost use Rattle.wb_root_values.specs.Values.{HasOneValue};
 
 /// A term, the name of an attribute and a number of steps have one answer at most.
 pub fn one_answer_law()
     ensures { (a : AttributionParts) (operations : Operations) → IsAttribution a → HasOneAnswer a operations }
+{}
+
+/// One thing comes of an attribute at the root of a tree at most.
+pub fn one_value_law()
+    ensures { (a : AttributionParts) (operations : Operations) → HasOneValue a operations }
 {}

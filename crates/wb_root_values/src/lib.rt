@@ -1,4 +1,4 @@
-//! Which printed value has an attribute at the root of a written term?
+//! Which printed value has an attribute at the root of a tree, and of a written term?
 //!
 //! Terms are read and values printed in `wb_terms`, attributes evaluated in `wb_evaluator`; here they meet, and operations and attributes are
 //! named as reports show them.
@@ -8,7 +8,12 @@ mod answer;
 mod asked;
 mod laws;
 mod root;
+mod tree;
+mod value;
 
 pub use answer::RootAnswer;
-pub use laws::one_answer_law;
+pub use asked::asked_on;
+pub use laws::{one_answer_law, one_value_law};
 pub use root::root_value;
+pub use tree::tree_value;
+pub use value::TreeValue;

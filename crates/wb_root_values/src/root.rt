@@ -1,30 +1,27 @@
 //! Which printed value has an attribute at the root of a written term?
 //!
-//! The term is read, the attribute looked up by its printed name, and evaluated, and what comes of it is printed.
+//! The term is read, and the attribute looked up by its printed name; what comes of it is in `tree`.
 
-ghost use Rattle.std.specs.Prelude.{◌≡◌, ◌<◌, ℕ, List, length, slice_get, IfOk};
+ghost use Rattle.std.specs.Prelude.{◌≡◌, ◌<◌, ℕ, List, length, IfOk};
 ghost use Rattle.wb_attributes.specs.Modular.{EachProduction};
 ghost use Rattle.wb_attributes.specs.WellDefined.{IsWellDefinedProduction};
-ghost use Rattle.wb_evaluation.specs.Evaluable.{IsAsked};
 ghost use Rattle.wb_operations.specs.Kept.{IsKept};
-ghost use Rattle.wb_root_values.specs.Answers.{Asks, IsRootAnswer, operation_shown};
-ghost use Rattle.wb_root_values.specs.Inner.Printed.{IsPrinted};
-ghost use Rattle.wb_terms.specs.Printed.{printed_value};
+ghost use Rattle.wb_root_values.specs.Answers.{Asks, IsRootAnswer};
+ghost use Rattle.wb_root_values.specs.Inner.Printed.{answer_for};
 ghost use Rattle.wb_terms.specs.TermAnswer.{IsTermOf};
 ghost use Rattle.wb_types.specs.Rules.{KindsOk};
 ghost use Rattle.wb_values.specs.Fits.{FitsTree};
-ghost use Rattle.wb_values.specs.ValuesIn.{tree_in, value_in, IsIn};
+ghost use Rattle.wb_values.specs.ValuesIn.{tree_in};
 
-use crate::RootAnswer;
 use crate::asked::asked_at;
+use crate::tree::tree_value;
+use crate::{RootAnswer, TreeValue};
 use std::alloc::{AllocError, Global};
-use wb_base::Bytes;
-use wb_evaluator::{Evaluated, evaluate};
-use wb_operations::{Meaning, OperationRefusal, OperationSignatures, OperationTable};
+use wb_operations::{Meaning, OperationRefusal, OperationTable};
 use wb_report::TermReason;
 use wb_resolved::Attribution;
-use wb_terms::{PrintRefusal, TermRefusal, print_value, read_term};
-use wb_values::{Signatures, TreeId, TreeStore, Value};
+use wb_terms::{TermRefusal, read_term};
+use wb_values::{TreeId, TreeStore, Value};
 
 /// What comes of asking for the attribute of a printed name at the root of a written term, within so many steps.
 ///
@@ -79,70 +76,22 @@ fn tree_answer<M: Meaning>(
         → IfOk result (IsRootAnswer attributes.now (record { signatures = operations.now.signatures; meaning = M.meaning }) term name.now steps) }
 {
     match asked_at(alloc, attributes, store, root, name)? {
-        Some(attribute) => attribute_answer(
-            alloc, attributes, store, root, attribute, steps, operations,
-        ),
+        Some(attribute) => {
+            let value = tree_value(alloc, attributes, store, root, attribute, steps, operations)?;
+            Ok(answered(value))
+        }
         None => Ok(RootAnswer::UnknownAttribute),
     }
 }
 
-// The same for an attribute of a tree.
-fn attribute_answer<M: Meaning>(
-    alloc: Global,
-    attributes: &Attribution,
-    store: &mut TreeStore,
-    root: TreeId,
-    attribute: usize,
-    steps: u64,
-    operations: &OperationTable<M>,
-) -> Result<RootAnswer, AllocError>
-    requires productions { EachProduction attributes.now (IsWellDefinedProduction attributes.now) }
-    requires kinds { KindsOk attributes.now operations.now.signatures }
-    requires there { root.0 < length store.old }
-    requires asked { IsAsked attributes.now (tree_in store.old root.0) attribute }
-    requires kept { IsKept operations.now.signatures operations.now.built_in operations.now.runs.items M.meaning
-        (λ run vs. ⟦<Box<dyn Fn(&[Value]) -> Result<Value, OperationRefusal>> as Fn(&[Value]) -> Result<Value, OperationRefusal>>⟧.pre run vs)
-        (λ run vs r. ⟦<Box<dyn Fn(&[Value]) -> Result<Value, OperationRefusal>> as Fn(&[Value]) -> Result<Value, OperationRefusal>>⟧.post run vs r) }
-    ensures { (term name : List ℕ) → Asks attributes.now term name (tree_in store.old root.0) attribute
-        → IfOk result (IsRootAnswer attributes.now (record { signatures = operations.now.signatures; meaning = M.meaning }) term name steps) }
+// The answer for a term of whose tree this comes.
+fn answered(value: TreeValue) -> RootAnswer
+    ensures { result ≡ answer_for value }
 {
-    match evaluate(alloc, attributes, store, root, attribute, steps, operations)? {
-        Evaluated::Value(value) => { printed(alloc, &attributes.parts().signatures, store, &value) }
-        Evaluated::Fault { operation, code } => {
-            let operation = operation_name(alloc, operations.signatures(), operation)?;
-            Ok(RootAnswer::Fault { operation, code })
-        }
-        Evaluated::MoreSteps => Ok(RootAnswer::MoreSteps),
+    match value {
+        TreeValue::Value(printed) => RootAnswer::Value(printed),
+        TreeValue::TooLong => RootAnswer::TooLong,
+        TreeValue::Fault { operation, code } => RootAnswer::Fault { operation, code },
+        TreeValue::MoreSteps => RootAnswer::MoreSteps,
     }
-}
-
-// The printed value, unless it is too long.
-fn printed(
-    alloc: Global,
-    signatures: &Signatures,
-    store: &TreeStore,
-    value: &Value,
-) -> Result<RootAnswer, AllocError>
-    requires { IsIn (length store.now) value.now }
-    ensures { IfOk result (IsPrinted (printed_value signatures.now (value_in store.now value.now))) }
-{
-    match print_value(alloc, value, signatures, store) {
-        Ok(text) => Ok(RootAnswer::Value(Bytes::from_vec(text)?)),
-        Err(PrintRefusal::TooLong) => Ok(RootAnswer::TooLong),
-        Err(PrintRefusal::NoMemory(error)) => Err(error),
-    }
-}
-
-// The name of an operation, or the empty one.
-fn operation_name(
-    alloc: Global,
-    operations: &OperationSignatures,
-    number: usize,
-) -> Result<Bytes, AllocError>
-    ensures { IfOk result (λ name. name ≡ operation_shown (slice_get operations.now number)) }
-{
-    if number < operations.len() {
-        return Bytes::from_slice(alloc, operations.name(number));
-    }
-    Ok(Bytes::empty())
 }

@@ -15,7 +15,7 @@ use Rattle.wb_united_trees.specs.Unions.{Union, all_resolved}
 use Rattle.wb_united_trees.specs.Withdrawn.{AreWithdrawnNames}
 use Rattle.wb_united_trees.proofs.NameLemmas.{resolved_in}
 
-resolved_are : (es : List ExtensionView) (xs : List Extended) → AllZip IsExtended es xs → resolved_in xs ≡ all_resolved es
+pub resolved_are : (es : List ExtensionView) (xs : List Extended) → AllZip IsExtended es xs → resolved_in xs ≡ all_resolved es
 resolved_are [] [] all = refl
 resolved_are [] (x ∷ xs) all = absurd all
 resolved_are (e ∷ es) [] all = absurd all
@@ -23,7 +23,7 @@ resolved_are (e ∷ es) (x ∷ xs) all = λ j. all.0.resolved_is j ∷ resolved_
 
 module _ (host : CertifiedView) (es : List ExtensionView) (l : LanguageView) (withdrawn : List ℕ)
     (composed : IsComposed host es l withdrawn) where
-  abbrev union_is : Union host.resolved host.operations (all_resolved es)
+  abbrev pub union_is : Union host.resolved host.operations (all_resolved es)
   union_is = record {
     grammar = composed.grammar;
     extended = composed.extended;

@@ -1,6 +1,6 @@
 mod TableLemmas
 mod NameLemmas
 pub mod AnswerLemmas
-mod ComposedLemmas
+pub mod ComposedLemmas
 pub mod WithdrawnLemmas
 pub mod AgreesLemmas

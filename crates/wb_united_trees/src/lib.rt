@@ -12,5 +12,5 @@ mod withdrawn;
 
 pub use names::united_terminals;
 pub use signatures::united_signatures;
-pub use text::united_text_answer;
+pub use text::{united_stop, united_text_answer};
 pub use withdrawn::withdrawn_names;

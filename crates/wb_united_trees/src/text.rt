@@ -44,6 +44,24 @@ pub fn united_text_answer(
     answer_of(alloc, host, extensions, &store, parsed)
 }
 
+/// Why a text stops, by names. The only error is want of memory.
+pub fn united_stop(
+    alloc: Global,
+    host: &CertifiedHost,
+    extensions: &[CertifiedExtension],
+    kind: StopKind,
+) -> Result<ShownStop, AllocError>
+    ensures { IfOk result (λ shown. shown ≡ stop_shown (terminals_of host.now.resolved (all_resolved extensions.now)) kind) }
+{
+    match kind {
+        StopKind::NoToken => Ok(ShownStop::NoToken),
+        StopKind::Unexpected(terminal) => {
+            let name = united_name(alloc, host, extensions, terminal)?;
+            Ok(ShownStop::Unexpected(name))
+        }
+    }
+}
+
 // The answer for what a text was parsed to.
 fn answer_of(
     alloc: Global,
@@ -61,7 +79,7 @@ fn answer_of(
             printed(alloc, &signatures, store, tree)
         }
         Parsed::Stopped { at, kind } => {
-            let stop = stop_of(alloc, host, extensions, kind)?;
+            let stop = united_stop(alloc, host, extensions, kind)?;
             Ok(TextAnswer::Stopped { at, stop })
         }
     }
@@ -81,24 +99,6 @@ fn printed(
         Ok(text) => Ok(TextAnswer::Tree(Bytes::from_vec(text)?)),
         Err(PrintRefusal::TooLong) => Ok(TextAnswer::TooLong),
         Err(PrintRefusal::NoMemory(error)) => Err(error),
-    }
-}
-
-// Why a text stops, by names.
-fn stop_of(
-    alloc: Global,
-    host: &CertifiedHost,
-    extensions: &[CertifiedExtension],
-    kind: StopKind,
-) -> Result<ShownStop, AllocError>
-    ensures { IfOk result (λ shown. shown ≡ stop_shown (terminals_of host.now.resolved (all_resolved extensions.now)) kind) }
-{
-    match kind {
-        StopKind::NoToken => Ok(ShownStop::NoToken),
-        StopKind::Unexpected(terminal) => {
-            let name = united_name(alloc, host, extensions, terminal)?;
-            Ok(ShownStop::Unexpected(name))
-        }
     }
 }
 

@@ -4,7 +4,7 @@ use Rattle.wb_attributes.specs.Occurrences.{Goes}
 use Rattle.wb_resolved.specs.declared.attributes.Direction.TheVariants.{Synthesized}
 use Rattle.wb_resolved.specs.declared.attributes.Occurrence.{Occurrence}
 use Rattle.wb_resolved.specs.declared.attribution.AttributionParts.{AttributionParts}
-use Rattle.wb_root_values.specs.Answers.{IsPrintedAs}
+use Rattle.wb_root_values.specs.Asked.{IsPrintedAs}
 
 module _ (a : AttributionParts) (name : List ℕ) where
   -- the attribute is synthesized and printed so

@@ -1,9 +1,13 @@
+use Rattle.std.proofs.Common.{subst}
+use Rattle.wb_resolved.specs.declared.attribution.AttributionParts.{AttributionParts}
+use Rattle.wb_values.specs.Fits.{FitsTree}
 use Rattle.wb_values.specs.ValuesIn.{tree_in}
-use Rattle.wb_root_values.proofs.AskedLemmas.{asked_read}
+use Rattle.wb_root_values.proofs.AskedLemmas.{asked_there}
 use Rattle.wb_root_values.proofs.asked.asked_at.Goals as goal
 
 pub returns : goal.returns
 returns c =
-    asked_read c.args.attributes.now c.parts-parts.result.now c.parts-parts.ensures.whole c.parts-parts.ensures.parts c.args.name.now
-    (tree_in c.args.store.now c.args.root.0) c.nonterminal_of-nonterminal.result c.nonterminal_of-nonterminal.ensures c.free_on.result
-    c.free_on.ensures
+    let top = tree_in c.args.store.now c.args.root.0 in
+    asked_there c.args.attributes.now c.args.name.now top c.nonterminal_of-nonterminal.result
+    (subst (λ (a : AttributionParts). FitsTree a.signatures top c.nonterminal_of-nonterminal.result) c.parts.ensures.parts
+    c.nonterminal_of-nonterminal.ensures) c.asked_on.result c.asked_on.ensures

@@ -1,0 +1,2 @@
+-- what comes of what a text was parsed to
+pub mod Parsed
