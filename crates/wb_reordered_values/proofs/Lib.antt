@@ -1,0 +1,5 @@
+pub mod LanguageLemmas
+pub mod UnionLemmas
+pub mod ProductionLemmas
+pub mod AttributeLemmas
+pub mod OrderLemmas
