@@ -1,11 +1,11 @@
 -- Choosing a production: some may be chosen, and the one at a place is found by counting.
-use Rattle.std.proofs.Common.{◌≡◌, ℕ, ◌+◌, zero, suc, ◌<◌, ◌≤◌, ◌/◌, ◌%◌, min, Bool, true, false, cond, not, ◌&&◌, ◌||◌, List, [], ◌∷◌}
-use Rattle.std.proofs.Common.{length, get_or, take, refl, sym, ◌∙◌, ap, subst, inl, inr, arith, Some, None}
-use Rattle.std.specs.Prelude.{slice_get, slice_index, Option, IfSome, nat_le, nat_lt, ◌==◌}
+use Rattle.std.proofs.Common.{◌≡◌, ℕ, ◌+◌, zero, suc, ◌<◌, ◌≤◌, min, Bool, true, false, cond, ◌&&◌, List, [], ◌∷◌}
+use Rattle.std.proofs.Common.{length, take, refl, sym, ◌∙◌, ap, subst, inl, inr, arith, Some}
+use Rattle.std.specs.Prelude.{slice_get, slice_index, nat_le, nat_lt, ◌==◌}
 use Rattle.std.specs.List.{filter}
 use Rattle.std.proofs.Math.Nat.{min-eq_left, min-eq_right}
 use Rattle.std.proofs.lemmas.List.{get_or_past}
-use Rattle.std.proofs.lemmas.Option.{slice_get_within, slice_get-get_or}
+use Rattle.std.proofs.lemmas.Option.{slice_get_within}
 use Rattle.std.proofs.lemmas.Bool.{true≢false, cases_lt, leb-true, le-leb, lt-leb, eqb-true, eq-eqb, lt-ltb}
 use Rattle.wb_base.specs.declared.symbol.Symbol.{Symbol}
 use Rattle.wb_base.specs.declared.symbol.Symbol.TheVariants.{Nonterminal}
@@ -14,10 +14,10 @@ use Rattle.wb_grammars.specs.Productions.{IsProduction}
 use Rattle.wb_grammars.specs.Trees.{Forest, nothing, leaf, node, symbols, IsDerived}
 use Rattle.wb_languages.specs.Bounds.{count}
 use Rattle.wb_generate.specs.Counts.{AreLeast, total}
-use Rattle.wb_generate.specs.Draws.{admits, candidates, wants, chosen_of, IsChosen}
+use Rattle.wb_generate.specs.Draws.{admits, candidates, wants, IsChosen}
 
 -- an element that passes the test is among those that do, after as many as pass before it
-pub filter_at : (test : Production → Bool) (xs : List Production) (i : ℕ) (x : Production) → slice_get xs i ≡ Some x → test x ≡ true →
+pub filter_at : {X : Type 0} (test : X → Bool) (xs : List X) (i : ℕ) (x : X) → slice_get xs i ≡ Some x → test x ≡ true →
     slice_get (filter test xs) (length (filter test (take i xs))) ≡ Some x
 filter_at test [] i x e t = cc
 filter_at test (y ∷ xs) zero x e t =
@@ -112,10 +112,6 @@ all_true : (a b : Bool) → a ≡ true → b ≡ true → (a && b) ≡ true
 all_true true b e f = f
 all_true false b e f = absurd (true≢false (sym e))
 
-with_or : (b : Bool) → (b && (not false || true)) ≡ b
-with_or true = refl
-with_or false = refl
-
 -- so some production may be chosen
 pub some_candidate : (g : GrammarView) (limit : ℕ) (counts : List ℕ) (a spare : ℕ) → AreLeast g limit counts → a < g.nonterminals →
     slice_index counts a < limit → 0 < length (candidates g counts a spare false)
@@ -144,61 +140,6 @@ lt_stopped t limit m lt =
       | inr past ↦ (let e : nat_lt m limit ≡ true = lt-ltb m limit lt in let f : nat_lt m t ≡ true = lt-ltb m t (omega arith) in
           ap (λ z. nat_lt m z) (min-eq_right (omega arith)) ∙ e ∙ sym f)
     ]
-
--- the whole test, by a count that stops
-pub test_is : (counts : List ℕ) (a spare limit least : ℕ) (grow : Bool) (left : ℕ) (right : List Symbol) →
-    spare + slice_index counts a < limit →
-    least ≡ min (total counts right) limit →
-    ((left == a) && (nat_le least (spare + slice_index counts a) && (not grow || nat_lt (slice_index counts a) least)))
-    ≡ admits counts a spare grow (left, right)
-test_is counts a spare limit least grow left right lt is =
-    let m : ℕ = spare + slice_index counts a in
-    let t : ℕ = total counts right in
-    let one : nat_le least m ≡ nat_le t m = ap (λ z. nat_le z m) is ∙ le_stopped t limit m lt in
-    let two : nat_lt (slice_index counts a) least ≡ nat_lt (slice_index counts a) t =
-    ap (λ z. nat_lt (slice_index counts a) z) is ∙ lt_stopped t limit (slice_index counts a) (omega arith) in
-    ap (λ z. (left == a) && (z && (not grow || nat_lt (slice_index counts a) least))) one
-    ∙ ap (λ z. (left == a) && (nat_le t m && (not grow || z))) two
-
-not_zero : (n : ℕ) (b : Bool) → (not (n == 0) && b) ≡ true → 0 < n
-not_zero zero b e = absurd (true≢false (sym e))
-not_zero (suc n) b e = omega arith
-
--- among which a number chooses, there is one
-pub some_chosen : (g : GrammarView) (limit : ℕ) (counts : List ℕ) (a spare r : ℕ) (grow : Bool) → AreLeast g limit counts →
-    a < g.nonterminals →
-    slice_index counts a < limit → grow ≡ wants g counts a spare r → 0 < length (candidates g counts a spare grow)
-some_chosen g limit counts a spare r false least lt less is = some_candidate g limit counts a spare least lt less
-some_chosen g limit counts a spare r true least lt less is =
-    not_zero (length (candidates g counts a spare true)) (not (r % 4 == 0)) (sym is)
-
--- the production that was found is the chosen one
-pub chosen_found : (g : GrammarView) (counts : List ℕ) (a spare r : ℕ) (grow : Bool) (place p : ℕ) → grow ≡ wants g counts a spare r →
-    place ≡ r / 4 % length (candidates g counts a spare grow) →
-    slice_get (candidates g counts a spare grow) place ≡ slice_get g.productions p →
-    IfSome (slice_get g.productions p) (λ rule. IsChosen g counts a spare r rule.1)
-chosen_found g counts a spare r grow place p is at found = go (slice_get g.productions p) refl
-  where
-    go : (o : Option Production) → slice_get g.productions p ≡ o → IfSome o (λ rule. IsChosen g counts a spare r rule.1)
-    go None e = tt
-    go (Some (left, right)) e =
-        let there : slice_get (candidates g counts a spare grow) place ≡ Some (left, right) = found ∙ e in
-        let f = filter_from (admits counts a spare grow) g.productions place (left, right) there in
-        let same : left ≡ a = (admitted counts a spare grow (left, right) f.2).0 in
-        subst (λ b. chosen_of (candidates g counts a spare b) r ≡ Some (a, right)) is
-        (ap (slice_get (candidates g counts a spare grow)) (sym at) ∙ there ∙ ap (λ z. Some (z, right)) same)
-
--- the chosen production, by its right side as it was read
-pub chosen_read : (g : GrammarView) (counts : List ℕ) (a spare r x p : ℕ) (right : List Symbol) → x ≡ r → p < length g.productions →
-    IfSome (slice_get g.productions p) (λ rule. IsChosen g counts a spare x rule.1) →
-    IfSome (slice_get g.productions p) (λ rule. right ≡ rule.1) →
-    IsChosen g counts a spare r right
-chosen_read g counts a spare r x p right same lt chosen is =
-    let at : slice_get g.productions p ≡ Some (get_or g.productions p (0, [])) = slice_get-get_or g.productions p (0, []) lt in
-    let one : IsChosen g counts a spare x (get_or g.productions p (0, [])).1 =
-    subst (λ o. IfSome o (λ rule. IsChosen g counts a spare x rule.1)) at chosen in
-    let two : right ≡ (get_or g.productions p (0, [])).1 = subst (λ o. IfSome o (λ rule. right ≡ rule.1)) at is in
-    subst (λ z. IsChosen g counts a spare z right) same (subst (IsChosen g counts a spare x) (sym two) one)
 
 pub chosen_low : (g : GrammarView) (counts : List ℕ) (a spare r : ℕ) (right : List Symbol) → IsChosen g counts a spare r right →
     total counts right ≤ spare + slice_index counts a

@@ -1,9 +1,9 @@
--- Least counts: passes that lower them keep what they mean, and what no production lowers is least.
+-- Least counts: lowering them keeps what they mean, and what no production lowers is least.
 use Rattle.std.proofs.Common.{◌≡◌, ℕ, ◌+◌, zero, suc, ◌<◌, ◌≤◌, ◌⊎◌, min, Bool, true, false, List, [], ◌∷◌, ◌++◌, length, get_or, set}
 use Rattle.std.proofs.Common.{replicate, take, refl, sym, ◌∙◌, ap, subst, get_or-set_same, get_or-set_other, inl, inr, arith, length-set}
-use Rattle.std.specs.Prelude.{All, slice_index}
+use Rattle.std.specs.Prelude.{All, ◌↔◌, slice_index}
 use Rattle.std.specs.List.{sum}
-use Rattle.std.proofs.Math.Nat.{min-le_left, min-eq_left, min-eq_right}
+use Rattle.std.proofs.Math.Nat.{min-eq_left, min-eq_right}
 use Rattle.std.proofs.lemmas.List.{get_or-replicate, get_or_past, length-replicate, take_more}
 use Rattle.std.proofs.lemmas.List.Elements.{All-head, All-tail}
 use Rattle.std.proofs.lemmas.List.Sums.{sum_by-set}
@@ -13,13 +13,12 @@ use Rattle.wb_base.specs.declared.symbol.Symbol.TheVariants.{Terminal, Nontermin
 use Rattle.wb_base.specs.Grammar.{GrammarView, IsSymbolBelow}
 use Rattle.wb_grammars.specs.Productions.{IsProduction}
 use Rattle.wb_grammars.specs.Trees.{Forest, nothing, leaf, node, symbols, IsDerived}
-use Rattle.wb_grammars.proofs.ProductionLemmas.{production_once, production_within}
 use Rattle.wb_languages.specs.Bounds.{count}
 use Rattle.wb_languages.specs.Machine.{joined}
 use Rattle.wb_languages.proofs.ForestLemmas.{symbols_joined, derived_joined}
 use Rattle.wb_languages.proofs.TreeBounds.{count_joined}
 use Rattle.wb_generate.specs.Counts.{HasTree, AreLeast, least_of, total}
-use Rattle.wb_generate.specs.Inner.Passes.{AreReached, IsLowAt, IsPass}
+use Rattle.wb_generate.specs.Inner.Lowerings.{AreReached}
 
 -- a number that is read at a place
 same_default : (xs : List ℕ) (i d e : ℕ) → i < length xs → get_or xs i d ≡ get_or xs i e
@@ -145,52 +144,12 @@ pub sum_lower : (counts : List ℕ) (a least : ℕ) → a < length counts → le
 sum_lower counts a least lt less =
     let e : sum (set counts a least) + slice_index counts a ≡ sum counts + least = sum_by-set (λ x. x) counts a least 0 lt in omega arith
 
--- a production that doesn't lower
-pub low_here : (g : GrammarView) (limit : ℕ) (counts : List ℕ) (p a least : ℕ) (right : List Symbol) → IsProduction g p a right →
-    least ≡ min (total counts right) limit → slice_index counts a ≤ least → IsLowAt g counts p
-low_here g limit counts p a least right rule is low b other rule' =
-    let same = production_once g p a b right other rule rule' in
-    let e : slice_index counts b ≡ slice_index counts a = ap (slice_index counts) (sym same.0) in
-    let f : total counts other ≡ total counts right = ap (total counts) (sym same.1) in
-    let h : min (total counts right) limit ≤ total counts right = min-le_left (total counts right) limit in
-    omega arith
-
--- one production more of a pass
-pub pass_lowered : (g : GrammarView) (limit : ℕ) (before counts new : List ℕ) (p : ℕ) (some : Bool) → IsPass g limit before counts p some →
-    AreReached g limit new → sum new < sum counts → IsPass g limit before new (p + 1) true
-pass_lowered g limit before counts new p some pass reached less = record {
-  reached = reached;
-  lowered = λ e. less_sum some refl;
-  same = λ e. absurd (true≢false e);
-  low = λ e. absurd (true≢false e);
-}
-  where
-    less_sum : (b : Bool) → some ≡ b → sum new < sum before
-    less_sum true e = (let h : sum counts < sum before = pass.lowered e in omega arith)
-    less_sum false e = (let h : sum counts ≡ sum before = ap sum (pass.same e) in omega arith)
-
-pub pass_same : (g : GrammarView) (limit : ℕ) (before counts new : List ℕ) (p : ℕ) (some : Bool) → IsPass g limit before counts p some →
-    new ≡ counts → IsLowAt g new p → IsPass g limit before new (p + 1) some
-pass_same g limit before counts new p some pass is low = record {
-  reached = subst (AreReached g limit) (sym is) pass.reached;
-  lowered = λ e. subst (λ z. sum z < sum before) (sym is) (pass.lowered e);
-  same = λ e. is ∙ pass.same e;
-  low = λ e q lt. elim (cases_eq q p) [
-    | inl at ↦ subst (IsLowAt g new) (sym at) low
-    | inr other ↦ subst (λ z. IsLowAt g z q) (sym is) (pass.low e q (omega arith))
-  ];
-}
-
-pub pass_none : (g : GrammarView) (limit : ℕ) (counts : List ℕ) → AreReached g limit counts → IsPass g limit counts counts 0 false
-pass_none g limit counts reached = record {
-  reached = reached;
-  lowered = λ e. absurd (true≢false (sym e));
-  same = λ e. refl;
-  low = λ e q lt. absurd (omega arith);
-}
+-- the count of each production's left side isn't above the sum of its right side
+abbrev pub AreLow : GrammarView → List ℕ → Type 0
+AreLow g counts = (p a : ℕ) (right : List Symbol) → IsProduction g p a right → slice_index counts a ≤ total counts right
 
 -- what no production lowers is at most what trees have
-pub low_forest : (g : GrammarView) (counts : List ℕ) → ((p : ℕ) → p < length g.productions → IsLowAt g counts p) → (f : Forest) →
+pub low_forest : (g : GrammarView) (counts : List ℕ) → AreLow g counts → (f : Forest) →
     IsDerived g f →
     total counts (symbols f) ≤ count f
 low_forest g counts low nothing d = omega arith
@@ -198,11 +157,11 @@ low_forest g counts low (leaf t l r) d = let i : total counts (symbols r) ≤ co
 low_forest g counts low (node p a k r) (rule, dk, dr) =
     let i : total counts (symbols k) ≤ count k = low_forest g counts low k dk in
     let j : total counts (symbols r) ≤ count r = low_forest g counts low r dr in
-    let h : slice_index counts a ≤ total counts (symbols k) = low p (production_within g p a (symbols k) rule) a (symbols k) rule in
+    let h : slice_index counts a ≤ total counts (symbols k) = low p a (symbols k) rule in
     omega arith
 
 pub least_from : (g : GrammarView) (limit : ℕ) (counts : List ℕ) → AreReached g limit counts →
-    ((p : ℕ) → p < length g.productions → IsLowAt g counts p) → AreLeast g limit counts
+    AreLow g counts → AreLeast g limit counts
 least_from g limit counts reached low = record {
   len = reached.len;
   each = λ a lt. record {
@@ -228,3 +187,23 @@ reached_start g limit = record {
   ];
   each = λ a lt. inl (get_or-replicate g.nonterminals a limit 0 lt);
 }
+
+-- least counts are reached
+pub reached_of : (g : GrammarView) (limit : ℕ) (counts : List ℕ) → AreLeast g limit counts → AreReached g limit counts
+reached_of g limit counts least = record {
+  len = least.len;
+  most = λ a. elim (cases_lt a g.nonterminals) [
+    | inl lt ↦ (least.each a lt).most
+    | inr past ↦
+        let e : slice_index counts a ≡ 0 = get_or_past counts a 0 (omega (arith, past, least.len)) in
+        omega (arith, e)
+  ];
+  each = λ a lt. (least.each a lt).reached;
+}
+
+-- what a test of a count says where it fails
+pub above_of : (b : Bool) (m n : ℕ) → (b ≡ true) ↔ (m ≤ n) → b ≡ false → n < m
+above_of b m n test fails = elim (cases_lt n m) [
+  | inl lt ↦ lt
+  | inr past ↦ absurd (true≢false (sym (test.1 past) ∙ fails))
+]

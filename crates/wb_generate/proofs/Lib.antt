@@ -1,5 +1,13 @@
 mod CountLemmas
+mod GroupLemmas
+mod LoweringLemmas
 mod ChoiceLemmas
-mod MakeLemmas
-mod TextLemmas
+mod RoomLemmas
 mod LoopLemmas
+mod MakeLemmas
+mod FormLemmas
+mod ReplaceLemmas
+mod RunLemmas
+mod BoundLemmas
+pub mod OneLemmas
+mod TextLemmas

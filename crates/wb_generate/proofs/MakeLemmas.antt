@@ -1,9 +1,9 @@
 -- Making leaves: one step after another leads to what the form becomes, and what it becomes are the leaves of trees.
-use Rattle.std.proofs.Common.{◌≡◌, ℕ, ◌+◌, ◌-◌, zero, suc, ◌<◌, ◌≤◌, List, [], ◌∷◌, ◌++◌, length, get_or, reverse, refl, sym, ◌∙◌, ap, subst}
+use Rattle.std.proofs.Common.{◌≡◌, ℕ, ◌+◌, ◌-◌, zero, suc, ◌<◌, ◌≤◌, List, [], ◌∷◌, ◌++◌, length, get_or, refl, sym, ◌∙◌, ap, subst}
 use Rattle.std.proofs.Common.{inl, inr, arith, append_assoc}
 use Rattle.std.specs.Prelude.{All, Option, slice_index}
 use Rattle.wb_regex.specs.Tree.{Tree}
-use Rattle.std.proofs.lemmas.List.{append-nil, reverse-append, reverse-reverse}
+use Rattle.std.proofs.lemmas.List.{append-nil}
 use Rattle.std.proofs.lemmas.Option.{get_or_from_slice_get, slice_get_within}
 use Rattle.std.proofs.lemmas.List.Elements.{All-head, All-tail, All-append, All-get_or}
 use Rattle.wb_base.specs.declared.symbol.Symbol.{Symbol}
@@ -22,7 +22,7 @@ use Rattle.wb_generate.specs.Draws.{draw, upper, IsChosen}
 use Rattle.wb_generate.specs.Making.{Makes, over, shown, removed, replaced}
 use Rattle.wb_generate.specs.Texts.{IsWritten}
 use Rattle.wb_generate.specs.Outcomes.{IsSentence, HasNoSentence}
-use Rattle.wb_generate.specs.Inner.States.{State, before_form, IsFit, Leads, GoesOn}
+use Rattle.wb_generate.specs.Inner.States.{State, before, IsFit, Leads, GoesOn}
 use Rattle.wb_generate.proofs.CountLemmas.{total_append}
 use Rattle.wb_generate.proofs.ChoiceLemmas.{chosen_rule}
 
@@ -32,7 +32,7 @@ terminals_in nothing = []
 terminals_in (leaf t l r) = t ∷ terminals_in r
 terminals_in (node p a k r) = terminals_in k ++ terminals_in r
 
-terminals_are : (prefix : List Symbol) (f : Forest) → terminals_of (leaves prefix f) ≡ terminals_in f
+pub terminals_are : (prefix : List Symbol) (f : Forest) → terminals_of (leaves prefix f) ≡ terminals_in f
 terminals_are prefix nothing = refl
 terminals_are prefix (leaf t l r) = ap (λ z. t ∷ z) (terminals_are (prefix ++ Terminal t ∷ []) r)
 terminals_are prefix (node p a k r) =
@@ -50,7 +50,7 @@ length_append : (a b : List ℕ) → length (a ++ b) ≡ length a + length b
 length_append [] b = omega arith
 length_append (x ∷ a) b = (let i : length (a ++ b) ≡ length a + length b = length_append a b in omega arith)
 
-count_is : (f : Forest) → count f ≡ length (terminals_in f)
+pub count_is : (f : Forest) → count f ≡ length (terminals_in f)
 count_is nothing = refl
 count_is (leaf t l r) = (let i : count r ≡ length (terminals_in r) = count_is r in omega arith)
 count_is (node p a k r) =
@@ -194,8 +194,8 @@ goes_shown g counts most s u t fit form spare number made =
     }
 
 -- a nonterminal of which no leaf may come is removed
-pub goes_removed : (g : GrammarView) (counts : List ℕ) (most : ℕ) (a : ℕ) (s : State) → IsFit g counts most (before_form a s) →
-    s.spare + slice_index counts a ≡ 0 → GoesOn g counts most (before_form a s) s
+pub goes_removed : (g : GrammarView) (counts : List ℕ) (most : ℕ) (a : ℕ) (s : State) → IsFit g counts most (before (Nonterminal a) s) →
+    s.spare + slice_index counts a ≡ 0 → GoesOn g counts most (before (Nonterminal a) s) s
 goes_removed g counts most a s fit none =
     let few : s.spare + (slice_index counts a + total counts s.form) ≤ most = fit.few in
     record {
@@ -205,11 +205,11 @@ goes_removed g counts most a s fit none =
 
 -- another is replaced by the right side that the next draw chooses
 pub goes_replaced : (g : GrammarView) (counts : List ℕ) (most : ℕ) (a : ℕ) (right : List Symbol) (s u : State) →
-    IsFit g counts most (before_form a s) → All (IsSymbolBelow g.terminals g.nonterminals) right → 0 < s.spare + slice_index counts a →
+    IsFit g counts most (before (Nonterminal a) s) → All (IsSymbolBelow g.terminals g.nonterminals) right → 0 < s.spare + slice_index counts a →
     IsChosen g counts a s.spare (upper (draw s.number)) right →
     u.form ≡ right ++ s.form → u.spare ≡ s.spare - (total counts right - slice_index counts a) → u.number ≡ draw s.number →
     u.made ≡ s.made →
-    GoesOn g counts most (before_form a s) u
+    GoesOn g counts most (before (Nonterminal a) s) u
 goes_replaced g counts most a right s u fit known some chosen form spare number made =
     let few : s.spare + (slice_index counts a + total counts s.form) ≤ most = fit.few in
     let rule = chosen_rule g counts a s.spare (upper (draw s.number)) right chosen in
@@ -243,10 +243,6 @@ one_known P x p = λ k d lt. at_first k d lt
     at_first : (k : ℕ) (d : Symbol) → k < 1 → P (get_or (x ∷ []) k d)
     at_first zero d lt = p
     at_first (suc k) d lt = absurd (omega arith)
-
--- a form on which a right side was pushed backwards
-pub pushed_form : (old new right : List Symbol) → new ≡ old ++ reverse right → reverse new ≡ right ++ reverse old
-pushed_form old new right e = ap reverse e ∙ reverse-append old (reverse right) ∙ ap (λ z. z ++ reverse old) (reverse-reverse right)
 
 -- what a call answers
 pub sentence_of : (g : GrammarView) (expressions : List Tree) (layout : Option ℕ) (number size : ℕ) (text made counts : List ℕ) (many : ℕ)

@@ -1,3 +1,6 @@
 -- What loops keep, and words of private functions.
-pub mod Passes
+pub mod Groups
+pub mod Lowerings
+pub mod Choices
 pub mod States
+pub mod Runs

@@ -8,5 +8,7 @@ pub mod Making
 pub mod Texts
 -- what a call answers
 pub mod Outcomes
+-- laws of these
+pub mod Laws
 -- what only proofs need
 pub mod Inner

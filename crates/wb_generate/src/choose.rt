@@ -1,45 +1,41 @@
-//! Which production replaces a nonterminal?
+//! Which production replaces a nonterminal? Only those of the nonterminal are looked at.
+//!
+//! Productions are told apart by the least counts of their right sides alone, so the grammar isn't looked at.
 
-ghost use Rattle.std.specs.Prelude.{◌≡◌, ◌↔◌, ◌/◌, ◌%◌, ◌^◌, ◌==◌, true, cond, IsTrue, ◌<◌, ◌≤◌, ◌+◌, ◌&&◌, ◌||◌, not, nat_le, nat_lt, ℕ, Bool, IfSome, Some, length, slice_get, slice_index};
-ghost use Rattle.wb_base.specs.declared.symbol.Symbol.{Symbol};
-ghost use Rattle.wb_base.specs.Grammar.{Production};
-ghost use Rattle.wb_grammars.specs.Productions.{IsProduction};
-ghost use Rattle.wb_generate.specs.Counts.{AreLeast};
-ghost use Rattle.wb_generate.specs.Draws.{admits, candidates, wants, IsChosen};
+ghost use Rattle.std.specs.Prelude.{◌≡◌, ◌↔◌, ◌/◌, ◌%◌, ◌^◌, ◌==◌, true, cond, IsTrue, ◌<◌, ◌≤◌, ◌+◌, ◌&&◌, not, nat_le, ℕ, All, Some, length, slice_get, slice_index};
+ghost use Rattle.wb_generate.specs.Inner.Choices.{between, is_between, low_of, number_of};
 
-use crate::counts::least_total;
-use wb_base::Grammar;
-
-// The production of a nonterminal that a number chooses, where so many leaves are to spare.
-pub(crate) fn choose(grammar: &Grammar, counts: &[u64], a: usize, spare: u64, number: u64) -> usize
-    requires nonterminal { a < grammar.now.nonterminals }
-    requires least { AreLeast grammar.now 100001 counts.now }
-    requires few { spare + slice_index counts.now a ≤ 100000 }
-    ensures below { result < length grammar.now.productions }
-    ensures chosen { IfSome (slice_get grammar.now.productions result) (λ rule. IsChosen grammar.now counts.now a spare number rule.1) }
+// The production that a number chooses, of those of a nonterminal that has at least so many leaves, where so many are to spare.
+pub(crate) fn choose(
+    numbers: &[usize],
+    totals: &[u64],
+    least: u64,
+    spare: u64,
+    number: u64,
+) -> usize
+    requires some { 0 < length (between totals.now 0 (spare + least) numbers.now) }
+    requires known { All (λ p. p < length totals.now) numbers.now }
+    requires few { spare + least ≤ 100000 }
+    ensures { number_of totals.now least spare numbers.now number ≡ Some result }
 {
-    let grow = has_to_grow(grammar, counts, a, spare, number);
-    let many = count(grammar, counts, a, spare, grow);
+    let high = spare + least;
+    let growing = count(numbers, totals, least + 1, high);
+    let low = lowest(growing, least, number);
+    let many = count(numbers, totals, low, high);
     let place = place_of(number, many);
-    find(grammar, counts, a, spare, grow, place)
+    find(numbers, totals, low, high, place)
 }
 
-// Whether the number chooses among those that grow.
-fn has_to_grow(grammar: &Grammar, counts: &[u64], a: usize, spare: u64, number: u64) -> bool
-    requires nonterminal { a < grammar.now.nonterminals }
-    requires least { AreLeast grammar.now 100001 counts.now }
-    requires few { spare + slice_index counts.now a ≤ 100000 }
-    ensures { result ≡ wants grammar.now counts.now a spare number }
+// The least sum that a number chooses, where so many productions have more leaves than needed.
+fn lowest(growing: u64, least: u64, number: u64) -> u64
+    requires { least ≤ 100000 }
+    ensures { result ≡ cond (not (growing == 0) && not (number % 4 == 0)) (least + 1) 0 }
 {
-    let growing = count(grammar, counts, a, spare, true);
-    grows_by(growing, number)
-}
-
-// The same, where so many grow.
-fn grows_by(growing: u64, number: u64) -> bool
-    ensures { result ≡ (not (growing == 0) && not (number % 4 == 0)) }
-{
-    growing != 0 && number % 4 != 0
+    if growing != 0 && number % 4 != 0 {
+        least + 1
+    } else {
+        0
+    }
 }
 
 // The place that a number chooses.
@@ -51,35 +47,29 @@ fn place_of(number: u64, many: u64) -> u64
     number / 4 % many
 }
 
-// How many productions may be chosen.
-fn count(grammar: &Grammar, counts: &[u64], a: usize, spare: u64, grow: bool) -> u64
-    requires nonterminal { a < grammar.now.nonterminals }
-    requires least { AreLeast grammar.now 100001 counts.now }
-    requires few { spare + slice_index counts.now a ≤ 100000 }
-    ensures { result ≡ length (candidates grammar.now counts.now a spare grow) }
+// How many of the productions have a sum in the range.
+fn count(numbers: &[usize], totals: &[u64], low: u64, high: u64) -> u64
+    requires { All (λ p. p < length totals.now) numbers.now }
+    ensures { result ≡ length (between totals.now low high numbers.now) }
 {
     let mut many = 0;
-    'productions: for production in 0..grammar.productions() {
-        let may = may_choose(grammar, counts, production, a, spare, grow);
-        many = next_count(many, may);
+    'numbers: for &number in numbers {
+        many = next_count(many, is_within(totals[number], low, high));
     }
     many
 }
 
-// The production at a place among those that may be chosen.
-fn find(grammar: &Grammar, counts: &[u64], a: usize, spare: u64, grow: bool, place: u64) -> usize
-    requires nonterminal { a < grammar.now.nonterminals }
-    requires least { AreLeast grammar.now 100001 counts.now }
-    requires few { spare + slice_index counts.now a ≤ 100000 }
-    requires place { place < length (candidates grammar.now counts.now a spare grow) }
-    ensures below { result < length grammar.now.productions }
-    ensures at { slice_get (candidates grammar.now counts.now a spare grow) place ≡ slice_get grammar.now.productions result }
+// The production at a place among those that have a sum in the range.
+fn find(numbers: &[usize], totals: &[u64], low: u64, high: u64, wanted: u64) -> usize
+    requires known { All (λ p. p < length totals.now) numbers.now }
+    requires place { wanted < length (between totals.now low high numbers.now) }
+    ensures { slice_get (between totals.now low high numbers.now) wanted ≡ Some result }
 {
     let mut passed = 0;
-    'productions: for production in 0..grammar.productions() {
-        let may = may_choose(grammar, counts, production, a, spare, grow);
-        if is_found(may, passed, place) {
-            return production;
+    'numbers: for &number in numbers {
+        let may = is_within(totals[number], low, high);
+        if is_found(may, passed, wanted) {
+            return number;
         }
         passed = next_count(passed, may);
     }
@@ -101,34 +91,9 @@ fn is_found(may: bool, passed: u64, place: u64) -> bool
     may && passed == place
 }
 
-// Whether the production may be chosen.
-fn may_choose(
-    grammar: &Grammar,
-    counts: &[u64],
-    production: usize,
-    a: usize,
-    spare: u64,
-    grow: bool,
-) -> bool
-    requires production { production < length grammar.now.productions }
-    requires nonterminal { a < grammar.now.nonterminals }
-    requires least { AreLeast grammar.now 100001 counts.now }
-    requires few { spare + slice_index counts.now a ≤ 100000 }
-    ensures { IfSome (slice_get grammar.now.productions production) (λ rule. result ≡ admits counts.now a spare grow rule) }
+// Whether a sum is in the range.
+fn is_within(total: u64, low: u64, high: u64) -> bool
+    ensures { result ≡ (nat_le low total && nat_le total high) }
 {
-    grammar.left(production) == a
-        && has_room(
-            least_total(grammar.right(production), counts),
-            counts[a],
-            spare,
-            grow,
-        )
-}
-
-// Whether a right side with this count may replace a nonterminal with that one.
-fn has_room(total: u64, least: u64, spare: u64, grow: bool) -> bool
-    requires { spare + least ≤ 100000 }
-    ensures { result ≡ (nat_le total (spare + least) && (not grow || nat_lt least total)) }
-{
-    total <= spare + least && (!grow || least < total)
+    low <= total && total <= high
 }

@@ -1,28 +1,39 @@
-//! How many leaves do the trees of each nonterminal have at the least? Passes over the productions lower the counts until none is lowered.
-//!
-//! Counts stop at 100,001, since no text may have more leaves than 100,000.
+//! How many leaves do the trees of each nonterminal have at the least? Knuth's generalization of Dijkstra's algorithm: the nonterminals
+//! with the fewest leaves come first, and lower the counts of those whose right sides they are in.
 
-ghost use Rattle.std.specs.Prelude.{◌≡◌, ◌<◌, ◌≤◌, ℕ, All, IfOk, IsTrue, false, length, min, replicate, slice_index};
-ghost use Rattle.std.specs.List.{sum};
-ghost use Rattle.wb_base.specs.declared.symbol.Symbol.{Symbol};
-ghost use Rattle.wb_base.specs.Grammar.{IsGrammar, IsSymbolBelow};
-ghost use Rattle.wb_generate.specs.Counts.{AreLeast, least_of, total};
-ghost use Rattle.wb_generate.specs.Inner.Passes.{AreReached, IsLowAt};
+ghost use Rattle.std.specs.Prelude.{◌≡◌, ◌↔◌, ◌+◌, ◌<◌, ◌≤◌, ℕ, All, IfOk, IsTrue, OnOk, [], ◌∷◌, length, replicate};
+ghost use Rattle.std.specs.BinaryHeap.{heap_items};
+ghost use Rattle.wb_generate.specs.Counts.{AreLeast};
+ghost use Rattle.wb_generate.specs.Inner.Groups.{AreUses};
+ghost use Rattle.wb_generate.specs.Inner.Lowerings.{Advances, IsLowering, IsSettled, Settles, state_of};
 
+use crate::groups::{Group, productions_of, uses};
+use crate::totals::{LIMIT, least_total};
 use std::alloc::{AllocError, Global};
-use wb_base::{Grammar, Symbol, push};
-
-// No text has so many leaves.
-const LIMIT: u64 = 100_001;
+use std::collections::BinaryHeap;
+use wb_base::{Grammar, push};
 
 // The least count of each nonterminal.
 pub(crate) fn least_counts(alloc: Global, grammar: &Grammar) -> Result<Vec<u64>, AllocError>
-    ensures least { IfOk result (λ counts. AreLeast grammar.now 100001 counts.items) }
-    ensures grammar { IfOk result (λ _. IsGrammar grammar.now) }
+    ensures { IfOk result (λ counts. AreLeast grammar.now 100001 counts.items) }
 {
-    let mut counts = limits(alloc, grammar.nonterminals())?;
-    'passes: while pass(grammar, &mut counts) {}
-    Ok(counts)
+    let groups = uses(alloc, grammar)?;
+    lowered_counts(alloc, grammar, &groups)
+}
+
+// The same, by the productions that have each nonterminal on the right.
+fn lowered_counts(alloc: Global, grammar: &Grammar, uses: &[Group]) -> Result<Vec<u64>, AllocError>
+    requires { AreUses grammar.now uses.now }
+    ensures { IfOk result (λ counts. AreLeast grammar.now 100001 counts.items) }
+{
+    let mut lowering = Lowering::new(alloc, grammar.nonterminals())?;
+    'productions: for production in 0..grammar.productions() {
+        lowering.lower(grammar, production)?;
+    }
+    'waiting: while !lowering.waiting.is_empty() {
+        lowering.advance(grammar, uses)?;
+    }
+    Ok(lowering.counts)
 }
 
 // So many counts at their limit.
@@ -36,75 +47,84 @@ fn limits(alloc: Global, many: usize) -> Result<Vec<u64>, AllocError>
     Ok(counts)
 }
 
-// Goes over all productions, and answers whether a count was lowered.
-fn pass(grammar: &Grammar, counts: &mut Vec<u64>) -> bool
-    requires { AreReached grammar.now 100001 counts.old.items }
-    ensures grammar { IsGrammar grammar.now }
-    ensures reached { AreReached grammar.now 100001 counts.new.items }
-    ensures lowered { IsTrue result → sum counts.new.items < sum counts.old.items }
-    ensures stayed { result ≡ false → (p : ℕ) → p < length grammar.now.productions → IsLowAt grammar.now counts.new.items p }
-{
-    let mut lowered = false;
-    'productions: for production in 0..grammar.productions() {
-        if lower(grammar, production, counts) {
-            lowered = true;
+/// Counts that are lowered, and the nonterminals whose productions on the right have still to be looked at, each with how far its count was
+/// below the limit, so that the fewest leaves come first. An entry whose count was lowered since then is passed over.
+#[derive(Drop)]
+pub(crate) struct Lowering {
+    pub(crate) counts: Vec<u64>,
+    pub(crate) waiting: BinaryHeap<(u64, usize)>,
+}
+
+impl Lowering {
+    // All counts at their limit, and nothing that waits.
+    fn new(alloc: Global, many: usize) -> Result<Lowering, AllocError>
+        ensures { IfOk result (λ made. state_of made ≡ record { counts = replicate many 100001; waiting = [] }) }
+    {
+        let counts = limits(alloc, many)?;
+        Ok(Lowering {
+            counts,
+            waiting: BinaryHeap::new(alloc),
+        })
+    }
+
+    // Takes the first entry, and lowers by the productions that have its nonterminal on the right.
+    fn advance(&mut self, grammar: &Grammar, uses: &[Group]) -> Result<(), AllocError>
+        requires waiting { 0 < length (heap_items self.old.waiting) }
+        requires lowering { IsLowering grammar.now 100001 (state_of self.old) }
+        requires settled { (q : ℕ) → IsSettled grammar.now 100001 (state_of self.old) q }
+        requires uses { AreUses grammar.now uses.now }
+        ensures { OnOk result (Advances grammar.now 100001 (state_of self.old) (state_of self.new)) }
+    {
+        let Some(entry) = self.waiting.pop() else {
+            return Ok(());
+        };
+        let count = self.counts[entry.1];
+        if is_latest(count, entry.0) {
+            self.lower_all(grammar, productions_of(uses, entry.1))?;
         }
+        Ok(())
     }
-    lowered
-}
 
-// Lowers the count of a production's left side to that of its right side, and answers whether it was above.
-fn lower(grammar: &Grammar, production: usize, counts: &mut Vec<u64>) -> bool
-    requires production { production < length grammar.now.productions }
-    requires reached { AreReached grammar.now 100001 counts.old.items }
-    ensures reached { AreReached grammar.now 100001 counts.new.items }
-    ensures lowered { IsTrue result → sum counts.new.items < sum counts.old.items }
-    ensures same { result ≡ false → counts.new.items ≡ counts.old.items }
-    ensures low { result ≡ false → IsLowAt grammar.now counts.new.items production }
-{
-    let least = least_total(grammar.right(production), counts);
-    let left = grammar.left(production);
-    if counts[left] <= least {
-        return false;
+    // Lowers by each of these productions.
+    fn lower_all(&mut self, grammar: &Grammar, productions: &[usize]) -> Result<(), AllocError>
+        requires productions { All (λ p. p < length grammar.now.productions) productions.now }
+        requires lowering { IsLowering grammar.now 100001 (state_of self.old) }
+        ensures { OnOk result (Settles grammar.now 100001 productions.now (state_of self.old) (state_of self.new)) }
+    {
+        'productions: for &production in productions {
+            self.lower(grammar, production)?;
+        }
+        Ok(())
     }
-    counts[left] = least;
-    true
-}
 
-// The sum of the counts of the symbols, up to the limit.
-pub(crate) fn least_total(symbols: &[Symbol], counts: &[u64]) -> u64
-    requires most { (a : ℕ) → slice_index counts.now a ≤ 100001 }
-    ensures { result ≡ min (total counts.now symbols.now) 100001 }
-{
-    let mut sum = 0;
-    'symbols: for place in 0..symbols.len() {
-        sum = stopped(sum + least_count(symbols[place], counts));
+    // Lowers the count of a production's left side to the sum of its right side, where that is less, and lets it wait.
+    fn lower(&mut self, grammar: &Grammar, production: usize) -> Result<(), AllocError>
+        requires production { production < length grammar.now.productions }
+        requires lowering { IsLowering grammar.now 100001 (state_of self.old) }
+        ensures { OnOk result (Settles grammar.now 100001 (production ∷ []) (state_of self.old) (state_of self.new)) }
+    {
+        let least = least_total(grammar.right(production), &self.counts);
+        let left = grammar.left(production);
+        let count = self.counts[left];
+        if is_low(count, least) {
+            return Ok(());
+        }
+        self.waiting.push((LIMIT - least, left))?;
+        self.counts[left] = least;
+        Ok(())
     }
-    sum
 }
 
-// The number, or the limit where it is greater.
-fn stopped(number: u64) -> u64
-    ensures { result ≡ min number 100001 }
+// Whether the count is so far below the limit.
+fn is_latest(count: u64, below: u64) -> bool
+    ensures { IsTrue result ↔ (count + below ≡ 100001) }
 {
-    if number < LIMIT { number } else { LIMIT }
+    below <= LIMIT && count == LIMIT - below
 }
 
-// The sum of the counts of symbols, where it is below the limit.
-pub(crate) fn exact_total(symbols: &[Symbol], counts: &[u64]) -> u64
-    requires most { (a : ℕ) → slice_index counts.now a ≤ 100001 }
-    requires below { total counts.now symbols.now ≤ 100000 }
-    ensures { result ≡ total counts.now symbols.now }
+// Whether the count isn't above the sum.
+fn is_low(count: u64, sum: u64) -> bool
+    ensures { IsTrue result ↔ (count ≤ sum) }
 {
-    least_total(symbols, counts)
-}
-
-// The count of one symbol: a terminal is one leaf.
-fn least_count(symbol: Symbol, counts: &[u64]) -> u64
-    ensures { result ≡ least_of counts.now symbol }
-{
-    match symbol {
-        Symbol::Terminal(_) => 1,
-        Symbol::Nonterminal(a) => if a < counts.len() { counts[a] } else { 0 },
-    }
+    count <= sum
 }

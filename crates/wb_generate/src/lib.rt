@@ -4,13 +4,17 @@
 //! enough leaves come of it. Each leaf is then written as the least text of its expression.
 #![tactic(auto)]
 
+mod choices;
 mod choose;
 mod counts;
 mod draw;
 mod generated;
+mod groups;
+pub mod laws;
 mod make;
 mod sentence;
 mod texts;
+mod totals;
 
 pub use generated::Generated;
 pub use sentence::generate;

@@ -1,47 +1,46 @@
 //! Which leaves does the start become? Its leftmost nonterminal is replaced again and again.
 //!
-//! What is left of the form is kept with its last symbol first, and nothing recurses.
+//! What is left of the form is on a stack, and nothing recurses. It ends, since no nonterminal derives itself.
 
-ghost use Rattle.std.specs.Prelude.{◌≡◌, ◌↔◌, IsTrue, ◌<◌, ◌≤◌, ◌+◌, ◌-◌, ◌++◌, ◌∷◌, [], ℕ, All, IfOk, OnOk, length, reverse, slice_index};
+ghost use Rattle.std.specs.Prelude.{◌≡◌, ◌↔◌, IsTrue, ◌≤◌, ◌+◌, ◌-◌, ◌++◌, ◌∷◌, [], ℕ, IfOk, OnOk, length, slice_index};
 ghost use Rattle.wb_base.specs.declared.symbol.Symbol.{Symbol};
 ghost use Rattle.wb_base.specs.declared.symbol.Symbol.TheVariants.{Nonterminal};
-ghost use Rattle.wb_base.specs.Grammar.{IsSymbolBelow};
-ghost use Rattle.wb_generate.specs.Counts.{AreLeast, total};
+ghost use Rattle.wb_languages.specs.Bounds.{HasNoCycle};
 ghost use Rattle.wb_generate.specs.Making.{Makes};
-ghost use Rattle.wb_generate.specs.Inner.States.{state_of, before_form, before_leaf, IsFit, GoesOn};
+ghost use Rattle.wb_generate.specs.Inner.Choices.{AreChoices};
+ghost use Rattle.wb_generate.specs.Inner.Runs.{taken};
+ghost use Rattle.wb_generate.specs.Inner.States.{state_of, before, IsFit};
 
-use crate::choose::choose;
-use crate::counts::exact_total;
+use crate::choices::Choices;
 use crate::draw::{drawn, upper};
 use std::alloc::{AllocError, Global};
 use wb_base::{Grammar, Symbol, push};
+use wb_lists::Stack;
 
-// The leaves that the start becomes. It ends with want of memory where 2^64 steps don't suffice.
+// The leaves that the start becomes.
 pub(crate) fn make(
     alloc: Global,
     grammar: &Grammar,
-    counts: &[u64],
+    choices: &Choices,
     spare: u64,
     number: u64,
 ) -> Result<Vec<usize>, AllocError>
-    requires least { AreLeast grammar.now 100001 counts.now }
-    requires few { spare + slice_index counts.now grammar.now.start ≤ 100000 }
-    ensures { IfOk result (λ made. Makes grammar.now counts.now (Nonterminal grammar.now.start ∷ []) spare number made.items) }
+    requires grammar { HasNoCycle grammar.now }
+    requires choices { AreChoices grammar.now 100001 choices.now }
+    requires few { spare + slice_index choices.now.counts.items grammar.now.start ≤ 100000 }
+    ensures { IfOk result (λ made. Makes grammar.now choices.now.counts.items (Nonterminal grammar.now.start ∷ []) spare number made.items) }
 {
     let mut making = Making::new(alloc, grammar.start(), spare, number)?;
-    'steps: for _step in 0..u64::MAX {
-        if making.form.is_empty() {
-            return Ok(making.made);
-        }
-        making.step(grammar, counts)?;
+    'steps: while let Some(symbol) = making.form.pop() {
+        making.take(grammar, choices, symbol)?;
     }
-    Err(AllocError)
+    Ok(making.made)
 }
 
-/// What is left of a form, its last symbol first, the leaves to spare, the state of the draws, and the leaves made.
+/// What is left of a form, the leaves to spare, the state of the draws, and the leaves made.
 #[derive(Drop)]
 pub(crate) struct Making {
-    pub(crate) form: Vec<Symbol>,
+    pub(crate) form: Stack<Symbol>,
     pub(crate) spare: u64,
     pub(crate) number: u64,
     pub(crate) made: Vec<usize>,
@@ -52,8 +51,8 @@ impl Making {
     fn new(alloc: Global, start: usize, spare: u64, number: u64) -> Result<Making, AllocError>
         ensures { IfOk result (λ making. state_of making ≡ record { form = Nonterminal start ∷ []; spare = spare; number = number; made = [] }) }
     {
-        let mut form = Vec::new(alloc);
-        push(&mut form, Symbol::Nonterminal(start))?;
+        let mut form = Stack::new(alloc);
+        form.push(Symbol::Nonterminal(start))?;
         Ok(Making {
             form,
             spare,
@@ -62,43 +61,37 @@ impl Making {
         })
     }
 
-    // Takes the first symbol of the form.
-    fn step(&mut self, grammar: &Grammar, counts: &[u64]) -> Result<(), AllocError>
-        requires least { AreLeast grammar.now 100001 counts.now }
-        requires fit { IsFit grammar.now counts.now 100000 (state_of self.old) }
-        ensures { OnOk result (GoesOn grammar.now counts.now 100000 (state_of self.old) (state_of self.new)) }
+    // Takes a symbol that was before the form.
+    fn take(
+        &mut self,
+        grammar: &Grammar,
+        choices: &Choices,
+        symbol: Symbol,
+    ) -> Result<(), AllocError>
+        requires choices { AreChoices grammar.now 100001 choices.now }
+        requires fit { IsFit grammar.now choices.now.counts.items 100000 (before symbol (state_of self.old)) }
+        ensures { OnOk result (state_of self.new ≡ taken grammar.now choices.now.counts.items symbol (state_of self.old)) }
     {
-        match self.form.pop() {
-            None => Ok(()),
-            Some(Symbol::Terminal(t)) => self.take(grammar, counts, t),
-            Some(Symbol::Nonterminal(a)) => self.replace(grammar, counts, a),
+        match symbol {
+            Symbol::Terminal(t) => push(&mut self.made, t),
+            Symbol::Nonterminal(a) => self.replace(grammar, choices, a),
         }
     }
 
-    // Makes a leaf of a terminal that was taken.
-    fn take(&mut self, _grammar: &Grammar, _counts: &[u64], t: usize) -> Result<(), AllocError>
-        requires { IsFit _grammar.now _counts.now 100000 (before_leaf t (state_of self.old)) }
-        ensures { OnOk result (GoesOn _grammar.now _counts.now 100000 (before_leaf t (state_of self.old)) (state_of self.new)) }
-    {
-        push(&mut self.made, t)?;
-        Ok(())
-    }
-
     // Puts the right side of a production in the place of a nonterminal that was taken, or nothing where no leaf may come of it.
-    fn replace(&mut self, grammar: &Grammar, counts: &[u64], a: usize) -> Result<(), AllocError>
-        requires least { AreLeast grammar.now 100001 counts.now }
-        requires fit { IsFit grammar.now counts.now 100000 (before_form a (state_of self.old)) }
-        ensures { OnOk result (GoesOn grammar.now counts.now 100000 (before_form a (state_of self.old)) (state_of self.new)) }
+    fn replace(&mut self, grammar: &Grammar, choices: &Choices, a: usize) -> Result<(), AllocError>
+        requires choices { AreChoices grammar.now 100001 choices.now }
+        requires fit { IsFit grammar.now choices.now.counts.items 100000 (before (Nonterminal a) (state_of self.old)) }
+        ensures { OnOk result (state_of self.new ≡ taken grammar.now choices.now.counts.items (Nonterminal a) (state_of self.old)) }
     {
-        let least = counts[a];
+        let least = choices.least(a);
         if is_over(self.spare, least) {
             return Ok(());
         }
         let number = drawn(self.number);
-        let production = choose(grammar, counts, a, self.spare, upper(number));
-        let right = grammar.right(production);
-        let spare = spare_after(self.spare, least, exact_total(right, counts));
-        push_backwards(&mut self.form, right)?;
+        let production = choices.choose(a, self.spare, upper(number));
+        let spare = spare_after(self.spare, least, choices.total(production));
+        put_before(&mut self.form, grammar.right(production))?;
         self.spare = spare;
         self.number = number;
         Ok(())
@@ -125,12 +118,13 @@ fn spare_after(spare: u64, least: u64, total: u64) -> u64
     }
 }
 
-// Adds symbols after the others, the last first.
-fn push_backwards(form: &mut Vec<Symbol>, right: &[Symbol]) -> Result<(), AllocError>
-    ensures { OnOk result (form.new.items ≡ form.old.items ++ reverse right.now) }
+// Puts symbols before the others, the last first.
+#[tactic(auto, using(crate::proofs::FormLemmas::put_none, crate::proofs::FormLemmas::put_more, crate::proofs::FormLemmas::put_all))]
+fn put_before(form: &mut Stack<Symbol>, right: &[Symbol]) -> Result<(), AllocError>
+    ensures { OnOk result (form.new ≡ right.now ++ form.old) }
 {
     'symbols: for back in 0..right.len() {
-        push(form, right[right.len() - 1 - back])?;
+        form.push(right[right.len() - 1 - back])?;
     }
     Ok(())
 }

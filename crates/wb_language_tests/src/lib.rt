@@ -1,6 +1,7 @@
-//! Tests of languages: scanning and parsing of small texts. Expected values come from the rules, never from a run.
+//! Tests of languages: scanning and parsing of small texts, and texts that numbers make. Expected values come from the rules, never from a run.
 #![tactic(auto)]
 
+mod generating;
 mod parsing;
 mod sample;
 mod samples;

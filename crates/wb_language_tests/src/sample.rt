@@ -102,7 +102,7 @@ fn pairs_of(
 }
 
 // The expressions that are read.
-fn regexes_of(alloc: Global, texts: &[&str]) -> Result<Vec<Regex>, AllocError> {
+pub(crate) fn regexes_of(alloc: Global, texts: &[&str]) -> Result<Vec<Regex>, AllocError> {
     let mut regexes = Vec::new(alloc);
     for text in texts {
         if let Ok(regex) = read_regex(alloc, text.as_bytes()) {
@@ -112,7 +112,7 @@ fn regexes_of(alloc: Global, texts: &[&str]) -> Result<Vec<Regex>, AllocError> {
     Ok(regexes)
 }
 
-fn grammar_of(alloc: Global, sample: &Sample) -> Result<Option<Grammar>, AllocError> {
+pub(crate) fn grammar_of(alloc: Global, sample: &Sample) -> Result<Option<Grammar>, AllocError> {
     if sample.nonterminals == 0 {
         return Ok(None);
     }
@@ -124,7 +124,7 @@ fn grammar_of(alloc: Global, sample: &Sample) -> Result<Option<Grammar>, AllocEr
 }
 
 // Adds a production where its numbers are in range.
-fn add(grammar: &mut Grammar, left: usize, right: &[Symbol]) -> Result<(), AllocError> {
+pub(crate) fn add(grammar: &mut Grammar, left: usize, right: &[Symbol]) -> Result<(), AllocError> {
     if left < grammar.nonterminals() && are_below(grammar, right) {
         grammar.add(left, right)?;
     }

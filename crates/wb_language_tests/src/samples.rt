@@ -168,3 +168,53 @@ pub(crate) static RING: Sample = Sample {
     expressions: &["a", "b"],
     preferences: &[(0, 1), (1, 0)],
 };
+
+// Sums: E -> E + T | T, T -> Num.
+pub(crate) static SUMS: Sample = Sample {
+    terminals: 2,
+    nonterminals: 2,
+    rules: &[
+        Rule {
+            name: "plus",
+            left: 0,
+            right: &[N(0), T(1), N(1)],
+        },
+        Rule {
+            name: "term",
+            left: 0,
+            right: &[N(1)],
+        },
+        Rule {
+            name: "num",
+            left: 1,
+            right: &[T(0)],
+        },
+    ],
+    expressions: &["[0-9]+", "\\+", "[ ]+"],
+    preferences: &[],
+};
+
+// The same without layout.
+pub(crate) static TIGHT_SUMS: Sample = Sample {
+    terminals: 2,
+    nonterminals: 2,
+    rules: &[
+        Rule {
+            name: "plus",
+            left: 0,
+            right: &[N(0), T(1), N(1)],
+        },
+        Rule {
+            name: "term",
+            left: 0,
+            right: &[N(1)],
+        },
+        Rule {
+            name: "num",
+            left: 1,
+            right: &[T(0)],
+        },
+    ],
+    expressions: &["[0-9]+", "\\+"],
+    preferences: &[],
+};

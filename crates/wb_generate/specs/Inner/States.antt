@@ -1,7 +1,6 @@
 -- A form that is being replaced, and how one goes on to another.
-use Rattle.std.specs.Prelude.{◌≡◌, ◌≤◌, ◌+◌, ℕ, List, All, ◌∷◌, ◌++◌, reverse}
+use Rattle.std.specs.Prelude.{◌≡◌, ◌≤◌, ◌+◌, ℕ, List, All, ◌∷◌, ◌++◌}
 use Rattle.wb_base.specs.declared.symbol.Symbol.{Symbol}
-use Rattle.wb_base.specs.declared.symbol.Symbol.TheVariants.{Terminal, Nonterminal}
 use Rattle.wb_base.specs.Grammar.{GrammarView, IsSymbolBelow}
 use Rattle.wb_generate.specs.Counts.{total}
 use Rattle.wb_generate.specs.Making.{Makes}
@@ -14,17 +13,13 @@ pub record State : Type 0 where
   pub number : ℕ
   pub made : List ℕ
 
--- the state that is kept: the form has its last symbol first
+-- the state that is kept
 abbrev pub state_of : Making → State
-state_of m = record { form = reverse m.form.items; spare = m.spare; number = m.number; made = m.made.items }
+state_of m = record { form = m.form; spare = m.spare; number = m.number; made = m.made.items }
 
--- the state with the nonterminal before the form
-abbrev pub before_form : ℕ → State → State
-before_form a s = record s { form = Nonterminal a ∷ s.form }
-
--- the state with the terminal before the form
-abbrev pub before_leaf : ℕ → State → State
-before_leaf t s = record s { form = Terminal t ∷ s.form }
+-- the state with the symbol before the form
+abbrev pub before : Symbol → State → State
+before x s = record s { form = x ∷ s.form }
 
 -- the form is over the grammar's symbols, and at most so many leaves come of it
 pub record IsFit (g : GrammarView) (counts : List ℕ) (most : ℕ) (s : State) : Type 0 where

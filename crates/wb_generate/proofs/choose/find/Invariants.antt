@@ -1,9 +1,7 @@
 use Rattle.std.proofs.Common.{◌≡◌, ◌≤◌, length, take}
-use Rattle.std.specs.List.{filter}
-use Rattle.wb_generate.specs.Draws.{admits}
+use Rattle.wb_generate.specs.Inner.Choices.{between}
 use Rattle.wb_generate.proofs.choose.find.Given as goal
 
-abbrev pub invariant-productions : goal.invariant-productions
-invariant-productions l =
-    (l.passed ≡ length (filter (admits l.counts l.a l.spare l.grow) (take l.production l.grammar.productions))) × (l.passed ≤ l.place) ×
-    (l.passed ≤ l.production)
+abbrev pub invariant-numbers : goal.invariant-numbers
+invariant-numbers l =
+    (l.passed ≡ length (between l.totals l.low l.high (take l.number-index l.numbers))) × (l.passed ≤ l.wanted) × (l.passed ≤ l.number-index)

@@ -9,7 +9,8 @@ use Rattle.wb_generate.proofs.sentence.generate.Goals as goal
 pub returns : goal.returns
 returns c =
     let g = c.args.grammar.now in
-    let counts = c.in_ok-counts.counts.items in
+    let counts = c.in_ok-choices.choices.counts.items in
+    let are = c.in_ok-choices.ensures in
     let least : c.start_count-least.result ≡ slice_index counts g.start = search rules in
     let enough : slice_index counts g.start ≤ c.args.size = omega arith in
     let made : Makes g counts (Nonterminal g.start ∷ []) (c.args.size - c.start_count-least.result) c.args.number c.in_ok-made.made.items =
@@ -17,4 +18,4 @@ returns c =
     let makes = subst (λ z. Makes g counts (Nonterminal g.start ∷ []) (c.args.size - z) c.args.number c.in_ok-made.made.items) least made in
     let written : IsWritten c.args.terminals.now c.args.layout c.in_ok-made.made.items c.in_ok-text.text = search rules in
     sentence_of g c.args.terminals.now c.args.layout c.args.number c.args.size c.in_ok-text.text c.in_ok-made.made.items counts _
-    c.in_ok-counts.ensures.grammar c.in_ok-counts.ensures.least enough makes written (omega arith)
+    are.grammar are.least enough makes written (omega arith)

@@ -1,54 +1,80 @@
-use Rattle.std.proofs.Common.{◌≡◌, ◌≤◌, ◌+◌, ◌-◌, ◌<◌, ap, ◌∙◌, arith, sym, refl, reverse, inl, inr}
-use Rattle.std.specs.Prelude.{slice_index}
-use Rattle.std.proofs.lemmas.Bool.{true≢false, cases_lt}
-use Rattle.wb_generate.specs.Counts.{total}
+use Rattle.std.proofs.Common.{◌≡◌, ◌+◌, ap, ◌∙◌, arith, sym, refl}
 use Rattle.wb_generate.specs.Draws.{draw, upper}
 use Rattle.wb_generate.specs.Inner.States.{state_of}
-use Rattle.wb_generate.proofs.ChoiceLemmas.{chosen_read, chosen_low}
-use Rattle.wb_generate.proofs.MakeLemmas.{goes_removed, goes_replaced, pushed_form}
+use Rattle.wb_generate.proofs.ReplaceLemmas.{in_productions, in_totals, is_below, is_counted, is_few, is_grouped, right_read, rule_at}
+use Rattle.wb_generate.proofs.ReplaceLemmas.{taken_by, taken_over}
+use Rattle.wb_generate.proofs.RoomLemmas.{numbers_known, some_number}
 use Rattle.wb_generate.proofs.make.Making.replace.Goals as goal
+
+pub least-least-requires : goal.least-least-requires
+least-least-requires c =
+    is_counted c.args.grammar.now c.args.choices.now c.requires.choices c.args.a (state_of c.args.self.now) c.requires.fit
+
+pub is_over-requires : goal.is_over-requires
+is_over-requires c =
+    let few = is_few c.args.grammar.now c.args.choices.now c.requires.choices c.args.a (state_of c.args.self.now) c.requires.fit in
+    omega (arith, few, c.least-least.ensures)
 
 pub returns-then-is_over : goal.returns-then-is_over
 returns-then-is_over c =
-    goes_removed c.args.grammar.now c.args.counts.now 100000 c.args.a (state_of c.args.self.now) c.requires.fit (c.is_over.ensures.0
-    c.if-is_over.true)
+    taken_over c.args.grammar.now c.args.choices.now c.requires.choices c.args.a (state_of c.args.self.now) c.requires.fit
+    (ap (λ z. c.args.self.now.spare + z) (sym c.least-least.ensures) ∙ c.is_over.ensures.0 c.if-is_over.true)
 
-pub exact_total-requires-clause-below : goal.exact_total-requires-clause-below
-exact_total-requires-clause-below c =
-    let few : c.args.self.now.spare + (slice_index c.args.counts.now c.args.a + total c.args.counts.now (reverse
-    c.args.self.now.form.items)) ≤ 100000 =
-    c.requires.fit.few in
-    let low = chosen_low c.args.grammar.now c.args.counts.now c.args.a c.args.self.now.spare c.upper.result c.right-right.result.now
-    (chosen_read c.args.grammar.now c.args.counts.now c.args.a c.args.self.now.spare c.upper.result c.upper.result
+pub choose-production-requires-clause-counts : goal.choose-production-requires-clause-counts
+choose-production-requires-clause-counts c =
+    is_counted c.args.grammar.now c.args.choices.now c.requires.choices c.args.a (state_of c.args.self.now) c.requires.fit
+
+pub choose-production-requires-clause-rules : goal.choose-production-requires-clause-rules
+choose-production-requires-clause-rules c =
+    is_grouped c.args.grammar.now c.args.choices.now c.requires.choices c.args.a (state_of c.args.self.now) c.requires.fit
+
+pub choose-production-requires-clause-some : goal.choose-production-requires-clause-some
+choose-production-requires-clause-some c =
+    let few = is_few c.args.grammar.now c.args.choices.now c.requires.choices c.args.a (state_of c.args.self.now) c.requires.fit in
+    some_number c.args.grammar.now 100001 c.args.choices.now c.requires.choices c.args.a c.args.self.now.spare
+    (is_below c.args.grammar.now c.args.choices.now c.requires.choices c.args.a (state_of c.args.self.now) c.requires.fit)
+    (omega (arith, few))
+
+pub choose-production-requires-clause-known : goal.choose-production-requires-clause-known
+choose-production-requires-clause-known c =
+    let few = is_few c.args.grammar.now c.args.choices.now c.requires.choices c.args.a (state_of c.args.self.now) c.requires.fit in
+    numbers_known c.args.grammar.now 100001 c.args.choices.now c.requires.choices c.args.a c.args.self.now.spare
+    (is_below c.args.grammar.now c.args.choices.now c.requires.choices c.args.a (state_of c.args.self.now) c.requires.fit)
+    (omega (arith, few))
+
+pub choose-production-requires-clause-few : goal.choose-production-requires-clause-few
+choose-production-requires-clause-few c =
+    is_few c.args.grammar.now c.args.choices.now c.requires.choices c.args.a (state_of c.args.self.now) c.requires.fit
+
+pub total-requires : goal.total-requires
+total-requires c =
+    in_totals c.args.grammar.now c.args.choices.now c.requires.choices c.args.a (state_of c.args.self.now) c.requires.fit c.upper.result
     c.choose-production.result
-    c.right-right.result.now (λ i. c.upper.result) c.choose-production.ensures.below c.choose-production.ensures.chosen
-    c.right-right.ensures.right) in
-    omega (arith, few, low)
+    (rule_at c.args.grammar.now c.args.choices.now c.requires.choices c.args.a (state_of c.args.self.now) c.requires.fit c.upper.result
+    c.choose-production.result c.choose-production.ensures)
 
 pub spare_after-spare-requires : goal.spare_after-spare-requires
 spare_after-spare-requires c =
-    let e : c.exact_total.result ≡ total c.args.counts.now c.right-right.result.now = c.exact_total.ensures in
-    let low = chosen_low c.args.grammar.now c.args.counts.now c.args.a c.args.self.now.spare c.upper.result c.right-right.result.now
-    (chosen_read c.args.grammar.now c.args.counts.now c.args.a c.args.self.now.spare c.upper.result c.upper.result
+    let rule = rule_at c.args.grammar.now c.args.choices.now c.requires.choices c.args.a (state_of c.args.self.now) c.requires.fit
+    c.upper.result c.choose-production.result c.choose-production.ensures in
+    let low = rule.low in
+    let sum = rule.sum in
+    omega (arith, low, sum, c.total.ensures, c.least-least.ensures)
+
+pub right-requires : goal.right-requires
+right-requires c =
+    in_productions c.args.grammar.now c.args.choices.now c.requires.choices c.args.a (state_of c.args.self.now) c.requires.fit c.upper.result
     c.choose-production.result
-    c.right-right.result.now (λ i. c.upper.result) c.choose-production.ensures.below c.choose-production.ensures.chosen
-    c.right-right.ensures.right) in
-    omega (arith, e, low)
+    (rule_at c.args.grammar.now c.args.choices.now c.requires.choices c.args.a (state_of c.args.self.now) c.requires.fit c.upper.result
+    c.choose-production.result c.choose-production.ensures)
 
 pub returns : goal.returns
 returns c =
-    let old = c.args.self.now in
-    let x : c.upper.result ≡ upper (draw old.number) = c.upper.ensures ∙ ap upper c.drawn-number.ensures in
-    let chosen = chosen_read c.args.grammar.now c.args.counts.now c.args.a old.spare (upper (draw old.number)) c.upper.result
-    c.choose-production.result
-    c.right-right.result.now x c.choose-production.ensures.below c.choose-production.ensures.chosen c.right-right.ensures.right in
-    let some : 0 < old.spare + slice_index c.args.counts.now c.args.a = elim (cases_lt 0 (old.spare + slice_index c.args.counts.now
-    c.args.a)) [
-      | inl lt ↦ lt
-      | inr past ↦ absurd (true≢false (sym (c.is_over.ensures.1 (omega arith)) ∙ c.if-is_over.false))
-    ] in
-    goes_replaced c.args.grammar.now c.args.counts.now 100000 c.args.a c.right-right.result.now (state_of old) _ c.requires.fit
-    c.right-right.ensures.in_range some
-    chosen (pushed_form old.form.items _ c.right-right.result.now c.in_ok-push_backwards.ensures)
-    (c.spare_after-spare.ensures ∙ ap (λ z. old.spare - (z - slice_index c.args.counts.now c.args.a)) c.exact_total.ensures)
-    c.drawn-number.ensures refl
+    let rule = rule_at c.args.grammar.now c.args.choices.now c.requires.choices c.args.a (state_of c.args.self.now) c.requires.fit
+    c.upper.result c.choose-production.result c.choose-production.ensures in
+    let x : c.upper.result ≡ upper (draw c.args.self.now.number) = c.upper.ensures ∙ ap upper c.drawn-number.ensures in
+    taken_by c.args.grammar.now c.args.choices.now c.requires.choices c.args.a (state_of c.args.self.now) c.requires.fit _ c.upper.result
+    c.choose-production.result c.least-least.result c.total.result c.is_over.result c.right.result.now c.is_over.ensures c.if-is_over.false
+    c.least-least.ensures c.total.ensures x rule
+    (right_read c.args.grammar.now c.args.a c.choose-production.result rule.right c.right.result.now rule.rule c.right.ensures.right)
+    c.in_ok-put_before.ensures c.spare_after-spare.ensures c.drawn-number.ensures refl

@@ -1,0 +1,3 @@
+mod LengthLemmas
+mod TextLemmas
+mod OneLemmas

@@ -1,0 +1,2 @@
+-- the text that a number makes of a host with extensions
+pub mod Generated
