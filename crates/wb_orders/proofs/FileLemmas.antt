@@ -10,14 +10,14 @@ use Rattle.wb_joined.specs.Written.{name_in}
 use Rattle.wb_lemmas.proofs.Members.{contains_at, place_of}
 use Rattle.wb_lemmas.proofs.Places.{append_keeps, append_seam, at_once, at_push, nothing_at}
 use Rattle.wb_operations.specs.Operations.{OperationSignature}
-use Rattle.wb_program.specs.Files.{FileIs}
-use Rattle.wb_program.specs.SeveralChecks.{AreEach, HasName, IsNextText, names_of}
 use Rattle.wb_reader.proofs.OneText.{one_text as one_read}
 use Rattle.wb_reordered_unions.specs.Orders.{IsReordering}
 use Rattle.wb_reordered_unions.proofs.NumberLemmas.{reordering_map}
 use Rattle.wb_resolved.specs.declared.resolved.ResolvedParts.{ResolvedParts}
 use Rattle.wb_syntax.specs.SpecText.{SpecView}
 use Rattle.wb_world.specs.Shelf.{Files}
+use Rattle.wb_inputs.specs.Files.{FileIs}
+use Rattle.wb_inputs.specs.SeveralChecks.{AreEach, HasName, IsNextText, names_of}
 
 -- a fact of a file that another follows from
 file_is : (file : Option (List ℕ)) (P Q : List ℕ → Type 0) → ((contents : List ℕ) → P contents → Q contents) → FileIs file P → FileIs file Q
@@ -184,6 +184,10 @@ module _ (operations : List OperationSignature) (files : Files) (host : Resolved
       (are : AreEach operations (Some files) host all [] values) where
     ours : AreAll all [] values
     ours = all_are all [] values (λ x i j one two. absurd (nothing_at x i one)) are
+
+    -- no two have one name
+    pub names_differ : Differ (names_of values)
+    names_differ = ours.differ
 
     mine : Hold all values
     mine = subst (λ (z : List ResolvedParts). Hold all z) (sym ours.are) ours.hold

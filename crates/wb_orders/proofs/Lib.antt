@@ -1,3 +1,5 @@
 mod FileLemmas
 mod LanguageLemmas
 mod ReportLemmas
+mod RunLemmas
+mod SeveralLemmas

@@ -1,6 +1,5 @@
 -- A report of a text's answer is one with the extensions in every other order.
-use Rattle.std.proofs.Common.{◌≡◌, ◌++◌, ◌∙◌, ◌∷◌, [], ℕ, List, Option, Some, None, All, length, map}
-use Rattle.std.proofs.Common.{ap, sym, refl, subst, inl, inr, arith}
+use Rattle.std.proofs.Common.{◌≡◌, ◌∙◌, ◌∷◌, [], ℕ, List, Option, Some, None, All, length, map, ap, sym, refl, subst, inl, inr}
 use Rattle.std.proofs.lemmas.Bool.{cases_lt}
 use Rattle.std.proofs.lemmas.List.Elements.{All-head, All-tail}
 use Rattle.wb_base.specs.Grammar.{GrammarView}
@@ -13,10 +12,6 @@ use Rattle.wb_languages.specs.Languages.{LanguageView}
 use Rattle.wb_languages.specs.Shown.{Shows, values_of}
 use Rattle.wb_lemmas.proofs.Elements.{all_at, all_from_places}
 use Rattle.wb_operations.specs.Operations.{OperationSignature}
-use Rattle.wb_program.specs.ComposeReport.{UnitedReport}
-use Rattle.wb_program.specs.SeveralChecks.{RefusesEach, RefusesNext}
-use Rattle.wb_program.specs.TreeReport.{ShownText}
-use Rattle.wb_program.specs.declared.status.Status.{Status}
 use Rattle.wb_renamed_languages.specs.Answers.{renamed_forest, renamed_kind}
 use Rattle.wb_renamed_languages.specs.Laws.{HasSameAnswers}
 use Rattle.wb_reordered_unions.specs.Orders.{IsReordering}
@@ -38,8 +33,14 @@ use Rattle.wb_values.specs.Tree.{Tree, empty, more, tree}
 use Rattle.wb_values.specs.Tree as values
 use Rattle.wb_world.specs.Shelf.{Files}
 use Rattle.wb_orders.specs.Laws.{HaveOneOrder, IsAnswerStatus}
-use Rattle.wb_orders.proofs.FileLemmas.{AreReordered, no_fewer, reordered_are}
 use Rattle.wb_orders.proofs.LanguageLemmas.{in_other_order, is_in_other_order}
+use Rattle.wb_orders.proofs.SeveralLemmas.{RefusesNone, several_there}
+use Rattle.wb_inputs.specs.Checks.{Check, Report}
+use Rattle.wb_inputs.specs.Texts.{IsText, IsTooLongText}
+use Rattle.wb_inputs.specs.declared.status.Status.{Status}
+use Rattle.wb_inputs.specs.declared.status.Status.TheVariants.{TextTooLong}
+use Rattle.wb_program.specs.ComposeReport.{UnitedReport}
+use Rattle.wb_program.specs.TreeReport.{ShownText}
 
 abbrev resolved_in : List Extended → List ResolvedParts
 resolved_in xs = map (λ (e : Extended). e.resolved) xs
@@ -158,48 +159,32 @@ module _ (host : ResolvedParts) (operations : List OperationSignature) (extensio
       let same : x.answer ≡ y = same_answer host operations extensions others to from re text x.answer y x.is y_is in
       record { answer = y; is = y_is; shown = subst (λ (z : TextAnswer). ShownText z status bytes) same x.shown }
 
-module _ (operations : List OperationSignature) (files : Files) (host : ResolvedParts) where
-  -- a refusal has another status
-  not_next : (before : List ResolvedParts) (file : List ℕ) (status : Status) (bytes : List ℕ) → IsAnswerStatus status
-      → RefusesNext operations (Some files) host before file status bytes → ⊥
-  not_next before file status bytes answers (inl (ends, x)) = subst IsAnswerStatus ends answers
-  not_next before file status bytes answers (inr (inl (ends, x))) = subst IsAnswerStatus ends answers
-  not_next before file status bytes answers (inr (inr (inl (ends, x)))) = subst IsAnswerStatus ends answers
-  not_next before file status bytes answers (inr (inr (inr (inl (ends, x))))) = subst IsAnswerStatus ends answers
-  not_next before file status bytes answers (inr (inr (inr (inr (ends, x))))) = subst IsAnswerStatus ends answers
+-- no refusal of a host or an extension has a status of an answer
+abbrev answer_refuses_none : RefusesNone IsAnswerStatus
+answer_refuses_none = record {
+  specification = λ no. no;
+  certification = λ no. no;
+  other_host = λ no. no;
+  duplicate = λ no. no;
+  many = λ no. no;
+}
 
-  not_refused : (left : List (List ℕ)) (before : List ResolvedParts) (status : Status) (bytes : List ℕ) → IsAnswerStatus status
-      → RefusesEach operations (Some files) host left before status bytes → ⊥
-  not_refused [] before status bytes answers refuses = refuses
-  not_refused (file ∷ left) before status bytes answers (inl refuses) = not_next before file status bytes answers refuses
-  not_refused (file ∷ left) before status bytes answers (inr (value, is, later)) =
-      not_refused left (before ++ value ∷ []) status bytes answers later
+-- what is reported of a file with the host and extensions
+abbrev FileReport : List OperationSignature → Files → List ℕ → ResolvedParts → List ResolvedParts → Report
+FileReport operations files text r values =
+    Check TextTooLong (IsTooLongText (Some files) text) (IsText (Some files) text)
+    (λ (contents : List ℕ). UnitedReport operations r values contents)
+
+file_there : (operations : List OperationSignature) (files : Files) (text : List ℕ) (status : Status) (bytes : List ℕ) (r : ResolvedParts)
+    (values others : List ResolvedParts) (to from : ℕ → ℕ) → IsReordering to from values others
+    → FileReport operations files text r values status bytes → FileReport operations files text r others status bytes
+file_there operations files text status bytes r values others to from re (inl long) = inl long
+file_there operations files text status bytes r values others to from re (inr (contents, is, report)) =
+    inr (contents, is, united_there r operations values others to from re contents status bytes report)
 
 -- where a text has an answer that is reported, extensions in another order have the same report
 pub one_order : HaveOneOrder
-one_order operations known text host files others to from status bytes re answers (inl (ends, x)) =
-    absurd (subst IsAnswerStatus ends answers)
-one_order operations known text host files others to from status bytes re answers (inr (few, inl (ends, x))) =
-    absurd (subst IsAnswerStatus ends answers)
-one_order operations known text host files others to from status bytes re answers (inr (few, inr (inl (ends, x)))) =
-    absurd (subst IsAnswerStatus ends answers)
-one_order operations known text host files others to from status bytes re answers (inr (few, inr (inr (r, is, inl refused)))) =
-    absurd (not_refused operations known r files [] status bytes answers refused)
-one_order operations known text host files others to from status bytes re answers
-    (inr (few, inr (inr (r, is, inr (values, each, inl (ends, x)))))) = absurd (subst IsAnswerStatus ends answers)
-one_order operations known text host files others to from status bytes re answers
-    (inr (few, inr (inr (r, is, inr (values, each, inr (contents, is_text, report)))))) =
-    let as_few = no_fewer operations known r files others to from re values each in
-    let x : AreReordered operations known r others to from values = reordered_are operations known r files others to from re values each in
-    inr (
-      omega (arith, few, as_few),
-      inr (inr (
-        r,
-        is,
-        inr (
-          x.in_order,
-          x.each,
-          inr (contents, is_text, united_there r operations values x.in_order to from x.reordering contents status bytes report),
-        ),
-      )),
-    )
+one_order operations known text host files others to from status bytes re answers =
+    several_there IsAnswerStatus answer_refuses_none operations known status bytes answers (FileReport operations known text) host files
+    others to from re
+    (λ r values in_order reordering differ. file_there operations known text status bytes r values in_order to from reordering)

@@ -1,11 +1,11 @@
 -- What `tree` reports of a text doesn't depend on the order of the extensions.
 use Rattle.std.specs.Prelude.{ℕ, List, Some}
 use Rattle.wb_operations.specs.Operations.{OperationSignature}
-use Rattle.wb_program.specs.ComposeReport.{UnitedTreeReport}
-use Rattle.wb_program.specs.declared.status.Status.{Status}
-use Rattle.wb_program.specs.declared.status.Status.TheVariants.{Done, TextStopped, TooLongToPrint}
 use Rattle.wb_reordered_unions.specs.Orders.{IsReordering}
 use Rattle.wb_world.specs.Shelf.{Files}
+use Rattle.wb_inputs.specs.declared.status.Status.{Status}
+use Rattle.wb_inputs.specs.declared.status.Status.TheVariants.{Done, TextStopped, TooLongToPrint}
+use Rattle.wb_program.specs.ComposeReport.{UnitedTreeReport}
 
 -- the status is that of a text's answer: a tree, a stop, or a tree that is too long to print
 abbrev pub IsAnswerStatus : Status → Type 0

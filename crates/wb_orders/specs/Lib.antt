@@ -1,2 +1,4 @@
--- reports with extensions in two orders
+-- reports of `tree` with extensions in two orders
 pub mod Laws
+-- reports of `run` with extensions in two orders
+pub mod RunLaws

@@ -1,60 +1,53 @@
--- What a command is answered is the report of the words that ask for it; one that isn't built is answered as words that ask for nothing.
-use Rattle.std.proofs.Common.{◌≡◌, ◌≢◌, inl, inr, ℕ, List, Option, subst}
+-- What a command is answered is the report of the words that ask for it.
+use Rattle.std.proofs.Common.{◌≡◌, ◌≢◌, inr, ℕ, List, Option}
+use Rattle.wb_inputs.specs.declared.status.Status.{Status}
+use Rattle.wb_inputs.specs.declared.status.Status.TheVariants.{Usage, WriteFault}
+use Rattle.wb_inputs.proofs.WrittenWhole.{differs}
 use Rattle.wb_operations.specs.Operations.{Operations}
-use Rattle.wb_words.proofs.OneAsked.{one_asked}
 use Rattle.wb_words.specs.Asked.{Asked}
-use Rattle.wb_words.specs.Words.{Asks}
+use Rattle.wb_words.specs.Words.{Asks, Given, Says, Verb, says_value, says_show, says_check, says_certify, says_compose, says_tree}
+use Rattle.wb_words.specs.Words.{says_run, says_generate}
 use Rattle.wb_world.specs.Shelf.{Files}
-use Rattle.wb_program.specs.Built.{IsBuilt, InCommandSet}
-use Rattle.wb_program.specs.Report.{IsReport}
+use Rattle.wb_program.specs.Inner.Answered.{HasFewLeaves}
+use Rattle.wb_program.specs.Report.{InCommandSet, IsReport, IsReportOf}
 use Rattle.wb_program.specs.Written.{WritesNothing}
-use Rattle.wb_program.specs.Inner.Answered.{IsAnswerTo}
-use Rattle.wb_program.specs.declared.status.Status.{Status}
-use Rattle.wb_program.specs.declared.status.Status.TheVariants.{Usage, WriteFault}
-use Rattle.wb_program.proofs.Reported.{differs, is_built, is_reported, writes}
+use Rattle.wb_program.proofs.Reported.{is_reported, writes}
 
--- words that ask for what isn't built are in no command set
-none_built : (words : List (List ℕ)) (asked : Asked) → Asks words asked → ¬ IsBuilt asked → ¬ InCommandSet words
-none_built words asked asks not_built is =
-    not_built (subst IsBuilt (one_asked words is.asked asked is.asks asks) is.built)
-
--- usage writes a report
-usage_writes : (s : Status) → s ≡ Usage → ¬ WritesNothing s
-usage_writes s is (inl same) = absurd (cc)
-usage_writes s is (inr (inl same)) = absurd (cc)
-usage_writes s is (inr (inr same)) = absurd (cc)
-
--- and writes it whole
-usage_finishes : (s : Status) → s ≡ Usage → s ≢ WriteFault
-usage_finishes s is same = absurd (cc)
+-- a text that words ask to be made is to have few leaves
+pub few_leaves : (words : List (List ℕ)) (asked : Asked) → Asks words asked → HasFewLeaves asked
+few_leaves words asked asks = said asks.says where
+  said : {verb : Verb} {options : List Given} {positional : List (List ℕ)} {asked : Asked} → Says verb options positional asked
+      → HasFewLeaves asked
+  said says_value = tt
+  said says_show = tt
+  said says_check = tt
+  said says_certify = tt
+  said says_compose = tt
+  said (says_tree known text) = tt
+  said (says_run known text attribute steps) = tt
+  said (says_generate known number size attribute) = size.high
 
 module _ (operations : Operations) (known : Option Files) (words : List (List ℕ)) (asked : Asked) (asks : Asks words asked) (s : Status)
     (bytes : List ℕ) where
   -- the answer is the report of the words
-  pub answered : IsAnswerTo operations known asked s bytes → IsReport operations words known s bytes
-  answered (inl report) = inr (record { asked = asked; asks = asks; report = report })
-  answered (inr is) = inl (record { usage = is.usage; none_asked = none_built words asked asks is.not_built; line = is.line })
+  pub answered : IsReportOf operations known s bytes asked → IsReport operations words known s bytes
+  answered report = inr (record { asked = asked; asks = asks; report = report })
 
-  -- usage is the answer to words in no command set
-  pub usage_answered : IsAnswerTo operations known asked s bytes → s ≡ Usage → ¬ InCommandSet words
-  usage_answered (inl report) usage = absurd (differs s Usage (is_reported operations known s bytes asked report) (λ none. none) usage)
-  usage_answered (inr is) usage = none_built words asked asks is.not_built
+  -- it isn't usage
+  pub usage_answered : IsReportOf operations known s bytes asked → s ≡ Usage → ¬ InCommandSet words
+  usage_answered report usage = absurd (differs s Usage (is_reported operations known s bytes asked report) (λ none. none) usage)
 
-  -- and words in none have that answer alone
-  pub only_usage_answered : IsAnswerTo operations known asked s bytes → ¬ InCommandSet words → s ≡ Usage
-  only_usage_answered (inl report) none_asked =
-      absurd (none_asked (record { asked = asked; asks = asks; built = is_built operations known s bytes asked report }))
-  only_usage_answered (inr is) none_asked = is.usage
+  -- and the words ask for a command
+  pub only_usage_answered : IsReportOf operations known s bytes asked → ¬ InCommandSet words → s ≡ Usage
+  only_usage_answered report none_asked = absurd (none_asked (record { asked = asked; asks = asks }))
 
 -- an answer writes a report
 pub answer_writes : (operations : Operations) (known : Option Files) (asked : Asked) (s : Status) (bytes : List ℕ)
-    → IsAnswerTo operations known asked s bytes → ¬ WritesNothing s
-answer_writes operations known asked s bytes (inl report) = writes s (is_reported operations known s bytes asked report)
-answer_writes operations known asked s bytes (inr is) = usage_writes s is.usage
+    → IsReportOf operations known s bytes asked → ¬ WritesNothing s
+answer_writes operations known asked s bytes report = writes s (is_reported operations known s bytes asked report)
 
 -- and writes it whole
 pub answer_finishes : (operations : Operations) (known : Option Files) (asked : Asked) (s : Status) (bytes : List ℕ)
-    → IsAnswerTo operations known asked s bytes → s ≢ WriteFault
-answer_finishes operations known asked s bytes (inl report) fault =
+    → IsReportOf operations known s bytes asked → s ≢ WriteFault
+answer_finishes operations known asked s bytes report fault =
     differs s WriteFault (is_reported operations known s bytes asked report) (λ none. none) fault
-answer_finishes operations known asked s bytes (inr is) fault = usage_finishes s is.usage fault

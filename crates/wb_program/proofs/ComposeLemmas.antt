@@ -1,136 +1,29 @@
 -- The report of extensions comes after the checks of their host, and a run that stops at one of them, or at a text after them, has its cause.
-use Rattle.std.proofs.Common.{◌≡◌, ◌≢◌, ◌≤◌, ◌⊎◌, ◌++◌, ◌∙◌, inl, inr, ℕ, List, [], ◌∷◌, Option, Some, None, length, subst, sym, refl}
-use Rattle.wb_hosts.specs.Contents.{IsHostText, IsHostRefusal}
-use Rattle.wb_hosts.specs.declared.refusal.HostRefusal.{HostRefusal}
+use Rattle.std.proofs.Common.{◌≢◌, inl, inr, ℕ, List, [], ◌∷◌, Option, refl}
 use Rattle.wb_operations.specs.Operations.{OperationSignature, Operations}
-use Rattle.wb_resolved.specs.declared.resolved.ResolvedParts.{ResolvedParts}
 use Rattle.wb_words.specs.Asked as a
 use Rattle.wb_world.specs.Shelf.{Files}
-use Rattle.wb_program.specs.Checks.{Report}
+use Rattle.wb_inputs.specs.Reads.{StopsComposed}
+use Rattle.wb_inputs.specs.Stopped.{Outside, Stopped}
+use Rattle.wb_inputs.specs.declared.reading.ReadFailure.{ReadFailure}
+use Rattle.wb_inputs.specs.declared.status.Status.{Status}
+use Rattle.wb_inputs.proofs.CauseLemmas.{weaker_stop}
 use Rattle.wb_program.specs.ComposeReport.{UnitedTreeReport}
-use Rattle.wb_program.specs.Files.{KnownFile, KnownAbsent}
-use Rattle.wb_program.specs.Reads.{IsMissing, IsFaulty, ReadsTo, StopsComposed, StopsEach}
-use Rattle.wb_program.specs.Report.{united_tree_report}
-use Rattle.wb_program.specs.SeveralChecks.{AreEach, EachChecks, IsNext, SeveralChecks}
-use Rattle.wb_program.specs.Inner.Answered.{IsAnswerTo}
-use Rattle.wb_program.specs.Inner.Hosts.{IsHostFile, RefusedHost}
-use Rattle.wb_program.specs.Inner.Several.{StopsThen}
-use Rattle.wb_program.specs.Inner.Stopped.{Outside, Stopped, GoesOn}
-use Rattle.wb_program.specs.declared.reading.ReadFailure.{ReadFailure}
-use Rattle.wb_program.specs.declared.reading.ReadFailure.TheVariants.{Absent, ReadFault, NoMemory}
-use Rattle.wb_program.specs.declared.status.Status.{Status}
-use Rattle.wb_program.proofs.CauseLemmas.{rose_since, weaker_stop}
-use Rattle.wb_program.proofs.HostLemmas.{refused_checks}
-
--- a certified host has the report of its extensions
-pub several_certified : (operations : List OperationSignature) (known : Option Files) (host : List ℕ) (all : List (List ℕ))
-    (rest : ResolvedParts → List ResolvedParts → Report) (r : ResolvedParts) (status : Status) (bytes : List ℕ) → length all ≤ 64
-    → IsHostFile operations known host r → EachChecks operations known r all (rest r) status bytes
-    → SeveralChecks operations known host all rest status bytes
-several_certified operations known host all rest r status bytes few is report = inr (few, inr (inr (r, is.contents, report)))
-
--- another file has that of its refusal
-pub several_refused : (operations : List OperationSignature) (known : Option Files) (host : List ℕ) (all : List (List ℕ))
-    (rest : ResolvedParts → List ResolvedParts → Report) (refusal : HostRefusal) (status : Status) (bytes : List ℕ) → length all ≤ 64
-    → KnownFile known host (λ contents. IsHostRefusal operations contents refusal) → RefusedHost host refusal status bytes
-    → SeveralChecks operations known host all rest status bytes
-several_refused operations known host all rest refusal status bytes few cause shown =
-    inr (
-      few,
-      refused_checks (IsHostText operations) (IsHostRefusal operations) known host
-          (λ r. EachChecks operations known r all (rest r)) refusal status bytes cause shown,
-    )
-
--- a run that stops later for a reason stops for it since it began
-pub reason_since : (before between now : Outside) (C D : (List ℕ → Type 0) → Type 0) (failure : ReadFailure) → GoesOn before between
-    → ((P Q : List ℕ → Type 0) → ((file : List ℕ) → P file → Q file) → C P → D Q) → Stopped between now C failure
-    → Stopped before now D failure
-reason_since before between now C D Absent kept weaker stopped =
-    weaker (IsMissing between.files between.absences now.absences) (IsMissing before.files before.absences now.absences)
-    (λ file missing. (
-      rose_since (before.absences file) (between.absences file) (now.absences file) (kept.absences file) missing.0,
-      subst (λ known. KnownAbsent known file) kept.files missing.1,
-    )) stopped
-reason_since before between now C D ReadFault kept weaker stopped =
-    weaker (IsFaulty between.faults now.faults) (IsFaulty before.faults now.faults)
-    (λ file rose. rose_since (before.faults file) (between.faults file) (now.faults file) (kept.faults file) rose) stopped
-reason_since before between now C D NoMemory kept weaker stopped = tt
-
-module _ (operations : List OperationSignature) (host : ResolvedParts) (known later : Option Files) (same : later ≡ known) where
-  -- what is found of one of several later is found of it at first
-  each_since : (P Q : List ℕ → Type 0) → ((file : List ℕ) → P file → Q file) → (left : List (List ℕ)) (before : List ResolvedParts)
-      → StopsEach operations later host P left before → StopsEach operations known host Q left before
-  each_since P Q weaker [] before none = absurd none
-  each_since P Q weaker (file ∷ left) before (inl is) = inl (weaker file is)
-  each_since P Q weaker (file ∷ left) before (inr (value, is, stops)) = inr (
-    value,
-    subst (λ (told : Option Files). IsNext operations told host before file value) same is,
-    each_since P Q weaker left (before ++ value ∷ []) stops,
-  )
-
-  -- and so it is of all
-  pub then_since : (P Q : List ℕ → Type 0) (S T : Type 0) (all : List (List ℕ)) → ((file : List ℕ) → P file → Q file) → (S → T)
-      → StopsThen operations later host P all S → StopsThen operations known host Q all T
-  then_since P Q S T all weaker last (inl stops) = inl (each_since P Q weaker all [] stops)
-  then_since P Q S T all weaker last (inr (values, each, holds)) =
-      inr (values, subst (λ (told : Option Files). AreEach operations told host all [] values) same each, last holds)
-
--- a run that stops at the host
-pub composed_first : (operations : List OperationSignature) (before now : Outside) (host : List ℕ) (all : List (List ℕ))
-    (End : (List ℕ → Type 0) → Type 0) (failure : ReadFailure) → length all ≤ 64 → Stopped before now (λ P. P host) failure
-    → Stopped before now (λ P. StopsComposed operations before.files host all P (End P)) failure
-composed_first operations before now host all End failure few =
-    weaker_stop before now (λ P. P host) (λ P. StopsComposed operations before.files host all P (End P)) failure (λ P is. (few, inl is))
-
--- a run that stops at an extension, or after them, after its host was certified
-pub composed_later : (operations : List OperationSignature) (before between now : Outside) (host : List ℕ) (all : List (List ℕ))
-    (r : ResolvedParts) (End : (List ℕ → Type 0) → Type 0) (failure : ReadFailure)
-    → ((P Q : List ℕ → Type 0) → ((file : List ℕ) → P file → Q file) → End P → End Q) → length all ≤ 64
-    → IsHostFile operations before.files host r → GoesOn before between
-    → Stopped between now (λ P. StopsThen operations between.files r P all (End P)) failure
-    → Stopped before now (λ P. StopsComposed operations before.files host all P (End P)) failure
-composed_later operations before between now host all r End failure last few is kept =
-    reason_since before between now (λ P. StopsThen operations between.files r P all (End P))
-    (λ P. StopsComposed operations before.files host all P (End P)) failure kept
-    (λ P Q weaker stops. (
-      few,
-      inr (
-        r,
-        is.contents,
-        then_since operations r before.files between.files kept.files P Q (End P) (End Q) all weaker (last P Q weaker) stops,
-      ),
-    ))
-
--- a run that stops at an extension
-pub then_first : (operations : List OperationSignature) (before now : Outside) (r : ResolvedParts) (all : List (List ℕ))
-    (End : (List ℕ → Type 0) → Type 0) (failure : ReadFailure)
-    → Stopped before now (λ P. StopsEach operations before.files r P all []) failure
-    → Stopped before now (λ P. StopsThen operations before.files r P all (End P)) failure
-then_first operations before now r all End failure =
-    weaker_stop before now (λ P. StopsEach operations before.files r P all []) (λ P. StopsThen operations before.files r P all (End P))
-    failure (λ P is. inl is)
-
--- a run that stops at a text after them
-pub then_text : (operations : List OperationSignature) (before between now : Outside) (r : ResolvedParts) (all : List (List ℕ))
-    (values : List ResolvedParts) (text : List ℕ) (failure : ReadFailure) → AreEach operations before.files r all [] values
-    → GoesOn before between → Stopped between now (λ P. P text) failure
-    → Stopped before now (λ P. StopsThen operations before.files r P all (P text)) failure
-then_text operations before between now r all values text failure each kept =
-    reason_since before between now (λ P. P text) (λ P. StopsThen operations before.files r P all (P text)) failure kept
-    (λ P Q weaker is. inr (values, each, weaker text is))
+use Rattle.wb_program.specs.Reads.{ReadsTo}
+use Rattle.wb_program.specs.Report.{IsReportOf, united_tree_report}
 
 -- the report of `tree` with extensions is its answer
 pub united_answered : (operations : Operations) (known : Option Files) (text host : List ℕ) (all : List (List ℕ)) (status : Status)
     (bytes : List ℕ) → all ≢ [] → UnitedTreeReport operations.signatures known text host all status bytes
-    → IsAnswerTo operations known (a.tree text host all) status bytes
+    → IsReportOf operations known status bytes (a.tree text host all)
 united_answered operations known text host [] status bytes some report = absurd (some refl)
-united_answered operations known text host (extension ∷ extensions) status bytes some report = inl (united_tree_report report)
+united_answered operations known text host (extension ∷ extensions) status bytes some report = united_tree_report report
 
 -- and it comes to read its files
 pub united_reads : (operations : List OperationSignature) (before now : Outside) (text host : List ℕ) (all : List (List ℕ))
-    (failure : ReadFailure) → all ≢ [] → Stopped before now (λ P. StopsComposed operations before.files host all P (P text)) failure
+    (failure : ReadFailure) → all ≢ [] → Stopped before now (λ P. StopsComposed operations before.files host all P (λ r values. P text)) failure
     → Stopped before now (ReadsTo operations before.files (a.tree text host all)) failure
 united_reads operations before now text host [] failure some stopped = absurd (some refl)
 united_reads operations before now text host (extension ∷ extensions) failure some stopped =
-    weaker_stop before now (λ P. StopsComposed operations before.files host (extension ∷ extensions) P (P text))
+    weaker_stop before now (λ P. StopsComposed operations before.files host (extension ∷ extensions) P (λ r values. P text))
     (ReadsTo operations before.files (a.tree text host (extension ∷ extensions))) failure (λ P stops. inr stops) stopped

@@ -1,8 +1,5 @@
 -- What is made of the files of extensions, in their order, is their report; and a run that stops at one of them has its cause.
-use Rattle.std.proofs.Common.{String, Global, string_bytes, get_or, ap, arith}
-use Rattle.std.proofs.lemmas.List.{drop-map, length-map}
-use Rattle.wb_lemmas.proofs.Parts.{drop_from, drop_past}
-use Rattle.std.proofs.Common.{◌≡◌, ◌≢◌, ◌<◌, ◌≤◌, ◌+◌, ◌++◌, inl, inr, ℕ, List, [], ◌∷◌, Option, length, map, drop, subst, sym, refl}
+use Rattle.std.proofs.Common.{◌≡◌, ◌<◌, ◌≤◌, ◌+◌, ◌++◌, inl, inr, ℕ, List, [], ◌∷◌, Option, length, map, drop, subst, sym, refl}
 use Rattle.wb_extension_files.specs.Contents.{IsExtensionText, IsExtensionRefusal}
 use Rattle.wb_extension_files.specs.declared.refusal.FileRefusal.{FileRefusal}
 use Rattle.wb_extension_files.specs.declared.refusal.FileRefusal.TheVariants as f
@@ -19,42 +16,21 @@ use Rattle.wb_report.specs.declared.spec_reason.SpecReason.TheVariants as t
 use Rattle.wb_resolved.specs.declared.resolved.ResolvedParts.{ResolvedParts}
 use Rattle.wb_world.specs.Shelf.{Files}
 use Rattle.wb_words.specs.Asked as a
-use Rattle.wb_words.specs.Words.{texts}
-use Rattle.wb_program.specs.Built.{Read, file_of, certified_host, certified_extension, certify_reads}
+use Rattle.wb_inputs.specs.Reads.{Read, file_of, certified_host, certified_extension, Passes, StopsAt, IsMissing, IsFaulty}
+use Rattle.wb_inputs.specs.Files.{KnownFile}
+use Rattle.wb_inputs.specs.ExtensionChecks.{RefusedExtension}
+use Rattle.wb_inputs.specs.HostChecks.{IsHostFile, RefusedHost}
+use Rattle.wb_inputs.specs.Stopped.{Outside, Stopped, GoesOn}
+use Rattle.wb_inputs.specs.declared.reading.ReadFailure.{ReadFailure}
+use Rattle.wb_inputs.specs.declared.reading.ReadFailure.TheVariants.{Absent, ReadFault, NoMemory}
+use Rattle.wb_inputs.specs.declared.status.Status.{Status}
+use Rattle.wb_inputs.specs.declared.status.Status.TheVariants.{Done}
+use Rattle.wb_inputs.proofs.CauseLemmas.{stops_first, stops_since, weaker_stop}
+use Rattle.wb_inputs.proofs.HostLemmas.{refused_checks}
+use Rattle.wb_program.specs.Reads.{certify_reads}
 use Rattle.wb_program.specs.CertifyReport.{CertifyReport, ExtensionsReport, IsExtensionNamed}
-use Rattle.wb_program.specs.Files.{KnownFile}
-use Rattle.wb_program.specs.Reads.{Passes, StopsAt, ReadsTo, IsMissing, IsFaulty}
-use Rattle.wb_program.specs.Inner.Extensions.{RefusedExtension, EndsAtExtension, LeadsTo, StopsFrom, CertifyStops}
-use Rattle.wb_program.specs.Inner.Hosts.{IsHostFile, RefusedHost}
-use Rattle.wb_program.specs.Inner.Stopped.{Outside, Stopped, GoesOn}
-use Rattle.wb_program.specs.declared.reading.ReadFailure.{ReadFailure}
-use Rattle.wb_program.specs.declared.reading.ReadFailure.TheVariants.{Absent, ReadFault, NoMemory}
-use Rattle.wb_program.specs.declared.status.Status.{Status}
-use Rattle.wb_program.specs.declared.status.Status.TheVariants.{Done}
-use Rattle.wb_program.proofs.CauseLemmas.{stops_first, stops_since, weaker_stop}
-use Rattle.wb_program.proofs.HostLemmas.{refused_checks}
-
--- the texts of words are as many
-pub few_texts : (words : List (String Global)) (most : ℕ) → length words ≤ most → length (texts words) ≤ most
-few_texts words most few = subst (λ (n : ℕ). n ≤ most) (sym (length-map words string_bytes)) few
-
--- and there is one where there is a word
-pub some_texts : (words : List (String Global)) → 0 < length words → texts words ≢ []
-some_texts [] some same = absurd (omega (arith, some))
-some_texts (word ∷ words) some same = absurd (cc same)
-
--- the texts from a place on begin with that of the word there
-pub texts_from : (words : List (String Global)) (at : ℕ) (word : String Global) (file : List ℕ) → at < length words
-    → word ≡ get_or words at word → file ≡ string_bytes word → drop at (texts words) ≡ file ∷ drop (at + 1) (texts words)
-texts_from words at word file within is same =
-    let here : drop at (texts words) ≡ texts (drop at words) = drop-map string_bytes at words in
-    let split : texts (drop at words) ≡ string_bytes word ∷ texts (drop (at + 1) words) = ap texts (drop_from words at word within is) in
-    let later : drop (at + 1) (texts words) ≡ texts (drop (at + 1) words) = drop-map string_bytes (at + 1) words in
-    cc (here, split, later, same)
-
--- and past the last there is none
-pub texts_past : (words : List (String Global)) (at : ℕ) → length words ≤ at → drop at (texts words) ≡ []
-texts_past words at past = drop_past (texts words) at (few_texts words at past)
+use Rattle.wb_program.specs.Reads.{ReadsTo}
+use Rattle.wb_program.specs.Inner.Extensions.{EndsAtExtension, LeadsTo, StopsFrom, CertifyStops}
 
 -- a text that is too long is refused for that
 pub too_long_extension : (host : ResolvedParts) (operations : List OperationSignature) (contents : List ℕ) → 1048576 < length contents

@@ -1,6 +1,8 @@
 -- Two reports of `compose`, and of `tree` with extensions, have one status, and one text where nothing is refused.
 use Rattle.std.proofs.Common.{◌≡◌, ℕ, List, Some, length, ap, sym, ◌∙◌, subst}
-use Rattle.wb_operations.specs.Operations.{OperationSignature}
+use Rattle.wb_base.specs.Different.{Differ}
+use Rattle.wb_generated_texts.specs.Generated.{HasOneText}
+use Rattle.wb_operations.specs.Operations.{Operations, OperationSignature}
 use Rattle.wb_report.specs.Lines.{report_of}
 use Rattle.wb_report.specs.declared.done.Done.TheVariants as done
 use Rattle.wb_report.specs.declared.outcome.Outcome.TheVariants as o
@@ -8,16 +10,21 @@ use Rattle.wb_resolved.specs.declared.resolved.ResolvedParts.{ResolvedParts}
 use Rattle.wb_trees.specs.declared.answer.TextAnswer.{TextAnswer}
 use Rattle.wb_united_trees.specs.Answers.{HasSameAnswer}
 use Rattle.wb_united_trees.specs.Withdrawn.{HasOneWithdrawn}
+use Rattle.wb_united_values.specs.Roots.{HasOneRootAttribute}
+use Rattle.wb_united_values.specs.Values.{HasOneTextValue}
 use Rattle.wb_world.specs.Shelf.{Files}
-use Rattle.wb_program.specs.Checks.{Ends, Check}
+use Rattle.wb_inputs.specs.Checks.{Ends, Check}
+use Rattle.wb_inputs.specs.SeveralChecks.{names_of}
+use Rattle.wb_inputs.specs.Texts.{IsText, IsTooLongText}
+use Rattle.wb_inputs.specs.declared.status.Status.{Status}
+use Rattle.wb_inputs.specs.declared.status.Status.TheVariants.{Done, TextTooLong}
+use Rattle.wb_inputs.proofs.OneCheck.{AreOne}
+use Rattle.wb_inputs.proofs.Excludes.{ExcludesExtensions, ExcludesHeaders}
+use Rattle.wb_inputs.proofs.OneHostReport.{AreAlike, are_alike, one_short_report}
+use Rattle.wb_inputs.proofs.OneSeveralReport.{one_several_report}
 use Rattle.wb_program.specs.ComposeReport.{ComposeReport, ComposedLines, UnitedReport, UnitedTreeReport}
-use Rattle.wb_program.specs.TreeReport.{IsText, IsTooLongText, ShownText}
-use Rattle.wb_program.specs.declared.status.Status.{Status}
-use Rattle.wb_program.specs.declared.status.Status.TheVariants.{Done, TextTooLong}
-use Rattle.wb_program.proofs.OneCheck.{AreOne}
-use Rattle.wb_program.proofs.OneExtensionReport.{ExcludesExtensions}
-use Rattle.wb_program.proofs.OneHostReport.{AreAlike, are_alike, one_shown, one_short_report}
-use Rattle.wb_program.proofs.OneSeveralReport.{ExcludesHeaders, one_several_report}
+use Rattle.wb_program.specs.TreeReport.{ShownText}
+use Rattle.wb_program.proofs.OneHostReport.{one_shown}
 
 -- what the crates below say of answers
 pub record Answers : Type 0 where
@@ -27,6 +34,12 @@ pub record Answers : Type 0 where
       → HasOneWithdrawn host operations extensions
   pub texts : (host : ResolvedParts) (operations : List OperationSignature) (extensions : List ResolvedParts)
       → HasSameAnswer host operations extensions extensions
+  pub attributes : (host : ResolvedParts) (operations : List OperationSignature) (extensions : List ResolvedParts)
+      → Differ (names_of extensions) → HasOneRootAttribute host operations extensions
+  pub values : (host : ResolvedParts) (operations : Operations) (extensions : List ResolvedParts)
+      → Differ (names_of extensions) → HasOneTextValue host operations extensions
+  pub made : (host : ResolvedParts) (operations : List OperationSignature) (extensions : List ResolvedParts) (number size : ℕ)
+      → HasOneText host operations extensions number size
 
 module _ (answers : Answers) (operations : List OperationSignature) (files : Files) (r : ResolvedParts) (values : List ResolvedParts)
     (s t : Status) (bytes others : List ℕ) where
@@ -54,7 +67,7 @@ pub one_compose_report : Answers → (operations : List OperationSignature) (fil
 one_compose_report answers operations files host all s t bytes others =
     one_several_report answers.extensions answers.headers operations files host all
     (λ r values. Ends Done (ComposedLines operations r values)) s t bytes others
-    (λ r values p q. are_alike s t bytes others (one_composed answers operations files r values s t bytes others p q))
+    (λ r values names p q. are_alike s t bytes others (one_composed answers operations files r values s t bytes others p q))
 
 -- two reports of `tree` with extensions
 pub one_united_report : Answers → (operations : List OperationSignature) (files : Files) (file host : List ℕ) (all : List (List ℕ))
@@ -64,6 +77,6 @@ one_united_report answers operations files file host all s t bytes others =
     one_several_report answers.extensions answers.headers operations files host all
     (λ r values. Check TextTooLong (IsTooLongText (Some files) file) (IsText (Some files) file)
     (λ (text : List ℕ). UnitedReport operations r values text)) s t bytes others
-    (λ r values p q. are_alike s t bytes others (one_short_report files file s t bytes others
+    (λ r values names p q. are_alike s t bytes others (one_short_report files file s t bytes others
     (λ (text : List ℕ). UnitedReport operations r values text)
     (λ text. one_united answers operations files r values s t bytes others text) p q))

@@ -1,8 +1,7 @@
 -- Two reports of extensions in their order have one status, and one text where no extension is refused.
-use Rattle.std.proofs.Common.{◌≡◌, ◌<◌, ◌≤◌, ◌++◌, inl, inr, ℕ, List, [], ◌∷◌, Some, length, arith, ap, sym, ◌∙◌, subst}
+use Rattle.std.proofs.Common.{◌≡◌, ◌++◌, inl, inr, ℕ, List, [], ◌∷◌, Some, ap, sym, ◌∙◌, subst}
 use Rattle.wb_beside.specs.Extensions.{IsOneExtension}
 use Rattle.wb_extension_files.specs.Contents.{IsExtensionText, IsExtensionRefusal}
-use Rattle.wb_extension_files.specs.OneAnswer.{HaveOneAnswer}
 use Rattle.wb_extension_files.specs.declared.refusal.FileRefusal.{FileRefusal}
 use Rattle.wb_extension_files.specs.declared.refusal.FileRefusal.TheVariants as f
 use Rattle.wb_operations.specs.Operations.{OperationSignature}
@@ -11,16 +10,13 @@ use Rattle.wb_report.specs.declared.outcome.Outcome.TheVariants as o
 use Rattle.wb_report.specs.declared.refusal.Refusal.{Refusal}
 use Rattle.wb_resolved.specs.declared.resolved.ResolvedParts.{ResolvedParts}
 use Rattle.wb_world.specs.Shelf.{Files}
-use Rattle.wb_program.specs.CertifyReport.{IsForOtherHost, IsExtensionNamed, ExtensionsReport, CertifyReport}
-use Rattle.wb_program.specs.Files.{FileIs}
-use Rattle.wb_program.specs.declared.status.Status.{Status}
-use Rattle.wb_program.proofs.OneCheck.{on_file}
-use Rattle.wb_program.proofs.OneHostReport.{AreAlike, one_certified_report}
-
--- what the contents of a file say of their answers
-abbrev pub ExcludesExtensions : Type 0
-ExcludesExtensions = (host : ResolvedParts) (operations : List OperationSignature) (contents : List ℕ)
-    → HaveOneAnswer host operations contents
+use Rattle.wb_inputs.specs.ExtensionChecks.{IsForOtherHost}
+use Rattle.wb_inputs.specs.Files.{FileIs}
+use Rattle.wb_inputs.specs.declared.status.Status.{Status}
+use Rattle.wb_inputs.proofs.OneCheck.{on_file}
+use Rattle.wb_inputs.proofs.OneHostReport.{AreAlike, one_certified_report}
+use Rattle.wb_program.specs.CertifyReport.{IsExtensionNamed, ExtensionsReport, CertifyReport}
+use Rattle.wb_inputs.proofs.Excludes.{ExcludesExtensions, not_few}
 
 module _ (excludes : ExcludesExtensions) (operations : List OperationSignature) (files : Files) (host : ResolvedParts) where
   -- the contents are refused so
@@ -133,10 +129,6 @@ module _ (excludes : ExcludesExtensions) (operations : List OperationSignature) 
       let same : other ≡ name = one_name file other name is' is in
       one_extensions_report left (names ++ name ∷ []) s t bytes others more
       (subst (λ (n : List ℕ). ExtensionsReport operations (Some files) host left (names ++ n ∷ []) t others) same more')
-
--- what is too many is no more than is taken
-pub not_few : (extensions : List (List ℕ)) → 64 < length extensions → length extensions ≤ 64 → ⊥
-not_few extensions many few = omega (arith, many, few)
 
 -- two reports of `certify`
 pub one_certify_report : ExcludesExtensions → (operations : List OperationSignature) (files : Files) (host : List ℕ)

@@ -14,21 +14,21 @@ use Rattle.wb_words.proofs.OneAsked.{one_asked}
 use Rattle.wb_words.specs.Asked.{Asked}
 use Rattle.wb_words.specs.Asked as a
 use Rattle.wb_words.specs.Words.{Asks}
-use Rattle.wb_program.specs.Built.{InCommandSet}
-use Rattle.wb_program.specs.Checks.{Ends}
-use Rattle.wb_program.specs.Files.{KnownFile}
+use Rattle.wb_inputs.specs.Checks.{Ends}
+use Rattle.wb_inputs.specs.Files.{KnownFile}
+use Rattle.wb_inputs.specs.declared.status.Status.{Status}
+use Rattle.wb_inputs.specs.declared.status.Status.TheVariants.{Done, SpecRefused, NotCertified}
+use Rattle.wb_inputs.proofs.OneCheck.{AreOne, on_file, one_check, one_end}
+use Rattle.wb_inputs.proofs.OneHostReport.{AreAlike}
+use Rattle.wb_runs.proofs.OneReport.{RunAnswers, one_run_report, one_generate_report}
 use Rattle.wb_program.specs.Laws.{HasOneRefusal, show_refuses, HaveOneStatus, HaveOneText, EndAsReported}
-use Rattle.wb_program.specs.Report.{IsReportOf, IsAnswered, IsReport, value_report, show_report}
-use Rattle.wb_program.specs.Report.{check_report, certify_report, compose_report, tree_report, united_tree_report}
+use Rattle.wb_program.specs.Report.{InCommandSet, IsReportOf, IsAnswered, IsReport, value_report, show_report, check_report, certify_report}
+use Rattle.wb_program.specs.Report.{compose_report, tree_report, united_tree_report, run_report, generate_report}
 use Rattle.wb_program.specs.ShowReport.{RefusesSpec, ShowReport}
-use Rattle.wb_program.specs.declared.status.Status.{Status}
-use Rattle.wb_program.specs.declared.status.Status.TheVariants.{Done, SpecRefused, NotCertified}
-use Rattle.wb_program.proofs.OneCheck.{AreOne, on_file, one_check, one_end}
 use Rattle.wb_program.proofs.OneComposeReport.{Answers, one_compose_report, one_united_report}
 use Rattle.wb_program.proofs.OneExtensionReport.{one_certify_report}
-use Rattle.wb_program.proofs.OneHostReport.{AreAlike, one_check_report, one_tree_report}
+use Rattle.wb_program.proofs.OneHostReport.{one_check_report, one_tree_report}
 use Rattle.wb_program.proofs.OneValueReport.{one_value_report}
-use Rattle.wb_program.proofs.Reported.{is_built}
 use Rattle.wb_program.proofs.ShowLemmas.{none_bad, one_bad}
 
 module _ (files : Files) (file : List ℕ) (s t : Status) (bytes others : List ℕ) where
@@ -75,6 +75,16 @@ when_alike : (asked : Asked) (s t : Status) (bytes others : List ℕ) → IsOthe
 when_alike asked s t bytes others is alike =
     (alike.0, λ chosen. elim chosen [ inl differ ↦ alike.1 differ.0 differ.1 | inr once ↦ absurd (may_differ asked is once) ])
 
+-- what the crates below say for `run` and `generate`
+runs_of : Answers → RunAnswers
+runs_of answers = record {
+  extensions = answers.extensions;
+  headers = answers.headers;
+  attributes = answers.attributes;
+  values = answers.values;
+  made = answers.made;
+}
+
 -- two reports of what is asked are one
 one_report_of : Answers → (operations : Operations) (files : Files) (s t : Status) (bytes others : List ℕ) (asked : Asked)
     → IsReportOf operations (Some files) s bytes asked → IsReportOf operations (Some files) t others asked
@@ -101,12 +111,20 @@ one_report_of answers operations files s t bytes others asked
     (united_tree_report {text = text} {host = host} {extension = extension} {extensions = extensions} x) (united_tree_report y) =
     when_alike (a.tree text host (extension ∷ extensions)) s t bytes others tt
     (one_united_report answers operations.signatures files text host (extension ∷ extensions) s t bytes others x y)
+one_report_of answers operations files s t bytes others asked
+    (run_report {text = text} {attribute = attribute} {host = host} {steps = steps} {extensions = extensions} x) (run_report y) =
+    when_alike (a.run text attribute steps host extensions) s t bytes others tt
+    (one_run_report (runs_of answers) operations files text attribute steps host extensions s t bytes others x y)
+one_report_of answers operations files s t bytes others asked
+    (generate_report {number = number} {size = size} {attribute = attribute} {host = host} {extensions = extensions} x) (generate_report y) =
+    when_alike (a.generate number size attribute host extensions) s t bytes others tt
+    (one_generate_report (runs_of answers) operations files number size attribute host extensions s t bytes others x y)
 
 -- words with a report are in the command set
 in_set : (operations : Operations) (known : Option Files) (s : Status) (bytes : List ℕ) (words : List (List ℕ))
     → IsAnswered operations words known s bytes → InCommandSet words
 in_set operations known s bytes words x =
-    record { asked = x.asked; asks = x.asks; built = is_built operations known s bytes x.asked x.report }
+    record { asked = x.asked; asks = x.asks }
 
 -- one text is wanted of the words: it is no refusal, or one that has no choice
 abbrev WantsOneText : List (List ℕ) → Status → Type 0

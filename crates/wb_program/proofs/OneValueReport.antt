@@ -9,14 +9,14 @@ use Rattle.wb_root_values.proofs.OneAnswer.{one_answer as one_root}
 use Rattle.wb_root_values.specs.declared.answer.RootAnswer.{RootAnswer}
 use Rattle.wb_root_values.specs.declared.answer.RootAnswer.TheVariants as answered
 use Rattle.wb_world.specs.Shelf.{Files}
-use Rattle.wb_program.specs.Checks.{Check}
-use Rattle.wb_program.specs.Files.{FileIs}
-use Rattle.wb_program.specs.TreeReport.{IsText, IsTooLongText}
+use Rattle.wb_inputs.specs.Checks.{Check}
+use Rattle.wb_inputs.specs.Files.{FileIs}
+use Rattle.wb_inputs.specs.Texts.{IsText, IsTooLongText}
+use Rattle.wb_inputs.specs.declared.status.Status.{Status}
+use Rattle.wb_inputs.specs.declared.status.Status.TheVariants.{TextTooLong}
+use Rattle.wb_inputs.proofs.OneCheck.{AreOne}
+use Rattle.wb_inputs.proofs.OneHostReport.{AreAlike, are_alike, one_short_report, one_well_defined_report}
 use Rattle.wb_program.specs.ValueReport.{RootReport, TermReport, ValueReport}
-use Rattle.wb_program.specs.declared.status.Status.{Status}
-use Rattle.wb_program.specs.declared.status.Status.TheVariants.{TextTooLong}
-use Rattle.wb_program.proofs.OneCheck.{AreOne}
-use Rattle.wb_program.proofs.OneHostReport.{AreAlike, are_alike, one_short_report, one_well_defined_report}
 
 -- an answer has one report
 one_shown : (file attribute : List ℕ) (answer : RootAnswer) (s t : Status) (bytes others : List ℕ)

@@ -1,8 +1,7 @@
 -- A report has a status with which it is written whole, and which isn't that of words that ask for nothing.
-use Rattle.std.proofs.Common.{◌≡◌, ◌≢◌, inl, inr, ℕ, Option, List, [], ◌∷◌, ◌++◌, subst, sym}
+use Rattle.std.proofs.Common.{◌≡◌, inl, inr, ℕ, Option, List, [], ◌∷◌, ◌++◌, subst, sym}
 use Rattle.wb_hosts.specs.Contents.{IsHostText, IsHostRefusal}
 use Rattle.wb_hosts.specs.WellDefined.{IsWellDefinedText, IsWellDefinedTextRefusal}
-use Rattle.wb_hosts.specs.declared.refusal.HostRefusal.{HostRefusal}
 use Rattle.wb_operations.specs.Operations.{OperationSignature, Operations}
 use Rattle.wb_reader.specs.Refusals.{IsAcceptedText}
 use Rattle.wb_report.specs.Lines.{report_of}
@@ -16,36 +15,23 @@ use Rattle.wb_trees.specs.declared.answer.TextAnswer.{TextAnswer}
 use Rattle.wb_trees.specs.declared.answer.TextAnswer.TheVariants as text
 use Rattle.wb_words.specs.Asked.{Asked}
 use Rattle.wb_world.specs.Shelf.{Files}
-use Rattle.wb_program.specs.Built.{IsBuilt, value_is_built, show_is_built, check_is_built, certify_is_built}
-use Rattle.wb_program.specs.Built.{compose_is_built, tree_is_built}
-use Rattle.wb_program.specs.Checks.{Report, Ends, Check}
+use Rattle.wb_inputs.specs.Checks.{Ends, Check}
+use Rattle.wb_inputs.specs.Files.{KnownFile}
+use Rattle.wb_inputs.specs.Texts.{IsText, IsTooLongText}
+use Rattle.wb_inputs.specs.declared.status.Status.{Status}
+use Rattle.wb_inputs.specs.declared.status.Status.TheVariants.{Done, SpecRefused, TextTooLong, Absent, ReadFault, NoMemory}
 use Rattle.wb_program.specs.CertifyReport.{ExtensionsReport, CertifyReport}
-use Rattle.wb_program.specs.CheckReport.{HostChecks, CheckReport}
+use Rattle.wb_program.specs.CheckReport.{CheckReport}
 use Rattle.wb_program.specs.ComposeReport.{ComposeReport, ComposedLines, UnitedReport, UnitedTreeReport}
-use Rattle.wb_program.specs.Files.{KnownFile}
-use Rattle.wb_program.specs.Report.{IsReportOf, value_report, show_report, check_report, certify_report}
-use Rattle.wb_program.specs.Report.{compose_report, tree_report, united_tree_report}
-use Rattle.wb_program.specs.SeveralChecks.{EachChecks, RefusesEach, SeveralChecks}
+use Rattle.wb_runs.proofs.Reported.{run_reported, generate_reported}
+use Rattle.wb_program.specs.Report.{run_report, generate_report}
+use Rattle.wb_program.specs.Report.{IsReportOf, value_report, show_report, check_report, certify_report, compose_report, tree_report}
+use Rattle.wb_program.specs.Report.{united_tree_report}
 use Rattle.wb_program.specs.ShowReport.{RefusesSpec, ShowReport}
-use Rattle.wb_program.specs.TreeReport.{IsText, IsTooLongText, ShownText, TextReport, TreeReport}
+use Rattle.wb_program.specs.TreeReport.{ShownText, TextReport, TreeReport}
 use Rattle.wb_program.specs.ValueReport.{RootReport, TermReport, ValueReport}
 use Rattle.wb_program.specs.Written.{WritesNothing}
-use Rattle.wb_program.specs.declared.status.Status.{Status}
-use Rattle.wb_program.specs.declared.status.Status.TheVariants.{Done, Usage, SpecRefused, TextTooLong}
-use Rattle.wb_program.specs.declared.status.Status.TheVariants.{Absent, ReadFault, WriteFault, NoMemory}
-
--- a status of the report of a command that is written whole
-abbrev pub IsReported : Status → Type 0
-IsReported Usage = ⊥
-IsReported Absent = ⊥
-IsReported ReadFault = ⊥
-IsReported WriteFault = ⊥
-IsReported NoMemory = ⊥
-IsReported other = Unit {0}
-
--- such a status isn't one that isn't
-pub differs : (s t : Status) → IsReported s → ¬ IsReported t → s ≢ t
-differs s t is none same = none (subst IsReported same is)
+use Rattle.wb_inputs.proofs.WrittenWhole.{IsReported, differs, by_check, by_end, by_host, by_text, several_reported}
 
 -- it writes a report
 pub writes : (s : Status) → IsReported s → ¬ WritesNothing s
@@ -53,30 +39,11 @@ writes s is (inl same) = differs s Absent is (λ none. none) same
 writes s is (inr (inl same)) = differs s ReadFault is (λ none. none) same
 writes s is (inr (inr same)) = differs s NoMemory is (λ none. none) same
 
--- a check with such a status, and a rest with one
-by_check : {X : Type 0} (ending s : Status) (bytes : List ℕ) (Line : List ℕ → Type 0) (Passes : X → Type 0) (rest : X → Report) →
-    IsReported ending
-    → ((x : X) → rest x s bytes → IsReported s) → Check ending Line Passes rest s bytes → IsReported s
-by_check ending s bytes Line Passes rest is more (inl (same, line)) = subst IsReported (sym same) is
-by_check ending s bytes Line Passes rest is more (inr (x, passes, goes)) = more x goes
-
--- an end with such a status
-by_end : (ending s : Status) (bytes : List ℕ) (Line : List ℕ → Type 0) → IsReported ending → Ends ending Line s bytes → IsReported s
-by_end ending s bytes Line is (same, line) = subst IsReported (sym same) is
-
 -- a report of `show`
 show_reported : (known : Option Files) (file : List ℕ) (s : Status) (bytes : List ℕ) → ShowReport known file s bytes → IsReported s
 show_reported known file s bytes = by_check SpecRefused s bytes (RefusesSpec known file)
     (λ spec. KnownFile known file (λ contents. IsAcceptedText contents spec)) (λ spec. Ends Done (IsCanonical spec)) tt
     (λ spec. by_end Done s bytes (IsCanonical spec) tt)
-
--- the checks of a host, and a rest with such a status
-by_host : (IsHost : List ℕ → ResolvedParts → Type 0) (IsRefused : List ℕ → HostRefusal → Type 0) (known : Option Files) (file : List ℕ)
-    (rest : ResolvedParts → Report) (s : Status) (bytes : List ℕ) → ((r : ResolvedParts) → rest r s bytes → IsReported s)
-    → HostChecks IsHost IsRefused known file rest s bytes → IsReported s
-by_host IsHost IsRefused known file rest s bytes more (inl (same, line)) = subst IsReported (sym same) tt
-by_host IsHost IsRefused known file rest s bytes more (inr (inl (same, line))) = subst IsReported (sym same) tt
-by_host IsHost IsRefused known file rest s bytes more (inr (inr (r, passes, goes))) = more r goes
 
 -- a report of `check`
 check_reported : (operations : List OperationSignature) (known : Option Files) (host : List ℕ) (s : Status) (bytes : List ℕ)
@@ -111,12 +78,6 @@ text_reported r text s bytes (inl (same, line)) = subst IsReported (sym same) tt
 text_reported r text s bytes (inr (inl (same, line))) = subst IsReported (sym same) tt
 text_reported r text s bytes (inr (inr (same, line))) = subst IsReported (sym same) tt
 
--- a text that isn't too long, and a rest with such a status
-by_text : (known : Option Files) (file : List ℕ) (rest : List ℕ → Report) (s : Status) (bytes : List ℕ)
-    → ((text : List ℕ) → rest text s bytes → IsReported s)
-    → Check TextTooLong (IsTooLongText known file) (IsText known file) rest s bytes → IsReported s
-by_text known file rest s bytes = by_check TextTooLong s bytes (IsTooLongText known file) (IsText known file) rest tt
-
 -- a report of `tree`
 tree_reported : (operations : List OperationSignature) (known : Option Files) (text host : List ℕ) (s : Status) (bytes : List ℕ)
     → TreeReport operations known text host s bytes → IsReported s
@@ -144,35 +105,6 @@ value_reported operations known host file attribute s bytes =
     (λ (text : List ℕ). TermReport operations r.attributes file attribute text)) s bytes
     (λ r. by_text known file (λ (text : List ℕ). TermReport operations r.attributes file attribute text) s bytes
     (λ text report. root_reported file attribute report.answer s bytes report.shown))
-
--- a report of several extensions, and a rest with such a status
-module _ (operations : List OperationSignature) (known : Option Files) (all : List (List ℕ)) (s : Status) (bytes : List ℕ) where
-  -- one that is refused
-  refused_reported : (r : ResolvedParts) (left : List (List ℕ)) (before : List ResolvedParts)
-      → RefusesEach operations known r left before s bytes → IsReported s
-  refused_reported r [] before none = absurd none
-  refused_reported r (file ∷ left) before (inl (inl (same, line))) = subst IsReported (sym same) tt
-  refused_reported r (file ∷ left) before (inl (inr (inl (same, line)))) = subst IsReported (sym same) tt
-  refused_reported r (file ∷ left) before (inl (inr (inr (inl (same, line))))) = subst IsReported (sym same) tt
-  refused_reported r (file ∷ left) before (inl (inr (inr (inr (inl (same, line)))))) = subst IsReported (sym same) tt
-  refused_reported r (file ∷ left) before (inl (inr (inr (inr (inr (same, line)))))) = subst IsReported (sym same) tt
-  refused_reported r (file ∷ left) before (inr (value, is, later)) = refused_reported r left (before ++ value ∷ []) later
-
-  -- each of them
-  each_reported : (rest : ResolvedParts → List ResolvedParts → Report)
-      → ((r : ResolvedParts) (values : List ResolvedParts) → rest r values s bytes → IsReported s) → (r : ResolvedParts)
-      → EachChecks operations known r all (rest r) s bytes → IsReported s
-  each_reported rest more r (inl is) = refused_reported r all [] is
-  each_reported rest more r (inr (values, each, report)) = more r values report
-
-  -- all checks
-  several_reported : (host : List ℕ) (rest : ResolvedParts → List ResolvedParts → Report)
-      → ((r : ResolvedParts) (values : List ResolvedParts) → rest r values s bytes → IsReported s)
-      → SeveralChecks operations known host all rest s bytes → IsReported s
-  several_reported host rest more (inl (same, line)) = subst IsReported (sym same) tt
-  several_reported host rest more (inr (few, report)) =
-      by_host (IsHostText operations) (IsHostRefusal operations) known host (λ r. EachChecks operations known r all (rest r)) s bytes
-      (each_reported rest more) report
 
 -- a report of `compose`
 compose_reported : (operations : List OperationSignature) (known : Option Files) (host : List ℕ) (all : List (List ℕ)) (s : Status)
@@ -213,14 +145,9 @@ is_reported operations known s bytes asked (compose_report {host = host} {extens
 is_reported operations known s bytes asked
     (united_tree_report {text = text} {host = host} {extension = extension} {extensions = extensions} report) =
     united_reported operations.signatures known text host (extension ∷ extensions) s bytes report
-
--- what has a report is built
-pub is_built : (operations : Operations) (known : Option Files) (s : Status) (bytes : List ℕ) (asked : Asked)
-    → IsReportOf operations known s bytes asked → IsBuilt asked
-is_built operations known s bytes asked (value_report x) = value_is_built
-is_built operations known s bytes asked (show_report x) = show_is_built
-is_built operations known s bytes asked (check_report x) = check_is_built
-is_built operations known s bytes asked (certify_report x) = certify_is_built
-is_built operations known s bytes asked (tree_report x) = tree_is_built
-is_built operations known s bytes asked (compose_report x) = compose_is_built
-is_built operations known s bytes asked (united_tree_report x) = tree_is_built
+is_reported operations known s bytes asked
+    (run_report {text = text} {attribute = attribute} {host = host} {steps = steps} {extensions = extensions} report) =
+    run_reported operations known text attribute steps host extensions s bytes report
+is_reported operations known s bytes asked
+    (generate_report {number = number} {size = size} {attribute = attribute} {host = host} {extensions = extensions} report) =
+    generate_reported operations known number size attribute host extensions s bytes report

@@ -11,14 +11,13 @@ use Rattle.wb_report.specs.declared.refusal.Refusal.{Refusal}
 use Rattle.wb_shown.specs.Shows.{written_reason, of_spec}
 use Rattle.wb_syntax.specs.SpecText.{SpecView}
 use Rattle.wb_world.specs.Shelf.{Files}
+use Rattle.wb_inputs.specs.Contents.{ContentsAre, ReadIs}
+use Rattle.wb_inputs.specs.declared.reading.Contents.{Contents}
+use Rattle.wb_inputs.specs.declared.reading.Contents.TheVariants.{Whole, TooLong}
+use Rattle.wb_inputs.specs.declared.status.Status.{Status}
+use Rattle.wb_inputs.proofs.HostLemmas.{read_is}
 use Rattle.wb_program.specs.ShowReport.{ShowReport}
-use Rattle.wb_program.specs.Inner.Contents.{ContentsAre}
-use Rattle.wb_program.specs.Inner.Hosts.{ReadIs}
 use Rattle.wb_program.specs.Inner.Shown.{ContentsShow, RefusesRead, ShowsRefusal}
-use Rattle.wb_program.specs.declared.reading.Contents.{Contents}
-use Rattle.wb_program.specs.declared.reading.Contents.TheVariants.{Whole, TooLong}
-use Rattle.wb_program.specs.declared.status.Status.{Status}
-use Rattle.wb_program.proofs.HostLemmas.{read_is}
 
 -- what is shown isn't want of memory
 not_memory : (refusal : SpecRefusal) (shown : Refusal) → of_spec (written_reason refusal) ≡ Some shown → ¬ IsNoMemory refusal

@@ -1,7 +1,7 @@
--- What `certify HOST EXT..` reports, and the checks of extensions with which other commands go on.
-use Rattle.std.specs.Prelude.{◌≡◌, ◌<◌, ◌≤◌, ◌⊎◌, ◌++◌, ℕ, Option, List, [], ◌∷◌, length}
+-- What `certify HOST EXT..` reports.
+use Rattle.std.specs.Prelude.{◌≡◌, ◌≤◌, ◌⊎◌, ◌++◌, ℕ, Option, List, [], ◌∷◌, length}
 use Rattle.wb_beside.specs.Extensions.{IsOneExtension}
-use Rattle.wb_extension_files.specs.Contents.{IsExtensionText, IsExtensionRefusal, NamesOtherHost}
+use Rattle.wb_extension_files.specs.Contents.{IsExtensionText, IsExtensionRefusal}
 use Rattle.wb_extension_files.specs.declared.refusal.FileRefusal.{FileRefusal}
 use Rattle.wb_extension_files.specs.declared.refusal.FileRefusal.TheVariants as f
 use Rattle.wb_operations.specs.Operations.{OperationSignature}
@@ -11,10 +11,11 @@ use Rattle.wb_report.specs.declared.outcome.Outcome.TheVariants as o
 use Rattle.wb_report.specs.declared.refusal.Refusal.{Refusal}
 use Rattle.wb_resolved.specs.declared.resolved.ResolvedParts.{ResolvedParts}
 use Rattle.wb_world.specs.Shelf.{Files}
-use Rattle.wb_program.specs.Checks.{Report, Ends}
-use Rattle.wb_program.specs.CheckReport.{CertifiedChecks}
-use Rattle.wb_program.specs.Files.{KnownFile}
-use Rattle.wb_program.specs.declared.status.Status.TheVariants.{Done, SpecRefused, NotCertified, TooManyExtensions, WrongHost}
+use Rattle.wb_inputs.specs.Checks.{Report, Ends}
+use Rattle.wb_inputs.specs.HostChecks.{CertifiedChecks}
+use Rattle.wb_inputs.specs.Files.{KnownFile}
+use Rattle.wb_inputs.specs.declared.status.Status.TheVariants.{Done, SpecRefused, NotCertified, TooManyExtensions, WrongHost}
+use Rattle.wb_inputs.specs.ExtensionChecks.{AreTooMany, IsForOtherHost}
 
 module _ (operations : List OperationSignature) (known : Option Files) (host : ResolvedParts) where
   -- the file is no certified extension of the host by a refusal of this sort, and the line says why
@@ -22,12 +23,6 @@ module _ (operations : List OperationSignature) (known : Option Files) (host : R
     pub shown : Refusal
     pub cause : KnownFile known file (λ contents. IsExtensionRefusal host operations contents (Sort shown))
     pub line : bytes ≡ report_of (o.Refused file shown)
-
-  -- the file is an extension of another host, and the line says of which
-  pub record IsForOtherHost (file bytes : List ℕ) : Type 0 where
-    pub name : List ℕ
-    pub cause : KnownFile known file (λ contents. NamesOtherHost host contents name)
-    pub line : bytes ≡ report_of (o.WrongHost file name)
 
   -- the file is a certified extension of the host, and this is the extension's name
   pub record IsExtensionNamed (file name : List ℕ) : Type 0 where
@@ -40,7 +35,7 @@ module _ (operations : List OperationSignature) (known : Option Files) (host : R
   abbrev pub ExtensionChecks : List ℕ → (List ℕ → Report) → Report
   ExtensionChecks file rest status bytes =
       Ends SpecRefused (RefusesExtension file f.Specification) status bytes
-      ⊎ Ends WrongHost (IsForOtherHost file) status bytes
+      ⊎ Ends WrongHost (IsForOtherHost operations known host file) status bytes
       ⊎ Ends NotCertified (RefusesExtension file f.Certification) status bytes
       ⊎ ((name : List ℕ) × IsExtensionNamed file name × rest name status bytes)
 
@@ -48,11 +43,6 @@ module _ (operations : List OperationSignature) (known : Option Files) (host : R
   abbrev pub ExtensionsReport : List (List ℕ) → List (List ℕ) → Report
   ExtensionsReport [] names = Ends Done (λ line. line ≡ report_of (o.Done (done.Certified host.host names)))
   ExtensionsReport (file ∷ files) names = ExtensionChecks file (λ name. ExtensionsReport files (names ++ name ∷ []))
-
--- more extensions are named than are taken, and the line says so
-pub record AreTooMany (extensions : List (List ℕ)) (bytes : List ℕ) : Type 0 where
-  pub many : 64 < length extensions
-  pub line : bytes ≡ report_of o.TooManyExtensions
 
 -- how many extensions there are, then the host, then each extension
 abbrev pub CertifyReport : List OperationSignature → Option Files → List ℕ → List (List ℕ) → Report

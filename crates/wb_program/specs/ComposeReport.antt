@@ -9,11 +9,12 @@ use Rattle.wb_trees.specs.declared.answer.TextAnswer.{TextAnswer}
 use Rattle.wb_united_trees.specs.Answers.{IsUnitedTextAnswer}
 use Rattle.wb_united_trees.specs.Withdrawn.{AreWithdrawnNames}
 use Rattle.wb_world.specs.Shelf.{Files}
-use Rattle.wb_program.specs.Checks.{Report, Ends, Check}
-use Rattle.wb_program.specs.SeveralChecks.{SeveralChecks}
-use Rattle.wb_program.specs.TreeReport.{IsText, IsTooLongText, ShownText}
-use Rattle.wb_program.specs.declared.status.Status.{Status}
-use Rattle.wb_program.specs.declared.status.Status.TheVariants.{Done, TextTooLong}
+use Rattle.wb_inputs.specs.Checks.{Report, Ends, Check}
+use Rattle.wb_inputs.specs.SeveralChecks.{SeveralChecks}
+use Rattle.wb_inputs.specs.Texts.{IsText, IsTooLongText}
+use Rattle.wb_inputs.specs.declared.status.Status.{Status}
+use Rattle.wb_inputs.specs.declared.status.Status.TheVariants.{Done, TextTooLong}
+use Rattle.wb_program.specs.TreeReport.{ShownText}
 
 -- the host with its extensions has these markers without a bare form, and the lines say so
 pub record ComposedLines (operations : List OperationSignature) (host : ResolvedParts) (extensions : List ResolvedParts) (bytes : List ℕ)

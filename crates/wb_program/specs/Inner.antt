@@ -1,8 +1,4 @@
--- Words of private functions: what a command is answered, what is read of a file and made of it, how a run stops.
+-- Words of private functions: what the words of a command keep, what is made of extensions in their order, what is shown of a file.
 pub mod Answered
-pub mod Contents
 pub mod Extensions
-pub mod Hosts
-pub mod Several
 pub mod Shown
-pub mod Stopped

@@ -5,10 +5,10 @@ use Rattle.wb_operations.specs.Operations.{Operations}
 use Rattle.wb_words.specs.Asked.{Asked}
 use Rattle.wb_words.specs.Asked as a
 use Rattle.wb_words.specs.Words.{Asks}
+use Rattle.wb_inputs.specs.declared.status.Status.{Status}
+use Rattle.wb_inputs.specs.declared.status.Status.TheVariants.{SpecRefused, NotCertified, WriteFault}
 use Rattle.wb_program.specs.Report.{IsReport}
 use Rattle.wb_program.specs.Written.{Wrote, WritesNothing}
-use Rattle.wb_program.specs.declared.status.Status.{Status}
-use Rattle.wb_program.specs.declared.status.Status.TheVariants.{SpecRefused, NotCertified, WriteFault}
 
 -- each refusal of the command has one text; the others may show any true example
 pub data HasOneRefusal : Asked → Type 0 where

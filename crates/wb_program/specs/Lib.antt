@@ -1,11 +1,3 @@
--- which commands are built, and which files they read
-pub mod Built
--- the statuses as numbers
-pub mod StatusNumber
--- what is known of files
-pub mod Files
--- how reports are stated: checks in their order
-pub mod Checks
 -- the report of `show`
 pub mod ShowReport
 -- the report of `check`
@@ -16,8 +8,6 @@ pub mod CertifyReport
 pub mod TreeReport
 -- the report of `value`
 pub mod ValueReport
--- the checks of several extensions
-pub mod SeveralChecks
 -- the reports of `compose`, and of `tree` with extensions
 pub mod ComposeReport
 -- the report of words and files

@@ -7,15 +7,16 @@ use Rattle.wb_report.specs.declared.outcome.Outcome.TheVariants as o
 use Rattle.wb_words.specs.Asked.{Asked}
 use Rattle.wb_words.specs.Asked as a
 use Rattle.wb_words.specs.Words.{Asks}
-use Rattle.wb_program.specs.Built.{InCommandSet}
+use Rattle.wb_inputs.specs.declared.status.Status.{Status}
+use Rattle.wb_inputs.specs.declared.status.Status.TheVariants.{Usage}
+use Rattle.wb_runs.specs.GenerateReport.{GenerateReport}
+use Rattle.wb_runs.specs.RunReport.{RunReport}
 use Rattle.wb_program.specs.CertifyReport.{CertifyReport}
 use Rattle.wb_program.specs.CheckReport.{CheckReport}
 use Rattle.wb_program.specs.ComposeReport.{ComposeReport, UnitedTreeReport}
 use Rattle.wb_program.specs.ShowReport.{ShowReport}
 use Rattle.wb_program.specs.TreeReport.{TreeReport}
 use Rattle.wb_program.specs.ValueReport.{ValueReport}
-use Rattle.wb_program.specs.declared.status.Status.{Status}
-use Rattle.wb_program.specs.declared.status.Status.TheVariants.{Usage}
 
 -- the report of what is asked, one alternative a command
 pub data IsReportOf (operations : Operations) (known : Option Files) (status : Status) (bytes : List ℕ) : Asked → Type 0 where
@@ -35,8 +36,19 @@ pub data IsReportOf (operations : Operations) (known : Option Files) (status : S
   united_tree_report : {text host extension : List ℕ} {extensions : List (List ℕ)}
       → UnitedTreeReport operations.signatures known text host (extension ∷ extensions) status bytes
       → IsReportOf operations known status bytes (a.tree text host (extension ∷ extensions))
+  run_report : {text attribute host : List ℕ} {steps : ℕ} {extensions : List (List ℕ)}
+      → RunReport operations known text attribute steps host extensions status bytes
+      → IsReportOf operations known status bytes (a.run text attribute steps host extensions)
+  generate_report : {number size : ℕ} {attribute host : List ℕ} {extensions : List (List ℕ)}
+      → GenerateReport operations known number size attribute host extensions status bytes
+      → IsReportOf operations known status bytes (a.generate number size attribute host extensions)
 
--- the words ask for no command that is built, and the bytes are the usage line
+-- the words ask for a command
+pub record InCommandSet (words : List (List ℕ)) : Type 0 where
+  pub asked : Asked
+  pub asks : Asks words asked
+
+-- the words ask for no command, and the bytes are the usage line
 pub record IsUsage (words : List (List ℕ)) (status : Status) (bytes : List ℕ) : Type 0 where
   pub usage : status ≡ Usage
   pub none_asked : ¬ InCommandSet words

@@ -1,5 +1,5 @@
 -- What `tree --text FILE HOST` reports.
-use Rattle.std.specs.Prelude.{◌≡◌, ◌<◌, ◌≤◌, ◌⊎◌, ℕ, Option, Some, List, length}
+use Rattle.std.specs.Prelude.{◌≡◌, ◌≤◌, ◌⊎◌, ℕ, Option, Some, List, length}
 use Rattle.wb_base.specs.Grammar.{GrammarView}
 use Rattle.wb_operations.specs.Operations.{OperationSignature}
 use Rattle.wb_report.specs.Lines.{report_of}
@@ -11,19 +11,10 @@ use Rattle.wb_trees.specs.Answers.{HasPrintedTree, HasTooLongTree, StopsShown}
 use Rattle.wb_trees.specs.declared.answer.TextAnswer.{TextAnswer}
 use Rattle.wb_trees.specs.declared.answer.TextAnswer.TheVariants as t
 use Rattle.wb_world.specs.Shelf.{Files}
-use Rattle.wb_program.specs.Checks.{Report, Ends, Check}
-use Rattle.wb_program.specs.CheckReport.{CertifiedChecks}
-use Rattle.wb_program.specs.Files.{KnownFile}
-use Rattle.wb_program.specs.declared.status.Status.TheVariants.{Done, TextStopped, TextTooLong, TooLongToPrint}
-
--- the file is longer than a text may be, and the line says so
-pub record IsTooLongText (known : Option Files) (file bytes : List ℕ) : Type 0 where
-  pub long : KnownFile known file (λ contents. 1048576 < length contents)
-  pub line : bytes ≡ report_of o.TextTooLong
-
--- the file is this text, which isn't too long
-abbrev pub IsText : Option Files → List ℕ → List ℕ → Type 0
-IsText known file text = KnownFile known file (λ contents. contents ≡ text) × (length text ≤ 1048576)
+use Rattle.wb_inputs.specs.Checks.{Report, Ends, Check}
+use Rattle.wb_inputs.specs.HostChecks.{CertifiedChecks}
+use Rattle.wb_inputs.specs.declared.status.Status.TheVariants.{Done, TextStopped, TextTooLong, TooLongToPrint}
+use Rattle.wb_inputs.specs.Texts.{IsTooLongText, IsText}
 
 -- the status and the line of the answer of a text
 abbrev pub ShownText : TextAnswer → Report

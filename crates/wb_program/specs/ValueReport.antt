@@ -1,23 +1,21 @@
 -- What `value HOST TERM ATTR` reports.
 use Rattle.std.specs.Prelude.{◌≡◌, ℕ, Option, List}
-use Rattle.wb_operations.specs.Operations.{OperationSignature, Operations}
-use Rattle.wb_hosts.specs.WellDefined.{IsWellDefinedText, IsWellDefinedTextRefusal}
+use Rattle.wb_operations.specs.Operations.{Operations}
 use Rattle.wb_report.specs.Lines.{report_of}
 use Rattle.wb_report.specs.declared.done.Done.TheVariants as done
 use Rattle.wb_report.specs.declared.outcome.Outcome.TheVariants as o
 use Rattle.wb_report.specs.declared.refusal.Refusal.TheVariants as refusal
 use Rattle.wb_resolved.specs.declared.attribution.AttributionParts.{AttributionParts}
-use Rattle.wb_resolved.specs.declared.resolved.ResolvedParts.{ResolvedParts}
 use Rattle.wb_root_values.specs.Answers.{IsRootAnswer}
 use Rattle.wb_root_values.specs.declared.answer.RootAnswer.{RootAnswer}
 use Rattle.wb_root_values.specs.declared.answer.RootAnswer.TheVariants as answered
 use Rattle.wb_world.specs.Shelf.{Files}
-use Rattle.wb_program.specs.Checks.{Report, Ends, Check}
-use Rattle.wb_program.specs.CheckReport.{HostChecks}
-use Rattle.wb_program.specs.TreeReport.{IsText, IsTooLongText}
-use Rattle.wb_program.specs.declared.status.Status.{Status}
-use Rattle.wb_program.specs.declared.status.Status.TheVariants.{Done, OperationFault, MoreSteps, TextTooLong, TooLongToPrint}
-use Rattle.wb_program.specs.declared.status.Status.TheVariants.{UnknownAttribute, TermRefused}
+use Rattle.wb_inputs.specs.Checks.{Report, Ends, Check}
+use Rattle.wb_inputs.specs.Texts.{IsText, IsTooLongText}
+use Rattle.wb_inputs.specs.declared.status.Status.{Status}
+use Rattle.wb_inputs.specs.declared.status.Status.TheVariants.{Done, OperationFault, MoreSteps, TextTooLong, TooLongToPrint}
+use Rattle.wb_inputs.specs.declared.status.Status.TheVariants.{UnknownAttribute, TermRefused}
+use Rattle.wb_inputs.specs.HostChecks.{WellDefinedChecks}
 
 -- the status and the line of an answer: the term of the file is refused, the attribute can't be asked for, its evaluation fails or needs
 -- more steps, or its value is too long to print, or is printed
@@ -35,10 +33,6 @@ pub record TermReport (operations : Operations) (a : AttributionParts) (file att
   pub answer : RootAnswer
   pub is : IsRootAnswer a operations text attribute 1000000 answer
   pub shown : RootReport file attribute answer status bytes
-
--- the checks of a host whose attributes are well defined
-abbrev pub WellDefinedChecks : List OperationSignature → Option Files → List ℕ → (ResolvedParts → Report) → Report
-WellDefinedChecks operations = HostChecks (IsWellDefinedText operations) (IsWellDefinedTextRefusal operations)
 
 -- the host, then the term, then its answer
 abbrev pub ValueReport : Operations → Option Files → (host file attribute : List ℕ) → Report

@@ -8,30 +8,26 @@ ghost use Rattle.wb_beside.specs.Extensions.{IsOneExtension};
 ghost use Rattle.wb_extension_files.specs.Contents.{IsExtensionText, IsExtensionRefusal};
 ghost use Rattle.wb_hosts.specs.Contents.{IsHostText};
 ghost use Rattle.wb_report.specs.Lines.{report_of};
-ghost use Rattle.wb_program.specs.Built.{certified_extension};
-ghost use Rattle.wb_program.specs.CertifyReport.{CertifyReport, ExtensionsReport, IsExtensionNamed};
-ghost use Rattle.wb_program.specs.Files.{KnownFile};
-ghost use Rattle.wb_program.specs.Reads.{StopsAt};
 ghost use Rattle.wb_words.specs.Words.{texts};
-ghost use Rattle.wb_program.specs.Inner.Extensions.{CertifyStops, EndsAtExtension, RefusedExtension};
-ghost use Rattle.wb_program.specs.Inner.Hosts.{ReadIs};
-ghost use Rattle.wb_program.specs.Inner.Stopped.{outside, Stopped, GoesOn};
+ghost use Rattle.wb_inputs.specs.Contents.{ReadIs};
+ghost use Rattle.wb_inputs.specs.Files.{KnownFile};
+ghost use Rattle.wb_inputs.specs.Reads.{certified_extension, StopsAt};
+ghost use Rattle.wb_inputs.specs.Stopped.{outside, Stopped, GoesOn};
+ghost use Rattle.wb_program.specs.CertifyReport.{CertifyReport, ExtensionsReport, IsExtensionNamed};
+ghost use Rattle.wb_program.specs.Inner.Extensions.{CertifyStops, EndsAtExtension};
 
-use crate::answer::{Answer, reported};
-use crate::check::{certified_of, refused_host};
-use crate::reading::{Contents, ReadFailure, read_file};
-use crate::status::Status;
 use std::alloc::{AllocError, Global};
 use wb_base::{Bytes, FILE_LIMIT, Sequence};
 use wb_beside::CertifiedExtension;
 use wb_certify::CertifiedHost;
 use wb_extension_files::{FileRefusal, extension_of};
+use wb_inputs::{
+    Answer, Contents, MOST_EXTENSIONS, ReadFailure, Status, certified_of, read_file,
+    refused_extension, refused_host, reported,
+};
 use wb_operations::{Meaning, OperationTable};
 use wb_report::{Done, Outcome, Refusal, SpecReason};
 use wb_world::Shelf;
-
-// The most extensions that a command takes.
-pub(crate) const MOST: usize = 64;
 
 // The answer to `certify HOST EXT..`.
 pub(crate) fn answer_certify<S: Shelf, M: Meaning>(
@@ -48,7 +44,7 @@ pub(crate) fn answer_certify<S: Shelf, M: Meaning>(
     ensures goes_on { GoesOn (outside (S.files shelf.old) (S.absences shelf.old) (S.faults shelf.old))
         (outside (S.files shelf.new) (S.absences shelf.new) (S.faults shelf.new)) }
 {
-    if extensions.len() > MOST {
+    if extensions.len() > MOST_EXTENSIONS {
         return Ok(reported(alloc, Status::TooManyExtensions, Outcome::TooManyExtensions)?);
     }
     let file = Bytes::from_slice(alloc, host.as_bytes())?;
@@ -170,32 +166,6 @@ fn extension_name(alloc: Global, extension: CertifiedExtension) -> Result<Bytes,
     // An array lets go of what it holds by a call, so that the drop of an extension is proved once and part by part.
     let held = [extension];
     Bytes::from_slice(alloc, held[0].name())
-}
-
-// The answer for a file that is no certified extension.
-pub(crate) fn refused_extension(
-    alloc: Global,
-    file: Bytes,
-    refusal: FileRefusal,
-) -> Result<Answer, AllocError>
-    ensures { IfOk result (λ answer. RefusedExtension file refusal answer.status answer.report.items) }
-{
-    match refusal {
-        FileRefusal::Specification(refusal) => reported(
-            alloc,
-            Status::SpecRefused,
-            Outcome::Refused { file, refusal },
-        ),
-        FileRefusal::WrongHost(host) => {
-            reported(alloc, Status::WrongHost, Outcome::WrongHost { file, host })
-        }
-        FileRefusal::Certification(refusal) => reported(
-            alloc,
-            Status::NotCertified,
-            Outcome::Refused { file, refusal },
-        ),
-        FileRefusal::NoMemory(error) => Err(error),
-    }
 }
 
 // The answer for a host and extensions of these names that are certified.

@@ -1,27 +1,19 @@
-//! What does `check HOST` answer, and which certified host is in a file?
+//! What does `check HOST` answer?
 //!
-//! Other commands begin with the same checks of a host. What a certified host is, and why contents are none, is found by `wb_hosts`.
+//! Which certified host is in a file is found by `wb_inputs`, with whose checks other commands begin too.
 
 ghost use Rattle.std.specs.Prelude.{◌≡◌, IfOk, IfErr, [], ◌∷◌};
-ghost use Rattle.wb_certify.specs.Hosts.{IsCertifiedValue};
-ghost use Rattle.wb_hosts.specs.Contents.{IsHostText, IsHostRefusal};
 ghost use Rattle.wb_report.specs.Lines.{report_of};
-ghost use Rattle.wb_program.specs.Built.{certified_host};
+ghost use Rattle.wb_inputs.specs.Reads.{certified_host, StopsAt};
+ghost use Rattle.wb_inputs.specs.Stopped.{outside, Stopped, GoesOn};
 ghost use Rattle.wb_program.specs.CheckReport.{CheckReport};
-ghost use Rattle.wb_program.specs.Files.{KnownFile};
-ghost use Rattle.wb_program.specs.Reads.{StopsAt};
-ghost use Rattle.wb_program.specs.Inner.Hosts.{ReadIs, IsHostFile, RefusedHost};
-ghost use Rattle.wb_program.specs.Inner.Stopped.{outside, Stopped, GoesOn};
 
-use crate::answer::{Answer, reported};
-use crate::reading::{Contents, ReadFailure, read_file};
-use crate::status::Status;
 use std::alloc::{AllocError, Global};
-use wb_base::{Bytes, FILE_LIMIT, Sequence};
+use wb_base::{Bytes, Sequence};
 use wb_certify::CertifiedHost;
-use wb_hosts::{HostRefusal, host_of};
+use wb_inputs::{Answer, ReadFailure, Status, certified_of, refused_host, reported};
 use wb_operations::{Meaning, OperationTable};
-use wb_report::{Done, Outcome, Refusal, SpecReason};
+use wb_report::{Done, Outcome};
 use wb_world::Shelf;
 
 // The answer to `check HOST`.
@@ -41,44 +33,6 @@ pub(crate) fn answer_check<S: Shelf, M: Meaning>(
     match certified_of(alloc, shelf, host, operations)? {
         Ok(certified) => Ok(certified_answer(alloc, certified)?),
         Err(refusal) => Ok(refused_host(alloc, file, refusal)?),
-    }
-}
-
-// Reads and certifies the host of a file.
-pub(crate) fn certified_of<S: Shelf, M: Meaning>(
-    alloc: Global,
-    shelf: &mut S,
-    file: &str,
-    operations: &OperationTable<M>,
-) -> Result<Result<CertifiedHost, HostRefusal>, ReadFailure>
-    ensures ok { IfOk result (λ read. IfOk read (λ host. IsHostFile operations.now.signatures (S.files shelf.old) file.now host.resolved)) }
-    ensures operations { IfOk result (λ read. IfOk read (λ host. host.operations ≡ operations.now.signatures)) }
-    ensures refused { IfOk result (λ read. IfErr read (λ refusal. KnownFile (S.files shelf.old) file.now (λ contents. IsHostRefusal operations.now.signatures contents refusal))) }
-    ensures stopped { IfErr result (Stopped (outside (S.files shelf.old) (S.absences shelf.old) (S.faults shelf.old))
-        (outside (S.files shelf.new) (S.absences shelf.new) (S.faults shelf.new)) (λ P. P file.now)) }
-    ensures goes_on { GoesOn (outside (S.files shelf.old) (S.absences shelf.old) (S.faults shelf.old))
-        (outside (S.files shelf.new) (S.absences shelf.new) (S.faults shelf.new)) }
-{
-    let contents = read_file(alloc, shelf, file, FILE_LIMIT)?;
-    Ok(host_in(alloc, contents, operations))
-}
-
-// The certified host that was read.
-fn host_in<M: Meaning>(
-    alloc: Global,
-    contents: Contents,
-    operations: &OperationTable<M>,
-) -> Result<CertifiedHost, HostRefusal>
-    ensures certified { IfOk result (λ host. IsCertifiedValue host.resolved operations.now.signatures) }
-    ensures operations { IfOk result (λ host. host.operations ≡ operations.now.signatures) }
-    ensures ok { IfOk result (λ host. ReadIs contents (λ bytes. IsHostText operations.now.signatures bytes host.resolved)) }
-    ensures refused { IfErr result (λ refusal. ReadIs contents (λ bytes. IsHostRefusal operations.now.signatures bytes refusal)) }
-{
-    match contents {
-        Contents::Whole(bytes) => host_of(alloc, &bytes, operations),
-        Contents::TooLong => Err(HostRefusal::Specification(Refusal::Specification(
-            SpecReason::TooLong,
-        ))),
     }
 }
 
@@ -104,27 +58,4 @@ fn name_answer(alloc: Global, name: &[u8]) -> Result<Answer, AllocError>
         Status::Done,
         Outcome::Done(Done::Certified { host, extensions }),
     )
-}
-
-// The answer for a file that is no certified host.
-pub(crate) fn refused_host(
-    alloc: Global,
-    file: Bytes,
-    refusal: HostRefusal,
-) -> Result<Answer, AllocError>
-    ensures { IfOk result (λ answer. RefusedHost file refusal answer.status answer.report.items) }
-{
-    match refusal {
-        HostRefusal::Specification(refusal) => reported(
-            alloc,
-            Status::SpecRefused,
-            Outcome::Refused { file, refusal },
-        ),
-        HostRefusal::Certification(refusal) => reported(
-            alloc,
-            Status::NotCertified,
-            Outcome::Refused { file, refusal },
-        ),
-        HostRefusal::NoMemory(error) => Err(error),
-    }
 }

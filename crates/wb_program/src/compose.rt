@@ -3,29 +3,27 @@
 //! The host comes first, by the checks in `check`, then the extensions, by those in `several`, and then the language that `wb_composition`
 //! composes of them.
 
-ghost use Rattle.std.specs.Prelude.{◌≡◌, IfOk, IfErr, ℕ, List, []};
+ghost use Rattle.std.specs.Prelude.{◌≡◌, IfOk, IfErr, List, []};
 ghost use Rattle.wb_composition.specs.Composed.{IsComposed};
 ghost use Rattle.wb_resolved.specs.declared.resolved.ResolvedParts.{ResolvedParts};
 ghost use Rattle.wb_united_trees.specs.Unions.{all_resolved};
 ghost use Rattle.wb_words.specs.Words.{texts};
-ghost use Rattle.wb_program.specs.Checks.{Ends};
+ghost use Rattle.wb_inputs.specs.Checks.{Ends};
+ghost use Rattle.wb_inputs.specs.ExtensionChecks.{AreApart};
+ghost use Rattle.wb_inputs.specs.Reads.{StopsComposed, StopsEach};
+ghost use Rattle.wb_inputs.specs.SeveralChecks.{EachChecks};
+ghost use Rattle.wb_inputs.specs.Stopped.{outside, Stopped, GoesOn};
 ghost use Rattle.wb_program.specs.ComposeReport.{ComposeReport, ComposedLines};
-ghost use Rattle.wb_program.specs.Reads.{StopsComposed, StopsEach};
-ghost use Rattle.wb_program.specs.SeveralChecks.{EachChecks};
-ghost use Rattle.wb_program.specs.Inner.Several.{AreApart};
-ghost use Rattle.wb_program.specs.Inner.Stopped.{outside, Stopped, GoesOn};
 
-use crate::answer::{Answer, reported};
-use crate::certify::MOST;
-use crate::check::{certified_of, refused_host};
-use crate::reading::ReadFailure;
-use crate::several::read_extensions;
-use crate::status::Status;
 use std::alloc::{AllocError, Global};
 use wb_base::Bytes;
 use wb_beside::CertifiedExtension;
 use wb_certify::CertifiedHost;
 use wb_composition::{Composed, compose};
+use wb_inputs::{
+    Answer, MOST_EXTENSIONS, ReadFailure, Status, certified_of, read_extensions, refused_host,
+    reported,
+};
 use wb_operations::{Meaning, OperationTable};
 use wb_report::{Done, Outcome};
 use wb_united_trees::withdrawn_names;
@@ -41,11 +39,11 @@ pub(crate) fn answer_compose<S: Shelf, M: Meaning>(
 ) -> Result<Answer, ReadFailure>
     ensures ok { IfOk result (λ answer. ComposeReport operations.now.signatures (S.files shelf.old) host.now (texts extensions.now) answer.status answer.report.items) }
     ensures stopped { IfErr result (Stopped (outside (S.files shelf.old) (S.absences shelf.old) (S.faults shelf.old))
-        (outside (S.files shelf.new) (S.absences shelf.new) (S.faults shelf.new)) (λ P. StopsComposed operations.now.signatures (S.files shelf.old) host.now (texts extensions.now) P ⊥)) }
+        (outside (S.files shelf.new) (S.absences shelf.new) (S.faults shelf.new)) (λ P. StopsComposed operations.now.signatures (S.files shelf.old) host.now (texts extensions.now) P (λ r values. ⊥))) }
     ensures goes_on { GoesOn (outside (S.files shelf.old) (S.absences shelf.old) (S.faults shelf.old))
         (outside (S.files shelf.new) (S.absences shelf.new) (S.faults shelf.new)) }
 {
-    if extensions.len() > MOST {
+    if extensions.len() > MOST_EXTENSIONS {
         return Ok(reported(alloc, Status::TooManyExtensions, Outcome::TooManyExtensions)?);
     }
     let file = Bytes::from_slice(alloc, host.as_bytes())?;

@@ -15,6 +15,9 @@ pub fn one_status_law()
     wb_extension_files::header_law();
     withdrawn_law();
     one_answer_law();
+    wb_united_values::laws::one_root_law();
+    wb_united_values::laws::one_answer_law();
+    wb_generated_texts::laws::one_text_law();
 }
 
 /// Words and files have at most one text with a status, but where a refusal may show any true example.
@@ -25,6 +28,9 @@ pub fn one_text_law()
     wb_extension_files::header_law();
     withdrawn_law();
     one_answer_law();
+    wb_united_values::laws::one_root_law();
+    wb_united_values::laws::one_answer_law();
+    wb_generated_texts::laws::one_text_law();
 }
 
 /// Where words and known files have a report, a run ends with its status: with 0 where everything is in order. Else it ends at a file or
@@ -36,6 +42,9 @@ pub fn complete_law()
     wb_extension_files::header_law();
     withdrawn_law();
     one_answer_law();
+    wb_united_values::laws::one_root_law();
+    wb_united_values::laws::one_answer_law();
+    wb_generated_texts::laws::one_text_law();
 }
 
 /// The canonical text of a specification is read as the same one but for places, and is the one canonical text of that, so that

@@ -1,18 +1,15 @@
 //! Which status and which report do words and files give?
 //!
-//! One call, `workbench`, over any shelf and sink, so that its contract is the whole program's. Which words ask what is in `wb_words`.
+//! One call, `workbench`, over any shelf and sink, so that its contract is the whole program's. Which words ask what is in `wb_words`, and
+//! what is in the files that they name in `wb_inputs`.
 #![tactic(auto)]
 
-mod answer;
 mod certify;
 mod check;
 mod compose;
 mod laws;
 mod program;
-mod reading;
-mod several;
 mod show;
-mod status;
 mod tree;
 mod united;
 mod value;
@@ -20,4 +17,3 @@ mod writing;
 
 pub use laws::{complete_law, one_status_law, one_text_law, shown_again_law};
 pub use program::workbench;
-pub use status::Status;

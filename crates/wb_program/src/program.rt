@@ -5,35 +5,35 @@
 ghost use Rattle.std.specs.Prelude.{◌≡◌, ◌≢◌, ◌⊎◌, IfOk, IfErr};
 ghost use Rattle.wb_world.specs.Cause.{Rose};
 ghost use Rattle.wb_operations.specs.Kept.{IsKept};
+ghost use Rattle.wb_report.specs.Lines.{report_of};
 ghost use Rattle.wb_words.specs.Commands.{asked_by};
 ghost use Rattle.wb_words.specs.Words.{texts};
-ghost use Rattle.wb_program.specs.Built.{InCommandSet};
+ghost use Rattle.wb_inputs.specs.Stopped.{outside, Stopped, GoesOn};
 ghost use Rattle.wb_program.specs.Reads.{AbsentCause, FaultCause, ComesTo, ReadsTo};
-ghost use Rattle.wb_program.specs.Report.{IsReport};
+ghost use Rattle.wb_program.specs.Report.{InCommandSet, IsReport, IsReportOf};
 ghost use Rattle.wb_program.specs.Written.{WritesNothing, Wrote};
-ghost use Rattle.wb_program.specs.Inner.Answered.{IsAnswerTo};
-ghost use Rattle.wb_program.specs.Inner.Stopped.{outside, Stopped, GoesOn};
+ghost use Rattle.wb_program.specs.Inner.Answered.{HasFewLeaves};
 
-use crate::answer::{Answer, usage};
 use crate::certify::answer_certify;
 use crate::check::answer_check;
 use crate::compose::answer_compose;
-use crate::reading::ReadFailure;
 use crate::show::answer_show;
-use crate::status::Status;
 use crate::tree::answer_tree;
 use crate::united::answer_united;
 use crate::value::answer_value;
 use crate::writing::write_report;
-use std::alloc::Global;
+use std::alloc::{AllocError, Global};
+use wb_inputs::{Answer, ReadFailure, Status, reported};
 use wb_operations::{Meaning, OperationRefusal, OperationTable};
+use wb_report::Outcome;
+use wb_runs::{answer_generate, answer_run};
 use wb_values::Value;
 use wb_words::{Command, command_of};
 use wb_world::{Shelf, Sink};
 
 /// All that the program does: reads the words as a command, reads the files that they name, and writes the report.
 ///
-/// Equations may name the operations of the table. Those of a host are held against their signatures, and `value` calls them.
+/// Equations may name the operations of the table. Those of a host are held against their signatures, and `value`, `run` and `generate` call them.
 ///
 /// The whole report is made before its first byte is written. Want of memory may come at any step before
 /// that. How many reads and writes there are is left open.
@@ -100,17 +100,18 @@ fn answer<S: Shelf, M: Meaning>(
     }
 }
 
-// The answer to a command. One that isn't built is answered as words that are none.
+// The answer to a command.
 fn answer_to<S: Shelf, M: Meaning>(
     alloc: Global,
     shelf: &mut S,
     command: Command<'_>,
     operations: &OperationTable<M>,
 ) -> Result<Answer, ReadFailure>
+    requires leaves { HasFewLeaves (asked_by command) }
     requires kept { IsKept operations.now.signatures operations.now.built_in operations.now.runs.items M.meaning
         (λ run vs. ⟦<Box<dyn Fn(&[Value]) -> Result<Value, OperationRefusal>> as Fn(&[Value]) -> Result<Value, OperationRefusal>>⟧.pre run vs)
         (λ run vs r. ⟦<Box<dyn Fn(&[Value]) -> Result<Value, OperationRefusal>> as Fn(&[Value]) -> Result<Value, OperationRefusal>>⟧.post run vs r) }
-    ensures ok { IfOk result (λ answer. IsAnswerTo (record { signatures = operations.now.signatures; meaning = M.meaning }) (S.files shelf.old) (asked_by command.entry) answer.status answer.report.items) }
+    ensures ok { IfOk result (λ answer. IsReportOf (record { signatures = operations.now.signatures; meaning = M.meaning }) (S.files shelf.old) answer.status answer.report.items (asked_by command.entry)) }
     ensures stopped { IfErr result (Stopped (outside (S.files shelf.old) (S.absences shelf.old) (S.faults shelf.old))
         (outside (S.files shelf.new) (S.absences shelf.new) (S.faults shelf.new)) (ReadsTo operations.now.signatures (S.files shelf.old) (asked_by command.entry))) }
     ensures goes_on { GoesOn (outside (S.files shelf.old) (S.absences shelf.old) (S.faults shelf.old))
@@ -140,6 +141,31 @@ fn answer_to<S: Shelf, M: Meaning>(
         Command::Compose { host, extensions } => {
             answer_compose(alloc, shelf, host, extensions, operations)
         }
-        _ => Ok(usage(alloc)?),
+        Command::Run {
+            text,
+            attribute,
+            steps,
+            host,
+            extensions,
+        } => answer_run(
+            alloc, shelf, text, attribute, steps, host, extensions, operations,
+        ),
+        Command::Generate {
+            number,
+            size,
+            attribute,
+            host,
+            extensions,
+        } => answer_generate(
+            alloc, shelf, number, size, attribute, host, extensions, operations,
+        ),
     }
+}
+
+// The answer for words that are no command.
+fn usage(alloc: Global) -> Result<Answer, AllocError>
+    ensures status { IfOk result (λ answer. answer.status ≡ Status.Usage) }
+    ensures report { IfOk result (λ answer. answer.report.items ≡ report_of Outcome.Usage) }
+{
+    reported(alloc, Status::Usage, Outcome::Usage)
 }

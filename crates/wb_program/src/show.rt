@@ -2,21 +2,18 @@
 //!
 //! The canonical text comes from `wb_printer`, why a file isn't a specification from `wb_reader`.
 
-ghost use Rattle.std.specs.Prelude.{◌≡◌, IfOk, IfErr, List, [], ◌∷◌};
+ghost use Rattle.std.specs.Prelude.{IfOk, IfErr, List, [], ◌∷◌};
 ghost use Rattle.wb_operations.specs.Operations.{OperationSignature};
 ghost use Rattle.wb_reader.specs.OneAnswer.{IsNoMemory};
-ghost use Rattle.wb_program.specs.Built.{specification};
-ghost use Rattle.wb_program.specs.Checks.{Ends};
-ghost use Rattle.wb_program.specs.Reads.{StopsAt};
+ghost use Rattle.wb_inputs.specs.Checks.{Ends};
+ghost use Rattle.wb_inputs.specs.Reads.{specification, StopsAt};
+ghost use Rattle.wb_inputs.specs.Stopped.{outside, Stopped, GoesOn};
 ghost use Rattle.wb_program.specs.ShowReport.{ShowReport};
 ghost use Rattle.wb_program.specs.Inner.Shown.{ContentsShow, ShowsRefusal};
-ghost use Rattle.wb_program.specs.Inner.Stopped.{outside, Stopped, GoesOn};
 
-use crate::answer::{Answer, reported};
-use crate::reading::{Contents, ReadFailure, read_file};
-use crate::status::Status;
 use std::alloc::{AllocError, Global};
 use wb_base::{Bytes, FILE_LIMIT};
+use wb_inputs::{Answer, Contents, ReadFailure, Status, read_file, reported};
 use wb_printer::print_spec;
 use wb_reader::{SpecRefusal, read_spec};
 use wb_report::{Outcome, Refusal};

@@ -4,20 +4,18 @@
 
 ghost use Rattle.std.specs.Prelude.{◌≡◌, List, ℕ, Some, IfOk, IfErr, [], ◌∷◌};
 ghost use Rattle.wb_base.specs.Grammar.{GrammarView};
-ghost use Rattle.wb_program.specs.Built.{certified_host, parsed_text};
-ghost use Rattle.wb_program.specs.Checks.{Check};
-ghost use Rattle.wb_program.specs.Reads.{StopsAt};
-ghost use Rattle.wb_program.specs.TreeReport.{IsText, IsTooLongText, ShownText, TextReport, TreeReport};
-ghost use Rattle.wb_program.specs.Inner.Hosts.{ReadText};
-ghost use Rattle.wb_program.specs.Inner.Stopped.{outside, Stopped, GoesOn};
+ghost use Rattle.wb_inputs.specs.Checks.{Check};
+ghost use Rattle.wb_inputs.specs.Reads.{certified_host, parsed_text, StopsAt};
+ghost use Rattle.wb_inputs.specs.Stopped.{outside, Stopped, GoesOn};
+ghost use Rattle.wb_inputs.specs.Texts.{IsText, IsTooLongText, ReadText};
+ghost use Rattle.wb_program.specs.TreeReport.{ShownText, TextReport, TreeReport};
 
-use crate::answer::{Answer, reported};
-use crate::check::{certified_of, refused_host};
-use crate::reading::{Contents, ReadFailure, read_file};
-use crate::status::Status;
 use std::alloc::{AllocError, Global};
 use wb_base::{Bytes, FILE_LIMIT, Sequence};
 use wb_certify::CertifiedHost;
+use wb_inputs::{
+    Answer, Contents, ReadFailure, Status, certified_of, read_file, refused_host, reported,
+};
 use wb_operations::{Meaning, OperationTable};
 use wb_report::{Done, Outcome};
 use wb_trees::{TextAnswer, text_answer};

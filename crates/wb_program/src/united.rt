@@ -2,31 +2,28 @@
 //!
 //! The host and the extensions come as in `compose`, and then the text, whose answer in their language is found by `wb_united_trees`.
 
-ghost use Rattle.std.specs.Prelude.{◌≡◌, IfOk, IfErr, ℕ, List, []};
+ghost use Rattle.std.specs.Prelude.{◌≡◌, IfOk, IfErr, ℕ, List};
 ghost use Rattle.wb_resolved.specs.declared.resolved.ResolvedParts.{ResolvedParts};
 ghost use Rattle.wb_united_trees.specs.Unions.{all_resolved};
 ghost use Rattle.wb_words.specs.Words.{texts};
-ghost use Rattle.wb_program.specs.Checks.{Check};
+ghost use Rattle.wb_inputs.specs.Checks.{Check};
+ghost use Rattle.wb_inputs.specs.ExtensionChecks.{AreApart};
+ghost use Rattle.wb_inputs.specs.Reads.{StopsComposed, StopsThen};
+ghost use Rattle.wb_inputs.specs.SeveralChecks.{EachChecks};
+ghost use Rattle.wb_inputs.specs.Stopped.{outside, Stopped, GoesOn};
+ghost use Rattle.wb_inputs.specs.Texts.{IsText, IsTooLongText, ReadText};
 ghost use Rattle.wb_program.specs.ComposeReport.{UnitedReport, UnitedTreeReport};
-ghost use Rattle.wb_program.specs.Reads.{StopsComposed};
-ghost use Rattle.wb_program.specs.SeveralChecks.{EachChecks};
-ghost use Rattle.wb_program.specs.TreeReport.{IsText, IsTooLongText};
-ghost use Rattle.wb_program.specs.Inner.Hosts.{ReadText};
-ghost use Rattle.wb_program.specs.Inner.Several.{AreApart, StopsThen};
-ghost use Rattle.wb_program.specs.Inner.Stopped.{outside, Stopped, GoesOn};
 
-use crate::answer::{Answer, reported};
-use crate::certify::MOST;
-use crate::check::{certified_of, refused_host};
-use crate::reading::{Contents, ReadFailure, read_file};
-use crate::several::read_extensions;
-use crate::status::Status;
 use crate::tree::shown_text;
 use std::alloc::{AllocError, Global};
 use wb_base::{Bytes, FILE_LIMIT};
 use wb_beside::CertifiedExtension;
 use wb_certify::CertifiedHost;
 use wb_composition::compose;
+use wb_inputs::{
+    Answer, Contents, MOST_EXTENSIONS, ReadFailure, Status, certified_of, read_extensions,
+    read_file, refused_host, reported,
+};
 use wb_operations::{Meaning, OperationTable};
 use wb_report::Outcome;
 use wb_united_trees::united_text_answer;
@@ -43,11 +40,11 @@ pub(crate) fn answer_united<S: Shelf, M: Meaning>(
 ) -> Result<Answer, ReadFailure>
     ensures ok { IfOk result (λ answer. UnitedTreeReport operations.now.signatures (S.files shelf.old) text.now host.now (texts extensions.now) answer.status answer.report.items) }
     ensures stopped { IfErr result (Stopped (outside (S.files shelf.old) (S.absences shelf.old) (S.faults shelf.old))
-        (outside (S.files shelf.new) (S.absences shelf.new) (S.faults shelf.new)) (λ P. StopsComposed operations.now.signatures (S.files shelf.old) host.now (texts extensions.now) P (P text.now))) }
+        (outside (S.files shelf.new) (S.absences shelf.new) (S.faults shelf.new)) (λ P. StopsComposed operations.now.signatures (S.files shelf.old) host.now (texts extensions.now) P (λ r values. P text.now))) }
     ensures goes_on { GoesOn (outside (S.files shelf.old) (S.absences shelf.old) (S.faults shelf.old))
         (outside (S.files shelf.new) (S.absences shelf.new) (S.faults shelf.new)) }
 {
-    if extensions.len() > MOST {
+    if extensions.len() > MOST_EXTENSIONS {
         return Ok(reported(alloc, Status::TooManyExtensions, Outcome::TooManyExtensions)?);
     }
     let file = Bytes::from_slice(alloc, host.as_bytes())?;
@@ -75,7 +72,7 @@ fn united_files<S: Shelf, M: Meaning>(
         (λ (values : List ResolvedParts). Check Status.TextTooLong (IsTooLongText (S.files shelf.old) text.now) (IsText (S.files shelf.old) text.now)
         (λ (contents : List ℕ). UnitedReport operations.now.signatures host.now.resolved values contents)) answer.status answer.report.items) }
     ensures stopped { IfErr result (Stopped (outside (S.files shelf.old) (S.absences shelf.old) (S.faults shelf.old))
-        (outside (S.files shelf.new) (S.absences shelf.new) (S.faults shelf.new)) (λ P. StopsThen operations.now.signatures (S.files shelf.old) host.now.resolved P (texts files.now) (P text.now))) }
+        (outside (S.files shelf.new) (S.absences shelf.new) (S.faults shelf.new)) (λ P. StopsThen operations.now.signatures (S.files shelf.old) host.now.resolved P (texts files.now) (λ values. P text.now))) }
     ensures goes_on { GoesOn (outside (S.files shelf.old) (S.absences shelf.old) (S.faults shelf.old))
         (outside (S.files shelf.new) (S.absences shelf.new) (S.faults shelf.new)) }
 {

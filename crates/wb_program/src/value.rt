@@ -2,32 +2,25 @@
 //!
 //! The host comes first, whose attributes must be well defined, and then the term, whose answer is found by `wb_root_values`.
 
-ghost use Rattle.std.specs.Prelude.{◌≡◌, IfOk, IfErr, List, ℕ, [], ◌∷◌};
+ghost use Rattle.std.specs.Prelude.{IfOk, IfErr, List, ℕ, [], ◌∷◌};
 ghost use Rattle.wb_attributes.specs.Modular.{EachProduction};
 ghost use Rattle.wb_attributes.specs.WellDefined.{IsWellDefinedProduction};
-ghost use Rattle.wb_certify.specs.WellDefined.{HasWellDefinedAttributes};
-ghost use Rattle.wb_hosts.specs.WellDefined.{IsWellDefinedText, IsWellDefinedTextRefusal};
 ghost use Rattle.wb_operations.specs.Kept.{IsKept};
 ghost use Rattle.wb_types.specs.Rules.{KindsOk};
-ghost use Rattle.wb_program.specs.Built.{well_defined_host, written_term};
-ghost use Rattle.wb_program.specs.Checks.{Check};
-ghost use Rattle.wb_program.specs.Files.{KnownFile};
-ghost use Rattle.wb_program.specs.Reads.{StopsAt};
-ghost use Rattle.wb_program.specs.TreeReport.{IsText, IsTooLongText};
+ghost use Rattle.wb_inputs.specs.Checks.{Check};
+ghost use Rattle.wb_inputs.specs.Reads.{well_defined_host, written_term, StopsAt};
+ghost use Rattle.wb_inputs.specs.Stopped.{outside, Stopped, GoesOn};
+ghost use Rattle.wb_inputs.specs.Texts.{IsText, IsTooLongText, ReadText};
 ghost use Rattle.wb_program.specs.ValueReport.{RootReport, TermReport, ValueReport};
-ghost use Rattle.wb_program.specs.Inner.Hosts.{IsWellDefinedFile, ReadIs, ReadText};
-ghost use Rattle.wb_program.specs.Inner.Stopped.{outside, Stopped, GoesOn};
 
-use crate::answer::{Answer, reported};
-use crate::check::refused_host;
-use crate::reading::{Contents, ReadFailure, read_file};
-use crate::status::Status;
 use std::alloc::{AllocError, Global};
 use wb_base::{Bytes, FILE_LIMIT, Sequence};
-use wb_hosts::{HostRefusal, well_defined_host_of};
+use wb_inputs::{
+    Answer, Contents, ReadFailure, Status, read_file, refused_host, reported, well_defined_of,
+};
 use wb_operations::{Meaning, OperationRefusal, OperationTable};
-use wb_report::{Done, Outcome, Refusal, SpecReason, TermReason};
-use wb_resolved::{Attribution, Resolved};
+use wb_report::{Done, Outcome, Refusal, TermReason};
+use wb_resolved::Attribution;
 use wb_root_values::{RootAnswer, root_value};
 use wb_values::Value;
 use wb_world::Shelf;
@@ -69,42 +62,6 @@ pub(crate) fn answer_value<S: Shelf, M: Meaning>(
             )
         }
         Err(refusal) => Ok(refused_host(alloc, file, refusal)?),
-    }
-}
-
-// Reads the host of a file, whose attributes are well defined.
-fn well_defined_of<S: Shelf, M: Meaning>(
-    alloc: Global,
-    shelf: &mut S,
-    file: &str,
-    operations: &OperationTable<M>,
-) -> Result<Result<Resolved, HostRefusal>, ReadFailure>
-    ensures ok { IfOk result (λ read. IfOk read (IsWellDefinedFile operations.now.signatures (S.files shelf.old) file.now)) }
-    ensures refused { IfOk result (λ read. IfErr read (λ refusal. KnownFile (S.files shelf.old) file.now (λ contents. IsWellDefinedTextRefusal operations.now.signatures contents refusal))) }
-    ensures stopped { IfErr result (Stopped (outside (S.files shelf.old) (S.absences shelf.old) (S.faults shelf.old))
-        (outside (S.files shelf.new) (S.absences shelf.new) (S.faults shelf.new)) (λ P. P file.now)) }
-    ensures goes_on { GoesOn (outside (S.files shelf.old) (S.absences shelf.old) (S.faults shelf.old))
-        (outside (S.files shelf.new) (S.absences shelf.new) (S.faults shelf.new)) }
-{
-    let contents = read_file(alloc, shelf, file, FILE_LIMIT)?;
-    Ok(well_defined_in(alloc, contents, operations))
-}
-
-// The host that was read, whose attributes are well defined.
-fn well_defined_in<M: Meaning>(
-    alloc: Global,
-    contents: Contents,
-    operations: &OperationTable<M>,
-) -> Result<Resolved, HostRefusal>
-    ensures well_defined { IfOk result (λ host. HasWellDefinedAttributes host operations.now.signatures) }
-    ensures ok { IfOk result (λ host. ReadIs contents (λ bytes. IsWellDefinedText operations.now.signatures bytes host)) }
-    ensures refused { IfErr result (λ refusal. ReadIs contents (λ bytes. IsWellDefinedTextRefusal operations.now.signatures bytes refusal)) }
-{
-    match contents {
-        Contents::Whole(bytes) => well_defined_host_of(alloc, &bytes, operations),
-        Contents::TooLong => Err(HostRefusal::Specification(Refusal::Specification(
-            SpecReason::TooLong,
-        ))),
     }
 }
 

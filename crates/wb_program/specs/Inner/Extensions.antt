@@ -1,29 +1,16 @@
 -- What is made of the file of an extension, and of several in their order.
-use Rattle.std.specs.Prelude.{◌≡◌, ◌≤◌, ℕ, Option, List, [], ◌∷◌, drop, length, map}
-use Rattle.wb_extension_files.specs.declared.refusal.FileRefusal.{FileRefusal}
-use Rattle.wb_extension_files.specs.declared.refusal.FileRefusal.TheVariants as f
+use Rattle.std.specs.Prelude.{◌≤◌, ℕ, Option, List, [], ◌∷◌, drop, length, map}
 use Rattle.wb_hosts.specs.Contents.{IsHostText}
 use Rattle.wb_operations.specs.Operations.{OperationSignature}
-use Rattle.wb_report.specs.Lines.{report_of}
-use Rattle.wb_report.specs.declared.outcome.Outcome.TheVariants as o
 use Rattle.wb_resolved.specs.declared.resolved.ResolvedParts.{ResolvedParts}
 use Rattle.wb_world.specs.Shelf.{Files}
-use Rattle.wb_program.specs.Built.{certified_host, certified_extension}
+use Rattle.wb_inputs.specs.Reads.{certified_host, certified_extension, StopsAt}
+use Rattle.wb_inputs.specs.Checks.{Report}
+use Rattle.wb_inputs.specs.Files.{KnownFile}
+use Rattle.wb_inputs.specs.Stopped.{Outside, Stopped}
+use Rattle.wb_inputs.specs.declared.reading.ReadFailure.{ReadFailure}
+use Rattle.wb_inputs.specs.declared.status.Status.{Status}
 use Rattle.wb_program.specs.CertifyReport.{ExtensionsReport}
-use Rattle.wb_program.specs.Checks.{Report, Ends}
-use Rattle.wb_program.specs.Files.{KnownFile}
-use Rattle.wb_program.specs.Reads.{StopsAt}
-use Rattle.wb_program.specs.Inner.Stopped.{Outside, Stopped}
-use Rattle.wb_program.specs.declared.reading.ReadFailure.{ReadFailure}
-use Rattle.wb_program.specs.declared.status.Status.{Status}
-use Rattle.wb_program.specs.declared.status.Status.TheVariants.{SpecRefused, NotCertified, WrongHost}
-
--- a refused extension: the status of its sort, and the line that says why; want of memory has no line
-abbrev pub RefusedExtension : List ℕ → FileRefusal → Report
-RefusedExtension file (f.Specification shown) = Ends SpecRefused (λ bytes. bytes ≡ report_of (o.Refused file shown))
-RefusedExtension file (f.WrongHost name) = Ends WrongHost (λ bytes. bytes ≡ report_of (o.WrongHost file name))
-RefusedExtension file (f.Certification shown) = Ends NotCertified (λ bytes. bytes ≡ report_of (o.Refused file shown))
-RefusedExtension file (f.NoMemory error) = λ status bytes. ⊥
 
 -- the report of a run that ends at an extension, whatever comes after it
 abbrev pub EndsAtExtension : List OperationSignature → Option Files → ResolvedParts → List ℕ → Report

@@ -2,17 +2,17 @@
 use Rattle.std.proofs.Common.{rules, ◌≡◌, ◌≤◌, ◌∙◌, sym, ℕ, List, [], Option, IfOk, length, map, subst, arith}
 use Rattle.wb_hosts.specs.Contents.{IsHostText, IsHostRefusal}
 use Rattle.wb_world.specs.Shelf.{Files}
-use Rattle.wb_program.specs.Built.{certified_extension}
-use Rattle.wb_program.specs.CertifyReport.{CertifyReport, ExtensionsReport}
-use Rattle.wb_program.specs.Files.{KnownFile}
-use Rattle.wb_program.specs.Reads.{StopsAt}
 use Rattle.wb_words.specs.Words.{texts}
+use Rattle.wb_inputs.specs.Reads.{certified_extension, StopsAt}
+use Rattle.wb_inputs.specs.Files.{KnownFile}
+use Rattle.wb_inputs.specs.HostChecks.{IsHostFile, RefusedHost}
+use Rattle.wb_inputs.specs.Stopped.{outside, Stopped}
+use Rattle.wb_inputs.specs.declared.answer.Answer.{Answer}
+use Rattle.wb_inputs.proofs.CauseLemmas.{on_ok, on_err, some_certified}
+use Rattle.wb_inputs.proofs.WordLemmas.{few_texts}
+use Rattle.wb_program.specs.CertifyReport.{CertifyReport, ExtensionsReport}
 use Rattle.wb_program.specs.Inner.Extensions.{CertifyStops}
-use Rattle.wb_program.specs.Inner.Hosts.{IsHostFile, RefusedHost}
-use Rattle.wb_program.specs.Inner.Stopped.{outside, Stopped}
-use Rattle.wb_program.specs.declared.answer.Answer.{Answer}
-use Rattle.wb_program.proofs.CauseLemmas.{on_ok, on_err, some_certified}
-use Rattle.wb_program.proofs.ExtensionLemmas.{few_texts, certify_certified, certify_refused, certify_stops_later, stops_before}
+use Rattle.wb_program.proofs.ExtensionLemmas.{certify_certified, certify_refused, certify_stops_later, stops_before}
 use Rattle.wb_program.proofs.certify.answer_certify.Goals as goal
 
 pub returns-in-Ok-clause-ok : goal.returns-in-Ok-clause-ok

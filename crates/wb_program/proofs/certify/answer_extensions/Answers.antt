@@ -2,14 +2,14 @@
 use Rattle.std.proofs.Common.{rules, ◌≡◌, ◌<◌, ◌+◌, ◌++◌, sym, ℕ, List, [], ◌∷◌, Option, IfErr, length, drop, map, subst, arith}
 use Rattle.std.proofs.lemmas.Grind.{common_steps}
 use Rattle.wb_world.specs.Shelf.{Files}
-use Rattle.wb_program.specs.Built.{certified_extension}
-use Rattle.wb_program.specs.CertifyReport.{IsExtensionNamed}
-use Rattle.wb_program.specs.Reads.{StopsAt}
 use Rattle.wb_words.specs.Words.{texts}
+use Rattle.wb_inputs.specs.Reads.{certified_extension, StopsAt}
+use Rattle.wb_inputs.specs.Stopped.{outside, Stopped}
+use Rattle.wb_inputs.proofs.CauseLemmas.{goes_on_twice, on_err, stops_since, ok_of, err_of}
+use Rattle.wb_inputs.proofs.WordLemmas.{texts_from}
+use Rattle.wb_program.specs.CertifyReport.{IsExtensionNamed}
 use Rattle.wb_program.specs.Inner.Extensions.{EndsAtExtension, LeadsTo}
-use Rattle.wb_program.specs.Inner.Stopped.{outside, Stopped}
-use Rattle.wb_program.proofs.CauseLemmas.{goes_on_twice, on_err, stops_since, ok_of, err_of}
-use Rattle.wb_program.proofs.ExtensionLemmas.{texts_from, leads_on, leads_refused, stops_on, stops_here}
+use Rattle.wb_program.proofs.ExtensionLemmas.{leads_on, leads_refused, stops_on, stops_here}
 use Rattle.wb_program.proofs.certify.answer_extensions.Goals as goal
 
 pub returns-in_err-name-clause-stopped : goal.returns-in_err-name-clause-stopped

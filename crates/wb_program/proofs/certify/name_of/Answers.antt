@@ -2,8 +2,8 @@
 use Rattle.std.proofs.Common.{rules, ◌≡◌, ◌∙◌, subst, List, ℕ}
 use Rattle.wb_beside.specs.Extensions.{IsOneExtension}
 use Rattle.wb_extension_files.specs.Contents.{IsExtensionText, IsExtensionRefusal}
-use Rattle.wb_program.specs.Files.{KnownFile}
-use Rattle.wb_program.specs.Inner.Extensions.{RefusedExtension}
+use Rattle.wb_inputs.specs.Files.{KnownFile}
+use Rattle.wb_inputs.specs.ExtensionChecks.{RefusedExtension}
 use Rattle.wb_program.proofs.ExtensionLemmas.{is_named, refused_ends}
 use Rattle.wb_program.proofs.certify.name_of.Goals as goal
 

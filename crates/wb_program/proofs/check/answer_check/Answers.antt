@@ -1,6 +1,6 @@
 -- A certified host has its report.
 use Rattle.std.proofs.Common.{rules}
-use Rattle.wb_program.specs.Inner.Hosts.{IsHostFile}
+use Rattle.wb_inputs.specs.HostChecks.{IsHostFile}
 use Rattle.wb_program.proofs.HostLemmas.{check_done}
 use Rattle.wb_program.proofs.check.answer_check.Goals as goal
 

@@ -1,22 +1,21 @@
 -- Extensions are read after their host, and their report comes after that host's checks.
 use Rattle.std.proofs.Common.{rules, ◌≡◌, ◌≤◌, ◌∙◌, ℕ, List, [], Option, IfOk, length, subst, arith}
 use Rattle.wb_hosts.specs.Contents.{IsHostRefusal}
-use Rattle.wb_operations.specs.Operations.{OperationSignature}
 use Rattle.wb_resolved.specs.declared.resolved.ResolvedParts.{ResolvedParts}
 use Rattle.wb_words.specs.Words.{texts}
 use Rattle.wb_world.specs.Shelf.{Files}
-use Rattle.wb_program.specs.Checks.{Report, Ends}
+use Rattle.wb_inputs.specs.Checks.{Report, Ends}
+use Rattle.wb_inputs.specs.Reads.{StopsComposed, StopsEach}
+use Rattle.wb_inputs.specs.declared.status.Status.TheVariants.{Done}
+use Rattle.wb_inputs.specs.Files.{KnownFile}
+use Rattle.wb_inputs.specs.SeveralChecks.{EachChecks, SeveralChecks}
+use Rattle.wb_inputs.specs.HostChecks.{IsHostFile, RefusedHost}
+use Rattle.wb_inputs.specs.Stopped.{outside, Stopped}
+use Rattle.wb_inputs.specs.declared.answer.Answer.{Answer}
+use Rattle.wb_inputs.proofs.ComposeLemmas.{several_certified, several_refused, composed_later, then_first}
+use Rattle.wb_inputs.proofs.CauseLemmas.{on_ok, on_err}
+use Rattle.wb_inputs.proofs.WordLemmas.{few_texts}
 use Rattle.wb_program.specs.ComposeReport.{ComposedLines}
-use Rattle.wb_program.specs.Reads.{StopsComposed, StopsEach}
-use Rattle.wb_program.specs.declared.status.Status.TheVariants.{Done}
-use Rattle.wb_program.specs.Files.{KnownFile}
-use Rattle.wb_program.specs.SeveralChecks.{EachChecks, SeveralChecks}
-use Rattle.wb_program.specs.Inner.Hosts.{IsHostFile, RefusedHost}
-use Rattle.wb_program.specs.Inner.Stopped.{outside, Stopped}
-use Rattle.wb_program.specs.declared.answer.Answer.{Answer}
-use Rattle.wb_program.proofs.ComposeLemmas.{several_certified, several_refused, composed_later, then_first}
-use Rattle.wb_program.proofs.CauseLemmas.{on_ok, on_err}
-use Rattle.wb_program.proofs.ExtensionLemmas.{few_texts}
 use Rattle.wb_program.proofs.compose.answer_compose.Goals as goal
 
 pub returns-in-Ok-clause-ok : goal.returns-in-Ok-clause-ok
@@ -55,9 +54,10 @@ returns-in-Ok-clause-stopped g c =
     let few : length extensions ≤ 64 = few_texts c.args.extensions.now 64 (omega arith) in
     let is : IsHostFile operations files host r = search rules in
     on_err c.compose_files.result (Stopped between now (λ P. StopsEach operations between.files r P extensions []))
-    (Stopped before now (λ P. StopsComposed operations files host extensions P ⊥))
-    (λ failure stopped. composed_later operations before between now host extensions r (λ P. ⊥) failure (λ P Q weaker none. none) few is
-    c.certified_of.ensures.goes_on (then_first operations between now r extensions (λ P. ⊥) failure stopped))
+    (Stopped before now (λ P. StopsComposed operations files host extensions P (λ s values. ⊥)))
+    (λ failure stopped. composed_later operations before between now host extensions r (λ P s values. ⊥) failure
+    (λ P Q weaker values none. none) few is c.certified_of.ensures.goes_on
+    (then_first operations between now r extensions (λ P values. ⊥) failure stopped))
     c.compose_files.ensures.stopped
 
 pub returns-in_ok-refused_host-in-Err-clause-ok : goal.returns-in_ok-refused_host-in-Err-clause-ok

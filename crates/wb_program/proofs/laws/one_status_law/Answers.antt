@@ -7,4 +7,7 @@ returns c = one_status (record {
   headers = c.header_law.ensures;
   withdrawn = c.withdrawn_law.ensures;
   texts = c.one_answer_law-2.ensures;
+  attributes = c.one_root_law.ensures;
+  values = c.one_answer_law-3.ensures;
+  made = c.one_text_law.ensures;
 })

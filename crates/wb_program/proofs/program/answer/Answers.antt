@@ -3,16 +3,15 @@ use Rattle.std.proofs.Common.{rules, ◌≡◌, ◌≢◌, inl}
 use Rattle.wb_operations.specs.Operations.{Operations}
 use Rattle.wb_words.specs.Commands.{asked_by}
 use Rattle.wb_words.specs.Words.{texts, Asks}
-use Rattle.wb_program.specs.Built.{InCommandSet}
+use Rattle.wb_inputs.specs.Stopped.{outside, Stopped}
+use Rattle.wb_inputs.specs.declared.reading.ReadFailure.TheVariants.{NoMemory}
+use Rattle.wb_inputs.specs.declared.status.Status.TheVariants.{Usage, WriteFault}
+use Rattle.wb_inputs.proofs.CauseLemmas.{on_ok, on_err}
 use Rattle.wb_program.specs.Reads.{ReadsTo, ComesTo}
-use Rattle.wb_program.specs.Report.{IsReport}
+use Rattle.wb_program.specs.Report.{InCommandSet, IsReport, IsReportOf}
 use Rattle.wb_program.specs.Written.{WritesNothing}
-use Rattle.wb_program.specs.Inner.Answered.{IsAnswerTo}
-use Rattle.wb_program.specs.Inner.Stopped.{outside, Stopped}
-use Rattle.wb_program.specs.declared.reading.ReadFailure.TheVariants.{NoMemory}
-use Rattle.wb_program.specs.declared.status.Status.TheVariants.{Usage, WriteFault}
 use Rattle.wb_program.proofs.AnswerLemmas.{answered, usage_answered, only_usage_answered, answer_writes, answer_finishes}
-use Rattle.wb_program.proofs.CauseLemmas.{comes_to, on_ok, on_err, stopped_asked}
+use Rattle.wb_program.proofs.CauseLemmas.{comes_to, stopped_asked}
 use Rattle.wb_program.proofs.program.answer.Goals as goal
 
 pub returns-in-Some-clause-ok : goal.returns-in-Some-clause-ok
@@ -22,7 +21,7 @@ returns-in-Some-clause-ok g c =
     let asked = asked_by c.in-Some.command in
     let operations : Operations = record { signatures = c.args.operations.now.signatures; meaning = g.M.Meaning.meaning } in
     let asks : Asks words asked = search rules in
-    on_ok c.answer_to.result (λ answer. IsAnswerTo operations files asked answer.status answer.report.items)
+    on_ok c.answer_to.result (λ answer. IsReportOf operations files answer.status answer.report.items asked)
     (λ answer. IsReport operations words files answer.status answer.report.items)
     (λ answer. answered operations files words asked asks answer.status answer.report.items) c.answer_to.ensures.ok
 
@@ -33,7 +32,7 @@ returns-in-Some-clause-usage g c =
     let asked = asked_by c.in-Some.command in
     let operations : Operations = record { signatures = c.args.operations.now.signatures; meaning = g.M.Meaning.meaning } in
     let asks : Asks words asked = search rules in
-    on_ok c.answer_to.result (λ answer. IsAnswerTo operations files asked answer.status answer.report.items)
+    on_ok c.answer_to.result (λ answer. IsReportOf operations files answer.status answer.report.items asked)
     (λ answer. answer.status ≡ Usage → ¬ InCommandSet words)
     (λ answer. usage_answered operations files words asked asks answer.status answer.report.items) c.answer_to.ensures.ok
 
@@ -44,7 +43,7 @@ returns-in-Some-clause-only_usage g c =
     let asked = asked_by c.in-Some.command in
     let operations : Operations = record { signatures = c.args.operations.now.signatures; meaning = g.M.Meaning.meaning } in
     let asks : Asks words asked = search rules in
-    on_ok c.answer_to.result (λ answer. IsAnswerTo operations files asked answer.status answer.report.items)
+    on_ok c.answer_to.result (λ answer. IsReportOf operations files answer.status answer.report.items asked)
     (λ answer. ¬ InCommandSet words → answer.status ≡ Usage)
     (λ answer. only_usage_answered operations files words asked asks answer.status answer.report.items) c.answer_to.ensures.ok
 
@@ -53,7 +52,7 @@ returns-in-Some-clause-reports g c =
     let files = g.S.Shelf.files c.args.shelf.now in
     let asked = asked_by c.in-Some.command in
     let operations : Operations = record { signatures = c.args.operations.now.signatures; meaning = g.M.Meaning.meaning } in
-    on_ok c.answer_to.result (λ answer. IsAnswerTo operations files asked answer.status answer.report.items)
+    on_ok c.answer_to.result (λ answer. IsReportOf operations files answer.status answer.report.items asked)
     (λ answer. ¬ WritesNothing answer.status)
     (λ answer. answer_writes operations files asked answer.status answer.report.items) c.answer_to.ensures.ok
 
@@ -62,7 +61,7 @@ returns-in-Some-clause-finishes g c =
     let files = g.S.Shelf.files c.args.shelf.now in
     let asked = asked_by c.in-Some.command in
     let operations : Operations = record { signatures = c.args.operations.now.signatures; meaning = g.M.Meaning.meaning } in
-    on_ok c.answer_to.result (λ answer. IsAnswerTo operations files asked answer.status answer.report.items)
+    on_ok c.answer_to.result (λ answer. IsReportOf operations files answer.status answer.report.items asked)
     (λ answer. answer.status ≢ WriteFault)
     (λ answer. answer_finishes operations files asked answer.status answer.report.items) c.answer_to.ensures.ok
 

@@ -1,15 +1,16 @@
 -- A text is read after its host, and its report comes after that host's checks.
 use Rattle.std.proofs.Common.{rules, ℕ, List, [], ◌∷◌, Option, IfOk, subst}
 use Rattle.wb_world.specs.Shelf.{Files}
-use Rattle.wb_program.specs.Built.{certified_host, parsed_text}
-use Rattle.wb_program.specs.Checks.{Check}
-use Rattle.wb_program.specs.Reads.{StopsAt}
-use Rattle.wb_program.specs.TreeReport.{IsText, IsTooLongText, TextReport, TreeReport}
-use Rattle.wb_program.specs.Inner.Hosts.{IsHostFile}
-use Rattle.wb_program.specs.Inner.Stopped.{outside, Stopped}
-use Rattle.wb_program.specs.declared.answer.Answer.{Answer}
-use Rattle.wb_program.specs.declared.status.Status.TheVariants.{TextTooLong}
-use Rattle.wb_program.proofs.CauseLemmas.{goes_on_twice, on_ok, on_err, stops_at_text}
+use Rattle.wb_inputs.specs.Reads.{certified_host, parsed_text, StopsAt}
+use Rattle.wb_inputs.specs.Checks.{Check}
+use Rattle.wb_inputs.specs.Texts.{IsText, IsTooLongText}
+use Rattle.wb_inputs.specs.HostChecks.{IsHostFile}
+use Rattle.wb_inputs.specs.Stopped.{outside, Stopped}
+use Rattle.wb_inputs.specs.declared.answer.Answer.{Answer}
+use Rattle.wb_inputs.specs.declared.status.Status.TheVariants.{TextTooLong}
+use Rattle.wb_inputs.proofs.CauseLemmas.{goes_on_twice, on_ok, on_err}
+use Rattle.wb_program.specs.TreeReport.{TextReport, TreeReport}
+use Rattle.wb_program.proofs.CauseLemmas.{stops_at_text}
 use Rattle.wb_program.proofs.HostLemmas.{tree_certified}
 use Rattle.wb_program.proofs.tree.answer_tree.Goals as goal
 

@@ -1,24 +1,22 @@
 -- Extensions are read after their host, and their report comes after that host's checks.
-use Rattle.std.proofs.Common.{rules, ◌≡◌, ◌≤◌, ◌∙◌, ℕ, List, [], Option, IfOk, length, subst, arith}
+use Rattle.std.proofs.Common.{rules, ◌≡◌, ◌≤◌, ◌∙◌, ℕ, List, Option, IfOk, length, subst, arith}
 use Rattle.wb_hosts.specs.Contents.{IsHostRefusal}
-use Rattle.wb_operations.specs.Operations.{OperationSignature}
 use Rattle.wb_resolved.specs.declared.resolved.ResolvedParts.{ResolvedParts}
 use Rattle.wb_words.specs.Words.{texts}
 use Rattle.wb_world.specs.Shelf.{Files}
-use Rattle.wb_program.specs.Checks.{Report, Check}
+use Rattle.wb_inputs.specs.Checks.{Report, Check}
+use Rattle.wb_inputs.specs.Reads.{StopsComposed, StopsThen}
+use Rattle.wb_inputs.specs.Texts.{IsText, IsTooLongText}
+use Rattle.wb_inputs.specs.declared.status.Status.TheVariants.{TextTooLong}
+use Rattle.wb_inputs.specs.Files.{KnownFile}
+use Rattle.wb_inputs.specs.SeveralChecks.{EachChecks, SeveralChecks}
+use Rattle.wb_inputs.specs.HostChecks.{IsHostFile, RefusedHost}
+use Rattle.wb_inputs.specs.Stopped.{outside, Stopped}
+use Rattle.wb_inputs.specs.declared.answer.Answer.{Answer}
+use Rattle.wb_inputs.proofs.ComposeLemmas.{several_certified, several_refused, composed_later}
+use Rattle.wb_inputs.proofs.CauseLemmas.{on_ok, on_err}
+use Rattle.wb_inputs.proofs.WordLemmas.{few_texts}
 use Rattle.wb_program.specs.ComposeReport.{UnitedReport}
-use Rattle.wb_program.specs.Reads.{StopsComposed}
-use Rattle.wb_program.specs.TreeReport.{IsText, IsTooLongText}
-use Rattle.wb_program.specs.Inner.Several.{StopsThen}
-use Rattle.wb_program.specs.declared.status.Status.TheVariants.{TextTooLong}
-use Rattle.wb_program.specs.Files.{KnownFile}
-use Rattle.wb_program.specs.SeveralChecks.{EachChecks, SeveralChecks}
-use Rattle.wb_program.specs.Inner.Hosts.{IsHostFile, RefusedHost}
-use Rattle.wb_program.specs.Inner.Stopped.{outside, Stopped}
-use Rattle.wb_program.specs.declared.answer.Answer.{Answer}
-use Rattle.wb_program.proofs.ComposeLemmas.{several_certified, several_refused, composed_later}
-use Rattle.wb_program.proofs.CauseLemmas.{on_ok, on_err}
-use Rattle.wb_program.proofs.ExtensionLemmas.{few_texts}
 use Rattle.wb_program.proofs.united.answer_united.Goals as goal
 
 pub returns-in-Ok-clause-ok : goal.returns-in-Ok-clause-ok
@@ -58,9 +56,10 @@ returns-in-Ok-clause-stopped g c =
     (g.S.Shelf.faults c.united_files.new.shelf) in
     let few : length extensions ≤ 64 = few_texts c.args.extensions.now 64 (omega arith) in
     let is : IsHostFile operations files host r = search rules in
-    on_err c.united_files.result (Stopped between now (λ P. StopsThen operations between.files r P extensions (P c.args.text.now)))
-    (Stopped before now (λ P. StopsComposed operations files host extensions P (P c.args.text.now)))
-    (λ failure stopped. composed_later operations before between now host extensions r (λ P. P c.args.text.now) failure (λ P Q weaker. weaker c.args.text.now) few is
+    on_err c.united_files.result (Stopped between now (λ P. StopsThen operations between.files r P extensions (λ values. P c.args.text.now)))
+    (Stopped before now (λ P. StopsComposed operations files host extensions P (λ s values. P c.args.text.now)))
+    (λ failure stopped. composed_later operations before between now host extensions r (λ P s values. P c.args.text.now) failure
+    (λ P Q weaker values. weaker c.args.text.now) few is
     c.certified_of.ensures.goes_on stopped)
     c.united_files.ensures.stopped
 

@@ -1,8 +1,8 @@
 -- The answer of a text is shown.
 use Rattle.wb_united_trees.specs.Unions.{all_resolved}
+use Rattle.wb_inputs.proofs.CauseLemmas.{on_ok}
 use Rattle.wb_program.specs.ComposeReport.{UnitedReport}
 use Rattle.wb_program.specs.TreeReport.{ShownText}
-use Rattle.wb_program.proofs.CauseLemmas.{on_ok}
 use Rattle.wb_program.proofs.united.united_answer.Goals as goal
 
 pub returns : goal.returns

@@ -6,13 +6,13 @@ use Rattle.wb_resolved.specs.declared.resolved.ResolvedParts.{ResolvedParts}
 use Rattle.wb_united_trees.specs.Unions.{all_resolved}
 use Rattle.wb_words.specs.Words.{texts}
 use Rattle.wb_world.specs.Shelf.{Files}
-use Rattle.wb_program.specs.Checks.{Check}
+use Rattle.wb_inputs.specs.Checks.{Check}
+use Rattle.wb_inputs.specs.SeveralChecks.{AreEach, EachChecks}
+use Rattle.wb_inputs.specs.Texts.{IsText, IsTooLongText}
+use Rattle.wb_inputs.specs.declared.answer.Answer.{Answer}
+use Rattle.wb_inputs.specs.declared.status.Status.TheVariants.{TextTooLong}
+use Rattle.wb_inputs.proofs.CauseLemmas.{ok_of, on_ok}
 use Rattle.wb_program.specs.ComposeReport.{UnitedReport}
-use Rattle.wb_program.specs.SeveralChecks.{AreEach, EachChecks}
-use Rattle.wb_program.specs.TreeReport.{IsText, IsTooLongText}
-use Rattle.wb_program.specs.declared.answer.Answer.{Answer}
-use Rattle.wb_program.specs.declared.status.Status.TheVariants.{TextTooLong}
-use Rattle.wb_program.proofs.CauseLemmas.{ok_of, on_ok}
 use Rattle.wb_program.proofs.united.united_files.Goals as goal
 
 pub returns-in-Ok-clause-ok : goal.returns-in-Ok-clause-ok

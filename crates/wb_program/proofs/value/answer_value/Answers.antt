@@ -5,16 +5,16 @@ use Rattle.wb_attributes.specs.WellDefined.{IsWellDefinedProduction}
 use Rattle.wb_operations.specs.Operations.{Operations}
 use Rattle.wb_resolved.specs.declared.resolved.ResolvedParts.{ResolvedParts}
 use Rattle.wb_world.specs.Shelf.{Files}
-use Rattle.wb_program.specs.Built.{well_defined_host, written_term}
-use Rattle.wb_program.specs.Checks.{Check}
-use Rattle.wb_program.specs.Reads.{StopsAt}
-use Rattle.wb_program.specs.TreeReport.{IsText, IsTooLongText}
+use Rattle.wb_inputs.specs.Reads.{well_defined_host, written_term, StopsAt}
+use Rattle.wb_inputs.specs.Checks.{Check}
+use Rattle.wb_inputs.specs.Texts.{IsText, IsTooLongText}
+use Rattle.wb_inputs.specs.HostChecks.{IsWellDefinedFile}
+use Rattle.wb_inputs.specs.Stopped.{outside, Stopped}
+use Rattle.wb_inputs.specs.declared.answer.Answer.{Answer}
+use Rattle.wb_inputs.specs.declared.status.Status.TheVariants.{TextTooLong}
+use Rattle.wb_inputs.proofs.CauseLemmas.{goes_on_twice, on_ok, on_err}
 use Rattle.wb_program.specs.ValueReport.{TermReport, ValueReport}
-use Rattle.wb_program.specs.Inner.Hosts.{IsWellDefinedFile}
-use Rattle.wb_program.specs.Inner.Stopped.{outside, Stopped}
-use Rattle.wb_program.specs.declared.answer.Answer.{Answer}
-use Rattle.wb_program.specs.declared.status.Status.TheVariants.{TextTooLong}
-use Rattle.wb_program.proofs.CauseLemmas.{goes_on_twice, on_ok, on_err, stops_at_term}
+use Rattle.wb_program.proofs.CauseLemmas.{stops_at_term}
 use Rattle.wb_program.proofs.HostLemmas.{value_well_defined}
 use Rattle.wb_program.proofs.value.answer_value.Goals as goal
 

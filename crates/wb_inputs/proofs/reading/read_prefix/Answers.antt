@@ -1,0 +1,25 @@
+-- At the end, or one byte past the limit, the bytes are the prefix that is asked for.
+use Rattle.std.proofs.Common.{rules, sym, ◌≡◌, ◌≤◌, ◌+◌, arith, subst, length, vec_len}
+use Rattle.std.proofs.lemmas.Grind.{common_steps}
+use Rattle.wb_inputs.specs.Files.{KnownFile}
+use Rattle.wb_inputs.specs.Inner.Contents.{KnownPrefix}
+use Rattle.wb_inputs.proofs.Pieces.{prefix_end, prefix_limit}
+use Rattle.wb_inputs.proofs.reading.read_prefix.Goals as goal
+
+pub returns-then-branch-eq0-clause-ok : goal.returns-then-branch-eq0-clause-ok
+returns-then-branch-eq0-clause-ok g c =
+    let none : c.in_ok-read_piece.field-0 ≡ 0 = search rules in
+    let ended : KnownFile (g.S.Shelf.files c.loop-bytes.shelf) c.args.name.now
+    (λ contents. length contents ≤ vec_len c.read_piece.new.bytes) = c.in_ok-read_piece.ensures.end none in
+    let same : g.S.Shelf.files c.loop-bytes.shelf ≡ g.S.Shelf.files c.args.shelf.now = c.loop-bytes.invariant.goes_on.files in
+    let before : KnownPrefix (g.S.Shelf.files c.loop-bytes.shelf) c.args.name.now c.loop-bytes.bytes.items = subst
+    (λ told. KnownPrefix told c.args.name.now c.loop-bytes.bytes.items) (sym same) c.loop-bytes.invariant.part in
+    prefix_end (g.S.Shelf.files c.args.shelf.now) c.args.name.now c.read_piece.new.bytes.items (vec_len c.read_piece.new.bytes)
+    (c.args.limit + 1)
+    (subst (λ told. KnownPrefix told c.args.name.now c.read_piece.new.bytes.items) same (c.in_ok-read_piece.ensures.part before))
+    (subst (λ told. KnownFile told c.args.name.now (λ contents. length contents ≤ vec_len c.read_piece.new.bytes)) same ended)
+    (grind (arith, common_steps)) (grind (arith, common_steps))
+
+pub returns-clause-ok : goal.returns-clause-ok
+returns-clause-ok g c = prefix_limit (g.S.Shelf.files c.args.shelf.now) c.args.name.now c.loop-bytes.bytes.items
+    (c.args.limit + 1) c.loop-bytes.invariant.part (grind (arith, common_steps)) (omega arith)

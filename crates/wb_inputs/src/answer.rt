@@ -1,0 +1,38 @@
+//! What is an answer? A status with its report, which is made whole before its first byte is written.
+
+ghost use Rattle.std.specs.Prelude.{◌≡◌, IfOk};
+ghost use Rattle.wb_report.specs.Lines.{report_of};
+
+use crate::status::Status;
+use std::alloc::{AllocError, Global};
+use wb_report::{Outcome, report};
+
+/// A status with its report.
+#[derive(Drop)]
+pub struct Answer {
+    /// How the run ends.
+    pub status: Status,
+    /// What is written.
+    pub report: Vec<u8>,
+}
+
+/// The answer with the report of an outcome.
+pub fn reported(alloc: Global, status: Status, outcome: Outcome) -> Result<Answer, AllocError>
+    ensures status { IfOk result (λ answer. answer.status ≡ status) }
+    ensures report { IfOk result (λ answer. answer.report.items ≡ report_of outcome) }
+{
+    // An array lets go of what it holds by a call, so that the drop of an outcome is proved once and part by part.
+    let held = [outcome];
+    with_report(alloc, status, &held[0])
+}
+
+// The answer with the report of an outcome that is lent.
+fn with_report(alloc: Global, status: Status, outcome: &Outcome) -> Result<Answer, AllocError>
+    ensures status { IfOk result (λ answer. answer.status ≡ status) }
+    ensures report { IfOk result (λ answer. answer.report.items ≡ report_of outcome.now) }
+{
+    Ok(Answer {
+        status,
+        report: report(alloc, outcome)?,
+    })
+}

@@ -1,0 +1,118 @@
+//! Which host is in a file: one that is certified, or one whose attributes are well defined?
+//!
+//! What such hosts are, and why contents are none, is found by `wb_hosts`.
+
+ghost use Rattle.std.specs.Prelude.{◌≡◌, IfOk, IfErr};
+ghost use Rattle.wb_certify.specs.Hosts.{IsCertifiedValue};
+ghost use Rattle.wb_certify.specs.WellDefined.{HasWellDefinedAttributes};
+ghost use Rattle.wb_hosts.specs.Contents.{IsHostText, IsHostRefusal};
+ghost use Rattle.wb_hosts.specs.WellDefined.{IsWellDefinedText, IsWellDefinedTextRefusal};
+ghost use Rattle.wb_inputs.specs.Contents.{ReadIs};
+ghost use Rattle.wb_inputs.specs.Files.{KnownFile};
+ghost use Rattle.wb_inputs.specs.HostChecks.{IsHostFile, IsWellDefinedFile, RefusedHost};
+ghost use Rattle.wb_inputs.specs.Stopped.{outside, Stopped, GoesOn};
+
+use crate::answer::{Answer, reported};
+use crate::reading::{Contents, ReadFailure, read_file};
+use crate::status::Status;
+use std::alloc::{AllocError, Global};
+use wb_base::{Bytes, FILE_LIMIT};
+use wb_certify::CertifiedHost;
+use wb_hosts::{HostRefusal, host_of, well_defined_host_of};
+use wb_operations::{Meaning, OperationTable};
+use wb_report::{Outcome, Refusal, SpecReason};
+use wb_resolved::Resolved;
+use wb_world::Shelf;
+
+/// Reads and certifies the host of a file.
+pub fn certified_of<S: Shelf, M: Meaning>(
+    alloc: Global,
+    shelf: &mut S,
+    file: &str,
+    operations: &OperationTable<M>,
+) -> Result<Result<CertifiedHost, HostRefusal>, ReadFailure>
+    ensures ok { IfOk result (λ read. IfOk read (λ host. IsHostFile operations.now.signatures (S.files shelf.old) file.now host.resolved)) }
+    ensures operations { IfOk result (λ read. IfOk read (λ host. host.operations ≡ operations.now.signatures)) }
+    ensures refused { IfOk result (λ read. IfErr read (λ refusal. KnownFile (S.files shelf.old) file.now (λ contents. IsHostRefusal operations.now.signatures contents refusal))) }
+    ensures stopped { IfErr result (Stopped (outside (S.files shelf.old) (S.absences shelf.old) (S.faults shelf.old))
+        (outside (S.files shelf.new) (S.absences shelf.new) (S.faults shelf.new)) (λ P. P file.now)) }
+    ensures goes_on { GoesOn (outside (S.files shelf.old) (S.absences shelf.old) (S.faults shelf.old))
+        (outside (S.files shelf.new) (S.absences shelf.new) (S.faults shelf.new)) }
+{
+    let contents = read_file(alloc, shelf, file, FILE_LIMIT)?;
+    Ok(host_in(alloc, contents, operations))
+}
+
+// The certified host that was read.
+fn host_in<M: Meaning>(
+    alloc: Global,
+    contents: Contents,
+    operations: &OperationTable<M>,
+) -> Result<CertifiedHost, HostRefusal>
+    ensures certified { IfOk result (λ host. IsCertifiedValue host.resolved operations.now.signatures) }
+    ensures operations { IfOk result (λ host. host.operations ≡ operations.now.signatures) }
+    ensures ok { IfOk result (λ host. ReadIs contents (λ bytes. IsHostText operations.now.signatures bytes host.resolved)) }
+    ensures refused { IfErr result (λ refusal. ReadIs contents (λ bytes. IsHostRefusal operations.now.signatures bytes refusal)) }
+{
+    match contents {
+        Contents::Whole(bytes) => host_of(alloc, &bytes, operations),
+        Contents::TooLong => Err(HostRefusal::Specification(Refusal::Specification(
+            SpecReason::TooLong,
+        ))),
+    }
+}
+
+/// Reads the host of a file, whose attributes are well defined.
+pub fn well_defined_of<S: Shelf, M: Meaning>(
+    alloc: Global,
+    shelf: &mut S,
+    file: &str,
+    operations: &OperationTable<M>,
+) -> Result<Result<Resolved, HostRefusal>, ReadFailure>
+    ensures ok { IfOk result (λ read. IfOk read (IsWellDefinedFile operations.now.signatures (S.files shelf.old) file.now)) }
+    ensures refused { IfOk result (λ read. IfErr read (λ refusal. KnownFile (S.files shelf.old) file.now (λ contents. IsWellDefinedTextRefusal operations.now.signatures contents refusal))) }
+    ensures stopped { IfErr result (Stopped (outside (S.files shelf.old) (S.absences shelf.old) (S.faults shelf.old))
+        (outside (S.files shelf.new) (S.absences shelf.new) (S.faults shelf.new)) (λ P. P file.now)) }
+    ensures goes_on { GoesOn (outside (S.files shelf.old) (S.absences shelf.old) (S.faults shelf.old))
+        (outside (S.files shelf.new) (S.absences shelf.new) (S.faults shelf.new)) }
+{
+    let contents = read_file(alloc, shelf, file, FILE_LIMIT)?;
+    Ok(well_defined_in(alloc, contents, operations))
+}
+
+// The host that was read, whose attributes are well defined.
+fn well_defined_in<M: Meaning>(
+    alloc: Global,
+    contents: Contents,
+    operations: &OperationTable<M>,
+) -> Result<Resolved, HostRefusal>
+    ensures well_defined { IfOk result (λ host. HasWellDefinedAttributes host operations.now.signatures) }
+    ensures ok { IfOk result (λ host. ReadIs contents (λ bytes. IsWellDefinedText operations.now.signatures bytes host)) }
+    ensures refused { IfErr result (λ refusal. ReadIs contents (λ bytes. IsWellDefinedTextRefusal operations.now.signatures bytes refusal)) }
+{
+    match contents {
+        Contents::Whole(bytes) => well_defined_host_of(alloc, &bytes, operations),
+        Contents::TooLong => Err(HostRefusal::Specification(Refusal::Specification(
+            SpecReason::TooLong,
+        ))),
+    }
+}
+
+/// The answer for a file that is no such host.
+pub fn refused_host(alloc: Global, file: Bytes, refusal: HostRefusal) -> Result<Answer, AllocError>
+    ensures { IfOk result (λ answer. RefusedHost file refusal answer.status answer.report.items) }
+{
+    match refusal {
+        HostRefusal::Specification(refusal) => reported(
+            alloc,
+            Status::SpecRefused,
+            Outcome::Refused { file, refusal },
+        ),
+        HostRefusal::Certification(refusal) => reported(
+            alloc,
+            Status::NotCertified,
+            Outcome::Refused { file, refusal },
+        ),
+        HostRefusal::NoMemory(error) => Err(error),
+    }
+}

@@ -1,0 +1,77 @@
+-- Extensions are read after their host, and their report comes after that host's checks.
+use Rattle.std.proofs.Common.{rules, ◌≡◌, ◌≤◌, ◌∙◌, ℕ, List, [], Option, IfOk, length, subst, arith}
+use Rattle.wb_hosts.specs.Contents.{IsHostRefusal}
+use Rattle.wb_operations.specs.Operations.{Operations}
+use Rattle.wb_words.specs.Words.{texts}
+use Rattle.wb_world.specs.Shelf.{Files}
+use Rattle.wb_inputs.specs.Files.{KnownFile}
+use Rattle.wb_inputs.specs.HostChecks.{IsHostFile, RefusedHost}
+use Rattle.wb_inputs.specs.Reads.{StopsComposed, StopsThen}
+use Rattle.wb_inputs.specs.SeveralChecks.{EachChecks, SeveralChecks}
+use Rattle.wb_inputs.specs.Stopped.{outside, Stopped}
+use Rattle.wb_inputs.specs.declared.answer.Answer.{Answer}
+use Rattle.wb_inputs.proofs.CauseLemmas.{on_ok, on_err}
+use Rattle.wb_inputs.proofs.ComposeLemmas.{several_certified, several_refused, composed_later}
+use Rattle.wb_inputs.proofs.WordLemmas.{few_texts}
+use Rattle.wb_runs.specs.Inner.Sources.{SourceChecks, SourceEnd}
+use Rattle.wb_runs.proofs.SourceLemmas.{end_weaker}
+use Rattle.wb_runs.proofs.source.answer_source.Goals as goal
+
+pub returns-in-Ok-clause-ok : goal.returns-in-Ok-clause-ok
+returns-in-Ok-clause-ok g c =
+    let files = g.S.Shelf.files c.args.shelf.now in
+    let operations : Operations = record { signatures = c.args.operations.now.signatures; meaning = g.M.Meaning.meaning } in
+    let name = c.args.attribute.now in
+    let r = c.in-Ok.certified.resolved in
+    let extensions = texts c.args.extensions.now in
+    let few : length extensions ≤ 64 = few_texts c.args.extensions.now 64 (omega arith) in
+    let is : IsHostFile operations.signatures files c.args.host.now r = search rules in
+    let IsAnswered : Option Files → Answer → Type 0 = λ known answer.
+    EachChecks operations.signatures known r extensions (SourceChecks operations known name c.args.source r) answer.status answer.report.items in
+    let report : IfOk c.files_answer.result (IsAnswered files) =
+    subst (λ (known : Option Files). IfOk c.files_answer.result (IsAnswered known)) c.certified_of.ensures.goes_on.files
+    c.files_answer.ensures.ok in
+    on_ok c.files_answer.result (IsAnswered files)
+    (λ answer. SeveralChecks operations.signatures files c.args.host.now extensions (SourceChecks operations files name c.args.source) answer.status
+    answer.report.items)
+    (λ answer shown. several_certified operations.signatures files c.args.host.now extensions (SourceChecks operations files name c.args.source) r
+    answer.status answer.report.items few is shown)
+    report
+
+pub returns-in-Ok-clause-stopped : goal.returns-in-Ok-clause-stopped
+returns-in-Ok-clause-stopped g c =
+    let files = g.S.Shelf.files c.args.shelf.now in
+    let operations = c.args.operations.now.signatures in
+    let host = c.args.host.now in
+    let name = c.args.attribute.now in
+    let source = c.args.source in
+    let r = c.in-Ok.certified.resolved in
+    let extensions = texts c.args.extensions.now in
+    let before = outside files (g.S.Shelf.absences c.args.shelf.now) (g.S.Shelf.faults c.args.shelf.now) in
+    let between = outside (g.S.Shelf.files c.certified_of.new.shelf) (g.S.Shelf.absences c.certified_of.new.shelf)
+    (g.S.Shelf.faults c.certified_of.new.shelf) in
+    let now = outside (g.S.Shelf.files c.files_answer.new.shelf) (g.S.Shelf.absences c.files_answer.new.shelf)
+    (g.S.Shelf.faults c.files_answer.new.shelf) in
+    let few : length extensions ≤ 64 = few_texts c.args.extensions.now 64 (omega arith) in
+    let is : IsHostFile operations files host r = search rules in
+    on_err c.files_answer.result
+    (Stopped between now (λ P. StopsThen operations between.files r P extensions (SourceEnd operations name source P r)))
+    (Stopped before now (λ P. StopsComposed operations files host extensions P (SourceEnd operations name source P)))
+    (λ failure stopped. composed_later operations before between now host extensions r (λ P. SourceEnd operations name source P) failure
+    (λ P Q weaker values. end_weaker operations name source P Q r values weaker) few is c.certified_of.ensures.goes_on stopped)
+    c.files_answer.ensures.stopped
+
+pub returns-in_ok-refused_host-in-Err-clause-ok : goal.returns-in_ok-refused_host-in-Err-clause-ok
+returns-in_ok-refused_host-in-Err-clause-ok g c =
+    let known = g.S.Shelf.files c.args.shelf.now in
+    let operations : Operations = record { signatures = c.args.operations.now.signatures; meaning = g.M.Meaning.meaning } in
+    let extensions = texts c.args.extensions.now in
+    let answer = c.in_ok-refused_host-in-Err.field-0 in
+    let few : length extensions ≤ 64 = few_texts c.args.extensions.now 64 (omega arith) in
+    let cause : KnownFile known c.args.host.now (λ contents. IsHostRefusal operations.signatures contents c.in-Err.refusal) = search rules in
+    let word : c.in_ok-file.file ≡ c.args.host.now = c.in_ok-file.ensures.ok ∙ c.as_bytes.ensures.value in
+    let shown : RefusedHost c.args.host.now c.in-Err.refusal answer.status answer.report.items =
+    subst (λ (file : List ℕ). RefusedHost file c.in-Err.refusal answer.status answer.report.items) word
+    c.in_ok-refused_host-in-Err.ensures in
+    several_refused operations.signatures known c.args.host.now extensions
+    (SourceChecks operations known c.args.attribute.now c.args.source) c.in-Err.refusal answer.status answer.report.items few cause shown

@@ -1,0 +1,91 @@
+-- An attribute was found that may be asked at the start, and what is behind it comes after it.
+use Rattle.std.proofs.Common.{◌≡◌, ℕ, List, Option, Some, IfOk, MatchOption, subst}
+use Rattle.wb_operations.specs.Operations.{Operations, OperationSignature}
+use Rattle.wb_resolved.specs.declared.resolved.ResolvedParts.{ResolvedParts}
+use Rattle.wb_united_trees.specs.Unions.{all_resolved}
+use Rattle.wb_united_values.specs.Roots.{HasNoRootAttribute, IsRootAttribute}
+use Rattle.wb_inputs.specs.Stopped.{outside, Stopped}
+use Rattle.wb_inputs.proofs.CauseLemmas.{ok_of, on_ok, on_err, weaker_stop}
+use Rattle.wb_runs.specs.Inner.Sources.{SourceChecks, SourceEnd, SourceRest, SourceText}
+use Rattle.wb_runs.specs.declared.asked.Asked.{Asked}
+use Rattle.wb_runs.proofs.SourceLemmas.{found_checks, found_end}
+use Rattle.wb_runs.proofs.source.attribute_answer.Goals as goal
+
+-- what was found, where one was
+found_one : (host : ResolvedParts) (operations : List OperationSignature) (values : List ResolvedParts) (name other : List ℕ)
+    (found : Option ℕ) (attribute : ℕ) → other ≡ name → found ≡ Some attribute
+    → MatchOption found (HasNoRootAttribute host operations values other) (IsRootAttribute host operations values other)
+    → IsRootAttribute host operations values name attribute
+found_one host operations values name other found attribute same is holds =
+    subst (λ (x : List ℕ). IsRootAttribute host operations values x attribute) same
+    (subst (λ (x : Option ℕ). MatchOption x (HasNoRootAttribute host operations values other) (IsRootAttribute host operations values other))
+    is holds)
+
+pub source_answer-requires-clause-asked : goal.source_answer-requires-clause-asked
+source_answer-requires-clause-asked g c =
+    let host = c.args.host.now in
+    let values = all_resolved c.args.extensions.now in
+    let name = c.as_bytes.result.now in
+    let found = c.in_ok-attribute.field-0 in
+    record {
+      same = c.requires.operations;
+      apart = c.requires.apart;
+      attributes = c.requires.attributes;
+      is_root = found_one host.resolved host.operations values c.args.name.now name found c.in-Some.attribute c.as_bytes.ensures.value
+          c.in-Some.is
+          (ok_of c.root_attribute.result found (λ (x : Option ℕ). MatchOption x (HasNoRootAttribute host.resolved host.operations values name)
+          (IsRootAttribute host.resolved host.operations values name)) c.in_ok-attribute.was
+          (c.root_attribute.ensures values c.requires.attributes));
+    }
+
+pub returns-in-Some-clause-ok : goal.returns-in-Some-clause-ok
+returns-in-Some-clause-ok g c =
+    let operations : Operations = record { signatures = c.args.operations.now.signatures; meaning = g.M.Meaning.meaning } in
+    let files = g.S.Shelf.files c.args.shelf.now in
+    let host = c.args.host.now in
+    let values = all_resolved c.args.extensions.now in
+    let name = c.as_bytes.result.now in
+    let found = c.in_ok-attribute.field-0 in
+    let attribute = c.in-Some.attribute in
+    let asked : Asked = record {
+      host = c.args.host;
+      extensions = c.args.extensions;
+      attributes = c.args.attributes;
+      name = c.args.name;
+      attribute = attribute;
+    } in
+    let is : IsRootAttribute host.resolved host.operations values c.args.name.now attribute =
+    found_one host.resolved host.operations values c.args.name.now name found attribute c.as_bytes.ensures.value c.in-Some.is
+    (ok_of c.root_attribute.result found (λ (x : Option ℕ). MatchOption x (HasNoRootAttribute host.resolved host.operations values name)
+    (IsRootAttribute host.resolved host.operations values name)) c.in_ok-attribute.was
+    (c.root_attribute.ensures values c.requires.attributes)) in
+    let is_root : IsRootAttribute host.resolved operations.signatures values c.args.name.now attribute =
+    subst (λ (xs : List OperationSignature). IsRootAttribute host.resolved xs values c.args.name.now attribute) c.requires.operations is in
+    on_ok c.source_answer.result (λ answer. SourceRest operations files c.args.source asked answer.status answer.report.items)
+    (λ answer. SourceChecks operations files c.args.name.now c.args.source host.resolved values answer.status answer.report.items)
+    (λ answer. found_checks operations files c.args.source asked attribute answer.status answer.report.items is_root)
+    c.source_answer.ensures.ok
+
+pub returns-in-Some-clause-stopped : goal.returns-in-Some-clause-stopped
+returns-in-Some-clause-stopped g c =
+    let signatures = c.args.operations.now.signatures in
+    let before = outside (g.S.Shelf.files c.args.shelf.now) (g.S.Shelf.absences c.args.shelf.now) (g.S.Shelf.faults c.args.shelf.now) in
+    let now = outside (g.S.Shelf.files c.source_answer.new.shelf) (g.S.Shelf.absences c.source_answer.new.shelf)
+    (g.S.Shelf.faults c.source_answer.new.shelf) in
+    let host = c.args.host.now in
+    let values = all_resolved c.args.extensions.now in
+    let name = c.as_bytes.result.now in
+    let found = c.in_ok-attribute.field-0 in
+    let attribute = c.in-Some.attribute in
+    let is : IsRootAttribute host.resolved host.operations values c.args.name.now attribute =
+    found_one host.resolved host.operations values c.args.name.now name found attribute c.as_bytes.ensures.value c.in-Some.is
+    (ok_of c.root_attribute.result found (λ (x : Option ℕ). MatchOption x (HasNoRootAttribute host.resolved host.operations values name)
+    (IsRootAttribute host.resolved host.operations values name)) c.in_ok-attribute.was
+    (c.root_attribute.ensures values c.requires.attributes)) in
+    let is_root : IsRootAttribute host.resolved signatures values c.args.name.now attribute =
+    subst (λ (xs : List OperationSignature). IsRootAttribute host.resolved xs values c.args.name.now attribute) c.requires.operations is in
+    on_err c.source_answer.result (Stopped before now (λ P. SourceText P c.args.source))
+    (Stopped before now (λ P. SourceEnd signatures c.args.name.now c.args.source P host.resolved values))
+    (λ failure. weaker_stop before now (λ P. SourceText P c.args.source)
+    (λ P. SourceEnd signatures c.args.name.now c.args.source P host.resolved values) failure
+    (λ P. found_end signatures c.args.name.now c.args.source host.resolved values attribute P is_root)) c.source_answer.ensures.stopped

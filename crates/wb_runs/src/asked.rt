@@ -1,0 +1,182 @@
+//! What is answered of an attribute that may be asked at the start, for a text that is read or made?
+//!
+//! The text's value is found by `wb_united_values`, and the text that a number makes by `wb_generated_texts`.
+
+ghost use Rattle.std.specs.Prelude.{◌≡◌, ◌≤◌, IfOk, IfErr, ℕ, List, None, Some, length};
+ghost use Rattle.wb_generated_texts.specs.Generated.{IsGeneratedText};
+ghost use Rattle.wb_operations.specs.Kept.{IsKept};
+ghost use Rattle.wb_united_trees.specs.Unions.{all_resolved};
+ghost use Rattle.wb_inputs.specs.Checks.{Check};
+ghost use Rattle.wb_inputs.specs.ExtensionChecks.{AreApart};
+ghost use Rattle.wb_inputs.specs.Stopped.{outside, Stopped, GoesOn};
+ghost use Rattle.wb_inputs.specs.Texts.{IsText, IsTooLongText, ReadText};
+ghost use Rattle.wb_runs.specs.GenerateReport.{MadeReport, MadeTextReport};
+ghost use Rattle.wb_runs.specs.Values.{TextValueReport};
+ghost use Rattle.wb_runs.specs.Inner.Sources.{IsAsked, shown_with};
+
+use crate::shown::shown_text;
+use std::alloc::{AllocError, Global};
+use wb_base::FILE_LIMIT;
+use wb_beside::CertifiedExtension;
+use wb_certify::CertifiedHost;
+use wb_composition::compose;
+use wb_generate::Generated;
+use wb_generated_texts::generated_text;
+use wb_inputs::{Answer, Contents, ReadFailure, Status, read_file, reported};
+use wb_operations::{Meaning, OperationRefusal, OperationTable};
+use wb_report::Outcome;
+use wb_resolved::Attribution;
+use wb_united_values::text_value;
+use wb_values::Value;
+use wb_world::Shelf;
+
+// The most steps of an evaluation at the root of a text that is made.
+const STEPS: u64 = 1_000_000;
+
+// A host with extensions, their attributes, and one of these that may be asked by a name at the start.
+#[derive(Clone, Copy)]
+pub(crate) struct Asked<'a> {
+    pub host: &'a CertifiedHost,
+    pub extensions: &'a [CertifiedExtension],
+    pub attributes: &'a Attribution,
+    pub name: &'a str,
+    pub attribute: usize,
+}
+
+// The answer for the text of a file.
+pub(crate) fn file_answer<S: Shelf, M: Meaning>(
+    alloc: Global,
+    shelf: &mut S,
+    file: &str,
+    steps: u64,
+    asked: &Asked<'_>,
+    operations: &OperationTable<M>,
+) -> Result<Answer, ReadFailure>
+    requires asked { IsAsked operations.now.signatures asked.now }
+    requires kept { IsKept operations.now.signatures operations.now.built_in operations.now.runs.items M.meaning
+        (λ run vs. ⟦<Box<dyn Fn(&[Value]) -> Result<Value, OperationRefusal>> as Fn(&[Value]) -> Result<Value, OperationRefusal>>⟧.pre run vs)
+        (λ run vs r. ⟦<Box<dyn Fn(&[Value]) -> Result<Value, OperationRefusal>> as Fn(&[Value]) -> Result<Value, OperationRefusal>>⟧.post run vs r) }
+    ensures ok { IfOk result (λ answer. Check Status.TextTooLong (IsTooLongText (S.files shelf.old) file.now) (IsText (S.files shelf.old) file.now)
+        (λ (text : List ℕ). TextValueReport (record { signatures = operations.now.signatures; meaning = M.meaning }) asked.now.host.now.resolved (all_resolved asked.now.extensions.now) asked.now.name.now steps (shown_with asked.now.name.now 0 None) text) answer.status answer.report.items) }
+    ensures stopped { IfErr result (Stopped (outside (S.files shelf.old) (S.absences shelf.old) (S.faults shelf.old))
+        (outside (S.files shelf.new) (S.absences shelf.new) (S.faults shelf.new))
+        (λ P. P file.now)) }
+    ensures goes_on { GoesOn (outside (S.files shelf.old) (S.absences shelf.old) (S.faults shelf.old))
+        (outside (S.files shelf.new) (S.absences shelf.new) (S.faults shelf.new)) }
+{
+    let contents = read_file(alloc, shelf, file, FILE_LIMIT)?;
+    Ok(contents_answer(alloc, contents, steps, asked, operations)?)
+}
+
+// The answer for what was read of the file.
+fn contents_answer<M: Meaning>(
+    alloc: Global,
+    contents: Contents,
+    steps: u64,
+    asked: &Asked<'_>,
+    operations: &OperationTable<M>,
+) -> Result<Answer, AllocError>
+    requires asked { IsAsked operations.now.signatures asked.now }
+    requires kept { IsKept operations.now.signatures operations.now.built_in operations.now.runs.items M.meaning
+        (λ run vs. ⟦<Box<dyn Fn(&[Value]) -> Result<Value, OperationRefusal>> as Fn(&[Value]) -> Result<Value, OperationRefusal>>⟧.pre run vs)
+        (λ run vs r. ⟦<Box<dyn Fn(&[Value]) -> Result<Value, OperationRefusal>> as Fn(&[Value]) -> Result<Value, OperationRefusal>>⟧.post run vs r) }
+    ensures { IfOk result (λ answer. ReadText (λ (text : List ℕ). TextValueReport (record { signatures = operations.now.signatures; meaning = M.meaning }) asked.now.host.now.resolved (all_resolved asked.now.extensions.now) asked.now.name.now steps (shown_with asked.now.name.now 0 None) text) contents answer.status answer.report.items) }
+{
+    match contents {
+        Contents::Whole(bytes) => text_answer(alloc, &bytes, steps, None, asked, operations),
+        Contents::TooLong => reported(alloc, Status::TextTooLong, Outcome::TextTooLong),
+    }
+}
+
+// The answer for a text.
+fn text_answer<M: Meaning>(
+    alloc: Global,
+    text: &[u8],
+    steps: u64,
+    leaves: Option<u64>,
+    asked: &Asked<'_>,
+    operations: &OperationTable<M>,
+) -> Result<Answer, AllocError>
+    requires asked { IsAsked operations.now.signatures asked.now }
+    requires kept { IsKept operations.now.signatures operations.now.built_in operations.now.runs.items M.meaning
+        (λ run vs. ⟦<Box<dyn Fn(&[Value]) -> Result<Value, OperationRefusal>> as Fn(&[Value]) -> Result<Value, OperationRefusal>>⟧.pre run vs)
+        (λ run vs r. ⟦<Box<dyn Fn(&[Value]) -> Result<Value, OperationRefusal>> as Fn(&[Value]) -> Result<Value, OperationRefusal>>⟧.post run vs r) }
+    ensures { IfOk result (λ answer. TextValueReport (record { signatures = operations.now.signatures; meaning = M.meaning }) asked.now.host.now.resolved (all_resolved asked.now.extensions.now) asked.now.name.now steps (shown_with asked.now.name.now (length text.now) leaves) text.now answer.status answer.report.items) }
+{
+    // As in `answer_source`, what is composed is dropped by a call.
+    let held = [compose(alloc, asked.host, asked.extensions)?];
+    let value = text_value(
+        alloc,
+        asked.host,
+        asked.extensions,
+        &held[0],
+        asked.attributes,
+        asked.attribute,
+        text,
+        steps,
+        operations,
+    )?;
+    shown_text(alloc, value, asked.name, steps, text.len(), leaves)
+}
+
+// The answer for what a number makes.
+pub(crate) fn made_answer<M: Meaning>(
+    alloc: Global,
+    number: u64,
+    size: u64,
+    asked: &Asked<'_>,
+    operations: &OperationTable<M>,
+) -> Result<Answer, AllocError>
+    requires asked { IsAsked operations.now.signatures asked.now }
+    requires size { size ≤ 100000 }
+    requires kept { IsKept operations.now.signatures operations.now.built_in operations.now.runs.items M.meaning
+        (λ run vs. ⟦<Box<dyn Fn(&[Value]) -> Result<Value, OperationRefusal>> as Fn(&[Value]) -> Result<Value, OperationRefusal>>⟧.pre run vs)
+        (λ run vs r. ⟦<Box<dyn Fn(&[Value]) -> Result<Value, OperationRefusal>> as Fn(&[Value]) -> Result<Value, OperationRefusal>>⟧.post run vs r) }
+    ensures { IfOk result (λ answer. MadeReport (record { signatures = operations.now.signatures; meaning = M.meaning }) asked.now.host.now.resolved (all_resolved asked.now.extensions.now) asked.now.name.now number size answer.status answer.report.items) }
+{
+    match made(alloc, number, size, asked)? {
+        Generated::Text { text, leaves } => made_text(
+            alloc,
+            text.as_slice(),
+            leaves,
+            asked,
+            operations,
+        ),
+        Generated::NoSentence(least) => reported(
+            alloc,
+            Status::NoSentence,
+            Outcome::NoSentence { size, least },
+        ),
+    }
+}
+
+// What the number makes in the union of a host and extensions.
+fn made(alloc: Global, number: u64, size: u64, asked: &Asked<'_>) -> Result<Generated, AllocError>
+    requires apart { AreApart asked.now.host.now asked.now.extensions.now }
+    requires size { size ≤ 100000 }
+    ensures { IfOk result (IsGeneratedText asked.now.host.now.resolved asked.now.host.now.operations (all_resolved asked.now.extensions.now) number size) }
+{
+    // As in `answer_source`, what is composed is dropped by a call.
+    let held = [compose(alloc, asked.host, asked.extensions)?];
+    generated_text(alloc, asked.host, asked.extensions, &held[0], number, size)
+}
+
+// The answer for a text that was made.
+fn made_text<M: Meaning>(
+    alloc: Global,
+    text: &[u8],
+    leaves: u64,
+    asked: &Asked<'_>,
+    operations: &OperationTable<M>,
+) -> Result<Answer, AllocError>
+    requires asked { IsAsked operations.now.signatures asked.now }
+    requires kept { IsKept operations.now.signatures operations.now.built_in operations.now.runs.items M.meaning
+        (λ run vs. ⟦<Box<dyn Fn(&[Value]) -> Result<Value, OperationRefusal>> as Fn(&[Value]) -> Result<Value, OperationRefusal>>⟧.pre run vs)
+        (λ run vs r. ⟦<Box<dyn Fn(&[Value]) -> Result<Value, OperationRefusal>> as Fn(&[Value]) -> Result<Value, OperationRefusal>>⟧.post run vs r) }
+    ensures { IfOk result (λ answer. MadeTextReport (record { signatures = operations.now.signatures; meaning = M.meaning }) asked.now.host.now.resolved (all_resolved asked.now.extensions.now) asked.now.name.now leaves text.now answer.status answer.report.items) }
+{
+    if text.len() > FILE_LIMIT {
+        return reported(alloc, Status::TextTooLong, Outcome::TextTooLong);
+    }
+    text_answer(alloc, text, STEPS, Some(leaves), asked, operations)
+}

@@ -1,0 +1,227 @@
+//! What is answered of an attribute at the root of a text that comes from a source?
+//!
+//! The host comes first, then the extensions, then the attribute among those of their union, and then the text.
+
+ghost use Rattle.std.specs.Prelude.{◌≡◌, IfOk, IfErr};
+ghost use Rattle.wb_certified_unions.specs.United.{IsOfUnion};
+ghost use Rattle.wb_operations.specs.Kept.{IsKept};
+ghost use Rattle.wb_report.specs.Lines.{report_of};
+ghost use Rattle.wb_united_trees.specs.Unions.{all_resolved};
+ghost use Rattle.wb_words.specs.Words.{texts};
+ghost use Rattle.wb_inputs.specs.Checks.{Ends};
+ghost use Rattle.wb_inputs.specs.ExtensionChecks.{AreApart};
+ghost use Rattle.wb_inputs.specs.Reads.{StopsComposed, StopsThen};
+ghost use Rattle.wb_inputs.specs.SeveralChecks.{EachChecks, SeveralChecks};
+ghost use Rattle.wb_inputs.specs.Stopped.{outside, Stopped, GoesOn};
+ghost use Rattle.wb_runs.specs.Inner.Sources.{HasFewLeaves, IsAsked, SourceChecks, SourceEnd, SourceRest, SourceText};
+
+use crate::asked::{Asked, file_answer, made_answer};
+use std::alloc::{AllocError, Global};
+use wb_base::Bytes;
+use wb_beside::CertifiedExtension;
+use wb_certify::CertifiedHost;
+use wb_composed_attributes::composed_attributes;
+use wb_composition::compose;
+use wb_inputs::{
+    Answer, MOST_EXTENSIONS, ReadFailure, Status, certified_of, read_extensions, refused_host,
+    reported,
+};
+use wb_operations::{Meaning, OperationRefusal, OperationTable};
+use wb_report::Outcome;
+use wb_resolved::Attribution;
+use wb_united_values::root_attribute;
+use wb_values::Value;
+use wb_world::Shelf;
+
+// Where a text comes from.
+#[derive(Clone, Copy)]
+pub(crate) enum Source<'a> {
+    // A file holds it, and an evaluation at its root has so many steps.
+    File { file: &'a str, steps: u64 },
+    // A number makes it, of so many leaves at most.
+    Number { number: u64, size: u64 },
+}
+
+// The answer for an attribute at the root of a text, in the union of a host and extensions that files hold.
+pub(crate) fn answer_source<S: Shelf, M: Meaning>(
+    alloc: Global,
+    shelf: &mut S,
+    source: Source<'_>,
+    attribute: &str,
+    host: &str,
+    extensions: &[String],
+    operations: &OperationTable<M>,
+) -> Result<Answer, ReadFailure>
+    requires size { HasFewLeaves source }
+    requires kept { IsKept operations.now.signatures operations.now.built_in operations.now.runs.items M.meaning
+        (λ run vs. ⟦<Box<dyn Fn(&[Value]) -> Result<Value, OperationRefusal>> as Fn(&[Value]) -> Result<Value, OperationRefusal>>⟧.pre run vs)
+        (λ run vs r. ⟦<Box<dyn Fn(&[Value]) -> Result<Value, OperationRefusal>> as Fn(&[Value]) -> Result<Value, OperationRefusal>>⟧.post run vs r) }
+    ensures ok { IfOk result (λ answer. SeveralChecks operations.now.signatures (S.files shelf.old) host.now (texts extensions.now) (SourceChecks (record { signatures = operations.now.signatures; meaning = M.meaning }) (S.files shelf.old) attribute.now source.entry) answer.status answer.report.items) }
+    ensures stopped { IfErr result (Stopped (outside (S.files shelf.old) (S.absences shelf.old) (S.faults shelf.old))
+        (outside (S.files shelf.new) (S.absences shelf.new) (S.faults shelf.new))
+        (λ P. StopsComposed operations.now.signatures (S.files shelf.old) host.now (texts extensions.now) P (SourceEnd operations.now.signatures attribute.now source.entry P))) }
+    ensures goes_on { GoesOn (outside (S.files shelf.old) (S.absences shelf.old) (S.faults shelf.old))
+        (outside (S.files shelf.new) (S.absences shelf.new) (S.faults shelf.new)) }
+{
+    if extensions.len() > MOST_EXTENSIONS {
+        return Ok(reported(alloc, Status::TooManyExtensions, Outcome::TooManyExtensions)?);
+    }
+    let file = Bytes::from_slice(alloc, host.as_bytes())?;
+    match certified_of(alloc, shelf, host, operations)? {
+        Ok(certified) => {
+            // An array lets go of what it holds by a call, so that the drop of a host is proved once and part by part.
+            let held = [certified];
+            files_answer(
+                alloc, shelf, source, attribute, &held[0], extensions, operations,
+            )
+        }
+        Err(refusal) => Ok(refused_host(alloc, file, refusal)?),
+    }
+}
+
+// The answer in the union of a host with the extensions of files.
+fn files_answer<S: Shelf, M: Meaning>(
+    alloc: Global,
+    shelf: &mut S,
+    source: Source<'_>,
+    attribute: &str,
+    host: &CertifiedHost,
+    files: &[String],
+    operations: &OperationTable<M>,
+) -> Result<Answer, ReadFailure>
+    requires operations { host.now.operations ≡ operations.now.signatures }
+    requires size { HasFewLeaves source }
+    requires kept { IsKept operations.now.signatures operations.now.built_in operations.now.runs.items M.meaning
+        (λ run vs. ⟦<Box<dyn Fn(&[Value]) -> Result<Value, OperationRefusal>> as Fn(&[Value]) -> Result<Value, OperationRefusal>>⟧.pre run vs)
+        (λ run vs r. ⟦<Box<dyn Fn(&[Value]) -> Result<Value, OperationRefusal>> as Fn(&[Value]) -> Result<Value, OperationRefusal>>⟧.post run vs r) }
+    ensures ok { IfOk result (λ answer. EachChecks operations.now.signatures (S.files shelf.old) host.now.resolved (texts files.now)
+        (SourceChecks (record { signatures = operations.now.signatures; meaning = M.meaning }) (S.files shelf.old) attribute.now source.entry host.now.resolved) answer.status answer.report.items) }
+    ensures stopped { IfErr result (Stopped (outside (S.files shelf.old) (S.absences shelf.old) (S.faults shelf.old))
+        (outside (S.files shelf.new) (S.absences shelf.new) (S.faults shelf.new))
+        (λ P. StopsThen operations.now.signatures (S.files shelf.old) host.now.resolved P (texts files.now) (SourceEnd operations.now.signatures attribute.now source.entry P host.now.resolved))) }
+    ensures goes_on { GoesOn (outside (S.files shelf.old) (S.absences shelf.old) (S.faults shelf.old))
+        (outside (S.files shelf.new) (S.absences shelf.new) (S.faults shelf.new)) }
+{
+    match read_extensions(alloc, shelf, host, files, operations)? {
+        Ok(extensions) => {
+            union_answer(
+                alloc,
+                shelf,
+                source,
+                attribute,
+                host,
+                &extensions,
+                operations,
+            )
+        }
+        Err(answer) => Ok(answer),
+    }
+}
+
+// The answer in the union of a host with extensions.
+fn union_answer<S: Shelf, M: Meaning>(
+    alloc: Global,
+    shelf: &mut S,
+    source: Source<'_>,
+    attribute: &str,
+    host: &CertifiedHost,
+    extensions: &[CertifiedExtension],
+    operations: &OperationTable<M>,
+) -> Result<Answer, ReadFailure>
+    requires operations { host.now.operations ≡ operations.now.signatures }
+    requires apart { AreApart host.now extensions.now }
+    requires size { HasFewLeaves source }
+    requires kept { IsKept operations.now.signatures operations.now.built_in operations.now.runs.items M.meaning
+        (λ run vs. ⟦<Box<dyn Fn(&[Value]) -> Result<Value, OperationRefusal>> as Fn(&[Value]) -> Result<Value, OperationRefusal>>⟧.pre run vs)
+        (λ run vs r. ⟦<Box<dyn Fn(&[Value]) -> Result<Value, OperationRefusal>> as Fn(&[Value]) -> Result<Value, OperationRefusal>>⟧.post run vs r) }
+    ensures ok { IfOk result (λ answer. SourceChecks (record { signatures = operations.now.signatures; meaning = M.meaning }) (S.files shelf.old) attribute.now source.entry host.now.resolved (all_resolved extensions.now) answer.status answer.report.items) }
+    ensures stopped { IfErr result (Stopped (outside (S.files shelf.old) (S.absences shelf.old) (S.faults shelf.old))
+        (outside (S.files shelf.new) (S.absences shelf.new) (S.faults shelf.new))
+        (λ P. SourceEnd operations.now.signatures attribute.now source.entry P host.now.resolved (all_resolved extensions.now))) }
+    ensures goes_on { GoesOn (outside (S.files shelf.old) (S.absences shelf.old) (S.faults shelf.old))
+        (outside (S.files shelf.new) (S.absences shelf.new) (S.faults shelf.new)) }
+{
+    // As in `answer_source`, the attributes are dropped by a call.
+    let held = [composed_attributes(alloc, host, extensions)?];
+    attribute_answer(
+        alloc, shelf, source, attribute, host, extensions, &held[0], operations,
+    )
+}
+
+// The answer for an attribute among those of the union.
+fn attribute_answer<S: Shelf, M: Meaning>(
+    alloc: Global,
+    shelf: &mut S,
+    source: Source<'_>,
+    name: &str,
+    host: &CertifiedHost,
+    extensions: &[CertifiedExtension],
+    attributes: &Attribution,
+    operations: &OperationTable<M>,
+) -> Result<Answer, ReadFailure>
+    requires operations { host.now.operations ≡ operations.now.signatures }
+    requires apart { AreApart host.now extensions.now }
+    requires attributes { IsOfUnion host.now.resolved host.now.operations (all_resolved extensions.now) attributes.now }
+    requires size { HasFewLeaves source }
+    requires kept { IsKept operations.now.signatures operations.now.built_in operations.now.runs.items M.meaning
+        (λ run vs. ⟦<Box<dyn Fn(&[Value]) -> Result<Value, OperationRefusal>> as Fn(&[Value]) -> Result<Value, OperationRefusal>>⟧.pre run vs)
+        (λ run vs r. ⟦<Box<dyn Fn(&[Value]) -> Result<Value, OperationRefusal>> as Fn(&[Value]) -> Result<Value, OperationRefusal>>⟧.post run vs r) }
+    ensures ok { IfOk result (λ answer. SourceChecks (record { signatures = operations.now.signatures; meaning = M.meaning }) (S.files shelf.old) name.now source.entry host.now.resolved (all_resolved extensions.now) answer.status answer.report.items) }
+    ensures stopped { IfErr result (Stopped (outside (S.files shelf.old) (S.absences shelf.old) (S.faults shelf.old))
+        (outside (S.files shelf.new) (S.absences shelf.new) (S.faults shelf.new))
+        (λ P. SourceEnd operations.now.signatures name.now source.entry P host.now.resolved (all_resolved extensions.now))) }
+    ensures goes_on { GoesOn (outside (S.files shelf.old) (S.absences shelf.old) (S.faults shelf.old))
+        (outside (S.files shelf.new) (S.absences shelf.new) (S.faults shelf.new)) }
+{
+    match root_attribute(alloc, host, attributes, name.as_bytes())? {
+        Some(attribute) => {
+            let asked = Asked {
+                host,
+                extensions,
+                attributes,
+                name,
+                attribute,
+            };
+            source_answer(alloc, shelf, source, &asked, operations)
+        }
+        None => Ok(unknown(alloc, name)?),
+    }
+}
+
+// The answer for an attribute that no root has.
+fn unknown(alloc: Global, name: &str) -> Result<Answer, AllocError>
+    ensures { IfOk result (λ answer. Ends Status.UnknownAttribute (λ bytes. bytes ≡ report_of (Outcome.UnknownAttribute name.now)) answer.status answer.report.items) }
+{
+    let name = Bytes::from_slice(alloc, name.as_bytes())?;
+    reported(
+        alloc,
+        Status::UnknownAttribute,
+        Outcome::UnknownAttribute(name),
+    )
+}
+
+// The answer for an attribute that may be asked at the start.
+fn source_answer<S: Shelf, M: Meaning>(
+    alloc: Global,
+    shelf: &mut S,
+    source: Source<'_>,
+    asked: &Asked<'_>,
+    operations: &OperationTable<M>,
+) -> Result<Answer, ReadFailure>
+    requires asked { IsAsked operations.now.signatures asked.now }
+    requires size { HasFewLeaves source }
+    requires kept { IsKept operations.now.signatures operations.now.built_in operations.now.runs.items M.meaning
+        (λ run vs. ⟦<Box<dyn Fn(&[Value]) -> Result<Value, OperationRefusal>> as Fn(&[Value]) -> Result<Value, OperationRefusal>>⟧.pre run vs)
+        (λ run vs r. ⟦<Box<dyn Fn(&[Value]) -> Result<Value, OperationRefusal>> as Fn(&[Value]) -> Result<Value, OperationRefusal>>⟧.post run vs r) }
+    ensures ok { IfOk result (λ answer. SourceRest (record { signatures = operations.now.signatures; meaning = M.meaning }) (S.files shelf.old) source.entry asked.now answer.status answer.report.items) }
+    ensures stopped { IfErr result (Stopped (outside (S.files shelf.old) (S.absences shelf.old) (S.faults shelf.old))
+        (outside (S.files shelf.new) (S.absences shelf.new) (S.faults shelf.new))
+        (λ P. SourceText P source.entry)) }
+    ensures goes_on { GoesOn (outside (S.files shelf.old) (S.absences shelf.old) (S.faults shelf.old))
+        (outside (S.files shelf.new) (S.absences shelf.new) (S.faults shelf.new)) }
+{
+    match source {
+        Source::File { file, steps } => file_answer(alloc, shelf, file, steps, asked, operations),
+        Source::Number { number, size } => Ok(made_answer(alloc, number, size, asked, operations)?),
+    }
+}
