@@ -50,7 +50,7 @@ pub(crate) fn rows_answer(alloc: Global, text: &str, rows: &[Row]) -> bool {
 }
 
 // The same by the operations of a table.
-pub(crate) fn table_answers<M: Meaning>(
+fn table_answers<M: Meaning>(
     alloc: Global,
     text: &str,
     operations: &OperationTable<M>,

@@ -14,6 +14,4 @@ mod handed_down;
 #[cfg(test)]
 mod hosts;
 #[cfg(test)]
-mod odd;
-#[cfg(test)]
 mod step_counts;

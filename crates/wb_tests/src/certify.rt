@@ -7,7 +7,7 @@ use crate::runs::status_to;
 use crate::specifications::{KW0, MINI, TINY};
 use std::alloc::{AllocError, Global};
 use std::test::Fail;
-use wb_program::Status;
+use wb_inputs::Status;
 use wb_world::MemorySink;
 
 const ADJ: &str =

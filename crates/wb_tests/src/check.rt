@@ -6,7 +6,7 @@ use crate::runs::status_to;
 use crate::specifications::{AMB, KW, KW0, LIST, MINI, PTR};
 use std::alloc::{AllocError, Global};
 use std::test::Fail;
-use wb_program::Status;
+use wb_inputs::Status;
 use wb_world::MemorySink;
 
 const CHECK: [&str; 2] = ["check", "h"];

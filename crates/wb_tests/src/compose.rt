@@ -3,49 +3,12 @@
 //! Over files and a sink in memory: a host in `h`, and extensions or a text in `t`, `u` and `v`. What refuses an extension by itself is in
 //! `certify`.
 
-use crate::runs::status_of_four;
-use crate::specifications::{LIST, MINI, TINY};
+use crate::runs::{Row, first_wrong, status_of_four};
+use crate::specifications::{A, B, DUP, LIST, MINI, MINUS, TINY};
 use std::alloc::{AllocError, Global};
 use std::test::Fail;
-use wb_program::Status;
+use wb_inputs::Status;
 use wb_world::MemorySink;
-
-const DUP: &str =
-    "format 1; extension dup for tiny; marking D /d/; concrete twin : T ::= m : D t : T { forwards to num(@to_text(@mul(2, t.value))); }";
-
-const MINUS: &str =
-    "format 1; extension minus for tiny; marking M /-/; concrete same : T ::= m : M t : T { forwards to t; }";
-
-const A: &str =
-    "format 1; extension a for mini; marking Sum /sum/; prefer Sum over Id; concrete dbl : Factor ::= m : Sum o : Open x : Expr c : Close { forwards to paren(\"(\", plus(x, \"+\", factor(paren(\"(\", x, \")\"))), \")\"); }";
-
-const B: &str =
-    "format 1; extension b for mini; marking Sum /sum/; prefer Sum over Id; concrete sqr : Factor ::= m : Sum o : Open x : Expr c : Close { forwards to paren(\"(\", term(times(factor(paren(\"(\", x, \")\")), \"*\", paren(\"(\", x, \")\"))), \")\"); }";
-
-// Words, the files h, t, u and v, a status and a report.
-type Row = (
-    &'static [&'static str],
-    [&'static str; 4],
-    Status,
-    &'static str,
-);
-
-// Whether a row ends so.
-fn ends(alloc: Global, row: &Row) -> Result<bool, AllocError> {
-    let mut sink = MemorySink::new(alloc, 1000, 1000)?;
-    let ended = status_of_four(alloc, row.0, &row.1, &mut sink)?;
-    Ok(ended == row.2 && sink.bytes() == row.3.as_bytes())
-}
-
-// The number of the first row that ends otherwise.
-fn first_wrong(alloc: Global, rows: &[Row]) -> Result<Option<usize>, AllocError> {
-    for (place, row) in rows.iter().enumerate() {
-        if !ends(alloc, row)? {
-            return Ok(Some(place));
-        }
-    }
-    Ok(None)
-}
 
 const COMPOSED: [Row; 12] = [
     (

@@ -11,9 +11,17 @@ mod check;
 #[cfg(test)]
 mod compose;
 #[cfg(test)]
+mod generate;
+#[cfg(test)]
+mod long_texts;
+#[cfg(test)]
 mod long_values;
 #[cfg(test)]
+mod odd;
+#[cfg(test)]
 mod prefixes;
+#[cfg(test)]
+mod run;
 #[cfg(test)]
 mod runs;
 #[cfg(test)]

@@ -4,7 +4,7 @@ use crate::runs::status_to;
 use crate::specifications::{CALC0, DBL, LOOP, TWINS};
 use std::alloc::{AllocError, Global};
 use std::test::Fail;
-use wb_program::Status;
+use wb_inputs::Status;
 use wb_world::MemorySink;
 
 // Whether `value h t` of this attribute ends so and writes this, where the files have these bytes.

@@ -5,8 +5,9 @@
 ghost use Rattle.wb_operations.specs.Kept.{IsKept};
 
 use std::alloc::{AllocError, Global};
+use wb_inputs::Status;
 use wb_operations::{Meaning, OperationRefusal, OperationTable, standard_table};
-use wb_program::{Status, workbench};
+use wb_program::workbench;
 use wb_values::Value;
 use wb_world::{MemoryShelf, MemorySink};
 
@@ -80,4 +81,29 @@ fn status_of_four_by<M: Meaning>(
     shelf.add_file("v", files[3].as_bytes())?;
     let words = words_of(alloc, words)?;
     Ok(workbench(alloc, &words, &mut shelf, sink, operations))
+}
+
+/// Words, the files `h`, `t`, `u` and `v`, a status and a report.
+pub type Row = (
+    &'static [&'static str],
+    [&'static str; 4],
+    Status,
+    &'static str,
+);
+
+// Whether a row ends so.
+fn ends(alloc: Global, row: &Row) -> Result<bool, AllocError> {
+    let mut sink = MemorySink::new(alloc, 1000, 1000)?;
+    let ended = status_of_four(alloc, row.0, &row.1, &mut sink)?;
+    Ok(ended == row.2 && sink.bytes() == row.3.as_bytes())
+}
+
+/// The number of the first row that ends otherwise.
+pub fn first_wrong(alloc: Global, rows: &[Row]) -> Result<Option<usize>, AllocError> {
+    for (place, row) in rows.iter().enumerate() {
+        if !ends(alloc, row)? {
+            return Ok(Some(place));
+        }
+    }
+    Ok(None)
 }

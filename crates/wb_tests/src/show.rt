@@ -6,8 +6,9 @@ use crate::prefixes::MINI_PREFIXES;
 use crate::specifications::{MINI, OTHERS};
 use std::alloc::{AllocError, Global};
 use std::test::Fail;
+use wb_inputs::Status;
 use wb_operations::standard_table;
-use wb_program::{Status, workbench};
+use wb_program::workbench;
 use wb_world::{MemoryShelf, MemorySink};
 
 /// Where a text has its first error as a specification.

@@ -150,6 +150,62 @@ concrete go : S ::= x : X { forwards to go(x.lexeme); }
 pub const TWINS: &str =
     r#"format 1; host twins; nonterminal E; syn u : E; occurs u on E; abstract z : E ::= { top.u = z(); } abstract p : E ::= a : E b : E { top.u = z(); } abstract d : E ::= a : E { top.u = p(a.u, a.u); }"#;
 
+/// An extension of sums that doubles.
+pub const DUP: &str =
+    "format 1; extension dup for tiny; marking D /d/; concrete twin : T ::= m : D t : T { forwards to num(@to_text(@mul(2, t.value))); }";
+
+/// An extension of sums by signs that change nothing.
+pub const MINUS: &str =
+    "format 1; extension minus for tiny; marking M /-/; concrete same : T ::= m : M t : T { forwards to t; }";
+
+/// An extension of statements by doubles.
+pub const A: &str =
+    "format 1; extension a for mini; marking Sum /sum/; prefer Sum over Id; concrete dbl : Factor ::= m : Sum o : Open x : Expr c : Close { forwards to paren(\"(\", plus(x, \"+\", factor(paren(\"(\", x, \")\"))), \")\"); }";
+
+/// An extension of statements by squares that are called sums.
+pub const B: &str =
+    "format 1; extension b for mini; marking Sum /sum/; prefer Sum over Id; concrete sqr : Factor ::= m : Sum o : Open x : Expr c : Close { forwards to paren(\"(\", term(times(factor(paren(\"(\", x, \")\")), \"*\", paren(\"(\", x, \")\"))), \")\"); }";
+
+/// An extension of statements by squares.
+pub const POWER: &str = r#"format 1; extension power for mini;
+marking Square /square/; prefer Square over Id;
+concrete sq : Factor ::= m : Square o : Open e : Expr c : Close {
+  forwards to paren("(", term(times(factor(paren("(", e, ")")), "*",
+    paren("(", e, ")"))), ")"); }
+"#;
+
+/// An extension of statements that are run twice.
+pub const REPEAT: &str = r#"format 1; extension repeat for mini;
+marking Twice /twice/; prefer Twice over Id;
+concrete again : Stmt ::= m : Twice s : Stmt {
+  forwards to block("{", more(more(none(), s), s), "}"); }
+"#;
+
+/// An extension of sums that counts their numbers.
+pub const COUNT: &str = r#"format 1; extension count for tiny;
+syn leaves : int; occurs leaves on E; occurs leaves on T;
+aspect plus { top.leaves = @add(a.leaves, b.leaves); }
+aspect term { top.leaves = t.leaves; }
+aspect num { top.leaves = 1; }
+"#;
+
+/// A host that hands two numbers down.
+pub const CTX2: &str = r#"format 1; host ctx;
+ignore Space /[ ]+/; terminal X /x/;
+nonterminal P; nonterminal N; start P; extensible N;
+inh env : int; inh store : int; syn value : int;
+occurs env on N; occurs store on N;
+occurs value on P; occurs value on N needs { env, store };
+concrete root : P ::= n : N { n.env = 1; n.store = 2; top.value = n.value; }
+concrete leaf : N ::= x : X { top.value = @add(top.env, top.store); }
+forward on N needs { store };
+"#;
+
+/// An extension that hands the one on as the other.
+pub const SWAP: &str = r#"format 1; extension swap for ctx; marking M /m/;
+concrete swap : N ::= m : M n : N { forwards to n; forward.env = top.store; }
+"#;
+
 /// Other specifications.
 pub const OTHERS: [&str; 37] = [
     r#"format 1; extension a for mini;

@@ -9,8 +9,8 @@ use crate::specifications::{CALC0, DIVS};
 use std::alloc::{AllocError, Global};
 use std::test::Fail;
 use wb_base::Kind;
+use wb_inputs::Status;
 use wb_operations::{Meaning, OperationTable, standard_sub};
-use wb_program::Status;
 use wb_values::Value;
 use wb_world::MemorySink;
 

@@ -6,7 +6,7 @@ use crate::runs::status_to;
 use crate::specifications::{KW, KW0, LIST, PTR};
 use std::alloc::{AllocError, Global};
 use std::test::Fail;
-use wb_program::Status;
+use wb_inputs::Status;
 use wb_world::MemorySink;
 
 const TREE: [&str; 4] = ["tree", "--text", "t", "h"];

@@ -6,8 +6,9 @@ use crate::runs::{status_to, words_of};
 use crate::specifications::{CALC, CALC0, CYC, DBL, DIVS, MINI, TWINS};
 use std::alloc::{AllocError, Global};
 use std::test::Fail;
+use wb_inputs::Status;
 use wb_operations::standard_table;
-use wb_program::{Status, workbench};
+use wb_program::workbench;
 use wb_world::{MemoryShelf, MemorySink};
 
 const VALUE: [&str; 4] = ["value", "h", "t", "value"];
@@ -248,41 +249,55 @@ fn is_usage(alloc: Global, line: &str) -> Result<bool, AllocError> {
     ends(alloc, &words, (CALC0, THREE), Status::Usage, USAGE)
 }
 
+// Words that ask for nothing.
+const NO_COMMANDS: [&str; 41] = [
+    "",
+    "frob",
+    "--help",
+    "value",
+    "value h t",
+    "value h t value value",
+    "value h t -x",
+    "value h  value", // an empty word
+    "value --steps 1 h t value",
+    "show",
+    "show --",
+    "show h t",
+    "check",
+    "check h t",
+    "check -h",
+    "tree h",
+    "tree h --text t",
+    "tree --text= h",
+    "tree --text -t h",
+    "tree --text t --text t h",
+    "tree --texts t h",
+    "certify",
+    "certify h -x",
+    "certify --text t h",
+    "compose",
+    "compose h -x",
+    "compose --text t h",
+    "run --text t h",
+    "run --attr value h",
+    "run --text t --attr value",
+    "run --text t --attr -v h",
+    "run --text t --attr value --attr value h",
+    "run --text t --attr value --steps 1x h",
+    "run --text t --attr value --steps +1 h",
+    "run --text t --attr value --size 1 h",
+    "generate --number 0 --size 1 h",
+    "generate --number 0 --attr a h",
+    "generate --size 1 --attr a h",
+    "generate --number 0 --size 1 --attr a",
+    "generate --number -1 --size 1 --attr a h",
+    "generate --number 0 --size 1 --attr a --text t h",
+];
+
 #[test]
-fn words_that_ask_for_nothing_built_are_usage_errors(rt: HostRuntime) -> Result<(), Fail> {
+fn words_that_ask_for_nothing_are_usage_errors(rt: HostRuntime) -> Result<(), Fail> {
     assert!(rt; ends(rt.alloc(), &[], (CALC0, THREE), Status::Usage, USAGE)?);
-    let cases = [
-        "",
-        "frob",
-        "--help",
-        "value",
-        "value h t",
-        "value h t value value",
-        "value h t -x",
-        "value h  value", // an empty word
-        "value --steps 1 h t value",
-        "show",
-        "show --",
-        "show h t",
-        "check",
-        "check h t",
-        "check -h",
-        "tree h",
-        "tree h --text t",
-        "tree --text= h",
-        "tree --text -t h",
-        "tree --text t --text t h",
-        "tree --texts t h",
-        "certify",
-        "certify h -x",
-        "certify --text t h",
-        "compose",
-        "compose h -x",
-        "compose --text t h",
-        "run --text t --attr=value h",
-        "generate --number 0 --size 1 --attr a h",
-    ];
-    for line in cases {
+    for line in NO_COMMANDS {
         assert!(rt; is_usage(rt.alloc(), line)?, "{line:?}");
     }
     Ok(())

@@ -1,24 +1,26 @@
-//! Are the operations of the table called that is given, and not the standard ones?
+//! Does `run` call the operations of the table that it is handed, and not the standard ones?
 //!
 //! A table of two operations: one adds, with a fault of its own where the second number is 4, and one reads a number.
 
-ghost use Rattle.wb_evaluation_tests.specs.Inner.Odd.{odd, odd_sum};
+ghost use Rattle.wb_tests.specs.Inner.Odd.{odd, odd_sum};
 ghost use Rattle.wb_operations.specs.Given.{FitKinds, IsGiven, plains_of};
 ghost use Rattle.wb_operations.specs.Takes.{one_text, two_ints};
 
-use crate::answers::{Answer, Row, table_answers};
-use crate::hosts::SUMS;
+use crate::runs::status_by;
+use crate::specifications::TINY;
 use std::alloc::{AllocError, Global};
 use std::test::Fail;
 use wb_base::Kind;
+use wb_inputs::Status;
 use wb_operations::{Meaning, OperationRefusal, OperationTable, standard_to_int};
 use wb_values::Value;
+use wb_world::MemorySink;
 
 // What the two operations mean.
 struct Odd;
 
 impl Meaning for Odd {
-    ghost use Rattle.wb_evaluation_tests.specs.Inner.Odd.{odd};
+    ghost use Rattle.wb_tests.specs.Inner.Odd.{odd};
 
     ghost meaning = { odd };
 }
@@ -57,8 +59,12 @@ fn odd_to_int(arguments: &[Value]) -> Result<Value, OperationRefusal>
     standard_to_int(arguments)
 }
 
-// Whether each row has its answer by a table of both.
-fn odd_answers(alloc: Global, rows: &[Row]) -> Result<bool, AllocError> {
+// How `run --text t --attr value h` ends by a table of both.
+fn status_to(
+    alloc: Global,
+    files: (&[u8], &[u8]),
+    sink: &mut MemorySink,
+) -> Result<Status, AllocError> {
     let mut table: OperationTable<Odd> = OperationTable::new(alloc);
     let sum = Box::new(
         alloc,
@@ -76,27 +82,20 @@ fn odd_answers(alloc: Global, rows: &[Row]) -> Result<bool, AllocError> {
         { odd_to_int(arguments) },
     )?;
     table.add(b"to_int", &[Kind::Text], Kind::Int, read)?;
-    Ok(table_answers(alloc, SUMS, &table, rows))
+    let words = ["run", "--text", "t", "--attr", "value", "h"];
+    status_by(alloc, &words, files, sink, &table)
 }
 
-// The fault comes where the second number is 4, and not where the first is.
-static ODD: [Row; 2] = [
-    (
-        "plus(term(num(\"3\")), \"+\", num(\"4\"))",
-        "value",
-        1_000_000,
-        Answer::Fault("add", 9),
-    ),
-    (
-        "plus(term(num(\"4\")), \"+\", num(\"3\"))",
-        "value",
-        1_000_000,
-        Answer::Int(7),
-    ),
-];
+// Whether such a run of a text of sums ends so and writes this.
+fn ends(alloc: Global, text: &str, status: Status, report: &str) -> Result<bool, AllocError> {
+    let mut sink = MemorySink::new(alloc, 1000, 1000)?;
+    let ended = status_to(alloc, (TINY.as_bytes(), text.as_bytes()), &mut sink)?;
+    Ok(ended == status && sink.bytes() == report.as_bytes())
+}
 
 #[test]
 fn the_operations_of_the_table_are_called(rt: HostRuntime) -> Result<(), Fail> {
-    assert!(rt; odd_answers(rt.alloc(), &ODD)?);
+    assert!(rt; ends(rt.alloc(), "3+4", Status::OperationFault, "fault add 9\n")?);
+    assert!(rt; ends(rt.alloc(), "4+3", Status::Done, "value = 7\n")?);
     Ok(())
 }
