@@ -49,7 +49,8 @@ module _ (P : Status → Type 0) (none : RefusesNone P) (operations : List Opera
     several_there goes_on (inr (few, inr (inr (r, is, inl refused)))) = absurd (not_refused r all [] refused)
     several_there goes_on (inr (few, inr (inr (r, is, inr (values, each, report))))) =
         let as_few = no_fewer operations files r all others to from re values each in
-        let x : AreReordered operations files r others to from values = reordered_are operations files r all others to from re values each in
+        let x : AreReordered operations files r others to from values =
+        reordered_are operations files r all others to from re values each in
         let differ : Differ (names_of values) = names_differ operations files r all others to from re values each in
         inr (
           omega (arith, few, as_few),

@@ -8,8 +8,8 @@ use Rattle.wb_inputs.specs.declared.status.Status.TheVariants.{Done, MoreSteps, 
 use Rattle.wb_inputs.specs.declared.status.Status.TheVariants.{UnknownAttribute}
 use Rattle.wb_runs.specs.RunReport.{RunReport}
 
--- the status is that of what comes of a text and an attribute: a value, a stop, a fault, more steps, or a value that is too long to print; or
--- no such attribute may be asked, or the text is too long
+-- the status is that of what comes of a text and an attribute: a value, a stop, a fault, more steps, or a value that is too long to print;
+-- or no such attribute may be asked, or the text is too long
 abbrev pub IsRunStatus : Status → Type 0
 IsRunStatus Done = Unit {0}
 IsRunStatus TextStopped = Unit {0}

@@ -15,8 +15,8 @@ pub fn one_status_law()
     wb_extension_files::header_law();
     withdrawn_law();
     one_answer_law();
-    wb_united_values::laws::one_root_law();
-    wb_united_values::laws::one_answer_law();
+    wb_united_values::one_root_law();
+    wb_united_values::one_answer_law();
     wb_generated_texts::laws::one_text_law();
 }
 
@@ -28,8 +28,8 @@ pub fn one_text_law()
     wb_extension_files::header_law();
     withdrawn_law();
     one_answer_law();
-    wb_united_values::laws::one_root_law();
-    wb_united_values::laws::one_answer_law();
+    wb_united_values::one_root_law();
+    wb_united_values::one_answer_law();
     wb_generated_texts::laws::one_text_law();
 }
 
@@ -42,8 +42,8 @@ pub fn complete_law()
     wb_extension_files::header_law();
     withdrawn_law();
     one_answer_law();
-    wb_united_values::laws::one_root_law();
-    wb_united_values::laws::one_answer_law();
+    wb_united_values::one_root_law();
+    wb_united_values::one_answer_law();
     wb_generated_texts::laws::one_text_law();
 }
 
