@@ -10,9 +10,16 @@ use Rattle.wb_inputs.proofs.CauseLemmas.{on_ok, on_err}
 use Rattle.wb_program.specs.Reads.{ReadsTo, ComesTo}
 use Rattle.wb_program.specs.Report.{InCommandSet, IsReport, IsReportOf}
 use Rattle.wb_program.specs.Written.{WritesNothing}
-use Rattle.wb_program.proofs.AnswerLemmas.{answered, usage_answered, only_usage_answered, answer_writes, answer_finishes}
+use Rattle.wb_program.proofs.AnswerLemmas.{answered, usage_answered, only_usage_answered, answer_writes, answer_finishes, few_leaves}
 use Rattle.wb_program.proofs.CauseLemmas.{comes_to, stopped_asked}
 use Rattle.wb_program.proofs.program.answer.Goals as goal
+
+pub answer_to-requires-clause-leaves : goal.answer_to-requires-clause-leaves
+answer_to-requires-clause-leaves g c =
+    let words = texts c.args.words.now in
+    let asked = asked_by c.in-Some.command in
+    let asks : Asks words asked = search rules in
+    few_leaves words asked asks
 
 pub returns-in-Some-clause-ok : goal.returns-in-Some-clause-ok
 returns-in-Some-clause-ok g c =
