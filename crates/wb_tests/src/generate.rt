@@ -106,7 +106,7 @@ fn texts_that_are_made_have_their_reports(rt: HostRuntime) -> Result<(), Fail> {
 // What is written for a text of up to 20,000 leaves that the number makes.
 fn written(alloc: Global, number: &str) -> Result<Option<MemorySink>, AllocError> {
     let words = [
-        "generate", "--size", "20000", "--attr", "out", "h", "--number", number,
+        "generate", "--size", "20000", "--attr", "out", "--number", number, "h",
     ];
     let mut sink = MemorySink::new(alloc, 1_000_000, 1_000_000)?;
     let ended = status_to(alloc, &words, MINI.as_bytes(), b"", &mut sink)?;
