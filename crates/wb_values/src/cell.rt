@@ -10,12 +10,12 @@ ghost use Rattle.wb_values.specs.declared.value.Value.TheVariants.{Int, Text, Tr
 use crate::{TreeId, Value};
 
 // How many bytes of a text lie in a cell.
-pub(crate) const SHORT: usize = 6;
+const SHORT: usize = 6;
 
 // How many values are numbered by the low part of a place.
 const LOW: usize = 4_294_967_296;
 
-// How many large values have a place. So many take more bytes than a machine has addresses.
+// How many large values have a place. So many take 2^53 bytes, more than an address reaches, so that one without a place is without memory.
 const PLACES: usize = 281_474_976_710_656;
 
 // A value in 8 bytes.

@@ -154,7 +154,8 @@ impl PackedValues {
         let _cells = self.cells.reserve_exact(more);
     }
 
-    // Moves the values from a place on here, after the others and in order. The only error is want of memory.
+    // Moves the values from a place on here, after the others and in order. They are copied first, which takes no more memory than to move
+    // them, so that none is lost where there is no memory for the next. The only error is want of memory.
     pub(crate) fn take_end(
         &mut self,
         values: &mut PackedValues,
@@ -171,7 +172,7 @@ impl PackedValues {
         Ok(())
     }
 
-    // Adds copies of the values from a place on. The only error is want of memory, or too many copies of a text to be counted.
+    // Adds copies of the values from a place on, after the others and in order. After a refusal there is none of them.
     fn copy_end(&mut self, values: &PackedValues, start: usize) -> Result<(), AllocError>
         requires { start ≤ length values.now }
         ensures ok { OnOk result (self.new ≡ self.old ++ drop start values.now) }
@@ -185,7 +186,7 @@ impl PackedValues {
         copied
     }
 
-    // The same, but after a refusal some of the copies are there.
+    // The same, but after a refusal there may be some of them.
     fn copy_some(&mut self, values: &PackedValues, start: usize) -> Result<(), AllocError>
         requires { start ≤ length values.now }
         ensures ok { OnOk result (self.new ≡ self.old ++ drop start values.now) }
@@ -198,7 +199,7 @@ impl PackedValues {
         Ok(())
     }
 
-    // Adds copies of these values. The only error is want of memory, or too many copies of a text to be counted.
+    // Adds copies of these values, after the others and in order. After a refusal there is none of them.
     pub(crate) fn extend(&mut self, values: &[Value]) -> Result<(), AllocError>
         ensures ok { OnOk result (self.new ≡ self.old ++ values.now) }
         ensures err { OnErr result (self.new ≡ self.old) }
@@ -211,7 +212,7 @@ impl PackedValues {
         copied
     }
 
-    // The same, but after a refusal some of the copies are there.
+    // The same, but after a refusal there may be some of them.
     fn extend_some(&mut self, values: &[Value]) -> Result<(), AllocError>
         ensures ok { OnOk result (self.new ≡ self.old ++ values.now) }
         ensures begins { take (length self.old) self.new ≡ self.old }

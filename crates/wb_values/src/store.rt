@@ -102,7 +102,8 @@ impl TreeStore {
         Ok(tree)
     }
 
-    /// The same over the last of packed values.
+    /// Adds the tree of a production over the last of packed values, so many of them, in order, and takes them off. The only error is want
+    /// of memory.
     pub fn build_packed(
         &mut self,
         production: usize,
