@@ -1,5 +1,5 @@
 -- A list of trees that begins with another one, and that what begins with it.
-use Rattle.std.proofs.Common.{◌≡◌, ◌≤◌, List, length, take, sym, ap, ◌∙◌, arith}
+use Rattle.std.proofs.Common.{◌≤◌, List, length, take, sym, ap, ◌∙◌, arith}
 use Rattle.std.proofs.lemmas.List.{length-take, take-take}
 use Rattle.wb_values.specs.Tree.{Tree}
 use Rattle.wb_parser.specs.Parses.{Extends}

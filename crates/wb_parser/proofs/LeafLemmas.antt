@@ -25,12 +25,12 @@ use Rattle.wb_languages.proofs.FactLemmas.{parsable}
 use Rattle.wb_languages.proofs.TokenLemmas.{taken}
 use Rattle.wb_scan.specs.Views.{LanguageParts}
 use Rattle.wb_parser.specs.declared.step.Outcome.{Outcome}
-use Rattle.wb_parser.specs.declared.step.Outcome.TheVariants.{Shifts, Reduced, Accepts, Stops}
+use Rattle.wb_parser.specs.declared.step.Outcome.TheVariants.{Shifts, Accepts, Stops}
 use Rattle.wb_parser.specs.declared.parsed.Parsed.{Parsed}
 use Rattle.wb_parser.specs.declared.parsed.Parsed.TheVariants as parsed
 use Rattle.wb_parser.specs.Parses.{IsParsed}
 use Rattle.wb_parser.specs.Inner.Stacks.{AreStates, last_or}
-use Rattle.wb_parser.specs.Inner.Steps.{IsAt, IsReady, CanGo, IsWhole, IsOutcome, IsReduced}
+use Rattle.wb_parser.specs.Inner.Steps.{IsAt, IsReady, CanGo, IsWhole, IsOutcome}
 use Rattle.wb_parser.proofs.StateLemmas.{at_top, leaf_push}
 use Rattle.wb_parser.proofs.ValueLemmas.{appended, values_in_append, values_of_joined}
 
@@ -79,26 +79,24 @@ module _ (parts : LanguageParts) (ok : IsLanguage parts.language) (source : List
 
   -- a leaf that isn't
   pub token_stops : (states : List ℕ) (vs : List Value) (trees : List Tree) (prefix : List Symbol) (at begin t : ℕ) (lexeme : List ℕ)
-      (after : ℕ) (outcome : Outcome) → ((target : ℕ) → outcome ≡ Shifts target → ⊥) → (IsReduced outcome → ⊥) →
+      (after : ℕ) (outcome : Outcome) → ((target : ℕ) → outcome ≡ Shifts target → ⊥) →
       NextToken parts.language source prefix at (token begin t lexeme after) →
       IsOutcome parts source t states vs trees prefix at begin outcome → StopsAt parts.language source begin (Unexpected t)
-  token_stops states vs trees prefix at begin t lexeme after (Shifts target) no_shift ended n is = absurd (no_shift target refl)
-  token_stops states vs trees prefix at begin t lexeme after Reduced no_shift ended n is = absurd (ended tt)
-  token_stops states vs trees prefix at begin t lexeme after Accepts no_shift ended n is =
+  token_stops states vs trees prefix at begin t lexeme after (Shifts target) no_shift n is = absurd (no_shift target refl)
+  token_stops states vs trees prefix at begin t lexeme after Accepts no_shift n is =
       let h : t < end_of parts.language.grammar = (taken ok.written n begin t lexeme after refl).0 in
       let e : t ≡ end_of parts.language.grammar = is.is_end in absurd (omega arith)
-  token_stops states vs trees prefix at begin t lexeme after Stops no_shift ended n is = is
+  token_stops states vs trees prefix at begin t lexeme after Stops no_shift n is = is
 
   -- the end of the text that isn't accepted
   pub over_stops : (states : List ℕ) (vs : List Value) (trees : List Tree) (prefix : List Symbol) (at place t : ℕ) (outcome : Outcome) →
-      t ≡ end_of parts.language.grammar → (outcome ≡ Accepts → ⊥) → (IsReduced outcome → ⊥) →
+      t ≡ end_of parts.language.grammar → (outcome ≡ Accepts → ⊥) →
       IsOutcome parts source t states vs trees prefix at place outcome → StopsAt parts.language source place (Unexpected t)
-  over_stops states vs trees prefix at place t (Shifts target) is_end no_accept ended c =
+  over_stops states vs trees prefix at place t (Shifts target) is_end no_accept c =
       absurd ((parsable parts.language.grammar ok.deterministic).no_end (symbols c.is.stack)
       (subst (CanShift parts.language.grammar (symbols c.is.stack)) is_end c.can))
-  over_stops states vs trees prefix at place t Reduced is_end no_accept ended is = absurd (ended tt)
-  over_stops states vs trees prefix at place t Accepts is_end no_accept ended is = absurd (no_accept refl)
-  over_stops states vs trees prefix at place t Stops is_end no_accept ended is = is
+  over_stops states vs trees prefix at place t Accepts is_end no_accept is = absurd (no_accept refl)
+  over_stops states vs trees prefix at place t Stops is_end no_accept is = is
 
   one_value : (trees : List Tree) (vs : List Value) (value : Tree) → values_in trees vs ≡ more (tree value) empty →
       (id : TreeId) × (vs ≡ stored.Tree id ∷ []) × (tree_in trees id.0 ≡ value)

@@ -1,7 +1,7 @@
 -- What tables say of states, and how states follow a stack.
 use Rattle.std.proofs.Common.{◌≡◌, ◌<◌, ◌≤◌, ◌-◌, ℕ, suc, List, [], ◌∷◌, ◌++◌, length, take, refl, sym, ◌∙◌, ap, subst, append_assoc, inl}
 use Rattle.std.proofs.Common.{inr, arith}
-use Rattle.std.specs.Prelude.{Some, slice_index_or, All}
+use Rattle.std.specs.Prelude.{Some, slice_index_or, slice_set, All}
 use Rattle.std.proofs.lemmas.List.Elements.{All-head, All-tail, All-take, All-push}
 use Rattle.wb_base.specs.declared.symbol.Symbol.{Symbol}
 use Rattle.wb_base.specs.declared.symbol.Symbol.TheVariants.{Terminal, Nonterminal}
@@ -23,7 +23,7 @@ use Rattle.wb_languages.specs.Parts.{AreTablesOf, IsPrefixOf}
 use Rattle.wb_languages.specs.Machine.{joined}
 use Rattle.wb_languages.proofs.ForestLemmas.{append_nil}
 use Rattle.wb_languages.proofs.FactLemmas.{shift_at, reduce_at}
-use Rattle.wb_parser.specs.Inner.Stacks.{AreStates, last_or}
+use Rattle.wb_parser.specs.Inner.Stacks.{AreStates, IsMoved, last_or}
 
 -- an action of the tables, at a prefix of its state
 abbrev pub ActsAt : GrammarView → TablesView → List Symbol → ℕ → Action → Type 0
@@ -291,3 +291,36 @@ pub acted : (tables read : TablesView) (slice states : List ℕ) (top t : ℕ) (
     slice ≡ states → action ≡ action_of read top t → action_of tables (last_or 0 states) t ≡ action
 acted tables read slice states top t action read_is top_is slice_is is =
     sym (is ∙ (ap (λ z. action_of z top t) read_is ∙ ap (λ z. action_of tables z t) (top_is ∙ ap (last_or 0) slice_is)))
+
+-- the state that was pushed is on top
+pub top_pushed : (old pushed : List ℕ) (target : ℕ) → pushed ≡ old ++ target ∷ [] → target ≡ last_or 0 pushed
+top_pushed old pushed target is = sym (ap (last_or 0) is ∙ pushed_last old target 0)
+  where
+    pushed_last : (xs : List ℕ) (target s : ℕ) → last_or s (xs ++ target ∷ []) ≡ target
+    pushed_last [] target s = refl
+    pushed_last (x ∷ xs) target s = pushed_last xs target x
+
+-- a state that was put in the place of that on top
+pub top_set : (states : List ℕ) (len target : ℕ) → 1 ≤ length states → len ≡ length states →
+    slice_set states (len - 1) target ≡ take (length states - 1) states ++ target ∷ []
+top_set [] len target some len_is = absurd (omega arith)
+top_set (x ∷ xs) len target some len_is =
+    let one : len - 1 ≡ length xs = omega (arith, len_is) in
+    let other : length (x ∷ xs) - 1 ≡ length xs = omega arith in
+    ap (λ k. slice_set (x ∷ xs) k target) one ∙ (set_last x xs target ∙ ap (λ k. take k (x ∷ xs) ++ target ∷ []) (sym other))
+  where
+    set_last : (x : ℕ) (xs : List ℕ) (target : ℕ) →
+        slice_set (x ∷ xs) (length xs) target ≡ take (length xs) (x ∷ xs) ++ target ∷ []
+    set_last x [] target = refl
+    set_last x (y ∷ ys) target = ap (λ z. x ∷ z) (set_last y ys target)
+
+-- so one state made way for the one after the nonterminal
+pub top_moved : (tables : TablesView) (states : List ℕ) (left len below target : ℕ) → 1 ≤ length states → len ≡ length states →
+    below ≡ last_or 0 (take (len - 1) states) → ((next : ℕ) → goto_of tables below left ≡ Some next → target ≡ next) →
+    IsMoved tables states 1 left (slice_set states (len - 1) target)
+top_moved tables states left len below target some len_is below_is next = record {
+  target = target;
+  target_is = λ n e. next n (subst (λ z. goto_of tables z left ≡ Some n)
+      (sym (below_is ∙ ap (λ k. last_or 0 (take (k - 1) states)) len_is)) e);
+  states_are = top_set states len target some len_is;
+}

@@ -15,10 +15,9 @@ use crate::rules::Rule;
 use crate::stack::{Stack, top};
 use crate::step::{Outcome, reduce_all};
 use std::alloc::AllocError;
-use wb_base::Bytes;
 use wb_languages::StopKind;
 use wb_scan::{Language, Scanned, scan};
-use wb_values::{TreeStore, Value};
+use wb_values::{PackedValues, TreeStore};
 
 // What became of one leaf.
 #[derive(Clone, Copy)]
@@ -40,9 +39,9 @@ pub(crate) fn take_leaf(
 ) -> Result<Round, AllocError>
     requires rules { AreRules language.now.language.grammar rules.now }
     requires at { at ≤ length text.now }
-    requires sound { IsSound language.now stack.old.states.items stack.old.values.items store.old }
-    ensures round { IfOk result (λ round. IsReady language.now text.now stack.old.states.items stack.old.values.items store.old at → IsRound language.now text.now stack.new.states.items stack.new.values.items store.new at round) }
-    ensures sound { IfOk result (λ round. StaysSound language.now (length text.now) at stack.new.states.items stack.new.values.items store.new round) }
+    requires sound { IsSound language.now stack.old.states.items stack.old.values store.old }
+    ensures round { IfOk result (λ round. IsReady language.now text.now stack.old.states.items stack.old.values store.old at → IsRound language.now text.now stack.new.states.items stack.new.values store.new at round) }
+    ensures sound { IfOk result (λ round. StaysSound language.now (length text.now) at stack.new.states.items stack.new.values store.new round) }
     ensures extends { Extends store.old store.new }
 {
     match scan(language, top(&stack.states), text, at) {
@@ -76,12 +75,10 @@ pub(crate) fn take_leaf(
 // Pushes a leaf: its state and its lexeme.
 fn push_leaf(stack: &mut Stack, state: usize, lexeme: &[u8]) -> Result<(), AllocError>
     ensures states { OnOk result (stack.new.states.items ≡ stack.old.states.items ++ state ∷ []) }
-    ensures values { OnOk result (stack.new.values.items ≡ stack.old.values.items ++ Text lexeme.now ∷ []) }
+    ensures values { OnOk result (stack.new.values ≡ stack.old.values ++ Text lexeme.now ∷ []) }
 {
-    let alloc = *stack.states.allocator();
     stack.states.push(state)?;
-    let text = Bytes::from_slice(alloc, lexeme)?;
-    stack.values.push(Value::Text(text))?;
+    stack.values.push_text(lexeme)?;
     Ok(())
 }
 
@@ -94,8 +91,8 @@ fn finish(
     place: usize,
 ) -> Result<Parsed, AllocError>
     requires rules { AreRules language.now.language.grammar rules.now }
-    requires sound { IsSound language.now stack.old.states.items stack.old.values.items store.old }
-    ensures parsed { IfOk result (λ parsed. (text : List ℕ) (prefix : List Symbol) (at : ℕ) → NextToken language.now.language text prefix at (over place) → IsAt language.now text stack.old.states.items stack.old.values.items store.old prefix at → IsParsed language.now.language text store.new parsed) }
+    requires sound { IsSound language.now stack.old.states.items stack.old.values store.old }
+    ensures parsed { IfOk result (λ parsed. (text : List ℕ) (prefix : List Symbol) (at : ℕ) → NextToken language.now.language text prefix at (over place) → IsAt language.now text stack.old.states.items stack.old.values store.old prefix at → IsParsed language.now.language text store.new parsed) }
     ensures extends { Extends store.old store.new }
 {
     let end = language.grammar().terminals();
@@ -109,12 +106,12 @@ fn finish(
 }
 
 // The tree that is the one value of the stack.
-fn parsed_of(values: &[Value], place: usize, end: usize) -> Parsed
+fn parsed_of(values: &PackedValues, place: usize, end: usize) -> Parsed
     ensures { (id : TreeId) → values.now ≡ Stored id ∷ [] → result ≡ Tree id }
 {
-    match values.last() {
-        Some(Value::Tree(tree)) => Parsed::Tree(*tree),
-        _ => Parsed::Stopped {
+    match values.last_tree() {
+        Some(tree) => Parsed::Tree(tree),
+        None => Parsed::Stopped {
             at: place,
             kind: StopKind::Unexpected(end),
         },

@@ -7,60 +7,82 @@ ghost use Rattle.wb_lookahead.specs.Contents.{size_of, goto_of};
 ghost use Rattle.wb_languages.specs.Parts.{AreTablesOf};
 ghost use Rattle.wb_parser.specs.Parses.{Extends};
 ghost use Rattle.wb_parser.specs.Inner.Rules.{AreRules};
-ghost use Rattle.wb_parser.specs.Inner.Stacks.{IsReduction, IsMoved};
+ghost use Rattle.wb_parser.specs.Inner.Stacks.{IsReduction, IsMoved, last_or};
 
 use crate::rules::Rule;
 use crate::stack::{Stack, top};
 use std::alloc::AllocError;
 use wb_lookahead::Tables;
 use wb_scan::Language;
-use wb_values::{TreeStore, Value};
+use wb_values::TreeStore;
 
-// Reduces by a production: its node takes the place of its children.
+// Reduces by a production: its node takes the place of its children. Answers the state on top.
 pub(crate) fn reduce(
     language: &Language,
     rules: &[Rule],
     stack: &mut Stack,
     store: &mut TreeStore,
     production: usize,
-) -> Result<(), AllocError>
+) -> Result<usize, AllocError>
     requires rules { AreRules language.now.language.grammar rules.now }
     requires production { production < length language.now.language.grammar.productions }
     requires states { All (λ s. s < size_of language.now.tables) stack.old.states.items }
-    requires values { All (IsIn (length store.old)) stack.old.values.items }
-    ensures reduction { OnOk result (IsReduction language.now production stack.old.states.items stack.old.values.items store.old stack.new.states.items stack.new.values.items store.new) }
+    requires values { All (IsIn (length store.old)) stack.old.values }
+    ensures reduction { OnOk result (IsReduction language.now production stack.old.states.items stack.old.values store.old stack.new.states.items stack.new.values store.new) }
+    ensures top { IfOk result (λ state. state ≡ last_or 0 stack.new.states.items) }
     ensures states { OnOk result (All (λ s. s < size_of language.now.tables) stack.new.states.items) }
-    ensures values { OnOk result (All (IsIn (length store.new)) stack.new.values.items) }
+    ensures values { OnOk result (All (IsIn (length store.new)) stack.new.values) }
     ensures extends { Extends store.old store.new }
 {
     let tables = language.tables();
     let rule = rules[production];
     let width = rule.width.min(stack.values.len());
-    let tree = store.build_from(production, &mut stack.values, width)?;
-    move_states(tables, &mut stack.states, width, rule.left)?;
-    stack.values.push(Value::Tree(tree))?;
-    Ok(())
+    let tree = store.build_packed(production, &mut stack.values, width)?;
+    let state = move_states(tables, &mut stack.states, width, rule.left)?;
+    stack.values.push_tree(tree)?;
+    Ok(state)
 }
 
-// Takes the last states, so many of them, and puts the one after a nonterminal there.
+// Takes the last states, so many of them, and puts the one after a nonterminal there. Answers that one.
 fn move_states(
     tables: &Tables,
     states: &mut Vec<usize>,
     width: usize,
     left: usize,
-) -> Result<(), AllocError>
+) -> Result<usize, AllocError>
     requires left { left < tables.now.nonterminals }
     requires states { All (λ s. s < size_of tables.now) states.old.items }
     requires tables { (g : GrammarView) × AreTablesOf g tables.now }
     ensures moved { OnOk result (IsMoved tables.now states.old.items width left states.new.items) }
+    ensures top { IfOk result (λ state. state ≡ last_or 0 states.new.items) }
     ensures below { OnOk result (All (λ s. s < size_of tables.now) states.new.items) }
 {
+    if width == 1 && !states.is_empty() {
+        return Ok(replace_top(tables, states, left));
+    }
     let kept = states.len().saturating_sub(width);
     states.truncate(kept);
     let below = top(states);
     let target = target_of(tables, below, left);
     states.push(target)?;
-    Ok(())
+    Ok(target)
+}
+
+// The same for one state. That below it is known before the action is, so that a chain of such reductions doesn't wait for it.
+fn replace_top(tables: &Tables, states: &mut Vec<usize>, left: usize) -> usize
+    requires left { left < tables.now.nonterminals }
+    requires some { 1 ≤ length states.old.items }
+    requires states { All (λ s. s < size_of tables.now) states.old.items }
+    requires tables { (g : GrammarView) × AreTablesOf g tables.now }
+    ensures moved { IsMoved tables.now states.old.items 1 left states.new.items }
+    ensures top { result ≡ last_or 0 states.new.items }
+    ensures below { All (λ s. s < size_of tables.now) states.new.items }
+{
+    let place = states.len() - 1;
+    let below = top(&states[..place]);
+    let target = target_of(tables, below, left);
+    states[place] = target;
+    target
 }
 
 // The state after a nonterminal, and 0 where it leads nowhere.

@@ -1,27 +1,27 @@
-//! What is on the parser's stack? A state and a value for each root, in two vectors.
+//! What is on the parser's stack? A state and a value for each root, in two lists.
 
 ghost use Rattle.std.specs.Prelude.{◌≡◌, ◌<◌, [], All, length};
 ghost use Rattle.wb_parser.specs.Inner.Stacks.{last_or};
 
 use std::alloc::Global;
-use wb_values::Value;
+use wb_values::PackedValues;
 
 // The states and the values of the roots, the last one on top. At the bottom is state 0, which isn't listed.
 #[derive(Drop)]
 pub(crate) struct Stack {
     pub(crate) states: Vec<usize>,
-    pub(crate) values: Vec<Value>,
+    pub(crate) values: PackedValues,
 }
 
 impl Stack {
     // No roots. Takes no memory.
     pub(crate) fn new(alloc: Global) -> Stack
         ensures states { result.states.items ≡ [] }
-        ensures values { result.values.items ≡ [] }
+        ensures values { result.values ≡ [] }
     {
         Stack {
             states: Vec::new(alloc),
-            values: Vec::new(alloc),
+            values: PackedValues::new(alloc),
         }
     }
 }

@@ -15,45 +15,45 @@ scan-requires-clause-state c =
 
 pub returns-in-NoToken-clause-round : goal.returns-in-NoToken-clause-round
 returns-in-NoToken-clause-round c r =
-    nothing_leaf c.args.language.now c.requires.sound.language c.args.text.now c.args.stack.now.states.items c.args.stack.now.values.items
+    nothing_leaf c.args.language.now c.requires.sound.language c.args.text.now c.args.stack.now.states.items c.args.stack.now.values
     c.args.store.now r.0 c.args.at c.in-NoToken.place r.1
     (scanned_at c.args.language.now c.requires.sound.language c.args.text.now c.requires.sound.tables_of c.args.stack.now.states.items
-    c.deref.result.now c.args.stack.now.values.items c.args.store.now c.args.at c.top.result (missing c.in-NoToken.place) c.top.ensures
+    c.deref.result.now c.args.stack.now.values c.args.store.now c.args.at c.top.result (missing c.in-NoToken.place) c.top.ensures
     c.deref.ensures.value c.in-NoToken.ensures.next r)
 
 pub returns-in_ok-finish-in-End-clause-round : goal.returns-in_ok-finish-in-End-clause-round
 returns-in_ok-finish-in-End-clause-round c r =
     c.in_ok-finish-in-End.ensures.parsed c.args.text.now r.0 c.args.at
     (scanned_at c.args.language.now c.requires.sound.language c.args.text.now c.requires.sound.tables_of c.args.stack.now.states.items
-    c.deref.result.now c.args.stack.now.values.items c.args.store.now c.args.at c.top.result (over c.in-End.place) c.top.ensures
+    c.deref.result.now c.args.stack.now.values c.args.store.now c.args.at c.top.result (over c.in-End.place) c.top.ensures
     c.deref.ensures.value c.in-End.ensures.next r) r.1
 
 pub returns-in_ok-push_leaf-in-Shifts-clause-round : goal.returns-in_ok-push_leaf-in-Shifts-clause-round
 returns-in_ok-push_leaf-in-Shifts-clause-round c r =
     let n = scanned_at c.args.language.now c.requires.sound.language c.args.text.now c.requires.sound.tables_of
-    c.args.stack.now.states.items c.deref.result.now c.args.stack.now.values.items c.args.store.now c.args.at c.top.result
+    c.args.stack.now.states.items c.deref.result.now c.args.stack.now.values c.args.store.now c.args.at c.top.result
     (token c.in-Token.place c.in-Token.terminal (slice_range c.args.text.now c.in-Token.lexeme c.in-Token.end) c.in-Token.end)
     c.top.ensures c.deref.ensures.value c.in-Token.ensures.next r in
     token_shift c.args.language.now c.requires.sound.language c.args.text.now c.reduce_all.new.stack.states.items
-    c.push_leaf.new.stack.states.items c.reduce_all.new.stack.values.items c.push_leaf.new.stack.values.items c.reduce_all.new.store r.0
+    c.push_leaf.new.stack.states.items c.reduce_all.new.stack.values c.push_leaf.new.stack.values c.reduce_all.new.store r.0
     c.args.at c.in-Token.place c.in-Token.terminal (slice_range c.args.text.now c.in-Token.lexeme c.in-Token.end) c.in-Token.end
     c.in-Shifts.target c.in_ok-push_leaf-in-Shifts.ensures.states
     c.in_ok-push_leaf-in-Shifts.ensures.values n
     (subst (IsOutcome c.args.language.now c.args.text.now c.in-Token.terminal c.reduce_all.new.stack.states.items
-    c.reduce_all.new.stack.values.items c.reduce_all.new.store r.0 c.args.at c.in-Token.place) c.in-Shifts.is
+    c.reduce_all.new.stack.values c.reduce_all.new.store r.0 c.args.at c.in-Token.place) c.in-Shifts.is
     (c.in_ok-target-in-Token.ensures.outcome c.args.text.now r.0 c.args.at c.in-Token.place _ n (refl, refl) r.1))
 
 pub returns-in_default : goal.returns-in_default
 returns-in_default c = record {
   round = λ r.
       (let n = scanned_at c.args.language.now c.requires.sound.language c.args.text.now c.requires.sound.tables_of
-      c.args.stack.now.states.items c.deref.result.now c.args.stack.now.values.items c.args.store.now c.args.at c.top.result
+      c.args.stack.now.states.items c.deref.result.now c.args.stack.now.values c.args.store.now c.args.at c.top.result
       (token c.in-Token.place c.in-Token.terminal (slice_range c.args.text.now c.in-Token.lexeme c.in-Token.end) c.in-Token.end)
       c.top.ensures c.deref.ensures.value c.in-Token.ensures.next r in
       token_stops c.args.language.now c.requires.sound.language c.args.text.now c.reduce_all.new.stack.states.items
-      c.reduce_all.new.stack.values.items c.reduce_all.new.store r.0 c.args.at c.in-Token.place c.in-Token.terminal
+      c.reduce_all.new.stack.values c.reduce_all.new.store r.0 c.args.at c.in-Token.place c.in-Token.terminal
       (slice_range c.args.text.now c.in-Token.lexeme c.in-Token.end) c.in-Token.end c.in_ok-target-in-Token.field-0
-      c.in_default.not-Shifts c.in_ok-target-in-Token.ensures.ended n
+      c.in_default.not-Shifts n
       (c.in_ok-target-in-Token.ensures.outcome c.args.text.now r.0 c.args.at c.in-Token.place _ n (refl, refl) r.1));
   sound = tt;
   extends = c.in_ok-target-in-Token.ensures.extends;

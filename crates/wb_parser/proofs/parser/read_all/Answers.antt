@@ -17,11 +17,11 @@ leaves-init c = record {
     tables_of = c.tables-tables.ensures.of_grammar;
     states_below = All-same (λ s. s < size_of c.args.language.now.tables) c.new-stack.result.states.items [] c.new-stack.ensures.states
         (All-nil (λ s. s < size_of c.args.language.now.tables));
-    values_in_store = All-same (IsIn (length c.args.store.now)) c.new-stack.result.values.items [] c.new-stack.ensures.values
+    values_in_store = All-same (IsIn (length c.args.store.now)) c.new-stack.result.values [] c.new-stack.ensures.values
         (All-nil (IsIn (length c.args.store.now)));
   };
   ready = first_ready c.args.language.now c.tables-tables.ensures.language c.args.text.now c.new-stack.result.states.items
-      c.new-stack.result.values.items c.args.store.now c.new-stack.ensures.states c.new-stack.ensures.values;
+      c.new-stack.result.values c.args.store.now c.new-stack.ensures.states c.new-stack.ensures.values;
   extends = take_all (length c.args.store.now) c.args.store.now (omega arith);
   before = omega (arith, c.len-before.ensures);
 }
@@ -31,7 +31,7 @@ leaves-preserved c =
     let parts = c.args.language.now in
     let text = c.args.text.now in
     let ss = c.take_leaf.new.stack.states.items in
-    let vs = c.take_leaf.new.stack.values.items in
+    let vs = c.take_leaf.new.stack.values in
     let same = sym c.make_room-part.ensures in
     let ready = subst (IsRound parts text ss vs c.take_leaf.new.store c.leaves.at) c.in-Goes.is
     (c.in_ok-after.ensures.round c.leaves.invariant.ready) in

@@ -6,8 +6,8 @@ use Rattle.wb_parser.proofs.parser.read_all.Given as goal
 abbrev pub invariant-leaves : goal.invariant-leaves
 invariant-leaves l = record {
   within : l.at ≤ length l.text;
-  sound : IsSound l.language l.stack.states.items l.stack.values.items l.store;
-  ready : IsReady l.language l.text l.stack.states.items l.stack.values.items l.store l.at;
+  sound : IsSound l.language l.stack.states.items l.stack.values l.store;
+  ready : IsReady l.language l.text l.stack.states.items l.stack.values l.store l.at;
   extends : Extends l.initial.store l.store;
   before : l.before ≤ length l.store;
 }

@@ -1,4 +1,4 @@
-use Rattle.wb_parser.proofs.StateLemmas.{top_below, pushed_below, zero_below}
+use Rattle.wb_parser.proofs.StateLemmas.{top_below, top_pushed, pushed_below, zero_below}
 use Rattle.wb_lookahead.specs.Contents.{size_of}
 use Rattle.wb_parser.proofs.reduce.move_states.Goals as goal
 
@@ -14,3 +14,6 @@ returns-clause-below c =
     pushed_below (size_of c.args.tables.now) c.args.states.now.items c.truncate.new.self.items c.push.new.self.items
     c.saturating_sub-kept.result c.target_of-target.result c.requires.states c.truncate.ensures.items c.in_ok-push.ensures.items
     (c.target_of-target.ensures.below g of)
+
+pub returns-clause-top : goal.returns-clause-top
+returns-clause-top c = top_pushed c.truncate.new.self.items c.push.new.self.items c.target_of-target.result c.in_ok-push.ensures.items

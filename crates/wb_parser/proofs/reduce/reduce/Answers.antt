@@ -1,7 +1,7 @@
 use Rattle.std.proofs.Common.{rules, ◌∙◌, ap, subst, length}
 use Rattle.std.specs.Prelude.{min, slice_index_or}
 use Rattle.wb_lookahead.specs.Contents.{TablesView}
-use Rattle.wb_parser.specs.Inner.Stacks.{IsReduction, IsMoved}
+use Rattle.wb_parser.specs.Inner.Stacks.{IsMoved}
 use Rattle.wb_parser.proofs.RuleLemmas.{left_below, no_rule, rule_at}
 use Rattle.wb_parser.proofs.reduce.reduce.Goals as goal
 
@@ -22,9 +22,9 @@ returns-clause-reduction c =
       rule = rule.is;
       width = c.min-width.result;
       width_is = c.min-width.ensures ∙ ap (λ w. min w c.len.result) rule.width_is
-          ∙ ap (min (length rule.right)) (c.len.ensures ∙ c.args.stack.now.values.ok.0);
+          ∙ ap (min (length rule.right)) c.len.ensures;
       moved = subst (λ (t : TablesView). IsMoved t c.args.stack.now.states.items c.min-width.result left c.move_states.new.states.items)
-          c.tables-tables.ensures.tables c.in_ok-move_states.ensures.moved;
+          c.tables-tables.ensures.tables c.in_ok-state.ensures.moved;
       id = c.in_ok-tree.tree;
       id_is = c.in_ok-tree.ensures.id;
       fits = search rules;

@@ -1,19 +1,21 @@
-use Rattle.std.proofs.Common.{ℕ, ◌-◌, ◌^◌, List, length}
+use Rattle.std.proofs.Common.{◌≡◌, ℕ, ◌-◌, ◌^◌, List, length}
 use Rattle.wb_base.specs.declared.symbol.Symbol.{Symbol}
 use Rattle.wb_languages.specs.Tokens.{Next, NextToken}
 use Rattle.wb_languages.specs.Readings.{Gives}
 use Rattle.wb_parser.specs.Parses.{Extends}
+use Rattle.wb_parser.specs.Inner.Stacks.{last_or}
 use Rattle.wb_parser.specs.Inner.Steps.{IsAt, IsSound}
 use Rattle.wb_parser.proofs.step.reduce_all.Given as goal
 
 abbrev pub invariant-reductions : goal.invariant-reductions
 invariant-reductions l = record {
-  sound : IsSound l.language l.stack.states.items l.stack.values.items l.store;
+  top : l.state ≡ last_or 0 l.stack.states.items;
+  sound : IsSound l.language l.stack.states.items l.stack.values l.store;
   extends : Extends l.initial.store l.store;
   carries : (text : List ℕ) (prefix : List Symbol) (at place : ℕ) (next : Next) → NextToken l.language.language text prefix at next →
       Gives l.language.language.grammar next l.terminal place →
-      IsAt l.language text l.initial.stack.states.items l.initial.stack.values.items l.initial.store prefix at →
-      IsAt l.language text l.stack.states.items l.stack.values.items l.store prefix at;
+      IsAt l.language text l.initial.stack.states.items l.initial.stack.values l.initial.store prefix at →
+      IsAt l.language text l.stack.states.items l.stack.values l.store prefix at;
 }
 
 abbrev pub decreases-reductions : goal.decreases-reductions
