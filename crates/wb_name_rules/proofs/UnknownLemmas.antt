@@ -1,5 +1,5 @@
 -- What shows that a name isn't declared.
-use Rattle.std.proofs.Common.{◌≡◌, ◌<◌, ℕ, List, Option, Some, None, Bool, Result, IfOk, get_or, length, Contains, All, slice_get, refl, sym, ap}
+use Rattle.std.proofs.Common.{◌≡◌, ◌<◌, ℕ, List, Option, Some, None, Bool, true, false, not, true≢false, Result, IfOk, get_or, length, Contains, All, slice_get, refl, sym, ap}
 use Rattle.std.proofs.Common.{◌∙◌, subst}
 use Rattle.std.specs.Prelude.{◌↔◌, IsTrue, IfSome, IfNone, is_some}
 use Rattle.std.specs.declared.alloc.AllocError.{AllocError}
@@ -7,6 +7,7 @@ use Rattle.std.proofs.lemmas.Option.{slice_get-get_or}
 use Rattle.wb_lemmas.proofs.Elements.{all_contained}
 use Rattle.wb_lemmas.proofs.Members.{contains_at}
 use Rattle.wb_naming.specs.declared.declaration.Declaration.{Declaration}
+use Rattle.wb_naming.specs.declared.declaration.Declaration.TheVariants as d
 use Rattle.wb_naming.specs.declared.declaration.Site.{Site}
 use Rattle.wb_naming.specs.declared.declaration.Site.TheVariants as site
 use Rattle.wb_naming.specs.declared.declaration.Sort.TheVariants as sort
@@ -19,7 +20,7 @@ use Rattle.wb_naming.specs.declared.usage.Wanted.TheVariants as w
 use Rattle.wb_naming.specs.Meaning.{IsSymbol, IsDeclared, Occurs, HasSite, Forwards}
 use Rattle.wb_naming.specs.Unknown.{FailsUnknown}
 use Rattle.wb_naming.specs.Unknown as f
-use Rattle.wb_name_rules.specs.Inner.Tests.{IsKnown, NamesUnknown, ShowsUnknown, ShowsAbsent, IsUnknownIn}
+use Rattle.wb_name_rules.specs.Inner.Tests.{IsKnown, TellsForward, NamesUnknown, ShowsUnknown, ShowsAbsent, IsUnknownIn}
 
 -- what was found says whether something is there
 pub some_test : {X : Type 0} (declared : List Declaration) (make : X → Declaration) (found : Option ℕ) (b : Bool) → b ≡ is_some found
@@ -86,6 +87,15 @@ module _ (declared : List Declaration) where
       → FailsUnknown declared used attribute
   shows_no_forward used production attribute at there has is not =
       f.no_forward (record { written = subst (λ (z : Site). Contains used (u.Attribute production attribute z)) is has; there = there }) not
+
+  -- whether it doesn't is told by what is found of it
+  pub tells_forward : (production : List ℕ) (at : Site) (found : Option ℕ) (b : Bool) → at ≡ site.Forward → is_some found ≡ not b
+      → IfSome found (λ (place : ℕ). slice_get declared place ≡ Some (d.Forward production))
+      → IfNone found (¬ Forwards declared production) → TellsForward declared production at b
+  tells_forward production at None true e is some none = (e, none)
+  tells_forward production at None false e is some none = absurd (true≢false (sym is))
+  tells_forward production at (Some place) true e is some none = absurd (true≢false is)
+  tells_forward production at (Some place) false e is some none = λ same. contains_at declared (d.Forward production) place some
 
   -- and by an attribute of a flow type
   pub shows_needs : (attribute nonterminal : List ℕ) → IsSymbol declared nonterminal sort.Nonterminal → (refusal : NameRefusal)

@@ -133,14 +133,3 @@ pub(crate) fn occurs(
 {
     Ok(index.occurrence(alloc, attribute, nonterminal)?.is_some())
 }
-
-// Whether a production forwards.
-pub(crate) fn forwards(
-    alloc: Global,
-    index: &NameIndex,
-    production: &[u8],
-) -> Result<bool, AllocError>
-    ensures { IfOk result (λ b. IsTrue b ↔ meaning.Forwards index.now production.now) }
-{
-    Ok(index.forward(alloc, production)?.is_some())
-}

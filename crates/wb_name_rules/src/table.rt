@@ -6,9 +6,10 @@ ghost use Rattle.std.specs.Prelude.{◌≡◌, ◌+◌, ◌<◌, ◌↔◌, ◌+
 ghost use Rattle.wb_naming.specs.Duplicate.{Counts, shown_name as shown};
 ghost use Rattle.wb_naming.specs.Meaning.{IsSymbol};
 ghost use Rattle.wb_naming.specs.declared.declaration.Sort.TheVariants as sort;
-ghost use Rattle.wb_name_rules.specs.declared.table.Pass.TheVariants.{Others};
+ghost use Rattle.wb_name_rules.specs.declared.table.Pass.TheVariants.{Symbols, Others};
 ghost use Rattle.wb_name_rules.specs.Indexed as indexed;
 ghost use Rattle.wb_name_rules.specs.Inner.Indexed as spec;
+ghost use Rattle.wb_name_rules.specs.Keys as keys;
 
 use crate::keys::{SYMBOL, key, key_of};
 use std::alloc::{AllocError, Global};
@@ -54,6 +55,21 @@ impl Table {
             Added::Present(number) => Ok(Some(self.places[number])),
         }
     }
+
+    // The same with the key of a declaration.
+    fn add_key(
+        &mut self,
+        alloc: Global,
+        declaration: &Declaration,
+        place: usize,
+    ) -> Result<Option<usize>, AllocError>
+        requires { length self.old.places.items ≡ length self.old.keys }
+        ensures present { IfOk result (λ before. IfSome before (λ p. indexed.IsKept self.old.keys self.old.places.items (keys.key_of declaration.now) p × (self.new.keys ≡ self.old.keys) × (self.new.places.items ≡ self.old.places.items))) }
+        ensures new { IfOk result (λ before. IfNone before ((¬ Contains self.old.keys (keys.key_of declaration.now)) × (self.new.keys ≡ self.old.keys ++ keys.key_of declaration.now ∷ []) × (self.new.places.items ≡ self.old.places.items ++ place ∷ []))) }
+    {
+        let key = key_of(alloc, declaration)?;
+        self.add(&key, place)
+    }
 }
 
 // The table of declarations, where nothing is declared twice.
@@ -65,9 +81,22 @@ pub(crate) fn table_of(alloc: Global, declarations: &[Declaration]) -> Result<Ta
         keys: Names::new(alloc),
         places: Vec::new(alloc),
     };
-    add_pass(alloc, declarations, Pass::Symbols, &mut table)?;
-    add_pass(alloc, declarations, Pass::Others, &mut table)?;
+    add_passes(alloc, declarations, &mut table)?;
     Ok(table)
+}
+
+// Adds all declarations to a table of none, those of symbols first.
+fn add_passes(
+    alloc: Global,
+    declarations: &[Declaration],
+    table: &mut Table,
+) -> Result<(), NameRefusal>
+    requires { indexed.IsIndexed declarations.now table.old.keys table.old.places.items Symbols 0 }
+    ensures ok { OnOk result (indexed.IsIndexed declarations.now table.new.keys table.new.places.items Others (length declarations.now)) }
+    ensures refused { IfErr result (spec.IsDuplicate declarations.now) }
+{
+    add_pass(alloc, declarations, Pass::Symbols, table)?;
+    add_pass(alloc, declarations, Pass::Others, table)
 }
 
 // Adds the declarations of a pass.
@@ -107,8 +136,7 @@ fn add_at(
     if !counts(alloc, declarations, declaration, table)? {
         return Ok(());
     }
-    let key = key_of(alloc, declaration)?;
-    match table.add(&key, place)? {
+    match table.add_key(alloc, declaration, place)? {
         None => Ok(()),
         Some(_) => Err(duplicate(declaration)),
     }

@@ -11,7 +11,7 @@ ghost use Rattle.wb_name_rules.specs.Inner.Tests as spec;
 
 use crate::NameIndex;
 use crate::reads::{is_nonterminal, is_production};
-use crate::sites::{forwards, occurs, site_of};
+use crate::sites::{occurs, site_of};
 use std::alloc::{AllocError, Global};
 use wb_base::Bytes;
 use wb_naming::{LabelWanted, NameRefusal, Site, Usage, Wanted};
@@ -172,7 +172,7 @@ fn lacks_forward(
     ensures { IfOk result (λ lacks. spec.TellsForward index.now production.now site.now lacks) }
 {
     match site {
-        Site::Forward => Ok(!forwards(alloc, index, production.as_slice())?),
+        Site::Forward => Ok(index.forward(alloc, production.as_slice())?.is_none()),
         _ => Ok(false),
     }
 }

@@ -1,9 +1,10 @@
-use Rattle.std.proofs.Common.{drop, sym, subst}
+use Rattle.std.proofs.Common.{◌≡◌, drop, sym, subst}
 use Rattle.std.proofs.lemmas.Result.{IfErr-weaker}
 use Rattle.wb_naming.specs.declared.declaration.Declaration.{Declaration}
+use Rattle.wb_naming.specs.declared.declaration.Sort.TheVariants.{Layout}
 use Rattle.wb_naming.specs.Orphan.{IsOwnSymbol}
 use Rattle.wb_name_rules.specs.Inner.Owners.{IsOrphanIf, ShowsOrphan, IsForeignOccurrence, IsForeignPreference, IsForeignEquation}
-use Rattle.wb_name_rules.proofs.OwnerLemmas.{shows_start, shows_extensible, shows_forward_needs, shows_occurrence, shows_preference, shows_equation}
+use Rattle.wb_name_rules.proofs.OwnerLemmas.{shows_start, shows_extensible, shows_symbol, shows_forward_needs, shows_occurrence, shows_preference, shows_equation}
 use Rattle.wb_name_rules.proofs.orphans.check_declaration.Goals as goal
 
 pub returns-in-ForwardNeeds-clause-refused : goal.returns-in-ForwardNeeds-clause-refused
@@ -43,3 +44,10 @@ pub returns-in-Extensible-clause-refused : goal.returns-in-Extensible-clause-ref
 returns-in-Extensible-clause-refused c =
     subst (λ (z : Declaration). ShowsOrphan c.args.index.now c.args.from z c.orphan-in-Extensible.result) (sym c.in-Extensible.is)
     (shows_extensible c.args.index.now c.args.from c.in-Extensible.name c.orphan-in-Extensible.result c.orphan-in-Extensible.ensures)
+
+pub returns-in-Symbol-clause-refused : goal.returns-in-Symbol-clause-refused
+returns-in-Symbol-clause-refused c =
+    IfErr-weaker c.check_symbol.result (IsOrphanIf (c.in-Symbol.sort ≡ Layout) c.in-Symbol.name)
+    (ShowsOrphan c.args.index.now c.args.from c.args.declaration.now)
+    (λ refusal shows. subst (λ (z : Declaration). ShowsOrphan c.args.index.now c.args.from z refusal) (sym c.in-Symbol.is)
+    (shows_symbol c.args.index.now c.args.from c.in-Symbol.name c.in-Symbol.sort refusal shows)) c.check_symbol.ensures.refused

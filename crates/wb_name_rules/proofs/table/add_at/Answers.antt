@@ -31,19 +31,17 @@ returns-in-None-clause-ok c =
     let ds = c.args.declarations.now in
     let here = slice_get-get_or ds c.args.place c.index-declarations-place.result c.requires.within
     ∙ ap Some (sym c.index-declarations-place.is) in
-    let key = c.deref.ensures.value ∙ c.in_ok-key.ensures in
-    let added = rw key at (rw c.in-None.is at c.in_ok-add.ensures.new) in
+    let added = rw c.in-None.is at c.in_ok-add_key.ensures.new in
     new_there ds c.args.table.now.keys c.args.table.now.places.items c.args.pass c.args.place c.index-declarations-place.result c.requires.indexed
-    here (c.is_in.ensures.0 c.if-not-is_in.false) c.add.new.self.keys c.add.new.self.places.items added.0
+    here (c.is_in.ensures.0 c.if-not-is_in.false) c.add_key.new.self.keys c.add_key.new.self.places.items added.0
     (c.in_ok-counts.ensures.0 c.if-not-branch.false) added.1 added.2
 
-pub returns-clause-refused : goal.returns-clause-refused
-returns-clause-refused c =
+pub returns-in-Some-clause-refused : goal.returns-in-Some-clause-refused
+returns-in-Some-clause-refused c =
     let ds = c.args.declarations.now in
     let here = slice_get-get_or ds c.args.place c.index-declarations-place.result c.requires.within
     ∙ ap Some (sym c.index-declarations-place.is) in
-    let key = c.deref.ensures.value ∙ c.in_ok-key.ensures in
-    let present = rw key at (rw c.in-Some.is at c.in_ok-add.ensures.present) in
+    let present = rw c.in-Some.is at c.in_ok-add_key.ensures.present in
     refused_twice ds c.index-declarations-place.result
     (twice ds c.args.table.now.keys c.args.table.now.places.items c.args.pass c.args.place c.index-declarations-place.result c.requires.indexed
     here (c.is_in.ensures.0 c.if-not-is_in.false) c.in-Some.field-0 present.0 (c.in_ok-counts.ensures.0 c.if-not-branch.false))

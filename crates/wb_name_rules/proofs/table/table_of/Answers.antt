@@ -1,5 +1,11 @@
-use Rattle.wb_name_rules.proofs.IndexLemmas.{symbols_indexed}
+use Rattle.std.proofs.Common.{[], ℕ, List, sym, subst}
+use Rattle.wb_name_rules.specs.declared.table.Pass.TheVariants.{Symbols}
+use Rattle.wb_name_rules.specs.Indexed.{IsIndexed}
+use Rattle.wb_name_rules.proofs.IndexLemmas.{none_indexed}
 use Rattle.wb_name_rules.proofs.table.table_of.Goals as goal
 
-pub add_pass-requires-2 : goal.add_pass-requires-2
-add_pass-requires-2 c = symbols_indexed c.args.declarations.now _ _ c.in_ok-add_pass.ensures.ok
+pub add_passes-requires : goal.add_passes-requires
+add_passes-requires c =
+    subst (λ (keys : List (List ℕ)). IsIndexed c.args.declarations.now keys c.new-2.result.items Symbols 0) (sym c.new.ensures)
+    (subst (λ (places : List ℕ). IsIndexed c.args.declarations.now [] places Symbols 0) (sym c.new-2.ensures.items)
+    (none_indexed c.args.declarations.now))
