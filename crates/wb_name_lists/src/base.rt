@@ -103,13 +103,13 @@ fn add_occurrences(
     ensures { OnOk result (out.new.items ≡ out.old.items ++ map (λ (x : Occurrence). d.Occurrence (spec.attribute_name base.now x.attribute) (spec.nonterminal_name base.now x.nonterminal)) occurrences.now) }
 {
     'occurrences: for occurrence in occurrences {
-        push(out, numbered_occurrence(base, occurrence)?)?;
+        push(out, occurrence_declaration(base, occurrence)?)?;
     }
     Ok(())
 }
 
 // What an occurrence declares.
-fn numbered_occurrence(
+fn occurrence_declaration(
     base: &ResolvedParts,
     occurrence: &Occurrence,
 ) -> Result<Declaration, AllocError>
@@ -267,13 +267,16 @@ fn add_equations(
     ensures { OnOk result (out.new.items ≡ out.old.items ++ map (λ (e : Equation). d.Equation production.now.name (spec.target_attribute base.now e.target) (spec.target_site production.now e.target)) equations.now) }
 {
     'equations: for equation in equations {
-        push(out, numbered_equation(base, production, equation.target)?)?;
+        push(
+            out,
+            equation_declaration(base, production, equation.target)?,
+        )?;
     }
     Ok(())
 }
 
 // What an equation declares, by what it is for.
-fn numbered_equation(
+fn equation_declaration(
     base: &ResolvedParts,
     production: &Production,
     target: Target,
