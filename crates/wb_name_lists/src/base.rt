@@ -15,7 +15,7 @@ ghost use Rattle.wb_naming.specs.declared.declaration.Labelled.TheVariants as la
 ghost use Rattle.wb_naming.specs.declared.declaration.Sort.TheVariants as sort;
 ghost use Rattle.wb_naming.specs.Declares as spec;
 
-use crate::items::{equation_of, label_of, left_of, symbol_of};
+use crate::items::{attribute_of, equation_of, label_of, symbol_of};
 use std::alloc::AllocError;
 use wb_base::{Bytes, Kind, push};
 use wb_naming::{Declaration, Labelled, Site, Sort};
@@ -52,9 +52,10 @@ fn add_terminals(terminals: &[Terminal], out: &mut Vec<Declaration>) -> Result<(
     ensures { OnOk result (out.new.items ≡ out.old.items ++ map (λ (x : Terminal). d.Symbol x.name (spec.terminal_sort x.kind)) terminals.now) }
 {
     'terminals: for terminal in terminals {
-        let name = terminal.name.copy()?;
-        let sort = terminal_sort(terminal.kind);
-        push(out, Declaration::Symbol { name, sort })?;
+        push(
+            out,
+            symbol_of(&terminal.name, terminal_sort(terminal.kind))?,
+        )?;
     }
     Ok(())
 }
@@ -78,9 +79,7 @@ fn add_nonterminals(
     ensures { OnOk result (out.new.items ≡ out.old.items ++ map (λ (x : Nonterminal). d.Symbol x.name sort.Nonterminal) nonterminals.now) }
 {
     'nonterminals: for nonterminal in nonterminals {
-        let name = nonterminal.name.copy()?;
-        let sort = Sort::Nonterminal;
-        push(out, Declaration::Symbol { name, sort })?;
+        push(out, symbol_of(&nonterminal.name, Sort::Nonterminal)?)?;
     }
     Ok(())
 }
@@ -90,9 +89,7 @@ fn add_attributes(attributes: &[Attribute], out: &mut Vec<Declaration>) -> Resul
     ensures { OnOk result (out.new.items ≡ out.old.items ++ map (λ (x : Attribute). d.Attribute x.name x.direction) attributes.now) }
 {
     'attributes: for attribute in attributes {
-        let name = attribute.name.copy()?;
-        let direction = attribute.direction;
-        push(out, Declaration::Attribute { name, direction })?;
+        push(out, attribute_of(&attribute.name, attribute.direction)?)?;
     }
     Ok(())
 }
@@ -106,17 +103,23 @@ fn add_occurrences(
     ensures { OnOk result (out.new.items ≡ out.old.items ++ map (λ (x : Occurrence). d.Occurrence (spec.attribute_name base.now x.attribute) (spec.nonterminal_name base.now x.nonterminal)) occurrences.now) }
 {
     'occurrences: for occurrence in occurrences {
-        let attribute = attribute_name(base, occurrence.attribute)?;
-        let nonterminal = nonterminal_name(base, occurrence.nonterminal)?;
-        push(
-            out,
-            Declaration::Occurrence {
-                attribute,
-                nonterminal,
-            },
-        )?;
+        push(out, occurrence_declaration(base, occurrence)?)?;
     }
     Ok(())
+}
+
+// What an occurrence declares.
+fn occurrence_declaration(
+    base: &ResolvedParts,
+    occurrence: &Occurrence,
+) -> Result<Declaration, AllocError>
+    ensures { IfOk result (λ made. made ≡ d.Occurrence (spec.attribute_name base.now occurrence.now.attribute) (spec.nonterminal_name base.now occurrence.now.nonterminal)) }
+{
+    let attribute = attribute_name(base, occurrence.attribute)?;
+    Ok(Declaration::Occurrence {
+        attribute,
+        nonterminal: nonterminal_name(base, occurrence.nonterminal)?,
+    })
 }
 
 // The name of the terminal of a number; none has the empty name.
@@ -171,7 +174,7 @@ fn add_production(
 ) -> Result<(), AllocError>
     ensures { OnOk result (out.new.items ≡ out.old.items ++ spec.production_declarations base.now production.now) }
 {
-    push(out, symbol_of(&production.name)?)?;
+    push(out, symbol_of(&production.name, Sort::Production)?)?;
     add_left(base, production, out)?;
     add_children(base, &production.name, production.children.as_slice(), out)?;
     add_locals(base, &production.name, production.locals.as_slice(), out)?;
@@ -187,8 +190,15 @@ fn add_left(
 ) -> Result<(), AllocError>
     ensures { OnOk result (out.new.items ≡ out.old.items ++ d.Left production.now.name (spec.nonterminal_name base.now production.now.left) ∷ []) }
 {
-    let left = nonterminal_name(base, production.left)?;
-    push(out, left_of(&production.name, &left)?)
+    let nonterminal = nonterminal_name(base, production.left)?;
+    let production = production.name.copy()?;
+    push(
+        out,
+        Declaration::Left {
+            production,
+            nonterminal,
+        },
+    )
 }
 
 // Adds what its children declare.
@@ -257,11 +267,28 @@ fn add_equations(
     ensures { OnOk result (out.new.items ≡ out.old.items ++ map (λ (e : Equation). d.Equation production.now.name (spec.target_attribute base.now e.target) (spec.target_site production.now e.target)) equations.now) }
 {
     'equations: for equation in equations {
-        let attribute = target_attribute(base, equation.target)?;
-        let site = target_site(production, equation.target)?;
-        push(out, equation_of(&production.name, &attribute, site)?)?;
+        push(
+            out,
+            equation_declaration(base, production, equation.target)?,
+        )?;
     }
     Ok(())
+}
+
+// What an equation declares, by what it is for.
+fn equation_declaration(
+    base: &ResolvedParts,
+    production: &Production,
+    target: Target,
+) -> Result<Declaration, AllocError>
+    ensures { IfOk result (λ made. made ≡ d.Equation production.now.name (spec.target_attribute base.now target) (spec.target_site production.now target)) }
+{
+    let attribute = target_attribute(base, target)?;
+    equation_of(
+        &production.name,
+        &attribute,
+        target_site(production, target)?,
+    )
 }
 
 // The attribute that an equation is for.

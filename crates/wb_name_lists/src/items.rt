@@ -5,9 +5,9 @@
 ghost use Rattle.std.specs.Prelude.{◌≡◌, ◌++◌, OnOk, IfOk, map};
 ghost use Rattle.wb_syntax.specs.declared.production.Child.{Child};
 ghost use Rattle.wb_naming.specs.declared.declaration.Declaration.TheVariants as d;
-ghost use Rattle.wb_naming.specs.declared.declaration.Sort.TheVariants as sort;
 ghost use Rattle.wb_naming.specs.Declares as spec;
 
+use crate::copies::copies;
 use std::alloc::AllocError;
 use wb_base::{Bytes, push};
 use wb_naming::{Declaration, Labelled, Site, Sort};
@@ -34,11 +34,7 @@ fn add_form(form: &ItemForm<Pattern>, out: &mut Vec<Declaration>) -> Result<(), 
     ensures { OnOk result (out.new.items ≡ out.old.items ++ spec.form_declarations form.now) }
 {
     match form {
-        ItemForm::Lexical { role, name, .. } => {
-            let name = name.copy()?;
-            let sort = role_sort(*role);
-            push(out, Declaration::Symbol { name, sort })
-        }
+        ItemForm::Lexical { role, name, .. } => push(out, symbol_of(name, role_sort(*role))?),
         ItemForm::Plain(plain) => push(out, plain_declaration(plain)?),
         ItemForm::Production { production, .. } => add_production(production, out),
         ItemForm::Aspect { name, equations } => add_equations(name, equations.as_slice(), out),
@@ -61,28 +57,12 @@ fn plain_declaration(plain: &PlainForm) -> Result<Declaration, AllocError>
     ensures { IfOk result (λ made. made ≡ spec.plain_declaration plain.now) }
 {
     match plain {
-        PlainForm::Prefer { first, second } => {
-            let first = first.copy()?;
-            let second = second.copy()?;
-            Ok(Declaration::Preference { first, second })
-        }
-        PlainForm::Nonterminal(name) => {
-            let name = name.copy()?;
-            let sort = Sort::Nonterminal;
-            Ok(Declaration::Symbol { name, sort })
-        }
+        PlainForm::Prefer { first, second } => preference_of(first, second),
+        PlainForm::Nonterminal(name) => symbol_of(name, Sort::Nonterminal),
         PlainForm::Start(name) => Ok(Declaration::Start(name.copy()?)),
         PlainForm::Extensible(name) => Ok(Declaration::Extensible(name.copy()?)),
-        PlainForm::Synthesized { name, .. } => {
-            let name = name.copy()?;
-            let direction = Direction::Synthesized;
-            Ok(Declaration::Attribute { name, direction })
-        }
-        PlainForm::Inherited { name, .. } => {
-            let name = name.copy()?;
-            let direction = Direction::Inherited;
-            Ok(Declaration::Attribute { name, direction })
-        }
+        PlainForm::Synthesized { name, .. } => attribute_of(name, Direction::Synthesized),
+        PlainForm::Inherited { name, .. } => attribute_of(name, Direction::Inherited),
         PlainForm::Occurs {
             attribute,
             nonterminal,
@@ -94,12 +74,27 @@ fn plain_declaration(plain: &PlainForm) -> Result<Declaration, AllocError>
     }
 }
 
+// That one terminal is preferred to another.
+fn preference_of(first: &Bytes, second: &Bytes) -> Result<Declaration, AllocError>
+    ensures { IfOk result (λ made. made ≡ d.Preference first.now second.now) }
+{
+    let (first, second) = copies(first, second)?;
+    Ok(Declaration::Preference { first, second })
+}
+
+// That an attribute is declared.
+pub(crate) fn attribute_of(name: &Bytes, direction: Direction) -> Result<Declaration, AllocError>
+    ensures { IfOk result (λ made. made ≡ d.Attribute name.now direction) }
+{
+    let name = name.copy()?;
+    Ok(Declaration::Attribute { name, direction })
+}
+
 // That an attribute occurs on a nonterminal.
 fn occurrence_of(attribute: &Bytes, nonterminal: &Bytes) -> Result<Declaration, AllocError>
     ensures { IfOk result (λ made. made ≡ d.Occurrence attribute.now nonterminal.now) }
 {
-    let attribute = attribute.copy()?;
-    let nonterminal = nonterminal.copy()?;
+    let (attribute, nonterminal) = copies(attribute, nonterminal)?;
     Ok(Declaration::Occurrence {
         attribute,
         nonterminal,
@@ -110,27 +105,25 @@ fn occurrence_of(attribute: &Bytes, nonterminal: &Bytes) -> Result<Declaration, 
 fn add_production(production: &Production, out: &mut Vec<Declaration>) -> Result<(), AllocError>
     ensures { OnOk result (out.new.items ≡ out.old.items ++ spec.written_declarations production.now) }
 {
-    push(out, symbol_of(&production.name)?)?;
+    push(out, symbol_of(&production.name, Sort::Production)?)?;
     push(out, left_of(&production.name, &production.left)?)?;
     add_children(&production.name, production.children.as_slice(), out)?;
     add_equations(&production.name, production.equations.as_slice(), out)
 }
 
-// That a production is declared.
-pub(crate) fn symbol_of(production: &Bytes) -> Result<Declaration, AllocError>
-    ensures { IfOk result (λ made. made ≡ d.Symbol production.now sort.Production) }
+// That a terminal, layout, marker, nonterminal or production is declared.
+pub(crate) fn symbol_of(name: &Bytes, sort: Sort) -> Result<Declaration, AllocError>
+    ensures { IfOk result (λ made. made ≡ d.Symbol name.now sort) }
 {
-    let name = production.copy()?;
-    let sort = Sort::Production;
+    let name = name.copy()?;
     Ok(Declaration::Symbol { name, sort })
 }
 
 // Which nonterminal is on a production's left.
-pub(crate) fn left_of(production: &Bytes, nonterminal: &Bytes) -> Result<Declaration, AllocError>
+fn left_of(production: &Bytes, nonterminal: &Bytes) -> Result<Declaration, AllocError>
     ensures { IfOk result (λ made. made ≡ d.Left production.now nonterminal.now) }
 {
-    let production = production.copy()?;
-    let nonterminal = nonterminal.copy()?;
+    let (production, nonterminal) = copies(production, nonterminal)?;
     Ok(Declaration::Left {
         production,
         nonterminal,
@@ -170,8 +163,7 @@ pub(crate) fn label_of(
 ) -> Result<Declaration, AllocError>
     ensures { IfOk result (λ made. made ≡ d.Label production.now label.now is) }
 {
-    let production = production.copy()?;
-    let label = label.copy()?;
+    let (production, label) = copies(production, label)?;
     Ok(Declaration::Label {
         production,
         label,
@@ -220,8 +212,7 @@ pub(crate) fn equation_of(
 ) -> Result<Declaration, AllocError>
     ensures { IfOk result (λ made. made ≡ d.Equation production.now attribute.now site) }
 {
-    let production = production.copy()?;
-    let attribute = attribute.copy()?;
+    let (production, attribute) = copies(production, attribute)?;
     Ok(Declaration::Equation {
         production,
         attribute,

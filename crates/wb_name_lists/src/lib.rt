@@ -5,6 +5,7 @@
 #![tactic(auto)]
 
 mod base;
+mod copies;
 mod items;
 mod place;
 mod uses;

@@ -7,6 +7,7 @@ ghost use Rattle.wb_syntax.specs.declared.production.Child.{Child};
 ghost use Rattle.wb_naming.specs.declared.usage.Usage.TheVariants as u;
 ghost use Rattle.wb_naming.specs.Uses as spec;
 
+use crate::copies::copies;
 use std::alloc::AllocError;
 use wb_base::{Bytes, Sequence, push};
 use wb_naming::{LabelWanted, Site, Usage, Wanted};
@@ -121,8 +122,7 @@ fn add_need(nonterminal: &Bytes, attribute: &Bytes, out: &mut Vec<Usage>) -> Res
     ensures { OnOk result (out.new.items ≡ out.old.items ++ spec.needs_uses nonterminal.now attribute.now) }
 {
     add_name(attribute, Wanted::Inherited, out)?;
-    let attribute = attribute.copy()?;
-    let nonterminal = nonterminal.copy()?;
+    let (attribute, nonterminal) = copies(attribute, nonterminal)?;
     push(
         out,
         Usage::Needs {
@@ -222,8 +222,7 @@ fn add_label(
 ) -> Result<(), AllocError>
     ensures { OnOk result (out.new.items ≡ out.old.items ++ u.Label production.now label.now wanted ∷ []) }
 {
-    let production = production.copy()?;
-    let label = label.copy()?;
+    let (production, label) = copies(production, label)?;
     push(
         out,
         Usage::Label {
@@ -243,8 +242,7 @@ fn add_attribute(
 ) -> Result<(), AllocError>
     ensures { OnOk result (out.new.items ≡ out.old.items ++ u.Attribute production.now attribute.now site ∷ []) }
 {
-    let production = production.copy()?;
-    let attribute = attribute.copy()?;
+    let (production, attribute) = copies(production, attribute)?;
     push(
         out,
         Usage::Attribute {

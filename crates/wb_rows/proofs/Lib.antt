@@ -5,6 +5,7 @@ pub mod BlockLemmas
 pub mod FoundLemmas
 pub mod GroupLemmas
 pub mod IndexLemmas
+pub mod ListLemmas
 pub mod MovedLemmas
 pub mod PlainLemmas
 pub mod PlainsFound

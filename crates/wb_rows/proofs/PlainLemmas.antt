@@ -1,9 +1,9 @@
 -- What items of names alone make, one after the other.
-use Rattle.std.proofs.Common.{◌≡◌, ◌<◌, ◌+◌, ◌++◌, ◌∷◌, [], ℕ, List, Option, Some, None, length, take, get_or, ap, sym, refl, subst, ◌∙◌}
-use Rattle.std.proofs.Common.{append_assoc}
+use Rattle.std.proofs.Common.{◌≡◌, ◌<◌, ◌≤◌, ◌+◌, ◌++◌, ◌∷◌, [], ℕ, List, Option, Some, None, length, take, get_or, ap, sym, refl, subst}
+use Rattle.std.proofs.Common.{◌∙◌, append_assoc}
 use Rattle.std.specs.Prelude.{filter_map, option_to_list}
 use Rattle.std.specs.List.{AllZip}
-use Rattle.std.proofs.lemmas.List.{take_more, append-nil}
+use Rattle.std.proofs.lemmas.List.{take_more, take_all, append-nil}
 use Rattle.std.proofs.lemmas.List.Elements.{filter_map-append}
 use Rattle.wb_syntax.specs.declared.item.Item.{Item}
 use Rattle.wb_syntax.specs.declared.item.PlainForm.{PlainForm}
@@ -24,6 +24,10 @@ pub each_more : {A B : Type 0} (R : A → B → Type 0) (xs : List A) (i : ℕ) 
     → i < length xs → x ≡ get_or xs i x → R x y → AddsEach R (take (i + 1) xs) old (mid ++ y ∷ [])
 each_more R xs i x y old mid (own, is, all) within same holds =
     (own ++ y ∷ [], ap (λ z. z ++ y ∷ []) is ∙ append_assoc old own (y ∷ []), zip_more R xs own i x y all within same holds)
+
+pub each_all : {A B : Type 0} (R : A → B → Type 0) (xs : List A) (i : ℕ) (old new : List B) → AddsEach R (take i xs) old new
+    → length xs ≤ i → AddsEach R xs old new
+each_all R xs i old new so_far ended = subst (λ z. AddsEach R z old new) (take_all i xs ended) so_far
 
 -- what two lists add, one after the other
 each_append : {X A B : Type 0} (h : X → Option A) (R : A → B → Type 0) (xs us : List X) (old mid new : List B)

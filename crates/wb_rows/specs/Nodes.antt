@@ -1,5 +1,5 @@
 -- Names in nodes and targets that are there, and what they are found as.
-use Rattle.std.specs.Prelude.{◌≡◌, ◌⊎◌, ◌++◌, ◌∷◌, [], ℕ, Bool, true, false, List, Some, All, Contains, filter, slice_get}
+use Rattle.std.specs.Prelude.{◌≡◌, ◌++◌, ℕ, Bool, List, Some, All, Contains, filter, slice_get}
 use Rattle.std.specs.List.{AllZip}
 use Rattle.wb_expressions.specs.declared.node.Node.TheVariants as n
 use Rattle.wb_resolved.specs.declared.equation.Equation.{Equation}

@@ -38,13 +38,27 @@ pub fn labels_of(
     ensures names { IfOk result (λ made. made.names ≡ map (λ c. c.label) children.now ++ (map (λ l. l.label) locals.now ++ map (λ q. local_label q.target) (local_equations (equations_at items.now places.now)))) }
 {
     let mut names = Index::new(alloc);
-    add_children(&mut names, children)?;
-    labels::add_locals(&mut names, locals)?;
-    add_all_written(&mut names, items, places)?;
+    add_labels(&mut names, children, locals, items, places)?;
     Ok(ProductionLabels {
         names,
         children: children.len(),
     })
+}
+
+// Adds the labels of these children and locals, and of the locals that the items at these places make.
+fn add_labels(
+    names: &mut Index,
+    children: &[Child],
+    locals: &[Local],
+    items: &[Item<Pattern>],
+    places: &[usize],
+) -> Result<(), AllocError>
+    requires { All (λ place. place < length items.now) places.now }
+    ensures { OnOk result (names.new ≡ names.old ++ (map (λ c. c.label) children.now ++ (map (λ l. l.label) locals.now ++ map (λ q. local_label q.target) (local_equations (equations_at items.now places.now))))) }
+{
+    add_children(names, children)?;
+    labels::add_locals(names, locals)?;
+    add_all_written(names, items, places)
 }
 
 // Adds the labels of the locals that the items at these places make.

@@ -2,7 +2,7 @@
 //!
 //! Their symbols are the numbers that they have, since terminals and nonterminals of the grammar come first.
 
-ghost use Rattle.std.specs.Prelude.{◌≡◌, ◌<◌, All, IfOk, IsSome};
+ghost use Rattle.std.specs.Prelude.{◌≡◌, ◌<◌, ◌++◌, All, IfOk, IsSome, OnOk, option_to_list};
 ghost use Rattle.wb_resolved.specs.Grammar.{symbol_of as symbol};
 ghost use Rattle.wb_rows.specs.Grammars as spec;
 ghost use Rattle.wb_rows.specs.Inner.Grammars.{AreSymbolsOf};
@@ -38,11 +38,19 @@ fn symbols_of(alloc: Global, children: &[Child]) -> Result<Vec<Symbol>, AllocErr
 {
     let mut symbols = Vec::new(alloc);
     'children: for child in children {
-        if let Some(symbol) = symbol_of(child.kind) {
-            push(&mut symbols, symbol)?;
-        }
+        add_symbol(child.kind, &mut symbols)?;
     }
     Ok(symbols)
+}
+
+// Adds the symbol that a child is, where it is one.
+fn add_symbol(kind: ChildKind, symbols: &mut Vec<Symbol>) -> Result<(), AllocError>
+    ensures { OnOk result (symbols.new.items ≡ symbols.old.items ++ option_to_list (symbol kind)) }
+{
+    match symbol_of(kind) {
+        Some(symbol) => push(symbols, symbol),
+        None => Ok(()),
+    }
 }
 
 // The symbol that a child of a concrete production is.

@@ -20,10 +20,17 @@ pub fn grammar_names_of(alloc: Global, items: &[Item<Pattern>]) -> Result<Index,
     ensures { IfOk result (λ names. names ≡ grammar_names items.now) }
 {
     let mut names = Index::new(alloc);
-    add_starts(items, &mut names)?;
-    add_extensibles(items, &mut names)?;
-    add_concretes(items, &mut names)?;
+    add_names(items, &mut names)?;
     Ok(names)
+}
+
+// Adds the names.
+fn add_names(items: &[Item<Pattern>], names: &mut Index) -> Result<(), AllocError>
+    ensures { OnOk result (names.new ≡ names.old ++ grammar_names items.now) }
+{
+    add_starts(items, names)?;
+    add_extensibles(items, names)?;
+    add_concretes(items, names)
 }
 
 // Adds the starts.

@@ -7,7 +7,7 @@ ghost use Rattle.std.specs.List.{AllZip};
 ghost use Rattle.wb_rows.specs.Moves.{KindIsWithin, ChildKindIsWithin, IsKindNow, IsChildKindNow, IsChildNow, NodeIsWithin, IsNodeNow};
 ghost use Rattle.wb_rows.specs.Moves.{IsEquationNow, IsLocalNow, IsForwardNow, EquationIsWithin, LocalIsWithin};
 
-use crate::node::copied;
+use crate::node::{built, called};
 use std::alloc::{AllocError, Global};
 use wb_base::{Kind, Sequence, push};
 use wb_resolved::{Child, ChildKind, Equation, Forward, Local, Node};
@@ -81,20 +81,11 @@ fn moved_node(alloc: Global, moves: &Moves, node: &Node) -> Result<Node, AllocEr
         Node::Build {
             production,
             children,
-        } => Ok(Node::Build {
-            production: moves.productions[*production],
-            children: copied(alloc, children.as_slice())?,
-        }),
+        } => built(alloc, moves.productions[*production], children.as_slice()),
         Node::Call {
             operation,
             arguments,
-        } => {
-            let arguments = copied(alloc, arguments.as_slice())?;
-            Ok(Node::Call {
-                operation: operation.copy()?,
-                arguments,
-            })
-        }
+        } => called(alloc, operation, arguments.as_slice()),
         Node::If {
             condition,
             holds,

@@ -4,7 +4,7 @@
 
 ghost use Rattle.std.specs.Prelude.{◌≡◌, All, Contains, IfOk};
 ghost use Rattle.std.specs.List.{AllZip};
-ghost use Rattle.wb_expressions.specs.declared.node.Node.TheVariants.{Build};
+ghost use Rattle.wb_expressions.specs.declared.node.Node.TheVariants.{Build, Call};
 ghost use Rattle.wb_rows.specs.Nodes.{NodeIsThere, IsAt, IsFoundNode};
 
 use crate::scope::{ProductionLabels, Scope, number_of, place_of};
@@ -63,14 +63,7 @@ fn written_node(
         Written::Call {
             operation,
             arguments,
-        } => {
-            let arguments = copied(alloc, arguments.as_slice())?;
-            let operation = operation.copy()?;
-            Ok(Node::Call {
-                operation,
-                arguments,
-            })
-        }
+        } => called(alloc, operation, arguments.as_slice()),
         Written::If {
             condition,
             holds,
@@ -91,13 +84,32 @@ fn attribute_of(scope: &Scope, attribute: &Bytes) -> usize
     number_of(&scope.attributes, attribute.as_slice())
 }
 
-// The node that builds with this production.
-fn built(alloc: Global, production: usize, children: &[usize]) -> Result<Node, AllocError>
+// The node that builds with this production. The only error is want of memory.
+pub(crate) fn built(
+    alloc: Global,
+    production: usize,
+    children: &[usize],
+) -> Result<Node, AllocError>
     ensures { IfOk result (λ node. node ≡ Build production children.now) }
 {
     Ok(Node::Build {
         production,
         children: copied(alloc, children)?,
+    })
+}
+
+// The node that calls this operation. The only error is want of memory.
+pub(crate) fn called(
+    alloc: Global,
+    operation: &Bytes,
+    arguments: &[usize],
+) -> Result<Node, AllocError>
+    ensures { IfOk result (λ node. node ≡ Call operation.now arguments.now) }
+{
+    let operation = operation.copy()?;
+    Ok(Node::Call {
+        operation,
+        arguments: copied(alloc, arguments)?,
     })
 }
 

@@ -7,7 +7,7 @@ ghost use Rattle.std.specs.List.{AllZip};
 ghost use Rattle.wb_syntax.specs.Names.{kind_names, needs_names};
 ghost use Rattle.wb_naming.specs.Declarations.{plain_of, plain_items};
 ghost use Rattle.wb_rows.specs.Nodes.{IsAt};
-ghost use Rattle.wb_rows.specs.Plains.{AddsPlains, FormIsThere, IsFoundAttribute, PlainIsThere};
+ghost use Rattle.wb_rows.specs.Plains.{AddsPlains, FormIsThere, IsFoundAttribute, IsFoundOccurrence, PlainIsThere};
 
 use crate::child::written_kind;
 use crate::scope::{Scope, number_of};
@@ -79,21 +79,10 @@ fn add_plain(
             attribute,
             nonterminal,
             needs,
-        } => {
-            let needs = match needs {
-                Some(names) => written_needs(alloc, scope, names.as_slice())?,
-                None => Sequence::from_vec(Vec::new(alloc)),
-            };
-            push(
-                &mut made.occurrences,
-                Occurrence {
-                    owner: scope.owner,
-                    attribute: number_of(&scope.attributes, attribute.as_slice()),
-                    nonterminal: number_of(&scope.nonterminals, nonterminal.as_slice()),
-                    needs,
-                },
-            )
-        }
+        } => push(
+            &mut made.occurrences,
+            occurrence(alloc, scope, attribute, nonterminal, needs)?,
+        ),
         PlainForm::Prefer { first, second } => push(
             &mut made.preferences,
             Preference {
@@ -121,6 +110,42 @@ fn attribute(
         direction,
         kind: written_kind(scope, kind),
     })
+}
+
+// The row of an occurrence.
+fn occurrence(
+    alloc: Global,
+    scope: &Scope,
+    attribute: &Bytes,
+    nonterminal: &Bytes,
+    needs: &Option<Sequence<Bytes>>,
+) -> Result<Occurrence, AllocError>
+    requires attribute_there { Contains scope.now.attributes attribute.now }
+    requires nonterminal_there { Contains scope.now.nonterminals nonterminal.now }
+    requires needs_there { All (Contains scope.now.attributes) (needs_names needs.now) }
+    ensures { IfOk result (IsFoundOccurrence scope.now (record { attribute = attribute.now; nonterminal = nonterminal.now; needs = needs.now })) }
+{
+    Ok(Occurrence {
+        owner: scope.owner,
+        attribute: number_of(&scope.attributes, attribute.as_slice()),
+        nonterminal: number_of(&scope.nonterminals, nonterminal.as_slice()),
+        needs: needs_of(alloc, scope, needs)?,
+    })
+}
+
+// The numbers of attributes in the flow type of an occurrence, none where it has no flow type.
+fn needs_of(
+    alloc: Global,
+    scope: &Scope,
+    needs: &Option<Sequence<Bytes>>,
+) -> Result<Sequence<usize>, AllocError>
+    requires { All (Contains scope.now.attributes) (needs_names needs.now) }
+    ensures { IfOk result (λ made. AllZip (IsAt scope.now.attributes) (needs_names needs.now) made) }
+{
+    match needs {
+        Some(names) => written_needs(alloc, scope, names.as_slice()),
+        None => Ok(Sequence::from_vec(Vec::new(alloc))),
+    }
 }
 
 /// The numbers of attributes in a flow type. The only error is want of memory.

@@ -3,7 +3,7 @@ use Rattle.std.proofs.lemmas.Option.{get_or_from_slice_get, slice_get-get_or}
 use Rattle.wb_resolved.specs.declared.terminal.Preference.{Preference}
 use Rattle.wb_rows.specs.Base.{IsPreferenceNow}
 use Rattle.wb_rows.specs.Plains.{AddsEach}
-use Rattle.wb_rows.proofs.PlainLemmas.{each_more}
+use Rattle.wb_rows.proofs.PlainLemmas.{each_more, each_all}
 use Rattle.wb_rows.proofs.base.add_preferences.Goals as goal
 
 pub loop-preference-preserved : goal.loop-preference-preserved
@@ -19,3 +19,9 @@ loop-preference-preserved c =
     (sym c.in_ok-push.ensures.ok)
     (each_more now c.args.preferences.now c.loop-preference.preference-index x c.moved_preference.result c.args.made.now.items
     c.loop-preference.made.items c.loop-preference.invariant c.loop-preference-test.true is c.moved_preference.ensures)
+
+pub returns : goal.returns
+returns c =
+    each_all (IsPreferenceNow c.args.moves.now) c.args.preferences.now c.loop-preference.preference-index c.args.made.now.items
+    c.loop-preference.made.items
+    c.loop-preference.invariant c.loop-preference-test.false

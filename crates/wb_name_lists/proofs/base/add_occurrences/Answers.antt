@@ -1,0 +1,20 @@
+use Rattle.wb_resolved.specs.declared.attributes.Occurrence.{Occurrence}
+use Rattle.wb_naming.specs.declared.declaration.Declaration.TheVariants as d
+use Rattle.wb_naming.specs.Declares.{attribute_name, nonterminal_name}
+use Rattle.wb_name_lists.proofs.ListLemmas.{map_next, map_all}
+use Rattle.wb_name_lists.proofs.base.add_occurrences.Goals as goal
+
+pub occurrences-preserved : goal.occurrences-preserved
+occurrences-preserved c =
+    map_next (λ (x : Occurrence). d.Occurrence (attribute_name c.args.base.now x.attribute)
+    (nonterminal_name c.args.base.now x.nonterminal))
+    c.args.occurrences.now c.occurrences.occurrence-index c.occurrence-item.result c.in_ok-occurrence_declaration.field-0
+    c.args.out.now.items c.occurrences.out.items
+    c.push.new.list.items c.occurrences.invariant
+    c.occurrences-test.true c.occurrence-item.is c.in_ok-occurrence_declaration.ensures c.in_ok-push.ensures.ok
+
+pub returns : goal.returns
+returns c =
+    map_all (λ (x : Occurrence). d.Occurrence (attribute_name c.args.base.now x.attribute) (nonterminal_name c.args.base.now x.nonterminal))
+    c.args.occurrences.now c.occurrences.occurrence-index c.args.out.now.items c.occurrences.out.items c.occurrences.invariant
+    c.occurrences-test.false

@@ -1,0 +1,21 @@
+use Rattle.std.proofs.Common.{ap, ◌∙◌}
+use Rattle.wb_resolved.specs.declared.terminal.Terminal.{Terminal}
+use Rattle.wb_naming.specs.declared.declaration.Declaration.TheVariants as d
+use Rattle.wb_naming.specs.Declares.{terminal_sort}
+use Rattle.wb_name_lists.proofs.ListLemmas.{map_next, map_all}
+use Rattle.wb_name_lists.proofs.base.add_terminals.Goals as goal
+
+pub terminals-preserved : goal.terminals-preserved
+terminals-preserved c =
+    map_next (λ (x : Terminal). d.Symbol x.name (terminal_sort x.kind))
+    c.args.terminals.now c.terminals.terminal-index c.terminal-item.result c.in_ok-symbol_of.field-0 c.args.out.now.items
+    c.terminals.out.items
+    c.push.new.list.items c.terminals.invariant
+    c.terminals-test.true c.terminal-item.is
+    (c.in_ok-symbol_of.ensures ∙ ap (λ z. d.Symbol c.terminal-item.result.name z) c.terminal_sort.ensures)
+    c.in_ok-push.ensures.ok
+
+pub returns : goal.returns
+returns c =
+    map_all (λ (x : Terminal). d.Symbol x.name (terminal_sort x.kind))
+    c.args.terminals.now c.terminals.terminal-index c.args.out.now.items c.terminals.out.items c.terminals.invariant c.terminals-test.false
