@@ -12,6 +12,7 @@ mod MadeRows
 mod BaseParts
 mod BodyLemmas
 mod EquationsThere
+mod Gathered
 mod ForwardsOnce
 mod KnownLabels
 mod OnceLemmas

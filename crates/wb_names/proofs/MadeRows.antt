@@ -18,12 +18,13 @@ use Rattle.wb_rows.specs.declared.scope.Scope.{Scope}
 use Rattle.wb_names.specs.Resolving.{file_scope}
 use Rattle.wb_names.specs.declared.ground.Ground.{Ground}
 use Rattle.wb_names.specs.declared.productions.Productions.{Productions}
+use Rattle.wb_names.specs.declared.rows.Counts.{Counts}
+use Rattle.wb_names.specs.declared.rows.Grouped.{Grouped}
 use Rattle.wb_names.specs.declared.rows.Rows.{Rows}
 use Rattle.wb_names.specs.declared.rows.Written.{Written}
-use Rattle.wb_names.specs.Inner.Ground.{IsGround}
+use Rattle.wb_names.specs.Inner.Joined.{AreGroupedRows, IsJoined, rows_with}
 use Rattle.wb_names.specs.Inner.Now.{AreGroupedBy, IsTerminalNow, IsNonterminalNow, IsProductionNow}
 use Rattle.wb_names.specs.Inner.Productions.{AreProductions}
-use Rattle.wb_names.specs.Inner.Rest.{AreRest}
 use Rattle.wb_names.specs.Inner.Value.{AreRows, AreWritten, IsGrammarFor, made_attribution, made_value, value_of}
 use Rattle.wb_names.proofs.GrammarReady.{plain_resolved}
 use Rattle.wb_names.proofs.RowsResolve.{rows_resolve}
@@ -35,36 +36,34 @@ joined : {X Y : Type 0} (P : X → Type 0) (R : X → Y → Type 0) (xs : List X
 joined P R xs count total rows all same_count same_rows is =
     subst (λ (z : ℕ). AreGroupedBy z P R xs rows) (sym same_count) (subst (AreGroupedBy total P R xs) (sym same_rows) is)
 
-pub written_is : (file : File) (s : Scope) (m : Moves) (ps : Productions) (written : Written) → AreProductions file s m ps
-    → written.concrete ≡ length ps.concrete.items → written.productions.items ≡ ps.concrete.items ++ ps.others.items
-    → AreRest file s m written.rest → AreWritten file s m written
-written_is file s m ps written is count rows rest = record {
-  productions = joined IsConcrete (IsProductionNow file s m) (sources file.base.attributes.productions (productions file.items))
-      written.concrete (length ps.concrete.items) written.productions.items (ps.concrete.items ++ ps.others.items) count rows is;
-  rest = rest;
-}
+pub grouped_is : (file : File) (s : Scope) (m : Moves) (ps : Productions) (grouped : Grouped) → AreProductions file s m ps
+    → grouped.concrete ≡ length ps.concrete.items → grouped.rows.items ≡ ps.concrete.items ++ ps.others.items
+    → AreGroupedRows file s m grouped
+grouped_is file s m ps grouped is count rows =
+    joined IsConcrete (IsProductionNow file s m) (sources file.base.attributes.productions (productions file.items)) grouped.concrete
+    (length ps.concrete.items) grouped.rows.items (ps.concrete.items ++ ps.others.items) count rows is
 
-pub rows_are : (file : File) (g : Ground) (rows : Rows) → IsGround file g → AreWritten file g.scope g.moves rows.written
-    → rows.scanned ≡ length g.terminals.scanned.items → rows.terminals.items ≡ g.terminals.scanned.items ++ g.terminals.layout.items
-    → rows.of_grammar ≡ length g.nonterminals.of_grammar.items
-    → rows.nonterminals.items ≡ g.nonterminals.of_grammar.items ++ g.nonterminals.others.items → AreRows file rows
-rows_are file g rows is written scanned terminals of_grammar symbols = record {
+pub rows_are : (file : File) (g : Ground) (counts : Counts) (written : Written) (rows : Rows) → IsJoined file g counts
+    → AreWritten file g.scope g.moves written → rows ≡ rows_with g counts written → AreRows file rows
+rows_are file g counts written rows is are same = subst (AreRows file) (sym same) (record {
   scope = g.scope;
   moves = g.moves;
-  numbers = is.numbers;
-  terminals = joined IsScanned (IsTerminalNow file) (sources file.base.terminals (lexicals file.items)) rows.scanned
-      (length g.terminals.scanned.items) rows.terminals.items (g.terminals.scanned.items ++ g.terminals.layout.items) scanned terminals
-      is.terminals;
+  numbers = is.before.numbers;
+  terminals = joined IsScanned (IsTerminalNow file) (sources file.base.terminals (lexicals file.items)) counts.scanned
+      (length is.terminals.scanned.items) g.terminals.scanned.items (is.terminals.scanned.items ++ is.terminals.layout.items)
+      is.has.scanned is.all.terminals is.before.terminals;
   nonterminals = joined (IsInGrammarOf file) (IsNonterminalNow file g.scope)
-      (sources file.base.attributes.nonterminals (nonterminals file.items)) rows.of_grammar (length g.nonterminals.of_grammar.items)
-      rows.nonterminals.items (g.nonterminals.of_grammar.items ++ g.nonterminals.others.items) of_grammar symbols is.nonterminals;
-  written = written;
-  terminal_names = subst (λ (z : List Terminal). g.scope.terminals ≡ map (λ (t : Terminal). t.name) z) (sym terminals) is.terminal_names;
-  nonterminal_names = subst (λ (z : List Nonterminal). g.scope.nonterminals ≡ map (λ (x : Nonterminal). x.name) z) (sym symbols)
-      is.nonterminal_names;
-  attribute_names = is.attribute_names;
-  production_names = is.production_names;
-}
+      (sources file.base.attributes.nonterminals (nonterminals file.items)) counts.of_grammar
+      (length is.nonterminals.of_grammar.items) g.nonterminals.of_grammar.items
+      (is.nonterminals.of_grammar.items ++ is.nonterminals.others.items) is.has.of_grammar is.all.nonterminals is.before.nonterminals;
+  written = are;
+  terminal_names = subst (λ (z : List Terminal). g.scope.terminals ≡ map (λ (t : Terminal). t.name) z) (sym is.all.terminals)
+      is.before.terminal_names;
+  nonterminal_names = subst (λ (z : List Nonterminal). g.scope.nonterminals ≡ map (λ (x : Nonterminal). x.name) z)
+      (sym is.all.nonterminals) is.before.nonterminal_names;
+  attribute_names = is.before.attribute_names;
+  production_names = is.before.production_names;
+})
 
 module _ (file : File) (given : IsFile file) (hold : NamesHold (file_scope file)) (rows : Rows) (are : AreRows file rows)
     (extensions : List (List ℕ)) (signatures : List Signature) (same_extensions : extensions ≡ file.extensions)

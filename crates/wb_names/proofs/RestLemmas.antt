@@ -40,7 +40,7 @@ use Rattle.wb_rows.proofs.UsesThere.{form_there}
 use Rattle.wb_rows.proofs.ZipLemmas.{zip_append}
 use Rattle.wb_names.specs.Resolving.{file_scope}
 use Rattle.wb_names.specs.Inner.Ground.{AreNumbers}
-use Rattle.wb_names.specs.Inner.Rest.{AreBasePlains, ArePlains, HasTables}
+use Rattle.wb_names.specs.Inner.Rest.{AddsBase, AreBasePlains, ArePlains, HasTables}
 
 -- what is added to nothing, and what is added after rows of a base
 pub each_fresh : {A B : Type 0} (R : A → B → Type 0) (xs : List A) (old new : List B) → old ≡ [] → AddsEach R xs old new → AllZip R xs new
@@ -50,6 +50,18 @@ pub each_after : {A B C : Type 0} (M : A → C → Type 0) (W : B → C → Type
     → AddsEach W us old new → AllZip (IsFrom M W) (sources xs us) new
 each_after M W xs us old new all (own, is, more) = subst (AllZip (IsFrom M W) (sources xs us)) (sym is) (zip_sources M W xs us old own all
     more)
+
+-- the rows of a base, which are added to nothing
+pub base_alone : (base : ResolvedParts) (m : Moves) (old new : Plains) → old.attributes.items ≡ [] → old.occurrences.items ≡ []
+    → old.preferences.items ≡ [] → AddsBase base m old new → AreBasePlains base m new
+base_alone base m old new no_attributes no_occurrences no_preferences adds = record {
+  attributes = each_fresh (IsAttributeNow m) base.attributes.attributes old.attributes.items new.attributes.items no_attributes
+      adds.attributes;
+  occurrences = each_fresh (IsOccurrenceNow m) base.attributes.occurrences old.occurrences.items new.occurrences.items no_occurrences
+      adds.occurrences;
+  preferences = each_fresh (IsPreferenceNow m) base.preferences old.preferences.items new.preferences.items no_preferences
+      adds.preferences;
+}
 
 -- the next item, where each item adds what a list says
 pub each_item : {X A B : Type 0} (h : X → List A) (R : A → B → Type 0) (items : List X) (at : ℕ) (item : X) (old mid new : List B)

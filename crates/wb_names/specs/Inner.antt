@@ -6,6 +6,8 @@ pub mod Productions
 pub mod Wrong
 pub mod Rest
 pub mod Value
+pub mod Joined
+pub mod Copies
 pub mod Writers
 pub mod Bodies
 pub mod Rows

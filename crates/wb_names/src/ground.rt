@@ -2,7 +2,7 @@
 //!
 //! Terminals and nonterminals have their rows here. Productions have their names alone, since what is written in them reads all of these.
 
-ghost use Rattle.std.specs.Prelude.{◌≡◌, [], IfOk, OnOk};
+ghost use Rattle.std.specs.Prelude.{◌≡◌, [], OnOk};
 ghost use Rattle.wb_naming.specs.Hold.{NamesHold};
 ghost use Rattle.wb_numbering.specs.Given.{IsFile};
 ghost use Rattle.wb_names.specs.Resolving.{file_scope};
@@ -31,19 +31,8 @@ pub(crate) struct Ground {
     pub(crate) moves: Moves,
 }
 
-// The ground of a file. The only error is want of memory.
-pub(crate) fn ground_of(alloc: Global, file: &Lent) -> Result<Ground, AllocError>
-    requires file { IsFile (lent_file file.now) }
-    requires hold { NamesHold (file_scope (lent_file file.now)) }
-    ensures { IfOk result (IsGround (lent_file file.now)) }
-{
-    let mut ground = nothing(alloc, file.owner);
-    fill(alloc, file, &mut ground)?;
-    Ok(ground)
-}
-
 // No rows and no names.
-fn nothing(alloc: Global, owner: usize) -> Ground
+pub(crate) fn no_ground(alloc: Global, owner: usize) -> Ground
     ensures { IsEmpty owner result }
 {
     Ground {
@@ -77,8 +66,8 @@ fn no_names(alloc: Global, owner: usize) -> Scope
     }
 }
 
-// Makes the rows, the names, and then the numbers.
-fn fill(alloc: Global, file: &Lent, ground: &mut Ground) -> Result<(), AllocError>
+// Makes the rows, the names, and then the numbers. The only error is want of memory.
+pub(crate) fn fill(alloc: Global, file: &Lent, ground: &mut Ground) -> Result<(), AllocError>
     requires file { IsFile (lent_file file.now) }
     requires hold { NamesHold (file_scope (lent_file file.now)) }
     requires nothing { IsEmpty file.now.owner ground.old }

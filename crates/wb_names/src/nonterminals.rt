@@ -54,8 +54,26 @@ pub(crate) fn add_nonterminals(
     ensures { OnOk result (spec.AddsNonterminals (lent_file file.now) scope.now.attributes made.old made.new) }
 {
     let grammar = grammar_names_of(alloc, file.items)?;
-    add_base(alloc, file, &grammar, made)?;
-    add_own(alloc, file, scope, &grammar, made)
+    add_both(alloc, file, scope, &grammar, made)
+}
+
+// Adds both, where these are the names of the grammar.
+fn add_both(
+    alloc: Global,
+    file: &Lent,
+    scope: &Scope,
+    grammar: &Index,
+    made: &mut Nonterminals,
+) -> Result<(), AllocError>
+    requires file { IsFile (lent_file file.now) }
+    requires hold { NamesHold (file_scope (lent_file file.now)) }
+    requires owner { scope.now.owner ≡ file.now.owner }
+    requires attributes { scope.now.attributes ≡ spec.attribute_names (lent_file file.now) }
+    requires grammar { grammar.now ≡ grammar_names file.now.items.now }
+    ensures { OnOk result (spec.AddsNonterminals (lent_file file.now) scope.now.attributes made.old made.new) }
+{
+    add_base(alloc, file, grammar, made)?;
+    add_own(alloc, file, scope, grammar, made)
 }
 
 // Adds those of the base.

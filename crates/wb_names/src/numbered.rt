@@ -11,13 +11,14 @@ ghost use Rattle.wb_numbering.specs.Resolves.{Resolves};
 ghost use Rattle.wb_names.specs.Resolving.{file_scope};
 ghost use Rattle.wb_names.specs.Inner.Lent.{lent_file};
 ghost use Rattle.wb_names.specs.Inner.Rest.{BeginsAlone};
+ghost use Rattle.wb_names.specs.Inner.Copies.{AreCopies, AreMade, AreTitles, value_with};
 ghost use Rattle.wb_names.specs.Inner.Value.{AreRows, HasGrammar, IsGrammarFor, made_attribution, made_value};
 
 use crate::lent::Lent;
 use crate::rows::{Rows, rows_of};
 use std::alloc::{AllocError, Global};
 use wb_base::{Bytes, Grammar, Sequence, push};
-use wb_resolved::{Attribution, AttributionParts, ResolvedParts};
+use wb_resolved::{Attribution, AttributionParts, Preference, ResolvedParts, Terminal};
 use wb_rows::grammar::grammar_of;
 use wb_rows::signatures::signatures_of;
 use wb_values::Signatures;
@@ -46,19 +47,52 @@ struct Copies {
 // Those of a file and its rows. The only error is want of memory.
 fn copies_of(alloc: Global, file: &Lent, rows: &Rows) -> Result<Copies, AllocError>
     requires grammar { IfSome rows.now.written.rest.start (HasGrammar rows.now) }
-    ensures grammar { IfOk result (λ copies. IsGrammarFor rows.now copies.grammar) }
-    ensures host { IfOk result (λ copies. copies.host ≡ file.now.base.now.host) }
-    ensures extensions { IfOk result (λ copies. copies.extensions ≡ file.now.extensions.now) }
-    ensures signatures { IfOk result (λ copies. copies.signatures ≡ map (signature_of file.now.extensions.now) rows.now.written.productions.items) }
+    ensures { IfOk result (AreCopies (lent_file file.now) rows.now) }
 {
-    let host = file.base.host.copy()?;
-    let extensions = names_of(alloc, file.extensions)?;
-    let signatures = signatures_of(alloc, file.extensions, &rows.written.productions)?;
+    let titles = titles_of(alloc, file)?;
+    let made = made_of(alloc, file, rows)?;
     Ok(Copies {
+        grammar: made.grammar,
+        host: titles.host,
+        extensions: titles.extensions,
+        signatures: made.signatures,
+    })
+}
+
+// What is made of rows alone.
+#[derive(Drop)]
+struct Made {
+    grammar: Option<Grammar>,
+    signatures: Signatures,
+}
+
+// The grammar and the signatures of rows.
+fn made_of(alloc: Global, file: &Lent, rows: &Rows) -> Result<Made, AllocError>
+    requires { IfSome rows.now.written.rest.start (HasGrammar rows.now) }
+    ensures { IfOk result (AreMade (lent_file file.now) rows.now) }
+{
+    let signatures = signatures_of(alloc, file.extensions, &rows.written.productions)?;
+    Ok(Made {
         grammar: grammar_for(alloc, rows)?,
-        host,
-        extensions,
         signatures,
+    })
+}
+
+// The names of a host and of its extensions.
+#[derive(Drop)]
+struct Titles {
+    host: Bytes,
+    extensions: Sequence<Bytes>,
+}
+
+// Those of a file.
+fn titles_of(alloc: Global, file: &Lent) -> Result<Titles, AllocError>
+    ensures { IfOk result (AreTitles (lent_file file.now)) }
+{
+    let extensions = names_of(alloc, file.extensions)?;
+    Ok(Titles {
+        host: file.base.host.copy()?,
+        extensions,
     })
 }
 
@@ -95,12 +129,37 @@ fn value(alloc: Global, rows: Rows, copies: Copies) -> Result<ResolvedParts, All
     requires { IsAttribution (made_attribution rows copies.extensions copies.signatures) }
     ensures { IfOk result (λ r. r ≡ made_value rows copies.host copies.extensions copies.signatures copies.grammar) }
 {
+    let halves = halves_of(rows, copies);
+    let attributes = Attribution::new(alloc, halves.attribution)?;
+    Ok(whole(halves.others, attributes))
+}
+
+// The parts of a value's attribution, and the others.
+#[derive(Drop)]
+struct Halves {
+    attribution: AttributionParts,
+    others: Others,
+}
+
+// What a value has beside its attribution.
+#[derive(Drop)]
+struct Others {
+    host: Bytes,
+    grammar: Option<Grammar>,
+    terminals: Sequence<Terminal>,
+    preferences: Sequence<Preference>,
+    extensible: Sequence<usize>,
+}
+
+// Both halves of the rows' value.
+fn halves_of(rows: Rows, copies: Copies) -> Halves
+    ensures { value_with result.others result.attribution ≡ made_value rows copies.host copies.extensions copies.signatures copies.grammar }
+{
     let written = rows.written;
     let rest = written.rest;
     let plains = rest.plains;
-    let attributes = Attribution::new(
-        alloc,
-        AttributionParts {
+    Halves {
+        attribution: AttributionParts {
             extensions: copies.extensions,
             nonterminals: Sequence::from_vec(rows.nonterminals),
             attributes: Sequence::from_vec(plains.attributes),
@@ -108,13 +167,26 @@ fn value(alloc: Global, rows: Rows, copies: Copies) -> Result<ResolvedParts, All
             productions: Sequence::from_vec(written.productions),
             signatures: copies.signatures,
         },
-    )?;
-    Ok(ResolvedParts {
-        host: copies.host,
-        grammar: copies.grammar,
-        terminals: Sequence::from_vec(rows.terminals),
-        preferences: Sequence::from_vec(plains.preferences),
-        extensible: Sequence::from_vec(rest.extensible),
+        others: Others {
+            host: copies.host,
+            grammar: copies.grammar,
+            terminals: Sequence::from_vec(rows.terminals),
+            preferences: Sequence::from_vec(plains.preferences),
+            extensible: Sequence::from_vec(rest.extensible),
+        },
+    }
+}
+
+// The value that has these attributes.
+fn whole(others: Others, attributes: Attribution) -> ResolvedParts
+    ensures { result ≡ value_with others attributes }
+{
+    ResolvedParts {
+        host: others.host,
+        grammar: others.grammar,
+        terminals: others.terminals,
+        preferences: others.preferences,
+        extensible: others.extensible,
         attributes,
-    })
+    }
 }

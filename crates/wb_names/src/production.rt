@@ -11,13 +11,13 @@ ghost use Rattle.wb_numbering.specs.Numbering.{Numbering};
 ghost use Rattle.wb_numbering.specs.Rows.{production_role};
 ghost use Rattle.wb_rows.specs.Moves.{IsChildNow, IsForwardNow, NodeIsWithin};
 ghost use Rattle.wb_rows.specs.Scope.{IsFoundChild};
-ghost use Rattle.wb_names.specs.Inner.Bodies.{IsContext, IsDeclaredBody, IsExtendedBody, IsWritten, KnowsLabels, file_of, labels_with};
+ghost use Rattle.wb_names.specs.Inner.Bodies.{IsContext, IsDeclaredBody, IsExtendedBody, IsMovedHead, IsWritten, KnowsLabels, file_of, labels_with};
 ghost use Rattle.wb_names.specs.Inner.Now.{IsDeclaredNow, IsExtendedNow};
 
 use crate::lent::Lent;
 use crate::writers::Writers;
 use std::alloc::{AllocError, Global};
-use wb_base::Sequence;
+use wb_base::{Bytes, Sequence};
 use wb_resolved::{Child, Forward, Production, ProductionRole};
 use wb_rows::body::{Body, add_all, labels_of};
 use wb_rows::child::written_children;
@@ -43,35 +43,52 @@ pub(crate) fn extended(
     requires there { Contains context.now.file.base.now.attributes.productions production.now }
     ensures { IfOk result (IsExtendedNow (file_of context.now) context.now.scope.now context.now.moves.now production.now) }
 {
-    let children = moved_children(alloc, context.moves, production.children.as_slice())?;
-    extended_row(alloc, context, production, children)
+    let head = moved_head(alloc, context, production)?;
+    let body = extended_body(alloc, context, production, head.children.as_slice())?;
+    Ok(extended_row(context, production, head, body))
 }
 
-// The row with these children.
-fn extended_row(
-    alloc: Global,
-    context: &Context,
-    production: &Production,
+// The parts of a row on which items write nothing.
+#[derive(Drop)]
+struct Head {
+    name: Bytes,
     children: Sequence<Child>,
-) -> Result<Production, AllocError>
+    forward: Option<Forward>,
+}
+
+// Those of a base's production.
+fn moved_head(alloc: Global, context: &Context, production: &Production) -> Result<Head, AllocError>
     requires context { IsContext context.now }
     requires there { Contains context.now.file.base.now.attributes.productions production.now }
-    requires children { AllZip (IsChildNow context.now.moves.now) production.now.children children }
-    ensures { IfOk result (IsExtendedNow (file_of context.now) context.now.scope.now context.now.moves.now production.now) }
+    ensures { IfOk result (IsMovedHead context.now.moves.now production.now) }
 {
-    let body = extended_body(alloc, context, production, children.as_slice())?;
-    let name = production.name.copy()?;
     let forward = moved_forwards(alloc, context.moves, &production.forward)?;
-    Ok(Production {
-        name,
+    let children = moved_children(alloc, context.moves, production.children.as_slice())?;
+    Ok(Head {
+        name: production.name.copy()?,
+        children,
+        forward,
+    })
+}
+
+// The row of these parts.
+fn extended_row(context: &Context, production: &Production, head: Head, body: Body) -> Production
+    requires context { IsContext context.now }
+    requires there { Contains context.now.file.base.now.attributes.productions production.now }
+    requires head { IsMovedHead context.now.moves.now production.now head }
+    requires body { IsExtendedBody (file_of context.now) context.now.scope.now context.now.moves.now production.now head.children body }
+    ensures { IsExtendedNow (file_of context.now) context.now.scope.now context.now.moves.now production.now result }
+{
+    Production {
+        name: head.name,
         owner: production.owner,
         role: production.role,
         left: context.moves.nonterminals[production.left],
-        children,
+        children: head.children,
         locals: Sequence::from_vec(body.locals),
-        forward,
+        forward: head.forward,
         equations: Sequence::from_vec(body.equations),
-    })
+    }
 }
 
 // What a production forwards to, where it does.

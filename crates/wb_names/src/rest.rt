@@ -18,7 +18,7 @@ ghost use Rattle.wb_rows.specs.Plains.{AddsEach};
 ghost use Rattle.wb_names.specs.Resolving.{file_scope};
 ghost use Rattle.wb_names.specs.Inner.Ground.{AreNumbers};
 ghost use Rattle.wb_names.specs.Inner.Lent.{lent_file};
-ghost use Rattle.wb_names.specs.Inner.Rest.{ArePlains, AreBasePlains, AreRest, BeginsAlone, HasTables, IsNumberNow};
+ghost use Rattle.wb_names.specs.Inner.Rest.{AddsBase, ArePlains, AreBasePlains, AreRest, BeginsAlone, HasTables, IsNumberNow};
 
 use crate::lent::Lent;
 use std::alloc::{AllocError, Global};
@@ -83,6 +83,21 @@ fn base_plains(alloc: Global, base: &ResolvedParts, moves: &Moves) -> Result<Pla
         occurrences: Vec::new(alloc),
         preferences: Vec::new(alloc),
     };
+    add_base(alloc, base, moves, &mut made)?;
+    Ok(made)
+}
+
+// Adds those of a base.
+fn add_base(
+    alloc: Global,
+    base: &ResolvedParts,
+    moves: &Moves,
+    made: &mut Plains,
+) -> Result<(), AllocError>
+    requires base { IsResolved base.now }
+    requires tables { HasTables base.now moves.now }
+    ensures { OnOk result (AddsBase base.now moves.now made.old made.new) }
+{
     let parts = base.attributes.parts();
     add_attributes(moves, parts.attributes.as_slice(), &mut made.attributes)?;
     add_occurrences(
@@ -91,8 +106,7 @@ fn base_plains(alloc: Global, base: &ResolvedParts, moves: &Moves) -> Result<Pla
         parts.occurrences.as_slice(),
         &mut made.occurrences,
     )?;
-    add_preferences(moves, base.preferences.as_slice(), &mut made.preferences)?;
-    Ok(made)
+    add_preferences(moves, base.preferences.as_slice(), &mut made.preferences)
 }
 
 // The numbers of extensible nonterminals.

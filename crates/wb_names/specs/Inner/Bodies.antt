@@ -1,5 +1,5 @@
 -- What is written on a production, after what is there.
-use Rattle.std.specs.Prelude.{◌≡◌, ◌++◌, ℕ, List, [], Contains, length, map}
+use Rattle.std.specs.Prelude.{◌≡◌, ◌++◌, ℕ, List, [], Contains, length, map, option_to_list}
 use Rattle.std.specs.List.{AllZip}
 use Rattle.wb_resolved.specs.declared.production.Child.{Child}
 use Rattle.wb_resolved.specs.declared.production.Local.{Local}
@@ -18,8 +18,9 @@ use Rattle.wb_rows.specs.declared.moves.Moves.{Moves}
 use Rattle.wb_rows.specs.declared.scope.Scope.{Scope}
 use Rattle.wb_rows.specs.declared.scope.ProductionLabels.{ProductionLabels}
 use Rattle.wb_rows.specs.Blocks.{AddsBody}
-use Rattle.wb_rows.specs.Moves.{IsLocalNow, IsEquationNow}
+use Rattle.wb_rows.specs.Moves.{IsChildNow, IsLocalNow, IsForwardNow, IsEquationNow}
 use Rattle.wb_names.specs.declared.production.Context.{Context}
+use Rattle.wb_names.specs.declared.production.Head.{Head}
 use Rattle.wb_names.specs.Inner.Ground.{AreNumbers}
 use Rattle.wb_names.specs.Inner.Lent.{lent_file}
 use Rattle.wb_names.specs.Inner.Writers.{AreWriters}
@@ -53,6 +54,12 @@ pub record IsWritten (s : Scope) (children : List Child) (equations : List writt
   pub names : labels.names ≡ labels_with children old.locals.items equations
   pub count : labels.children ≡ length children
   pub adds : AddsBody s labels equations old new
+
+-- what a base's production has in new numbers, but for what is written on it
+pub record IsMovedHead (m : Moves) (p : Production) (head : Head) : Type 0 where
+  pub name : head.name ≡ p.name
+  pub children : AllZip (IsChildNow m) p.children head.children
+  pub forward : AllZip (IsForwardNow m) (option_to_list p.forward) (option_to_list head.forward)
 
 -- what a base's production has, in new numbers, and what a file writes on it
 pub record IsExtendedBody (file : File) (s : Scope) (m : Moves) (p : Production) (children : List Child) (body : Body) : Type 0 where

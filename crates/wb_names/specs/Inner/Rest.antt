@@ -12,7 +12,7 @@ use Rattle.wb_rows.specs.declared.scope.Scope.{Scope}
 use Rattle.wb_rows.specs.Base.{IsAttributeNow, IsOccurrenceNow, IsPreferenceNow}
 use Rattle.wb_rows.specs.Moves.{IsNow}
 use Rattle.wb_rows.specs.Nodes.{IsAt}
-use Rattle.wb_rows.specs.Plains.{IsFoundAttribute, IsFoundOccurrence, IsFoundPreference}
+use Rattle.wb_rows.specs.Plains.{AddsEach, IsFoundAttribute, IsFoundOccurrence, IsFoundPreference}
 use Rattle.wb_names.specs.declared.rest.Rest.{Rest}
 
 -- a host's own file comes on top of no grammar, and so of no start
@@ -28,6 +28,12 @@ pub record HasTables (base : ResolvedParts) (m : Moves) : Type 0 where
 -- the number of a nonterminal of the base, or of one by its name
 abbrev pub IsNumberNow : Scope → Moves → ℕ ⊎ List ℕ → ℕ → Type 0
 IsNumberNow s m = IsFrom (IsNow m.nonterminals.items) (IsAt s.nonterminals)
+
+-- the rows of the base are added
+pub record AddsBase (base : ResolvedParts) (m : Moves) (old new : Plains) : Type 0 where
+  pub attributes : AddsEach (IsAttributeNow m) base.attributes.attributes old.attributes.items new.attributes.items
+  pub occurrences : AddsEach (IsOccurrenceNow m) base.attributes.occurrences old.occurrences.items new.occurrences.items
+  pub preferences : AddsEach (IsPreferenceNow m) base.preferences old.preferences.items new.preferences.items
 
 -- the rows of the base
 pub record AreBasePlains (base : ResolvedParts) (m : Moves) (plains : Plains) : Type 0 where

@@ -5,6 +5,13 @@ use Rattle.wb_names.proofs.BodyLemmas.{labels_by_places, written_body}
 use Rattle.wb_names.proofs.EquationsThere.{all_there}
 use Rattle.wb_names.proofs.production.add_written.Goals as goal
 
+pub places_of-places-requires : goal.places_of-places-requires
+places_of-places-requires c = c.requires.context.writers.len
+
+pub labels_of-requires : goal.labels_of-requires
+labels_of-requires c =
+    let at = c.places_of-places.ensures c.args.context.now.file.items.now c.requires.context.writers in at.within
+
 pub add_all-requires : goal.add_all-requires
 add_all-requires c =
     let context = c.args.context.now in

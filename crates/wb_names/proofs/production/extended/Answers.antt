@@ -1,13 +1,17 @@
-use Rattle.std.proofs.Common.{All, sym, subst}
+use Rattle.std.proofs.Common.{List, subst, sym}
+use Rattle.std.specs.List.{AllZip}
 use Rattle.wb_resolved.specs.declared.production.Child.{Child}
-use Rattle.wb_rows.specs.Moves.{ChildKindIsWithin}
-use Rattle.wb_names.specs.Inner.Bodies.{file_of}
-use Rattle.wb_names.proofs.BaseParts.{children_within}
+use Rattle.wb_rows.specs.Moves.{IsChildNow}
+use Rattle.wb_names.specs.Inner.Bodies.{IsExtendedBody, file_of}
 use Rattle.wb_names.proofs.production.extended.Goals as goal
 
-pub moved_children-requires : goal.moved_children-requires
-moved_children-requires c =
+pub extended_body-requires-clause-children : goal.extended_body-requires-clause-children
+extended_body-requires-clause-children c =
+    subst (AllZip (IsChildNow c.args.context.now.moves.now) c.args.production.now.children) (sym c.as_slice.ensures)
+    c.in_ok-head.ensures.children
+
+pub extended_row-requires-clause-body : goal.extended_row-requires-clause-body
+extended_row-requires-clause-body c =
     let context = c.args.context.now in
-    subst (All (λ (z : Child). ChildKindIsWithin context.moves.now z.kind)) (sym c.as_slice.ensures)
-    (children_within (file_of context) context.scope.now context.moves.now c.requires.context.numbers.tables c.requires.context.file.base
-    c.args.production.now c.requires.there)
+    subst (λ (z : List Child). IsExtendedBody (file_of context) context.scope.now context.moves.now c.args.production.now z
+    c.in_ok-body.body) c.as_slice.ensures c.in_ok-body.ensures

@@ -4,11 +4,18 @@ use Rattle.wb_resolved.specs.declared.equation.Equation.{Equation}
 use Rattle.wb_resolved.specs.declared.production.Local.{Local}
 use Rattle.wb_numbering.specs.Files.{equations_on}
 use Rattle.wb_rows.specs.declared.body.Body.{Body}
-use Rattle.wb_rows.specs.Moves.{EquationIsWithin, IsEquationNow, IsLocalNow}
+use Rattle.wb_rows.specs.Moves.{EquationIsWithin, IsEquationNow, IsLocalNow, LocalIsWithin}
 use Rattle.wb_names.specs.Inner.Bodies.{IsWritten, KnowsLabels, file_of, labels_with}
-use Rattle.wb_names.proofs.BaseParts.{equations_within}
+use Rattle.wb_names.proofs.BaseParts.{equations_within, locals_within}
 use Rattle.wb_names.proofs.KnownLabels.{base_known}
 use Rattle.wb_names.proofs.production.extended_body.Goals as goal
+
+pub moved_locals-requires : goal.moved_locals-requires
+moved_locals-requires c =
+    let context = c.args.context.now in
+    subst (All (LocalIsWithin context.moves.now)) (sym c.as_slice.ensures)
+    (locals_within (file_of context) context.scope.now context.moves.now c.requires.context.numbers.tables c.requires.context.file.base
+    c.args.production.now c.requires.there)
 
 pub moved_equations-requires : goal.moved_equations-requires
 moved_equations-requires c =

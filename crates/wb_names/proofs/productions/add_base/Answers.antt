@@ -1,11 +1,28 @@
-use Rattle.std.proofs.Common.{◌≡◌, ◌<◌, ◌∙◌, List, ap, get_or, length, subst}
+use Rattle.std.proofs.Common.{◌≡◌, ◌≤◌, ◌<◌, ◌∙◌, Contains, List, ap, get_or, length, refl, subst}
+use Rattle.std.proofs.lemmas.List.{take_all}
+use Rattle.wb_lemmas.proofs.Members.{contains_at}
+use Rattle.wb_lemmas.proofs.Places.{read_at}
 use Rattle.wb_resolved.specs.declared.attribution.AttributionParts.{AttributionParts}
 use Rattle.wb_resolved.specs.declared.production.Production.{Production}
 use Rattle.wb_names.specs.Inner.Bodies.{file_of}
 use Rattle.wb_names.specs.Inner.Now.{IsExtendedNow}
-use Rattle.wb_names.specs.Inner.Rows.{has_concrete, is_concrete}
-use Rattle.wb_names.proofs.ProductionsGrouped.{one_added}
+use Rattle.wb_names.specs.Inner.Rows.{AddsProductions, has_concrete, is_concrete}
+use Rattle.wb_names.proofs.ProductionsGrouped.{nothing_added, one_added}
 use Rattle.wb_names.proofs.productions.add_base.Goals as goal
+
+pub extended-requires-clause-there : goal.extended-requires-clause-there
+extended-requires-clause-there c =
+    let rows = c.as_slice-productions.result.now in
+    let i = c.loop-production.production-index in
+    let x = c.production-item.result in
+    subst (λ (z : List Production). Contains z x)
+    (c.as_slice-productions.ensures ∙ ap (λ (a : AttributionParts). a.productions) c.parts.ensures.parts)
+    (contains_at rows x i (read_at rows rows i x refl c.loop-production-test.true c.production-item.is))
+
+pub loop-production-init : goal.loop-production-init
+loop-production-init c =
+    let context = c.args.context.now in
+    nothing_added has_concrete (IsExtendedNow (file_of context) context.scope.now context.moves.now) c.args.made.now
 
 pub loop-production-preserved : goal.loop-production-preserved
 loop-production-preserved c =
@@ -20,3 +37,14 @@ loop-production-preserved c =
     let holds = c.in_ok-row.ensures in
     one_added has_concrete (IsExtendedNow (file_of context) context.scope.now context.moves.now) all i x c.in_ok-row.row c.args.made.now
     c.loop-production.made c.add.new.made c.loop-production.invariant within is (ap is_concrete holds.role) holds c.in_ok-add.ensures
+
+pub returns : goal.returns
+returns c =
+    let context = c.args.context.now in
+    let all = context.file.base.now.attributes.productions in
+    let i = c.loop-production.production-index in
+    let R = IsExtendedNow (file_of context) context.scope.now context.moves.now in
+    let same : c.as_slice-productions.result.now ≡ all =
+    c.as_slice-productions.ensures ∙ ap (λ (a : AttributionParts). a.productions) c.parts.ensures.parts in
+    subst (λ (z : List Production). AddsProductions has_concrete R z c.args.made.now c.loop-production.made)
+    (take_all i all (subst (λ (z : List Production). length z ≤ i) same c.loop-production-test.false)) c.loop-production.invariant

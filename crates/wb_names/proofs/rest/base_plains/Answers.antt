@@ -1,25 +1,9 @@
-use Rattle.std.proofs.Common.{◌<◌, All, length, ap, sym, subst, ◌∙◌}
-use Rattle.wb_resolved.specs.declared.attributes.Attribute.{Attribute}
-use Rattle.wb_resolved.specs.declared.attributes.Occurrence.{Occurrence}
-use Rattle.wb_resolved.specs.declared.attribution.AttributionParts.{AttributionParts}
-use Rattle.wb_rows.specs.Base.{PreferenceIsWithin}
-use Rattle.wb_rows.specs.Moves.{KindIsWithin}
-use Rattle.wb_names.proofs.RestLemmas.{attributes_within, occurrences_within, preferences_within}
+use Rattle.wb_rows.specs.declared.plains.Plains.{Plains}
+use Rattle.wb_names.proofs.RestLemmas.{base_alone}
 use Rattle.wb_names.proofs.rest.base_plains.Goals as goal
 
-pub add_attributes-requires : goal.add_attributes-requires
-add_attributes-requires c =
-    subst (All (λ (a : Attribute). KindIsWithin c.args.moves.now a.kind))
-    (sym (c.as_slice.ensures ∙ ap (λ (z : AttributionParts). z.attributes) c.parts-parts.ensures.parts))
-    (attributes_within c.args.base.now c.args.moves.now c.requires.base c.requires.tables)
-
-pub add_occurrences-requires : goal.add_occurrences-requires
-add_occurrences-requires c =
-    subst (All (λ (o : Occurrence). o.nonterminal < length c.args.moves.now.nonterminals.items))
-    (sym (c.as_slice-2.ensures ∙ ap (λ (z : AttributionParts). z.occurrences) c.parts-parts.ensures.parts))
-    (occurrences_within c.args.base.now c.args.moves.now c.requires.base c.requires.tables)
-
-pub add_preferences-requires : goal.add_preferences-requires
-add_preferences-requires c =
-    subst (All (PreferenceIsWithin c.args.moves.now)) (sym c.as_slice-3.ensures)
-    (preferences_within c.args.base.now c.args.moves.now c.requires.base c.requires.tables)
+pub returns : goal.returns
+returns c =
+    let none : Plains = record { attributes = c.new.result; occurrences = c.new-2.result; preferences = c.new-3.result } in
+    base_alone c.args.base.now c.args.moves.now none c.add_base.new.made c.new.ensures.items c.new-2.ensures.items c.new-3.ensures.items
+    c.in_ok-add_base.ensures

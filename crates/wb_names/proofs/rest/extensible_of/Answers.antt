@@ -1,12 +1,19 @@
-use Rattle.std.proofs.Common.{List, ℕ, subst}
+use Rattle.std.proofs.Common.{◌<◌, List, ℕ, All, length, subst, sym}
 use Rattle.std.specs.List.{AllZip}
 use Rattle.wb_naming.specs.Declarations.{extensibles}
 use Rattle.wb_rows.specs.Moves.{IsNow}
 use Rattle.wb_rows.specs.Nodes.{IsAt}
 use Rattle.wb_names.specs.Inner.Lent.{lent_file}
-use Rattle.wb_names.proofs.RestLemmas.{each_after, each_fresh}
+use Rattle.wb_names.proofs.RestLemmas.{each_after, each_fresh, extensible_within, tables_of}
 use Rattle.wb_names.proofs.StartLemmas.{extensibles_there}
 use Rattle.wb_names.proofs.rest.extensible_of.Goals as goal
+
+pub add_moved-requires : goal.add_moved-requires
+add_moved-requires c =
+    let file = lent_file c.args.file.now in
+    let m = c.args.moves.now in
+    subst (All (λ (k : ℕ). k < length m.nonterminals.items)) (sym c.as_slice.ensures)
+    (extensible_within file.base m c.requires.file.base (tables_of file c.args.scope.now m c.requires.numbers))
 
 pub add_extensible-requires : goal.add_extensible-requires
 add_extensible-requires c = extensibles_there (lent_file c.args.file.now) c.requires.hold c.args.scope.now c.requires.numbers.there

@@ -1,8 +1,9 @@
 use Rattle.std.proofs.Common.{◌≡◌, ℕ, List, Some, Contains, slice_get, take, sym, subst, ap, ◌∙◌, ◌+◌}
 use Rattle.wb_resolved.specs.declared.attributes.Nonterminal.{Nonterminal}
 use Rattle.wb_rows.specs.Nodes.{IsAt}
-use Rattle.wb_rows.proofs.PlainLemmas.{each_more}
+use Rattle.wb_rows.proofs.PlainLemmas.{each_more, each_nothing}
 use Rattle.wb_names.specs.Inner.Tables.{AddsNumbers}
+use Rattle.wb_names.proofs.Gathered.{each_all}
 use Rattle.wb_names.proofs.tables.add_nonterminals.Goals as goal
 
 pub number_of-requires : goal.number_of-requires
@@ -20,3 +21,11 @@ loop-nonterminal-preserved c =
     subst (AddsNumbers (λ (x : Nonterminal). x.name) names (take (i + 1) rows) c.args.table.now.items) (sym c.in_ok-push.ensures.ok)
     (each_more (λ (x : Nonterminal). IsAt names x.name) rows i row c.number_of.result c.args.table.now.items c.loop-nonterminal.table.items
     c.loop-nonterminal.invariant c.loop-nonterminal-test.true c.nonterminal-item.is found)
+
+pub loop-nonterminal-init : goal.loop-nonterminal-init
+loop-nonterminal-init c = each_nothing (λ (x : Nonterminal). IsAt c.args.names.now x.name) c.args.table.now.items
+
+pub returns : goal.returns
+returns c =
+    each_all (λ (x : Nonterminal). IsAt c.args.names.now x.name) c.args.nonterminals.now c.loop-nonterminal.nonterminal-index c.args.table.now.items
+    c.loop-nonterminal.table.items c.loop-nonterminal.invariant c.loop-nonterminal-test.false

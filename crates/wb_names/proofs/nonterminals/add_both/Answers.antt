@@ -4,7 +4,7 @@ use Rattle.wb_naming.specs.Declarations.{nonterminals}
 use Rattle.std.proofs.Common.{Contains}
 use Rattle.wb_numbering.specs.Files.{grammar_names}
 use Rattle.wb_names.specs.Inner.Nonterminals.{AddsApart, IsDeclaredRow}
-use Rattle.wb_names.proofs.nonterminals.add_nonterminals.Goals as goal
+use Rattle.wb_names.proofs.nonterminals.add_both.Goals as goal
 
 pub returns : goal.returns
 returns c =
