@@ -9,6 +9,7 @@ pub mod VisitLemmas
 pub mod DoneLemmas
 pub mod TreeTaskLemmas
 pub mod CallTaskLemmas
+pub mod PerformLemmas
 pub mod StepLemmas
 pub mod LeaveLemmas
 pub mod BeginLemmas
