@@ -3,7 +3,6 @@ pub mod MachineLemmas
 pub mod TaskLemmas
 pub mod FrameLemmas
 pub mod RunLemmas
-pub mod ChildLemmas
 pub mod StackLemmas
 pub mod VisitLemmas
 pub mod DoneLemmas

@@ -125,9 +125,9 @@ fn child_tree(store: &TreeStore, tree: TreeId, k: usize) -> TreeId
     requires child { IsTreeChild store.now tree k }
     ensures { IsChild store.now tree k result }
 {
-    match &store.children(tree)[k] {
-        Value::Tree(child) => *child,
-        _ => unreachable!(),
+    match store.child_tree(tree, k) {
+        Some(child) => child,
+        None => unreachable!(),
     }
 }
 
@@ -138,6 +138,5 @@ pub(crate) fn child_value(store: &TreeStore, tree: TreeId, k: usize) -> Result<V
     ensures value { IfOk result (λ made. value_at (children_of (tree_in store.now tree.0)) k ≡ Some (value_in store.now made)) }
     ensures inside { IfOk result (IsIn (length store.now)) }
 {
-    let value = store.children(tree)[k].copy()?;
-    Ok(value)
+    store.child(tree, k)
 }
