@@ -1,10 +1,11 @@
 -- A task that was done: a tree was built, an operation called, or a branch chosen.
-use Rattle.std.proofs.Common.{◌≡◌, ◌<◌, ◌+◌, ◌++◌, ◌∷◌, [], ℕ, inl, inr, Bool, true, false, List, Option, Some, None, refl, sym, ap, subst, arith}
+use Rattle.std.proofs.Common.{◌≡◌, ◌<◌, ◌+◌, ◌-◌, ◌++◌, ◌∷◌, [], ℕ, inl, inr, Bool, true, false, List, Option, Some, None, length, take, refl, sym, ap, subst, arith}
 use Rattle.wb_operations.specs.Given.{Given, plains_of}
 use Rattle.wb_operations.specs.Operations.{Operations}
 use Rattle.wb_resolved.specs.declared.attribution.AttributionParts.{AttributionParts}
 use Rattle.wb_resolved.specs.Expression.{Node}
 use Rattle.wb_values.specs.declared.value.Value.{Value}
+use Rattle.wb_values.specs.declared.value.Value.TheVariants as stored
 use Rattle.wb_values.specs.Tree.{Tree}
 use Rattle.wb_values.specs.ValuesIn.{last}
 use Rattle.wb_evaluation.specs.Walks.{done, fault}
@@ -40,7 +41,8 @@ module _ (a : AttributionParts) (operations : Operations) (trees : List Tree) (m
       let it = built a operations trees m site nodes old.tasks.items old.values.items p n b.id ev b.id_is in
       subst (IsOver a operations trees' m site nodes new before) (sym b.goes_on)
       (goes_on trees' old.tasks.items _ before
-      (subst (λ (ts : List Tree). IsEvaluating a operations ts m site nodes old.tasks.items _) (sym b.trees_are) it)
+      (subst (λ (ts : List Tree). IsEvaluating a operations ts m site nodes old.tasks.items
+      (take (length old.values.items - n) old.values.items ++ stored.Tree b.id ∷ [])) (sym b.trees_are) it)
       (ap (λ ts. ts.items) b.tasks) b.values (omega arith))
 
   pub call_over : (number n : ℕ) → With (task.Call number n) → (r : Option Ran)

@@ -1,4 +1,4 @@
-use Rattle.std.proofs.Common.{rules, ◌≡◌, ◌+◌, ◌++◌, ◌∷◌, [], List, subst}
+use Rattle.std.proofs.Common.{rules, ◌≡◌, ◌<◌, ◌+◌, ◌++◌, ◌∷◌, [], List, length, subst}
 use Rattle.wb_values.specs.declared.value.Value.{Value}
 use Rattle.wb_evaluator.specs.Inner.Works.{IsEvaluating, IsOver, left_to_do, task_size}
 use Rattle.wb_evaluator.specs.declared.work.Task.{Task}
@@ -25,12 +25,14 @@ pub take_last-requires : goal.take_last-requires
 take_last-requires g c =
     let m = c.tasks in
     let none : m.work.tasks.items ≡ [] = search rules in
+    let some : 0 < length m.work.values.items =
     some_left c.args.context.now.attributes.now
     (record { signatures = c.args.context.now.operations.now.signatures; meaning = g.M.Meaning.meaning }) m.store m.machine c.args.site
     c.args.nodes.now [] m.work.values.items m.work.values.items
     (subst (λ (ts : List Task). IsEvaluating c.args.context.now.attributes.now
     (record { signatures = c.args.context.now.operations.now.signatures; meaning = g.M.Meaning.meaning }) m.store m.machine c.args.site
-    c.args.nodes.now ts m.work.values.items) none m.invariant.evaluating)
+    c.args.nodes.now ts m.work.values.items) none m.invariant.evaluating) in
+    search rules
 
 pub returns-clause-ran : goal.returns-clause-ran
 returns-clause-ran g c =

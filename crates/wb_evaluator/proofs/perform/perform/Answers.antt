@@ -127,14 +127,13 @@ returns-in-Build-clause-over g c =
     subst (λ (t : Task). IsEvaluating c.args.context.now.attributes.now
     (record { signatures = c.args.context.now.operations.now.signatures; meaning = g.M.Meaning.meaning }) c.args.store.now c.args.machine.now
     c.args.site c.args.nodes.now (c.args.work.now.tasks.items ++ t ∷ []) c.args.work.now.values.items) c.in-Build.is c.requires.evaluating in
-    let it = λ r done. build_over c.args.context.now.attributes.now
-    (record { signatures = c.args.context.now.operations.now.signatures; meaning = g.M.Meaning.meaning }) c.args.store.now c.args.machine.now
-    c.args.site c.args.nodes.now c.args.work.now c.build_tree.new.work c.in-Build.production c.in-Build.count ev c.build_tree.new.store r done in
     IfOk-weaker c.build_tree.result _ _
     (λ r done. subst (λ (t : Task). IsOver c.args.context.now.attributes.now
     (record { signatures = c.args.context.now.operations.now.signatures; meaning = g.M.Meaning.meaning }) c.build_tree.new.store c.args.machine.now
     c.args.site c.args.nodes.now c.build_tree.new.work (left_to_do c.args.nodes.now c.args.work.now.tasks.items + task_size c.args.nodes.now t) r)
-    (sym c.in-Build.is) (it r done)) c.build_tree.ensures.built
+    (sym c.in-Build.is) (build_over c.args.context.now.attributes.now
+    (record { signatures = c.args.context.now.operations.now.signatures; meaning = g.M.Meaning.meaning }) c.args.store.now c.args.machine.now
+    c.args.site c.args.nodes.now c.args.work.now c.build_tree.new.work c.in-Build.production c.in-Build.count ev c.build_tree.new.store r done)) c.build_tree.ensures.built
 
 pub returns-in-Build-clause-same : goal.returns-in-Build-clause-same
 returns-in-Build-clause-same g c =
@@ -148,14 +147,13 @@ returns-in-Call-clause-over g c =
     subst (λ (t : Task). IsEvaluating c.args.context.now.attributes.now
     (record { signatures = c.args.context.now.operations.now.signatures; meaning = g.M.Meaning.meaning }) c.args.store.now c.args.machine.now
     c.args.site c.args.nodes.now (c.args.work.now.tasks.items ++ t ∷ []) c.args.work.now.values.items) c.in-Call.is c.requires.evaluating in
-    let it = λ r done. call_over c.args.context.now.attributes.now
-    (record { signatures = c.args.context.now.operations.now.signatures; meaning = g.M.Meaning.meaning }) c.args.store.now c.args.machine.now
-    c.args.site c.args.nodes.now c.args.work.now c.call.new.work c.in-Call.operation c.in-Call.count ev r done in
     IfOk-weaker c.call.result _ _
     (λ r done. subst (λ (t : Task). IsOver c.args.context.now.attributes.now
     (record { signatures = c.args.context.now.operations.now.signatures; meaning = g.M.Meaning.meaning }) c.args.store.now c.args.machine.now
     c.args.site c.args.nodes.now c.call.new.work (left_to_do c.args.nodes.now c.args.work.now.tasks.items + task_size c.args.nodes.now t) r)
-    (sym c.in-Call.is) (it r done)) c.call.ensures
+    (sym c.in-Call.is) (call_over c.args.context.now.attributes.now
+    (record { signatures = c.args.context.now.operations.now.signatures; meaning = g.M.Meaning.meaning }) c.args.store.now c.args.machine.now
+    c.args.site c.args.nodes.now c.args.work.now c.call.new.work c.in-Call.operation c.in-Call.count ev r done)) c.call.ensures
 
 pub returns-in-Call-clause-same : goal.returns-in-Call-clause-same
 returns-in-Call-clause-same g c =
@@ -169,14 +167,13 @@ returns-in-Choose-clause-over g c =
     subst (λ (t : Task). IsEvaluating c.args.context.now.attributes.now
     (record { signatures = c.args.context.now.operations.now.signatures; meaning = g.M.Meaning.meaning }) c.args.store.now c.args.machine.now
     c.args.site c.args.nodes.now (c.args.work.now.tasks.items ++ t ∷ []) c.args.work.now.values.items) c.in-Choose.is c.requires.evaluating in
-    let it = λ r done. choice_over c.args.context.now.attributes.now
-    (record { signatures = c.args.context.now.operations.now.signatures; meaning = g.M.Meaning.meaning }) c.args.store.now c.args.machine.now
-    c.args.site c.args.nodes.now c.args.work.now c.choose.new.work c.in-Choose.holds c.in-Choose.fails ev r done in
     IfOk-weaker c.choose.result _ _
     (λ r done. subst (λ (t : Task). IsOver c.args.context.now.attributes.now
     (record { signatures = c.args.context.now.operations.now.signatures; meaning = g.M.Meaning.meaning }) c.args.store.now c.args.machine.now
     c.args.site c.args.nodes.now c.choose.new.work (left_to_do c.args.nodes.now c.args.work.now.tasks.items + task_size c.args.nodes.now t) r)
-    (sym c.in-Choose.is) (it r done)) c.choose.ensures
+    (sym c.in-Choose.is) (choice_over c.args.context.now.attributes.now
+    (record { signatures = c.args.context.now.operations.now.signatures; meaning = g.M.Meaning.meaning }) c.args.store.now c.args.machine.now
+    c.args.site c.args.nodes.now c.args.work.now c.choose.new.work c.in-Choose.holds c.in-Choose.fails ev r done)) c.choose.ensures
 
 pub returns-in-Choose-clause-same : goal.returns-in-Choose-clause-same
 returns-in-Choose-clause-same g c =

@@ -1,5 +1,6 @@
 use Rattle.std.proofs.lemmas.Int.{to_z-of_z}
-use Rattle.std.proofs.Common.{rules, FitsSigned, w64, Option, sym, ap, subst}
+use Rattle.std.proofs.Common.{rules, FitsSigned, w64, ℕ, List, Option, length, sym, ap, subst}
+use Rattle.std.specs.Prelude.{IfOk}
 use Rattle.std.proofs.lemmas.Result.{IfOk-weaker}
 use Rattle.wb_expressions.proofs.NodeLemmas.{has_node}
 use Rattle.wb_expressions.specs.declared.node.Node.TheVariants as n
@@ -7,8 +8,10 @@ use Rattle.wb_expressions.specs.Places.{HasNode}
 use Rattle.wb_evaluator.proofs.DoneLemmas.{int_visited, text_visited, truth_visited, label_label, label_visited, lexeme_label, lexeme_visited}
 use Rattle.wb_evaluator.proofs.DoneLemmas.{top_done, read_ready, read_below_done, forward_done, build_visited, call_visited, choice_visited, call_there}
 use Rattle.wb_evaluator.specs.Inner.Reached.{IsReady}
-use Rattle.wb_evaluator.specs.Inner.Works.{IsPushed, IsReadBelow}
+use Rattle.wb_evaluator.specs.Inner.Works.{IsPushed, ArePushed, IsReadBelow}
 use Rattle.wb_evaluator.specs.declared.machine.Key.{Key}
+use Rattle.wb_evaluator.specs.declared.work.Task.TheVariants as task
+use Rattle.wb_operations.specs.Operations.{HasOperation, IsOperation}
 use Rattle.wb_evaluator.specs.declared.machine.Key.TheVariants as key
 use Rattle.wb_memo.specs.declared.sites.Step.{Step}
 use Rattle.wb_values.specs.declared.value.Value.TheVariants as stored
@@ -83,9 +86,10 @@ pub visit_call-requires : goal.visit_call-requires
 visit_call-requires g c =
     let has : HasNode c.args.nodes.now c.args.at (n.Call c.in-Call.operation c.in-Call.arguments) =
     subst (HasNode c.args.nodes.now c.args.at) (c.in-Call.is) (has_node c.args.nodes.now c.args.at c.index-nodes-at.result c.requires.there c.index-nodes-at.is) in
-    call_there c.args.context.now.attributes.now
+    subst (HasOperation c.args.context.now.operations.now.signatures) (sym c.as_slice-in-Call.ensures)
+    (call_there c.args.context.now.attributes.now
     (record { signatures = c.args.context.now.operations.now.signatures; meaning = g.M.Meaning.meaning }) c.args.store.now c.args.machine.now c.args.site
-    c.args.nodes.now c.args.work.now c.args.work.now c.args.at c.requires.evaluating c.in-Call.operation c.in-Call.arguments has
+    c.args.nodes.now c.args.work.now c.args.work.now c.args.at c.requires.evaluating c.in-Call.operation c.in-Call.arguments has)
 
 pub returns-in-Int : goal.returns-in-Int
 returns-in-Int g c =
@@ -171,7 +175,9 @@ returns-in-Build g c =
     IfOk-weaker c.visit_build.result _ _
     (λ r it. build_visited c.args.context.now.attributes.now
     (record { signatures = c.args.context.now.operations.now.signatures; meaning = g.M.Meaning.meaning }) c.args.store.now c.args.machine.now c.args.site
-    c.args.nodes.now c.args.work.now c.visit_build.new.work c.args.at c.requires.evaluating c.in-Build.production c.in-Build.children has r it) c.visit_build.ensures
+    c.args.nodes.now c.args.work.now c.visit_build.new.work c.args.at c.requires.evaluating c.in-Build.production c.in-Build.children has r it)
+    (subst (λ (xs : List ℕ). IfOk c.visit_build.result (ArePushed c.args.work.now c.visit_build.new.work
+    (task.Build c.in-Build.production (length xs)) xs)) c.as_slice.ensures c.visit_build.ensures)
 
 pub returns-in-Call : goal.returns-in-Call
 returns-in-Call g c =
@@ -180,7 +186,12 @@ returns-in-Call g c =
     IfOk-weaker c.visit_call.result _ _
     (λ r it. call_visited c.args.context.now.attributes.now
     (record { signatures = c.args.context.now.operations.now.signatures; meaning = g.M.Meaning.meaning }) c.args.store.now c.args.machine.now c.args.site
-    c.args.nodes.now c.args.work.now c.visit_call.new.work c.args.at c.requires.evaluating c.in-Call.operation c.in-Call.arguments has r it) c.visit_call.ensures
+    c.args.nodes.now c.args.work.now c.visit_call.new.work c.args.at c.requires.evaluating c.in-Call.operation c.in-Call.arguments has r it)
+    (subst (λ (name : List ℕ). IfOk c.visit_call.result (λ r. (number : ℕ) × IsOperation c.args.context.now.operations.now.signatures name number
+    × ArePushed c.args.work.now c.visit_call.new.work (task.Call number (length c.in-Call.arguments)) c.in-Call.arguments r)) c.as_slice-in-Call.ensures
+    (subst (λ (xs : List ℕ). IfOk c.visit_call.result (λ r. (number : ℕ) × IsOperation c.args.context.now.operations.now.signatures
+    c.as_slice-in-Call.result.now number × ArePushed c.args.work.now c.visit_call.new.work (task.Call number (length xs)) xs r))
+    c.as_slice-in-Call-2.ensures c.visit_call.ensures))
 
 pub returns-in-If : goal.returns-in-If
 returns-in-If g c =
