@@ -1,5 +1,5 @@
 -- How an evaluation ends, and how far it is from its end.
-use Rattle.std.proofs.Common.{get_or, ◌≡◌, ◌∙◌, ◌≤◌, ◌<◌, ◌+◌, ◌*◌, ◌-◌, ℕ, suc, List, [], ◌∷◌, length, refl, sym, ap, subst, arith}
+use Rattle.std.proofs.Common.{get_or, ◌≡◌, ◌∙◌, ◌≤◌, ◌<◌, ◌+◌, ◌*◌, ◌-◌, ℕ, suc, List, [], ◌∷◌, Option, Some, None, length, refl, sym, ap, subst, arith}
 use Rattle.std.proofs.lemmas.List.{get_or_append_left}
 use Rattle.std.proofs.lemmas.Option.{slice_get_within}
 use Rattle.wb_operations.specs.Operations.{Operations}
@@ -18,7 +18,7 @@ use Rattle.wb_evaluator.specs.declared.evaluated.Evaluated.TheVariants as evalua
 use Rattle.wb_evaluator.specs.declared.machine.Key.{Key}
 use Rattle.wb_evaluator.specs.declared.machine.Machine.{Machine}
 use Rattle.wb_evaluator.specs.Evaluates.{IsValue, IsFault, AsksMore}
-use Rattle.wb_evaluator.specs.Inner.Answering.{GoesOn, IsAnswered}
+use Rattle.wb_evaluator.specs.Inner.Answering.{GoesOn, IsAnswered, IsTurned, IsLeftWith, IsEnteredWithin}
 use Rattle.wb_evaluator.specs.Inner.Machines.{IsMachine, IsSame, Runs, Wants}
 use Rattle.wb_evaluator.specs.Inner.State.{IsState, start}
 use Rattle.wb_evaluator.specs.Inner.Works.{IsExtended}
@@ -72,16 +72,20 @@ module _ (a : AttributionParts) (operations : Operations) (trees : List Tree) (m
         more = subst (λ (t : Tree). NeedsMoreThan a operations t (start a operations t m.attribute) steps) (sym r.root_is) more;
       }
 
--- the machine that asks the same
-pub answered_same : (a : AttributionParts) (operations : Operations) (trees : List Tree) (old m : Machine) (steps : ℕ) (e : Evaluated)
-    → IsSame old m → IsAnswered a operations trees m steps e → IsAnswered a operations trees old steps e
-answered_same a operations trees old m steps e same h = record {
+-- another machine that asks the same
+pub answered_before : (a : AttributionParts) (operations : Operations) (trees : List Tree) (old m : Machine) (steps : ℕ) (e : Evaluated)
+    → m.root ≡ old.root → m.attribute ≡ old.attribute → IsAnswered a operations trees m steps e → IsAnswered a operations trees old steps e
+answered_before a operations trees old m steps e root_is attribute_is h = record {
   value = at_old (λ (id : TreeId) (y : ℕ). IsValue a operations (tree_in trees id.0) y steps trees e) h.value;
   fault = at_old (λ (id : TreeId) (y : ℕ). IsFault a operations (tree_in trees id.0) y steps e) h.fault;
   more = at_old (λ (id : TreeId) (y : ℕ). AsksMore a operations (tree_in trees id.0) y steps e) h.more;
 } where
   at_old : (P : TreeId → ℕ → Type 0) → P m.root m.attribute → P old.root old.attribute
-  at_old P p = subst (P old.root) same.attribute (subst (λ (id : TreeId). P id m.attribute) same.root p)
+  at_old P p = subst (P old.root) attribute_is (subst (λ (id : TreeId). P id m.attribute) root_is p)
+
+pub answered_same : (a : AttributionParts) (operations : Operations) (trees : List Tree) (old m : Machine) (steps : ℕ) (e : Evaluated)
+    → IsSame old m → IsAnswered a operations trees m steps e → IsAnswered a operations trees old steps e
+answered_same a operations trees old m steps e same h = answered_before a operations trees old m steps e same.root same.attribute h
 
 -- after an instance is left
 pub goes_left : (a : AttributionParts) (operations : Operations) (trees : List Tree) (old m new : Machine) (steps : ℕ) → IsSame old m
@@ -114,6 +118,36 @@ goes_entered a operations trees old m new steps same whole root attribute count_
       within = omega (arith, count_is, lt);
       less = omega (arith, counts, stacks, count_is, stack, lt);
     }
+
+-- a turn in which the instance at work has its value
+pub left_turned : (a : AttributionParts) (operations : Operations) (trees : List Tree) (old m new : Machine) (steps : ℕ) (v : Value)
+    → IsSame old m → old.entered ≤ steps → Runs a operations trees m (done (value (value_in trees v))) → IsIn (length trees) v
+    → (r : Option Evaluated) → IsLeftWith a operations trees m new v r → IsTurned a operations trees old new steps r
+left_turned a operations trees old m new steps v same le runs inside None b =
+    goes_left a operations trees old m new steps same b.whole b.root b.attribute b.entered b.stack le
+left_turned a operations trees old m new steps v same le runs inside (Some e) (is, one) =
+    let counts = same.entered in
+    subst (IsAnswered a operations trees old steps) (sym is) (answered_same a operations trees old m steps (evaluated.Value v) same
+    (answers_value a operations trees m v steps runs inside one (omega (arith, counts, le))))
+
+-- one in which it has a fault
+pub fault_turned : (a : AttributionParts) (operations : Operations) (trees : List Tree) (old m : Machine) (steps operation code : ℕ)
+    → IsSame old m → old.entered ≤ steps → Runs a operations trees m (done (fault operation code))
+    → IsAnswered a operations trees old steps (evaluated.Fault operation code)
+fault_turned a operations trees old m steps operation code same le runs =
+    let counts = same.entered in
+    answered_same a operations trees old m steps (evaluated.Fault operation code) same
+    (answers_fault a operations trees m operation code steps runs (omega (arith, counts, le)))
+
+-- one in which it reads an instance that wasn't entered
+pub entered_turned : (a : AttributionParts) (operations : Operations) (trees : List Tree) (old m new : Machine) (steps : ℕ) (k : Key)
+    → IsSame old m → Wants a operations trees m k
+    → (r : Option Evaluated) → IsEnteredWithin a operations trees m new steps r → IsTurned a operations trees old new steps r
+entered_turned a operations trees old m new steps k same wants None (h, lt) =
+    goes_entered a operations trees old m new steps same h.whole h.root h.attribute h.entered h.stack lt
+entered_turned a operations trees old m new steps k same wants (Some e) (is, le) =
+    subst (IsAnswered a operations trees old steps) (sym is) (answered_same a operations trees old m steps evaluated.MoreSteps same
+    (answers_more a operations trees m k steps wants le))
 
 -- the tree of the root in a store with more
 pub root_extended : (first second : List Tree) (id : ℕ) → IsExtended first second → id < length first → tree_in second id ≡ tree_in first id

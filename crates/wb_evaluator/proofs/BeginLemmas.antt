@@ -1,5 +1,5 @@
 -- What an evaluation begins with.
-use Rattle.std.proofs.Common.{◌≡◌, ◌∙◌, ◌≤◌, ◌<◌, inl, ℕ, zero, suc, List, [], ◌∷◌, Some, None, length, refl, sym, ap, subst, arith}
+use Rattle.std.proofs.Common.{◌≡◌, ◌∙◌, ◌≤◌, ◌<◌, ◌+◌, ◌++◌, inl, ℕ, zero, suc, List, [], ◌∷◌, Some, None, length, refl, sym, ap, subst, arith}
 use Rattle.std.proofs.Common.{slice_get}
 use Rattle.std.proofs.lemmas.Option.{slice_get_within}
 use Rattle.wb_attributes.specs.Vertices.{child, made}
@@ -13,13 +13,14 @@ use Rattle.wb_evaluation.specs.Evaluable.{IsEvaluable, IsAsked}
 use Rattle.wb_evaluation.specs.Instances.{Path, root, down, synthesized_at}
 use Rattle.wb_evaluator.proofs.MachineLemmas.{begins}
 use Rattle.wb_memo.proofs.SitesLemmas.{root_path}
-use Rattle.wb_evaluator.specs.Inner.Machines.{HasTree, AreNamed, IsNode, IsMachine}
+use Rattle.wb_evaluator.specs.Inner.Machines.{HasTree, AreNamed, IsNode, IsMachine, HasMore}
 use Rattle.wb_memo.specs.Memos.{count, path_in, numbered, recall, IsWhole}
 use Rattle.wb_evaluator.specs.Inner.Piles.{Wait, waits, IsPiled}
 use Rattle.wb_evaluator.specs.Inner.State.{start}
 use Rattle.wb_memo.specs.Rows.{at}
 use Rattle.wb_evaluator.specs.declared.machine.Key.TheVariants as key
 use Rattle.wb_evaluator.specs.declared.machine.Machine.{Machine}
+use Rattle.wb_memo.specs.declared.memo.Memo.{Memo}
 
 module _ (a : AttributionParts) (operations : Operations) (trees : List Tree) (m : Machine) (evaluable : IsEvaluable a operations)
     (inside : m.root.0 < length trees) (asked : IsAsked a (tree_in trees m.root.0) m.attribute) (whole : IsWhole m.memo)
@@ -90,3 +91,22 @@ module _ (a : AttributionParts) (operations : Operations) (trees : List Tree) (m
     };
     piled = piled;
   }
+
+-- the root's attribute was entered at a machine without instances
+pub begun_with : (a : AttributionParts) (operations : Operations) (trees : List Tree) (before m : Machine) (memo : Memo) (id : TreeId) (y : ℕ)
+    → IsEvaluable a operations → id.0 < length trees → IsAsked a (tree_in trees id.0) y → IsWhole memo → memo.sites.origins.items ≡ []
+    → memo.trees.items ≡ Some id ∷ [] → memo.values.items ≡ [] → before.memo ≡ memo → before.root ≡ id → before.attribute ≡ y
+    → before.stack.items ≡ [] → before.entered ≡ 0 → waits before.frames ≡ [] → HasMore before m (key.Synthesized 0 y)
+    → IsMachine a operations trees m
+begun_with a operations trees before m memo id y evaluable inside asked whole origins its_trees values memo_is root_is attribute_is stack entered frames more =
+    let same_memo : m.memo ≡ memo = more.memo ∙ memo_is in
+    let same_root : m.root ≡ id = more.root ∙ root_is in
+    let same_attribute : m.attribute ≡ y = more.attribute ∙ attribute_is in
+    begun a operations trees m evaluable (subst (λ (i : TreeId). i.0 < length trees) (sym same_root) inside)
+    (subst (λ (z : ℕ). IsAsked a (tree_in trees m.root.0) z) (sym same_attribute)
+    (subst (λ (i : TreeId). IsAsked a (tree_in trees i.0) y) (sym same_root) asked))
+    (subst IsWhole (sym same_memo) whole) (ap (λ (z : Memo). z.sites.origins.items) same_memo ∙ origins)
+    (ap (λ (z : Memo). z.trees.items) same_memo ∙ its_trees ∙ ap (λ (i : TreeId). Some i ∷ []) (sym same_root))
+    (ap (λ (z : Memo). z.values.items) same_memo ∙ values)
+    (more.stack ∙ ap (λ ks. ks ++ key.Synthesized 0 y ∷ []) stack ∙ ap (λ (z : ℕ). key.Synthesized 0 z ∷ []) (sym same_attribute))
+    (more.frames ∙ ap (λ fs. fs ++ None ∷ []) frames) more.piled (more.entered ∙ ap (λ n. n + 1) entered)

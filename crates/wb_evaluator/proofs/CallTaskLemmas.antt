@@ -221,6 +221,10 @@ module _ (a : AttributionParts) (operations : Operations) (trees : List Tree) (m
       (stack_of trees base))) ev.stacked ev.runs in
       some_values base _ runs none
 
+  pub some_left : (base : List Value) → IsEvaluating a operations trees m site nodes [] base → 0 < length base
+  some_left [] ev = absurd (at_end [] ev refl)
+  some_left (w ∷ front) ev = omega arith
+
   pub ends : (front : List Value) (w : Value) → IsEvaluating a operations trees m site nodes [] (front ++ w ∷ [])
       → Runs a operations trees m (done (value (value_in trees w))) × IsIn (length trees) w
   unfolding resume

@@ -39,7 +39,7 @@ use Rattle.wb_memo.specs.Sites.{step_of}
 use Rattle.wb_evaluator.specs.Inner.Tasks.{resume}
 use Rattle.wb_evaluator.specs.Inner.Jobs.{visiting, stack_of}
 use Rattle.wb_evaluator.specs.Inner.Works.{node_size, size_at, task_size, left_to_do, IsEvaluating, Parks, IsReading}
-use Rattle.wb_evaluator.specs.Inner.Works.{HasChildAt, IsChildPushed, IsLess, IsDone, IsReadBelow, way_to, IsExtended}
+use Rattle.wb_evaluator.specs.Inner.Works.{HasChildAt, IsChildPushed, HasLabel, IsLabelVisited, IsPushed, ArePushed, IsLess, IsDone, IsReadBelow, way_to, IsExtended}
 use Rattle.wb_evaluator.specs.declared.machine.Key.{Key}
 use Rattle.wb_evaluator.specs.declared.machine.Key.TheVariants as key
 use Rattle.wb_evaluator.specs.declared.machine.Machine.{Machine}
@@ -209,6 +209,14 @@ module _ (a : AttributionParts) (operations : Operations) (trees : List Tree) (m
       let runs = v'.runs in
       never_missed a operations runs.machine.top m.attribute runs.machine.evaluable runs.machine.asked runs.machine.state runs.come
 
+  pub lexeme_label : (p : Place) → HasNode nodes at (n.Lexeme p) → HasLabel trees m site p
+  lexeme_label (place.Child k) has = lexeme_there k has
+  lexeme_label (place.Local k) has = tt
+
+  pub label_label : (p : Place) → HasNode nodes at (n.Label p) → HasLabel trees m site p
+  label_label (place.Child k) has = label_there k has
+  label_label (place.Local k) has = tt
+
   -- an instance is read, at a machine whose memo may have grown
   read_done : (after : Machine) (e : Expression) (v : IsVisiting a operations trees after site nodes old.tasks.items old.values.items e) (k : Key)
       → IsKey after.memo k
@@ -303,6 +311,31 @@ module _ (a : AttributionParts) (operations : Operations) (trees : List Tree) (m
       (λ rest. ap (λ (p : Path). read (tree_named p) rest) (sym path)) (subst (Stands nodes at) e_is stands) result r.reading
       (same_after after (step.Local c) result after r.machine)
 
+  pub label_visited : (p : Place) → HasNode nodes at (n.Label p) → (after : Machine) (result : Option Key)
+      → IsLabelVisited trees m after site p old new result → Done after result
+  label_visited (place.Child k) has after result (same, pushed) =
+      subst (λ (z : Machine). Done z result) (sym same) (label_done k has result pushed)
+  label_visited (place.Local k) has after result r = local_done k has after result r
+
+  pub lexeme_visited : (p : Place) → HasNode nodes at (n.Lexeme p) → (after : Machine) (result : Option Key)
+      → IsLabelVisited trees m after site p old new result → Done after result
+  lexeme_visited (place.Child k) has after result (same, pushed) =
+      subst (λ (z : Machine). Done z result) (sym same) (lexeme_done k has result pushed)
+  lexeme_visited (place.Local k) has after result r = absurd (no_lexeme k has)
+
+  -- a value was pushed, and nothing is read
+  pub int_visited : (z : ℤ) → HasNode nodes at (n.Int z) → (result : Option Key) → IsPushed old new (stored.Int z) result → Done m result
+  int_visited z has None (tasks, values) = int_done z has tasks values
+  int_visited z has (Some key) pushed = absurd pushed
+
+  pub text_visited : (z : List ℕ) → HasNode nodes at (n.Text z) → (result : Option Key) → IsPushed old new (stored.Text z) result → Done m result
+  text_visited z has None (tasks, values) = text_done z has tasks values
+  text_visited z has (Some key) pushed = absurd pushed
+
+  pub truth_visited : (z : Bool) → HasNode nodes at (n.Bool z) → (result : Option Key) → IsPushed old new (stored.Bool z) result → Done m result
+  truth_visited z has None (tasks, values) = truth_done z has tasks values
+  truth_visited z has (Some key) pushed = absurd pushed
+
   -- parts are visited first
   pub build_done : (p : ℕ) (places : List ℕ) → HasNode nodes at (n.Build p places)
       → new.tasks.items ≡ (old.tasks.items ++ task.Build p (length places) ∷ []) ++ visiting places → new.values ≡ old.values → Done m None
@@ -382,6 +415,23 @@ module _ (a : AttributionParts) (operations : Operations) (trees : List Tree) (m
       let same = ev.runs.machine.evaluable.with_operations.names name number j
       (name_at operations.signatures number o there ∙ ap Some named_so) (name_at operations.signatures j f there_j ∙ ap Some named_j) in
       found ∙ ap Some (sym same)
+
+  -- what was pushed is the node's task, with visits of its parts
+  pub build_visited : (p : ℕ) (places : List ℕ) → HasNode nodes at (n.Build p places) → (result : Option Key)
+      → ArePushed old new (task.Build p (length places)) places result → Done m result
+  build_visited p places has None (tasks, values) = build_done p places has tasks values
+  build_visited p places has (Some key) pushed = absurd pushed
+
+  pub call_visited : (name : List ℕ) (places : List ℕ) → HasNode nodes at (n.Call name places) → (result : Option Key)
+      → (number : ℕ) × IsOperation operations.signatures name number × ArePushed old new (task.Call number (length places)) places result → Done m result
+  call_visited name places has None (number, is, (tasks, values)) =
+      call_done name number places has (number_there name number is) tasks values
+  call_visited name places has (Some key) (number, is, pushed) = absurd pushed
+
+  pub choice_visited : (c h f : ℕ) → HasNode nodes at (n.If c h f) → (result : Option Key)
+      → ArePushed old new (task.Choose h f) (c ∷ []) result → Done m result
+  choice_visited c h f has None (tasks, values) = choice_done c h f has tasks values
+  choice_visited c h f has (Some key) pushed = absurd pushed
 
   -- a node that is visited is there
   pub visit_within : at < length nodes

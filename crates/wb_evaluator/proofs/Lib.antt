@@ -3,12 +3,12 @@ pub mod MachineLemmas
 pub mod TaskLemmas
 pub mod FrameLemmas
 pub mod RunLemmas
-pub mod ChildLemmas
 pub mod StackLemmas
 pub mod VisitLemmas
 pub mod DoneLemmas
 pub mod TreeTaskLemmas
 pub mod CallTaskLemmas
+pub mod PerformLemmas
 pub mod StepLemmas
 pub mod LeaveLemmas
 pub mod BeginLemmas

@@ -38,7 +38,7 @@ use Rattle.wb_evaluator.specs.Inner.Machines.{HasTree, tree_named, tree_value, n
 use Rattle.wb_memo.specs.Memos.{count, path_in, IsWhole, IsGrown}
 use Rattle.wb_evaluator.specs.Inner.Reached.{IsReached}
 use Rattle.wb_memo.specs.Sites.{step_of}
-use Rattle.wb_evaluator.specs.Inner.Starts.{HasProduction, IsProductionAt, IsAtWork, IsStarting, IsAlone, IsForwarding}
+use Rattle.wb_evaluator.specs.Inner.Starts.{HasProduction, IsProductionAt, IsAtWork, IsStarting, IsAlone, IsForwarding, made_by}
 use Rattle.wb_evaluator.specs.Inner.State.{Passed, at_once}
 use Rattle.wb_evaluator.specs.Inner.Tasks.{visit, resume}
 use Rattle.wb_evaluator.specs.Inner.Works.{IsEvaluating}
@@ -47,6 +47,7 @@ use Rattle.wb_evaluator.specs.declared.machine.Key.TheVariants as key
 use Rattle.wb_evaluator.specs.declared.machine.Machine.{Machine}
 use Rattle.wb_memo.specs.declared.memo.Memo.{Memo}
 use Rattle.wb_memo.specs.declared.sites.Origin.{Origin}
+use Rattle.wb_memo.specs.declared.sites.Step.{Step}
 use Rattle.wb_memo.specs.declared.sites.Step.TheVariants as step
 use Rattle.wb_evaluator.specs.declared.work.Task.TheVariants as task
 
@@ -369,6 +370,24 @@ module _ (a : AttributionParts) (operations : Operations) (trees : List Tree) (m
 
       pub tree_no_child : (c : ℕ) → step_of o.step ≡ child c → ⊥
       tree_no_child c step_is = let (k, way, this_is, f) = tree_from in let h = sym way ∙ step_is in cc h
+
+  -- by the step of the origin
+  module _ (site : ℕ) (w : IsAtWork a operations trees m (key.Tree site)) (o : Origin)
+      (at : slice_get m.memo.sites.origins.items (site - 1) ≡ Some o) (p : Production) where
+    pub tree_starts : (nodes : List Node) → IsProductionAt a trees m o.parent p → made_by o.step (λ k. IsRule p (tree_of k) nodes)
+        → IsStarting a operations trees m o.parent nodes
+    tree_starts nodes is rule = by_step o.step refl rule where
+      by_step : (s : Step) → o.step ≡ s → made_by s (λ k. IsRule p (tree_of k) nodes) → IsStarting a operations trees m o.parent nodes
+      by_step (step.Child k) e rule = absurd (tree_no_child site w o at k (ap step_of e))
+      by_step (step.Local y) e rule = tree_starting site w o at (local y) p nodes (ap step_of e) is rule
+      by_step step.Forward e rule = tree_starting site w o at forward p nodes (ap step_of e) is rule
+
+    pub tree_stops : IsProductionAt a trees m o.parent p → made_by o.step (λ k. ¬ HasRule p (tree_of k)) → ⊥
+    tree_stops is none = by_step o.step refl none where
+      by_step : (s : Step) → o.step ≡ s → made_by s (λ k. ¬ HasRule p (tree_of k)) → ⊥
+      by_step (step.Child k) e none = tree_no_child site w o at k (ap step_of e)
+      by_step (step.Local y) e none = tree_never site w o at (local y) p (ap step_of e) is none
+      by_step step.Forward e none = tree_never site w o at forward p (ap step_of e) is none
 
   -- a synthesized attribute
   module _ (site x : ℕ) (w : IsAtWork a operations trees m (key.Synthesized site x)) where

@@ -7,17 +7,18 @@ ghost use Rattle.wb_attributes.specs.Modular.{EachProduction};
 ghost use Rattle.wb_attributes.specs.WellDefined.{IsWellDefinedProduction};
 ghost use Rattle.wb_evaluation.specs.Evaluable.{IsAsked};
 ghost use Rattle.wb_evaluator.specs.Evaluates.{HoldsMore, IsValue, IsFault, AsksMore};
-ghost use Rattle.wb_evaluator.specs.Inner.Machines.{IsMachine};
-ghost use Rattle.wb_evaluator.specs.Inner.Answering.{IsTurned, turns_left};
+ghost use Rattle.wb_evaluator.specs.Inner.Machines.{IsMachine, Runs, Wants};
+ghost use Rattle.wb_evaluator.specs.Inner.Answering.{IsAnswered, IsTurned, IsLeftWith, IsEnteredWithin};
 ghost use Rattle.wb_evaluator.specs.Inner.Works.{IsExtended};
 ghost use Rattle.wb_operations.specs.Kept.{IsKept};
 ghost use Rattle.wb_rules.specs.Indexes.{AreIndexes};
 ghost use Rattle.wb_types.specs.Rules.{KindsOk};
-ghost use Rattle.wb_values.specs.ValuesIn.{tree_in};
+ghost use Rattle.wb_evaluation.specs.Walks.{done, value};
+ghost use Rattle.wb_values.specs.ValuesIn.{tree_in, value_in, IsIn};
 
 use crate::context::Context;
 use crate::evaluated::Evaluated;
-use crate::machine::Machine;
+use crate::machine::{Key, Machine};
 use crate::run::run;
 use crate::steps::{begin, enter, leave};
 use crate::work::{Ran, Work};
@@ -73,9 +74,29 @@ pub fn evaluate<M: Meaning>(
         operations,
     };
     let mut machine = begin(alloc, &context, store, root, attribute)?;
+    take_turns(alloc, &context, &mut machine, store, steps)
+}
+
+// Works on instances until the answer is known.
+fn take_turns<'a, M: Meaning>(
+    alloc: Global,
+    context: &Context<'a, M>,
+    machine: &mut Machine<'a>,
+    store: &mut TreeStore,
+    steps: u64,
+) -> Result<Evaluated, AllocError>
+    requires whole { IsMachine context.now.attributes.now (record { signatures = context.now.operations.now.signatures; meaning = M.meaning }) store.old machine.old }
+    requires within { machine.old.entered ≤ steps }
+    requires rules { AreIndexes context.now.attributes.now.productions context.now.rules.now.rows.items }
+    requires kept { IsKept context.now.operations.now.signatures context.now.operations.now.built_in context.now.operations.now.runs.items M.meaning
+        (λ run vs. ⟦<Box<dyn Fn(&[Value]) -> Result<Value, OperationRefusal>> as Fn(&[Value]) -> Result<Value, OperationRefusal>>⟧.pre run vs)
+        (λ run vs r. ⟦<Box<dyn Fn(&[Value]) -> Result<Value, OperationRefusal>> as Fn(&[Value]) -> Result<Value, OperationRefusal>>⟧.post run vs r) }
+    ensures answered { IfOk result (IsAnswered context.now.attributes.now (record { signatures = context.now.operations.now.signatures; meaning = M.meaning }) store.new machine.old steps) }
+    ensures store { IsExtended store.old store.new }
+{
     let mut work = Work::new(alloc);
     'turns: loop {
-        if let Some(answer) = turn(&context, &mut machine, store, &mut work, steps)? {
+        if let Some(answer) = turn(context, machine, store, &mut work, steps)? {
             return Ok(answer);
         }
     }
@@ -99,20 +120,44 @@ fn turn<'a, M: Meaning>(
     ensures store { IsExtended store.old store.new }
 {
     match run(context, machine, store, work)? {
-        Ran::Value(answer) => {
-            if machine.stack.len() == 1 {
-                return Ok(Some(Evaluated::Value(answer)));
-            }
-            leave(context, machine, store, answer)?;
-            Ok(None)
-        }
+        Ran::Value(answer) => leave_or_answer(context, machine, store, answer),
         Ran::Fault { operation, code } => Ok(Some(Evaluated::Fault { operation, code })),
-        Ran::Needs(key) => {
-            if machine.entered >= steps {
-                return Ok(Some(Evaluated::MoreSteps));
-            }
-            enter(context, machine, store, key)?;
-            Ok(None)
-        }
+        Ran::Needs(key) => enter_or_stop(context, machine, store, key, steps),
     }
+}
+
+// Leaves the last instance, whose value this is: the answer, where none waits for it.
+fn leave_or_answer<M: Meaning>(
+    context: &Context<M>,
+    machine: &mut Machine,
+    store: &TreeStore,
+    answer: Value,
+) -> Result<Option<Evaluated>, AllocError>
+    requires runs { Runs context.now.attributes.now (record { signatures = context.now.operations.now.signatures; meaning = M.meaning }) store.now machine.old (done (value (value_in store.now answer))) }
+    requires inside { IsIn (length store.now) answer }
+    ensures { IfOk result (IsLeftWith context.now.attributes.now (record { signatures = context.now.operations.now.signatures; meaning = M.meaning }) store.now machine.old machine.new answer) }
+{
+    if machine.stack.len() == 1 {
+        return Ok(Some(Evaluated::Value(answer)));
+    }
+    leave(context, machine, store, answer)?;
+    Ok(None)
+}
+
+// Enters the instance of a key, where there is a step left for it.
+fn enter_or_stop<M: Meaning>(
+    context: &Context<M>,
+    machine: &mut Machine,
+    store: &TreeStore,
+    key: Key,
+    steps: u64,
+) -> Result<Option<Evaluated>, AllocError>
+    requires { Wants context.now.attributes.now (record { signatures = context.now.operations.now.signatures; meaning = M.meaning }) store.now machine.old key }
+    ensures { IfOk result (IsEnteredWithin context.now.attributes.now (record { signatures = context.now.operations.now.signatures; meaning = M.meaning }) store.now machine.old machine.new steps) }
+{
+    if machine.entered >= steps {
+        return Ok(Some(Evaluated::MoreSteps));
+    }
+    enter(context, machine, store, key)?;
+    Ok(None)
 }

@@ -5,7 +5,7 @@
 use wb_values::Value;
 
 /// What an evaluation answers.
-#[derive(Debug, Drop)]
+#[derive(Drop)]
 pub enum Evaluated {
     /// The value, whose trees are in the store.
     Value(Value),

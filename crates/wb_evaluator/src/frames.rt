@@ -32,9 +32,8 @@ pub(crate) struct Frames<'a> {
 impl<'a> Frames<'a> {
     // No instances.
     pub(crate) fn new(alloc: Global) -> Frames<'a>
-        ensures rows { result.rows.items ≡ [] }
-        ensures tasks { result.tasks.items ≡ [] }
-        ensures values { result.values.items ≡ [] }
+        ensures piled { IsPiled result }
+        ensures waits { waits result ≡ [] }
     {
         Frames {
             rows: Vec::new(alloc),

@@ -12,6 +12,7 @@ mod frames;
 mod machine;
 mod perform;
 mod run;
+mod start;
 mod steps;
 mod visit;
 mod work;

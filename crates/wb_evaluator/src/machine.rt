@@ -2,15 +2,16 @@
 //!
 //! The memo, and the instances that wait, each for the one above it. How one is worked on is in `run`.
 
-ghost use Rattle.std.specs.Prelude.{◌≡◌, ◌≤◌, ◌<◌, Some, length, OnOk, IfOk};
+ghost use Rattle.std.specs.Prelude.{◌≡◌, ◌≤◌, ◌<◌, ◌+◌, ◌^◌, ◌++◌, ◌∷◌, [], Some, length, OnOk, IfOk};
 ghost use Rattle.wb_values.specs.Tree.{children_of, value_at};
 ghost use Rattle.wb_values.specs.ValuesIn.{tree_in, value_in, IsIn};
-ghost use Rattle.wb_evaluator.specs.Inner.Machines.{IsKey, known, with_memo};
+ghost use Rattle.wb_evaluator.specs.Inner.Machines.{HasMore, IsKey, known, with_memo};
+ghost use Rattle.wb_evaluator.specs.Inner.Piles.{waits, IsPiled};
 ghost use Rattle.wb_memo.specs.Memos.{count, IsWhole, IsGrown};
 ghost use Rattle.wb_evaluator.specs.Inner.Reached.{HasChild, IsTreeChild, IsChild, IsReady, IsReached};
 
 use crate::frames::Frames;
-use std::alloc::AllocError;
+use std::alloc::{AllocError, Global};
 use wb_memo::{Memo, Step};
 use wb_values::{TreeId, TreeStore, Value};
 
@@ -35,6 +36,38 @@ pub(crate) struct Machine<'a> {
 }
 
 impl<'a> Machine<'a> {
+    // An attribute is asked of a root, and no instance was entered.
+    pub(crate) fn new(alloc: Global, memo: Memo, root: TreeId, attribute: usize) -> Machine<'a>
+        ensures memo { result.memo ≡ memo }
+        ensures root { result.root ≡ root }
+        ensures attribute { result.attribute ≡ attribute }
+        ensures stack { result.stack.items ≡ [] }
+        ensures entered { result.entered ≡ 0 }
+        ensures piled { IsPiled result.frames }
+        ensures waits { waits result.frames ≡ [] }
+    {
+        Machine {
+            memo,
+            root,
+            attribute,
+            stack: Vec::new(alloc),
+            frames: Frames::new(alloc),
+            entered: 0,
+        }
+    }
+
+    // Enters the instance of a key, for the one at work to wait for.
+    pub(crate) fn push(&mut self, key: Key) -> Result<(), AllocError>
+        requires piled { IsPiled self.old.frames }
+        requires room { self.old.entered + 1 < 2 ^ 64 }
+        ensures { OnOk result (HasMore self.old self.new key) }
+    {
+        self.frames.enter()?;
+        push_key(&mut self.stack, key)?;
+        self.entered += 1;
+        Ok(())
+    }
+
     // The value that is known for a key.
     pub(crate) fn known(&self, key: Key) -> Result<Option<Value>, AllocError>
         requires whole { IsWhole self.now.memo }
@@ -77,15 +110,24 @@ impl<'a> Machine<'a> {
     }
 }
 
+// Adds a key after others.
+fn push_key(stack: &mut Vec<Key>, key: Key) -> Result<(), AllocError>
+    ensures { OnOk result (stack.new.items ≡ stack.old.items ++ key ∷ []) }
+{
+    stack.reserve(1)?;
+    stack.push_reserved(key);
+    Ok(())
+}
+
 // The child of a tree, which is a tree.
 fn child_tree(store: &TreeStore, tree: TreeId, k: usize) -> TreeId
     requires there { tree.0 < length store.now }
     requires child { IsTreeChild store.now tree k }
     ensures { IsChild store.now tree k result }
 {
-    match &store.children(tree)[k] {
-        Value::Tree(child) => *child,
-        _ => unreachable!(),
+    match store.child_tree(tree, k) {
+        Some(child) => child,
+        None => unreachable!(),
     }
 }
 
@@ -96,6 +138,5 @@ pub(crate) fn child_value(store: &TreeStore, tree: TreeId, k: usize) -> Result<V
     ensures value { IfOk result (λ made. value_at (children_of (tree_in store.now tree.0)) k ≡ Some (value_in store.now made)) }
     ensures inside { IfOk result (IsIn (length store.now)) }
 {
-    let value = store.children(tree)[k].copy()?;
-    Ok(value)
+    store.child(tree, k)
 }

@@ -2,7 +2,7 @@
 //!
 //! It enters one that is read and wasn't entered, and leaves one whose value is there. What is done at one is in `run`.
 
-ghost use Rattle.std.specs.Prelude.{◌≡◌, ◌<◌, ◌≤◌, ◌+◌, ◌^◌, ◌++◌, ◌∷◌, [], ◌-◌, Some, slice_get, length, suc, IfOk, OnOk};
+ghost use Rattle.std.specs.Prelude.{◌≡◌, ◌<◌, ◌≤◌, ◌+◌, ◌^◌, ◌-◌, Some, slice_get, length, suc, IfOk, OnOk};
 ghost use Rattle.wb_values.specs.ValuesIn.{tree_in, value_in, IsIn};
 ghost use Rattle.wb_evaluation.specs.Evaluable.{IsEvaluable, IsAsked};
 ghost use Rattle.wb_evaluation.specs.Walks.{done, value};
@@ -10,7 +10,6 @@ ghost use Rattle.wb_values.specs.declared.value.Value.TheVariants.{Tree};
 ghost use Rattle.wb_evaluator.specs.Inner.Machines.{IsMachine, IsTree, IsKeptIn, Runs, Wants, with_memo};
 
 use crate::context::Context;
-use crate::frames::Frames;
 use crate::machine::{Key, Machine};
 use std::alloc::{AllocError, Global};
 use wb_memo::Memo;
@@ -34,19 +33,10 @@ pub(crate) fn begin<'a, M: Meaning>(
     ensures attribute { IfOk result (λ made. made.attribute ≡ attribute) }
     ensures entered { IfOk result (λ made. made.entered ≡ 1) }
 {
-    let mut stack = Vec::new(alloc);
-    push_key(&mut stack, Key::Synthesized { site: 0, attribute })?;
-    let mut frames = Frames::new(alloc);
-    frames.enter()?;
     let memo = Memo::new(alloc, root, room_for(context.attributes))?;
-    Ok(Machine {
-        memo,
-        root,
-        attribute,
-        stack,
-        frames,
-        entered: 1,
-    })
+    let mut machine = Machine::new(alloc, memo, root, attribute);
+    machine.push(Key::Synthesized { site: 0, attribute })?;
+    Ok(machine)
 }
 
 // For how many values of a site there is room at once: for those of all attributes, where there are few.
@@ -69,9 +59,7 @@ pub(crate) fn enter<M: Meaning>(
     ensures entered { OnOk result (machine.new.entered ≡ machine.old.entered + 1) }
     ensures stack { OnOk result (length machine.new.stack.items ≡ suc (length machine.old.stack.items)) }
 {
-    push_key(&mut machine.stack, key)?;
-    machine.frames.enter()?;
-    machine.entered += 1;
+    machine.push(key)?;
     Ok(())
 }
 
@@ -128,15 +116,6 @@ fn keep<M: Meaning>(
             Ok(())
         }
     }
-}
-
-// Adds a key after others.
-fn push_key(stack: &mut Vec<Key>, key: Key) -> Result<(), AllocError>
-    ensures { OnOk result (stack.new.items ≡ stack.old.items ++ key ∷ []) }
-{
-    stack.reserve(1)?;
-    stack.push_reserved(key);
-    Ok(())
 }
 
 // The tree that a value is.

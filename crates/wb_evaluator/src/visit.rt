@@ -1,18 +1,22 @@
 //! What does an evaluation do at a node of an expression?
 //!
-//! It pushes a value, reads an instance, or visits the node's parts first. Tasks on values are in `expression`.
+//! It pushes a value, reads an instance, or visits the node's parts first. Tasks on values are in `perform`.
 
-ghost use Rattle.std.specs.Prelude.{◌≡◌, ◌<◌, ◌++◌, ◌∷◌, [], length, IfOk};
-ghost use Rattle.wb_evaluator.specs.Inner.Works.{IsEvaluating, IsDone};
-ghost use Rattle.wb_evaluator.specs.declared.work.Task.TheVariants.{Visit};
+ghost use Rattle.std.specs.Prelude.{◌≡◌, ◌≤◌, ◌<◌, ◌++◌, ◌∷◌, ℕ, [], length, IfOk};
+ghost use Rattle.wb_evaluator.specs.Inner.Works.{IsEvaluating, IsDone, HasLabel, IsLabelVisited, IsPushed, ArePushed};
+ghost use Rattle.wb_evaluator.specs.declared.work.Task.TheVariants.{Visit, Build, Call, Choose};
+ghost use Rattle.wb_values.specs.declared.value.Value.TheVariants.{Text};
+ghost use Rattle.wb_memo.specs.Memos.{count, IsWhole};
+ghost use Rattle.wb_operations.specs.Operations.{HasOperation, IsOperation};
 
 use crate::context::Context;
 use crate::expression::{read, read_below, read_local, step_to, visit_child};
 use crate::machine::{Key, Machine};
 use crate::work::{Task, Work};
 use std::alloc::AllocError;
+use wb_base::Bytes;
 use wb_memo::Step;
-use wb_operations::Meaning;
+use wb_operations::{Meaning, OperationTable};
 use wb_resolved::{Node, Place};
 use wb_values::{TreeStore, Value};
 
@@ -31,30 +35,14 @@ pub(crate) fn visit<M: Meaning>(
     ensures { IfOk result (IsDone context.now.attributes.now (record { signatures = context.now.operations.now.signatures; meaning = M.meaning }) store.now machine.old machine.new site nodes.now work.old work.new (Visit at)) }
 {
     match &nodes[at] {
-        Node::Int(number) => {
-            work.push_value(Value::Int(*number))?;
-            Ok(None)
-        }
-        Node::Text(text) => {
-            let text = text.copy()?;
-            work.push_value(Value::Text(text))?;
-            Ok(None)
-        }
-        Node::Bool(truth) => {
-            work.push_value(Value::Bool(*truth))?;
-            Ok(None)
-        }
-        Node::Label(place) => match *place {
-            Place::Child(k) => visit_child(machine, store, work, site, k),
-            Place::Local(x) => read_local(machine, store, work, site, x),
-        },
+        Node::Int(number) => visit_value(work, Value::Int(*number)),
+        Node::Text(text) => visit_text(work, text),
+        Node::Bool(truth) => visit_value(work, Value::Bool(*truth)),
+        Node::Label(place) => visit_label(machine, store, work, site, *place),
         Node::Read { label, attribute } => {
             read_below(machine, store, work, site, step_to(*label), *attribute)
         }
-        Node::Lexeme(place) => match *place {
-            Place::Child(k) => visit_child(machine, store, work, site, k),
-            Place::Local(_) => unreachable!(),
-        },
+        Node::Lexeme(place) => visit_label(machine, store, work, site, *place),
         Node::Top(attribute) => {
             let key = Key::Inherited {
                 site,
@@ -68,40 +56,110 @@ pub(crate) fn visit<M: Meaning>(
         Node::Build {
             production,
             children,
-        } => {
-            let count = children.as_slice().len();
-            work.push_task(Task::Build {
-                production: *production,
-                count,
-            })?;
-            work.push_visits(children.as_slice())?;
-            Ok(None)
-        }
+        } => visit_build(work, *production, children.as_slice()),
         Node::Call {
             operation,
             arguments,
-        } => {
-            let count = arguments.as_slice().len();
-            match context.operations.find(operation.as_slice()) {
-                Some(operation) => {
-                    work.push_task(Task::Call { operation, count })?;
-                    work.push_visits(arguments.as_slice())?;
-                    Ok(None)
-                }
-                None => unreachable!(),
-            }
-        }
+        } => visit_call(
+            context.operations,
+            work,
+            operation.as_slice(),
+            arguments.as_slice(),
+        ),
         Node::If {
             condition,
             holds,
             fails,
-        } => {
-            work.push_task(Task::Choose {
-                holds: *holds,
-                fails: *fails,
-            })?;
-            work.push_task(Task::Visit(*condition))?;
-            Ok(None)
-        }
+        } => visit_branches(work, *condition, *holds, *fails),
     }
+}
+
+// Pushes a value.
+fn visit_value(work: &mut Work, value: Value) -> Result<Option<Key>, AllocError>
+    ensures { IfOk result (IsPushed work.old work.new value) }
+{
+    work.push_value(value)?;
+    Ok(None)
+}
+
+// Pushes a text.
+fn visit_text(work: &mut Work, text: &Bytes) -> Result<Option<Key>, AllocError>
+    ensures { IfOk result (IsPushed work.old work.new (Text text.now)) }
+{
+    let text = text.copy()?;
+    visit_value(work, Value::Text(text))
+}
+
+// Pushes the value of a child, or reads the tree of a local.
+fn visit_label(
+    machine: &mut Machine,
+    store: &TreeStore,
+    work: &mut Work,
+    site: usize,
+    place: Place,
+) -> Result<Option<Key>, AllocError>
+    requires whole { IsWhole machine.old.memo }
+    requires there { site ≤ count machine.old.memo }
+    requires label { HasLabel store.now machine.old site place }
+    ensures { IfOk result (IsLabelVisited store.now machine.old machine.new site place work.old work.new) }
+{
+    match place {
+        Place::Child(k) => visit_child(machine, store, work, site, k),
+        Place::Local(x) => read_local(machine, store, work, site, x),
+    }
+}
+
+// Visits the children of a tree that is then built.
+fn visit_build(
+    work: &mut Work,
+    production: usize,
+    children: &[usize],
+) -> Result<Option<Key>, AllocError>
+    ensures { IfOk result (ArePushed work.old work.new (Build production (length children.now)) children.now) }
+{
+    let count = children.len();
+    visit_parts(work, Task::Build { production, count }, children)
+}
+
+// Visits the arguments of a call.
+fn visit_call<M: Meaning>(
+    operations: &OperationTable<M>,
+    work: &mut Work,
+    operation: &[u8],
+    arguments: &[usize],
+) -> Result<Option<Key>, AllocError>
+    requires { HasOperation operations.now.signatures operation.now }
+    ensures { IfOk result (λ key. (number : ℕ) × IsOperation operations.now.signatures operation.now number
+        × ArePushed work.old work.new (Call number (length arguments.now)) arguments.now key) }
+{
+    match operations.find(operation) {
+        Some(operation) => {
+            let count = arguments.len();
+            visit_parts(work, Task::Call { operation, count }, arguments)
+        }
+        None => unreachable!(),
+    }
+}
+
+// Visits the condition by which a branch is then chosen.
+fn visit_branches(
+    work: &mut Work,
+    condition: usize,
+    holds: usize,
+    fails: usize,
+) -> Result<Option<Key>, AllocError>
+    ensures { IfOk result (ArePushed work.old work.new (Choose holds fails) (condition ∷ [])) }
+{
+    work.push_task(Task::Choose { holds, fails })?;
+    work.push_task(Task::Visit(condition))?;
+    Ok(None)
+}
+
+// Visits the parts that a task works on.
+fn visit_parts(work: &mut Work, task: Task, places: &[usize]) -> Result<Option<Key>, AllocError>
+    ensures { IfOk result (ArePushed work.old work.new task places.now) }
+{
+    work.push_task(task)?;
+    work.push_visits(places)?;
+    Ok(None)
 }

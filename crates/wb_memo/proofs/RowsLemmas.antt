@@ -8,8 +8,8 @@ use Rattle.std.proofs.lemmas.List.{take-set-le, take-append-le, drop-append-le, 
 use Rattle.std.proofs.lemmas.Option.{same_Some, slice_get_within, slice_get-map}
 use Rattle.wb_lemmas.proofs.Places.{at_default, default_at, at_push}
 use Rattle.wb_memo.specs.Rows.{at, row_at}
-use Rattle.wb_memo.specs.Inner.Lists.{IsLonger, row_of}
-use Rattle.wb_memo.specs.Inner.Layout.{rows_in, AreApart, IsLaid}
+use Rattle.wb_memo.specs.Inner.Lists.{IsLonger}
+use Rattle.wb_memo.specs.Layout.{row_of, rows_in, AreApart, IsLaid}
 use Rattle.wb_memo.specs.declared.rows.Row.{Row}
 
 -- an element that is set

@@ -5,7 +5,8 @@ use Rattle.std.proofs.lemmas.Bool.{cases_eq}
 use Rattle.std.proofs.lemmas.List.{get_or_append_left}
 use Rattle.wb_lemmas.proofs.Places.{at_push, push_keeps, push_last, at_within, default_at}
 use Rattle.wb_evaluation.specs.Instances.{Path, root, down}
-use Rattle.wb_memo.specs.Sites.{step_of, link, IsOther, path_at, paths_from, paths_of, IsSites}
+use Rattle.wb_memo.specs.Inner.Steps.{IsOther}
+use Rattle.wb_memo.specs.Sites.{step_of, link, path_at, paths_from, paths_of, IsSites}
 use Rattle.wb_memo.specs.declared.sites.Origin.{Origin}
 use Rattle.wb_memo.specs.declared.sites.Sites.{Sites}
 use Rattle.wb_memo.specs.declared.sites.Step.{Step}

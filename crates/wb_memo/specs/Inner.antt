@@ -1,3 +1,3 @@
 -- Words of private functions.
 pub mod Lists
-pub mod Layout
+pub mod Steps

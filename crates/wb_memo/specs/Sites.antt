@@ -1,5 +1,5 @@
 -- Sites: the nodes that an evaluation has come to, by number, and how they are found.
-use Rattle.std.specs.Prelude.{◌≡◌, ◌≢◌, ◌≤◌, ◌⊎◌, ℕ, suc, List, [], ◌∷◌, ◌++◌, Some, slice_get, slice_index_or}
+use Rattle.std.specs.Prelude.{◌≡◌, ◌≤◌, ℕ, suc, List, [], ◌∷◌, ◌++◌, Some, slice_get, slice_index_or}
 use Rattle.wb_attributes.specs.Vertices.{child, made, local, forward}
 use Rattle.wb_attributes.specs.Vertices as vertices
 use Rattle.wb_evaluation.specs.Instances.{Path, root, down}
@@ -20,10 +20,6 @@ abbrev pub link : Sites → ℕ → Step → ℕ
 link s i (step.Child k) = at s.children i k
 link s i (step.Local x) = at s.locals i x
 link s i step.Forward = at s.forwards i 0
-
--- it isn't this step from this site
-abbrev pub IsOther : ℕ → Step → ℕ → Step → Type 0
-IsOther parent step i other = (i ≢ parent) ⊎ (other ≢ step)
 
 -- the path of a site
 abbrev pub path_at : List Path → ℕ → Path

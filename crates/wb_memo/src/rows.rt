@@ -5,7 +5,8 @@
 ghost use Rattle.std.specs.Prelude.{◌≡◌, ◌≢◌, ◌≤◌, ◌<◌, ◌⊎◌, ◌+◌, ◌-◌, ◌++◌, ◌∷◌, ℕ, suc, [], length, replicate, slice_index_or, IfOk, OnOk};
 ghost use Rattle.std.specs.List.{slice_set};
 ghost use Rattle.wb_memo.specs.Rows.{at, row_at};
-ghost use Rattle.wb_memo.specs.Inner.Lists.{HasSameNumbers, IsLonger, IsMore, row_of};
+ghost use Rattle.wb_memo.specs.Layout.{row_of};
+ghost use Rattle.wb_memo.specs.Inner.Lists.{HasSameNumbers, IsLonger, IsMore};
 
 use std::alloc::{AllocError, Global};
 use std::marker::Model;
@@ -27,7 +28,7 @@ pub struct Rows {
 
 impl Model for Rows {
     ghost use Rattle.std.specs.Prelude.{ℕ, List};
-    ghost use Rattle.wb_memo.specs.Inner.Layout.{rows_in, IsLaid};
+    ghost use Rattle.wb_memo.specs.Layout.{rows_in, IsLaid};
 
     ghost Value = { List (List ℕ) };
 

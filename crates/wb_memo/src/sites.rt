@@ -3,7 +3,8 @@
 //! A site is a node by its path: site 0 is the root, and each other site has an origin. Trees are in `memo`.
 
 ghost use Rattle.std.specs.Prelude.{◌≡◌, ◌≢◌, ◌≤◌, ℕ, suc, [], ◌∷◌, ◌++◌, length, OnOk, IfOk};
-ghost use Rattle.wb_memo.specs.Sites.{link, IsOther, IsSites};
+ghost use Rattle.wb_memo.specs.Sites.{link, IsSites};
+ghost use Rattle.wb_memo.specs.Inner.Steps.{IsOther};
 
 use crate::rows::Rows;
 use std::alloc::{AllocError, Global};

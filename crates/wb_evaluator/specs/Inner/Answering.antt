@@ -1,10 +1,12 @@
 -- What an evaluation has come to after a turn.
-use Rattle.std.specs.Prelude.{◌≡◌, ◌≤◌, ◌<◌, ◌+◌, ◌*◌, ◌-◌, ℕ, List, Option, Some, None, length}
+use Rattle.std.specs.Prelude.{◌≡◌, ◌≤◌, ◌<◌, ◌+◌, ◌*◌, ◌-◌, ℕ, suc, List, Option, Some, None, length}
 use Rattle.wb_operations.specs.Operations.{Operations}
 use Rattle.wb_resolved.specs.declared.attribution.AttributionParts.{AttributionParts}
+use Rattle.wb_values.specs.declared.value.Value.{Value}
 use Rattle.wb_values.specs.Tree.{Tree}
 use Rattle.wb_values.specs.ValuesIn.{tree_in}
 use Rattle.wb_evaluator.specs.declared.evaluated.Evaluated.{Evaluated}
+use Rattle.wb_evaluator.specs.declared.evaluated.Evaluated.TheVariants as evaluated
 use Rattle.wb_evaluator.specs.declared.machine.Machine.{Machine}
 use Rattle.wb_evaluator.specs.Evaluates.{IsValue, IsFault, AsksMore}
 use Rattle.wb_evaluator.specs.Inner.Machines.{IsMachine}
@@ -31,3 +33,29 @@ pub record IsAnswered (a : AttributionParts) (operations : Operations) (trees : 
 abbrev pub IsTurned : AttributionParts → Operations → List Tree → Machine → Machine → ℕ → Option Evaluated → Type 0
 IsTurned a operations trees old new steps None = GoesOn a operations trees old new steps
 IsTurned a operations trees old new steps (Some e) = IsAnswered a operations trees old steps e
+
+-- the instance at work was left, and the one that waited for it is at work
+pub record IsBack (a : AttributionParts) (operations : Operations) (trees : List Tree) (old new : Machine) : Type 0 where
+  pub whole : IsMachine a operations trees new
+  pub root : new.root ≡ old.root
+  pub attribute : new.attribute ≡ old.attribute
+  pub entered : new.entered ≡ old.entered
+  pub stack : suc (length new.stack.items) ≡ length old.stack.items
+
+-- another instance was entered, and is at work
+pub record IsAhead (a : AttributionParts) (operations : Operations) (trees : List Tree) (old new : Machine) : Type 0 where
+  pub whole : IsMachine a operations trees new
+  pub root : new.root ≡ old.root
+  pub attribute : new.attribute ≡ old.attribute
+  pub entered : new.entered ≡ old.entered + 1
+  pub stack : length new.stack.items ≡ suc (length old.stack.items)
+
+-- the instance at work was left with its value, which is the answer where none waits for it
+abbrev pub IsLeftWith : AttributionParts → Operations → List Tree → Machine → Machine → Value → Option Evaluated → Type 0
+IsLeftWith a operations trees old new v None = IsBack a operations trees old new
+IsLeftWith a operations trees old new v (Some e) = (e ≡ evaluated.Value v) × (length old.stack.items ≡ 1)
+
+-- another instance was entered, or there is no step left for it
+abbrev pub IsEnteredWithin : AttributionParts → Operations → List Tree → Machine → Machine → ℕ → Option Evaluated → Type 0
+IsEnteredWithin a operations trees old new steps None = IsAhead a operations trees old new × (old.entered < steps)
+IsEnteredWithin a operations trees old new steps (Some e) = (e ≡ evaluated.MoreSteps) × (steps ≤ old.entered)

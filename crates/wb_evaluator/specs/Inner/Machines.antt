@@ -1,5 +1,5 @@
 -- What an evaluation keeps from one instance to the next.
-use Rattle.std.specs.Prelude.{◌≡◌, ◌⊎◌, ◌≤◌, ◌<◌, ℕ, List, [], ◌∷◌, Option, Some, None, All, Contains, length, slice_get}
+use Rattle.std.specs.Prelude.{◌≡◌, ◌⊎◌, ◌≤◌, ◌<◌, ◌+◌, ℕ, List, [], ◌∷◌, ◌++◌, Option, Some, None, All, Contains, length, slice_get}
 use Rattle.wb_attributes.specs.Modular.{IsProduction}
 use Rattle.wb_attributes.specs.Occurrences.{Goes}
 use Rattle.wb_attributes.specs.Vertices.{Made, child, made}
@@ -176,6 +176,16 @@ pub record IsSame (old new : Machine) : Type 0 where
   pub attribute : new.attribute ≡ old.attribute
   pub stack : new.stack ≡ old.stack
   pub entered : new.entered ≡ old.entered
+
+-- the instance of a key was entered above those on the stack, and has no expression that waits
+pub record HasMore (old new : Machine) (k : Key) : Type 0 where
+  pub memo : new.memo ≡ old.memo
+  pub root : new.root ≡ old.root
+  pub attribute : new.attribute ≡ old.attribute
+  pub stack : new.stack.items ≡ old.stack.items ++ k ∷ []
+  pub entered : new.entered ≡ old.entered + 1
+  pub frames : waits new.frames ≡ waits old.frames ++ None ∷ []
+  pub piled : IsPiled new.frames
 
 -- the value is a tree
 abbrev pub IsTree : Value → Type 0

@@ -1,7 +1,7 @@
 -- How the work on an instance starts.
 use Rattle.std.specs.Prelude.{◌≡◌, ◌≤◌, ◌<◌, ℕ, List, Some, length}
 use Rattle.wb_attributes.specs.Modular.{IsProduction}
-use Rattle.wb_attributes.specs.Vertices.{forward, made, Vertex}
+use Rattle.wb_attributes.specs.Vertices.{Made, local, forward, made, Vertex}
 use Rattle.wb_expressions.specs.Expression.{nodes_of}
 use Rattle.wb_operations.specs.Operations.{Operations}
 use Rattle.wb_resolved.specs.declared.attribution.AttributionParts.{AttributionParts}
@@ -13,10 +13,14 @@ use Rattle.wb_values.specs.ValuesIn.{tree_in}
 use Rattle.wb_evaluation.specs.Instances.{down, synthesized_at, tree_at}
 use Rattle.wb_evaluation.specs.Rules.{rule_of}
 use Rattle.wb_evaluation.specs.Walks.{read, walk_expression, finish}
-use Rattle.wb_evaluator.specs.Inner.Machines.{HasTree, named, IsKey, IsMachine, Runs}
+use Rattle.wb_evaluator.specs.Inner.Machines.{HasTree, named, IsKey, IsMachine, Runs, Wants}
 use Rattle.wb_memo.specs.Memos.{count, path_in}
 use Rattle.wb_evaluator.specs.declared.machine.Key.{Key}
 use Rattle.wb_evaluator.specs.declared.machine.Machine.{Machine}
+use Rattle.wb_evaluator.specs.declared.start.Start.{Start}
+use Rattle.wb_evaluator.specs.declared.start.Start.TheVariants as start
+use Rattle.wb_memo.specs.declared.sites.Step.{Step}
+use Rattle.wb_memo.specs.declared.sites.Step.TheVariants as step
 
 -- the site has a tree of a production
 abbrev pub HasProduction : AttributionParts → List Tree → Machine → ℕ → Type 0
@@ -60,3 +64,17 @@ module _ (a : AttributionParts) (operations : Operations) (trees : List Tree) wh
     pub there : site ≤ count m.memo
     pub runs : Runs a operations trees m (read (tree_at (path_in m.memo site) forward)
         (λ t. read (synthesized_at (down (path_in m.memo site) (made forward)) x) (finish operations)))
+
+module _ (a : AttributionParts) (operations : Operations) (trees : List Tree) where
+  -- the instance at work is worked on by this
+  abbrev pub IsStart : Machine → Start → Type 0
+  IsStart m (start.Expression site nodes) = IsStarting a operations trees m site nodes.now
+  IsStart m (start.Read k) = IsAlone a operations trees m k
+  IsStart m (start.Forward site x) = IsForwarding a operations trees m site x
+  IsStart m (start.Needs k) = Wants a operations trees m k
+
+-- where a step is to a tree that an expression makes, so it is with that
+abbrev pub made_by : Step → (Made → Type 0) → Type 0
+made_by (step.Child k) so = Unit {0}
+made_by (step.Local y) so = so (local y)
+made_by step.Forward so = so forward

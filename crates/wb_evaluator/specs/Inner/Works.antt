@@ -1,17 +1,20 @@
 -- What tasks on a stack of values stand for.
-use Rattle.std.specs.Prelude.{◌≡◌, ◌≤◌, ◌<◌, ◌+◌, ◌*◌, ℕ, zero, suc, pos, Bool, List, [], ◌∷◌, ◌++◌, Option, Some, None, All, length, slice_get, slice_index_or}
+use Rattle.std.specs.Prelude.{◌≡◌, ◌⊎◌, ◌≤◌, ◌<◌, ◌+◌, ◌-◌, ◌*◌, ℕ, zero, suc, pos, Bool, true, false, List, [], ◌∷◌, ◌++◌, Option, Some, None}
+use Rattle.std.specs.Prelude.{Ok, Err, All, length, take, slice_get, slice_index_or}
 use Rattle.wb_attributes.specs.Modular.{IsProduction}
 use Rattle.wb_base.specs.declared.symbol.Kind.{Kind}
 use Rattle.wb_expressions.specs.declared.node.Node.TheVariants as n
+use Rattle.wb_operations.specs.Given.{Given, IsGiven}
 use Rattle.wb_operations.specs.Operations.{Operations}
+use Rattle.wb_operations.specs.declared.meaning.OperationRefusal.TheVariants as refusal
 use Rattle.wb_resolved.specs.declared.attribution.AttributionParts.{AttributionParts}
 use Rattle.wb_resolved.specs.declared.production.Production.{Production}
 use Rattle.wb_resolved.specs.Expression.{Node}
 use Rattle.wb_values.specs.declared.value.TreeId.{TreeId}
 use Rattle.wb_values.specs.declared.value.Value.{Value}
 use Rattle.wb_values.specs.declared.value.Value.TheVariants as stored
-use Rattle.wb_values.specs.Tree.{Tree, production_of, children_of, value_at}
-use Rattle.wb_values.specs.ValuesIn.{tree_in, value_in, IsIn}
+use Rattle.wb_values.specs.Tree.{Tree, node, production_of, children_of, value_at}
+use Rattle.wb_values.specs.ValuesIn.{tree_in, value_in, values_in, last, IsIn}
 use Rattle.wb_evaluation.specs.Walks.{value, fault, done}
 use Rattle.wb_evaluator.specs.declared.work.Ran.{Ran}
 use Rattle.wb_evaluator.specs.declared.work.Ran.TheVariants as ran
@@ -24,11 +27,12 @@ use Rattle.wb_resolved.specs.declared.equation.Place.{Place}
 use Rattle.wb_resolved.specs.declared.equation.Place.TheVariants as place
 use Rattle.wb_evaluator.specs.Inner.Tasks.{Job, resume}
 use Rattle.wb_evaluator.specs.declared.machine.Key.{Key}
+use Rattle.wb_evaluator.specs.declared.machine.Key.TheVariants as key
 use Rattle.wb_evaluator.specs.declared.machine.Machine.{Machine}
 use Rattle.wb_evaluator.specs.declared.work.Task.{Task}
 use Rattle.wb_evaluator.specs.declared.work.Work.{Work}
 use Rattle.wb_evaluator.specs.declared.work.Task.TheVariants as task
-use Rattle.wb_evaluator.specs.Inner.Jobs.{stack_of, Stacked, ValuesFit, JobsFit}
+use Rattle.wb_evaluator.specs.Inner.Jobs.{visiting, stack_of, Stacked, ValuesFit, JobsFit}
 
 -- how many nodes the expression at a place has, down to so many levels
 abbrev pub sum_of : (ℕ → ℕ) → List ℕ → ℕ
@@ -100,6 +104,21 @@ IsChildPushed trees m old new site k None =
     × IsIn (length trees) w × (new.tasks ≡ old.tasks) × (new.values.items ≡ old.values.items ++ w ∷ [])
 IsChildPushed trees m old new site k (Some key) = ⊥
 
+-- the label's child is there
+abbrev pub HasLabel : List Tree → Machine → ℕ → Place → Type 0
+HasLabel trees m site (place.Child k) = HasChildAt trees m site k
+HasLabel trees m site (place.Local y) = Unit {0}
+
+-- the value was pushed
+abbrev pub IsPushed : Work → Work → Value → Option Key → Type 0
+IsPushed old new w None = (new.tasks ≡ old.tasks) × (new.values.items ≡ old.values.items ++ w ∷ [])
+IsPushed old new w (Some key) = ⊥
+
+-- the task was pushed, and on it visits of nodes at these places
+abbrev pub ArePushed : Work → Work → Task → List ℕ → Option Key → Type 0
+ArePushed old new t places None = (new.tasks.items ≡ (old.tasks.items ++ t ∷ []) ++ visiting places) × (new.values ≡ old.values)
+ArePushed old new t places (Some key) = ⊥
+
 -- less is left to do, where an evaluation goes on
 abbrev pub IsLess : ℕ → ℕ → Option Key → Type 0
 IsLess new old None = new < old
@@ -121,6 +140,12 @@ pub record IsReadBelow (trees : List Tree) (old new : Machine) (site : ℕ) (ste
   pub grown : IsGrown old.memo new.memo
   pub reached : IsReached trees old.memo new.memo site step below
   pub reading : IsReading new before after (key_at below) result
+
+-- the label's child was pushed, or the tree of its local was read
+abbrev pub IsLabelVisited : List Tree → Machine → Machine → ℕ → Place → Work → Work → Option Key → Type 0
+IsLabelVisited trees old new site (place.Child k) before after result = (new ≡ old) × IsChildPushed trees old before after site k result
+IsLabelVisited trees old new site (place.Local y) before after result =
+    IsReadBelow trees old new site (step.Local y) (λ below. key.Tree below) before after result
 
 -- the step to a child or local
 abbrev pub way_to : Place → Step
@@ -150,14 +175,32 @@ module _ (a : AttributionParts) (operations : Operations) (trees : List Tree) wh
       IsEvaluating a operations trees m site nodes work.tasks.items work.values.items × (left_to_do nodes work.tasks.items < before)
   IsOver m site nodes work before (Some r) = IsRanAt m site nodes work r
 
--- less is left to do than with the task
-abbrev pub IsLeftAfter : List Node → Work → Work → Task → Type 0
-IsLeftAfter nodes old new t = left_to_do nodes new.tasks.items < left_to_do nodes old.tasks.items + task_size nodes t
+-- a tree was built of the last values
+pub record IsBuilt (trees new : List Tree) (before after : Work) (production count : ℕ) (result : Option Ran) : Type 0 where
+  pub goes_on : result ≡ None
+  pub tasks : after.tasks ≡ before.tasks
+  pub id : TreeId
+  pub id_is : id.0 ≡ length trees
+  pub trees_are : new ≡ trees ++ node production (values_in trees (last count before.values.items)) ∷ []
+  pub values : after.values.items ≡ take (length before.values.items - count) before.values.items ++ stored.Tree id ∷ []
 
--- after a call: the evaluation goes on, or the operation's fault is the outcome
-abbrev pub HasFault : AttributionParts → Operations → List Tree → Machine → ℕ → List Node → ℕ → Work → Option ℕ → Type 0
-HasFault a operations trees m site nodes operation work None = IsEvaluating a operations trees m site nodes work.tasks.items work.values.items
-HasFault a operations trees m site nodes operation work (Some code) = Runs a operations trees m (done (fault operation code))
+-- the last value is this truth value, and the branch that it chooses is visited
+pub record IsChosenBy (before after : Work) (truth : Bool) (at : ℕ) : Type 0 where
+  pub is : slice_get before.values.items (length before.values.items - 1) ≡ Some (stored.Bool truth)
+  pub tasks : after.tasks.items ≡ before.tasks.items ++ task.Visit at ∷ []
+  pub values : after.values.items ≡ take (length before.values.items - 1) before.values.items
+
+-- a branch was chosen by the last value
+abbrev pub IsChosen : Work → Work → ℕ → ℕ → Option Ran → Type 0
+IsChosen before after holds fails None = IsChosenBy before after true holds ⊎ IsChosenBy before after false fails
+IsChosen before after holds fails (Some r) = ⊥
+
+-- an operation that gives this was called on the last values: what it gives was pushed, or its fault is the outcome
+abbrev pub IsCalled : Given → Work → Work → ℕ → ℕ → Option Ran → Type 0
+IsCalled given before after operation count None = (w : Value) × IsGiven given (Ok w) × (after.tasks ≡ before.tasks)
+    × (after.values.items ≡ take (length before.values.items - count) before.values.items ++ w ∷ [])
+IsCalled given before after operation count (Some (ran.Fault number code)) = (number ≡ operation) × IsGiven given (Err (refusal.Fault code))
+IsCalled given before after operation count (Some other) = ⊥
 
 -- there is a truth value at this place
 abbrev pub HasTruth : List Value → ℕ → Type 0

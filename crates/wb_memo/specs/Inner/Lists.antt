@@ -1,8 +1,7 @@
 -- Rows that are longer, and lists with more.
-use Rattle.std.specs.Prelude.{◌≡◌, ◌≤◌, ◌<◌, ◌⊎◌, ◌++◌, ℕ, suc, List, length, take, drop, replicate}
+use Rattle.std.specs.Prelude.{◌≡◌, ◌≤◌, ◌<◌, ◌⊎◌, ◌++◌, ℕ, suc, List, length, replicate}
 use Rattle.std.specs.List.{slice_set}
 use Rattle.wb_memo.specs.Rows.{at, row_at}
-use Rattle.wb_memo.specs.declared.rows.Row.{Row}
 
 -- maybe rows without numbers were added, to this one at most
 pub record HasSameNumbers (old new : List (List ℕ)) (row : ℕ) : Type 0 where
@@ -18,7 +17,3 @@ pub record IsLonger (old new : List (List ℕ)) (row column : ℕ) : Type 0 wher
 -- a list has more after it
 abbrev pub IsMore : List ℕ → List ℕ → Type 0
 IsMore old new = (more : List ℕ) × (new ≡ old ++ more)
-
--- the numbers of a row
-abbrev pub row_of : List ℕ → Row → List ℕ
-row_of numbers r = take r.width (drop r.first numbers)

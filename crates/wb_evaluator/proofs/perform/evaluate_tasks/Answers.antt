@@ -1,8 +1,8 @@
-use Rattle.std.proofs.Common.{rules, ◌≡◌, ◌+◌, ◌++◌, ◌∷◌, [], List, subst}
+use Rattle.std.proofs.Common.{rules, ◌≡◌, ◌<◌, ◌+◌, ◌++◌, ◌∷◌, [], List, length, subst}
 use Rattle.wb_values.specs.declared.value.Value.{Value}
 use Rattle.wb_evaluator.specs.Inner.Works.{IsEvaluating, IsOver, left_to_do, task_size}
 use Rattle.wb_evaluator.specs.declared.work.Task.{Task}
-use Rattle.wb_evaluator.proofs.CallTaskLemmas.{at_end, ends}
+use Rattle.wb_evaluator.proofs.CallTaskLemmas.{some_left, ends}
 use Rattle.wb_evaluator.proofs.DoneLemmas.{extended_twice, same_twice}
 use Rattle.wb_evaluator.proofs.StackLemmas.{smaller}
 use Rattle.wb_evaluator.proofs.perform.evaluate_tasks.Goals as goal
@@ -21,26 +21,27 @@ tasks-smaller g c =
     let popped : c.tasks.work.tasks.items ≡ c.pop.new.self.items ++ c.in-Some.task ∷ [] = search rules in
     smaller nodes c.perform.new.work.tasks.items c.tasks.work.tasks.items c.pop.new.self.items c.in-Some.task less popped
 
-pub unreachable-requires : goal.unreachable-requires
-unreachable-requires g c =
+pub take_last-requires : goal.take_last-requires
+take_last-requires g c =
     let m = c.tasks in
     let none : m.work.tasks.items ≡ [] = search rules in
-    let empty : m.work.values.items ≡ [] = search rules in
-    at_end c.args.context.now.attributes.now
+    let some : 0 < length m.work.values.items =
+    some_left c.args.context.now.attributes.now
     (record { signatures = c.args.context.now.operations.now.signatures; meaning = g.M.Meaning.meaning }) m.store m.machine c.args.site
     c.args.nodes.now [] m.work.values.items m.work.values.items
     (subst (λ (ts : List Task). IsEvaluating c.args.context.now.attributes.now
     (record { signatures = c.args.context.now.operations.now.signatures; meaning = g.M.Meaning.meaning }) m.store m.machine c.args.site
-    c.args.nodes.now ts m.work.values.items) none m.invariant.evaluating) empty
+    c.args.nodes.now ts m.work.values.items) none m.invariant.evaluating) in
+    search rules
 
 pub returns-clause-ran : goal.returns-clause-ran
 returns-clause-ran g c =
     let m = c.tasks in
     let none : m.work.tasks.items ≡ [] = search rules in
-    let some : m.work.values.items ≡ c.pop-2.new.self.items ++ c.in-Some-pop.value ∷ [] = search rules in
+    let some : m.work.values.items ≡ c.take_last.new.self.items ++ c.take_last.result ∷ [] = search rules in
     ends c.args.context.now.attributes.now
     (record { signatures = c.args.context.now.operations.now.signatures; meaning = g.M.Meaning.meaning }) m.store m.machine c.args.site
-    c.args.nodes.now [] m.work.values.items c.pop-2.new.self.items c.in-Some-pop.value
+    c.args.nodes.now [] m.work.values.items c.take_last.new.self.items c.take_last.result
     (subst (λ (vs : List Value). IsEvaluating c.args.context.now.attributes.now
     (record { signatures = c.args.context.now.operations.now.signatures; meaning = g.M.Meaning.meaning }) m.store m.machine c.args.site
     c.args.nodes.now [] vs) some

@@ -30,8 +30,8 @@ go_on-requires-clause-evaluating g c =
     k (wait f.site f.nodes.now work.tasks.items work.values.items) at
     (sym (ap (λ n. slice_get (waits m.frames) (n - 1)) count) ∙ e.taken.its f c.in-Some.is)
 
-pub start-requires-clause-whole : goal.start-requires-clause-whole
-start-requires-clause-whole g c =
+pub run_from_start-requires-clause-whole : goal.run_from_start-requires-clause-whole
+run_from_start-requires-clause-whole g c =
     let m = c.args.machine.now in
     let count = rows_count c.args.context.now.attributes.now
     (record { signatures = c.args.context.now.operations.now.signatures; meaning = g.M.Meaning.meaning }) c.args.store.now m c.requires.whole in

@@ -1,11 +1,14 @@
-use Rattle.std.proofs.Common.{rules, refl}
-use Rattle.wb_evaluator.proofs.BeginLemmas.{begun}
+use Rattle.wb_evaluator.proofs.BeginLemmas.{begun_with}
 use Rattle.wb_evaluator.proofs.steps.begin.Goals as goal
+
+pub push-requires-clause-piled : goal.push-requires-clause-piled
+push-requires-clause-piled g c = c.new-machine.ensures.piled
 
 pub returns-clause-whole : goal.returns-clause-whole
 returns-clause-whole g c =
-    begun c.args.context.now.attributes.now
+    let e = c.in_ok-memo.ensures in
+    let n = c.new-machine.ensures in
+    begun_with c.args.context.now.attributes.now
     (record { signatures = c.args.context.now.operations.now.signatures; meaning = g.M.Meaning.meaning }) c.args.store.now
-    (record { memo = c.in_ok-memo.memo; root = c.args.root; attribute = c.args.attribute; stack = c.push_key.new.stack; frames = c.enter.new.self; entered = 1 })
-    c.requires.evaluable c.requires.there c.requires.asked c.in_ok-memo.ensures.whole c.in_ok-memo.ensures.origins c.in_ok-memo.ensures.trees
-    c.in_ok-memo.ensures.values (search rules) (search rules) c.in_ok-enter.ensures.piled refl
+    c.new-machine.result c.push.new.self c.in_ok-memo.memo c.args.root c.args.attribute c.requires.evaluable c.requires.there c.requires.asked
+    e.whole e.origins e.trees e.values n.memo n.root n.attribute n.stack n.entered n.waits c.in_ok-push.ensures

@@ -1,27 +1,61 @@
 use Rattle.std.proofs.lemmas.Int.{to_z-of_z}
-use Rattle.wb_values.specs.declared.value.Value.TheVariants as stored
-use Rattle.std.proofs.Common.{rules, FitsSigned, w64, ◌∙◌, ◌++◌, ◌∷◌, [], sym, ap, subst}
+use Rattle.std.proofs.Common.{rules, FitsSigned, w64, ℕ, List, Option, length, sym, ap, subst}
+use Rattle.std.specs.Prelude.{IfOk}
 use Rattle.std.proofs.lemmas.Result.{IfOk-weaker}
 use Rattle.wb_expressions.proofs.NodeLemmas.{has_node}
 use Rattle.wb_expressions.specs.declared.node.Node.TheVariants as n
 use Rattle.wb_expressions.specs.Places.{HasNode}
-use Rattle.wb_resolved.specs.declared.equation.Place.TheVariants as place
-use Rattle.wb_evaluator.proofs.DoneLemmas.{int_done, text_done, truth_done, label_there, label_done, lexeme_there, lexeme_done, no_lexeme}
-use Rattle.wb_evaluator.proofs.DoneLemmas.{top_done, read_ready, read_below_done, forward_done, local_done, build_done, call_done}
-use Rattle.wb_evaluator.proofs.DoneLemmas.{choice_done, call_there, number_there}
+use Rattle.wb_evaluator.proofs.DoneLemmas.{int_visited, text_visited, truth_visited, label_label, label_visited, lexeme_label, lexeme_visited}
+use Rattle.wb_evaluator.proofs.DoneLemmas.{top_done, read_ready, read_below_done, forward_done, build_visited, call_visited, choice_visited, call_there}
 use Rattle.wb_evaluator.specs.Inner.Reached.{IsReady}
-use Rattle.wb_evaluator.specs.Inner.Works.{IsReadBelow}
+use Rattle.wb_evaluator.specs.Inner.Works.{IsPushed, ArePushed, IsReadBelow}
+use Rattle.wb_evaluator.specs.declared.machine.Key.{Key}
+use Rattle.wb_evaluator.specs.declared.work.Task.TheVariants as task
+use Rattle.wb_operations.specs.Operations.{HasOperation, IsOperation}
 use Rattle.wb_evaluator.specs.declared.machine.Key.TheVariants as key
 use Rattle.wb_memo.specs.declared.sites.Step.{Step}
+use Rattle.wb_values.specs.declared.value.Value.TheVariants as stored
 use Rattle.wb_evaluator.proofs.visit.visit.Goals as goal
 
-pub visit_child-requires-clause-child : goal.visit_child-requires-clause-child
-visit_child-requires-clause-child g c =
-    let has : HasNode c.args.nodes.now c.args.at (n.Label (place.Child c.in-Child.k)) =
-    subst (HasNode c.args.nodes.now c.args.at) (c.in-Label.is ∙ ap n.Label c.in-Child.is) (has_node c.args.nodes.now c.args.at c.index-nodes-at.result c.requires.there c.index-nodes-at.is) in
-    label_there c.args.context.now.attributes.now
+pub visit_label-requires-clause-whole : goal.visit_label-requires-clause-whole
+visit_label-requires-clause-whole g c =
+    c.requires.evaluating.runs.machine.memo.whole
+
+pub visit_label-requires-clause-there : goal.visit_label-requires-clause-there
+visit_label-requires-clause-there g c =
+    c.requires.evaluating.there
+
+pub visit_label-requires-clause-label : goal.visit_label-requires-clause-label
+visit_label-requires-clause-label g c =
+    let has : HasNode c.args.nodes.now c.args.at (n.Label c.in-Label.place) =
+    subst (HasNode c.args.nodes.now c.args.at) (c.in-Label.is) (has_node c.args.nodes.now c.args.at c.index-nodes-at.result c.requires.there c.index-nodes-at.is) in
+    label_label c.args.context.now.attributes.now
     (record { signatures = c.args.context.now.operations.now.signatures; meaning = g.M.Meaning.meaning }) c.args.store.now c.args.machine.now c.args.site
-    c.args.nodes.now c.args.work.now c.args.work.now c.args.at c.requires.evaluating c.in-Child.k has
+    c.args.nodes.now c.args.work.now c.args.work.now c.args.at c.requires.evaluating c.in-Label.place has
+
+pub visit_label-requires-in-Lexeme-clause-whole : goal.visit_label-requires-in-Lexeme-clause-whole
+visit_label-requires-in-Lexeme-clause-whole g c =
+    c.requires.evaluating.runs.machine.memo.whole
+
+pub visit_label-requires-in-Lexeme-clause-there : goal.visit_label-requires-in-Lexeme-clause-there
+visit_label-requires-in-Lexeme-clause-there g c =
+    c.requires.evaluating.there
+
+pub visit_label-requires-in-Lexeme-clause-label : goal.visit_label-requires-in-Lexeme-clause-label
+visit_label-requires-in-Lexeme-clause-label g c =
+    let has : HasNode c.args.nodes.now c.args.at (n.Lexeme c.in-Lexeme.place) =
+    subst (HasNode c.args.nodes.now c.args.at) (c.in-Lexeme.is) (has_node c.args.nodes.now c.args.at c.index-nodes-at.result c.requires.there c.index-nodes-at.is) in
+    lexeme_label c.args.context.now.attributes.now
+    (record { signatures = c.args.context.now.operations.now.signatures; meaning = g.M.Meaning.meaning }) c.args.store.now c.args.machine.now c.args.site
+    c.args.nodes.now c.args.work.now c.args.work.now c.args.at c.requires.evaluating c.in-Lexeme.place has
+
+pub read_below-requires-clause-whole : goal.read_below-requires-clause-whole
+read_below-requires-clause-whole g c =
+    c.requires.evaluating.runs.machine.memo.whole
+
+pub read_below-requires-clause-there : goal.read_below-requires-clause-there
+read_below-requires-clause-there g c =
+    c.requires.evaluating.there
 
 pub read_below-requires-clause-ready : goal.read_below-requires-clause-ready
 read_below-requires-clause-ready g c =
@@ -32,138 +66,138 @@ read_below-requires-clause-ready g c =
     (record { signatures = c.args.context.now.operations.now.signatures; meaning = g.M.Meaning.meaning }) c.args.store.now c.args.machine.now c.args.site
     c.args.nodes.now c.args.work.now c.args.work.now c.args.at c.requires.evaluating c.in-Read.label c.in-Read.attribute has)
 
-pub visit_child-requires-in-Child-place-clause-child : goal.visit_child-requires-in-Child-place-clause-child
-visit_child-requires-in-Child-place-clause-child g c =
-    let has : HasNode c.args.nodes.now c.args.at (n.Lexeme (place.Child c.in-Child-place.k)) =
-    subst (HasNode c.args.nodes.now c.args.at) (c.in-Lexeme.is ∙ ap n.Lexeme c.in-Child-place.is) (has_node c.args.nodes.now c.args.at c.index-nodes-at.result c.requires.there c.index-nodes-at.is) in
-    lexeme_there c.args.context.now.attributes.now
-    (record { signatures = c.args.context.now.operations.now.signatures; meaning = g.M.Meaning.meaning }) c.args.store.now c.args.machine.now c.args.site
-    c.args.nodes.now c.args.work.now c.args.work.now c.args.at c.requires.evaluating c.in-Child-place.k has
+pub read_below-requires-in-Forward-clause-whole : goal.read_below-requires-in-Forward-clause-whole
+read_below-requires-in-Forward-clause-whole g c =
+    c.requires.evaluating.runs.machine.memo.whole
 
-pub unreachable-requires : goal.unreachable-requires
-unreachable-requires g c =
-    let has : HasNode c.args.nodes.now c.args.at (n.Lexeme (place.Local c.in-Local-place.field-0)) =
-    subst (HasNode c.args.nodes.now c.args.at) (c.in-Lexeme.is ∙ ap n.Lexeme c.in-Local-place.is) (has_node c.args.nodes.now c.args.at c.index-nodes-at.result c.requires.there c.index-nodes-at.is) in
-    no_lexeme c.args.context.now.attributes.now
-    (record { signatures = c.args.context.now.operations.now.signatures; meaning = g.M.Meaning.meaning }) c.args.store.now c.args.machine.now c.args.site
-    c.args.nodes.now c.args.work.now c.args.work.now c.args.at c.requires.evaluating c.in-Local-place.field-0 has
+pub read_below-requires-in-Forward-clause-there : goal.read_below-requires-in-Forward-clause-there
+read_below-requires-in-Forward-clause-there g c =
+    c.requires.evaluating.there
 
-pub unreachable-requires-in-None : goal.unreachable-requires-in-None
-unreachable-requires-in-None g c =
+pub read-requires-clause-whole : goal.read-requires-clause-whole
+read-requires-clause-whole g c =
+    c.requires.evaluating.runs.machine.memo.whole
+
+pub read-requires-clause-key : goal.read-requires-clause-key
+read-requires-clause-key g c =
+    c.requires.evaluating.there
+
+pub visit_call-requires : goal.visit_call-requires
+visit_call-requires g c =
     let has : HasNode c.args.nodes.now c.args.at (n.Call c.in-Call.operation c.in-Call.arguments) =
     subst (HasNode c.args.nodes.now c.args.at) (c.in-Call.is) (has_node c.args.nodes.now c.args.at c.index-nodes-at.result c.requires.there c.index-nodes-at.is) in
-    let there = call_there c.args.context.now.attributes.now
+    subst (HasOperation c.args.context.now.operations.now.signatures) (sym c.as_slice-in-Call.ensures)
+    (call_there c.args.context.now.attributes.now
     (record { signatures = c.args.context.now.operations.now.signatures; meaning = g.M.Meaning.meaning }) c.args.store.now c.args.machine.now c.args.site
-    c.args.nodes.now c.args.work.now c.args.work.now c.args.at c.requires.evaluating c.in-Call.operation c.in-Call.arguments has in
-    c.in-None.ensures.none (search rules)
+    c.args.nodes.now c.args.work.now c.args.work.now c.args.at c.requires.evaluating c.in-Call.operation c.in-Call.arguments has)
 
-pub returns-in_ok-push_value-in-Int : goal.returns-in_ok-push_value-in-Int
-returns-in_ok-push_value-in-Int g c =
+pub returns-in-Int : goal.returns-in-Int
+returns-in-Int g c =
     let has : HasNode c.args.nodes.now c.args.at (n.Int c.in-Int.number) =
     subst (HasNode c.args.nodes.now c.args.at) (c.in-Int.is) (has_node c.args.nodes.now c.args.at c.index-nodes-at.result c.requires.there c.index-nodes-at.is) in
     let fits : FitsSigned w64 c.in-Int.number = search rules in
     let number = to_z-of_z w64 c.in-Int.number fits in
-    int_done c.args.context.now.attributes.now
+    IfOk-weaker c.visit_value.result _ _
+    (λ r it. int_visited c.args.context.now.attributes.now
     (record { signatures = c.args.context.now.operations.now.signatures; meaning = g.M.Meaning.meaning }) c.args.store.now c.args.machine.now c.args.site
-    c.args.nodes.now c.args.work.now c.push_value.new.self c.args.at c.requires.evaluating c.in-Int.number has c.in_ok-push_value-in-Int.ensures.tasks (c.in_ok-push_value-in-Int.ensures.values
-    ∙ ap (λ z. c.args.work.now.values.items ++ stored.Int z ∷ []) number)
+    c.args.nodes.now c.args.work.now c.visit_value.new.work c.args.at c.requires.evaluating c.in-Int.number has r
+    (subst (λ z. IsPushed c.args.work.now c.visit_value.new.work (stored.Int z) r) number it)) c.visit_value.ensures
 
-pub returns-in_ok-push_value-in-Text : goal.returns-in_ok-push_value-in-Text
-returns-in_ok-push_value-in-Text g c =
+pub returns-in-Text : goal.returns-in-Text
+returns-in-Text g c =
     let has : HasNode c.args.nodes.now c.args.at (n.Text c.in-Text.text) =
     subst (HasNode c.args.nodes.now c.args.at) (c.in-Text.is) (has_node c.args.nodes.now c.args.at c.index-nodes-at.result c.requires.there c.index-nodes-at.is) in
-    text_done c.args.context.now.attributes.now
+    IfOk-weaker c.visit_text.result _ _
+    (λ r it. text_visited c.args.context.now.attributes.now
     (record { signatures = c.args.context.now.operations.now.signatures; meaning = g.M.Meaning.meaning }) c.args.store.now c.args.machine.now c.args.site
-    c.args.nodes.now c.args.work.now c.push_value-in-Text.new.self c.args.at c.requires.evaluating c.in-Text.text has c.in_ok-push_value-in-Text.ensures.tasks (search rules)
+    c.args.nodes.now c.args.work.now c.visit_text.new.work c.args.at c.requires.evaluating c.in-Text.text has r it) c.visit_text.ensures
 
-pub returns-in_ok-push_value-in-Bool : goal.returns-in_ok-push_value-in-Bool
-returns-in_ok-push_value-in-Bool g c =
+pub returns-in-Bool : goal.returns-in-Bool
+returns-in-Bool g c =
     let has : HasNode c.args.nodes.now c.args.at (n.Bool c.in-Bool.truth) =
     subst (HasNode c.args.nodes.now c.args.at) (c.in-Bool.is) (has_node c.args.nodes.now c.args.at c.index-nodes-at.result c.requires.there c.index-nodes-at.is) in
-    truth_done c.args.context.now.attributes.now
+    IfOk-weaker c.visit_value-in-Bool.result _ _
+    (λ r it. truth_visited c.args.context.now.attributes.now
     (record { signatures = c.args.context.now.operations.now.signatures; meaning = g.M.Meaning.meaning }) c.args.store.now c.args.machine.now c.args.site
-    c.args.nodes.now c.args.work.now c.push_value-in-Bool.new.self c.args.at c.requires.evaluating c.in-Bool.truth has c.in_ok-push_value-in-Bool.ensures.tasks c.in_ok-push_value-in-Bool.ensures.values
+    c.args.nodes.now c.args.work.now c.visit_value-in-Bool.new.work c.args.at c.requires.evaluating c.in-Bool.truth has r it) c.visit_value-in-Bool.ensures
 
-pub returns-in-Child : goal.returns-in-Child
-returns-in-Child g c =
-    let has : HasNode c.args.nodes.now c.args.at (n.Label (place.Child c.in-Child.k)) =
-    subst (HasNode c.args.nodes.now c.args.at) (c.in-Label.is ∙ ap n.Label c.in-Child.is) (has_node c.args.nodes.now c.args.at c.index-nodes-at.result c.requires.there c.index-nodes-at.is) in
-    IfOk-weaker c.visit_child.result _ _
-    (λ r pushed. label_done c.args.context.now.attributes.now
+pub returns-in-Label : goal.returns-in-Label
+returns-in-Label g c =
+    let has : HasNode c.args.nodes.now c.args.at (n.Label c.in-Label.place) =
+    subst (HasNode c.args.nodes.now c.args.at) (c.in-Label.is) (has_node c.args.nodes.now c.args.at c.index-nodes-at.result c.requires.there c.index-nodes-at.is) in
+    IfOk-weaker c.visit_label.result _ _
+    (λ r it. label_visited c.args.context.now.attributes.now
     (record { signatures = c.args.context.now.operations.now.signatures; meaning = g.M.Meaning.meaning }) c.args.store.now c.args.machine.now c.args.site
-    c.args.nodes.now c.args.work.now c.visit_child.new.work c.args.at c.requires.evaluating c.in-Child.k has r pushed) c.visit_child.ensures
+    c.args.nodes.now c.args.work.now c.visit_label.new.work c.args.at c.requires.evaluating c.in-Label.place has c.visit_label.new.machine r it) c.visit_label.ensures
 
-pub returns-in-Local : goal.returns-in-Local
-returns-in-Local g c =
-    let has : HasNode c.args.nodes.now c.args.at (n.Label (place.Local c.in-Local.x)) =
-    subst (HasNode c.args.nodes.now c.args.at) (c.in-Label.is ∙ ap n.Label c.in-Local.is) (has_node c.args.nodes.now c.args.at c.index-nodes-at.result c.requires.there c.index-nodes-at.is) in
-    IfOk-weaker c.read_local.result _ _
-    (λ r reading. local_done c.args.context.now.attributes.now
+pub returns-in-Lexeme : goal.returns-in-Lexeme
+returns-in-Lexeme g c =
+    let has : HasNode c.args.nodes.now c.args.at (n.Lexeme c.in-Lexeme.place) =
+    subst (HasNode c.args.nodes.now c.args.at) (c.in-Lexeme.is) (has_node c.args.nodes.now c.args.at c.index-nodes-at.result c.requires.there c.index-nodes-at.is) in
+    IfOk-weaker c.visit_label-in-Lexeme.result _ _
+    (λ r it. lexeme_visited c.args.context.now.attributes.now
     (record { signatures = c.args.context.now.operations.now.signatures; meaning = g.M.Meaning.meaning }) c.args.store.now c.args.machine.now c.args.site
-    c.args.nodes.now c.args.work.now c.read_local.new.work c.args.at c.requires.evaluating c.in-Local.x has c.read_local.new.machine r reading) c.read_local.ensures
+    c.args.nodes.now c.args.work.now c.visit_label-in-Lexeme.new.work c.args.at c.requires.evaluating c.in-Lexeme.place has c.visit_label-in-Lexeme.new.machine r it) c.visit_label-in-Lexeme.ensures
 
 pub returns-in-Read : goal.returns-in-Read
 returns-in-Read g c =
     let has : HasNode c.args.nodes.now c.args.at (n.Read c.in-Read.label c.in-Read.attribute) =
     subst (HasNode c.args.nodes.now c.args.at) (c.in-Read.is) (has_node c.args.nodes.now c.args.at c.index-nodes-at.result c.requires.there c.index-nodes-at.is) in
     IfOk-weaker c.read_below.result _ _
-    (λ r reading. read_below_done c.args.context.now.attributes.now
+    (λ r it. read_below_done c.args.context.now.attributes.now
     (record { signatures = c.args.context.now.operations.now.signatures; meaning = g.M.Meaning.meaning }) c.args.store.now c.args.machine.now c.args.site
     c.args.nodes.now c.args.work.now c.read_below.new.work c.args.at c.requires.evaluating c.in-Read.label c.in-Read.attribute has c.read_below.new.machine r
     (subst (λ (s : Step). IsReadBelow c.args.store.now c.args.machine.now c.read_below.new.machine c.args.site s
-    (λ below. key.Synthesized below c.in-Read.attribute) c.args.work.now c.read_below.new.work r) c.step_to.ensures reading)) c.read_below.ensures
-
-pub returns-in-Child-place : goal.returns-in-Child-place
-returns-in-Child-place g c =
-    let has : HasNode c.args.nodes.now c.args.at (n.Lexeme (place.Child c.in-Child-place.k)) =
-    subst (HasNode c.args.nodes.now c.args.at) (c.in-Lexeme.is ∙ ap n.Lexeme c.in-Child-place.is) (has_node c.args.nodes.now c.args.at c.index-nodes-at.result c.requires.there c.index-nodes-at.is) in
-    IfOk-weaker c.visit_child-in-Child-place.result _ _
-    (λ r pushed. lexeme_done c.args.context.now.attributes.now
-    (record { signatures = c.args.context.now.operations.now.signatures; meaning = g.M.Meaning.meaning }) c.args.store.now c.args.machine.now c.args.site
-    c.args.nodes.now c.args.work.now c.visit_child-in-Child-place.new.work c.args.at c.requires.evaluating c.in-Child-place.k has r pushed) c.visit_child-in-Child-place.ensures
+    (λ below. key.Synthesized below c.in-Read.attribute) c.args.work.now c.read_below.new.work r) c.step_to.ensures it)) c.read_below.ensures
 
 pub returns-in-Top : goal.returns-in-Top
 returns-in-Top g c =
     let has : HasNode c.args.nodes.now c.args.at (n.Top c.in-Top.attribute) =
     subst (HasNode c.args.nodes.now c.args.at) (c.in-Top.is) (has_node c.args.nodes.now c.args.at c.index-nodes-at.result c.requires.there c.index-nodes-at.is) in
     IfOk-weaker c.read.result _ _
-    (λ r reading. top_done c.args.context.now.attributes.now
+    (λ r it. top_done c.args.context.now.attributes.now
     (record { signatures = c.args.context.now.operations.now.signatures; meaning = g.M.Meaning.meaning }) c.args.store.now c.args.machine.now c.args.site
-    c.args.nodes.now c.args.work.now c.read.new.work c.args.at c.requires.evaluating c.in-Top.attribute has r reading) c.read.ensures
+    c.args.nodes.now c.args.work.now c.read.new.work c.args.at c.requires.evaluating c.in-Top.attribute has r it) c.read.ensures
 
 pub returns-in-Forward : goal.returns-in-Forward
 returns-in-Forward g c =
     let has : HasNode c.args.nodes.now c.args.at (n.Forward c.in-Forward.attribute) =
     subst (HasNode c.args.nodes.now c.args.at) (c.in-Forward.is) (has_node c.args.nodes.now c.args.at c.index-nodes-at.result c.requires.there c.index-nodes-at.is) in
     IfOk-weaker c.read_below-in-Forward.result _ _
-    (λ r reading. forward_done c.args.context.now.attributes.now
+    (λ r it. forward_done c.args.context.now.attributes.now
     (record { signatures = c.args.context.now.operations.now.signatures; meaning = g.M.Meaning.meaning }) c.args.store.now c.args.machine.now c.args.site
-    c.args.nodes.now c.args.work.now c.read_below-in-Forward.new.work c.args.at c.requires.evaluating c.in-Forward.attribute has c.read_below-in-Forward.new.machine r reading)
-    c.read_below-in-Forward.ensures
+    c.args.nodes.now c.args.work.now c.read_below-in-Forward.new.work c.args.at c.requires.evaluating c.in-Forward.attribute has c.read_below-in-Forward.new.machine r it) c.read_below-in-Forward.ensures
 
-pub returns-in_ok-push_visits-in-Build : goal.returns-in_ok-push_visits-in-Build
-returns-in_ok-push_visits-in-Build g c =
+pub returns-in-Build : goal.returns-in-Build
+returns-in-Build g c =
     let has : HasNode c.args.nodes.now c.args.at (n.Build c.in-Build.production c.in-Build.children) =
     subst (HasNode c.args.nodes.now c.args.at) (c.in-Build.is) (has_node c.args.nodes.now c.args.at c.index-nodes-at.result c.requires.there c.index-nodes-at.is) in
-    build_done c.args.context.now.attributes.now
+    IfOk-weaker c.visit_build.result _ _
+    (λ r it. build_visited c.args.context.now.attributes.now
     (record { signatures = c.args.context.now.operations.now.signatures; meaning = g.M.Meaning.meaning }) c.args.store.now c.args.machine.now c.args.site
-    c.args.nodes.now c.args.work.now c.push_visits.new.self c.args.at c.requires.evaluating c.in-Build.production c.in-Build.children has (search rules) (search rules)
+    c.args.nodes.now c.args.work.now c.visit_build.new.work c.args.at c.requires.evaluating c.in-Build.production c.in-Build.children has r it)
+    (subst (λ (xs : List ℕ). IfOk c.visit_build.result (ArePushed c.args.work.now c.visit_build.new.work
+    (task.Build c.in-Build.production (length xs)) xs)) c.as_slice.ensures c.visit_build.ensures)
 
-pub returns-in_ok-push_visits-in-Some : goal.returns-in_ok-push_visits-in-Some
-returns-in_ok-push_visits-in-Some g c =
+pub returns-in-Call : goal.returns-in-Call
+returns-in-Call g c =
     let has : HasNode c.args.nodes.now c.args.at (n.Call c.in-Call.operation c.in-Call.arguments) =
     subst (HasNode c.args.nodes.now c.args.at) (c.in-Call.is) (has_node c.args.nodes.now c.args.at c.index-nodes-at.result c.requires.there c.index-nodes-at.is) in
-    call_done c.args.context.now.attributes.now
+    IfOk-weaker c.visit_call.result _ _
+    (λ r it. call_visited c.args.context.now.attributes.now
     (record { signatures = c.args.context.now.operations.now.signatures; meaning = g.M.Meaning.meaning }) c.args.store.now c.args.machine.now c.args.site
-    c.args.nodes.now c.args.work.now c.push_visits-in-Some.new.self c.args.at c.requires.evaluating c.in-Call.operation c.in-Some.operation c.in-Call.arguments has
-    (number_there c.args.context.now.attributes.now
-    (record { signatures = c.args.context.now.operations.now.signatures; meaning = g.M.Meaning.meaning }) c.args.store.now c.args.machine.now c.args.site
-    c.args.nodes.now c.args.work.now c.push_visits-in-Some.new.self c.args.at c.requires.evaluating c.in-Call.operation c.in-Some.operation (search rules)) (search rules) (search rules)
+    c.args.nodes.now c.args.work.now c.visit_call.new.work c.args.at c.requires.evaluating c.in-Call.operation c.in-Call.arguments has r it)
+    (subst (λ (name : List ℕ). IfOk c.visit_call.result (λ r. (number : ℕ) × IsOperation c.args.context.now.operations.now.signatures name number
+    × ArePushed c.args.work.now c.visit_call.new.work (task.Call number (length c.in-Call.arguments)) c.in-Call.arguments r)) c.as_slice-in-Call.ensures
+    (subst (λ (xs : List ℕ). IfOk c.visit_call.result (λ r. (number : ℕ) × IsOperation c.args.context.now.operations.now.signatures
+    c.as_slice-in-Call.result.now number × ArePushed c.args.work.now c.visit_call.new.work (task.Call number (length xs)) xs r))
+    c.as_slice-in-Call-2.ensures c.visit_call.ensures))
 
-pub returns-in_ok-push_task-in-If-2 : goal.returns-in_ok-push_task-in-If-2
-returns-in_ok-push_task-in-If-2 g c =
+pub returns-in-If : goal.returns-in-If
+returns-in-If g c =
     let has : HasNode c.args.nodes.now c.args.at (n.If c.in-If.condition c.in-If.holds c.in-If.fails) =
     subst (HasNode c.args.nodes.now c.args.at) (c.in-If.is) (has_node c.args.nodes.now c.args.at c.index-nodes-at.result c.requires.there c.index-nodes-at.is) in
-    choice_done c.args.context.now.attributes.now
+    IfOk-weaker c.visit_branches.result _ _
+    (λ r it. choice_visited c.args.context.now.attributes.now
     (record { signatures = c.args.context.now.operations.now.signatures; meaning = g.M.Meaning.meaning }) c.args.store.now c.args.machine.now c.args.site
-    c.args.nodes.now c.args.work.now c.push_task-in-If-2.new.self c.args.at c.requires.evaluating c.in-If.condition c.in-If.holds c.in-If.fails has (search rules) (search rules)
+    c.args.nodes.now c.args.work.now c.visit_branches.new.work c.args.at c.requires.evaluating c.in-If.condition c.in-If.holds c.in-If.fails has r it) c.visit_branches.ensures

@@ -2,7 +2,7 @@ use Rattle.std.specs.Prelude.{◌≡◌, ◌≤◌}
 use Rattle.wb_evaluator.specs.Inner.Answering.{turns_left}
 use Rattle.wb_evaluator.specs.Inner.Machines.{IsMachine}
 use Rattle.wb_evaluator.specs.Inner.Works.{IsExtended}
-use Rattle.wb_evaluator.proofs.answering.evaluate.Given as goal
+use Rattle.wb_evaluator.proofs.answering.take_turns.Given as goal
 
 abbrev pub invariant-turns : goal.invariant-turns
 invariant-turns g l = record {

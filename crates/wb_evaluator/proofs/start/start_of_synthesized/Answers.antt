@@ -1,10 +1,10 @@
 use Rattle.std.proofs.Common.{rules, ◌≡◌, ◌∙◌, Some, None, slice_get, sym, ap}
 use Rattle.std.proofs.lemmas.Option.{slice_get-get_or}
 use Rattle.wb_evaluator.proofs.StartLemmas.{synthesized_within, synthesized_starting, synthesized_forward, synthesized_wanted, synthesized_production}
-use Rattle.wb_evaluator.proofs.run.run_synthesized.Goals as goal
+use Rattle.wb_evaluator.proofs.start.start_of_synthesized.Goals as goal
 
-pub returns-then-is_none-clause-ran : goal.returns-then-is_none-clause-ran
-returns-then-is_none-clause-ran g c =
+pub returns-then-is_none : goal.returns-then-is_none
+returns-then-is_none g c =
     let within = synthesized_within c.args.context.now.attributes.now
     (record { signatures = c.args.context.now.operations.now.signatures; meaning = g.M.Meaning.meaning }) c.args.store.now c.args.machine.now c.args.site c.args.attribute c.requires.works in
     let absent : c.index.result.now ≡ None = search rules in
@@ -22,14 +22,14 @@ rules_at-rules-requires-clause-production g c =
     synthesized_production c.args.context.now.attributes.now
     (record { signatures = c.args.context.now.operations.now.signatures; meaning = g.M.Meaning.meaning }) c.args.store.now c.args.machine.now c.args.site c.args.attribute c.requires.works c.index.result.now there (search rules)
 
-pub evaluate_at-requires-clause-starting : goal.evaluate_at-requires-clause-starting
-evaluate_at-requires-clause-starting g c =
+pub returns-in-Some : goal.returns-in-Some
+returns-in-Some g c =
     synthesized_starting c.args.context.now.attributes.now
     (record { signatures = c.args.context.now.operations.now.signatures; meaning = g.M.Meaning.meaning }) c.args.store.now c.args.machine.now c.args.site c.args.attribute c.requires.works c.rules_at-rules.result.production.now c.in-Some.nodes.now
     c.rules_at-rules.ensures.production c.in-Some.ensures.some
 
-pub run_forward-requires : goal.run_forward-requires
-run_forward-requires g c =
+pub returns-in-None : goal.returns-in-None
+returns-in-None g c =
     synthesized_forward c.args.context.now.attributes.now
     (record { signatures = c.args.context.now.operations.now.signatures; meaning = g.M.Meaning.meaning }) c.args.store.now c.args.machine.now c.args.site c.args.attribute c.requires.works c.rules_at-rules.result.production.now
     c.rules_at-rules.ensures.production c.in-None.ensures.none

@@ -1,7 +1,10 @@
 -- How rows lie in one list.
-use Rattle.std.specs.Prelude.{◌≡◌, ◌≢◌, ◌≤◌, ◌+◌, ◌⊎◌, ℕ, List, Some, length, map, slice_get}
-use Rattle.wb_memo.specs.Inner.Lists.{row_of}
+use Rattle.std.specs.Prelude.{◌≡◌, ◌≢◌, ◌≤◌, ◌+◌, ◌⊎◌, ℕ, List, Some, length, map, slice_get, take, drop}
 use Rattle.wb_memo.specs.declared.rows.Row.{Row}
+
+-- the numbers of a row
+abbrev pub row_of : List ℕ → Row → List ℕ
+row_of numbers r = take r.width (drop r.first numbers)
 
 -- the rows
 abbrev pub rows_in : List ℕ → List Row → List (List ℕ)

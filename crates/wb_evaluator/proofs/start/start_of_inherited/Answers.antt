@@ -3,10 +3,11 @@ use Rattle.std.proofs.lemmas.Option.{slice_get-get_or}
 use Rattle.wb_attributes.specs.Rules.{IsRule, HasRule}
 use Rattle.wb_attributes.specs.Vertices.{Vertex}
 use Rattle.wb_evaluator.proofs.StartLemmas.{inherited_some, inherited_there, inherited_production, inherited_starting, inherited_alone}
-use Rattle.wb_evaluator.proofs.run.run_inherited.Goals as goal
+use Rattle.wb_evaluator.proofs.start.start_of_inherited.Goals as goal
 
 pub overflow_sub-site : goal.overflow_sub-site
-overflow_sub-site g c = (inherited_some c.args.context.now.attributes.now
+overflow_sub-site g c =
+    (inherited_some c.args.context.now.attributes.now
     (record { signatures = c.args.context.now.operations.now.signatures; meaning = g.M.Meaning.meaning }) c.args.store.now c.args.machine.now c.args.site c.args.attribute c.requires.works).0
 
 pub index-origin-requires : goal.index-origin-requires
@@ -35,26 +36,26 @@ rules_at-rules-requires-clause-production g c =
     inherited_production c.args.context.now.attributes.now
     (record { signatures = c.args.context.now.operations.now.signatures; meaning = g.M.Meaning.meaning }) c.args.store.now c.args.machine.now c.args.site c.args.attribute c.requires.works o at
 
-pub evaluate_at-requires-clause-starting : goal.evaluate_at-requires-clause-starting
-evaluate_at-requires-clause-starting g c =
+pub returns-in-Some : goal.returns-in-Some
+returns-in-Some g c =
     let o = c.index-origin.result.now in
     let (some, within) = inherited_some c.args.context.now.attributes.now
     (record { signatures = c.args.context.now.operations.now.signatures; meaning = g.M.Meaning.meaning }) c.args.store.now c.args.machine.now c.args.site c.args.attribute c.requires.works in
     let at : slice_get c.args.machine.now.memo.sites.origins.items (c.args.site - 1) ≡ Some o =
     slice_get-get_or c.args.machine.now.memo.sites.origins.items (c.args.site - 1) o within ∙ ap Some (sym c.index-origin.ensures) in
-    let rule = c.in-Some.ensures.some in
     inherited_starting c.args.context.now.attributes.now
-    (record { signatures = c.args.context.now.operations.now.signatures; meaning = g.M.Meaning.meaning }) c.args.store.now c.args.machine.now c.args.site c.args.attribute c.requires.works o at c.rules_at-rules.result.production.now c.in-Some.nodes.now
-    c.rules_at-rules.ensures.production (subst (λ (v : Vertex). IsRule c.rules_at-rules.result.production.now v c.in-Some.nodes.now) c.target_below.ensures rule)
+    (record { signatures = c.args.context.now.operations.now.signatures; meaning = g.M.Meaning.meaning }) c.args.store.now c.args.machine.now c.args.site c.args.attribute c.requires.works o at
+    c.rules_at-rules.result.production.now c.in-Some.nodes.now c.rules_at-rules.ensures.production
+    (subst (λ (v : Vertex). IsRule c.rules_at-rules.result.production.now v c.in-Some.nodes.now) c.target_below.ensures c.in-Some.ensures.some)
 
-pub read_alone-requires : goal.read_alone-requires
-read_alone-requires g c =
+pub returns-in-None : goal.returns-in-None
+returns-in-None g c =
     let o = c.index-origin.result.now in
     let (some, within) = inherited_some c.args.context.now.attributes.now
     (record { signatures = c.args.context.now.operations.now.signatures; meaning = g.M.Meaning.meaning }) c.args.store.now c.args.machine.now c.args.site c.args.attribute c.requires.works in
     let at : slice_get c.args.machine.now.memo.sites.origins.items (c.args.site - 1) ≡ Some o =
     slice_get-get_or c.args.machine.now.memo.sites.origins.items (c.args.site - 1) o within ∙ ap Some (sym c.index-origin.ensures) in
-    let none = c.in-None.ensures.none in
     inherited_alone c.args.context.now.attributes.now
-    (record { signatures = c.args.context.now.operations.now.signatures; meaning = g.M.Meaning.meaning }) c.args.store.now c.args.machine.now c.args.site c.args.attribute c.requires.works o at c.rules_at-rules.result.production.now
-    c.rules_at-rules.ensures.production (subst (λ (v : Vertex). ¬ HasRule c.rules_at-rules.result.production.now v) c.target_below.ensures none)
+    (record { signatures = c.args.context.now.operations.now.signatures; meaning = g.M.Meaning.meaning }) c.args.store.now c.args.machine.now c.args.site c.args.attribute c.requires.works o at
+    c.rules_at-rules.result.production.now c.rules_at-rules.ensures.production
+    (subst (λ (v : Vertex). ¬ HasRule c.rules_at-rules.result.production.now v) c.target_below.ensures c.in-None.ensures.none)
