@@ -13,12 +13,11 @@ ghost use Rattle.wb_extensions.specs.Inner.Contexts.{IsContext, host_of};
 ghost use Rattle.wb_extensions.specs.Inner.Index.{IsIndex, IsIndexable};
 ghost use Rattle.wb_extensions.specs.Inner.Envelopes.{AreContaining, IsEnvelopeRow, IsEnvelopeSet};
 
-use crate::closure::closure_of;
 use crate::context::Context;
 use crate::host_index::{States, listed};
 use std::alloc::{AllocError, Global};
 use wb_base::push;
-use wb_items::{Item, ItemLookahead, Kernels, Numbers};
+use wb_items::{Item, ItemLookahead, Kernels, Numbers, kernel_closure};
 use wb_termset::TermSet;
 
 // The items of the closure of a kernel, each with its lookaheads in the envelope.
@@ -33,7 +32,7 @@ pub(crate) fn envelope_of(
     requires own { IsIndexable (host_of context.now) own.now }
     ensures { IfOk result (λ row. IsEnvelopeRow (host_of context.now) own.now row.items) }
 {
-    let closure = closure_of(alloc, context.grammar, rules, own)?;
+    let closure = kernel_closure(alloc, context.grammar, rules, own)?;
     envelope_row(alloc, context, own, &closure)
 }
 
