@@ -4,7 +4,7 @@ use Rattle.wb_attributes.specs.Vertices.{Made, local, forward, Step, child, made
 use Rattle.wb_operations.specs.Operations.{Operations}
 use Rattle.wb_resolved.specs.declared.attribution.AttributionParts.{AttributionParts}
 use Rattle.wb_resolved.specs.Expression.{Expression}
-use Rattle.wb_values.specs.Tree.{Tree, Value, plain, tree, children_of}
+use Rattle.wb_values.specs.Tree.{Tree, Value, plain, tree, children_of, value_at}
 use Rattle.wb_evaluation.proofs.AnswerLemmas.{one_node, one_answer}
 use Rattle.wb_evaluation.proofs.OutcomeLemmas.{EndsAt, ComesAt, Is, read_ends, done_ends, missing_ends, read_comes, done_comes}
 use Rattle.wb_evaluation.proofs.OutcomeLemmas.{outcome_ends, ends_outcome, reads_come, come_reads}
@@ -14,7 +14,7 @@ use Rattle.wb_evaluation.specs.Cases.{IsTree, AreUndefined, HasCases}
 use Rattle.wb_evaluation.specs.Instances.{Path, root, down, Instance, synthesized_at, inherited_at, tree_at, home}
 use Rattle.wb_evaluation.specs.Needed.{here, after, ReadsNext}
 use Rattle.wb_evaluation.specs.Outcomes.{HasOutcome, Reads}
-use Rattle.wb_evaluation.specs.Walks.{Outcome, value, fault, Walk, read, missing, value_at, with_tree, walk_expression, finish, walk_top}
+use Rattle.wb_evaluation.specs.Walks.{Outcome, value, fault, Walk, read, missing, with_tree, walk_expression, finish, walk_top}
 use Rattle.wb_evaluation.specs.Walks.{walk_below, walk_made, tree_rule, walk_synthesized, walk_of}
 
 module _ (a : AttributionParts) (operations : Operations) (top : Tree) where

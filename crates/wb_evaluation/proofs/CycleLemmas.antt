@@ -14,7 +14,7 @@ use Rattle.wb_resolved.specs.declared.production.ChildKind.{ChildKind}
 use Rattle.wb_resolved.specs.declared.production.ChildKind.TheVariants as child_kind
 use Rattle.wb_resolved.specs.declared.production.Production.{Production}
 use Rattle.wb_resolved.specs.Numbered.{value_kind}
-use Rattle.wb_values.specs.Tree.{Tree, tree, production_of, children_of}
+use Rattle.wb_values.specs.Tree.{Tree, tree, production_of, children_of, value_at}
 use Rattle.wb_evaluation.proofs.AnswerLemmas.{one_node}
 use Rattle.wb_evaluation.proofs.KindLemmas.{fit_of, Fits, node_fits, kinded}
 use Rattle.wb_evaluation.proofs.ProductionLemmas.{one_below, well_defined}
@@ -24,7 +24,6 @@ use Rattle.wb_evaluation.proofs.SoundLemmas.{fits_at, kinds_of}
 use Rattle.wb_evaluation.specs.Answers.{at_child, at_made}
 use Rattle.wb_evaluation.specs.Instances.{Path, root, down, Instance, synthesized_at, tree_at, instance_of}
 use Rattle.wb_evaluation.specs.Needed.{itself, next}
-use Rattle.wb_evaluation.specs.Walks.{value_at}
 
 -- how far below the root a node is
 abbrev pub depth : Path → ℕ

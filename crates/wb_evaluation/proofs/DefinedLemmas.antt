@@ -18,7 +18,7 @@ use Rattle.wb_resolved.specs.declared.production.Local.{Local}
 use Rattle.wb_resolved.specs.declared.production.Production.{Production}
 use Rattle.wb_resolved.specs.Expression.{Expression, Node}
 use Rattle.wb_resolved.specs.Numbered.{value_kind}
-use Rattle.wb_values.specs.Tree.{int, bool, text, Tree, Value, plain, tree, Values, production_of, children_of}
+use Rattle.wb_values.specs.Tree.{int, bool, text, Tree, Value, plain, tree, Values, production_of, children_of, value_at}
 use Rattle.wb_evaluation.proofs.AnswerLemmas.{one_node}
 use Rattle.wb_evaluation.proofs.CycleLemmas.{Nest, level, inside, run, there_needed, is_moved, walk_in}
 use Rattle.wb_evaluation.proofs.ExpressionLemmas.{IsIn}
@@ -33,7 +33,7 @@ use Rattle.wb_evaluation.specs.Answers.{at_root, at_child, at_made}
 use Rattle.wb_evaluation.specs.Evaluable.{IsAsked}
 use Rattle.wb_evaluation.specs.Instances.{Path, root, down, Instance, synthesized_at, inherited_at, tree_at, home}
 use Rattle.wb_evaluation.specs.Rules.{rule_of}
-use Rattle.wb_evaluation.specs.Walks.{value, missing, value_at, with_tree, walk_expression, finish, walk_top, walk_below}
+use Rattle.wb_evaluation.specs.Walks.{value, missing, with_tree, walk_expression, finish, walk_top, walk_below}
 use Rattle.wb_evaluation.specs.Walks.{walk_made, rule_at, walk_synthesized, walk_of}
 
 -- no expression reads an inherited attribute one step down

@@ -9,7 +9,7 @@ use Rattle.wb_resolved.specs.Expression.{Expression}
 use Rattle.wb_resolved.specs.Numbered.{signature_of}
 use Rattle.wb_types.specs.Kinds.{IsAttributeKind}
 use Rattle.wb_values.specs.Signature.{Signature}
-use Rattle.wb_values.specs.Tree.{Tree, node, Value, plain, tree, Values, production_of, children_of}
+use Rattle.wb_values.specs.Tree.{Tree, node, Value, plain, tree, Values, production_of, children_of, value_at}
 use Rattle.wb_evaluation.proofs.ExpressionLemmas.{IsIn}
 use Rattle.wb_evaluation.proofs.ProductionLemmas.{IsExpression, expression_at}
 use Rattle.wb_evaluation.proofs.Settings.{Setting, NodeAt, Answers, EndsWith, TreeFits, ValueFits, AllFit, IsOf}
@@ -19,7 +19,7 @@ use Rattle.wb_evaluation.specs.Answers as answers
 use Rattle.wb_evaluation.specs.Answers.{at_root, at_child, at_made, by_walk}
 use Rattle.wb_evaluation.specs.Instances.{Path, root, down, Instance, synthesized_at, inherited_at, tree_at, home}
 use Rattle.wb_evaluation.specs.Rules.{rule_of}
-use Rattle.wb_evaluation.specs.Walks.{Outcome, value, fault, Walk, done, read, value_at, with_tree, walk_expression, finish, walk_top}
+use Rattle.wb_evaluation.specs.Walks.{Outcome, value, fault, Walk, done, read, with_tree, walk_expression, finish, walk_top}
 use Rattle.wb_evaluation.specs.Walks.{walk_below, walk_made, rule_at, walk_synthesized, walk_of}
 
 -- the tree has a production, and what is below it fits that

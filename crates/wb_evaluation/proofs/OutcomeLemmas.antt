@@ -9,13 +9,13 @@ use Rattle.wb_operations.specs.Operations.{Operations}
 use Rattle.wb_resolved.specs.declared.attribution.AttributionParts.{AttributionParts}
 use Rattle.wb_resolved.specs.declared.equation.Place.TheVariants as place
 use Rattle.wb_resolved.specs.Expression.{Expression, Expressions}
-use Rattle.wb_values.specs.Tree.{int, bool, text, Tree, node, Value, plain, tree, Values, empty, more}
+use Rattle.wb_values.specs.Tree.{int, bool, text, Tree, node, Value, plain, tree, Values, empty, more, value_at}
 use Rattle.wb_evaluation.specs.Answers.{HasAnswer, Ends, at_done, at_value, at_fault}
 use Rattle.wb_evaluation.specs.Instances.{Path, down, Instance, synthesized_at, inherited_at, tree_at}
 use Rattle.wb_evaluation.specs.Needed.{Comes, here, after}
 use Rattle.wb_evaluation.specs.Outcomes.{HasOutcome, HaveValues, HaveFault, Reads, OneReads}
 use Rattle.wb_evaluation.specs.Outcomes as out
-use Rattle.wb_evaluation.specs.Walks.{Outcome, value, fault, Walk, done, read, missing, value_at, plains, with_value, branch, with_given, with_call}
+use Rattle.wb_evaluation.specs.Walks.{Outcome, value, fault, Walk, done, read, missing, plains, with_value, branch, with_given, with_call}
 use Rattle.wb_evaluation.specs.Walks.{number_of, walk_expression, walk_expressions, finish}
 
 module _ (a : AttributionParts) (operations : Operations) (top : Tree) where

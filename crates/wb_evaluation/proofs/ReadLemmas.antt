@@ -16,7 +16,7 @@ use Rattle.wb_resolved.specs.declared.production.Forward.{Forward}
 use Rattle.wb_resolved.specs.declared.production.Production.{Production}
 use Rattle.wb_resolved.specs.Expression.{Expression}
 use Rattle.wb_resolved.specs.Numbered.{value_kind}
-use Rattle.wb_values.specs.Tree.{Tree, Value, plain, tree, Values, production_of, children_of}
+use Rattle.wb_values.specs.Tree.{Tree, Value, plain, tree, Values, production_of, children_of, value_at}
 use Rattle.wb_evaluation.proofs.AnswerLemmas.{one_node}
 use Rattle.wb_evaluation.proofs.ExpressionLemmas.{IsIn, reads_of}
 use Rattle.wb_evaluation.proofs.KindLemmas.{IsFit, fit_of, Fits, node_fits, kinded}
@@ -28,7 +28,7 @@ use Rattle.wb_evaluation.specs.Answers.{at_child, at_made}
 use Rattle.wb_evaluation.specs.Instances.{Path, root, down, Instance, synthesized_at, inherited_at, tree_at, instance_of, home}
 use Rattle.wb_evaluation.specs.Needed.{here, after}
 use Rattle.wb_evaluation.specs.Rules.{rule_of, forward_expression}
-use Rattle.wb_evaluation.specs.Walks.{value, Walk, read, value_at, with_tree, walk_expression, finish, walk_top, walk_below}
+use Rattle.wb_evaluation.specs.Walks.{value, Walk, read, with_tree, walk_expression, finish, walk_top, walk_below}
 use Rattle.wb_evaluation.specs.Walks.{walk_made, rule_at, walk_synthesized, walk_of}
 
 -- the node at which an instance is an attribute or a tree of the production there, and the vertex that it is

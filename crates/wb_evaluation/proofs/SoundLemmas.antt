@@ -34,13 +34,13 @@ use Rattle.wb_resolved.specs.Numbered.{value_kind}
 use Rattle.wb_types.specs.Kinds.{HasKind, HaveKinds, IsAttributeKind}
 use Rattle.wb_types.specs.Kinds as k
 use Rattle.wb_values.specs.Kinds.{kind_of, AreOfKinds}
-use Rattle.wb_values.specs.Tree.{Plain, int, bool, text, Tree, node, Value, plain, tree, Values, empty, more, production_of}
+use Rattle.wb_values.specs.Tree.{Plain, int, bool, text, Tree, node, Value, plain, tree, Values, empty, more, production_of, value_at}
 use Rattle.wb_evaluation.proofs.AnswerLemmas.{one_node}
 use Rattle.wb_evaluation.proofs.ExpressionLemmas.{IsIn, IsInOne}
 use Rattle.wb_evaluation.proofs.ProductionLemmas.{one_below, IsNode}
 use Rattle.wb_evaluation.proofs.Settings.{Setting, NodeAt, Answers, TreeFits, ValueFits, AllFit, IsOf}
 use Rattle.wb_evaluation.specs.Instances.{Path, Instance, synthesized_at, inherited_at, tree_at, instance_of}
-use Rattle.wb_evaluation.specs.Walks.{Outcome, value, fault, Walk, done, read, missing, value_at, plains, with_value, branch, with_given, with_call}
+use Rattle.wb_evaluation.specs.Walks.{Outcome, value, fault, Walk, done, read, missing, plains, with_value, branch, with_given, with_call}
 use Rattle.wb_evaluation.specs.Walks.{with_label, with_lexeme, number_of, walk_expression, walk_expressions}
 
 -- a walk comes to another after reads whose values meet a fact

@@ -2,13 +2,13 @@
 use Rattle.std.specs.Prelude.{◌≡◌, ◌≢◌, ◌↔◌, ◌⊎◌, ℕ, Some, None}
 use Rattle.wb_attributes.specs.Vertices.{Made, forward, Step, child, made, top_synthesized, inherited, tree_of}
 use Rattle.wb_operations.specs.Operations.{Operations}
-use Rattle.wb_values.specs.Tree.{Tree, Value, children_of}
+use Rattle.wb_values.specs.Tree.{Tree, Value, children_of, value_at}
 use Rattle.wb_values.specs.Tree as values
 use Rattle.wb_evaluation.specs.Answers.{IsNodeAt, HasAnswer}
 use Rattle.wb_evaluation.specs.Instances.{Path, root, down, Instance, synthesized_at, inherited_at, tree_at, home}
 use Rattle.wb_evaluation.specs.Needed.{ReadsNext}
 use Rattle.wb_evaluation.specs.Outcomes.{HasOutcome, Reads}
-use Rattle.wb_evaluation.specs.Walks.{Outcome, value, fault, value_at, tree_rule}
+use Rattle.wb_evaluation.specs.Walks.{Outcome, value, fault, tree_rule}
 use Rattle.wb_resolved.specs.declared.attribution.AttributionParts.{AttributionParts}
 use Rattle.wb_resolved.specs.Expression.{Expression}
 

@@ -4,10 +4,10 @@ use Rattle.wb_attributes.specs.Vertices.{local, forward, made, step_to}
 use Rattle.wb_expressions.specs.Expression as x
 use Rattle.wb_operations.specs.Given.{gives, fails}
 use Rattle.wb_operations.specs.Operations.{Operations}
-use Rattle.wb_values.specs.Tree.{Plain, int, bool, text, Tree, node, Value, plain, tree, Values, empty, more}
+use Rattle.wb_values.specs.Tree.{Plain, int, bool, text, Tree, node, Value, plain, tree, Values, empty, more, value_at}
 use Rattle.wb_evaluation.specs.Answers.{HasAnswer}
 use Rattle.wb_evaluation.specs.Instances.{Path, down, Instance, synthesized_at, inherited_at, tree_at}
-use Rattle.wb_evaluation.specs.Walks.{Outcome, value, fault, value_at, plains, number_of}
+use Rattle.wb_evaluation.specs.Walks.{Outcome, value, fault, plains, number_of}
 use Rattle.wb_resolved.specs.declared.attribution.AttributionParts.{AttributionParts}
 use Rattle.wb_resolved.specs.declared.equation.Place.{Place}
 use Rattle.wb_resolved.specs.declared.equation.Place.TheVariants as place

@@ -3,10 +3,9 @@ use Rattle.std.proofs.Common.{◌≡◌, ◌∙◌, ◌<◌, ℕ, zero, suc, Lis
 use Rattle.wb_values.specs.declared.value.TreeId.{TreeId}
 use Rattle.wb_values.specs.declared.value.Value.{Value}
 use Rattle.wb_values.specs.declared.value.Value.TheVariants as stored
-use Rattle.wb_values.specs.Tree.{Tree, tree, plain, int, bool, text, Values, children_of}
+use Rattle.wb_values.specs.Tree.{Tree, tree, plain, int, bool, text, Values, children_of, value_at}
 use Rattle.wb_values.specs.Tree as t
 use Rattle.wb_values.specs.ValuesIn.{tree_in, value_in, values_in, IsIn}
-use Rattle.wb_evaluation.specs.Walks.{value_at}
 use Rattle.wb_evaluator.specs.Inner.Reached.{IsTreeChild, IsChild}
 
 -- a place that has a value is one of a stored value

@@ -23,11 +23,11 @@ use Rattle.wb_resolved.specs.Expression.{Expression, Node}
 use Rattle.wb_values.specs.declared.value.TreeId.{TreeId}
 use Rattle.wb_values.specs.declared.value.Value.{Value}
 use Rattle.wb_values.specs.declared.value.Value.TheVariants as stored
-use Rattle.wb_values.specs.Tree.{Tree, children_of}
+use Rattle.wb_values.specs.Tree.{Tree, children_of, value_at}
 use Rattle.wb_values.specs.Tree as t
 use Rattle.wb_values.specs.ValuesIn.{tree_in, value_in, IsIn}
 use Rattle.wb_evaluation.specs.Instances.{Path, down, synthesized_at}
-use Rattle.wb_evaluation.specs.Walks.{Walk, read, value_at, with_value, number_of, walk_expression}
+use Rattle.wb_evaluation.specs.Walks.{Walk, read, with_value, number_of, walk_expression}
 use Rattle.wb_evaluator.proofs.MachineLemmas.{never_missed}
 use Rattle.wb_evaluator.proofs.StackLemmas.{size_stands, sizes_stand, left_push, left_visiting}
 use Rattle.wb_evaluator.proofs.VisitLemmas.{IsVisiting, visiting_of, at_once, read_known, read_new, parts_of_build, parts_of_call, parts_of_choice, call_known}

@@ -3,9 +3,8 @@
 //! The memo, and the instances that wait, each for the one above it. How one is worked on is in `run`.
 
 ghost use Rattle.std.specs.Prelude.{◌≡◌, ◌≤◌, ◌<◌, Some, length, OnOk, IfOk};
-ghost use Rattle.wb_values.specs.Tree.{children_of};
+ghost use Rattle.wb_values.specs.Tree.{children_of, value_at};
 ghost use Rattle.wb_values.specs.ValuesIn.{tree_in, value_in, IsIn};
-ghost use Rattle.wb_evaluation.specs.Walks.{value_at};
 ghost use Rattle.wb_evaluator.specs.Inner.Machines.{IsKey, known, with_memo};
 ghost use Rattle.wb_memo.specs.Memos.{count, IsWhole, IsGrown};
 ghost use Rattle.wb_evaluator.specs.Inner.Reached.{HasChild, IsTreeChild, IsChild, IsReady, IsReached};

@@ -1,6 +1,7 @@
 -- What shows that something is of another kind.
-use Rattle.std.proofs.Common.{◌≡◌, ◌<◌, ℕ, List, Option, Some, None, Bool, get_or, length, Contains, All, [], refl, sym, ap, ◌∙◌, subst}
+use Rattle.std.proofs.Common.{◌≡◌, ◌<◌, ℕ, List, Option, Some, None, Bool, false, true≢false, ◌∷◌, get_or, length, Contains, All, [], refl, sym, ap, ◌∙◌, subst}
 use Rattle.std.specs.Prelude.{is_some, option_map}
+use Rattle.std.specs.Bool.{◌==◌}
 use Rattle.std.proofs.lemmas.Option.{slice_get-get_or}
 use Rattle.wb_lemmas.proofs.Elements.{all_contained}
 use Rattle.wb_lemmas.proofs.Members.{contains_at, nothing_in}
@@ -21,9 +22,37 @@ use Rattle.wb_naming.specs.Meaning.{IsSymbol}
 use Rattle.wb_naming.specs.WrongKind.{FailsWrongKind, IsMisused, Suits, SuitsDirection}
 use Rattle.wb_naming.specs.WrongKind as f
 use Rattle.wb_name_rules.specs.Inner.Reads.{IsSortOf, IsDirectionOf, IsLabelledAs, IsTreeOf}
-use Rattle.wb_name_rules.specs.Inner.Tests.{IsOfKind, SortsSuit, DirectionsSuit, TellsLabel, ShowsKind, ShowsPlace, IsWrongIn}
+use Rattle.wb_name_rules.specs.Inner.Tests.{IsOfKind, SortsSuit, DirectionsSuit, TellsLabel, NamesKind, ShowsKind, ShowsPlace, IsWrongIn}
+
+-- the first of what has no place is shown
+shows_place : (unplaced : List (List ℕ)) (shown : List ℕ) (refusal : NameRefusal) → Contains unplaced shown → NamesKind shown refusal
+    → ShowsPlace unplaced refusal
+shows_place unplaced shown (r.WrongKind name) has is = subst (Contains unplaced) (sym is) has
+shows_place unplaced shown (r.NoMemory error) has is = tt
+shows_place unplaced shown (r.Duplicate name) has is = absurd is
+shows_place unplaced shown (r.Orphan name) has is = absurd is
+shows_place unplaced shown (r.Unknown name) has is = absurd is
+shows_place unplaced shown (r.WrongHost name) has is = absurd is
+
+pub shows_first : (unplaced : List (List ℕ)) (test : Bool) (first : List ℕ) (refusal : NameRefusal) → test ≡ (length unplaced == 0)
+    → test ≡ false → first ≡ get_or unplaced 0 first → NamesKind first refusal → ShowsPlace unplaced refusal
+shows_first [] test first refusal is not e names = absurd (true≢false (sym is ∙ not))
+shows_first (x ∷ xs) test first refusal is not e names =
+    shows_place (x ∷ xs) first refusal (subst (Contains (x ∷ xs)) (sym e) (contains_at (x ∷ xs) x 0 refl)) names
 
 module _ (declared : List Declaration) where
+  -- a name of another kind shows that of a usage
+  shows_name : (usage : Usage) (shown : List ℕ) (refusal : NameRefusal)
+      → ((used : List Usage) (unplaced : List (List ℕ)) → Contains used usage → FailsWrongKind declared used unplaced shown)
+      → NamesKind shown refusal → ShowsKind declared usage refusal
+  shows_name usage shown (r.WrongKind name) fails is = λ used unplaced has.
+      subst (FailsWrongKind declared used unplaced) (sym is) (fails used unplaced has)
+  shows_name usage shown (r.NoMemory error) fails is = tt
+  shows_name usage shown (r.Duplicate name) fails is = absurd is
+  shows_name usage shown (r.Orphan name) fails is = absurd is
+  shows_name usage shown (r.Unknown name) fails is = absurd is
+  shows_name usage shown (r.WrongHost name) fails is = absurd is
+
   -- a name of no symbol suits every place
   pub no_sort : (name : List ℕ) (wanted : Wanted) → IsSortOf declared name None → SortsSuit declared name wanted
   no_sort name wanted none is has = absurd (none is has)
@@ -34,10 +63,10 @@ module _ (declared : List Declaration) where
   one_sort name wanted found only suits is has = subst (Suits wanted) (sym ((only is).0 has)) suits
 
   -- a sort that doesn't suit the place
-  pub shows_sort : (name shown : List ℕ) (wanted : Wanted) (found : Sort) → IsSortOf declared name (Some found) → ¬ Suits wanted found
-      → shown ≡ name → ShowsKind declared (u.Name name wanted) (r.WrongKind shown)
-  shows_sort name shown wanted found only not e = λ used unplaced has.
-      subst (FailsWrongKind declared used unplaced) (sym e) (f.symbol has ((only found).1 refl) not)
+  pub shows_sort : (name : List ℕ) (wanted : Wanted) (found : Sort) (refusal : NameRefusal) → IsSortOf declared name (Some found)
+      → ¬ Suits wanted found → NamesKind name refusal → ShowsKind declared (u.Name name wanted) refusal
+  shows_sort name wanted found refusal only not is =
+      shows_name (u.Name name wanted) name refusal (λ used unplaced has. f.symbol has ((only found).1 refl) not) is
 
   -- the same of attributes
   pub no_direction : (name : List ℕ) (wanted : Wanted) → IsDirectionOf declared name None → DirectionsSuit declared name wanted
@@ -47,22 +76,23 @@ module _ (declared : List Declaration) where
       → SuitsDirection wanted found → DirectionsSuit declared name wanted
   one_direction name wanted found only suits is has = subst (SuitsDirection wanted) (sym ((only is).0 has)) suits
 
-  pub shows_direction : (name shown : List ℕ) (wanted : Wanted) (found : Direction) → IsDirectionOf declared name (Some found)
-      → ¬ SuitsDirection wanted found → shown ≡ name → ShowsKind declared (u.Name name wanted) (r.WrongKind shown)
-  shows_direction name shown wanted found only not e = λ used unplaced has.
-      subst (FailsWrongKind declared used unplaced) (sym e) (f.attribute has ((only found).1 refl) not)
+  pub shows_direction : (name : List ℕ) (wanted : Wanted) (found : Direction) (refusal : NameRefusal)
+      → IsDirectionOf declared name (Some found) → ¬ SuitsDirection wanted found → NamesKind name refusal
+      → ShowsKind declared (u.Name name wanted) refusal
+  shows_direction name wanted found refusal only not is =
+      shows_name (u.Name name wanted) name refusal (λ used unplaced has. f.attribute has ((only found).1 refl) not) is
 
   -- the same of labels
   pub one_label : (production name : List ℕ) (wanted : LabelWanted) (found : Labelled) → IsLabelledAs declared production name (Some found)
       → SuitsLabel declared wanted found → IsOfKind declared (u.Label production name wanted)
   one_label production name wanted found only suits there is has = subst (SuitsLabel declared wanted) (sym ((only is).0 has)) suits
 
-  pub shows_label : (production name shown : List ℕ) (wanted : LabelWanted) (found : Labelled)
+  pub shows_label : (production name : List ℕ) (wanted : LabelWanted) (found : Labelled) (refusal : NameRefusal)
       → IsLabelledAs declared production name (Some found) → IsSymbol declared production sort.Production → IsMisused declared wanted found
-      → shown ≡ name → ShowsKind declared (u.Label production name wanted) (r.WrongKind shown)
-  shows_label production name shown wanted found only there misused e = λ used unplaced has.
-      subst (FailsWrongKind declared used unplaced) (sym e)
-      (f.label (record { written = has; there = there }) ((only found).1 refl) misused)
+      → NamesKind name refusal → ShowsKind declared (u.Label production name wanted) refusal
+  shows_label production name wanted found refusal only there misused is =
+      shows_name (u.Label production name wanted) name refusal
+      (λ used unplaced has. f.label (record { written = has; there = there }) ((only found).1 refl) misused) is
 
   -- whether a tree was found tells whether what has a label is one
   pub tells_tree : {B : Type 0} (read : B → List ℕ) (is : Labelled) (wanted : LabelWanted) (found : Option B) (b : Bool) → wanted ≡ l.Tree

@@ -21,7 +21,7 @@ use Rattle.wb_naming.specs.declared.refusal.NameRefusal.TheVariants as r
 use Rattle.wb_naming.specs.Orphan.{IsOwnSymbol, IsOwnOccurrence, IsOfHost, FailsOrphan}
 use Rattle.wb_naming.specs.Orphan as o
 use Rattle.wb_name_rules.specs.Index.{CountOnce}
-use Rattle.wb_name_rules.specs.Inner.Owners.{HasOwnLocal, IsLocal, ShowsOrphan, IsOrphanIn, IsOrphanIf, IsForeignOccurrence}
+use Rattle.wb_name_rules.specs.Inner.Owners.{HasOwnLocal, IsLocal, NamesOrphan, ShowsOrphan, IsOrphanIn, IsOrphanIf, IsForeignOccurrence}
 use Rattle.wb_name_rules.specs.Inner.Owners.{IsForeignPreference, IsForeignEquation}
 
 -- what is at a place from some place on is among those left when the others are dropped
@@ -123,6 +123,15 @@ module _ (declared : List Declaration) (from : ℕ) (once : CountOnce declared) 
       λ has. test.1 (contains_take declared from (d.Symbol name sort.Production) has),
     )
 
+-- a refusal by this name, where this holds
+pub orphan_if : (P : Type 0) (shown : List ℕ) (refusal : NameRefusal) → P → NamesOrphan shown refusal → IsOrphanIf P shown refusal
+orphan_if P shown (r.Orphan name) holds is = (is, holds)
+orphan_if P shown (r.NoMemory error) holds is = tt
+orphan_if P shown (r.Duplicate name) holds is = absurd is
+orphan_if P shown (r.Unknown name) holds is = absurd is
+orphan_if P shown (r.WrongKind name) holds is = absurd is
+orphan_if P shown (r.WrongHost name) holds is = absurd is
+
 module _ (declared : List Declaration) (from : ℕ) where
   -- a refusal by what a declaration shows
   shows_if : (P : Type 0) (one : Declaration) (shown : List ℕ)
@@ -135,6 +144,15 @@ module _ (declared : List Declaration) (from : ℕ) where
   shows_if P one shown fails (r.Unknown name) shows = absurd shows
   shows_if P one shown fails (r.WrongKind name) shows = absurd shows
   shows_if P one shown fails (r.WrongHost name) shows = absurd shows
+
+  pub shows_start : (name : List ℕ) (refusal : NameRefusal) → NamesOrphan name refusal → ShowsOrphan declared from (d.Start name) refusal
+  shows_start name refusal is =
+      shows_if (Unit {0}) (d.Start name) name (λ _ has. o.start has) refusal (orphan_if (Unit {0}) name refusal tt is)
+
+  pub shows_extensible : (name : List ℕ) (refusal : NameRefusal) → NamesOrphan name refusal
+      → ShowsOrphan declared from (d.Extensible name) refusal
+  shows_extensible name refusal is =
+      shows_if (Unit {0}) (d.Extensible name) name (λ _ has. o.extensible has) refusal (orphan_if (Unit {0}) name refusal tt is)
 
   pub shows_symbol : (name : List ℕ) (is : Sort) (refusal : NameRefusal) → IsOrphanIf (is ≡ sort.Layout) name refusal
       → ShowsOrphan declared from (d.Symbol name is) refusal

@@ -1,5 +1,5 @@
 -- What is read at a place is the only thing of its name.
-use Rattle.std.proofs.Common.{◌≡◌, ℕ, List, Option, Some, Bool, slice_get, Contains, sym, ap, ◌∙◌, subst}
+use Rattle.std.proofs.Common.{◌≡◌, ℕ, List, Option, Some, Bool, true, false, true≢false, slice_get, Contains, sym, ap, ◌∙◌, subst}
 use Rattle.std.specs.Prelude.{◌↔◌, IsTrue}
 use Rattle.wb_lemmas.proofs.Members.{contains_at, place_of}
 use Rattle.wb_lemmas.proofs.Places.{at_once}
@@ -9,6 +9,11 @@ use Rattle.wb_naming.specs.Duplicate.{AreSame, Counts}
 use Rattle.wb_naming.specs.Meaning.{IsSymbol}
 use Rattle.wb_name_rules.specs.Index.{CountOnce}
 use Rattle.wb_name_rules.specs.Inner.Reads.{IsOnly, IsSortOf}
+
+-- what is tested doesn't hold where the test fails
+pub fails_when : {P : Type 0} (b : Bool) → b ≡ false → (IsTrue b ↔ P) → ¬ P
+fails_when true e test p = absurd (true≢false e)
+fails_when false e test p = absurd (true≢false (sym (test.1 p)))
 
 -- of declarations of the same thing that differ in one part, that part of the one that is there is the only one
 pub only_one : {X : Type 0} (declared : List Declaration) (make : X → Declaration) → CountOnce declared

@@ -16,10 +16,10 @@ use Rattle.wb_naming.specs.declared.usage.Usage.{Usage}
 use Rattle.wb_naming.specs.declared.usage.Usage.TheVariants as u
 use Rattle.wb_naming.specs.declared.usage.Wanted.{Wanted}
 use Rattle.wb_naming.specs.declared.usage.Wanted.TheVariants as w
-use Rattle.wb_naming.specs.Meaning.{IsSymbol, IsDeclared, HasSite, Forwards}
+use Rattle.wb_naming.specs.Meaning.{IsSymbol, IsDeclared, Occurs, HasSite, Forwards}
 use Rattle.wb_naming.specs.Unknown.{FailsUnknown}
 use Rattle.wb_naming.specs.Unknown as f
-use Rattle.wb_name_rules.specs.Inner.Tests.{IsKnown, ShowsUnknown, ShowsAbsent, IsUnknownIn}
+use Rattle.wb_name_rules.specs.Inner.Tests.{IsKnown, NamesUnknown, ShowsUnknown, ShowsAbsent, IsUnknownIn}
 
 -- what was found says whether something is there
 pub some_test : {X : Type 0} (declared : List Declaration) (make : X → Declaration) (found : Option ℕ) (b : Bool) → b ≡ is_some found
@@ -29,6 +29,27 @@ some_test declared make None b is some none = (λ h. absurd (cc), λ has. absurd
 some_test declared make (Some place) b is some none = (λ h. (some.0, contains_at declared (make some.0) place some.1), λ has. is)
 
 module _ (declared : List Declaration) where
+  -- a name that isn't declared shows that of a usage
+  pub shows_name : (usage : Usage) (shown : List ℕ) (refusal : NameRefusal)
+      → ((used : List Usage) → Contains used usage → FailsUnknown declared used shown) → NamesUnknown shown refusal
+      → ShowsUnknown declared usage refusal
+  shows_name usage shown (r.Unknown name) fails is = λ used has. subst (FailsUnknown declared used) (sym is) (fails used has)
+  shows_name usage shown (r.NoMemory error) fails is = tt
+  shows_name usage shown (r.Duplicate name) fails is = absurd is
+  shows_name usage shown (r.Orphan name) fails is = absurd is
+  shows_name usage shown (r.WrongKind name) fails is = absurd is
+  shows_name usage shown (r.WrongHost name) fails is = absurd is
+
+  -- and that it doesn't occur
+  pub shows_absent : (attribute nonterminal : List ℕ) (refusal : NameRefusal) → ¬ Occurs declared attribute nonterminal
+      → NamesUnknown attribute refusal → ShowsAbsent declared attribute nonterminal refusal
+  shows_absent attribute nonterminal (r.Unknown name) not is = (is, not)
+  shows_absent attribute nonterminal (r.NoMemory error) not is = tt
+  shows_absent attribute nonterminal (r.Duplicate name) not is = absurd is
+  shows_absent attribute nonterminal (r.Orphan name) not is = absurd is
+  shows_absent attribute nonterminal (r.WrongKind name) not is = absurd is
+  shows_absent attribute nonterminal (r.WrongHost name) not is = absurd is
+
   -- the test for one place is the test for an equal one
   pub as_wanted : (name : List ℕ) (wanted is : Wanted) (answer : Result Bool AllocError) → wanted ≡ is
       → IfOk answer (λ b. IsTrue b ↔ IsDeclared declared is name) → IfOk answer (λ b. IsTrue b ↔ IsDeclared declared wanted name)

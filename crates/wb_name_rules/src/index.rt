@@ -2,7 +2,7 @@
 //!
 //! The list is kept with its table, so that each question is one look-up. The table is made in `table`.
 
-ghost use Rattle.std.specs.Prelude.{◌≡◌, Some, IfOk, IfErr, IfSome, IfNone, OnOk, ℕ, List, length, slice_get};
+ghost use Rattle.std.specs.Prelude.{◌≡◌, ◌∷◌, ◌++◌, Some, IfOk, IfErr, IfSome, IfNone, OnOk, ℕ, List, length, slice_get};
 ghost use Rattle.wb_naming.specs.declared.declaration.Declaration.{Declaration as Declared};
 ghost use Rattle.wb_naming.specs.declared.declaration.Declaration.TheVariants as d;
 ghost use Rattle.wb_naming.specs.declared.declaration.Labelled.{Labelled};
@@ -12,6 +12,7 @@ ghost use Rattle.wb_resolved.specs.declared.attributes.Direction.{Direction};
 ghost use Rattle.wb_naming.specs.Meaning as meaning;
 ghost use Rattle.wb_name_rules.specs.Index.{CountOnce};
 ghost use Rattle.wb_name_rules.specs.Inner.Indexed as spec;
+ghost use Rattle.wb_name_rules.specs.Keys.{marked};
 
 use crate::keys::{ATTRIBUTE, FORWARD, LABEL, LEFT, OCCURRENCE, SYMBOL, key, pair_key};
 use crate::table::{Pass, Table, table_of};
@@ -66,11 +67,34 @@ impl NameIndex {
 
     // The place of the declaration with a key.
     fn place(&self, key: &[u8]) -> Option<usize>
-        ensures found { IfSome result (λ place. spec.IsAtKey self.now key.now place) }
-        ensures none { IfNone result (spec.HasNoKey self.now key.now) }
+        ensures found { spec.IsFound self.now key.now result }
         ensures once { CountOnce self.now }
     {
         self.table.place(key)
+    }
+
+    // The place of the declaration with the key of one text.
+    fn text_place(&self, alloc: Global, tag: u8, text: &[u8]) -> Result<Option<usize>, AllocError>
+        ensures found { IfOk result (spec.IsFound self.now (tag ∷ text.now)) }
+        ensures once { OnOk result (CountOnce self.now) }
+    {
+        let key = key(alloc, tag, text)?;
+        Ok(self.place(&key))
+    }
+
+    // The place of the declaration with the key of two texts.
+    fn pair_place(
+        &self,
+        alloc: Global,
+        tag: u8,
+        first: &[u8],
+        second: &[u8],
+    ) -> Result<Option<usize>, AllocError>
+        ensures found { IfOk result (spec.IsFound self.now (tag ∷ (marked first.now ++ second.now))) }
+        ensures once { OnOk result (CountOnce self.now) }
+    {
+        let key = pair_key(alloc, tag, first, second)?;
+        Ok(self.place(&key))
     }
 
     /// The place of the terminal, layout, marker, nonterminal or production of a name, from 0 on. The only error is want of memory.
@@ -79,8 +103,7 @@ impl NameIndex {
         ensures none { IfOk result (λ found. IfNone found ((is : Sort) → ¬ meaning.IsSymbol self.now name.now is)) }
         ensures once { OnOk result (CountOnce self.now) }
     {
-        let key = key(alloc, SYMBOL, name)?;
-        Ok(self.place(&key))
+        self.text_place(alloc, SYMBOL, name)
     }
 
     /// The place of the attribute of a name. The only error is want of memory.
@@ -89,8 +112,7 @@ impl NameIndex {
         ensures none { IfOk result (λ found. IfNone found ((direction : Direction) → ¬ meaning.IsAttribute self.now name.now direction)) }
         ensures once { OnOk result (CountOnce self.now) }
     {
-        let key = key(alloc, ATTRIBUTE, name)?;
-        Ok(self.place(&key))
+        self.text_place(alloc, ATTRIBUTE, name)
     }
 
     /// The place of the label of a production. The only error is want of memory.
@@ -105,8 +127,7 @@ impl NameIndex {
         ensures none { IfOk result (λ found. IfNone found ((is : Labelled) → ¬ meaning.HasLabel self.now production.now label.now is)) }
         ensures once { OnOk result (CountOnce self.now) }
     {
-        let key = pair_key(alloc, LABEL, production, label)?;
-        Ok(self.place(&key))
+        self.pair_place(alloc, LABEL, production, label)
     }
 
     // The place of the left side of a production.
@@ -114,8 +135,7 @@ impl NameIndex {
         ensures found { IfOk result (λ found. IfSome found (λ place. (nonterminal : List ℕ) × (slice_get self.now place ≡ Some (d.Left production.now nonterminal)))) }
         ensures none { IfOk result (λ found. IfNone found ((nonterminal : List ℕ) → ¬ meaning.HasLeft self.now production.now nonterminal)) }
     {
-        let key = key(alloc, LEFT, production)?;
-        Ok(self.place(&key))
+        self.text_place(alloc, LEFT, production)
     }
 
     // The place at which an attribute occurs on a nonterminal.
@@ -129,8 +149,7 @@ impl NameIndex {
         ensures none { IfOk result (λ found. IfNone found (¬ meaning.Occurs self.now attribute.now nonterminal.now)) }
         ensures once { OnOk result (CountOnce self.now) }
     {
-        let key = pair_key(alloc, OCCURRENCE, attribute, nonterminal)?;
-        Ok(self.place(&key))
+        self.pair_place(alloc, OCCURRENCE, attribute, nonterminal)
     }
 
     // The place at which a production forwards.
@@ -142,7 +161,6 @@ impl NameIndex {
         ensures found { IfOk result (λ found. IfSome found (λ place. slice_get self.now place ≡ Some (d.Forward production.now))) }
         ensures none { IfOk result (λ found. IfNone found (¬ meaning.Forwards self.now production.now)) }
     {
-        let key = key(alloc, FORWARD, production)?;
-        Ok(self.place(&key))
+        self.text_place(alloc, FORWARD, production)
     }
 }

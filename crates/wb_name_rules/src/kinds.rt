@@ -41,7 +41,7 @@ fn check_placed(unplaced: &[Bytes]) -> Result<(), NameRefusal>
     if unplaced.is_empty() {
         return Ok(());
     }
-    Err(NameRefusal::WrongKind(unplaced[0].copy()?))
+    Err(wrong_kind(&unplaced[0]))
 }
 
 // Whether all that is used is of the right kind.
@@ -103,7 +103,7 @@ fn check_sort(
             if suits(wanted, found) {
                 return Ok(());
             }
-            Err(NameRefusal::WrongKind(name.copy()?))
+            Err(wrong_kind(name))
         }
     }
 }
@@ -153,7 +153,7 @@ fn check_direction(
             if suits_direction(wanted, found) {
                 return Ok(());
             }
-            Err(NameRefusal::WrongKind(name.copy()?))
+            Err(wrong_kind(name))
         }
     }
 }
@@ -195,7 +195,7 @@ fn check_label(
             if suits_label(alloc, index, wanted, found)? {
                 return Ok(());
             }
-            Err(NameRefusal::WrongKind(label.copy()?))
+            Err(wrong_kind(label))
         }
     }
 }
@@ -213,5 +213,15 @@ fn suits_label(
         LabelWanted::Tree => Ok(tree_of(alloc, index, is)?.is_some()),
         LabelWanted::Lexeme => is_lexeme(alloc, index, is),
         LabelWanted::Value => Ok(!is_lexeme(alloc, index, is)?),
+    }
+}
+
+// That a name is of another kind.
+fn wrong_kind(name: &Bytes) -> NameRefusal
+    ensures { spec.NamesKind name.now result }
+{
+    match name.copy() {
+        Ok(name) => NameRefusal::WrongKind(name),
+        Err(error) => NameRefusal::NoMemory(error),
     }
 }

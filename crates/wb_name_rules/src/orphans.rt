@@ -41,8 +41,8 @@ fn check_declaration(
     ensures refused { IfErr result (spec.ShowsOrphan index.now from declaration.now) }
 {
     match declaration {
-        Declaration::Start(name) => Err(NameRefusal::Orphan(name.copy()?)),
-        Declaration::Extensible(name) => Err(NameRefusal::Orphan(name.copy()?)),
+        Declaration::Start(name) => Err(orphan(name)),
+        Declaration::Extensible(name) => Err(orphan(name)),
         Declaration::Symbol { name, sort } => check_symbol(name, *sort),
         Declaration::ForwardNeeds(name) => check_forward_needs(alloc, index, from, name),
         Declaration::Occurrence {
@@ -67,7 +67,7 @@ fn check_symbol(name: &Bytes, is: Sort) -> Result<(), NameRefusal>
     ensures refused { IfErr result (spec.IsOrphanIf (is ≡ sort.Layout) name.now) }
 {
     match is {
-        Sort::Layout => Err(NameRefusal::Orphan(name.copy()?)),
+        Sort::Layout => Err(orphan(name)),
         _ => Ok(()),
     }
 }
@@ -85,7 +85,7 @@ fn check_forward_needs(
     if is_own_symbol(alloc, index, from, name.as_slice())? {
         return Ok(());
     }
-    Err(NameRefusal::Orphan(name.copy()?))
+    Err(orphan(name))
 }
 
 // Whether an occurrence is of its own attribute or on its own nonterminal.
@@ -105,7 +105,7 @@ fn check_occurrence(
     if is_own_symbol(alloc, index, from, nonterminal.as_slice())? {
         return Ok(());
     }
-    Err(NameRefusal::Orphan(attribute.copy()?))
+    Err(orphan(attribute))
 }
 
 // Whether a preference has its own terminal.
@@ -125,7 +125,7 @@ fn check_preference(
     if is_own_symbol(alloc, index, from, second.as_slice())? {
         return Ok(());
     }
-    Err(NameRefusal::Orphan(first.copy()?))
+    Err(orphan(first))
 }
 
 // Whether an equation is on its own production, for an occurrence that it declared, or for a local that it declared there.
@@ -152,7 +152,7 @@ fn check_equation(
             if is_own_occurrence(alloc, index, from, attribute, nonterminal)? {
                 return Ok(());
             }
-            Err(NameRefusal::Orphan(attribute.copy()?))
+            Err(orphan(attribute))
         }
     }
 }
@@ -276,5 +276,15 @@ fn is_of_host(
             }
             is_production(alloc, index, name)
         }
+    }
+}
+
+// That an extension may not say this.
+fn orphan(name: &Bytes) -> NameRefusal
+    ensures { spec.NamesOrphan name.now result }
+{
+    match name.copy() {
+        Ok(name) => NameRefusal::Orphan(name),
+        Err(error) => NameRefusal::NoMemory(error),
     }
 }

@@ -189,27 +189,27 @@ fn is_production_at(declarations: &[Declaration], place: usize) -> bool
 fn duplicate(declaration: &Declaration) -> NameRefusal
     ensures { spec.IsRefusedAs declaration.now result }
 {
-    match shown_name(declaration) {
+    match shown_name(declaration).copy() {
         Ok(name) => NameRefusal::Duplicate(name),
         Err(error) => NameRefusal::NoMemory(error),
     }
 }
 
 // The name by which a second declaration is shown.
-fn shown_name(declaration: &Declaration) -> Result<Bytes, AllocError>
-    ensures { IfOk result (λ name. name ≡ shown declaration.now) }
+fn shown_name(declaration: &Declaration) -> &Bytes
+    ensures { result.now ≡ shown declaration.now }
 {
     match declaration {
-        Declaration::Symbol { name, .. } => name.copy(),
-        Declaration::Attribute { name, .. } => name.copy(),
-        Declaration::Occurrence { attribute, .. } => attribute.copy(),
-        Declaration::Left { production, .. } => production.copy(),
-        Declaration::Label { label, .. } => label.copy(),
-        Declaration::Equation { attribute, .. } => attribute.copy(),
-        Declaration::Forward(production) => production.copy(),
-        Declaration::Start(name) => name.copy(),
-        Declaration::Extensible(name) => name.copy(),
-        Declaration::ForwardNeeds(name) => name.copy(),
-        Declaration::Preference { first, .. } => first.copy(),
+        Declaration::Symbol { name, .. } => name,
+        Declaration::Attribute { name, .. } => name,
+        Declaration::Occurrence { attribute, .. } => attribute,
+        Declaration::Left { production, .. } => production,
+        Declaration::Label { label, .. } => label,
+        Declaration::Equation { attribute, .. } => attribute,
+        Declaration::Forward(production) => production,
+        Declaration::Start(name) => name,
+        Declaration::Extensible(name) => name,
+        Declaration::ForwardNeeds(name) => name,
+        Declaration::Preference { first, .. } => first,
     }
 }

@@ -68,7 +68,7 @@ fn check_name(
     if is_declared(alloc, index, name.as_slice(), wanted)? {
         return Ok(());
     }
-    Err(NameRefusal::Unknown(name.copy()?))
+    Err(unknown(name))
 }
 
 // Whether a name is declared in a name space.
@@ -117,7 +117,7 @@ fn check_label(
         return Ok(());
     }
     match index.label(alloc, production.as_slice(), label.as_slice())? {
-        None => Err(NameRefusal::Unknown(label.copy()?)),
+        None => Err(unknown(label)),
         Some(_) => Ok(()),
     }
 }
@@ -138,7 +138,7 @@ fn check_attribute(
         return Ok(());
     }
     if lacks_forward(alloc, index, production, site)? {
-        return Err(NameRefusal::Unknown(attribute.copy()?));
+        return Err(unknown(attribute));
     }
     match site_of(alloc, index, production.as_slice(), site)? {
         None => Ok(()),
@@ -159,7 +159,7 @@ fn check_occurs(
     if occurs(alloc, index, attribute.as_slice(), nonterminal.as_slice())? {
         return Ok(());
     }
-    Err(NameRefusal::Unknown(attribute.copy()?))
+    Err(unknown(attribute))
 }
 
 // Whether the tree is the forwarded one, and the production doesn't forward.
@@ -191,4 +191,14 @@ fn check_needs(
         return Ok(());
     }
     check_occurs(alloc, index, attribute, nonterminal)
+}
+
+// That a name isn't declared.
+fn unknown(name: &Bytes) -> NameRefusal
+    ensures { spec.NamesUnknown name.now result }
+{
+    match name.copy() {
+        Ok(name) => NameRefusal::Unknown(name),
+        Err(error) => NameRefusal::NoMemory(error),
+    }
 }

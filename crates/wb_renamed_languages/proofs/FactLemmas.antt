@@ -16,7 +16,8 @@ use Rattle.wb_languages.specs.Languages.{LanguageView}
 use Rattle.wb_languages.specs.Winners.{Wins}
 use Rattle.wb_unions.specs.Renamings.{Renaming, renamed}
 use Rattle.wb_unions.proofs.NumberLemmas.{nil_map}
-use Rattle.wb_renamed_languages.specs.Grammars.{GrammarLeadsTo, IsSameGrammar}
+use Rattle.wb_renamed_languages.specs.Grammars.{GrammarLeadsTo}
+use Rattle.wb_renamed_languages.specs.Inner.SameGrammars.{IsSameGrammar}
 use Rattle.wb_renamed_languages.specs.Languages.{IsNumberedOn, IsSameLanguage, Renumbering, renamed_form}
 use Rattle.wb_renamed_languages.proofs.GrammarLemmas.{derives_there, list_back, text_there, viable_there}
 use Rattle.wb_renamed_languages.proofs.TerminalLemmas.{no_conflict_there}

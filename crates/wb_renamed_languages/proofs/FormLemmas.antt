@@ -11,7 +11,7 @@ use Rattle.wb_languages.specs.Languages.{LanguageView, bare, forms_of, IsLayout}
 use Rattle.wb_languages.specs.Winners.{Beats, BeatsAt, IsConsideredForm, MatchesAt, Wins, both_bare, both_prefixed, by_prefix}
 use Rattle.wb_languages.specs.Winners.{layout, valid}
 use Rattle.wb_unions.specs.Renamings.{renamed}
-use Rattle.wb_renamed_languages.specs.Grammars.{IsSameGrammar}
+use Rattle.wb_renamed_languages.specs.Inner.SameGrammars.{IsSameGrammar}
 use Rattle.wb_renamed_languages.specs.Languages.{IsSameLanguage, LanguageLeadsTo, Renumbering, renamed_form}
 use Rattle.wb_renamed_languages.proofs.GrammarLemmas.{list_back}
 use Rattle.wb_renamed_languages.proofs.TerminalLemmas.{terminal_there}

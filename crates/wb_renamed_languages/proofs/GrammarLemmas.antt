@@ -13,7 +13,8 @@ use Rattle.wb_grammars.specs.Items.{start_item}
 use Rattle.wb_grammars.specs.Productions.{end_of, right_of}
 use Rattle.wb_unions.specs.Renamings.{Renaming, renamed, renamed_item}
 use Rattle.wb_unions.proofs.RenamingLemmas.{InGrammar, at_rule, at_top, in_grammar}
-use Rattle.wb_renamed_languages.specs.Grammars.{GrammarLeadsTo, IsSameGrammar, IsUndoneBy}
+use Rattle.wb_renamed_languages.specs.Grammars.{GrammarLeadsTo, IsUndoneBy}
+use Rattle.wb_renamed_languages.specs.Inner.SameGrammars.{IsSameGrammar}
 
 -- a symbol, a list of symbols and an item, there and back
 pub symbol_back : {r s : Renaming} → IsUndoneBy r s → (x : Symbol) → renamed s (renamed r x) ≡ x

@@ -7,7 +7,7 @@ use Rattle.wb_grammars.specs.Items.{IsKernelItem, SameKernel}
 use Rattle.wb_grammars.specs.Lookaheads.{CanReduce, CanShift, HasConflict, HasNoConflict, IsLookahead, IsValidTerminal}
 use Rattle.wb_unions.specs.Renamings.{Renaming, renamed, renamed_item}
 use Rattle.wb_unions.proofs.RenamingLemmas.{in_grammar}
-use Rattle.wb_renamed_languages.specs.Grammars.{IsSameGrammar}
+use Rattle.wb_renamed_languages.specs.Inner.SameGrammars.{IsSameGrammar}
 use Rattle.wb_renamed_languages.proofs.GrammarLemmas.{dots, has_there, item_back, kernel_there, list_back, same_grammar_back, valid_there}
 
 module _ {r s : Renaming} {g k : GrammarView} (same : IsSameGrammar r s g k) where

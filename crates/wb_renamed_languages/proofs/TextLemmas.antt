@@ -13,7 +13,8 @@ use Rattle.wb_languages.specs.Tokens.{Next, NextToken, ends, fails, missing, ove
 use Rattle.wb_languages.specs.Readings.{AreOnText, Begins, Gives, Scanner, StopsFor, terminals_of}
 use Rattle.wb_languages.specs.Texts.{ParsesTo, StopsAt}
 use Rattle.wb_unions.specs.Renamings.{Renaming, renamed}
-use Rattle.wb_renamed_languages.specs.Grammars.{GrammarLeadsTo, IsSameGrammar, IsUndoneBy}
+use Rattle.wb_renamed_languages.specs.Grammars.{GrammarLeadsTo, IsUndoneBy}
+use Rattle.wb_renamed_languages.specs.Inner.SameGrammars.{IsSameGrammar}
 use Rattle.wb_renamed_languages.specs.Languages.{IsSameLanguage, Renumbering, renamed_form}
 use Rattle.wb_renamed_languages.specs.Answers.{renamed_forest, renamed_kind}
 use Rattle.wb_renamed_languages.specs.Laws.{HasSameAnswers}

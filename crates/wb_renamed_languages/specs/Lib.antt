@@ -6,3 +6,4 @@ pub mod Languages
 pub mod Answers
 -- what the laws say
 pub mod Laws
+pub mod Inner

@@ -3,13 +3,13 @@
 //! An explicit stack holds the children that are left, so nothing recurses. A tree may be a shared graph whose text would be astronomic, so
 //! printing ends where the text gets too long.
 
-ghost use Rattle.std.specs.Prelude.{◌≡◌, ◌+◌, ◌<◌, ◌≤◌, ◌++◌, ◌∷◌, [], All, List, length, reverse, true, false, IfErr, IfOk, OnOk};
+ghost use Rattle.std.specs.Prelude.{◌≡◌, ◌+◌, ◌<◌, ◌≤◌, ◌++◌, ◌∷◌, [], length, reverse, true, false, IfErr, IfOk, OnOk};
 ghost use Rattle.wb_tokens.specs.Printing.{printed_text};
-ghost use Rattle.wb_values.specs.ValuesIn.{tree_in, value_in, values_in, IsIn};
+ghost use Rattle.wb_values.specs.ValuesIn.{tree_in, value_in, IsIn};
 ghost use Rattle.wb_values.specs.Tree.{bool};
 ghost use Rattle.wb_terms.specs.Printed.{name_of, printed_plain, printed_tree, printed_value};
 ghost use Rattle.wb_terms.specs.Lengths.{IsTooLong};
-ghost use Rattle.wb_terms.specs.Inner.Pending.{before, children_text, pending_text, pending_weight, tree_weight, value_weight, children_weight, ArePendingIn};
+ghost use Rattle.wb_terms.specs.Inner.Pending.{before, left_of, left_text, pending_text, pending_weight, tree_weight, value_weight, children_weight, ArePendingIn};
 
 use crate::name::printed_name;
 use crate::refusal::PrintRefusal;
@@ -21,12 +21,11 @@ use wb_values::{Signatures, TreeId, TreeStore, Value};
 // The most bytes that a value is printed in.
 const LIMIT: usize = 16_777_216;
 
-// The children of a node that are still to be printed.
+// The children of a tree that are still to be printed: those from this place on.
 #[derive(Clone, Copy)]
-struct Pending<'a> {
-    // Whether the next child is the node's first.
-    first: bool,
-    values: &'a [Value],
+struct Pending {
+    tree: TreeId,
+    next: usize,
 }
 
 // Appends the printed name of a production and an opening parenthesis.
@@ -52,11 +51,11 @@ fn print_bool(out: &mut Vec<u8>, truth: bool) -> Result<(), AllocError>
     }
 }
 
-// Appends what comes before a child: nothing before the first one.
-fn print_separator(out: &mut Vec<u8>, first: bool) -> Result<(), AllocError>
-    ensures { OnOk result (out.new.items ≡ out.old.items ++ before first) }
+// Appends what comes before the child at a place: nothing before the first one.
+fn print_separator(out: &mut Vec<u8>, place: usize) -> Result<(), AllocError>
+    ensures { OnOk result (out.new.items ≡ out.old.items ++ before place) }
 {
-    if first {
+    if place == 0 {
         Ok(())
     } else {
         out.extend_from_slice(b", ")
@@ -75,12 +74,12 @@ fn print_short(out: &mut Vec<u8>, text: &[u8]) -> Result<(), PrintRefusal>
 }
 
 // Appends what comes before the children of a tree, which are then to be printed first.
-fn begin_tree<'a>(
+fn begin_tree(
     out: &mut Vec<u8>,
-    stack: &mut Vec<Pending<'a>>,
+    stack: &mut Vec<Pending>,
     tree: TreeId,
     signatures: &Signatures,
-    store: &'a TreeStore,
+    store: &TreeStore,
 ) -> Result<(), AllocError>
     requires within { tree.0 < length store.now }
     requires pending { ArePendingIn (length store.now) (reverse stack.old.items) }
@@ -91,23 +90,16 @@ fn begin_tree<'a>(
     ensures pending { OnOk result (ArePendingIn (length store.now) (reverse stack.new.items)) }
 {
     print_name(out, signatures, store.production(tree))?;
-    let values = store.children(tree);
-    push(
-        stack,
-        Pending {
-            first: true,
-            values,
-        },
-    )
+    push(stack, Pending { tree, next: 0 })
 }
 
 // Appends a plain value, or what comes before the children of a tree, which are then to be printed first.
-fn begin_value<'a>(
+fn begin_value(
     out: &mut Vec<u8>,
-    stack: &mut Vec<Pending<'a>>,
+    stack: &mut Vec<Pending>,
     value: &Value,
     signatures: &Signatures,
-    store: &'a TreeStore,
+    store: &TreeStore,
 ) -> Result<(), PrintRefusal>
     requires within { IsIn (length store.now) value.now }
     requires pending { ArePendingIn (length store.now) (reverse stack.old.items) }
@@ -126,37 +118,37 @@ fn begin_value<'a>(
     }
 }
 
-// Appends the next child of a node, or its end.
-fn print_next<'a>(
+// Appends the next child of a tree, or its end.
+fn print_next(
     out: &mut Vec<u8>,
-    stack: &mut Vec<Pending<'a>>,
-    next: Pending<'a>,
+    stack: &mut Vec<Pending>,
+    pending: Pending,
     signatures: &Signatures,
-    store: &'a TreeStore,
+    store: &TreeStore,
 ) -> Result<(), PrintRefusal>
-    requires next { All (IsIn (length store.now)) next.values.now }
+    requires within { pending.tree.0 < length store.now }
     requires pending { ArePendingIn (length store.now) (reverse stack.old.items) }
     ensures text { OnOk result (out.new.items ++ pending_text signatures.now store.now (reverse stack.new.items)
-        ≡ out.old.items ++ (children_text next.entry.first signatures.now (values_in store.now next.entry.values.now) ++ 41 ∷ pending_text signatures.now store.now (reverse stack.old.items))) }
+        ≡ out.old.items ++ (left_text signatures.now store.now pending ++ 41 ∷ pending_text signatures.now store.now (reverse stack.old.items))) }
     ensures weight { OnOk result (pending_weight store.now (reverse stack.new.items)
-        < children_weight (values_in store.now next.entry.values.now) + pending_weight store.now (reverse stack.old.items)) }
+        < children_weight (left_of store.now pending) + pending_weight store.now (reverse stack.old.items)) }
     ensures pending { OnOk result (ArePendingIn (length store.now) (reverse stack.new.items)) }
-    ensures refused { IfErr result (IsTooLong (children_text next.entry.first signatures.now (values_in store.now next.entry.values.now))) }
+    ensures refused { IfErr result (IsTooLong (left_text signatures.now store.now pending)) }
 {
-    match next.values {
-        [] => Ok(push(out, b')')?),
-        [child, others @ ..] => {
-            print_separator(out, next.first)?;
-            push(
-                stack,
-                Pending {
-                    first: false,
-                    values: others,
-                },
-            )?;
-            begin_value(out, stack, child, signatures, store)
-        }
+    let Pending { tree, next } = pending;
+    if next >= store.arity(tree) {
+        return Ok(push(out, b')')?);
     }
+    print_separator(out, next)?;
+    push(
+        stack,
+        Pending {
+            tree,
+            next: next + 1,
+        },
+    )?;
+    let child = store.child(tree, next)?;
+    begin_value(out, stack, &child, signatures, store)
 }
 
 /// The printed text of a value, whose trees are those of the store.
@@ -179,10 +171,10 @@ pub fn print_value(
     let mut stack = Vec::new(alloc);
     begin_value(&mut out, &mut stack, value, signatures, store)?;
     'print: while out.len() <= LIMIT {
-        let Some(next) = stack.pop() else {
+        let Some(pending) = stack.pop() else {
             return Ok(out);
         };
-        print_next(&mut out, &mut stack, next, signatures, store)?;
+        print_next(&mut out, &mut stack, pending, signatures, store)?;
     }
     Err(PrintRefusal::TooLong)
 }

@@ -18,7 +18,7 @@ use Rattle.wb_united_forms.specs.Apart.{IsMarkerRow}
 use Rattle.wb_united_forms.specs.Written.{IsOwnRow, WrittenPiece, pieces_of}
 use Rattle.wb_uniting.specs.declared.addition.Addition.{Addition}
 use Rattle.wb_uniting.specs.declared.addition.Lent.{Lent}
-use Rattle.wb_uniting.specs.Additions.{HasTerminals}
+use Rattle.wb_uniting.specs.Inner.FirstBytes.{HasTerminals}
 use Rattle.wb_uniting.specs.Inner.FormsMade.{AreWithdrawnBelow, IsWithdrawnIn}
 use Rattle.wb_uniting.specs.Inner.Sharing.{SharesWithOther}
 use Rattle.wb_uniting.specs.Lents.{HasBridges, IsUnitable, all_in, is_marker_in, own_in, written_in}

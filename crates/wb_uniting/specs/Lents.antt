@@ -50,10 +50,7 @@ written_in x = record {
   lexicon = lexicon_with x.grammar.now x.terminals.now x.preferences.now;
 }
 
--- the host's grammar, what is scanned of it, and the extensions
-abbrev pub host_in : Lent → GrammarView
-host_in lent = lent.grammar.now
-
+-- what is scanned of the host's grammar, and the extensions
 abbrev pub own_in : Lent → LexiconView
 own_in lent = lexicon_with lent.grammar.now lent.terminals.now lent.preferences.now
 

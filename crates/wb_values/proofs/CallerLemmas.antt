@@ -1,5 +1,5 @@
 -- For whoever builds trees: values among more trees, at a place, and at a push.
-use Rattle.std.proofs.Common.{◌≡◌, ℕ, zero, suc, ◌+◌, ◌-◌, ◌<◌, ◌≤◌, List, [], ◌∷◌, ◌++◌, Option, Some, None, length, drop, All, get_or}
+use Rattle.std.proofs.Common.{◌≡◌, ℕ, zero, suc, ◌+◌, ◌-◌, ◌<◌, ◌≤◌, List, [], ◌∷◌, ◌++◌, Some, length, drop, All, get_or}
 use Rattle.std.proofs.Common.{refl, sym, ap, subst, ◌∙◌, arith, length-append}
 use Rattle.std.specs.Prelude.{slice_get}
 use Rattle.std.specs.Option.{option_map}
@@ -8,19 +8,13 @@ use Rattle.std.proofs.Math.Seq.{get_or-append_seam}
 use Rattle.std.proofs.Math.ListN.{get_or-append}
 use Rattle.wb_values.specs.Tree.{Tree, node, empty}
 use Rattle.wb_values.specs.Tree as v
-use Rattle.wb_values.specs.Tree.{Values}
+use Rattle.wb_values.specs.Tree.{Values, value_at, count_of}
 use Rattle.wb_values.specs.Signature.{Signature}
 use Rattle.wb_values.specs.Fits.{FitsValue, FitAll}
 use Rattle.wb_base.specs.declared.symbol.Kind.{Kind}
 use Rattle.wb_values.specs.declared.value.Value.{Value}
 use Rattle.wb_values.specs.declared.value.Value.TheVariants.{Int, Bool, Text, Tree as Stored}
 use Rattle.wb_values.specs.ValuesIn.{tree_in, value_in, values_in, last, IsIn}
-
--- the value at a place, from 0 on
-abbrev pub value_at : Values → ℕ → Option v.Value
-value_at v.empty k = None
-value_at (v.more x xs) zero = Some x
-value_at (v.more x xs) (suc k) = value_at xs k
 
 -- a value among the first trees is among more
 pub is_in_more : (m n : ℕ) (x : Value) → m ≤ n → IsIn m x → IsIn n x
@@ -47,6 +41,17 @@ pub value_at-values_in : (trees : List Tree) (xs : List Value) (k : ℕ) → val
 value_at-values_in trees [] k = refl
 value_at-values_in trees (x ∷ xs) zero = refl
 value_at-values_in trees (x ∷ xs) (suc k) = value_at-values_in trees xs k
+
+-- as many as values
+pub count_of-values_in : (trees : List Tree) (xs : List Value) → count_of (values_in trees xs) ≡ length xs
+count_of-values_in trees [] = refl
+count_of-values_in trees (x ∷ xs) = ap suc (count_of-values_in trees xs)
+
+-- a place where there is a value is inside
+pub value_at-within : (xs : Values) (k : ℕ) (x : v.Value) → value_at xs k ≡ Some x → k < count_of xs
+value_at-within v.empty k x at = absurd cc
+value_at-within (v.more y ys) zero x at = omega arith
+value_at-within (v.more y ys) (suc k) x at = let h = value_at-within ys k x at in omega (arith, h)
 
 -- the last values, one more of them, after one more was pushed
 pub last-push : (count : ℕ) (xs : List Value) (x : Value) → count ≤ length xs → last (count + 1) (xs ++ x ∷ []) ≡ last count xs ++ x ∷ []

@@ -1,5 +1,6 @@
 pub mod CallerLemmas
+pub mod ChildLemmas
 pub mod Grown
 pub mod Laid
-pub mod Moved
+pub mod PackedLemmas
 pub mod SignatureLemmas

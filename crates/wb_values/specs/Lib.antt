@@ -8,6 +8,8 @@ pub mod Signature
 pub mod Fits
 -- what stored values stand for
 pub mod ValuesIn
+-- what the cells of packed values stand for
+pub mod Packed
 -- the trees of a store
 pub mod Trees
 -- how signatures are kept

@@ -3,12 +3,14 @@
 //! An id stands for one finite tree as long as its store holds it. Reading and printing are in `wb_terms`, operations in `wb_operations`.
 #![tactic(auto)]
 
-mod move_end;
+mod cell;
 mod node;
+mod packed;
 mod signatures;
 mod store;
 mod value;
 
+pub use packed::PackedValues;
 pub use signatures::Signatures;
 pub use store::TreeStore;
 pub use value::{TreeId, Value};

@@ -1,15 +1,14 @@
 //! How are trees kept, so that an id stands for one tree as long as the store holds it?
 //!
-//! Nodes and their children lie in two flat lists, so a tree with two children takes 80 bytes. What they stand for is in `specs/Trees`.
+//! Nodes and their children lie in two flat lists. A tree over two trees takes 32 bytes. What they stand for is in `specs/Trees`.
 
-ghost use Rattle.std.specs.Prelude.{◌≡◌, ◌↔◌, ◌<◌, ◌≤◌, ◌-◌, [], ◌∷◌, ◌++◌, length, take, All, IsTrue, IfOk, OnErr, OnOk};
-ghost use Rattle.wb_values.specs.Tree.{node, production_of, children_of};
-ghost use Rattle.wb_values.specs.ValuesIn.{tree_in, values_in, last, IsIn};
+ghost use Rattle.std.specs.Prelude.{◌≡◌, ◌≢◌, ◌↔◌, ◌<◌, ◌≤◌, ◌-◌, [], ◌∷◌, ◌++◌, Some, length, take, All, IsTrue, IfOk, IfSome, IfNone, OnErr, OnOk};
+ghost use Rattle.wb_values.specs.Tree.{Tree, node, tree as subtree, production_of, children_of, value_at, count_of};
+ghost use Rattle.wb_values.specs.ValuesIn.{tree_in, value_in, values_in, last, IsIn};
 ghost use Rattle.wb_values.specs.Inner.Begin.{begin};
 
-use crate::move_end::move_end;
 use crate::node::Node;
-use crate::{TreeId, Value};
+use crate::{PackedValues, TreeId, Value};
 use std::alloc::{AllocError, Global};
 use std::marker::Model;
 
@@ -17,7 +16,7 @@ use std::marker::Model;
 #[derive(Drop)]
 pub struct TreeStore {
     nodes: Vec<Node>,
-    values: Vec<Value>,
+    children: PackedValues,
 }
 
 impl Model for TreeStore {
@@ -31,9 +30,9 @@ impl Model for TreeStore {
 
     ghost coded = { coded_list coded_tree };
 
-    ghost view = { λ s. trees_of s.nodes.items s.values.items };
+    ghost view = { λ s. trees_of s.nodes.items s.children };
 
-    ghost invariant = { λ s. IsStore s.nodes.items s.values.items };
+    ghost invariant = { λ s. IsStore s.nodes.items s.children };
 }
 
 impl TreeStore {
@@ -43,7 +42,7 @@ impl TreeStore {
     {
         TreeStore {
             nodes: Vec::new(alloc),
-            values: Vec::new(alloc),
+            children: PackedValues::new(alloc),
         }
     }
 
@@ -96,8 +95,34 @@ impl TreeStore {
         let tree = TreeId(self.nodes.len());
         let start = values.len() - count;
         self.nodes.reserve(1)?;
-        move_end(values, start, &mut self.values)?;
-        let end = self.values.len();
+        self.children.extend(&values[start..])?;
+        values.truncate(start);
+        let end = self.children.len();
+        self.nodes.push_reserved(Node { production, end });
+        Ok(tree)
+    }
+
+    /// Adds the tree of a production over the last of packed values, so many of them, in order, and takes them off. The only error is want
+    /// of memory.
+    pub fn build_packed(
+        &mut self,
+        production: usize,
+        values: &mut PackedValues,
+        count: usize,
+    ) -> Result<TreeId, AllocError>
+        requires count { count ≤ length values.old }
+        requires children { All (IsIn (length self.old)) (last count values.old) }
+        ensures id { IfOk result (λ tree. tree.0 ≡ length self.old) }
+        ensures ok { OnOk result (self.new ≡ self.old ++ node production (values_in self.old (last count values.old)) ∷ []) }
+        ensures taken { OnOk result (values.new ≡ take (length values.old - count) values.old) }
+        ensures err { OnErr result (self.new ≡ self.old) }
+        ensures err_values { OnErr result (values.new ≡ values.old) }
+    {
+        let tree = TreeId(self.nodes.len());
+        let start = values.len() - count;
+        self.nodes.reserve(1)?;
+        self.children.take_end(values, start)?;
+        let end = self.children.len();
         self.nodes.push_reserved(Node { production, end });
         Ok(tree)
     }
@@ -111,9 +136,9 @@ impl TreeStore {
         let nodes = self.nodes.as_slice();
         let first = begin(nodes, from);
         let more_nodes = (self.nodes.len() - from).saturating_mul(times);
-        let more_values = (self.values.len() - first).saturating_mul(times);
+        let more_children = (self.children.len() - first).saturating_mul(times);
         let _nodes = self.nodes.reserve_exact(more_nodes);
-        let _values = self.values.reserve_exact(more_values);
+        self.children.make_room(more_children);
     }
 
     /// Keeps the first trees, so many of them, and takes the others away. Takes no memory.
@@ -123,7 +148,7 @@ impl TreeStore {
     {
         let nodes = self.nodes.as_slice();
         let kept = begin(nodes, len);
-        self.values.truncate(kept);
+        self.children.truncate(kept);
         self.nodes.truncate(len);
     }
 
@@ -135,17 +160,42 @@ impl TreeStore {
         self.nodes[tree.0].production
     }
 
-    /// The children of a tree, from left to right. Those that are trees have smaller ids. Takes no memory.
-    pub fn children(&self, tree: TreeId) -> &[Value]
+    /// How many children a tree has. Takes no memory.
+    pub fn arity(&self, tree: TreeId) -> usize
         requires { tree.0 < length self.now }
-        ensures values { values_in self.now result.now ≡ children_of (tree_in self.now tree.0) }
-        ensures below { All (IsIn tree.0) result.now }
+        ensures { result ≡ count_of (children_of (tree_in self.now tree.0)) }
     {
         let nodes = self.nodes.as_slice();
         let first = begin(nodes, tree.0);
-        let node = self.nodes[tree.0];
-        let values = self.values.as_slice();
-        &values[first..node.end]
+        self.nodes[tree.0].end - first
+    }
+
+    /// The child of a tree at a place, counted from 0 and copied in constant time. One that is a tree has a smaller id. The only error is
+    /// that a text has too many copies to be counted.
+    pub fn child(&self, tree: TreeId, place: usize) -> Result<Value, AllocError>
+        requires there { tree.0 < length self.now }
+        requires place { place < count_of (children_of (tree_in self.now tree.0)) }
+        ensures value { IfOk result (λ made. value_at (children_of (tree_in self.now tree.0)) place ≡ Some (value_in self.now made)) }
+        ensures below { IfOk result (IsIn tree.0) }
+    {
+        let nodes = self.nodes.as_slice();
+        let first = begin(nodes, tree.0);
+        prove!(place < self.children.len());
+        self.children.get(first + place)
+    }
+
+    /// The child of a tree at a place, if it is a tree. It has a smaller id. Takes no memory.
+    pub fn child_tree(&self, tree: TreeId, place: usize) -> Option<TreeId>
+        requires there { tree.0 < length self.now }
+        requires place { place < count_of (children_of (tree_in self.now tree.0)) }
+        ensures some { IfSome result (λ child. value_at (children_of (tree_in self.now tree.0)) place ≡ Some (subtree (tree_in self.now child.0))) }
+        ensures below { IfSome result (λ child. child.0 < tree.0) }
+        ensures none { IfNone result ((child : Tree) → value_at (children_of (tree_in self.now tree.0)) place ≢ Some (subtree child)) }
+    {
+        let nodes = self.nodes.as_slice();
+        let first = begin(nodes, tree.0);
+        prove!(place < self.children.len());
+        self.children.tree(first + place)
     }
 }
 

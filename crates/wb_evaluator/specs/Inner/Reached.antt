@@ -1,9 +1,8 @@
 -- Children of stored trees, and the sites that are one step down.
 use Rattle.std.specs.Prelude.{◌≡◌, ◌<◌, ℕ, List, Option, Some, None, length}
 use Rattle.wb_values.specs.declared.value.TreeId.{TreeId}
-use Rattle.wb_values.specs.Tree.{Tree, Value, tree, children_of}
+use Rattle.wb_values.specs.Tree.{Tree, Value, tree, children_of, value_at}
 use Rattle.wb_values.specs.ValuesIn.{tree_in}
-use Rattle.wb_evaluation.specs.Walks.{value_at}
 use Rattle.wb_evaluator.specs.Inner.Machines.{HasTree}
 use Rattle.wb_memo.specs.Memos.{IsBelow}
 use Rattle.wb_memo.specs.declared.memo.Memo.{Memo}

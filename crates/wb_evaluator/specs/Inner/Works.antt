@@ -10,9 +10,9 @@ use Rattle.wb_resolved.specs.Expression.{Node}
 use Rattle.wb_values.specs.declared.value.TreeId.{TreeId}
 use Rattle.wb_values.specs.declared.value.Value.{Value}
 use Rattle.wb_values.specs.declared.value.Value.TheVariants as stored
-use Rattle.wb_values.specs.Tree.{Tree, production_of, children_of}
+use Rattle.wb_values.specs.Tree.{Tree, production_of, children_of, value_at}
 use Rattle.wb_values.specs.ValuesIn.{tree_in, value_in, IsIn}
-use Rattle.wb_evaluation.specs.Walks.{value_at, value, fault, done}
+use Rattle.wb_evaluation.specs.Walks.{value, fault, done}
 use Rattle.wb_evaluator.specs.declared.work.Ran.{Ran}
 use Rattle.wb_evaluator.specs.declared.work.Ran.TheVariants as ran
 use Rattle.wb_evaluator.specs.Inner.Machines.{HasTree, known, IsSuspended, Runs, Wants, IsSame, with_memo}

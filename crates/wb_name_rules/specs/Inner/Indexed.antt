@@ -1,5 +1,5 @@
 -- What passes over declarations and look-ups by key say.
-use Rattle.std.specs.Prelude.{◌≡◌, ℕ, true, false, List, Some, length, Contains, slice_get}
+use Rattle.std.specs.Prelude.{◌≡◌, ℕ, true, false, List, Option, Some, MatchOption, length, Contains, slice_get}
 use Rattle.wb_naming.specs.declared.declaration.Declaration.{Declaration}
 use Rattle.wb_naming.specs.declared.declaration.Declaration.TheVariants as d
 use Rattle.wb_naming.specs.declared.declaration.Sort.TheVariants as sort
@@ -38,6 +38,10 @@ pub record IsAtKey (declared : List Declaration) (key : List ℕ) (place : ℕ) 
 -- no declaration that counts has the key
 abbrev pub HasNoKey : List Declaration → List ℕ → Type 0
 HasNoKey declared key = (one : Declaration) → Contains declared one → Counts declared one → key_of one ≡ key → ⊥
+
+-- what is found by a key is the place of a declaration that has it, or nothing where no declaration that counts has it
+abbrev pub IsFound : List Declaration → List ℕ → Option ℕ → Type 0
+IsFound declared key found = MatchOption found (HasNoKey declared key) (IsAtKey declared key)
 
 -- the refusal shows the declaration as one that is there already, unless memory is wanting
 abbrev pub IsRefusedAs : Declaration → NameRefusal → Type 0

@@ -39,6 +39,12 @@ IsOrphanIn declared from other = ⊥
 abbrev pub IsLocal : Labelled → Type 0
 IsLocal is = (n : List ℕ) × (is ≡ Local n)
 
+-- the refusal shows this name as one of what an extension may not say, unless memory is wanting
+abbrev pub NamesOrphan : List ℕ → NameRefusal → Type 0
+NamesOrphan shown (r.Orphan name) = name ≡ shown
+NamesOrphan shown (r.NoMemory error) = Unit {0}
+NamesOrphan shown other = ⊥
+
 -- the refusal shows this name, and this holds, unless memory is wanting
 abbrev pub IsOrphanIf : Type 0 → List ℕ → NameRefusal → Type 0
 IsOrphanIf P shown (r.Orphan name) = (name ≡ shown) × P

@@ -43,6 +43,18 @@ IsOfKind declared (u.Label production l wanted) = IsSymbol declared production s
     → (is : Labelled) → HasLabel declared production l is → SuitsLabel declared wanted is
 IsOfKind declared other = Unit {0}
 
+-- the refusal shows this name as one that isn't declared, unless memory is wanting
+abbrev pub NamesUnknown : List ℕ → NameRefusal → Type 0
+NamesUnknown shown (r.Unknown name) = name ≡ shown
+NamesUnknown shown (r.NoMemory error) = Unit {0}
+NamesUnknown shown other = ⊥
+
+-- the refusal shows this name as one of another kind, unless memory is wanting
+abbrev pub NamesKind : List ℕ → NameRefusal → Type 0
+NamesKind shown (r.WrongKind name) = name ≡ shown
+NamesKind shown (r.NoMemory error) = Unit {0}
+NamesKind shown other = ⊥
+
 -- the refusal tells that something isn't declared, of which the usage is an example, unless memory is wanting
 abbrev pub ShowsUnknown : List Declaration → Usage → NameRefusal → Type 0
 ShowsUnknown declared usage (r.Unknown name) = (used : List Usage) → Contains used usage → FailsUnknown declared used name

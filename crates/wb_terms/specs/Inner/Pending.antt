@@ -1,26 +1,39 @@
 -- What is still to be printed.
-use Rattle.std.specs.Prelude.{ℕ, ◌+◌, List, [], ◌∷◌, ◌++◌, All, true, false, Bool}
+use Rattle.std.specs.Prelude.{ℕ, zero, suc, ◌+◌, ◌<◌, List, [], ◌∷◌, ◌++◌}
 use Rattle.wb_values.specs.Signature.{Signature}
-use Rattle.wb_values.specs.Tree.{Tree, node, Value, plain, tree, Values, empty, more}
-use Rattle.wb_values.specs.ValuesIn.{values_in, IsIn}
+use Rattle.wb_values.specs.Tree.{Tree, node, Value, plain, tree, Values, empty, more, children_of}
+use Rattle.wb_values.specs.ValuesIn.{tree_in}
 use Rattle.wb_terms.specs.declared.print.Pending.{Pending}
 use Rattle.wb_terms.specs.Printed.{printed_children, printed_others}
 
--- what comes before a child: nothing before the first one
-abbrev pub before : Bool → List ℕ
-before true = []
-before false = 44 ∷ 32 ∷ []
+-- what comes before the child at a place: nothing before the first one
+abbrev pub before : ℕ → List ℕ
+before zero = []
+before (suc place) = 44 ∷ 32 ∷ []
 
--- children, the first of which has no separator before it or has one
-abbrev pub children_text : Bool → List Signature → Values → List ℕ
-children_text true signatures children = printed_children signatures children
-children_text false signatures children = printed_others signatures children
+-- the values from a place on
+abbrev pub values_from : ℕ → Values → Values
+values_from zero vs = vs
+values_from (suc place) empty = empty
+values_from (suc place) (more v vs) = values_from place vs
 
--- the text of what is to be printed, the first first: of each node the children that are left, and its end
+-- children from a place on, of which the one at 0 alone has no separator before it
+abbrev pub children_text : ℕ → List Signature → Values → List ℕ
+children_text zero signatures children = printed_children signatures children
+children_text (suc place) signatures children = printed_others signatures children
+
+-- the children of a tree that are left
+abbrev pub left_of : List Tree → Pending → Values
+left_of trees p = values_from p.next (children_of (tree_in trees p.tree.0))
+
+-- their text
+abbrev pub left_text : List Signature → List Tree → Pending → List ℕ
+left_text signatures trees p = children_text p.next signatures (left_of trees p)
+
+-- the text of what is to be printed, the first first: of each tree the children that are left, and its end
 abbrev pub pending_text : List Signature → List Tree → List Pending → List ℕ
 pending_text signatures trees [] = []
-pending_text signatures trees (p ∷ ps) =
-    children_text p.first signatures (values_in trees p.values.now) ++ 41 ∷ pending_text signatures trees ps
+pending_text signatures trees (p ∷ ps) = left_text signatures trees p ++ 41 ∷ pending_text signatures trees ps
 
 -- how many steps it takes
 abbrev mutual
@@ -37,9 +50,9 @@ abbrev mutual
 
 abbrev pub pending_weight : List Tree → List Pending → ℕ
 pending_weight trees [] = 0
-pending_weight trees (p ∷ ps) = children_weight (values_in trees p.values.now) + pending_weight trees ps
+pending_weight trees (p ∷ ps) = children_weight (left_of trees p) + pending_weight trees ps
 
--- its values are trees of the store
+-- its trees are those of the store
 abbrev pub ArePendingIn : ℕ → List Pending → Type 0
 ArePendingIn count [] = Unit {0}
-ArePendingIn count (p ∷ ps) = All (IsIn count) p.values.now × ArePendingIn count ps
+ArePendingIn count (p ∷ ps) = (p.tree.0 < count) × ArePendingIn count ps

@@ -7,7 +7,6 @@ use Rattle.wb_regex.specs.declared.node.RegexNode.{RegexNode}
 use Rattle.wb_resolved.specs.declared.terminal.Terminal.{Terminal}
 use Rattle.wb_termset.specs.Sets.{IsMember, IsSubset}
 use Rattle.wb_uniting.specs.declared.addition.Addition.{Addition}
-use Rattle.wb_uniting.specs.Additions.{HasTerminals}
 
 -- the set has each byte with which a text of the expression begins, and no text is empty
 pub record AreFirstBytes (pattern : Tree) (set : List Bool) : Type 0 where
@@ -25,6 +24,10 @@ pub record AreBytesAdded (node : RegexNode) (bound : ℕ) (old new : List Bool) 
   pub len : length new ≡ 256
   pub keeps : IsSubset old new
   pub adds : (b : ℕ) → b < bound → node_holds node b ≡ true → IsMember new b
+
+-- each terminal of the grammar has a row
+abbrev pub HasTerminals : Addition → Type 0
+HasTerminals x = x.grammar.now.terminals ≤ length x.terminals.now
 
 -- the extension has no fewer terminals than so many, and each terminal of the grammar has a row
 abbrev pub HasOwnRows : ℕ → Addition → Type 0

@@ -1,6 +1,7 @@
 use Rattle.std.proofs.Common.{ℕ, List, Some, None, subst}
 use Rattle.wb_name_rules.specs.Inner.Reads.{IsDirectionOf}
 use Rattle.wb_name_rules.proofs.KindLemmas.{no_direction, one_direction, shows_direction}
+use Rattle.wb_name_rules.proofs.ReadLemmas.{fails_when}
 use Rattle.wb_name_rules.proofs.kinds.check_direction.Goals as goal
 
 pub returns-in-None-clause-ok : goal.returns-in-None-clause-ok
@@ -14,8 +15,8 @@ returns-then-suits_direction-clause-ok c =
     (subst (λ (z : List ℕ). IsDirectionOf c.args.index.now z (Some c.in-Some.found)) c.as_slice.ensures (rw c.in-Some.is at c.in_ok-direction_of.ensures))
     (c.suits_direction.ensures.0 c.if-suits_direction.true)
 
-pub returns-in_ok-copy-in-Some-clause-refused : goal.returns-in_ok-copy-in-Some-clause-refused
-returns-in_ok-copy-in-Some-clause-refused c =
-    shows_direction c.args.index.now c.args.name.now c.in_ok-copy-in-Some.field-0 c.args.wanted c.in-Some.found
+pub returns-else-suits_direction-clause-refused : goal.returns-else-suits_direction-clause-refused
+returns-else-suits_direction-clause-refused c =
+    shows_direction c.args.index.now c.args.name.now c.args.wanted c.in-Some.found c.wrong_kind.result
     (subst (λ (z : List ℕ). IsDirectionOf c.args.index.now z (Some c.in-Some.found)) c.as_slice.ensures (rw c.in-Some.is at c.in_ok-direction_of.ensures))
-    (λ is. absurd (let t = c.suits_direction.ensures.1 is in let f = c.if-suits_direction.false in cc)) c.in_ok-copy-in-Some.ensures.ok
+    (fails_when c.suits_direction.result c.if-suits_direction.false c.suits_direction.ensures) c.wrong_kind.ensures

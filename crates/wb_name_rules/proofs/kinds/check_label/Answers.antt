@@ -13,10 +13,10 @@ returns-then-branch-clause-ok c =
     (rw c.in-Some.is at c.in_ok-labelled_as.ensures))
     (rw c.if-branch.true at c.in_ok-suits_label-in-Some.ensures)
 
-pub returns-in_ok-copy-in-Some-clause-refused : goal.returns-in_ok-copy-in-Some-clause-refused
-returns-in_ok-copy-in-Some-clause-refused c =
-    shows_label c.args.index.now c.args.production.now c.args.label.now c.in_ok-copy-in-Some.field-0 c.args.wanted c.in-Some.found.now
+pub returns-else-branch-clause-refused : goal.returns-else-branch-clause-refused
+returns-else-branch-clause-refused c =
+    shows_label c.args.index.now c.args.production.now c.args.label.now c.args.wanted c.in-Some.found.now c.wrong_kind.result
     (label_of c.args.index.now _ _ _ _ (Some c.in-Some.found.now) c.as_slice-2.ensures c.as_slice-3.ensures
     (rw c.in-Some.is at c.in_ok-labelled_as.ensures))
     (rw c.as_slice.ensures at (c.in_ok-is_production.ensures.0 c.if-not-branch.false))
-    (rw c.if-branch.false at c.in_ok-suits_label-in-Some.ensures) c.in_ok-copy-in-Some.ensures.ok
+    (rw c.if-branch.false at c.in_ok-suits_label-in-Some.ensures) c.wrong_kind.ensures

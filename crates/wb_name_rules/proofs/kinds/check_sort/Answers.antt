@@ -1,6 +1,7 @@
 use Rattle.std.proofs.Common.{ℕ, List, Some, None, subst}
 use Rattle.wb_name_rules.specs.Inner.Reads.{IsSortOf}
 use Rattle.wb_name_rules.proofs.KindLemmas.{no_sort, one_sort, shows_sort}
+use Rattle.wb_name_rules.proofs.ReadLemmas.{fails_when}
 use Rattle.wb_name_rules.proofs.kinds.check_sort.Goals as goal
 
 pub returns-in-None-clause-ok : goal.returns-in-None-clause-ok
@@ -14,8 +15,8 @@ returns-then-suits-clause-ok c =
     (subst (λ (z : List ℕ). IsSortOf c.args.index.now z (Some c.in-Some.found)) c.as_slice.ensures (rw c.in-Some.is at c.in_ok-sort_of.ensures))
     (c.suits.ensures.0 c.if-suits.true)
 
-pub returns-in_ok-copy-in-Some-clause-refused : goal.returns-in_ok-copy-in-Some-clause-refused
-returns-in_ok-copy-in-Some-clause-refused c =
-    shows_sort c.args.index.now c.args.name.now c.in_ok-copy-in-Some.field-0 c.args.wanted c.in-Some.found
+pub returns-else-suits-clause-refused : goal.returns-else-suits-clause-refused
+returns-else-suits-clause-refused c =
+    shows_sort c.args.index.now c.args.name.now c.args.wanted c.in-Some.found c.wrong_kind.result
     (subst (λ (z : List ℕ). IsSortOf c.args.index.now z (Some c.in-Some.found)) c.as_slice.ensures (rw c.in-Some.is at c.in_ok-sort_of.ensures))
-    (λ is. absurd (let t = c.suits.ensures.1 is in let f = c.if-suits.false in cc)) c.in_ok-copy-in-Some.ensures.ok
+    (fails_when c.suits.result c.if-suits.false c.suits.ensures) c.wrong_kind.ensures

@@ -3,7 +3,7 @@ use Rattle.std.proofs.lemmas.Result.{IfErr-weaker}
 use Rattle.wb_naming.specs.declared.declaration.Declaration.{Declaration}
 use Rattle.wb_naming.specs.Orphan.{IsOwnSymbol}
 use Rattle.wb_name_rules.specs.Inner.Owners.{IsOrphanIf, ShowsOrphan, IsForeignOccurrence, IsForeignPreference, IsForeignEquation}
-use Rattle.wb_name_rules.proofs.OwnerLemmas.{shows_forward_needs, shows_occurrence, shows_preference, shows_equation}
+use Rattle.wb_name_rules.proofs.OwnerLemmas.{shows_start, shows_extensible, shows_forward_needs, shows_occurrence, shows_preference, shows_equation}
 use Rattle.wb_name_rules.proofs.orphans.check_declaration.Goals as goal
 
 pub returns-in-ForwardNeeds-clause-refused : goal.returns-in-ForwardNeeds-clause-refused
@@ -33,3 +33,13 @@ returns-in-Equation-clause-refused c =
     (ShowsOrphan c.args.index.now c.args.from c.args.declaration.now)
     (λ refusal shows. subst (λ (z : Declaration). ShowsOrphan c.args.index.now c.args.from z refusal) (sym c.in-Equation.is)
     (shows_equation c.args.index.now c.args.from c.in-Equation.production c.in-Equation.attribute c.in-Equation.site refusal shows)) c.check_equation.ensures.refused
+
+pub returns-in-Start-clause-refused : goal.returns-in-Start-clause-refused
+returns-in-Start-clause-refused c =
+    subst (λ (z : Declaration). ShowsOrphan c.args.index.now c.args.from z c.orphan.result) (sym c.in-Start.is)
+    (shows_start c.args.index.now c.args.from c.in-Start.name c.orphan.result c.orphan.ensures)
+
+pub returns-in-Extensible-clause-refused : goal.returns-in-Extensible-clause-refused
+returns-in-Extensible-clause-refused c =
+    subst (λ (z : Declaration). ShowsOrphan c.args.index.now c.args.from z c.orphan-in-Extensible.result) (sym c.in-Extensible.is)
+    (shows_extensible c.args.index.now c.args.from c.in-Extensible.name c.orphan-in-Extensible.result c.orphan-in-Extensible.ensures)

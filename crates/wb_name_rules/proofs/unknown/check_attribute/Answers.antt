@@ -1,17 +1,17 @@
-use Rattle.std.proofs.Common.{refl, sym, subst}
+use Rattle.std.proofs.Common.{refl}
 use Rattle.std.proofs.lemmas.Result.{IfErr-weaker}
 use Rattle.wb_naming.specs.declared.usage.Usage.TheVariants as u
-use Rattle.wb_naming.specs.Unknown.{FailsUnknown}
 use Rattle.wb_name_rules.specs.Inner.Tests.{ShowsUnknown, ShowsAbsent}
-use Rattle.wb_name_rules.proofs.UnknownLemmas.{shows_elsewhere, shows_no_forward}
+use Rattle.wb_name_rules.proofs.UnknownLemmas.{shows_name, shows_elsewhere, shows_no_forward}
 use Rattle.wb_name_rules.proofs.unknown.check_attribute.Goals as goal
 
 pub returns-then-branch-clause-refused : goal.returns-then-branch-clause-refused
-returns-then-branch-clause-refused c = λ used has.
+returns-then-branch-clause-refused c =
     let there = rw c.as_slice.ensures at (c.in_ok-is_production.ensures.0 c.if-not-branch.false) in
     let lacks = rw c.if-branch.true at c.in_ok-lacks_forward.ensures in
-    subst (FailsUnknown c.args.index.now used) (sym c.in_ok-copy.ensures.ok)
-    (shows_no_forward c.args.index.now used c.args.production.now c.args.attribute.now c.args.site.now there has lacks.0 lacks.1)
+    shows_name c.args.index.now (u.Attribute c.args.production.now c.args.attribute.now c.args.site.now) c.args.attribute.now c.unknown.result
+    (λ used has. shows_no_forward c.args.index.now used c.args.production.now c.args.attribute.now c.args.site.now there has lacks.0 lacks.1)
+    c.unknown.ensures
 
 pub returns-in-Some-clause-refused : goal.returns-in-Some-clause-refused
 returns-in-Some-clause-refused c =

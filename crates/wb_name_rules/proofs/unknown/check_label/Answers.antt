@@ -1,16 +1,19 @@
-use Rattle.std.proofs.Common.{List, ℕ, sym, subst}
+use Rattle.std.proofs.Common.{List, ℕ, subst}
 use Rattle.wb_lemmas.proofs.Members.{contains_at}
 use Rattle.wb_naming.specs.declared.declaration.Declaration.TheVariants as d
 use Rattle.wb_naming.specs.Meaning.{HasLabel}
-use Rattle.wb_naming.specs.Unknown.{FailsUnknown, label}
+use Rattle.wb_naming.specs.declared.usage.Usage.TheVariants as u
+use Rattle.wb_naming.specs.Unknown.{label}
+use Rattle.wb_name_rules.proofs.UnknownLemmas.{shows_name}
 use Rattle.wb_name_rules.proofs.unknown.check_label.Goals as goal
 
-pub returns-in_ok-copy-in-None-clause-refused : goal.returns-in_ok-copy-in-None-clause-refused
-returns-in_ok-copy-in-None-clause-refused c = λ used has.
+pub returns-in-None-clause-refused : goal.returns-in-None-clause-refused
+returns-in-None-clause-refused c =
     let none = rw c.in-None.is at c.in_ok-label.ensures.none in
     let there = c.in_ok-is_production.ensures.0 c.if-not-branch.false in
-    subst (FailsUnknown c.args.index.now used) (sym c.in_ok-copy-in-None.ensures.ok)
-    (label (record { written = has; there = rw c.as_slice.ensures at there }) (λ is. rw (c.as_slice-2.ensures, c.as_slice-3.ensures) at (none is)))
+    shows_name c.args.index.now (u.Label c.args.production.now c.args.label.now c.args.wanted) c.args.label.now c.unknown.result (λ used has.
+    label (record { written = has; there = rw c.as_slice.ensures at there }) (λ is. rw (c.as_slice-2.ensures, c.as_slice-3.ensures) at (none is)))
+    c.unknown.ensures
 
 pub returns-in-Some-clause-ok : goal.returns-in-Some-clause-ok
 returns-in-Some-clause-ok c = λ there.

@@ -1,9 +1,13 @@
 use Rattle.std.proofs.Common.{sym, subst}
 use Rattle.wb_naming.specs.Meaning.{IsDeclared}
-use Rattle.wb_naming.specs.Unknown.{FailsUnknown, undeclared}
+use Rattle.wb_naming.specs.Unknown.{undeclared}
+use Rattle.wb_naming.specs.declared.usage.Usage.TheVariants as u
+use Rattle.wb_name_rules.proofs.ReadLemmas.{fails_when}
+use Rattle.wb_name_rules.proofs.UnknownLemmas.{shows_name}
 use Rattle.wb_name_rules.proofs.unknown.check_name.Goals as goal
 
 pub returns-clause-refused : goal.returns-clause-refused
-returns-clause-refused c = λ used has.
-    subst (FailsUnknown c.args.index.now used) (sym c.in_ok-copy.ensures.ok)
-    (undeclared has (λ is. absurd (let t = c.in_ok-is_declared.ensures.1 (subst (IsDeclared c.args.index.now c.args.wanted) (sym c.as_slice.ensures) is) in let f = c.if-branch.false in cc)))
+returns-clause-refused c =
+    let not = fails_when _ c.if-branch.false c.in_ok-is_declared.ensures in
+    shows_name c.args.index.now (u.Name c.args.name.now c.args.wanted) c.args.name.now c.unknown.result
+    (λ used has. undeclared has (λ is. not (subst (IsDeclared c.args.index.now c.args.wanted) (sym c.as_slice.ensures) is))) c.unknown.ensures

@@ -1,9 +1,11 @@
-use Rattle.std.proofs.Common.{◌∙◌}
+use Rattle.std.proofs.Common.{◌∷◌}
 use Rattle.wb_naming.specs.declared.declaration.Declaration.TheVariants as d
-use Rattle.wb_name_rules.proofs.LookupLemmas.{if_none, not_there}
+use Rattle.wb_name_rules.proofs.LookupLemmas.{found_as, none_as, not_there, forward_there}
 use Rattle.wb_name_rules.proofs.index.NameIndex.forward.Goals as goal
+
+pub returns-clause-found : goal.returns-clause-found
+returns-clause-found c = found_as c.args.self.now c.text_place.result (6 ∷ c.args.production.now) _ (forward_there c.args.self.now c.args.production.now) c.text_place.ensures.found
 
 pub returns-clause-none : goal.returns-clause-none
 returns-clause-none c =
-    if_none c.place.result (λ none. not_there c.args.self.now c.deref.result.now (d.Forward c.args.production.now) (c.deref.ensures.value ∙ c.in_ok-key.ensures) none
-    tt) c.place.ensures.none
+    none_as c.args.self.now c.text_place.result (6 ∷ c.args.production.now) _ (λ none. not_there c.args.self.now (d.Forward c.args.production.now) tt none) c.text_place.ensures.found

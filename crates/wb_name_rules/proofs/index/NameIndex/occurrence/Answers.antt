@@ -1,16 +1,12 @@
-use Rattle.std.proofs.Common.{◌∙◌}
+use Rattle.std.proofs.Common.{◌∷◌, ◌++◌}
 use Rattle.wb_naming.specs.declared.declaration.Declaration.TheVariants as d
-use Rattle.wb_name_rules.proofs.LookupLemmas.{if_none, if_some, not_there, occurrence_there}
-use Rattle.wb_name_rules.specs.Inner.Indexed.{IsAtKey}
+use Rattle.wb_name_rules.specs.Keys.{marked}
+use Rattle.wb_name_rules.proofs.LookupLemmas.{found_as, none_as, not_there, occurrence_there}
 use Rattle.wb_name_rules.proofs.index.NameIndex.occurrence.Goals as goal
+
+pub returns-clause-found : goal.returns-clause-found
+returns-clause-found c = found_as c.args.self.now c.pair_place.result (2 ∷ (marked c.args.attribute.now ++ c.args.nonterminal.now)) _ (occurrence_there c.args.self.now c.args.attribute.now c.args.nonterminal.now) c.pair_place.ensures.found
 
 pub returns-clause-none : goal.returns-clause-none
 returns-clause-none c =
-    if_none c.place.result (λ none. not_there c.args.self.now c.deref.result.now (d.Occurrence c.args.attribute.now c.args.nonterminal.now) (c.deref.ensures.value ∙ c.in_ok-key.ensures) none
-    tt) c.place.ensures.none
-
-pub returns-clause-found : goal.returns-clause-found
-returns-clause-found c =
-    if_some c.place.result (IsAtKey c.args.self.now c.deref.result.now) _ (λ place at.
-    occurrence_there c.args.self.now c.deref.result.now place c.args.attribute.now c.args.nonterminal.now
-    (c.deref.ensures.value ∙ c.in_ok-key.ensures) at) c.place.ensures.found
+    none_as c.args.self.now c.pair_place.result (2 ∷ (marked c.args.attribute.now ++ c.args.nonterminal.now)) _ (λ none. not_there c.args.self.now (d.Occurrence c.args.attribute.now c.args.nonterminal.now) tt none) c.pair_place.ensures.found

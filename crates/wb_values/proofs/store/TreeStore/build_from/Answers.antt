@@ -1,34 +1,40 @@
-use Rattle.std.proofs.Common.{◌≡◌, ◌+◌, ◌-◌, ◌++◌, ◌∷◌, [], List, All, length, drop, sym, ap, subst, ◌∙◌, arith, length-append}
+use Rattle.std.proofs.Common.{◌≡◌, ◌+◌, ◌-◌, ◌++◌, ◌∷◌, [], List, All, length, drop, sym, ap, subst, ◌∙◌, length-append}
+use Rattle.std.proofs.lemmas.List.{take_rest}
 use Rattle.wb_values.specs.Tree.{Tree, node}
 use Rattle.wb_values.specs.ValuesIn.{values_in, last, IsIn}
+use Rattle.wb_values.specs.declared.value.Value.{Value}
 use Rattle.wb_values.proofs.Laid.{length-trees, trees-snoc, store-snoc}
 use Rattle.wb_values.proofs.store.TreeStore.build_from.Goals as goal
 
 pub invariant_of-self-2 : goal.invariant_of-self-2
 invariant_of-self-2 c =
     let ns = c.self.inside.nodes.items in
-    let vs = c.self.inside.values.items in
+    let vs = c.self.inside.children in
     let cs = last c.args.count c.args.values.now.items in
+    let cut : drop (c.len-2.result - c.args.count) c.deref.result.now ≡ cs =
+    ap (λ (xs : List Value). drop (c.len-2.result - c.args.count) xs) c.deref.ensures.value
+    ∙ ap (λ n. drop (n - c.args.count) c.args.values.now.items) (c.len-2.ensures ∙ c.args.values.now.ok.0) in
     let below = subst (λ n. All (IsIn n) cs) (sym (ap length c.self.view_is) ∙ length-trees ns vs) c.requires.children in
-    let cut : drop (c.len-2.result - c.args.count) c.args.values.now.items ≡ cs = ap (λ n. drop (n - c.args.count) c.args.values.now.items)
-    (c.len-2.ensures ∙ c.args.values.now.ok.0) in
-    let to : c.move_end.new.to.items ≡ vs ++ cs = c.in_ok-move_end.ensures.to ∙ ap (λ xs. vs ++ xs) cut in
-    let end : c.len-end.result ≡ length vs + length cs = c.len-end.ensures ∙ c.move_end.new.to.ok.0 ∙ ap length to ∙ length-append vs cs in
+    let to : c.extend.new.self ≡ vs ++ cs = c.in_ok-extend.ensures.ok ∙ ap (λ (xs : List Value). vs ++ xs)
+    (take_rest c.deref.result.now (c.len-2.result - c.args.count) ∙ cut) in
+    let end : c.len-end.result ≡ length vs + length cs = c.len-end.ensures ∙ ap length to ∙ length-append vs cs in
     rw (c.push_reserved.ensures.items, c.in_ok-reserve.ensures.items, to) (store-snoc ns vs cs _ c.self.invariant end below)
 
 pub returns-clause-id : goal.returns-clause-id
-returns-clause-id c = c.len.ensures ∙ c.self.inside.nodes.ok.0 ∙ sym (length-trees c.self.inside.nodes.items c.self.inside.values.items)
+returns-clause-id c = c.len.ensures ∙ c.self.inside.nodes.ok.0 ∙ sym (length-trees c.self.inside.nodes.items c.self.inside.children)
     ∙ ap length c.self.view_is
 
 pub returns-clause-ok : goal.returns-clause-ok
 returns-clause-ok c =
     let ns = c.self.inside.nodes.items in
-    let vs = c.self.inside.values.items in
+    let vs = c.self.inside.children in
     let cs = last c.args.count c.args.values.now.items in
-    let cut : drop (c.len-2.result - c.args.count) c.args.values.now.items ≡ cs = ap (λ n. drop (n - c.args.count) c.args.values.now.items)
-    (c.len-2.ensures ∙ c.args.values.now.ok.0) in
-    let to : c.move_end.new.to.items ≡ vs ++ cs = c.in_ok-move_end.ensures.to ∙ ap (λ xs. vs ++ xs) cut in
-    let end : c.len-end.result ≡ length vs + length cs = c.len-end.ensures ∙ c.move_end.new.to.ok.0 ∙ ap length to ∙ length-append vs cs in
+    let cut : drop (c.len-2.result - c.args.count) c.deref.result.now ≡ cs =
+    ap (λ (xs : List Value). drop (c.len-2.result - c.args.count) xs) c.deref.ensures.value
+    ∙ ap (λ n. drop (n - c.args.count) c.args.values.now.items) (c.len-2.ensures ∙ c.args.values.now.ok.0) in
+    let to : c.extend.new.self ≡ vs ++ cs = c.in_ok-extend.ensures.ok ∙ ap (λ (xs : List Value). vs ++ xs)
+    (take_rest c.deref.result.now (c.len-2.result - c.args.count) ∙ cut) in
+    let end : c.len-end.result ≡ length vs + length cs = c.len-end.ensures ∙ ap length to ∙ length-append vs cs in
     rw (c.push_reserved.ensures.items, c.in_ok-reserve.ensures.items, to)
     (trees-snoc ns vs cs _ c.self.invariant end ∙ ap (λ (ts : List Tree). ts ++ node c.args.production
     (values_in ts cs) ∷ []) c.self.view_is)

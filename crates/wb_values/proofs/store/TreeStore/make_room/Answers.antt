@@ -8,7 +8,7 @@ begin-first-requires c = omega (
   arith,
   c.requires,
   ap length c.self.view_is,
-  length-trees c.self.inside.nodes.items c.self.inside.values.items,
+  length-trees c.self.inside.nodes.items c.self.inside.children,
   ap length
       c.as_slice-nodes.ensures.value,
 )
@@ -18,7 +18,7 @@ overflow_sub-len c = omega (
   arith,
   c.requires,
   ap length c.self.view_is,
-  length-trees c.self.inside.nodes.items c.self.inside.values.items,
+  length-trees c.self.inside.nodes.items c.self.inside.children,
   c.len.ensures,
   c.self.inside.nodes.ok.0,
 )
@@ -26,6 +26,6 @@ overflow_sub-len c = omega (
 pub overflow_sub-len-2 : goal.overflow_sub-len-2
 overflow_sub-len-2 c =
     let ns = c.self.inside.nodes.items in
-    let within : begin 0 ns c.args.from ≤ length c.self.inside.values.items = begin-le 0 ns _ c.args.from c.self.invariant.laid in
-    let first : c.begin-first.result ≤ length c.self.inside.values.items = rw (c.begin-first.ensures, c.as_slice-nodes.ensures.value) within in
-    omega (arith, first, c.len-2.ensures, c.self.inside.values.ok.0)
+    let within : begin 0 ns c.args.from ≤ length c.self.inside.children = begin-le 0 ns _ c.args.from c.self.invariant.laid in
+    let first : c.begin-first.result ≤ length c.self.inside.children = rw (c.begin-first.ensures, c.as_slice-nodes.ensures.value) within in
+    omega (arith, first, c.len-2.ensures)

@@ -5,9 +5,9 @@ use Rattle.wb_values.proofs.store.TreeStore.production.Goals as goal
 
 pub index-requires : goal.index-requires
 index-requires c = omega
-    (arith, ap length c.self.view_is, length-trees c.self.inside.nodes.items c.self.inside.values.items, c.self.inside.nodes.ok.0)
+    (arith, ap length c.self.view_is, length-trees c.self.inside.nodes.items c.self.inside.children, c.self.inside.nodes.ok.0)
 
 pub returns : goal.returns
 returns c = ap production_of
-    (node-at c.args.self.now c.self.inside.nodes.items c.self.inside.values.items c.args.tree.0 c.index.result.now c.self.invariant
+    (node-at c.args.self.now c.self.inside.nodes.items c.self.inside.children c.args.tree.0 c.index.result.now c.self.invariant
     c.self.view_is c.requires c.index.ensures).tree
