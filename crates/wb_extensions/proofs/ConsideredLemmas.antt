@@ -1,13 +1,13 @@
 -- What rows of items show of a new kernel of host's items.
-use Rattle.std.proofs.Common.{◌≡◌, ◌<◌, ◌≤◌, ◌+◌, ◌++◌, ◌∷◌, ◌∙◌, ◌⊎◌, ℕ, Bool, List, [], Option, Some, None, length, refl, sym}
-use Rattle.std.proofs.Common.{subst, ap, inl, inr, arith, length-append}
+use Rattle.std.proofs.Common.{◌≡◌, ◌<◌, ◌≤◌, ◌+◌, ◌++◌, ◌∷◌, ◌∙◌, ◌⊎◌, ℕ, Bool, List, [], Option, Some, None, length}
+use Rattle.std.proofs.Common.{refl, sym, subst, ap, inl, inr, arith, length-append}
 use Rattle.std.specs.Prelude.{◌↔◌, Contains, slice_get}
 use Rattle.std.specs.Option.{option_map}
 use Rattle.std.proofs.lemmas.Bool.{cases_eq, cases_lt}
 use Rattle.std.proofs.lemmas.Option.{slice_get-map, slice_get_within, same_Some}
 use Rattle.wb_lemmas.proofs.Members.{contains_at, place_of}
 use Rattle.wb_lemmas.proofs.Elements.{all_at, all_contained}
-use Rattle.wb_lemmas.proofs.Places.{at_once, at_push}
+use Rattle.wb_lemmas.proofs.Places.{at_once, at_push, nothing_at}
 use Rattle.wb_grammars.specs.declared.item.Item.{Item}
 use Rattle.wb_grammars.specs.Closure.{InClosure, kernel}
 use Rattle.wb_grammars.specs.Items.{after_dot, IsKernelItem}
@@ -33,6 +33,10 @@ use Rattle.wb_extensions.proofs.BoundLemmas.{own_bound}
 use Rattle.wb_extensions.proofs.EnvelopeLemmas.{closure_kept}
 use Rattle.wb_extensions.proofs.RegionLemmas.{kernel_item}
 use Rattle.wb_extensions.proofs.RowLemmas.{row_entry}
+
+-- no sets
+pub considered_none : (c : Context) (layout : List Bool) (regions : List Region) → AreConsidered c layout regions 0 []
+considered_none c layout regions = record { len = refl; each = λ s region set at at_set. absurd (nothing_at set s at_set) }
 
 -- the set of one kernel more
 pub considered_more : (c : Context) (layout : List Bool) (regions : List Region) (n : ℕ) (sets : List (List Bool)) (region : Region)
