@@ -1,5 +1,5 @@
 -- Envelopes of a set of items, as sets of terminals.
-use Rattle.std.specs.Prelude.{◌≡◌, ◌↔◌, ◌<◌, ◌+◌, ℕ, List, All, length, Contains}
+use Rattle.std.specs.Prelude.{◌≡◌, ◌↔◌, ◌<◌, ◌+◌, ◌++◌, ◌∷◌, [], ℕ, List, All, length, Contains}
 use Rattle.wb_base.specs.Grammar.{GrammarView}
 use Rattle.wb_grammars.specs.declared.item.Item.{Item}
 use Rattle.wb_grammars.specs.Closure.{InClosure}
@@ -31,6 +31,13 @@ pub record IsEnvelopeSet (g : GrammarView) (own : List Item) (looks : ItemLookah
 pub record IsEnvelopeRow (g : GrammarView) (own : List Item) (row : List ItemLookahead) : Type 0 where
   pub items : (item : Item) → Contains (items_in row) item ↔ InClosure g (Contains own) item
   pub sets : All (IsEnvelopeSet g own) row
+
+-- the item comes after the others, with its lookaheads in the envelope
+pub record AddsEntry (g : GrammarView) (own : List Item) (item : Item) (old new : List ItemLookahead) : Type 0 where
+  pub looks : ItemLookahead
+  pub of_item : looks.item ≡ item
+  pub envelope : IsEnvelopeSet g own looks
+  pub after : new ≡ old ++ looks ∷ []
 
 -- the items are, in the extended host's numbers, in the kernel of this number
 abbrev pub AreInKernel : Context → ℕ → List Item → Type 0
