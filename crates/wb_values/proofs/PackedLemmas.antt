@@ -1,8 +1,8 @@
 -- The values of cells: one more, fewer of them, and one at a place.
 use Rattle.std.proofs.Common.{◌≡◌, ℕ, zero, suc, ◌+◌, ◌-◌, ◌<◌, ◌≤◌, List, [], ◌∷◌, ◌++◌, Some, length, take, drop, get_or, refl, sym, ap, subst}
-use Rattle.std.proofs.Common.{◌∙◌, arith, length-append, append_assoc}
+use Rattle.std.proofs.Common.{◌∙◌, arith, length-append, length-drop, append_assoc}
 use Rattle.std.specs.Prelude.{slice_get, false}
-use Rattle.std.proofs.lemmas.List.{map-append, length-map, take-append-drop, get_or-map, get_or_push, length-take-le, get_or_read, take_at, drop-drop}
+use Rattle.std.proofs.lemmas.List.{map-append, length-map, take-append-drop, get_or-map, get_or_push, length-take-le, get_or_read, take_all, take_at, drop-drop}
 use Rattle.std.proofs.lemmas.Option.{slice_get-get_or}
 use Rattle.std.proofs.Math.ListN.{get_or-append}
 use Rattle.wb_values.specs.declared.value.TreeId.{TreeId}
@@ -300,3 +300,19 @@ copied_more xs old now new start place le so_far pushed =
     one_more zero ys = refl
     one_more (suc n) [] = refl
     one_more (suc n) (y ∷ ys) = ap (λ (zs : List Value). y ∷ zs) (one_more n ys)
+
+-- the last cell is the one that was read at the last place
+pub last_read : (cs ds : List Cell) (c r : Cell) (large view : List Value) (last : ℕ) → values_of cs large ≡ view → cs ≡ ds ++ r ∷ []
+    → last ≡ length view - 1 → c ≡ get_or cs last c → c ≡ r
+last_read cs ds c r large view last shown split at is =
+    let e : length ds ≡ last =
+    omega (arith, ap length shown, length-map cs (value_of large), ap length split, length-append ds (r ∷ []), at) in
+    is ∙ ap (λ (xs : List Cell). get_or xs last c) split ∙ get_or_push ds r c last e
+
+-- the list of the last value, which lies in its cell
+pub last_small : (large view : List Value) (last : ℕ) (c : Cell) → CellAt large view last c → ((high low : ℕ) → c ≡ cell.Large high low → ⊥)
+    → last ≡ length view - 1 → value_of [] c ∷ [] ≡ drop (length view - 1) view
+last_small large view last c at other is =
+    let one = (small_at large view last c at other).1 in
+    let all : take 1 (drop last view) ≡ drop last view = take_all 1 (drop last view) (omega (arith, length-drop last view, is)) in
+    sym one ∙ all ∙ ap (λ (n : ℕ). drop n view) is

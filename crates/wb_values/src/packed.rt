@@ -154,13 +154,50 @@ impl PackedValues {
         let _cells = self.cells.reserve_exact(more);
     }
 
-    // Moves the values from a place on here, after the others and in order. They are copied first, which takes no more memory than to move
-    // them, so that none is lost where there is no memory for the next. The only error is want of memory.
+    // Moves the values from a place on here, after the others and in order. The only error is want of memory.
+    #[inline]
     pub(crate) fn take_end(
         &mut self,
         values: &mut PackedValues,
         start: usize,
     ) -> Result<(), AllocError>
+        requires { start ≤ length values.old }
+        ensures ok { OnOk result (self.new ≡ self.old ++ drop start values.old) }
+        ensures taken { OnOk result (values.new ≡ take start values.old) }
+        ensures err { OnErr result (self.new ≡ self.old) }
+        ensures err_values { OnErr result (values.new ≡ values.old) }
+    {
+        if values.len() - start == 1 {
+            self.take_last(values)
+        } else {
+            self.take_more(values, start)
+        }
+    }
+
+    // Moves the last value here. Most nodes have one child, and most children lie in their cells, so this way is short.
+    #[inline]
+    fn take_last(&mut self, values: &mut PackedValues) -> Result<(), AllocError>
+        requires { 1 ≤ length values.old }
+        ensures ok { OnOk result (self.new ≡ self.old ++ drop (length values.old - 1) values.old) }
+        ensures taken { OnOk result (values.new ≡ take (length values.old - 1) values.old) }
+        ensures err { OnErr result (self.new ≡ self.old) }
+        ensures err_values { OnErr result (values.new ≡ values.old) }
+    {
+        let last = values.len() - 1;
+        match values.cells[last] {
+            Cell::Large(_, _) => self.take_more(values, last),
+            cell => {
+                self.push_cell(cell)?;
+                let _last = values.cells.take_last();
+                Ok(())
+            }
+        }
+    }
+
+    // Moves the values from a place on. They are copied first, which takes no more memory than to move them, so that none is lost where there
+    // is no memory for the next.
+    #[inline(never)]
+    fn take_more(&mut self, values: &mut PackedValues, start: usize) -> Result<(), AllocError>
         requires { start ≤ length values.old }
         ensures ok { OnOk result (self.new ≡ self.old ++ drop start values.old) }
         ensures taken { OnOk result (values.new ≡ take start values.old) }
