@@ -9,7 +9,11 @@ use Rattle.wb_resolved.specs.declared.production.Production.{Production}
 use Rattle.wb_resolved.specs.declared.production.ProductionRole.{ProductionRole}
 use Rattle.wb_resolved.specs.declared.production.ProductionRole.TheVariants.{Concrete, Abstract}
 use Rattle.wb_syntax.specs.declared.item.Item.{Item}
+use Rattle.wb_syntax.specs.declared.item.ItemForm.{ItemForm}
+use Rattle.wb_syntax.specs.declared.item.ItemForm.TheVariants as f
 use Rattle.wb_syntax.specs.declared.pattern.Pattern.{Pattern}
+use Rattle.wb_syntax.specs.declared.production.Production as written
+use Rattle.wb_syntax.specs.declared.production.ProductionRole as declared
 use Rattle.wb_naming.specs.Declarations.{ProductionDeclaration, production_of, productions}
 use Rattle.wb_numbering.specs.Files.{File}
 use Rattle.wb_numbering.specs.Resolves.{IsConcrete}
@@ -68,6 +72,14 @@ module _ {X : Type 0} (test : X → Bool) (R : X → Production → Type 0) wher
   one_added xs i x row old mid new so_far within is same holds added =
       subst (λ z. AddsProductions test R z old new) (sym (take_more xs i x within ∙ ap (λ z. take i xs ++ z ∷ []) (sym is)))
       (both_added (take i xs) (x ∷ []) old mid new so_far (row_added x row mid new same holds added))
+
+-- an item that declares no production
+pub no_production : (form : ItemForm Pattern) → ((role : declared.ProductionRole) (p : written.Production) → form ≡ f.Production role p → ⊥)
+    → option_to_list (production_of form) ≡ []
+no_production (f.Production role p) other = absurd (other role p refl)
+no_production (f.Plain plain) other = refl
+no_production (f.Lexical role name pattern) other = refl
+no_production (f.Aspect name equations) other = refl
 
 -- the productions of one more item
 kept : (o : Option ProductionDeclaration) → filter_map (λ (x : Option ProductionDeclaration). x) (o ∷ []) ≡ option_to_list o

@@ -2,9 +2,8 @@
 //!
 //! All rows are there; what is left are the grammar, and what repeats the file or its rows.
 
-ghost use Rattle.std.specs.Prelude.{◌≡◌, IfOk, IfSome, Some, map};
+ghost use Rattle.std.specs.Prelude.{◌≡◌, IfOk, IfSome, Some};
 ghost use Rattle.wb_resolved.specs.Attribution.{IsAttribution};
-ghost use Rattle.wb_resolved.specs.Numbered.{signature_of};
 ghost use Rattle.wb_naming.specs.Hold.{NamesHold};
 ghost use Rattle.wb_numbering.specs.Given.{IsFile};
 ghost use Rattle.wb_numbering.specs.Resolves.{Resolves};

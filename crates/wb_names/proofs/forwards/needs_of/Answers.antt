@@ -1,13 +1,33 @@
-use Rattle.std.proofs.Common.{◌∙◌, List, ℕ, [], ap, get_or, sym, subst}
+use Rattle.std.proofs.Common.{◌∙◌, List, ℕ, [], All, Contains, ap, get_or, refl, sym, subst}
 use Rattle.std.specs.List.{AllZip}
 use Rattle.std.proofs.lemmas.Result.{IfOk-weaker}
+use Rattle.wb_lemmas.proofs.Elements.{all_contained}
+use Rattle.wb_lemmas.proofs.Members.{contains_at}
+use Rattle.wb_lemmas.proofs.Places.{read_at}
 use Rattle.wb_syntax.specs.declared.item.Item.{Item}
 use Rattle.wb_syntax.specs.declared.pattern.Pattern.{Pattern}
 use Rattle.wb_numbering.specs.Files.{forward_needs_of}
 use Rattle.wb_rows.specs.Nodes.{IsAt}
 use Rattle.wb_names.specs.Inner.Names.{form_needs}
-use Rattle.wb_names.proofs.ForwardsFound.{needs_found, needs_absent}
+use Rattle.wb_names.proofs.ForwardsFound.{needs_found, needs_absent, place_within}
 use Rattle.wb_names.proofs.forwards.needs_of.Goals as goal
+
+pub bounds-known-place : goal.bounds-known-place
+bounds-known-place c =
+    let known = c.args.known.now in
+    place_within known.scope.now known.items.now known.forwarders.now c.requires.known c.args.name.now c.in-Some.place
+    c.in-Some.ensures.found
+
+pub item_needs-requires : goal.item_needs-requires
+item_needs-requires c =
+    let known = c.args.known.now in
+    let items = known.items.now in
+    let place = c.in-Some.place in
+    let item = c.index-known-place.result in
+    let within = place_within known.scope.now items known.forwarders.now c.requires.known c.args.name.now place c.in-Some.ensures.found in
+    let Q : Item Pattern → Type 0 = λ x. All (Contains known.scope.now.attributes) (form_needs x.form) in
+    subst Q c.index-known-place.is (all_contained Q items item c.requires.known.needs
+    (contains_at items item place (read_at items items place item refl within c.index-known-place.is)))
 
 pub returns-in-Some : goal.returns-in-Some
 returns-in-Some c =

@@ -4,6 +4,6 @@ use Rattle.wb_names.proofs.symbols.add_nonterminal_names.Goals as goal
 
 pub nonterminals-preserved : goal.nonterminals-preserved
 nonterminals-preserved c =
-    name_added (λ (x : Nonterminal). x.name) c.args.nonterminals.now c.nonterminals.nonterminal-index c.nonterminal-item.result c.in_ok-copy.field-0
-    c.args.names.now c.nonterminals.names c.add.new.self c.nonterminals.invariant c.nonterminals-test.true c.nonterminal-item.is c.in_ok-copy.ensures.ok
-    c.in_ok-add.ensures
+    name_added (λ (x : Nonterminal). x.name) c.args.nonterminals.now c.nonterminals.nonterminal-index c.nonterminal-item.result
+    c.in_ok-copy.field-0 c.args.names.now c.nonterminals.names c.add.new.self c.nonterminals.invariant c.nonterminals-test.true c.nonterminal-item.is
+    c.in_ok-copy.ensures.ok c.in_ok-add.ensures

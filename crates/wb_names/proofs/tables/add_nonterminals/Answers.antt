@@ -27,5 +27,5 @@ loop-nonterminal-init c = each_nothing (λ (x : Nonterminal). IsAt c.args.names.
 
 pub returns : goal.returns
 returns c =
-    each_all (λ (x : Nonterminal). IsAt c.args.names.now x.name) c.args.nonterminals.now c.loop-nonterminal.nonterminal-index c.args.table.now.items
-    c.loop-nonterminal.table.items c.loop-nonterminal.invariant c.loop-nonterminal-test.false
+    each_all (λ (x : Nonterminal). IsAt c.args.names.now x.name) c.args.nonterminals.now c.loop-nonterminal.nonterminal-index
+    c.args.table.now.items c.loop-nonterminal.table.items c.loop-nonterminal.invariant c.loop-nonterminal-test.false

@@ -27,5 +27,5 @@ loop-production-init c = each_nothing (λ (x : Production). IsAt c.args.names.no
 
 pub returns : goal.returns
 returns c =
-    each_all (λ (x : Production). IsAt c.args.names.now x.name) c.args.productions.now c.loop-production.production-index c.args.table.now.items
-    c.loop-production.table.items c.loop-production.invariant c.loop-production-test.false
+    each_all (λ (x : Production). IsAt c.args.names.now x.name) c.args.productions.now c.loop-production.production-index
+    c.args.table.now.items c.loop-production.table.items c.loop-production.invariant c.loop-production-test.false

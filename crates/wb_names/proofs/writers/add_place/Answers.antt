@@ -6,6 +6,14 @@ use Rattle.wb_base.specs.Names.{AddsName}
 use Rattle.wb_names.proofs.WritersLemmas.{longer_lists}
 use Rattle.wb_names.proofs.writers.add_place.Goals as goal
 
+pub index_mut-requires : goal.index_mut-requires
+index_mut-requires c =
+    let names = c.args.made.now.names in
+    let number = c.in-Present.number in
+    let added : AddsName names c.args.name.now (Present number) c.add.new.self =
+    subst (λ z. AddsName names c.args.name.now z c.add.new.self) c.in-Present.is c.in_ok-add.ensures.ok in
+    let i = slice_get_within names number c.args.name.now added.0 in let l = c.requires in omega (arith, i, l)
+
 pub returns-in-Present : goal.returns-in-Present
 returns-in-Present c =
     let names = c.args.made.now.names in
