@@ -1,8 +1,8 @@
 -- What is reached and isn't in a flow type is what the test of reads finds.
 use Rattle.std.proofs.Common.{◌≡◌, ◌<◌, ◌∙◌, ◌∷◌, [], ◌⊎◌, inl, inr, ℕ, Bool, true, false, List, Option, None, Some, length, refl, sym, ap, subst, get_or}
 use Rattle.std.proofs.Common.{◌≤◌, ◌+◌, slice_get, Contains, arith, true≢false}
-use Rattle.std.specs.Prelude.{◌↔◌, slice_index_or, IfSome, IfNone, is_some}
-use Rattle.std.proofs.lemmas.Option.{slice_get-get_or, slice_get_within}
+use Rattle.std.specs.Prelude.{◌↔◌, slice_index_or, IfSome, IfNone, is_some, option_map}
+use Rattle.std.proofs.lemmas.Option.{same_Some, slice_get-get_or, slice_get_within}
 use Rattle.wb_lemmas.proofs.Elements.{all_contained}
 use Rattle.wb_lemmas.proofs.Members.{contains_at, contains_first, contains_one}
 use Rattle.wb_lemmas.proofs.Places.{at_once}
@@ -20,6 +20,8 @@ use Rattle.wb_flow.specs.Vertices.{vertex_of}
 use Rattle.wb_flow.proofs.AddingLemmas.{below_or}
 use Rattle.wb_flow.proofs.VertexLemmas.{name_of, name_of_vertex, top_is}
 use Rattle.wb_flow.proofs.WalkLemmas.{PlaceOf, place_of_vertex, reaches_walk, walk_leads, reaches_from, reaches_to}
+use Rattle.wb_resolved.specs.declared.attributes.Attribute.{Attribute}
+use Rattle.wb_resolved.specs.declared.attributes.Direction.{Direction}
 use Rattle.wb_resolved.specs.declared.attributes.Direction.TheVariants.{Synthesized, Inherited}
 use Rattle.wb_resolved.specs.declared.attribution.AttributionParts.{AttributionParts}
 use Rattle.wb_resolved.specs.declared.production.Production.{Production}
@@ -35,6 +37,19 @@ known_production a is number production there =
 -- no attribute goes both ways
 pub one_way : (a : AttributionParts) (x : ℕ) → Goes a Synthesized x → Goes a Inherited x → ⊥
 one_way a x up down = let both = sym up ∙ down in cc
+
+-- which way an attribute that is read goes, and which way it doesn't
+module _ (a : AttributionParts) (slice : List Attribute) (same : slice ≡ a.attributes) (x : ℕ) (d : Attribute) (within : x < length slice) where
+  read_goes : Goes a (get_or slice x d).direction x
+  read_goes =
+      ap (option_map (λ (r : Attribute). r.direction))
+      (subst (λ (z : List Attribute). slice_get z x ≡ Some (get_or slice x d)) same (slice_get-get_or slice x d within))
+
+  pub goes_when : (direction : Direction) → (get_or slice x d).direction ≡ direction → Goes a direction x
+  goes_when direction is = subst (λ (z : Direction). Goes a z x) is read_goes
+
+  pub goes_not : (direction : Direction) → ((get_or slice x d).direction ≡ direction → ⊥) → ¬ Goes a direction x
+  goes_not direction other goes = other (same_Some (get_or slice x d).direction direction (sym read_goes ∙ goes))
 
 -- a vertex is one attribute
 one_source : (a : AttributionParts) (vertex : Vertex) (s t : Option ℕ) → IsSource a vertex s → IsSource a vertex t → s ≡ t
