@@ -8,16 +8,18 @@ use Rattle.wb_lemmas.proofs.Elements.{all_contained, all_from_contained}
 use Rattle.wb_lemmas.proofs.Members.{contains_at}
 use Rattle.wb_lemmas.proofs.Places.{at_once}
 use Rattle.wb_attributes.specs.Flow.{IsVertex}
+use Rattle.wb_attributes.specs.Modular.{IsProduction}
 use Rattle.wb_attributes.proofs.EdgeLemmas.{edge_from, edge_to}
 use Rattle.wb_flow.specs.declared.arrows.Arrow.{Arrow}
 use Rattle.wb_flow.specs.declared.positions.TreeAt.{TreeAt}
+use Rattle.wb_flow.specs.declared.vertex.FlowGraph.{FlowGraph}
 use Rattle.wb_flow.specs.declared.vertex.Vertex.{Vertex}
 use Rattle.wb_flow.specs.Graphs.{IsNeededBy, IsFlowGraph}
 use Rattle.wb_flow.specs.Inner.Adding.{Adds, SomeOf}
 use Rattle.wb_flow.specs.Inner.Arrows.{IsArrow, IsNumbered, IsRuleArrow, IsBelowArrow, IsLeftCopyArrow}
 use Rattle.wb_flow.specs.Inner.Positions.{HasTree, IsVertexOf}
 use Rattle.wb_flow.specs.Vertices.{vertex_of}
-use Rattle.wb_flow.proofs.AddingLemmas.{adds_as, adds_both, adds_to_nothing}
+use Rattle.wb_flow.proofs.AddingLemmas.{adds_as, adds_both, adds_to_nothing, read_item}
 use Rattle.wb_flow.proofs.ArrowLemmas.{arrows_edges}
 use Rattle.wb_flow.proofs.VertexLemmas.{trees_vertices}
 use Rattle.wb_resolved.specs.declared.attribution.AttributionParts.{AttributionParts}
@@ -122,3 +124,24 @@ pub graph_is : (a : AttributionParts) (production : Production) (vertices : List
 graph_is a production vertices edges us es same equal graph =
     subst (λ z. IsFlowGraph a production (record { vertices = z; edges = es })) (sym same)
     (subst (λ z. IsFlowGraph a production (record { vertices = vertices; edges = z })) (sym equal) graph)
+
+module _ (a b : AttributionParts) (equal : b ≡ a) (slice : List Production) (same : slice ≡ b.productions) (number : ℕ) (production : Production)
+    (within : number < length a.productions) (read : production ≡ get_or slice number production) where
+  -- what is read at a place is the production of this number
+  production_at : IsProduction a number production
+  production_at =
+      let e : slice ≡ a.productions = same ∙ ap (λ (z : AttributionParts). z.productions) equal in
+      subst (λ (z : List Production). slice_get z number ≡ Some production) e
+      (read_item slice number production (subst (λ (z : List Production). number < length z) (sym e) within) read)
+
+  pub production_listed : Contains b.productions production
+  production_listed =
+      subst (λ (z : AttributionParts). Contains z.productions production) (sym equal)
+      (contains_at a.productions production number production_at)
+
+  -- so its graph is that of each production of this number
+  pub graph_at : (graph : FlowGraph) → IsFlowGraph b production graph → (other : Production) → IsProduction a number other
+      → IsFlowGraph a other graph
+  graph_at graph is other at =
+      subst (λ (z : AttributionParts). IsFlowGraph z other graph) equal
+      (subst (λ (z : Production). IsFlowGraph b z graph) (at_once a.productions number production other production_at at) is)

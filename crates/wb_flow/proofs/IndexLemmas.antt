@@ -5,14 +5,15 @@ use Rattle.std.specs.Prelude.{◌↔◌}
 use Rattle.std.proofs.lemmas.Bool.{cases_eq}
 use Rattle.std.proofs.lemmas.Grind.{common_steps}
 use Rattle.std.proofs.lemmas.List.{map-set, map-append, length-map, get_or-map}
-use Rattle.std.proofs.lemmas.Option.{slice_get_within, gets}
+use Rattle.std.proofs.lemmas.Option.{slice_get_within, slice_get-get_or, gets}
 use Rattle.wb_lemmas.proofs.Elements.{all_contained}
 use Rattle.wb_lemmas.proofs.Members.{contains_at, place_of, nothing_in, contains_push, push_contains, push_contains_last}
 use Rattle.wb_lemmas.proofs.Places.{at_once}
-use Rattle.wb_attributes.specs.Occurrences.{HasFlowType, Needs}
+use Rattle.wb_attributes.specs.Occurrences.{HasFlowType, Needs, ForwardNeeds}
 use Rattle.wb_attributes.proofs.OccurrenceLemmas.{one_flow_type}
 use Rattle.wb_flow.specs.Occurrences.{IsNumberOn, IsIndexOf}
 use Rattle.wb_flow.proofs.AddingLemmas.{below_or}
+use Rattle.wb_resolved.specs.declared.attributes.Nonterminal.{Nonterminal}
 use Rattle.wb_resolved.specs.declared.attributes.Occurrence.{Occurrence}
 use Rattle.wb_resolved.specs.declared.attribution.AttributionParts.{AttributionParts}
 use Rattle.wb_resolved.specs.Attribution.{IsAttribution}
@@ -176,3 +177,24 @@ module _ (a : AttributionParts) (is : IsAttribution a) (rows : List (List ℕ)) 
 pub on_of_number : (occurrences : List Occurrence) (m n : ℕ) (o : Occurrence) → IsNumberOn occurrences m n → slice_get occurrences n ≡ Some o
     → o.nonterminal ≡ m
 on_of_number occurrences m n o (p, at, on) there = ap (λ (z : Occurrence). z.nonterminal) (at_once occurrences n o p there at) ∙ on
+
+module _ (a : AttributionParts) (slice : List Nonterminal) (same : slice ≡ a.nonterminals) (m : ℕ) where
+  -- what the forward of a nonterminal that is read needs
+  pub forward_has : (d : Nonterminal) → m < length slice → (needs : List ℕ) → needs ≡ (get_or slice m d).forward_needs → (i : ℕ)
+      → Contains needs i ↔ ForwardNeeds a m i
+  forward_has d within needs is i =
+      let there = subst (λ (z : List Nonterminal). slice_get z m ≡ Some (get_or slice m d)) same (slice_get-get_or slice m d within) in (
+        (λ has. (get_or slice m d, there, subst (λ (z : List ℕ). Contains z i) is has)),
+        (λ (n, at, has). subst (λ (z : List ℕ). Contains z i) (sym is)
+            (subst (λ (z : Nonterminal). Contains z.forward_needs i) (at_once a.nonterminals m n (get_or slice m d) at there) has)),
+      )
+
+  -- past the last there is nothing
+  pub forward_none : length slice ≤ m → (i : ℕ) → Contains [] i ↔ ForwardNeeds a m i
+  forward_none past i = (
+    (λ has. absurd (nothing_in i has)),
+    (λ (n, at, has).
+        let within = slice_get_within a.nonterminals m n at in
+        let end = subst (λ (z : List Nonterminal). length z ≤ m) same past in
+        absurd (omega (arith, within, end))),
+  )

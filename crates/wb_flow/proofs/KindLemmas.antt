@@ -39,6 +39,10 @@ read_one xs ys from node to at is =
       (λ (left, right). same_arrow from to x left (same_Some x.to to (sym right ∙ at))),
     )) (adds_one xs ys (arrow from to) is)
 
+-- and none where it reads nothing
+pub read_none : (xs : List Arrow) (from : Vertex) (node : Node) → read_by node ≡ None → Adds xs xs (IsReadArrow from node)
+read_none xs from node none = adds_none xs (IsReadArrow from node) (λ r (left, right). let bad = sym none ∙ right in cc)
+
 -- an edge by a flow type
 pub need_one : (xs ys : List Arrow) (position : Position) (x i : ℕ) (from to : Vertex) → from ≡ vertex_at position x → to ≡ vertex_at position i
     → ys ≡ xs ++ arrow from to ∷ [] → Adds xs ys (IsNeedArrow position x i)

@@ -1,8 +1,8 @@
 -- What is reached and isn't in a flow type is what the test of reads finds.
 use Rattle.std.proofs.Common.{◌≡◌, ◌<◌, ◌∙◌, ◌∷◌, [], ◌⊎◌, inl, inr, ℕ, Bool, true, false, List, Option, None, Some, length, refl, sym, ap, subst, get_or}
-use Rattle.std.proofs.Common.{slice_get, Contains}
-use Rattle.std.specs.Prelude.{◌↔◌, slice_index_or}
-use Rattle.std.proofs.lemmas.Option.{slice_get-get_or}
+use Rattle.std.proofs.Common.{◌≤◌, ◌+◌, slice_get, Contains, arith, true≢false}
+use Rattle.std.specs.Prelude.{◌↔◌, slice_index_or, IfSome, IfNone, is_some, option_map}
+use Rattle.std.proofs.lemmas.Option.{same_Some, slice_get-get_or, slice_get_within}
 use Rattle.wb_lemmas.proofs.Elements.{all_contained}
 use Rattle.wb_lemmas.proofs.Members.{contains_at, contains_first, contains_one}
 use Rattle.wb_lemmas.proofs.Places.{at_once}
@@ -17,8 +17,11 @@ use Rattle.wb_flow.specs.Graphs.{IsFlowGraph}
 use Rattle.wb_flow.specs.Inner.Sources.{IsSource, Allows, KeepsFrom, KeepsAll, IsOutside}
 use Rattle.wb_flow.specs.Refusals.{ReachesOutside}
 use Rattle.wb_flow.specs.Vertices.{vertex_of}
+use Rattle.wb_flow.proofs.AddingLemmas.{below_or}
 use Rattle.wb_flow.proofs.VertexLemmas.{name_of, name_of_vertex, top_is}
 use Rattle.wb_flow.proofs.WalkLemmas.{PlaceOf, place_of_vertex, reaches_walk, walk_leads, reaches_from, reaches_to}
+use Rattle.wb_resolved.specs.declared.attributes.Attribute.{Attribute}
+use Rattle.wb_resolved.specs.declared.attributes.Direction.{Direction}
 use Rattle.wb_resolved.specs.declared.attributes.Direction.TheVariants.{Synthesized, Inherited}
 use Rattle.wb_resolved.specs.declared.attribution.AttributionParts.{AttributionParts}
 use Rattle.wb_resolved.specs.declared.production.Production.{Production}
@@ -34,6 +37,19 @@ known_production a is number production there =
 -- no attribute goes both ways
 pub one_way : (a : AttributionParts) (x : ℕ) → Goes a Synthesized x → Goes a Inherited x → ⊥
 one_way a x up down = let both = sym up ∙ down in cc
+
+-- which way an attribute that is read goes, and which way it doesn't
+module _ (a : AttributionParts) (slice : List Attribute) (same : slice ≡ a.attributes) (x : ℕ) (d : Attribute) (within : x < length slice) where
+  read_goes : Goes a (get_or slice x d).direction x
+  read_goes =
+      ap (option_map (λ (r : Attribute). r.direction))
+      (subst (λ (z : List Attribute). slice_get z x ≡ Some (get_or slice x d)) same (slice_get-get_or slice x d within))
+
+  pub goes_when : (direction : Direction) → (get_or slice x d).direction ≡ direction → Goes a direction x
+  goes_when direction is = subst (λ (z : Direction). Goes a z x) is read_goes
+
+  pub goes_not : (direction : Direction) → ((get_or slice x d).direction ≡ direction → ⊥) → ¬ Goes a direction x
+  goes_not direction other goes = other (same_Some (get_or slice x d).direction direction (sym read_goes ∙ goes))
 
 -- a vertex is one attribute
 one_source : (a : AttributionParts) (vertex : Vertex) (s t : Option ℕ) → IsSource a vertex s → IsSource a vertex t → s ≡ t
@@ -136,3 +152,40 @@ pub read_vertex_at : (slice vertices : List Vertex) → slice ≡ vertices → (
     → slice_get vertices i ≡ Some (get_or slice i d)
 read_vertex_at slice vertices same i d within =
     subst (λ z. slice_get z i ≡ Some (get_or slice i d)) same (slice_get-get_or slice i d (subst (λ z. i < length z) (sym same) within))
+
+-- what is reached of the first vertices is allowed
+abbrev pub AreInside : AttributionParts → List Vertex → List Bool → List ℕ → ℕ → Type 0
+AreInside a vertices flags allowed count = (k i : ℕ) → k < count → slice_get vertices k ≡ Some (code.Top i) → Goes a Inherited i
+    → slice_index_or flags k false ≡ true → Contains allowed i
+
+module _ (a : AttributionParts) (slice vertices : List Vertex) (same : slice ≡ vertices) (flags : List Bool) (allowed : List ℕ) (k : ℕ) where
+  -- what is outside at a place
+  pub outside_at : k < length slice → (found : Option ℕ)
+      → IfSome found (IsOutside a (get_or slice k (code.Top 0)) (slice_index_or flags k false) allowed)
+      → IfSome found (λ (i : ℕ). (j : ℕ) × (v : Vertex) × (slice_get vertices j ≡ Some v) × IsOutside a v (slice_index_or flags j false) allowed i)
+  outside_at within None is = tt
+  outside_at within (Some i) is =
+      (k, get_or slice k (code.Top 0), read_vertex_at slice vertices same k (code.Top 0) (subst (λ z. k < length z) same within), is)
+
+  -- where nothing is, one vertex more is allowed
+  pub inside_more : k < length slice → (found : Option ℕ) → is_some found ≡ false
+      → IfNone found ((i : ℕ) → get_or slice k (code.Top 0) ≡ code.Top i → Goes a Inherited i → slice_index_or flags k false ≡ true
+      → Contains allowed i)
+      → AreInside a slice flags allowed k → AreInside a slice flags allowed (k + 1)
+  inside_more within (Some x) empty inside before j i lt at goes flag = absurd (true≢false empty)
+  inside_more within None empty inside before j i lt at goes flag = elim (below_or j k lt) [
+    | inl low ↦ before j i low at goes flag
+    | inr last ↦ (
+        let is = at_once slice k (get_or slice k (code.Top 0)) (code.Top i) (slice_get-get_or slice k (code.Top 0) within)
+        (subst (λ (z : ℕ). slice_get slice z ≡ Some (code.Top i)) last at) in
+        inside i is goes (subst (λ (z : ℕ). slice_index_or flags z false ≡ true) last flag)
+        )
+  ]
+
+  -- at the end all are
+  pub inside_all : length slice ≤ k → AreInside a slice flags allowed k → (j i : ℕ) → slice_get vertices j ≡ Some (code.Top i)
+      → Goes a Inherited i → slice_index_or flags j false ≡ true → Contains allowed i
+  inside_all ended before j i at =
+      let there = subst (λ (z : List Vertex). slice_get z j ≡ Some (code.Top i)) (sym same) at in
+      let within = slice_get_within slice j (code.Top i) there in
+      before j i (omega (arith, within, ended)) there

@@ -1,12 +1,12 @@
 -- The trees of a production, position by position.
-use Rattle.std.proofs.Common.{◌≡◌, ◌∙◌, ◌⊎◌, [], inl, inr, ℕ, List, Option, None, Some, length, refl, sym, ap, subst, slice_get, option_map, Contains}
+use Rattle.std.proofs.Common.{◌≡◌, ◌∙◌, ◌⊎◌, [], inl, inr, ℕ, List, Option, None, Some, length, refl, sym, ap, subst, get_or, slice_get, option_map, Contains, ◌<◌, ◌≤◌}
 use Rattle.std.specs.Prelude.{◌↔◌}
-use Rattle.std.proofs.lemmas.Option.{same_Some, slice_get_within}
+use Rattle.std.proofs.lemmas.Option.{same_Some, slice_get_within, slice_get-get_or, slice_get_past}
 use Rattle.wb_flow.specs.declared.positions.Position.{Position}
 use Rattle.wb_flow.specs.declared.positions.Position.TheVariants as p
 use Rattle.wb_flow.specs.declared.positions.TreeAt.{TreeAt}
 use Rattle.wb_flow.specs.Inner.Adding.{Adds, SomeBelow}
-use Rattle.wb_flow.specs.Inner.Positions.{nonterminal_at, kind_nonterminal, HasTree, IsTreeOf}
+use Rattle.wb_flow.specs.Inner.Positions.{nonterminal_at, child_nonterminal, kind_nonterminal, HasTree, IsTreeOf}
 use Rattle.wb_flow.proofs.AddingLemmas.{adds_both, adds_to_nothing}
 use Rattle.wb_resolved.specs.declared.production.Child.{Child}
 use Rattle.wb_resolved.specs.declared.production.Local.{Local}
@@ -72,3 +72,26 @@ module _ (production : Production) where
       ⊎ SomeBelow (length production.locals) (λ k. IsTreeOf production (p.Local k)) z) (IsTreeOf production p.Forward) three forward in
       let all = adds_to_nothing ws IsSomeTree four t in
       ((λ has. has_tree t (all.0 has)), (λ there. all.1 (at_position t.position t.nonterminal there)))
+
+module _ (production : Production) (k : ℕ) where
+  -- the nonterminal of a child that is read, and that there is none past the last
+  module _ (slice : List Child) (same : slice ≡ production.children) where
+    pub child_at : (d : Child) → k < length slice → child_nonterminal (get_or slice k d).kind ≡ nonterminal_at production (p.Child k)
+    child_at d within =
+        ap kind_nonterminal (sym (subst (λ (z : List Child). slice_get z k ≡ Some (get_or slice k d)) same (slice_get-get_or slice k d within)))
+
+    pub no_child : length slice ≤ k → None ≡ nonterminal_at production (p.Child k)
+    no_child past =
+        ap kind_nonterminal (sym (subst (λ (z : List Child). slice_get z k ≡ None) same (slice_get_past slice k past)))
+
+  -- the same of locals
+  module _ (slice : List Local) (same : slice ≡ production.locals) where
+    pub local_at : (d : Local) → k < length slice → Some (get_or slice k d).nonterminal ≡ nonterminal_at production (p.Local k)
+    local_at d within =
+        ap (option_map (λ (l : Local). l.nonterminal))
+        (sym (subst (λ (z : List Local). slice_get z k ≡ Some (get_or slice k d)) same (slice_get-get_or slice k d within)))
+
+    pub no_local : length slice ≤ k → None ≡ nonterminal_at production (p.Local k)
+    no_local past =
+        ap (option_map (λ (l : Local). l.nonterminal))
+        (sym (subst (λ (z : List Local). slice_get z k ≡ None) same (slice_get_past slice k past)))

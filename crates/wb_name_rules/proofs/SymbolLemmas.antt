@@ -1,10 +1,13 @@
 -- What a table knows of symbols once all of them were passed over.
-use Rattle.std.proofs.Common.{◌≡◌, ◌∷◌, ℕ, true, false, List, Some, slice_get, Contains, inl, refl, sym, ap, ◌∙◌, subst}
+use Rattle.std.proofs.Common.{◌≡◌, ◌<◌, ◌≤◌, ◌∷◌, ℕ, true, false, List, Some, length, get_or, slice_get, Contains, inl, refl, sym, ap, ◌∙◌}
+use Rattle.std.proofs.Common.{subst, arith}
 use Rattle.std.specs.Prelude.{◌↔◌}
+use Rattle.std.proofs.lemmas.Option.{same_Some, slice_get-get_or, slice_get_within}
 use Rattle.wb_lemmas.proofs.Members.{contains_at, place_of}
 use Rattle.wb_lemmas.proofs.Places.{at_once}
 use Rattle.wb_naming.specs.declared.declaration.Declaration.{Declaration}
 use Rattle.wb_naming.specs.declared.declaration.Declaration.TheVariants as d
+use Rattle.wb_naming.specs.declared.declaration.Sort.{Sort}
 use Rattle.wb_naming.specs.declared.declaration.Sort.TheVariants as sort
 use Rattle.wb_naming.specs.Duplicate.{AreSame, Counts, IsSymbolOnce, IsProductionOnce}
 use Rattle.wb_naming.specs.Duplicate as s
@@ -103,3 +106,29 @@ module _ (declared : List Declaration) where
             (key_apart (d.Symbol name sort.Production) one key) in
             (name, subst (λ (z : ℕ). slice_get declared z ≡ Some (d.Symbol name sort.Production)) e at_is),
       )
+
+-- what is read at a place is the declaration of a production, or isn't
+module _ (declared : List Declaration) (place : ℕ) (here : Declaration) (within : place < length declared)
+    (read : here ≡ get_or declared place here) where
+  there : slice_get declared place ≡ Some here
+  there = slice_get-get_or declared place here within ∙ ap Some (sym read)
+
+  -- a symbol that is read is a production's where its sort is
+  pub is_production_there : (name : List ℕ) (is : Sort) → here ≡ d.Symbol name is → is ≡ sort.Production → IsProductionAt declared place
+  is_production_there name is same e = (name, there ∙ ap Some same ∙ ap (λ (z : Sort). Some (d.Symbol name z)) e)
+
+  pub other_sort_there : (name : List ℕ) (is : Sort) → here ≡ d.Symbol name is → (is ≡ sort.Production → ⊥) → ¬ IsProductionAt declared place
+  other_sort_there name is same other (x, at) =
+      let e : d.Symbol name is ≡ d.Symbol x sort.Production = sym same ∙ same_Some here (d.Symbol x sort.Production) (sym there ∙ at) in
+      let sorts : is ≡ sort.Production = cc in
+      other sorts
+
+  -- what is no symbol isn't one's
+  pub other_there : ((name : List ℕ) (is : Sort) → here ≡ d.Symbol name is → ⊥) → ¬ IsProductionAt declared place
+  other_there other (x, at) = other x sort.Production (same_Some here (d.Symbol x sort.Production) (sym there ∙ at))
+
+-- past the last there is none
+pub nothing_there : (declared : List Declaration) (place : ℕ) → length declared ≤ place → ¬ IsProductionAt declared place
+nothing_there declared place past (x, at) =
+    let within = slice_get_within declared place (d.Symbol x sort.Production) at in
+    absurd (omega (arith, within, past))

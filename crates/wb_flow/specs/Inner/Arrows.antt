@@ -18,8 +18,6 @@ use Rattle.wb_resolved.specs.declared.attribution.AttributionParts.{AttributionP
 use Rattle.wb_resolved.specs.declared.equation.Equation.{Equation}
 use Rattle.wb_resolved.specs.declared.equation.Place.{Place}
 use Rattle.wb_resolved.specs.declared.equation.Place.TheVariants as place
-use Rattle.wb_resolved.specs.declared.equation.Target.{Target}
-use Rattle.wb_resolved.specs.declared.equation.Target.TheVariants as target
 use Rattle.wb_resolved.specs.declared.production.Forward.{Forward}
 use Rattle.wb_resolved.specs.declared.production.Local.{Local}
 use Rattle.wb_resolved.specs.declared.production.Production.{Production}

@@ -1,4 +1,5 @@
-use Rattle.std.proofs.Common.{◌∷◌, [], length, get_or, refl, subst}
+use Rattle.std.proofs.Common.{◌∷◌, [], ℕ, List, All, length, get_or, refl, sym, subst}
+use Rattle.wb_graph.specs.Graphs.{Edge, IsEdgeBelow}
 use Rattle.wb_lemmas.proofs.Places.{at_once}
 use Rattle.wb_flow.specs.declared.vertex.Vertex.TheVariants.{Top}
 use Rattle.wb_flow.specs.Inner.Sources.{KeepsFrom}
@@ -44,3 +45,9 @@ returns-clause-refused c =
           c.in-Some.source c.in-Some.ensures.some c.deref.result.now reached c.flow_type-allowed.result.now c.flow_type-allowed.ensures
           c.in-Some-first_outside.inherited k other at_k outside,
     )
+
+pub reachable_from-requires-clause-edges : goal.reachable_from-requires-clause-edges
+reachable_from-requires-clause-edges c =
+    subst (λ (n : ℕ). All (IsEdgeBelow n) c.as_slice-edges.result.now) (sym c.len.ensures)
+    (subst (λ (es : List Edge). All (IsEdgeBelow (length c.args.tested.now.graph.now.vertices)) es) (sym c.as_slice-edges.ensures)
+    c.requires.tested.graph.within)

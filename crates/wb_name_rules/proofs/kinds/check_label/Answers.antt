@@ -1,5 +1,6 @@
 use Rattle.std.proofs.Common.{Some, None}
 use Rattle.wb_name_rules.proofs.KindLemmas.{label_of, one_label, shows_label}
+use Rattle.wb_name_rules.proofs.ReadLemmas.{fails_when}
 use Rattle.wb_name_rules.proofs.kinds.check_label.Goals as goal
 
 pub returns-in-None-clause-ok : goal.returns-in-None-clause-ok
@@ -20,3 +21,8 @@ returns-else-branch-clause-refused c =
     (rw c.in-Some.is at c.in_ok-labelled_as.ensures))
     (rw c.as_slice.ensures at (c.in_ok-is_production.ensures.0 c.if-not-branch.false))
     (rw c.if-branch.false at c.in_ok-suits_label-in-Some.ensures) c.wrong_kind.ensures
+
+pub returns-then-not-branch-clause-ok : goal.returns-then-not-branch-clause-ok
+returns-then-not-branch-clause-ok c =
+    let not = rw c.as_slice.ensures at (fails_when _ c.if-not-branch.true c.in_ok-is_production.ensures) in
+    λ there. absurd (not there)

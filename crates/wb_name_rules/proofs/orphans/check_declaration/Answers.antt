@@ -1,9 +1,10 @@
 use Rattle.std.proofs.Common.{◌≡◌, drop, sym, subst}
+use Rattle.std.specs.Prelude.{OnOk}
 use Rattle.std.proofs.lemmas.Result.{IfErr-weaker}
 use Rattle.wb_naming.specs.declared.declaration.Declaration.{Declaration}
 use Rattle.wb_naming.specs.declared.declaration.Sort.TheVariants.{Layout}
 use Rattle.wb_naming.specs.Orphan.{IsOwnSymbol}
-use Rattle.wb_name_rules.specs.Inner.Owners.{IsOrphanIf, ShowsOrphan, IsForeignOccurrence, IsForeignPreference, IsForeignEquation}
+use Rattle.wb_name_rules.specs.Inner.Owners.{MayDeclare, IsOrphanIf, ShowsOrphan, IsForeignOccurrence, IsForeignPreference, IsForeignEquation}
 use Rattle.wb_name_rules.proofs.OwnerLemmas.{shows_start, shows_extensible, shows_symbol, shows_forward_needs, shows_occurrence, shows_preference, shows_equation}
 use Rattle.wb_name_rules.proofs.orphans.check_declaration.Goals as goal
 
@@ -51,3 +52,23 @@ returns-in-Symbol-clause-refused c =
     (ShowsOrphan c.args.index.now c.args.from c.args.declaration.now)
     (λ refusal shows. subst (λ (z : Declaration). ShowsOrphan c.args.index.now c.args.from z refusal) (sym c.in-Symbol.is)
     (shows_symbol c.args.index.now c.args.from c.in-Symbol.name c.in-Symbol.sort refusal shows)) c.check_symbol.ensures.refused
+
+pub returns-in-Symbol-clause-ok : goal.returns-in-Symbol-clause-ok
+returns-in-Symbol-clause-ok c =
+    subst (λ (z : Declaration). OnOk c.check_symbol.result (MayDeclare c.args.index.now c.args.from z)) (sym c.in-Symbol.is) c.check_symbol.ensures.ok
+
+pub returns-in-ForwardNeeds-clause-ok : goal.returns-in-ForwardNeeds-clause-ok
+returns-in-ForwardNeeds-clause-ok c =
+    subst (λ (z : Declaration). OnOk c.check_forward_needs.result (MayDeclare c.args.index.now c.args.from z)) (sym c.in-ForwardNeeds.is) c.check_forward_needs.ensures.ok
+
+pub returns-in-Occurrence-clause-ok : goal.returns-in-Occurrence-clause-ok
+returns-in-Occurrence-clause-ok c =
+    subst (λ (z : Declaration). OnOk c.check_occurrence.result (MayDeclare c.args.index.now c.args.from z)) (sym c.in-Occurrence.is) c.check_occurrence.ensures.ok
+
+pub returns-in-Preference-clause-ok : goal.returns-in-Preference-clause-ok
+returns-in-Preference-clause-ok c =
+    subst (λ (z : Declaration). OnOk c.check_preference.result (MayDeclare c.args.index.now c.args.from z)) (sym c.in-Preference.is) c.check_preference.ensures.ok
+
+pub returns-in-Equation-clause-ok : goal.returns-in-Equation-clause-ok
+returns-in-Equation-clause-ok c =
+    subst (λ (z : Declaration). OnOk c.check_equation.result (MayDeclare c.args.index.now c.args.from z)) (sym c.in-Equation.is) c.check_equation.ensures.ok

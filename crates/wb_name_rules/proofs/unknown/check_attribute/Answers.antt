@@ -1,7 +1,10 @@
-use Rattle.std.proofs.Common.{refl}
-use Rattle.std.proofs.lemmas.Result.{IfErr-weaker}
+use Rattle.std.proofs.Common.{List, ℕ, refl, sym, subst}
+use Rattle.std.proofs.lemmas.Result.{IfErr-weaker, on_ok_weaker}
+use Rattle.wb_naming.specs.declared.declaration.Sort.TheVariants as sort
 use Rattle.wb_naming.specs.declared.usage.Usage.TheVariants as u
+use Rattle.wb_naming.specs.Meaning.{IsSymbol, Occurs}
 use Rattle.wb_name_rules.specs.Inner.Tests.{ShowsUnknown, ShowsAbsent}
+use Rattle.wb_name_rules.proofs.ReadLemmas.{fails_when}
 use Rattle.wb_name_rules.proofs.UnknownLemmas.{shows_name, shows_elsewhere, shows_no_forward}
 use Rattle.wb_name_rules.proofs.unknown.check_attribute.Goals as goal
 
@@ -21,3 +24,28 @@ returns-in-Some-clause-refused c =
     (ShowsUnknown c.args.index.now (u.Attribute c.args.production.now c.args.attribute.now c.args.site.now))
     (shows_elsewhere c.args.index.now c.args.production.now c.args.attribute.now c.in-Some.nonterminal.now c.args.site.now there
     ((only c.in-Some.nonterminal.now).1 refl)) c.check_occurs.ensures.refused
+
+pub returns-then-not-branch-clause-ok : goal.returns-then-not-branch-clause-ok
+returns-then-not-branch-clause-ok c =
+    let not = rw c.as_slice.ensures at (fails_when _ c.if-not-branch.true c.in_ok-is_production.ensures) in
+    λ there. absurd (not there)
+
+pub site_of-requires : goal.site_of-requires
+site_of-requires c =
+    subst (λ (p : List ℕ). IsSymbol c.args.index.now p sort.Production) (sym c.as_slice-2.ensures)
+    (rw c.as_slice.ensures at (c.in_ok-is_production.ensures.0 c.if-not-branch.false))
+
+pub returns-in-None-clause-ok : goal.returns-in-None-clause-ok
+returns-in-None-clause-ok c =
+    let none = rw c.as_slice-2.ensures at (rw c.in-None.is at c.in_ok-site_of.ensures) in
+    let forwards = rw c.if-branch.false at c.in_ok-lacks_forward.ensures in
+    λ there. ((λ n has. absurd (none n has)), forwards)
+
+pub returns-in-Some-clause-ok : goal.returns-in-Some-clause-ok
+returns-in-Some-clause-ok c =
+    let only = rw c.as_slice-2.ensures at (rw c.in-Some.is at c.in_ok-site_of.ensures) in
+    let forwards = rw c.if-branch.false at c.in_ok-lacks_forward.ensures in
+    on_ok_weaker c.check_occurs.result (λ occurs there. (
+      (λ n has. subst (λ (z : List ℕ). Occurs c.args.index.now c.args.attribute.now z) (sym ((only n).0 has)) occurs),
+      forwards,
+    )) c.check_occurs.ensures.ok

@@ -1,0 +1,14 @@
+use Rattle.wb_lemmas.proofs.Members.{contains_at}
+use Rattle.wb_flow.proofs.reads.check_reads.Goals as goal
+
+pub graph_of-requires-clause-listed : goal.graph_of-requires-clause-listed
+graph_of-requires-clause-listed c =
+    contains_at c.args.scope.now.attributes.now.productions c.args.production.now c.args.number c.requires.there
+
+pub check_sources-requires : goal.check_sources-requires
+check_sources-requires c = record {
+  attribution = c.requires.attribution;
+  index = c.requires.index;
+  there = c.requires.there;
+  graph = c.in_ok-graph.ensures;
+}
