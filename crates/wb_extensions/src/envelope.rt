@@ -11,7 +11,7 @@ ghost use Rattle.wb_items.specs.Table.{AreProductions};
 ghost use Rattle.wb_termset.specs.Sets.{IsMember};
 ghost use Rattle.wb_extensions.specs.Inner.Contexts.{IsContext, host_of};
 ghost use Rattle.wb_extensions.specs.Inner.Index.{IsIndex, IsIndexable};
-ghost use Rattle.wb_extensions.specs.Inner.Envelopes.{AddsEntry, AreContaining, IsEnvelopeRow, IsEnvelopeSet};
+ghost use Rattle.wb_extensions.specs.Inner.Envelopes.{AddsContaining, AddsEntry, AreContaining, IsEnvelopeRow, IsEnvelopeSet};
 
 use crate::context::Context;
 use crate::host_index::{States, listed};
@@ -138,11 +138,27 @@ fn containing(
     let candidates = listed(index, own[0].production);
     let mut list = Vec::new(alloc);
     'candidates: for &state in candidates {
-        if has_all(host.kernel(state), own) {
-            push(&mut list, state)?;
-        }
+        add_containing(host, own, state, &mut list)?;
     }
     Ok(list)
+}
+
+// Adds the number of a kernel, if it has all these items.
+fn add_containing(
+    host: &Kernels,
+    own: &[Item],
+    state: usize,
+    list: &mut Vec<usize>,
+) -> Result<(), AllocError>
+    requires exact { AreKernels host.now }
+    requires state { state < count_of host.now }
+    ensures { OnOk result (AddsContaining host.now own.now state list.old.items list.new.items) }
+{
+    if !has_all(host.kernel(state), own) {
+        return Ok(());
+    }
+    push(list, state)?;
+    Ok(())
 }
 
 // Whether all these items are in the list.

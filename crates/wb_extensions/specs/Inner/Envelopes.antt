@@ -1,5 +1,5 @@
 -- Envelopes of a set of items, as sets of terminals.
-use Rattle.std.specs.Prelude.{◌≡◌, ◌↔◌, ◌<◌, ◌+◌, ◌++◌, ◌∷◌, [], ℕ, List, All, length, Contains}
+use Rattle.std.specs.Prelude.{◌≡◌, ◌↔◌, ◌⊎◌, ◌<◌, ◌+◌, ◌++◌, ◌∷◌, [], ℕ, List, All, length, Contains}
 use Rattle.wb_base.specs.Grammar.{GrammarView}
 use Rattle.wb_grammars.specs.declared.item.Item.{Item}
 use Rattle.wb_grammars.specs.Closure.{InClosure}
@@ -21,6 +21,10 @@ HasAll kernels own s = (s < count_of kernels) × ((i : Item) → Contains own i 
 -- the numbers of all kernels that have all these items
 abbrev pub AreContaining : KernelsView → List Item → List ℕ → Type 0
 AreContaining kernels own list = (s : ℕ) → Contains list s ↔ HasAll kernels own s
+
+-- the kernel's number comes after the others where it has all these items, and else they stay as they are
+abbrev pub AddsContaining : KernelsView → List Item → ℕ → List ℕ → List ℕ → Type 0
+AddsContaining kernels own s old new = (HasAll kernels own s × (new ≡ old ++ s ∷ [])) ⊎ ((¬ HasAll kernels own s) × (new ≡ old))
 
 -- the set has room for the terminals and the end of a text, and its members are the item's lookaheads in the envelope
 pub record IsEnvelopeSet (g : GrammarView) (own : List Item) (looks : ItemLookahead) : Type 0 where

@@ -17,7 +17,8 @@ returns-then-not-is_in c = (
   λ bad. absurd (false≢true bad),
   λ all.
       let none : Item = record { production = 0; dot = 0 } in
-      let has = all (get_or c.args.own.now c.items.item-index none) (Contains-get_or c.args.own.now c.items.item-index none c.items-test.true) in
+      let has = all (get_or c.args.own.now c.items.item-index none)
+      (Contains-get_or c.args.own.now c.items.item-index none c.items-test.true) in
       absurd (true≢false (sym (c.is_in.ensures.1 has) ∙ c.if-not-is_in.true)),
 )
 
