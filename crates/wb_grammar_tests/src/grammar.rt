@@ -1,23 +1,17 @@
 //! Facts and refusals of small grammars.
 
-ghost use Rattle.std.specs.Prelude.{◌<◌, All, IsTrue};
-ghost use Rattle.wb_base.specs.Grammar.{IsSymbolBelow};
+ghost use Rattle.std.specs.Prelude.{◌<◌};
 ghost use Rattle.wb_grammar.specs.Facts.{AreFacts};
 
+use crate::small::{A, B, C, Small, T0, T1, grammar_of};
 use std::alloc::{AllocError, Global};
 use std::test::Fail;
 use wb_base::{Grammar, Symbol};
 use wb_grammar::{Facts, GrammarRefusal, Reason, analyse};
 
-const A: Symbol = Symbol::Nonterminal(0);
+const X: Symbol = T0;
 
-const B: Symbol = Symbol::Nonterminal(1);
-
-const C: Symbol = Symbol::Nonterminal(2);
-
-const X: Symbol = Symbol::Terminal(0);
-
-const Y: Symbol = Symbol::Terminal(1);
+const Y: Symbol = T1;
 
 // What is expected: for each nonterminal whether it derives the empty text, and whether x and y begin what it derives; or what refusal.
 enum Expected {
@@ -28,60 +22,83 @@ enum Expected {
     Unproductive(usize),
 }
 
-// Productions of nonterminals over x and y, and what is expected of their grammar.
+// A grammar over x and y, and what is expected of it.
 struct Row {
-    nonterminals: usize,
-    productions: &'static [(usize, &'static [Symbol])],
+    grammar: Small,
     expected: Expected,
 }
 
 static ROWS: [Row; 8] = [
     // A -> B y, B -> x, B ->
     Row {
-        nonterminals: 2,
-        productions: &[(0, &[B, Y]), (1, &[X]), (1, &[])],
+        grammar: Small {
+            terminals: 2,
+            nonterminals: 2,
+            productions: &[(0, &[B, Y]), (1, &[X]), (1, &[])],
+        },
         expected: Expected::Facts(&[(false, true, true), (true, true, false)]),
     },
     // A -> A x, A -> y
     Row {
-        nonterminals: 1,
-        productions: &[(0, &[A, X]), (0, &[Y])],
+        grammar: Small {
+            terminals: 2,
+            nonterminals: 1,
+            productions: &[(0, &[A, X]), (0, &[Y])],
+        },
         expected: Expected::Facts(&[(false, false, true)]),
     },
     // A -> A, A -> x
     Row {
-        nonterminals: 1,
-        productions: &[(0, &[A]), (0, &[X])],
+        grammar: Small {
+            terminals: 2,
+            nonterminals: 1,
+            productions: &[(0, &[A]), (0, &[X])],
+        },
         expected: Expected::UnitCycle(1),
     },
     // A -> C B, B -> A C, B -> x, C ->
     Row {
-        nonterminals: 3,
-        productions: &[(0, &[C, B]), (1, &[A, C]), (1, &[X]), (2, &[])],
+        grammar: Small {
+            terminals: 2,
+            nonterminals: 3,
+            productions: &[(0, &[C, B]), (1, &[A, C]), (1, &[X]), (2, &[])],
+        },
         expected: Expected::UnitCycle(2),
     },
     // A -> B A x, A -> y, B ->
     Row {
-        nonterminals: 2,
-        productions: &[(0, &[B, A, X]), (0, &[Y]), (1, &[])],
+        grammar: Small {
+            terminals: 2,
+            nonterminals: 2,
+            productions: &[(0, &[B, A, X]), (0, &[Y]), (1, &[])],
+        },
         expected: Expected::HiddenLeftRecursion(&[0]),
     },
     // A -> C B x, B -> A y, B -> y, C ->
     Row {
-        nonterminals: 3,
-        productions: &[(0, &[C, B, X]), (1, &[A, Y]), (1, &[Y]), (2, &[])],
+        grammar: Small {
+            terminals: 2,
+            nonterminals: 3,
+            productions: &[(0, &[C, B, X]), (1, &[A, Y]), (1, &[Y]), (2, &[])],
+        },
         expected: Expected::HiddenLeftRecursion(&[1, 0]),
     },
     // A -> x, B -> x
     Row {
-        nonterminals: 2,
-        productions: &[(0, &[X]), (1, &[X])],
+        grammar: Small {
+            terminals: 2,
+            nonterminals: 2,
+            productions: &[(0, &[X]), (1, &[X])],
+        },
         expected: Expected::Unreachable(1),
     },
     // A -> x, A -> B, B -> x B
     Row {
-        nonterminals: 2,
-        productions: &[(0, &[X]), (0, &[B]), (1, &[X, B])],
+        grammar: Small {
+            terminals: 2,
+            nonterminals: 2,
+            productions: &[(0, &[X]), (0, &[B]), (1, &[X, B])],
+        },
         expected: Expected::Unproductive(1),
     },
 ];
@@ -148,40 +165,12 @@ fn is_refused(refusal: &GrammarRefusal, expected: &Expected) -> bool {
     }
 }
 
-// Whether the symbols are below these counts.
-fn are_below(symbols: &[Symbol], terminals: usize, nonterminals: usize) -> bool
-    ensures { IsTrue result → All (IsSymbolBelow terminals nonterminals) symbols.now }
-{
-    symbols.iter().all(|symbol| match *symbol {
-        Symbol::Terminal(number) => number < terminals,
-        Symbol::Nonterminal(number) => number < nonterminals,
-    })
-}
-
-// Adds a production whose numbers are in range, and answers whether they are.
-fn add_checked(grammar: &mut Grammar, left: usize, right: &[Symbol]) -> Result<bool, AllocError> {
-    if left >= grammar.nonterminals() {
-        return Ok(false);
-    }
-    if !are_below(right, grammar.terminals(), grammar.nonterminals()) {
-        return Ok(false);
-    }
-    grammar.add(left, right)?;
-    Ok(true)
-}
-
 // Whether the grammar of a row gives what is expected.
 fn is_row(alloc: Global, row: &Row) -> Result<bool, AllocError> {
-    if row.nonterminals == 0 {
-        return Ok(false);
+    match grammar_of(alloc, &row.grammar)? {
+        Some(grammar) => Ok(is_expected(alloc, &grammar, &row.expected)),
+        None => Ok(false),
     }
-    let mut grammar = Grammar::new(alloc, 2, row.nonterminals, 0);
-    for (left, right) in row.productions {
-        if !add_checked(&mut grammar, *left, right)? {
-            return Ok(false);
-        }
-    }
-    Ok(is_expected(alloc, &grammar, &row.expected))
 }
 
 #[test]

@@ -1,47 +1,14 @@
 //! Kernels of small grammars, found by the prefixes that lead to them.
 
-ghost use Rattle.std.specs.Prelude.{◌<◌, IfSome};
+ghost use Rattle.std.specs.Prelude.{◌<◌};
 ghost use Rattle.wb_items.specs.Kernels.{count_of};
 
-use crate::items_rows::{
-    LIST, NOT_LIST, NOT_POINTERS, NOT_SUMS, NOT_WORDS, POINTERS, Place, Row, SUMS, SYMBOLS, WORDS,
-    list, pointers, sums, words,
-};
+use crate::items_rows::{CASES, Case, Place, Row, SYMBOLS};
+use crate::small::{after, grammar_of, kernels_of};
 use std::alloc::{AllocError, Global};
 use std::test::Fail;
 use wb_base::{Grammar, Symbol, push};
-use wb_grammar::{GrammarRefusal, analyse};
 use wb_items::{Item, Kernels};
-
-// Where the kernels of a grammar are not the expected ones.
-#[derive(Debug, Drop)]
-enum Wrong {
-    Refused,
-    Count(usize),
-    Row(usize),
-    Found(usize),
-}
-
-// The kernel after these symbols.
-fn after(kernels: &Kernels, prefix: &[Symbol]) -> Option<usize>
-    ensures { IfSome result (λ state. state < count_of kernels.now) }
-{
-    let mut state = 0;
-    for symbol in prefix {
-        if state >= kernels.count() {
-            return None;
-        }
-        match kernels.next(state, *symbol) {
-            Some(next) => state = next,
-            None => return None,
-        }
-    }
-    if state < kernels.count() {
-        Some(state)
-    } else {
-        None
-    }
-}
 
 // Whether the items are these, in order.
 fn are_items(items: &[Item], places: &[Place]) -> bool {
@@ -127,13 +94,26 @@ fn has_items(kernels: &Kernels, state: usize, row: &Row) -> bool
     are_items(kernels.kernel(state), row.kernel) && are_items(kernels.closure(state), row.closure)
 }
 
+// Whether these items, turned, have this number.
+fn is_found(
+    alloc: Global,
+    kernels: &Kernels,
+    state: usize,
+    places: &[Place],
+) -> Result<bool, AllocError> {
+    let items = turned(alloc, places)?;
+    Ok(kernels.find(&items) == Some(state))
+}
+
 // Whether the kernel's items and its prefix lead back to its number.
 fn leads_back(alloc: Global, kernels: &Kernels, state: usize, row: &Row) -> Result<bool, AllocError>
     requires { state < count_of kernels.now }
 {
-    let items = turned(alloc, row.kernel)?;
+    if !is_found(alloc, kernels, state, row.kernel)? {
+        return Ok(false);
+    }
     let prefix = kernels.prefix(alloc, state)?;
-    Ok(kernels.find(&items) == Some(state) && after(kernels, &prefix) == Some(state))
+    Ok(after(kernels, &prefix) == Some(state))
 }
 
 // Whether the kernel after the symbols of the row is as the row says.
@@ -149,100 +129,44 @@ fn agrees(alloc: Global, kernels: &Kernels, row: &Row, rows: &[Row]) -> Result<b
     )
 }
 
-// The first row that isn't so.
-fn first_wrong_row(
-    alloc: Global,
-    kernels: &Kernels,
-    rows: &[Row],
-) -> Result<Option<usize>, AllocError> {
-    for (place, row) in rows.iter().enumerate() {
+// Whether all rows are so.
+fn are_rows(alloc: Global, kernels: &Kernels, rows: &[Row]) -> Result<bool, AllocError> {
+    for row in rows {
         if !agrees(alloc, kernels, row, rows)? {
-            return Ok(Some(place));
+            return Ok(false);
         }
     }
-    Ok(None)
+    Ok(kernels.count() == rows.len())
 }
 
-// The first list of items that is a kernel.
-fn first_found(
-    alloc: Global,
-    kernels: &Kernels,
-    lists: &[&[Place]],
-) -> Result<Option<usize>, AllocError> {
-    for (place, items) in lists.iter().enumerate() {
-        if kernels.find(&turned(alloc, *items)?).is_some() {
-            return Ok(Some(place));
+// Whether none of the lists of items is a kernel.
+fn are_none(alloc: Global, kernels: &Kernels, lists: &[&[Place]]) -> Result<bool, AllocError> {
+    for places in lists {
+        let items = turned(alloc, *places)?;
+        if kernels.find(&items).is_some() {
+            return Ok(false);
         }
     }
-    Ok(None)
+    Ok(true)
 }
 
-// The kernels of a grammar that passes its analysis.
-fn kernels_of(alloc: Global, grammar: &Grammar) -> Result<Option<Kernels>, AllocError> {
-    match analyse(alloc, grammar) {
-        Ok(facts) => Ok(Some(Kernels::build(alloc, grammar, &facts)?)),
-        Err(GrammarRefusal::NoMemory(error)) => Err(error),
-        Err(_) => Ok(None),
-    }
+// Whether a grammar's kernels are exactly those of the rows, and no other list is one.
+fn are_kernels(alloc: Global, grammar: &Grammar, case: &Case) -> Result<bool, AllocError> {
+    let kernels = kernels_of(alloc, grammar)?;
+    Ok(are_rows(alloc, &kernels, case.rows)? && are_none(alloc, &kernels, case.others)?)
 }
 
-// Where the kernels aren't exactly those of the rows, or one of the other lists is a kernel.
-fn compare(
-    alloc: Global,
-    kernels: &Kernels,
-    rows: &[Row],
-    others: &[&[Place]],
-) -> Result<Option<Wrong>, AllocError> {
-    if kernels.count() != rows.len() {
-        return Ok(Some(Wrong::Count(kernels.count())));
-    }
-    if let Some(place) = first_wrong_row(alloc, kernels, rows)? {
-        return Ok(Some(Wrong::Row(place)));
-    }
-    Ok(first_found(alloc, kernels, others)?.map(Wrong::Found))
-}
-
-// Where the grammar's kernels aren't so.
-fn first_wrong(
-    alloc: Global,
-    grammar: &Grammar,
-    rows: &[Row],
-    others: &[&[Place]],
-) -> Result<Option<Wrong>, AllocError> {
-    match kernels_of(alloc, grammar)? {
-        Some(kernels) => compare(alloc, &kernels, rows, others),
-        None => Ok(Some(Wrong::Refused)),
+fn is_right(alloc: Global, case: &Case) -> Result<bool, AllocError> {
+    match grammar_of(alloc, &case.grammar)? {
+        Some(grammar) => are_kernels(alloc, &grammar, case),
+        None => Ok(false),
     }
 }
 
 #[test]
-fn kernels_of_pointers_are_the_expected_ones(rt: HostRuntime) -> Result<(), Fail> {
-    let grammar = pointers(rt.alloc())?;
-    let wrong = first_wrong(rt.alloc(), &grammar, &POINTERS, &NOT_POINTERS)?;
-    assert!(rt; wrong.is_none(), "{wrong:?}");
-    Ok(())
-}
-
-#[test]
-fn kernels_of_words_are_the_expected_ones(rt: HostRuntime) -> Result<(), Fail> {
-    let grammar = words(rt.alloc())?;
-    let wrong = first_wrong(rt.alloc(), &grammar, &WORDS, &NOT_WORDS)?;
-    assert!(rt; wrong.is_none(), "{wrong:?}");
-    Ok(())
-}
-
-#[test]
-fn kernels_of_a_list_are_the_expected_ones(rt: HostRuntime) -> Result<(), Fail> {
-    let grammar = list(rt.alloc())?;
-    let wrong = first_wrong(rt.alloc(), &grammar, &LIST, &NOT_LIST)?;
-    assert!(rt; wrong.is_none(), "{wrong:?}");
-    Ok(())
-}
-
-#[test]
-fn kernels_of_sums_are_the_expected_ones(rt: HostRuntime) -> Result<(), Fail> {
-    let grammar = sums(rt.alloc())?;
-    let wrong = first_wrong(rt.alloc(), &grammar, &SUMS, &NOT_SUMS)?;
-    assert!(rt; wrong.is_none(), "{wrong:?}");
+fn kernels_of_small_grammars_are_the_expected_ones(rt: HostRuntime) -> Result<(), Fail> {
+    for case in &CASES {
+        assert!(rt; is_right(rt.alloc(), case)?);
+    }
     Ok(())
 }

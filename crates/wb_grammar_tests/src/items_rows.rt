@@ -1,7 +1,7 @@
 //! Small grammars with the kernels of their prefixes, which another program found from the definition of valid items.
 
-use std::alloc::{AllocError, Global};
-use wb_base::{Grammar, Symbol};
+use crate::small::{A, B, C, Small, T0, T1, T2};
+use wb_base::Symbol;
 
 /// An item: its production, and how many symbols come before its dot.
 pub type Place = (usize, usize);
@@ -16,18 +16,6 @@ pub struct Row {
     pub moves: &'static [(Symbol, usize)],
 }
 
-const A: Symbol = Symbol::Nonterminal(0);
-
-const B: Symbol = Symbol::Nonterminal(1);
-
-const C: Symbol = Symbol::Nonterminal(2);
-
-const T0: Symbol = Symbol::Terminal(0);
-
-const T1: Symbol = Symbol::Terminal(1);
-
-const T2: Symbol = Symbol::Terminal(2);
-
 /// The symbols of these grammars, and some that are in none of them.
 pub static SYMBOLS: [Symbol; 8] = [
     A,
@@ -40,224 +28,221 @@ pub static SYMBOLS: [Symbol; 8] = [
     Symbol::Terminal(3),
 ];
 
-/// A -> B t1 C, A -> C, B -> t0 C, B -> t2, C -> B
-pub(crate) fn pointers(alloc: Global) -> Result<Grammar, AllocError> {
-    let mut grammar = Grammar::new(alloc, 3, 3, 0);
-    grammar.add(0, &[B, T1, C])?;
-    grammar.add(0, &[C])?;
-    grammar.add(1, &[T0, C])?;
-    grammar.add(1, &[T2])?;
-    grammar.add(2, &[B])?;
-    Ok(grammar)
+/// A grammar with all its kernels, and lists of items that are no kernel of it.
+pub struct Case {
+    pub grammar: Small,
+    pub rows: &'static [Row],
+    pub others: &'static [&'static [Place]],
 }
 
-/// Its kernels.
-pub static POINTERS: [Row; 10] = [
-    Row {
-        prefix: &[],
-        kernel: &[(5, 0)],
-        closure: &[(0, 0), (1, 0), (2, 0), (3, 0), (4, 0), (5, 0)],
-        moves: &[(A, 1), (B, 2), (C, 3), (T0, 4), (T2, 5)],
+/// Pointers and what they point to, two words, a list, and sums.
+pub static CASES: [Case; 4] = [
+    // A -> B t1 C, A -> C, B -> t0 C, B -> t2, C -> B
+    Case {
+        grammar: Small {
+            terminals: 3,
+            nonterminals: 3,
+            productions: &[
+                (0, &[B, T1, C]),
+                (0, &[C]),
+                (1, &[T0, C]),
+                (1, &[T2]),
+                (2, &[B]),
+            ],
+        },
+        rows: &[
+            Row {
+                prefix: &[],
+                kernel: &[(5, 0)],
+                closure: &[(0, 0), (1, 0), (2, 0), (3, 0), (4, 0), (5, 0)],
+                moves: &[(A, 1), (B, 2), (C, 3), (T0, 4), (T2, 5)],
+            },
+            Row {
+                prefix: &[A],
+                kernel: &[(5, 1)],
+                closure: &[(5, 1)],
+                moves: &[],
+            },
+            Row {
+                prefix: &[B],
+                kernel: &[(0, 1), (4, 1)],
+                closure: &[(0, 1), (4, 1)],
+                moves: &[(T1, 6)],
+            },
+            Row {
+                prefix: &[C],
+                kernel: &[(1, 1)],
+                closure: &[(1, 1)],
+                moves: &[],
+            },
+            Row {
+                prefix: &[T0],
+                kernel: &[(2, 1)],
+                closure: &[(2, 0), (2, 1), (3, 0), (4, 0)],
+                moves: &[(B, 7), (C, 8), (T0, 4), (T2, 5)],
+            },
+            Row {
+                prefix: &[T2],
+                kernel: &[(3, 1)],
+                closure: &[(3, 1)],
+                moves: &[],
+            },
+            Row {
+                prefix: &[B, T1],
+                kernel: &[(0, 2)],
+                closure: &[(0, 2), (2, 0), (3, 0), (4, 0)],
+                moves: &[(B, 7), (C, 9), (T0, 4), (T2, 5)],
+            },
+            Row {
+                prefix: &[T0, B],
+                kernel: &[(4, 1)],
+                closure: &[(4, 1)],
+                moves: &[],
+            },
+            Row {
+                prefix: &[T0, C],
+                kernel: &[(2, 2)],
+                closure: &[(2, 2)],
+                moves: &[],
+            },
+            Row {
+                prefix: &[B, T1, C],
+                kernel: &[(0, 3)],
+                closure: &[(0, 3)],
+                moves: &[],
+            },
+        ],
+        others: &[
+            &[],
+            &[(0, 0)],
+            &[(0, 1)],
+            &[(0, 1), (1, 1), (4, 1)],
+            &[(0, 0), (5, 0)],
+            &[(1, 2)],
+            &[(6, 0)],
+        ],
     },
-    Row {
-        prefix: &[A],
-        kernel: &[(5, 1)],
-        closure: &[(5, 1)],
-        moves: &[],
+    // A -> t0 t1, A -> t1
+    Case {
+        grammar: Small {
+            terminals: 2,
+            nonterminals: 1,
+            productions: &[(0, &[T0, T1]), (0, &[T1])],
+        },
+        rows: &[
+            Row {
+                prefix: &[],
+                kernel: &[(2, 0)],
+                closure: &[(0, 0), (1, 0), (2, 0)],
+                moves: &[(A, 1), (T0, 2), (T1, 3)],
+            },
+            Row {
+                prefix: &[A],
+                kernel: &[(2, 1)],
+                closure: &[(2, 1)],
+                moves: &[],
+            },
+            Row {
+                prefix: &[T0],
+                kernel: &[(0, 1)],
+                closure: &[(0, 1)],
+                moves: &[(T1, 4)],
+            },
+            Row {
+                prefix: &[T1],
+                kernel: &[(1, 1)],
+                closure: &[(1, 1)],
+                moves: &[],
+            },
+            Row {
+                prefix: &[T0, T1],
+                kernel: &[(0, 2)],
+                closure: &[(0, 2)],
+                moves: &[],
+            },
+        ],
+        others: &[&[], &[(1, 0)], &[(0, 1), (1, 1)], &[(3, 0)]],
     },
-    Row {
-        prefix: &[B],
-        kernel: &[(0, 1), (4, 1)],
-        closure: &[(0, 1), (4, 1)],
-        moves: &[(T1, 6)],
+    // A -> , A -> A t0
+    Case {
+        grammar: Small {
+            terminals: 1,
+            nonterminals: 1,
+            productions: &[(0, &[]), (0, &[A, T0])],
+        },
+        rows: &[
+            Row {
+                prefix: &[],
+                kernel: &[(2, 0)],
+                closure: &[(0, 0), (1, 0), (2, 0)],
+                moves: &[(A, 1)],
+            },
+            Row {
+                prefix: &[A],
+                kernel: &[(1, 1), (2, 1)],
+                closure: &[(1, 1), (2, 1)],
+                moves: &[(T0, 2)],
+            },
+            Row {
+                prefix: &[A, T0],
+                kernel: &[(1, 2)],
+                closure: &[(1, 2)],
+                moves: &[],
+            },
+        ],
+        others: &[&[], &[(0, 0)], &[(1, 1)], &[(2, 1)], &[(0, 0), (2, 0)]],
     },
-    Row {
-        prefix: &[C],
-        kernel: &[(1, 1)],
-        closure: &[(1, 1)],
-        moves: &[],
+    // A -> A t1 B, A -> B, B -> t0
+    Case {
+        grammar: Small {
+            terminals: 2,
+            nonterminals: 2,
+            productions: &[(0, &[A, T1, B]), (0, &[B]), (1, &[T0])],
+        },
+        rows: &[
+            Row {
+                prefix: &[],
+                kernel: &[(3, 0)],
+                closure: &[(0, 0), (1, 0), (2, 0), (3, 0)],
+                moves: &[(A, 1), (B, 2), (T0, 3)],
+            },
+            Row {
+                prefix: &[A],
+                kernel: &[(0, 1), (3, 1)],
+                closure: &[(0, 1), (3, 1)],
+                moves: &[(T1, 4)],
+            },
+            Row {
+                prefix: &[B],
+                kernel: &[(1, 1)],
+                closure: &[(1, 1)],
+                moves: &[],
+            },
+            Row {
+                prefix: &[T0],
+                kernel: &[(2, 1)],
+                closure: &[(2, 1)],
+                moves: &[],
+            },
+            Row {
+                prefix: &[A, T1],
+                kernel: &[(0, 2)],
+                closure: &[(0, 2), (2, 0)],
+                moves: &[(B, 5), (T0, 3)],
+            },
+            Row {
+                prefix: &[A, T1, B],
+                kernel: &[(0, 3)],
+                closure: &[(0, 3)],
+                moves: &[],
+            },
+        ],
+        others: &[
+            &[],
+            &[(2, 0)],
+            &[(3, 1)],
+            &[(0, 2), (2, 0)],
+            &[(1, 1), (2, 1)],
+        ],
     },
-    Row {
-        prefix: &[T0],
-        kernel: &[(2, 1)],
-        closure: &[(2, 0), (2, 1), (3, 0), (4, 0)],
-        moves: &[(B, 7), (C, 8), (T0, 4), (T2, 5)],
-    },
-    Row {
-        prefix: &[T2],
-        kernel: &[(3, 1)],
-        closure: &[(3, 1)],
-        moves: &[],
-    },
-    Row {
-        prefix: &[B, T1],
-        kernel: &[(0, 2)],
-        closure: &[(0, 2), (2, 0), (3, 0), (4, 0)],
-        moves: &[(B, 7), (C, 9), (T0, 4), (T2, 5)],
-    },
-    Row {
-        prefix: &[T0, B],
-        kernel: &[(4, 1)],
-        closure: &[(4, 1)],
-        moves: &[],
-    },
-    Row {
-        prefix: &[T0, C],
-        kernel: &[(2, 2)],
-        closure: &[(2, 2)],
-        moves: &[],
-    },
-    Row {
-        prefix: &[B, T1, C],
-        kernel: &[(0, 3)],
-        closure: &[(0, 3)],
-        moves: &[],
-    },
-];
-
-/// Items that are no kernel of it.
-pub static NOT_POINTERS: [&[Place]; 7] = [
-    &[],
-    &[(0, 0)],
-    &[(0, 1)],
-    &[(0, 1), (1, 1), (4, 1)],
-    &[(0, 0), (5, 0)],
-    &[(1, 2)],
-    &[(6, 0)],
-];
-
-/// A -> t0 t1, A -> t1
-pub(crate) fn words(alloc: Global) -> Result<Grammar, AllocError> {
-    let mut grammar = Grammar::new(alloc, 2, 1, 0);
-    grammar.add(0, &[T0, T1])?;
-    grammar.add(0, &[T1])?;
-    Ok(grammar)
-}
-
-/// Its kernels.
-pub static WORDS: [Row; 5] = [
-    Row {
-        prefix: &[],
-        kernel: &[(2, 0)],
-        closure: &[(0, 0), (1, 0), (2, 0)],
-        moves: &[(A, 1), (T0, 2), (T1, 3)],
-    },
-    Row {
-        prefix: &[A],
-        kernel: &[(2, 1)],
-        closure: &[(2, 1)],
-        moves: &[],
-    },
-    Row {
-        prefix: &[T0],
-        kernel: &[(0, 1)],
-        closure: &[(0, 1)],
-        moves: &[(T1, 4)],
-    },
-    Row {
-        prefix: &[T1],
-        kernel: &[(1, 1)],
-        closure: &[(1, 1)],
-        moves: &[],
-    },
-    Row {
-        prefix: &[T0, T1],
-        kernel: &[(0, 2)],
-        closure: &[(0, 2)],
-        moves: &[],
-    },
-];
-
-/// Items that are no kernel of it.
-pub static NOT_WORDS: [&[Place]; 4] = [&[], &[(1, 0)], &[(0, 1), (1, 1)], &[(3, 0)]];
-
-/// A -> , A -> A t0
-pub(crate) fn list(alloc: Global) -> Result<Grammar, AllocError> {
-    let mut grammar = Grammar::new(alloc, 1, 1, 0);
-    grammar.add(0, &[])?;
-    grammar.add(0, &[A, T0])?;
-    Ok(grammar)
-}
-
-/// Its kernels.
-pub static LIST: [Row; 3] = [
-    Row {
-        prefix: &[],
-        kernel: &[(2, 0)],
-        closure: &[(0, 0), (1, 0), (2, 0)],
-        moves: &[(A, 1)],
-    },
-    Row {
-        prefix: &[A],
-        kernel: &[(1, 1), (2, 1)],
-        closure: &[(1, 1), (2, 1)],
-        moves: &[(T0, 2)],
-    },
-    Row {
-        prefix: &[A, T0],
-        kernel: &[(1, 2)],
-        closure: &[(1, 2)],
-        moves: &[],
-    },
-];
-
-/// Items that are no kernel of it.
-pub static NOT_LIST: [&[Place]; 5] = [&[], &[(0, 0)], &[(1, 1)], &[(2, 1)], &[(0, 0), (2, 0)]];
-
-/// A -> A t1 B, A -> B, B -> t0
-pub(crate) fn sums(alloc: Global) -> Result<Grammar, AllocError> {
-    let mut grammar = Grammar::new(alloc, 2, 2, 0);
-    grammar.add(0, &[A, T1, B])?;
-    grammar.add(0, &[B])?;
-    grammar.add(1, &[T0])?;
-    Ok(grammar)
-}
-
-/// Its kernels.
-pub static SUMS: [Row; 6] = [
-    Row {
-        prefix: &[],
-        kernel: &[(3, 0)],
-        closure: &[(0, 0), (1, 0), (2, 0), (3, 0)],
-        moves: &[(A, 1), (B, 2), (T0, 3)],
-    },
-    Row {
-        prefix: &[A],
-        kernel: &[(0, 1), (3, 1)],
-        closure: &[(0, 1), (3, 1)],
-        moves: &[(T1, 4)],
-    },
-    Row {
-        prefix: &[B],
-        kernel: &[(1, 1)],
-        closure: &[(1, 1)],
-        moves: &[],
-    },
-    Row {
-        prefix: &[T0],
-        kernel: &[(2, 1)],
-        closure: &[(2, 1)],
-        moves: &[],
-    },
-    Row {
-        prefix: &[A, T1],
-        kernel: &[(0, 2)],
-        closure: &[(0, 2), (2, 0)],
-        moves: &[(B, 5), (T0, 3)],
-    },
-    Row {
-        prefix: &[A, T1, B],
-        kernel: &[(0, 3)],
-        closure: &[(0, 3)],
-        moves: &[],
-    },
-];
-
-/// Items that are no kernel of it.
-pub static NOT_SUMS: [&[Place]; 5] = [
-    &[],
-    &[(2, 0)],
-    &[(3, 1)],
-    &[(0, 2), (2, 0)],
-    &[(1, 1), (2, 1)],
 ];

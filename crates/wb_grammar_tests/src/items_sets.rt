@@ -3,10 +3,10 @@
 ghost use Rattle.std.specs.Prelude.{◌≡◌, ◌<◌, All, Contains, length};
 ghost use Rattle.wb_items.specs.Lookaheads.{items_in, row_of};
 
+use crate::small::{A, Small, T0, grammar_of, kernels_of};
 use std::alloc::{AllocError, Global};
 use std::test::Fail;
-use wb_base::{Grammar, Symbol};
-use wb_grammar::analyse;
+use wb_base::Grammar;
 use wb_items::{Item, ItemLookahead, Kernels, Lookaheads};
 
 // Whether the terminal is in the set at the item and in no other of the row.
@@ -44,15 +44,22 @@ fn takes_the_end(alloc: Global, grammar: &Grammar, kernels: &Kernels) -> Result<
 }
 
 // A -> , A -> A t0
+static LIST: Small = Small {
+    terminals: 1,
+    nonterminals: 1,
+    productions: &[(0, &[]), (0, &[A, T0])],
+};
+
+fn is_taken_by(alloc: Global, grammar: &Grammar) -> Result<bool, AllocError> {
+    let kernels = kernels_of(alloc, grammar)?;
+    takes_the_end(alloc, grammar, &kernels)
+}
+
 fn is_taken(alloc: Global) -> Result<bool, AllocError> {
-    let mut grammar = Grammar::new(alloc, 1, 1, 0);
-    grammar.add(0, &[])?;
-    grammar.add(0, &[Symbol::Nonterminal(0), Symbol::Terminal(0)])?;
-    let Ok(facts) = analyse(alloc, &grammar) else {
-        return Ok(false);
-    };
-    let kernels = Kernels::build(alloc, &grammar, &facts)?;
-    takes_the_end(alloc, &grammar, &kernels)
+    match grammar_of(alloc, &LIST)? {
+        Some(grammar) => is_taken_by(alloc, &grammar),
+        None => Ok(false),
+    }
 }
 
 #[test]

@@ -19,3 +19,5 @@ mod lookahead;
 mod lookahead_canonical;
 #[cfg(test)]
 mod lookahead_tables;
+#[cfg(test)]
+mod small;

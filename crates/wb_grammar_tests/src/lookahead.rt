@@ -2,49 +2,19 @@
 
 ghost use Rattle.wb_items.specs.Lookaheads.{AreLookaheadsOf};
 
+use crate::small::{
+    A, B, C, Small, T0, T1, T2, T3, T4, after, grammar_of, kernels_of, lookaheads_of,
+};
 use std::alloc::{AllocError, Global};
 use std::test::Fail;
 use wb_base::{Grammar, Symbol};
-use wb_grammar::analyse;
 use wb_items::{ItemLookahead, Kernels, Lookaheads};
-use wb_lookahead::plain_lookaheads;
 use wb_termset::TermSet;
-
-const A: Symbol = Symbol::Nonterminal(0);
-
-const B: Symbol = Symbol::Nonterminal(1);
-
-const C: Symbol = Symbol::Nonterminal(2);
-
-const T0: Symbol = Symbol::Terminal(0);
-
-const T1: Symbol = Symbol::Terminal(1);
-
-const T2: Symbol = Symbol::Terminal(2);
-
-const T3: Symbol = Symbol::Terminal(3);
-
-const T4: Symbol = Symbol::Terminal(4);
 
 // The symbols that lead to a kernel, and a mask of the lookaheads for each item of its closure.
 struct Expected {
     prefix: &'static [Symbol],
     masks: &'static [u64],
-}
-
-// The kernel after these symbols.
-fn after(kernels: &Kernels, prefix: &[Symbol]) -> Option<usize> {
-    let mut state = 0;
-    for symbol in prefix {
-        if state >= kernels.count() {
-            return None;
-        }
-        match kernels.next(state, *symbol) {
-            Some(next) => state = next,
-            None => return None,
-        }
-    }
-    Some(state)
 }
 
 // Whether the members of a set are the bits of the mask.
@@ -92,201 +62,194 @@ fn are_all(kernels: &Kernels, lookaheads: &Lookaheads, rows: &[Expected]) -> boo
     true
 }
 
-// Whether the grammar passes its analysis, and its lookaheads are those of the rows.
+// Whether the grammar's lookaheads are those of the rows.
 fn agree(alloc: Global, grammar: &Grammar, rows: &[Expected]) -> Result<bool, AllocError> {
-    let Ok(facts) = analyse(alloc, grammar) else {
-        return Ok(false);
-    };
-    let kernels = Kernels::build(alloc, grammar, &facts)?;
-    let lookaheads = plain_lookaheads(alloc, grammar, &facts, &kernels)?;
+    let kernels = kernels_of(alloc, grammar)?;
+    let lookaheads = lookaheads_of(alloc, grammar, &kernels)?;
     Ok(are_all(&kernels, &lookaheads, rows))
 }
 
-// A -> B t1 C, A -> C, B -> t0 C, B -> t2, C -> B
-fn pointers(alloc: Global) -> Result<Grammar, AllocError> {
-    let mut grammar = Grammar::new(alloc, 3, 3, 0);
-    grammar.add(0, &[B, T1, C])?;
-    grammar.add(0, &[C])?;
-    grammar.add(1, &[T0, C])?;
-    grammar.add(1, &[T2])?;
-    grammar.add(2, &[B])?;
-    Ok(grammar)
+fn is_right(alloc: Global, case: &Case) -> Result<bool, AllocError> {
+    match grammar_of(alloc, &case.grammar)? {
+        Some(grammar) => agree(alloc, &grammar, case.rows),
+        None => Ok(false),
+    }
 }
 
-static POINTERS: [Expected; 10] = [
-    Expected {
-        prefix: &[],
-        masks: &[8, 8, 10, 10, 8, 8],
+// A grammar, and what is expected of its lookaheads.
+struct Case {
+    grammar: Small,
+    rows: &'static [Expected],
+}
+
+static CASES: [Case; 4] = [
+    // A -> B t1 C, A -> C, B -> t0 C, B -> t2, C -> B
+    Case {
+        grammar: Small {
+            terminals: 3,
+            nonterminals: 3,
+            productions: &[
+                (0, &[B, T1, C]),
+                (0, &[C]),
+                (1, &[T0, C]),
+                (1, &[T2]),
+                (2, &[B]),
+            ],
+        },
+        rows: &[
+            Expected {
+                prefix: &[],
+                masks: &[8, 8, 10, 10, 8, 8],
+            },
+            Expected {
+                prefix: &[A],
+                masks: &[8],
+            },
+            Expected {
+                prefix: &[B],
+                masks: &[8, 8],
+            },
+            Expected {
+                prefix: &[C],
+                masks: &[8],
+            },
+            Expected {
+                prefix: &[T0],
+                masks: &[10, 10, 10, 10],
+            },
+            Expected {
+                prefix: &[T2],
+                masks: &[10],
+            },
+            Expected {
+                prefix: &[B, T1],
+                masks: &[8, 8, 8, 8],
+            },
+            Expected {
+                prefix: &[T0, B],
+                masks: &[10],
+            },
+            Expected {
+                prefix: &[T0, C],
+                masks: &[10],
+            },
+            Expected {
+                prefix: &[B, T1, C],
+                masks: &[8],
+            },
+        ],
     },
-    Expected {
-        prefix: &[A],
-        masks: &[8],
+    // A -> , A -> A t0
+    Case {
+        grammar: Small {
+            terminals: 1,
+            nonterminals: 1,
+            productions: &[(0, &[]), (0, &[A, T0])],
+        },
+        rows: &[
+            Expected {
+                prefix: &[],
+                masks: &[3, 3, 2],
+            },
+            Expected {
+                prefix: &[A],
+                masks: &[3, 2],
+            },
+            Expected {
+                prefix: &[A, T0],
+                masks: &[3],
+            },
+        ],
     },
-    Expected {
-        prefix: &[B],
-        masks: &[8, 8],
+    // A nonterminal that may be empty: A -> B C t2, B -> t0, C -> , C -> t1
+    Case {
+        grammar: Small {
+            terminals: 3,
+            nonterminals: 3,
+            productions: &[(0, &[B, C, T2]), (1, &[T0]), (2, &[]), (2, &[T1])],
+        },
+        rows: &[
+            Expected {
+                prefix: &[],
+                masks: &[8, 6, 8],
+            },
+            Expected {
+                prefix: &[A],
+                masks: &[8],
+            },
+            Expected {
+                prefix: &[B],
+                masks: &[8, 4, 4],
+            },
+            Expected {
+                prefix: &[T0],
+                masks: &[6],
+            },
+            Expected {
+                prefix: &[B, C],
+                masks: &[8],
+            },
+            Expected {
+                prefix: &[B, T1],
+                masks: &[4],
+            },
+            Expected {
+                prefix: &[B, C, T2],
+                masks: &[8],
+            },
+        ],
     },
-    Expected {
-        prefix: &[C],
-        masks: &[8],
-    },
-    Expected {
-        prefix: &[T0],
-        masks: &[10, 10, 10, 10],
-    },
-    Expected {
-        prefix: &[T2],
-        masks: &[10],
-    },
-    Expected {
-        prefix: &[B, T1],
-        masks: &[8, 8, 8, 8],
-    },
-    Expected {
-        prefix: &[T0, B],
-        masks: &[10],
-    },
-    Expected {
-        prefix: &[T0, C],
-        masks: &[10],
-    },
-    Expected {
-        prefix: &[B, T1, C],
-        masks: &[8],
+    // Kernels that merge: A -> t0 B t2, A -> t0 C t3, A -> t1 C t2, A -> t1 B t3, B -> t4, C -> t4
+    Case {
+        grammar: Small {
+            terminals: 5,
+            nonterminals: 3,
+            productions: &[
+                (0, &[T0, B, T2]),
+                (0, &[T0, C, T3]),
+                (0, &[T1, C, T2]),
+                (0, &[T1, B, T3]),
+                (1, &[T4]),
+                (2, &[T4]),
+            ],
+        },
+        rows: &[
+            Expected {
+                prefix: &[],
+                masks: &[32, 32, 32, 32, 32],
+            },
+            Expected {
+                prefix: &[T0],
+                masks: &[32, 32, 4, 8],
+            },
+            Expected {
+                prefix: &[T1],
+                masks: &[32, 32, 8, 4],
+            },
+            Expected {
+                prefix: &[T0, T4],
+                masks: &[12, 12],
+            },
+            Expected {
+                prefix: &[T1, T4],
+                masks: &[12, 12],
+            },
+            Expected {
+                prefix: &[T0, C],
+                masks: &[32],
+            },
+            Expected {
+                prefix: &[T1, C, T2],
+                masks: &[32],
+            },
+        ],
     },
 ];
 
 #[test]
-fn lookaheads_of_pointers_are_those_of_merged_sets(rt: HostRuntime) -> Result<(), Fail> {
-    let grammar = pointers(rt.alloc())?;
-    assert!(rt; agree(rt.alloc(), &grammar, &POINTERS)?);
-    Ok(())
-}
-
-// A -> , A -> A t0
-fn numbers(alloc: Global) -> Result<Grammar, AllocError> {
-    let mut grammar = Grammar::new(alloc, 1, 1, 0);
-    grammar.add(0, &[])?;
-    grammar.add(0, &[A, T0])?;
-    Ok(grammar)
-}
-
-static NUMBERS: [Expected; 3] = [
-    Expected {
-        prefix: &[],
-        masks: &[3, 3, 2],
-    },
-    Expected {
-        prefix: &[A],
-        masks: &[3, 2],
-    },
-    Expected {
-        prefix: &[A, T0],
-        masks: &[3],
-    },
-];
-
-#[test]
-fn lookaheads_of_a_list_are_those_of_merged_sets(rt: HostRuntime) -> Result<(), Fail> {
-    let grammar = numbers(rt.alloc())?;
-    assert!(rt; agree(rt.alloc(), &grammar, &NUMBERS)?);
-    Ok(())
-}
-
-// A -> B C t2, B -> t0, C -> , C -> t1
-fn with_empty(alloc: Global) -> Result<Grammar, AllocError> {
-    let mut grammar = Grammar::new(alloc, 3, 3, 0);
-    grammar.add(0, &[B, C, T2])?;
-    grammar.add(1, &[T0])?;
-    grammar.add(2, &[])?;
-    grammar.add(2, &[T1])?;
-    Ok(grammar)
-}
-
-static WITH_EMPTY: [Expected; 7] = [
-    Expected {
-        prefix: &[],
-        masks: &[8, 6, 8],
-    },
-    Expected {
-        prefix: &[A],
-        masks: &[8],
-    },
-    Expected {
-        prefix: &[B],
-        masks: &[8, 4, 4],
-    },
-    Expected {
-        prefix: &[T0],
-        masks: &[6],
-    },
-    Expected {
-        prefix: &[B, C],
-        masks: &[8],
-    },
-    Expected {
-        prefix: &[B, T1],
-        masks: &[4],
-    },
-    Expected {
-        prefix: &[B, C, T2],
-        masks: &[8],
-    },
-];
-
-#[test]
-fn lookaheads_through_an_empty_nonterminal_are_found(rt: HostRuntime) -> Result<(), Fail> {
-    let grammar = with_empty(rt.alloc())?;
-    assert!(rt; agree(rt.alloc(), &grammar, &WITH_EMPTY)?);
-    Ok(())
-}
-
-// A -> t0 B t2, A -> t0 C t3, A -> t1 C t2, A -> t1 B t3, B -> t4, C -> t4
-fn merging(alloc: Global) -> Result<Grammar, AllocError> {
-    let mut grammar = Grammar::new(alloc, 5, 3, 0);
-    grammar.add(0, &[T0, B, T2])?;
-    grammar.add(0, &[T0, C, T3])?;
-    grammar.add(0, &[T1, C, T2])?;
-    grammar.add(0, &[T1, B, T3])?;
-    grammar.add(1, &[T4])?;
-    grammar.add(2, &[T4])?;
-    Ok(grammar)
-}
-
-static MERGING: [Expected; 7] = [
-    Expected {
-        prefix: &[],
-        masks: &[32, 32, 32, 32, 32],
-    },
-    Expected {
-        prefix: &[T0],
-        masks: &[32, 32, 4, 8],
-    },
-    Expected {
-        prefix: &[T1],
-        masks: &[32, 32, 8, 4],
-    },
-    Expected {
-        prefix: &[T0, T4],
-        masks: &[12, 12],
-    },
-    Expected {
-        prefix: &[T1, T4],
-        masks: &[12, 12],
-    },
-    Expected {
-        prefix: &[T0, C],
-        masks: &[32],
-    },
-    Expected {
-        prefix: &[T1, C, T2],
-        masks: &[32],
-    },
-];
-
-#[test]
-fn lookaheads_of_kernels_that_merge_are_joined(rt: HostRuntime) -> Result<(), Fail> {
-    let grammar = merging(rt.alloc())?;
-    assert!(rt; agree(rt.alloc(), &grammar, &MERGING)?);
+fn lookaheads_are_those_of_merged_sets(rt: HostRuntime) -> Result<(), Fail> {
+    for case in &CASES {
+        assert!(rt; is_right(rt.alloc(), case)?);
+    }
     Ok(())
 }

@@ -1,15 +1,12 @@
 //! Lookaheads against the textbook's canonical LR(1) sets, which are found here plainly, over lists, and merged by kernel.
 
-ghost use Rattle.std.specs.Prelude.{All, IsTrue};
-ghost use Rattle.wb_base.specs.Grammar.{IsSymbolBelow};
 ghost use Rattle.wb_items.specs.Lookaheads.{AreLookaheadsOf};
 
+use crate::small::{A, B, C, Small, T0, T1, T2, grammar_of, kernels_of, lookaheads_of};
 use std::alloc::{AllocError, Global};
 use std::test::Fail;
 use wb_base::{Grammar, Symbol, push};
-use wb_grammar::analyse;
 use wb_items::{Item, Kernels, Lookaheads};
-use wb_lookahead::plain_lookaheads;
 
 // More than the sets, their items and the rounds of these grammars.
 const LIMIT: usize = 1000;
@@ -24,55 +21,66 @@ struct Set {
     items: Vec<Item1>,
 }
 
-const A: Symbol = Symbol::Nonterminal(0);
-
-const B: Symbol = Symbol::Nonterminal(1);
-
-const C: Symbol = Symbol::Nonterminal(2);
-
-const T0: Symbol = Symbol::Terminal(0);
-
-const T1: Symbol = Symbol::Terminal(1);
-
-const T2: Symbol = Symbol::Terminal(2);
+// The symbols of these grammars.
+static SYMBOLS: [Symbol; 6] = [A, B, C, T0, T1, T2];
 
 // Three nonterminals and three terminals; all but the last are in the textbooks.
-static GRAMMARS: [&[(usize, &[Symbol])]; 5] = [
+static GRAMMARS: [Small; 5] = [
     // A -> B t1 C, A -> C, B -> t0 C, B -> t2, C -> B
-    &[
-        (0, &[B, T1, C]),
-        (0, &[C]),
-        (1, &[T0, C]),
-        (1, &[T2]),
-        (2, &[B]),
-    ],
+    Small {
+        terminals: 3,
+        nonterminals: 3,
+        productions: &[
+            (0, &[B, T1, C]),
+            (0, &[C]),
+            (1, &[T0, C]),
+            (1, &[T2]),
+            (2, &[B]),
+        ],
+    },
     // A -> A t0 B, A -> B, B -> B t1 C, B -> C, C -> t2
-    &[
-        (0, &[A, T0, B]),
-        (0, &[B]),
-        (1, &[B, T1, C]),
-        (1, &[C]),
-        (2, &[T2]),
-    ],
+    Small {
+        terminals: 3,
+        nonterminals: 3,
+        productions: &[
+            (0, &[A, T0, B]),
+            (0, &[B]),
+            (1, &[B, T1, C]),
+            (1, &[C]),
+            (2, &[T2]),
+        ],
+    },
     // A -> B B, B -> t0 B, B -> t1, A -> C, C -> t2
-    &[
-        (0, &[B, B]),
-        (1, &[T0, B]),
-        (1, &[T1]),
-        (0, &[C]),
-        (2, &[T2]),
-    ],
+    Small {
+        terminals: 3,
+        nonterminals: 3,
+        productions: &[
+            (0, &[B, B]),
+            (1, &[T0, B]),
+            (1, &[T1]),
+            (0, &[C]),
+            (2, &[T2]),
+        ],
+    },
     // A -> B C t2, B -> t0, C -> , C -> t1
-    &[(0, &[B, C, T2]), (1, &[T0]), (2, &[]), (2, &[T1])],
+    Small {
+        terminals: 3,
+        nonterminals: 3,
+        productions: &[(0, &[B, C, T2]), (1, &[T0]), (2, &[]), (2, &[T1])],
+    },
     // A -> B t0, A -> C t1, A -> t2 B t1, A -> t2 C t0, B -> t2, C -> t2
-    &[
-        (0, &[B, T0]),
-        (0, &[C, T1]),
-        (0, &[T2, B, T1]),
-        (0, &[T2, C, T0]),
-        (1, &[T2]),
-        (2, &[T2]),
-    ],
+    Small {
+        terminals: 3,
+        nonterminals: 3,
+        productions: &[
+            (0, &[B, T0]),
+            (0, &[C, T1]),
+            (0, &[T2, B, T1]),
+            (0, &[T2, C, T0]),
+            (1, &[T2]),
+            (2, &[T2]),
+        ],
+    },
 ];
 
 // Adds to the pairs of nonterminals and terminals what a production begins with; the end stands for nothing.
@@ -121,15 +129,14 @@ fn add_firsts(
     Ok(())
 }
 
-// What each nonterminal begins with.
-fn firsts(alloc: Global, grammar: &Grammar) -> Result<Vec<(usize, usize)>, AllocError> {
-    let mut pairs = Vec::new(alloc);
+// Adds what each nonterminal begins with.
+fn add_all_firsts(grammar: &Grammar, pairs: &mut Vec<(usize, usize)>) -> Result<(), AllocError> {
     for _ in 0..LIMIT {
         for production in 0..grammar.productions() {
-            add_first(grammar, production, &mut pairs)?;
+            add_first(grammar, production, pairs)?;
         }
     }
-    Ok(pairs)
+    Ok(())
 }
 
 // The symbol after a dot.
@@ -221,22 +228,27 @@ fn close(
     Ok(())
 }
 
-// The set after a symbol, closed.
-fn after(
-    alloc: Global,
-    grammar: &Grammar,
-    pairs: &[(usize, usize)],
+// What sets are made from.
+#[derive(Clone, Copy)]
+struct Context<'a> {
+    grammar: &'a Grammar,
+    kernels: &'a Kernels,
+    pairs: &'a [(usize, usize)],
+}
+
+// Adds the items after a symbol, and closes them.
+fn move_over(
+    context: &Context,
     items: &[Item1],
     symbol: Symbol,
-) -> Result<Vec<Item1>, AllocError> {
-    let mut moved = Vec::new(alloc);
+    moved: &mut Vec<Item1>,
+) -> Result<(), AllocError> {
     for item in items {
-        if symbol_at(grammar, item.0, item.1) == Some(symbol) {
-            add_item(&mut moved, (item.0, item.1.wrapping_add(1), item.2))?;
+        if symbol_at(context.grammar, item.0, item.1) == Some(symbol) {
+            add_item(moved, (item.0, item.1.wrapping_add(1), item.2))?;
         }
     }
-    close(grammar, pairs, &mut moved)?;
-    Ok(moved)
+    close(context.grammar, context.pairs, moved)
 }
 
 // Whether a set is among others.
@@ -249,67 +261,50 @@ fn is_among(sets: &[Set], items: &[Item1]) -> bool {
     false
 }
 
+// Adds a set, unless it is there.
+fn add_set(sets: &mut Vec<Set>, kernel: usize, items: Vec<Item1>) -> Result<(), AllocError> {
+    if is_among(sets, &items) {
+        return Ok(());
+    }
+    push(sets, Set { kernel, items })
+}
+
 // Adds the set after a symbol, unless it is empty or there.
 fn add_after(
     alloc: Global,
-    grammar: &Grammar,
-    kernels: &Kernels,
-    pairs: &[(usize, usize)],
+    context: &Context,
     at: usize,
     symbol: Symbol,
     sets: &mut Vec<Set>,
 ) -> Result<(), AllocError> {
-    if at >= sets.len() || sets[at].kernel >= kernels.count() {
+    if at >= sets.len() || sets[at].kernel >= context.kernels.count() {
         return Ok(());
     }
-    let Some(kernel) = kernels.next(sets[at].kernel, symbol) else {
+    let Some(kernel) = context.kernels.next(sets[at].kernel, symbol) else {
         return Ok(());
     };
-    let items = after(alloc, grammar, pairs, sets[at].items.as_slice(), symbol)?;
-    if !is_among(sets.as_slice(), items.as_slice()) {
-        sets.push(Set { kernel, items })?;
-    }
-    Ok(())
+    let mut items = Vec::new(alloc);
+    move_over(context, sets[at].items.as_slice(), symbol, &mut items)?;
+    add_set(sets, kernel, items)
 }
 
-// All canonical sets.
-fn canonical(
-    alloc: Global,
-    grammar: &Grammar,
-    kernels: &Kernels,
-    pairs: &[(usize, usize)],
-) -> Result<Vec<Set>, AllocError> {
-    let mut sets = Vec::new(alloc);
-    let mut first = Vec::new(alloc);
-    push(&mut first, (grammar.productions(), 0, grammar.terminals()))?;
-    close(grammar, pairs, &mut first)?;
-    sets.push(Set {
-        kernel: 0,
-        items: first,
-    })?;
+// Adds the set of the empty prefix.
+fn add_start(alloc: Global, context: &Context, sets: &mut Vec<Set>) -> Result<(), AllocError> {
+    let grammar = context.grammar;
+    let mut items = vec![in alloc; (grammar.productions(), 0, grammar.terminals())]?;
+    close(grammar, context.pairs, &mut items)?;
+    add_set(sets, 0, items)
+}
+
+// Adds all canonical sets.
+fn add_sets(alloc: Global, context: &Context, sets: &mut Vec<Set>) -> Result<(), AllocError> {
+    add_start(alloc, context, sets)?;
     for at in 0..LIMIT {
-        for number in 0..3 {
-            add_after(
-                alloc,
-                grammar,
-                kernels,
-                pairs,
-                at,
-                Symbol::Terminal(number),
-                &mut sets,
-            )?;
-            add_after(
-                alloc,
-                grammar,
-                kernels,
-                pairs,
-                at,
-                Symbol::Nonterminal(number),
-                &mut sets,
-            )?;
+        for symbol in &SYMBOLS {
+            add_after(alloc, context, at, *symbol, sets)?;
         }
     }
-    Ok(sets)
+    Ok(())
 }
 
 // Whether some canonical set of the kernel has the item with the lookahead.
@@ -340,7 +335,31 @@ fn agrees(kernels: &Kernels, lookaheads: &Lookaheads, sets: &[Set], kernel: usiz
 }
 
 // Whether all do.
-fn all_agree(
+fn all_agree(kernels: &Kernels, lookaheads: &Lookaheads, sets: &[Set]) -> bool
+    requires { AreLookaheadsOf kernels.now lookaheads.now }
+{
+    for kernel in 0..kernels.count() {
+        if !agrees(kernels, lookaheads, sets, kernel) {
+            return false;
+        }
+    }
+    sets.len() > 4
+}
+
+// Whether the lookaheads are those of all canonical sets.
+fn are_of_sets(
+    alloc: Global,
+    context: &Context,
+    lookaheads: &Lookaheads,
+) -> Result<bool, AllocError>
+    requires { AreLookaheadsOf context.now.kernels.now lookaheads.now }
+{
+    let mut sets = Vec::new(alloc);
+    add_sets(alloc, context, &mut sets)?;
+    Ok(all_agree(context.kernels, lookaheads, &sets))
+}
+
+fn are_canonical(
     alloc: Global,
     grammar: &Grammar,
     kernels: &Kernels,
@@ -348,63 +367,34 @@ fn all_agree(
 ) -> Result<bool, AllocError>
     requires { AreLookaheadsOf kernels.now lookaheads.now }
 {
-    let pairs = firsts(alloc, grammar)?;
-    let sets = canonical(alloc, grammar, kernels, &pairs)?;
-    for kernel in 0..kernels.count() {
-        if !agrees(kernels, lookaheads, &sets, kernel) {
-            return Ok(false);
-        }
-    }
-    Ok(sets.len() > 4)
+    let mut pairs = Vec::new(alloc);
+    add_all_firsts(grammar, &mut pairs)?;
+    let context = Context {
+        grammar,
+        kernels,
+        pairs: &pairs,
+    };
+    are_of_sets(alloc, &context, lookaheads)
 }
 
 // Whether the lookaheads of the grammar are those of its canonical sets.
 fn is_canonical(alloc: Global, grammar: &Grammar) -> Result<bool, AllocError> {
-    let Ok(facts) = analyse(alloc, grammar) else {
-        return Ok(false);
-    };
-    let kernels = Kernels::build(alloc, grammar, &facts)?;
-    let lookaheads = plain_lookaheads(alloc, grammar, &facts, &kernels)?;
-    all_agree(alloc, grammar, &kernels, &lookaheads)
+    let kernels = kernels_of(alloc, grammar)?;
+    let lookaheads = lookaheads_of(alloc, grammar, &kernels)?;
+    are_canonical(alloc, grammar, &kernels, &lookaheads)
 }
 
-// Whether the symbols are below these counts.
-fn are_below(symbols: &[Symbol], terminals: usize, nonterminals: usize) -> bool
-    ensures { IsTrue result → All (IsSymbolBelow terminals nonterminals) symbols.now }
-{
-    symbols.iter().all(|symbol| match *symbol {
-        Symbol::Terminal(number) => number < terminals,
-        Symbol::Nonterminal(number) => number < nonterminals,
-    })
-}
-
-// Adds a production whose numbers are in range, and answers whether they are.
-fn add_checked(grammar: &mut Grammar, left: usize, right: &[Symbol]) -> Result<bool, AllocError> {
-    if left >= grammar.nonterminals() {
-        return Ok(false);
+fn is_right(alloc: Global, small: &Small) -> Result<bool, AllocError> {
+    match grammar_of(alloc, small)? {
+        Some(grammar) => is_canonical(alloc, &grammar),
+        None => Ok(false),
     }
-    if !are_below(right, grammar.terminals(), grammar.nonterminals()) {
-        return Ok(false);
-    }
-    grammar.add(left, right)?;
-    Ok(true)
-}
-
-// The same of these productions.
-fn are_canonical(alloc: Global, productions: &[(usize, &[Symbol])]) -> Result<bool, AllocError> {
-    let mut grammar = Grammar::new(alloc, 3, 3, 0);
-    for (left, right) in productions {
-        if !add_checked(&mut grammar, *left, right)? {
-            return Ok(false);
-        }
-    }
-    is_canonical(alloc, &grammar)
 }
 
 #[test]
 fn lookaheads_are_those_of_canonical_sets(rt: HostRuntime) -> Result<(), Fail> {
-    for productions in &GRAMMARS {
-        assert!(rt; are_canonical(rt.alloc(), productions)?);
+    for small in &GRAMMARS {
+        assert!(rt; is_right(rt.alloc(), small)?);
     }
     Ok(())
 }

@@ -3,35 +3,19 @@
 ghost use Rattle.std.specs.Prelude.{◌≡◌, IfOk};
 
 use crate::lookahead::is_mask;
+use crate::small::{A, B, C, Small, T0, T1, T2, grammar_of, kernels_of, lookaheads_of};
 use std::alloc::{AllocError, Global};
 use std::test::Fail;
 use wb_base::{Grammar, Symbol};
-use wb_grammar::analyse;
-use wb_items::Kernels;
-use wb_lookahead::{Action, TableRefusal, Tables, plain_lookaheads, tables};
-
-const A: Symbol = Symbol::Nonterminal(0);
-
-const B: Symbol = Symbol::Nonterminal(1);
-
-const C: Symbol = Symbol::Nonterminal(2);
-
-const T0: Symbol = Symbol::Terminal(0);
-
-const T1: Symbol = Symbol::Terminal(1);
-
-const T2: Symbol = Symbol::Terminal(2);
+use wb_lookahead::{Action, TableRefusal, Tables, tables};
 
 // The tables of a grammar that passes its analysis.
 fn tables_of(alloc: Global, grammar: &Grammar) -> Result<Tables, TableRefusal>
     ensures terminals { IfOk result (λ made. made.terminals ≡ grammar.now.terminals) }
     ensures nonterminals { IfOk result (λ made. made.nonterminals ≡ grammar.now.nonterminals) }
 {
-    let Ok(facts) = analyse(alloc, grammar) else {
-        return Err(TableRefusal::NoMemory(AllocError));
-    };
-    let kernels = Kernels::build(alloc, grammar, &facts)?;
-    let lookaheads = plain_lookaheads(alloc, grammar, &facts, &kernels)?;
+    let kernels = kernels_of(alloc, grammar)?;
+    let lookaheads = lookaheads_of(alloc, grammar, &kernels)?;
     tables(alloc, grammar, &kernels, &lookaheads)
 }
 
@@ -46,29 +30,59 @@ fn action(grammar: &Grammar, made: &Tables, state: usize, terminal: usize) -> Ac
     }
 }
 
-// The kernel after a nonterminal, where there is one.
-fn goto(grammar: &Grammar, made: &Tables, state: usize, nonterminal: usize) -> usize
-    requires { made.now.nonterminals ≡ grammar.now.nonterminals }
+// The kernel after a symbol, where there is one.
+fn next(grammar: &Grammar, made: &Tables, state: usize, symbol: Symbol) -> Option<usize>
+    requires terminals { made.now.terminals ≡ grammar.now.terminals }
+    requires nonterminals { made.now.nonterminals ≡ grammar.now.nonterminals }
 {
-    if state < made.count() && nonterminal < grammar.nonterminals() {
-        made.goto(state, nonterminal).unwrap_or(usize::MAX)
-    } else {
-        usize::MAX
+    match symbol {
+        Symbol::Terminal(terminal) => match action(grammar, made, state, terminal) {
+            Action::Shift(next) => Some(next),
+            _ => None,
+        },
+        Symbol::Nonterminal(nonterminal) => {
+            if state < made.count() && nonterminal < grammar.nonterminals() {
+                made.goto(state, nonterminal)
+            } else {
+                None
+            }
+        }
+    }
+}
+
+// The kernel after these symbols, where there is one.
+fn state_after(grammar: &Grammar, made: &Tables, prefix: &[Symbol]) -> Option<usize>
+    requires terminals { made.now.terminals ≡ grammar.now.terminals }
+    requires nonterminals { made.now.nonterminals ≡ grammar.now.nonterminals }
+{
+    let mut state = 0;
+    for symbol in prefix {
+        match next(grammar, made, state, *symbol) {
+            Some(next) => state = next,
+            None => return None,
+        }
+    }
+    Some(state)
+}
+
+// Whether an action is a shift.
+fn is_shift(action: Action) -> bool {
+    match action {
+        Action::Shift(_) => true,
+        _ => false,
     }
 }
 
 // A -> t0, A -> A t1 A
-fn sums(alloc: Global) -> Result<Grammar, AllocError> {
-    let mut grammar = Grammar::new(alloc, 2, 1, 0);
-    grammar.add(0, &[T0])?;
-    grammar.add(0, &[A, T1, A])?;
-    Ok(grammar)
-}
+static SUMS: Small = Small {
+    terminals: 2,
+    nonterminals: 1,
+    productions: &[(0, &[T0]), (0, &[A, T1, A])],
+};
 
 // Whether the grammar of sums has a conflict between a shift of t1 and the reduction by its second production.
-fn is_sum_refused(alloc: Global) -> Result<bool, AllocError> {
-    let grammar = sums(alloc)?;
-    match tables_of(alloc, &grammar) {
+fn is_sum_refused(alloc: Global, grammar: &Grammar) -> Result<bool, AllocError> {
+    match tables_of(alloc, grammar) {
         Ok(_) => Ok(false),
         Err(TableRefusal::NoMemory(error)) => Err(error),
         Err(
@@ -78,102 +92,115 @@ fn is_sum_refused(alloc: Global) -> Result<bool, AllocError> {
                 first,
                 second,
             },
-        ) => {
-            let is_shift = match first {
-                Action::Shift(_) => true,
-                _ => false,
-            };
-            Ok(terminal == 1 && is_shift && second == Action::Reduce(1))
-        }
+        ) => Ok(terminal == 1 && is_shift(first) && second == Action::Reduce(1)),
+    }
+}
+
+fn are_sums_refused(alloc: Global) -> Result<bool, AllocError> {
+    match grammar_of(alloc, &SUMS)? {
+        Some(grammar) => is_sum_refused(alloc, &grammar),
+        None => Ok(false),
     }
 }
 
 #[test]
 fn sums_without_precedence_have_a_conflict(rt: HostRuntime) -> Result<(), Fail> {
-    assert!(rt; is_sum_refused(rt.alloc())?);
+    assert!(rt; are_sums_refused(rt.alloc())?);
     Ok(())
 }
 
-// A -> B t1 C, A -> C, B -> t0 C, B -> t2, C -> B
-fn pointers(alloc: Global) -> Result<Grammar, AllocError> {
-    let mut grammar = Grammar::new(alloc, 3, 3, 0);
-    grammar.add(0, &[B, T1, C])?;
-    grammar.add(0, &[C])?;
-    grammar.add(1, &[T0, C])?;
-    grammar.add(1, &[T2])?;
-    grammar.add(2, &[B])?;
-    Ok(grammar)
+// The symbols that lead to a kernel, a terminal or the end, and the action there. Where a shift leads is left open.
+type Wanted = (&'static [Symbol], usize, Action);
+
+// A grammar, a mask of the terminals that are valid at first, and some actions.
+struct Case {
+    grammar: Small,
+    valid: u64,
+    actions: &'static [Wanted],
 }
 
-// The actions on t1 and on the end after B, and after t0 B.
-fn pointer_actions(grammar: &Grammar, made: &Tables) -> [Action; 4]
+static CASES: [Case; 2] = [
+    // B is reduced where its kernel says: A -> B t1 C, A -> C, B -> t0 C, B -> t2, C -> B
+    Case {
+        grammar: Small {
+            terminals: 3,
+            nonterminals: 3,
+            productions: &[
+                (0, &[B, T1, C]),
+                (0, &[C]),
+                (1, &[T0, C]),
+                (1, &[T2]),
+                (2, &[B]),
+            ],
+        },
+        valid: 5,
+        actions: &[
+            (&[B], 1, Action::Shift(0)),
+            (&[B], 3, Action::Reduce(4)),
+            (&[T0, B], 1, Action::Reduce(4)),
+            (&[T0, B], 3, Action::Reduce(4)),
+        ],
+    },
+    // A list begins with the empty list: A -> , A -> A t0
+    Case {
+        grammar: Small {
+            terminals: 1,
+            nonterminals: 1,
+            productions: &[(0, &[]), (0, &[A, T0])],
+        },
+        valid: 3,
+        actions: &[
+            (&[], 0, Action::Reduce(0)),
+            (&[], 1, Action::Reduce(0)),
+            (&[A], 1, Action::Accept),
+        ],
+    },
+];
+
+// Whether the tables have an action.
+fn has_action(grammar: &Grammar, made: &Tables, wanted: &Wanted) -> bool
     requires terminals { made.now.terminals ≡ grammar.now.terminals }
     requires nonterminals { made.now.nonterminals ≡ grammar.now.nonterminals }
 {
-    let first = goto(grammar, made, 0, 1);
-    let star = match action(grammar, made, 0, 0) {
-        Action::Shift(state) => state,
-        _ => usize::MAX,
+    let Some(state) = state_after(grammar, made, wanted.0) else {
+        return false;
     };
-    let second = goto(grammar, made, star, 1);
-    [
-        action(grammar, made, first, 1),
-        action(grammar, made, first, 3),
-        action(grammar, made, second, 1),
-        action(grammar, made, second, 3),
-    ]
+    let found = action(grammar, made, state, wanted.1);
+    found == wanted.2 || (is_shift(found) && is_shift(wanted.2))
 }
 
-// Whether t1 is shifted after B, and before it B is reduced after t0 B, and before the end after both.
-fn are_pointers_right(alloc: Global) -> Result<bool, AllocError> {
-    let grammar = pointers(alloc)?;
-    let Ok(made) = tables_of(alloc, &grammar) else {
-        return Ok(false);
-    };
-    let [on_first, end_first, on_second, end_second] = pointer_actions(&grammar, &made);
-    let is_shift = match on_first {
-        Action::Shift(_) => true,
-        _ => false,
-    };
-    let reduce = Action::Reduce(4);
-    Ok(is_shift && end_first == reduce && on_second == reduce && end_second == reduce)
-}
-
-#[test]
-fn a_pointer_is_reduced_where_its_kernel_says(rt: HostRuntime) -> Result<(), Fail> {
-    assert!(rt; are_pointers_right(rt.alloc())?);
-    Ok(())
-}
-
-// A -> , A -> A t0
-fn numbers(alloc: Global) -> Result<Grammar, AllocError> {
-    let mut grammar = Grammar::new(alloc, 1, 1, 0);
-    grammar.add(0, &[])?;
-    grammar.add(0, &[A, T0])?;
-    Ok(grammar)
-}
-
-// Whether a list begins with the empty list before t0 and the end alike, and is accepted before the end.
-fn are_numbers_right(alloc: Global) -> Result<bool, AllocError> {
-    let grammar = numbers(alloc)?;
-    let Ok(made) = tables_of(alloc, &grammar) else {
-        return Ok(false);
-    };
-    if made.count() == 0 || !is_mask(made.valid(0), 3) {
-        return Ok(false);
+// Whether the tables are as they are wanted.
+fn are_right(grammar: &Grammar, made: &Tables, case: &Case) -> bool
+    requires terminals { made.now.terminals ≡ grammar.now.terminals }
+    requires nonterminals { made.now.nonterminals ≡ grammar.now.nonterminals }
+{
+    for wanted in case.actions {
+        if !has_action(grammar, made, wanted) {
+            return false;
+        }
     }
-    let list = goto(&grammar, &made, 0, 0);
-    let reduce = Action::Reduce(0);
-    Ok(
-        action(&grammar, &made, 0, 0) == reduce
-            && action(&grammar, &made, 0, 1) == reduce
-            && action(&grammar, &made, list, 1) == Action::Accept,
-    )
+    made.count() > 0 && is_mask(made.valid(0), case.valid)
+}
+
+fn has_right_tables(alloc: Global, grammar: &Grammar, case: &Case) -> bool {
+    match tables_of(alloc, grammar) {
+        Ok(made) => are_right(grammar, &made, case),
+        Err(_) => false,
+    }
+}
+
+fn is_right(alloc: Global, case: &Case) -> Result<bool, AllocError> {
+    match grammar_of(alloc, &case.grammar)? {
+        Some(grammar) => Ok(has_right_tables(alloc, &grammar, case)),
+        None => Ok(false),
+    }
 }
 
 #[test]
-fn a_list_begins_with_the_empty_list(rt: HostRuntime) -> Result<(), Fail> {
-    assert!(rt; are_numbers_right(rt.alloc())?);
+fn actions_are_those_of_item_sets(rt: HostRuntime) -> Result<(), Fail> {
+    for case in &CASES {
+        assert!(rt; is_right(rt.alloc(), case)?);
+    }
     Ok(())
 }
 
@@ -190,22 +217,28 @@ fn wide(alloc: Global) -> Result<Grammar, AllocError> {
 }
 
 // Whether each terminal is shifted at first, and its production reduced before t69 alone, in sets of more than one word.
-fn is_wide(alloc: Global) -> Result<bool, AllocError> {
-    let grammar = wide(alloc)?;
-    let Ok(made) = tables_of(alloc, &grammar) else {
-        return Ok(false);
-    };
+fn are_wide(grammar: &Grammar, made: &Tables) -> bool
+    requires terminals { made.now.terminals ≡ grammar.now.terminals }
+{
     for number in 0..70 {
-        let Action::Shift(state) = action(&grammar, &made, 0, number) else {
-            return Ok(false);
+        let Action::Shift(state) = action(grammar, made, 0, number) else {
+            return false;
         };
-        let before = action(&grammar, &made, state, 68) == Action::None;
-        let there = action(&grammar, &made, state, 69) == Action::Reduce(number + 1);
-        if !before || !there || action(&grammar, &made, state, 70) != Action::None {
-            return Ok(false);
+        let before = action(grammar, made, state, 68) == Action::None;
+        let there = action(grammar, made, state, 69) == Action::Reduce(number + 1);
+        if !before || !there || action(grammar, made, state, 70) != Action::None {
+            return false;
         }
     }
-    Ok(action(&grammar, &made, 0, 70) == Action::None)
+    action(grammar, made, 0, 70) == Action::None
+}
+
+fn is_wide(alloc: Global) -> Result<bool, AllocError> {
+    let grammar = wide(alloc)?;
+    match tables_of(alloc, &grammar) {
+        Ok(made) => Ok(are_wide(&grammar, &made)),
+        Err(_) => Ok(false),
+    }
 }
 
 #[test]

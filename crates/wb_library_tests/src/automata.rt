@@ -98,123 +98,134 @@ fn matches_by_steps(automaton: &Automaton, set: usize, text: &[u8], terminal: us
         && automaton.accepted(state).contains(&terminal)
 }
 
-// The text with this number among those of a length over three bytes.
-fn text_of(alloc: Global, length: usize, number: usize) -> Result<Vec<u8>, AllocError> {
-    let mut text = Vec::new(alloc);
-    let mut rest = number;
-    for _ in 0..length {
-        let byte = match rest % 3 {
-            0 => b'a',
-            1 => b'b',
-            _ => b'c',
-        };
-        push(&mut text, byte)?;
-        rest /= 3;
-    }
-    Ok(text)
-}
-
-fn expressions(alloc: Global) -> Result<Vec<Regex>, RegexRefusal> {
-    let texts: [&[u8]; 20] = [
-        b"a",
-        b"ab",
-        b"a|b",
-        b"a+",
-        b"ab*",
-        b"a?b",
-        b"(ab)+",
-        b"(a|b)+c",
-        b"[ab]c",
-        b"[^a]",
-        b"a*b",
-        b"(a|ab)(c|bc)",
-        b"a+b+c+",
-        b"(a?b)+",
-        b"[a-c][a-c]",
-        b"(aa)+",
-        b"a(b|c)*a",
-        b"(ab|ba)+",
-        b"c(a|b)?c?",
-        b"(a|b|c)+abc|b",
-    ];
+// The expressions of the lines of a text.
+pub(crate) fn expressions(alloc: Global, lines: &str) -> Result<Vec<Regex>, RegexRefusal> {
     let mut all = Vec::new(alloc);
-    for text in texts {
-        push(&mut all, read_regex(alloc, text)?)?;
+    for line in lines.lines() {
+        push(&mut all, read_regex(alloc, line.as_bytes())?)?;
     }
     Ok(all)
 }
 
-// Adds a number, if it fits.
-fn add(set: &mut TermSet, number: usize) {
-    if number < set.count() {
-        set.insert(number);
-    }
-}
-
-// The set of those of twenty terminals whose numbers a number divides.
-fn every(alloc: Global, step: usize) -> Result<TermSet, AllocError> {
-    let mut set = TermSet::new(alloc, 20)?;
-    for number in 0..20usize {
-        if step != 0 && number % step == 0 {
-            add(&mut set, number);
+// The set of those of the numbers that are below the count.
+fn set_of(alloc: Global, count: usize, numbers: &[usize]) -> Result<TermSet, AllocError> {
+    let mut set = TermSet::new(alloc, count)?;
+    for number in numbers {
+        if *number < set.count() {
+            set.insert(*number);
         }
     }
     Ok(set)
 }
 
-// The automaton of twenty expressions, of which the one set has all and the other each second.
-fn automaton_of_twenty(alloc: Global) -> Result<Automaton, RegexRefusal> {
-    let all = expressions(alloc)?;
+// A set for each list of numbers.
+pub(crate) fn sets_of(
+    alloc: Global,
+    count: usize,
+    lists: &[&[usize]],
+) -> Result<Vec<TermSet>, AllocError> {
     let mut sets = Vec::new(alloc);
-    push(&mut sets, every(alloc, 1)?)?;
-    push(&mut sets, every(alloc, 2)?)?;
-    Ok(Automaton::build(alloc, &all, &sets)?)
+    for numbers in lists {
+        push(&mut sets, set_of(alloc, count, *numbers)?)?;
+    }
+    Ok(sets)
 }
 
-// How often steps and plain matching agree on the texts of a length, over all expressions and both sets.
-fn agreements(
-    alloc: Global,
-    automaton: &Automaton,
-    length: usize,
-    count: usize,
-) -> Result<u32, AllocError> {
-    let mut agreed = 0u32;
-    for number in 0..count {
-        let text = text_of(alloc, length, number)?;
-        for (terminal, regex) in automaton.terminals().iter().enumerate() {
-            let wanted = matches_plainly(alloc, regex, &text)?;
-            let second = wanted && terminal % 2 == 0;
-            if matches_by_steps(automaton, 0, &text, terminal) == wanted
-                && matches_by_steps(automaton, 1, &text, terminal) == second
-            {
-                agreed = agreed.wrapping_add(1);
+fn build(alloc: Global, terminals: &[Regex], lists: &[&[usize]]) -> Result<Automaton, AllocError> {
+    let sets = sets_of(alloc, terminals.len(), lists)?;
+    Automaton::build(alloc, terminals, &sets)
+}
+
+// The automaton of the expressions of lines, with a set for each list of numbers.
+fn automaton_of(alloc: Global, lines: &str, lists: &[&[usize]]) -> Result<Automaton, RegexRefusal> {
+    let terminals = expressions(alloc, lines)?;
+    Ok(build(alloc, &terminals, lists)?)
+}
+
+const TWENTY: &str = "a
+ab
+a|b
+a+
+ab*
+a?b
+(ab)+
+(a|b)+c
+[ab]c
+[^a]
+a*b
+(a|ab)(c|bc)
+a+b+c+
+(a?b)+
+[a-c][a-c]
+(aa)+
+a(b|c)*a
+(ab|ba)+
+c(a|b)?c?
+(a|b|c)+abc|b";
+
+// One set has all twenty, and the other each second.
+static ALL_AND_HALF: [&[usize]; 2] = [
+    &[
+        0, 1, 2, 3, 4, 5, 6, 7, 8, 9, 10, 11, 12, 13, 14, 15, 16, 17, 18, 19,
+    ],
+    &[0, 2, 4, 6, 8, 10, 12, 14, 16, 18],
+];
+
+// The letter with a number, of three.
+fn letter(number: usize) -> u8 {
+    match number % 3 {
+        0 => b'a',
+        1 => b'b',
+        _ => b'c',
+    }
+}
+
+// Whether steps and plain matching agree on a text, over all expressions and both sets.
+fn agree_on(alloc: Global, automaton: &Automaton, text: &[u8]) -> Result<bool, AllocError> {
+    for (terminal, regex) in automaton.terminals().iter().enumerate() {
+        let wanted = matches_plainly(alloc, regex, text)?;
+        let second = wanted && terminal % 2 == 0;
+        if matches_by_steps(automaton, 0, text, terminal) != wanted
+            || matches_by_steps(automaton, 1, text, terminal) != second
+        {
+            return Ok(false);
+        }
+    }
+    Ok(true)
+}
+
+// Whether they agree on all texts of three letters that are no longer than the longest.
+fn agree(alloc: Global, automaton: &Automaton) -> Result<bool, AllocError> {
+    for number in 0..81usize {
+        let text = [
+            letter(number),
+            letter(number / 3),
+            letter(number / 9),
+            letter(number / 27),
+        ];
+        for length in 0..=LONGEST {
+            if !agree_on(alloc, automaton, &text[..length])? {
+                return Ok(false);
             }
         }
     }
-    Ok(agreed)
+    Ok(automaton.terminals().len() == 20)
+}
+
+fn do_twenty_agree(alloc: Global) -> Result<bool, RegexRefusal> {
+    let automaton = automaton_of(alloc, TWENTY, &ALL_AND_HALF)?;
+    Ok(agree(alloc, &automaton)?)
 }
 
 #[test]
 fn the_automaton_agrees_with_a_plain_matcher(rt: HostRuntime) -> Result<(), RegexRefusal> {
-    let automaton = automaton_of_twenty(rt.alloc())?;
-    assert_eq!(rt; agreements(rt.alloc(), &automaton, 0, 1)?, 20);
-    assert_eq!(rt; agreements(rt.alloc(), &automaton, 1, 3)?, 60);
-    assert_eq!(rt; agreements(rt.alloc(), &automaton, 2, 9)?, 180);
-    assert_eq!(rt; agreements(rt.alloc(), &automaton, 3, 27)?, 540);
-    assert_eq!(rt; agreements(rt.alloc(), &automaton, 4, 81)?, 1620);
+    assert!(rt; do_twenty_agree(rt.alloc())?);
     Ok(())
 }
 
 // Terminals that take any text but a blank and a letter, a different one each, after a name, a keyword and blanks.
 fn raw_terminals(alloc: Global) -> Result<Vec<Regex>, RegexRefusal> {
-    let mut all = Vec::new(alloc);
-    for text in [
-        b"[a-z]+".as_slice(),
-        b"if".as_slice(),
-        b"[ \\n]+".as_slice(),
-    ] {
-        push(&mut all, read_regex(alloc, text)?)?;
-    }
+    let mut all = expressions(alloc, "[a-z]+\nif\n[ \\n]+")?;
     for letter in b'a'..b'y' {
         let text = [b'[', b'^', b' ', letter, b']', b'+'];
         push(&mut all, read_regex(alloc, &text)?)?;
@@ -226,41 +237,27 @@ fn raw_terminals(alloc: Global) -> Result<Vec<Regex>, RegexRefusal> {
 fn sets_of_one(alloc: Global) -> Result<Vec<TermSet>, AllocError> {
     let mut sets = Vec::new(alloc);
     for raw in 3..27usize {
-        let mut set = TermSet::new(alloc, 27)?;
-        for number in [0, 1, 2, raw] {
-            add(&mut set, number);
-        }
-        push(&mut sets, set)?;
+        push(&mut sets, set_of(alloc, 27, &[0, 1, 2, raw])?)?;
     }
     Ok(sets)
 }
 
-// How many states terminals have that are in no common set.
-fn raw_states(alloc: Global) -> Result<usize, RegexRefusal> {
-    let terminals = raw_terminals(alloc)?;
+// Whether there are fewer states than a product of those terminals would have.
+fn are_few_states(alloc: Global, terminals: &[Regex]) -> Result<bool, AllocError> {
     let sets = sets_of_one(alloc)?;
-    Ok(Automaton::build(alloc, &terminals, &sets)?.states())
+    let states = Automaton::build(alloc, terminals, &sets)?.states();
+    Ok(24 < states && states < 400)
+}
+
+fn has_few_states(alloc: Global) -> Result<bool, RegexRefusal> {
+    let terminals = raw_terminals(alloc)?;
+    Ok(are_few_states(alloc, &terminals)?)
 }
 
 #[test]
 fn terminals_of_no_common_set_do_not_multiply(rt: HostRuntime) -> Result<(), RegexRefusal> {
-    let states = raw_states(rt.alloc())?;
-    assert!(rt; 24 < states && states < 400, "{states}");
+    assert!(rt; has_few_states(rt.alloc())?);
     Ok(())
-}
-
-// The automaton of `ab` and `c`, each in a set of its own.
-fn automaton_of_two(alloc: Global) -> Result<Automaton, RegexRefusal> {
-    let mut all = Vec::new(alloc);
-    push(&mut all, read_regex(alloc, b"ab")?)?;
-    push(&mut all, read_regex(alloc, b"c")?)?;
-    let mut sets = Vec::new(alloc);
-    for number in 0..2usize {
-        let mut set = TermSet::new(alloc, 2)?;
-        add(&mut set, number);
-        push(&mut sets, set)?;
-    }
-    Ok(Automaton::build(alloc, &all, &sets)?)
 }
 
 // Whether a state was found from the start of this set by this text.
@@ -271,62 +268,105 @@ fn is_found_by(
     set: usize,
     text: &[u8],
 ) -> Result<bool, AllocError> {
-    if state >= automaton.states() {
+    if state >= automaton.states() || automaton.set(state) != set {
         return Ok(false);
     }
-    let found = automaton.text(alloc, state)?;
-    Ok(automaton.set(state) == set && found.as_slice() == text)
+    Ok(automaton.text(alloc, state)?.as_slice() == text)
+}
+
+// Whether the automaton of `ab` and `c`, each in a set of its own, has its states in order.
+fn are_in_order(alloc: Global) -> Result<bool, RegexRefusal> {
+    let automaton = automaton_of(alloc, "ab\nc", &[&[0], &[1]])?;
+    Ok(are_found(alloc, &automaton)?)
+}
+
+fn are_found(alloc: Global, automaton: &Automaton) -> Result<bool, AllocError> {
+    Ok(
+        automaton.states() == 5
+            && is_found_by(alloc, automaton, 0, 0, b"")?
+            && is_found_by(alloc, automaton, 2, 0, b"ab")?
+            && is_found_by(alloc, automaton, 3, 1, b"")?
+            && is_found_by(alloc, automaton, 4, 1, b"c")?,
+    )
 }
 
 #[test]
 fn states_are_numbered_by_sets_and_texts(rt: HostRuntime) -> Result<(), RegexRefusal> {
-    let automaton = automaton_of_two(rt.alloc())?;
-    assert_eq!(rt; automaton.states(), 5);
-    assert!(rt; is_found_by(rt.alloc(), &automaton, 0, 0, b"")?);
-    assert!(rt; is_found_by(rt.alloc(), &automaton, 2, 0, b"ab")?);
-    assert!(rt; is_found_by(rt.alloc(), &automaton, 3, 1, b"")?);
-    assert!(rt; is_found_by(rt.alloc(), &automaton, 4, 1, b"c")?);
+    assert!(rt; are_in_order(rt.alloc())?);
     Ok(())
 }
 
-// The automaton of one expression, whose marks are nested.
-fn nested(alloc: Global) -> Result<Automaton, RegexRefusal> {
-    let mut all = Vec::new(alloc);
-    push(&mut all, read_regex(alloc, b"((((a|b*)*)+)?(a|(b+)*)*)*c")?)?;
-    let mut set = TermSet::new(alloc, 1)?;
-    add(&mut set, 0);
-    let mut sets = Vec::new(alloc);
-    push(&mut sets, set)?;
-    Ok(Automaton::build(alloc, &all, &sets)?)
+static NESTED: [(&str, bool); 8] = [
+    ("c", true),
+    ("ac", true),
+    ("bac", true),
+    ("abbabc", true),
+    ("", false),
+    ("ab", false),
+    ("cc", false),
+    ("aca", false),
+];
+
+// Whether exactly those of the texts match that are said to.
+fn are_matched(automaton: &Automaton, rows: &[(&str, bool)]) -> bool {
+    for (text, wanted) in rows {
+        if matches_by_steps(automaton, 0, text.as_bytes(), 0) != *wanted {
+            return false;
+        }
+    }
+    true
+}
+
+// Whether an expression whose marks are nested matches what it is to.
+fn does_nested_match(alloc: Global) -> Result<bool, RegexRefusal> {
+    let automaton = automaton_of(alloc, "((((a|b*)*)+)?(a|(b+)*)*)*c", &[&[0]])?;
+    Ok(are_matched(&automaton, &NESTED))
 }
 
 #[test]
 fn nested_marks_match_what_one_does(rt: HostRuntime) -> Result<(), RegexRefusal> {
-    let automaton = nested(rt.alloc())?;
-    for text in [b"c".as_slice(), b"ac", b"bac", b"abbabc"] {
-        assert!(rt; matches_by_steps(&automaton, 0, text, 0), "{text:?}");
-    }
-    for text in [b"".as_slice(), b"ab", b"cc", b"aca"] {
-        assert!(rt; !matches_by_steps(&automaton, 0, text, 0), "{text:?}");
-    }
+    assert!(rt; does_nested_match(rt.alloc())?);
     Ok(())
 }
 
-// Whether the two texts overlap in the third, or in none where that is empty.
-fn overlaps(alloc: Global, left: &[u8], right: &[u8], text: &[u8]) -> Result<bool, RegexRefusal> {
-    let one = read_regex(alloc, left)?;
+// Whether an expression and a text's overlap in the last text, or in none where that is empty.
+fn overlaps_with(
+    alloc: Global,
+    one: &Regex,
+    right: &[u8],
+    text: &[u8],
+) -> Result<bool, RegexRefusal> {
     let other = read_regex(alloc, right)?;
-    match overlap(alloc, &one, &other)? {
+    match overlap(alloc, one, &other)? {
         Overlap::Both(shared) => Ok(shared.as_slice() == text),
         Overlap::Disjoint => Ok(text.is_empty()),
     }
 }
 
+// Whether the two texts overlap in the third, or in none where that is empty.
+fn overlaps(alloc: Global, left: &[u8], right: &[u8], text: &[u8]) -> Result<bool, RegexRefusal> {
+    let one = read_regex(alloc, left)?;
+    overlaps_with(alloc, &one, right, text)
+}
+
+static OVERLAPS: [(&str, &str, &str); 3] = [
+    ("if", "[a-z]+", "if"),
+    ("[0-9]+", "[a-z]+", ""),
+    ("a+b|c+", "[a-d]+b|cc", "ab"),
+];
+
 #[test]
 fn a_keyword_overlaps_with_names_and_numbers_do_not(rt: HostRuntime) -> Result<(), RegexRefusal> {
-    assert!(rt; overlaps(rt.alloc(), b"if", b"[a-z]+", b"if")?);
-    assert!(rt; overlaps(rt.alloc(), b"[0-9]+", b"[a-z]+", b"")?);
-    assert!(rt; overlaps(rt.alloc(), b"a+b|c+", b"[a-d]+b|cc", b"ab")?);
+    for (left, right, text) in &OVERLAPS {
+        assert!(rt;
+            overlaps(
+                rt.alloc(),
+                left.as_bytes(),
+                right.as_bytes(),
+                text.as_bytes()
+            )?
+        );
+    }
     Ok(())
 }
 
@@ -348,7 +388,6 @@ fn is_least(alloc: Global, text: &[u8], wanted: &[u8]) -> Result<bool, RegexRefu
 
 #[test]
 fn the_least_text_is_the_shortest_and_then_the_first(rt: HostRuntime) -> Result<(), RegexRefusal> {
-    assert!(rt; is_least(rt.alloc(), b"[ \\n]+", b"\n")?);
-    assert!(rt; is_least(rt.alloc(), b"aa|b", b"b")?);
+    assert!(rt; is_least(rt.alloc(), b"[ \\n]+", b"\n")? && is_least(rt.alloc(), b"aa|b", b"b")?);
     Ok(())
 }

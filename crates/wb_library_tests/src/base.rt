@@ -7,54 +7,81 @@ use std::test::Fail;
 use wb_base::decimal::{digit_count, hex_value, magnitude, with_sign};
 use wb_base::{Added, Bytes, FILE_LIMIT, Grammar, Names, Sequence, Symbol, push};
 
-// Whether a text has these bytes, made from a slice or from a vector, and its copy too.
+// Whether a text has these bytes, and its copy too.
+fn has_bytes(made: &Bytes, text: &[u8]) -> Result<bool, AllocError> {
+    Ok(made.as_slice() == text && made.copy()?.as_slice() == text)
+}
+
+// Whether a text that is made from a slice has the slice's bytes.
 fn is_kept(alloc: Global, text: &[u8]) -> Result<bool, AllocError> {
-    let made = Bytes::from_slice(alloc, text)?.copy()?;
-    let moved = Bytes::from_vec(Vec::from_slice(alloc, text)?)?;
-    Ok(made.as_slice() == text && moved.as_slice() == text)
+    let made = Bytes::from_slice(alloc, text)?;
+    has_bytes(&made, text)
+}
+
+// Whether a text that is made from a vector has the vector's bytes.
+fn is_moved(alloc: Global, text: &[u8]) -> Result<bool, AllocError> {
+    let made = Bytes::from_vec(Vec::from_slice(alloc, text)?)?;
+    has_bytes(&made, text)
 }
 
 #[test]
 fn bytes_are_those_put_in(rt: HostRuntime) -> Result<(), Fail> {
     let text = b"an identifier of many more bytes";
     for length in [0, 1, 16, 21, 22, 23, 24, 32] {
-        assert!(rt; is_kept(rt.alloc(), &text[..length])?);
+        assert!(rt;
+            is_kept(rt.alloc(), &text[..length])? && is_moved(rt.alloc(), &text[..length])?
+        );
     }
     assert!(rt; Bytes::empty().as_slice().is_empty());
     Ok(())
 }
 
 // Whether names are numbered in the order in which they came, each once.
-fn is_numbered(names: &mut Names) -> Result<bool, AllocError> {
+fn are_numbered(names: &mut Names) -> Result<bool, AllocError> {
     let first = names.add(b"E")? == Added::New(0) && names.add(b"T")? == Added::New(1);
     let again = names.add(b"E")? == Added::Present(0);
     let found = names.find(b"T") == Some(1) && names.find(b"F") == None;
     Ok(first && again && found && names.len() == 2)
 }
 
+fn is_numbering(alloc: Global) -> Result<bool, AllocError> {
+    let mut names = Names::new(alloc);
+    are_numbered(&mut names)
+}
+
 #[test]
 fn names_are_numbered_in_order(rt: HostRuntime) -> Result<(), Fail> {
-    let mut names = Names::new(rt.alloc());
-    assert!(rt; is_numbered(&mut names)?);
+    assert!(rt; is_numbering(rt.alloc())?);
     Ok(())
 }
 
+static RECURSIVE: [Symbol; 2] = [Symbol::Nonterminal(0), Symbol::Terminal(0)];
+
+// Whether a grammar has one terminal, one nonterminal, and an empty and a recursive production.
+fn is_recursive(grammar: &Grammar) -> Result<bool, AllocError> {
+    let counts = grammar.terminals() == 1 && grammar.nonterminals() == 1 && grammar.start() == 0;
+    let parts = grammar.productions() == 2
+        && grammar.left(1) == 0
+        && grammar.right(0).is_empty()
+        && grammar.right(1) == RECURSIVE.as_slice();
+    Ok(counts && parts && grammar.lookahead_count()? == 2)
+}
+
+fn is_copy_recursive(grammar: &Grammar) -> Result<bool, AllocError> {
+    is_recursive(&grammar.copy()?)
+}
+
 // Whether a grammar of two productions is as it was made, and so is its copy.
-fn is_recursive(alloc: Global) -> Result<bool, AllocError> {
+fn is_made(alloc: Global) -> Result<bool, AllocError> {
     let mut grammar = Grammar::new(alloc, 1, 1, 0);
-    let recursive = [Symbol::Nonterminal(0), Symbol::Terminal(0)];
     grammar.add(0, &[])?;
-    grammar.add(0, &recursive)?;
-    let copy = grammar.copy()?;
-    let counts = copy.terminals() == 1 && copy.nonterminals() == 1 && copy.start() == 0;
-    let parts = copy.productions() == 2 && copy.left(1) == 0 && copy.right(0).is_empty();
-    let last = copy.right(1) == recursive.as_slice();
-    Ok(counts && parts && last && copy.lookahead_count()? == 2)
+    grammar.add(0, &[Symbol::Nonterminal(0), Symbol::Terminal(0)])?;
+    Ok(is_recursive(&grammar)? && is_copy_recursive(&grammar)?)
 }
 
 #[test]
 fn a_grammar_holds_its_productions(rt: HostRuntime) -> Result<(), Fail> {
-    assert!(rt; is_recursive(rt.alloc())?);
+    assert!(rt; is_made(rt.alloc())?);
     Ok(())
 }
 
@@ -74,26 +101,31 @@ fn a_sequence_gives_back_its_values(rt: HostRuntime) -> Result<(), Fail> {
 }
 
 #[test]
-fn terminals_come_before_nonterminals(rt: HostRuntime) -> Result<(), Fail> {
+fn terminals_come_before_nonterminals(rt: HostRuntime) {
     assert!(rt; Symbol::Terminal(1) < Symbol::Nonterminal(0));
     assert!(rt; Symbol::Nonterminal(0) < Symbol::Nonterminal(1));
-    Ok(())
+}
+
+// Whether digits write their number, up to the largest of 64 bits.
+fn are_magnitudes() -> bool {
+    digit_count(b"042a1") == 3
+        && magnitude(b"18446744073709551615") == Some(u64::MAX)
+        && magnitude(b"18446744073709551616") == None
+}
+
+// Whether a number has its sign, where it is inside 64 bits then.
+fn are_signed() -> bool {
+    with_sign(true, 1 << 63) == Some(i64::MIN)
+        && with_sign(false, 1 << 63) == None
+        && with_sign(true, 0) == Some(0)
 }
 
 #[test]
-fn digits_write_numbers(rt: HostRuntime) -> Result<(), Fail> {
-    assert_eq!(rt; digit_count(b"042a1"), 3);
-    assert_eq!(rt; magnitude(b"18446744073709551615"), Some(u64::MAX));
-    assert_eq!(rt; magnitude(b"18446744073709551616"), None);
-    assert_eq!(rt; with_sign(true, 1 << 63), Some(i64::MIN));
-    assert_eq!(rt;
-        (with_sign(false, 1 << 63), with_sign(true, 0)),
-        (None, Some(0))
+fn digits_write_numbers(rt: HostRuntime) {
+    assert!(rt; are_magnitudes());
+    assert!(rt; are_signed());
+    assert!(rt;
+        hex_value(b'F') == Some(15) && hex_value(b'a') == Some(10) && hex_value(b'g') == None
     );
-    assert_eq!(rt;
-        (hex_value(b'F'), hex_value(b'a'), hex_value(b'g')),
-        (Some(15), Some(10), None)
-    );
-    assert_eq!(rt; FILE_LIMIT, 1_048_576);
-    Ok(())
+    assert!(rt; FILE_LIMIT == 1_048_576);
 }

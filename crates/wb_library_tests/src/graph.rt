@@ -1,5 +1,5 @@
 //! Topological orders, cycles, what is reached, and strongly connected components.
-ghost use Rattle.std.specs.Prelude.{All};
+ghost use Rattle.std.specs.Prelude.{All, length};
 ghost use Rattle.wb_graph.specs.Graphs.{IsEdgeBelow};
 
 use std::alloc::{AllocError, Global};
@@ -22,47 +22,60 @@ fn has_cycle(
     }
 }
 
-// The numbers of the components, one for each vertex.
-fn numbers_of(
+// Whether the graph has no cycle, and its vertices this order.
+fn has_order(
     alloc: Global,
     count: usize,
     edges: &[(usize, usize)],
-) -> Result<Vec<usize>, AllocError>
+    order: &[usize],
+) -> Result<bool, AllocError>
     requires { All (IsEdgeBelow count) edges.now }
 {
-    let components = strong_components(alloc, count, edges)?;
-    let mut numbers = Vec::new(alloc);
-    for vertex in 0..count {
-        numbers.push(components.of(vertex))?;
+    match order_of(alloc, count, edges)? {
+        Order::Sorted(list) => Ok(list.as_slice() == order),
+        Order::Cycle(_) => Ok(false),
     }
-    Ok(numbers)
 }
 
-// The numbers of the vertices that stand for the components, in the order of the components.
-fn numbers_of_roots(
+// Whether these are the numbers of the vertices' components.
+fn has_numbers(
+    alloc: Global,
+    edges: &[(usize, usize)],
+    numbers: &[usize],
+) -> Result<bool, AllocError>
+    requires { All (IsEdgeBelow (length numbers.now)) edges.now }
+{
+    let components = strong_components(alloc, numbers.len(), edges)?;
+    for (vertex, number) in numbers.iter().enumerate() {
+        if components.of(vertex) != *number {
+            return Ok(false);
+        }
+    }
+    Ok(true)
+}
+
+// Whether there are so many components, each with a vertex that has its number.
+fn has_roots(
     alloc: Global,
     count: usize,
     edges: &[(usize, usize)],
-) -> Result<Vec<usize>, AllocError>
+    len: usize,
+) -> Result<bool, AllocError>
     requires { All (IsEdgeBelow count) edges.now }
 {
     let components = strong_components(alloc, count, edges)?;
-    let mut numbers = Vec::new(alloc);
     for component in 0..components.len() {
         let vertex = components.root(component);
-        if vertex < count {
-            numbers.push(components.of(vertex))?;
+        if vertex >= count || components.of(vertex) != component {
+            return Ok(false);
         }
     }
-    Ok(numbers)
+    Ok(components.len() == len)
 }
 
 #[test]
 fn vertices_come_after_the_ends_of_their_edges(rt: HostRuntime) -> Result<(), Fail> {
-    match order_of(rt.alloc(), 2, &[(0, 1)])? {
-        Order::Sorted(list) => assert_eq!(rt; list.as_slice(), [1, 0].as_slice()),
-        Order::Cycle(_) => assert!(rt; false, "it has no cycle"),
-    }
+    assert!(rt; has_order(rt.alloc(), 2, &[(0, 1)], &[1, 0])?);
     Ok(())
 }
 
@@ -73,40 +86,40 @@ fn a_cycle_is_shown_without_what_leads_to_it(rt: HostRuntime) -> Result<(), Fail
     Ok(())
 }
 
+// Whether a walk from 0 over the edge to 1 reaches these, and not 2.
+fn reaches_the_first_two(alloc: Global) -> Result<bool, AllocError> {
+    let reached = reachable_from(alloc, 3, &[(0, 1)], &[0])?;
+    Ok(reached.as_slice() == [true, true, false].as_slice())
+}
+
 #[test]
 fn a_walk_reaches_its_start_and_its_end(rt: HostRuntime) -> Result<(), Fail> {
-    let reached = reachable_from(rt.alloc(), 3, &[(0, 1)], &[0])?;
-    assert_eq!(rt; reached.as_slice(), [true, true, false].as_slice());
+    assert!(rt; reaches_the_first_two(rt.alloc())?);
     Ok(())
 }
 
 #[test]
 fn components_are_numbered_so_that_edges_fall(rt: HostRuntime) -> Result<(), Fail> {
-    let cycles = numbers_of(
-        rt.alloc(),
-        5,
-        &[(0, 1), (1, 2), (2, 0), (2, 3), (3, 4), (4, 3)],
-    )?;
-    assert_eq!(rt; cycles.as_slice(), [1, 1, 1, 0, 0].as_slice());
+    let edges = [(0, 1), (1, 2), (2, 0), (2, 3), (3, 4), (4, 3)];
+    assert!(rt; has_numbers(rt.alloc(), &edges, &[1, 1, 1, 0, 0])?);
     Ok(())
 }
 
 #[test]
 fn each_component_has_a_vertex_of_its_number(rt: HostRuntime) -> Result<(), Fail> {
-    let numbers = numbers_of_roots(rt.alloc(), 3, &[(0, 1), (1, 0), (1, 2)])?;
-    assert_eq!(rt; numbers.as_slice(), [0, 1].as_slice());
+    assert!(rt; has_roots(rt.alloc(), 3, &[(0, 1), (1, 0), (1, 2)], 2)?);
     Ok(())
 }
 
 #[test]
 fn no_vertices_have_no_component(rt: HostRuntime) -> Result<(), Fail> {
-    assert!(rt; strong_components(rt.alloc(), 0, &[])?.is_empty());
+    assert!(rt; has_roots(rt.alloc(), 0, &[], 0)?);
     Ok(())
 }
 
 #[test]
 fn one_edge_back_makes_one_component(rt: HostRuntime) -> Result<(), Fail> {
-    let one = numbers_of(rt.alloc(), 4, &[(0, 1), (1, 2), (2, 3), (3, 1), (3, 0)])?;
-    assert_eq!(rt; one.as_slice(), [0, 0, 0, 0].as_slice());
+    let edges = [(0, 1), (1, 2), (2, 3), (3, 1), (3, 0)];
+    assert!(rt; has_numbers(rt.alloc(), &edges, &[0, 0, 0, 0])?);
     Ok(())
 }

@@ -3,12 +3,11 @@
 ghost use Rattle.std.specs.Prelude.{All};
 ghost use Rattle.wb_graph.specs.Graphs.{IsEdgeBelow};
 
+use crate::automata::{expressions, sets_of};
 use std::alloc::{AllocError, Global};
 use std::test::Fail;
-use wb_base::push;
-use wb_lexical::{find_clash, preference_cycle, prefers};
-use wb_regex::{Regex, RegexRefusal, read_regex};
-use wb_termset::TermSet;
+use wb_lexical::{Clash, find_clash, preference_cycle, prefers};
+use wb_regex::{Regex, RegexRefusal};
 
 // Whether a cycle of preferences among three terminals is shown that goes round all of them.
 fn is_round(alloc: Global, preferences: &[(usize, usize)]) -> Result<bool, AllocError>
@@ -32,53 +31,30 @@ fn preferences_in_a_round_are_a_cycle(rt: HostRuntime) -> Result<(), Fail> {
     Ok(())
 }
 
-fn expressions(alloc: Global) -> Result<Vec<Regex>, RegexRefusal> {
-    let mut terminals = Vec::new(alloc);
-    for text in [
-        b"[a-z]+".as_slice(),
-        b"[0-9]+".as_slice(),
-        b"if|of".as_slice(),
-    ] {
-        push(&mut terminals, read_regex(alloc, text)?)?;
-    }
-    Ok(terminals)
+// Whether a clash is that of names and keywords, in the second set, by the least text that they share.
+fn is_of_keywords(clash: &Clash) -> bool {
+    clash.set == 1
+        && clash.left == 0
+        && clash.right == 2
+        && clash.text.as_slice() == b"if".as_slice()
 }
 
-// Adds a number, if it fits.
-fn add(set: &mut TermSet, number: usize) {
-    if number < set.count() {
-        set.insert(number);
-    }
-}
-
-// Two sets: names and numbers; and all three.
-fn sets_of_two(alloc: Global) -> Result<Vec<TermSet>, AllocError> {
-    let mut sets = Vec::new(alloc);
-    for count in [2, 3] {
-        let mut set = TermSet::new(alloc, 3)?;
-        for number in 0..3usize {
-            if number < count {
-                add(&mut set, number);
-            }
-        }
-        push(&mut sets, set)?;
-    }
-    Ok(sets)
-}
-
-// Whether names and keywords are shown to clash, in the second set, by the least text that they share.
-fn is_shown(alloc: Global, preferences: &[(usize, usize)]) -> Result<bool, RegexRefusal> {
-    let terminals = expressions(alloc)?;
-    let sets = sets_of_two(alloc)?;
-    match find_clash(alloc, &terminals, &sets, preferences)? {
+// Whether that clash is shown of two sets: names and numbers; and all three.
+fn is_found(
+    alloc: Global,
+    terminals: &[Regex],
+    preferences: &[(usize, usize)],
+) -> Result<bool, AllocError> {
+    let sets = sets_of(alloc, 3, &[&[0, 1], &[0, 1, 2]])?;
+    match find_clash(alloc, terminals, &sets, preferences)? {
         None => Ok(false),
-        Some(clash) => Ok(
-            clash.set == 1
-                && clash.left == 0
-                && clash.right == 2
-                && clash.text.as_slice() == b"if".as_slice(),
-        ),
+        Some(clash) => Ok(is_of_keywords(&clash)),
     }
+}
+
+fn is_shown(alloc: Global, preferences: &[(usize, usize)]) -> Result<bool, RegexRefusal> {
+    let terminals = expressions(alloc, "[a-z]+\n[0-9]+\nif|of")?;
+    Ok(is_found(alloc, &terminals, preferences)?)
 }
 
 #[test]

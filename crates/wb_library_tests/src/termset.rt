@@ -34,7 +34,20 @@ fn has_members(set: &TermSet, members: &[usize]) -> bool {
             _ => return false,
         }
     }
-    set.next_member(from).is_none()
+    let is_last = set.next_member(from).is_none() && set.next_member(usize::MAX).is_none();
+    is_last && set.is_empty() == members.is_empty()
+}
+
+// Whether the set of these numbers has these members, in their order.
+fn is_set_of(alloc: Global, numbers: &[usize], members: &[usize]) -> Result<bool, AllocError> {
+    let set = set_of(alloc, numbers)?;
+    Ok(has_members(&set, members))
+}
+
+// Whether a copy of the set of these numbers has them, in their order.
+fn is_copied(alloc: Global, numbers: &[usize]) -> Result<bool, AllocError> {
+    let set = set_of(alloc, numbers)?.copy()?;
+    Ok(has_members(&set, numbers))
 }
 
 // Whether 64 is new once, and 63 and 129 are members already.
@@ -49,30 +62,31 @@ fn is_added(set: &mut TermSet) -> bool {
 
 #[test]
 fn numbers_are_new_once(rt: HostRuntime) -> Result<(), Fail> {
-    let mut set = set_of(rt.alloc(), &[63, 129])?;
-    assert!(rt; is_added(&mut set));
+    assert!(rt; is_added(&mut set_of(rt.alloc(), &[63, 129])?));
     Ok(())
 }
 
 #[test]
 fn members_come_in_increasing_order(rt: HostRuntime) -> Result<(), Fail> {
-    let set = set_of(rt.alloc(), &[199, 5, 64, 63])?;
-    assert!(rt; has_members(&set, &[5, 63, 64, 199]));
-    assert!(rt; set.next_member(usize::MAX).is_none() && !set.is_empty());
+    assert!(rt; is_set_of(rt.alloc(), &[199, 5, 64, 63], &[5, 63, 64, 199])?);
     Ok(())
+}
+
+// Whether the sets of these two numbers are joined so.
+fn are_joined(alloc: Global, one: usize, other: usize) -> Result<bool, AllocError> {
+    let mut low = set_of(alloc, &[one])?;
+    let high = set_of(alloc, &[other])?;
+    Ok(is_joined(&mut low, &high))
 }
 
 #[test]
 fn unions_and_subsets_agree(rt: HostRuntime) -> Result<(), Fail> {
-    let mut low = set_of(rt.alloc(), &[1])?;
-    let high = set_of(rt.alloc(), &[64])?;
-    assert!(rt; is_joined(&mut low, &high));
+    assert!(rt; are_joined(rt.alloc(), 1, 64)?);
     Ok(())
 }
 
 #[test]
 fn a_copy_is_equal(rt: HostRuntime) -> Result<(), Fail> {
-    let set = set_of(rt.alloc(), &[0, 199])?.copy()?;
-    assert!(rt; has_members(&set, &[0, 199]));
+    assert!(rt; is_copied(rt.alloc(), &[0, 199])?);
     Ok(())
 }
