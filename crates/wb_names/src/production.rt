@@ -8,17 +8,17 @@ ghost use Rattle.std.specs.List.{AllZip};
 ghost use Rattle.wb_naming.specs.Declarations.{productions};
 ghost use Rattle.wb_numbering.specs.Files.{equations_on};
 ghost use Rattle.wb_numbering.specs.Numbering.{Numbering};
-ghost use Rattle.wb_numbering.specs.Rows.{production_role};
 ghost use Rattle.wb_rows.specs.Moves.{IsChildNow, IsForwardNow, NodeIsWithin};
 ghost use Rattle.wb_rows.specs.Scope.{IsFoundChild};
 ghost use Rattle.wb_names.specs.Inner.Bodies.{IsContext, IsDeclaredBody, IsExtendedBody, IsMovedHead, IsWritten, KnowsLabels, file_of, labels_with};
 ghost use Rattle.wb_names.specs.Inner.Now.{IsDeclaredNow, IsExtendedNow};
 
 use crate::lent::Lent;
+use crate::symbols::numbered_role;
 use crate::writers::Writers;
 use std::alloc::{AllocError, Global};
 use wb_base::{Bytes, Sequence};
-use wb_resolved::{Child, Forward, Production, ProductionRole};
+use wb_resolved::{Child, Forward, Production};
 use wb_rows::body::{Body, add_all, labels_of};
 use wb_rows::child::written_children;
 use wb_rows::moves::{Moves, moved_children, moved_equations, moved_forward, moved_locals};
@@ -219,14 +219,4 @@ fn declared_body(
     };
     add_written(alloc, context, name, children, &mut body)?;
     Ok(body)
-}
-
-// What a production of this role is for.
-fn numbered_role(role: wb_syntax::ProductionRole) -> ProductionRole
-    ensures { result ≡ production_role role }
-{
-    match role {
-        wb_syntax::ProductionRole::Concrete => ProductionRole::Concrete,
-        wb_syntax::ProductionRole::Abstract => ProductionRole::Abstract,
-    }
 }

@@ -169,7 +169,7 @@ fn has_role(concrete: bool, role: ProductionRole) -> bool
 }
 
 // What a production that is declared for this is for.
-fn numbered_role(role: wb_syntax::ProductionRole) -> ProductionRole
+pub(crate) fn numbered_role(role: wb_syntax::ProductionRole) -> ProductionRole
     ensures { result ≡ production_role role }
 {
     match role {
