@@ -125,7 +125,8 @@ graph_is a production vertices edges us es same equal graph =
     subst (λ z. IsFlowGraph a production (record { vertices = z; edges = es })) (sym same)
     (subst (λ z. IsFlowGraph a production (record { vertices = vertices; edges = z })) (sym equal) graph)
 
-module _ (a b : AttributionParts) (equal : b ≡ a) (slice : List Production) (same : slice ≡ b.productions) (number : ℕ) (production : Production)
+module _ (a b : AttributionParts) (equal : b ≡ a) (slice : List Production) (same : slice ≡ b.productions) (number : ℕ)
+    (production : Production)
     (within : number < length a.productions) (read : production ≡ get_or slice number production) where
   -- what is read at a place is the production of this number
   production_at : IsProduction a number production

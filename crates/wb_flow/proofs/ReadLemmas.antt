@@ -39,7 +39,8 @@ pub one_way : (a : AttributionParts) (x : ℕ) → Goes a Synthesized x → Goes
 one_way a x up down = let both = sym up ∙ down in cc
 
 -- which way an attribute that is read goes, and which way it doesn't
-module _ (a : AttributionParts) (slice : List Attribute) (same : slice ≡ a.attributes) (x : ℕ) (d : Attribute) (within : x < length slice) where
+module _ (a : AttributionParts) (slice : List Attribute) (same : slice ≡ a.attributes) (x : ℕ) (d : Attribute)
+    (within : x < length slice) where
   read_goes : Goes a (get_or slice x d).direction x
   read_goes =
       ap (option_map (λ (r : Attribute). r.direction))
@@ -158,11 +159,13 @@ abbrev pub AreInside : AttributionParts → List Vertex → List Bool → List �
 AreInside a vertices flags allowed count = (k i : ℕ) → k < count → slice_get vertices k ≡ Some (code.Top i) → Goes a Inherited i
     → slice_index_or flags k false ≡ true → Contains allowed i
 
-module _ (a : AttributionParts) (slice vertices : List Vertex) (same : slice ≡ vertices) (flags : List Bool) (allowed : List ℕ) (k : ℕ) where
+module _ (a : AttributionParts) (slice vertices : List Vertex) (same : slice ≡ vertices) (flags : List Bool) (allowed : List ℕ)
+    (k : ℕ) where
   -- what is outside at a place
   pub outside_at : k < length slice → (found : Option ℕ)
       → IfSome found (IsOutside a (get_or slice k (code.Top 0)) (slice_index_or flags k false) allowed)
-      → IfSome found (λ (i : ℕ). (j : ℕ) × (v : Vertex) × (slice_get vertices j ≡ Some v) × IsOutside a v (slice_index_or flags j false) allowed i)
+      → IfSome found (λ (i : ℕ). (j : ℕ) × (v : Vertex) × (slice_get vertices j ≡ Some v)
+      × IsOutside a v (slice_index_or flags j false) allowed i)
   outside_at within None is = tt
   outside_at within (Some i) is =
       (k, get_or slice k (code.Top 0), read_vertex_at slice vertices same k (code.Top 0) (subst (λ z. k < length z) same within), is)

@@ -1,5 +1,6 @@
 -- The trees of a production, position by position.
-use Rattle.std.proofs.Common.{◌≡◌, ◌∙◌, ◌⊎◌, [], inl, inr, ℕ, List, Option, None, Some, length, refl, sym, ap, subst, get_or, slice_get, option_map, Contains, ◌<◌, ◌≤◌}
+use Rattle.std.proofs.Common.{◌≡◌, ◌∙◌, ◌⊎◌, [], inl, inr, ℕ, List, Option, None, Some, length, refl, sym}
+use Rattle.std.proofs.Common.{ap, subst, get_or, slice_get, option_map, Contains, ◌<◌, ◌≤◌}
 use Rattle.std.specs.Prelude.{◌↔◌}
 use Rattle.std.proofs.lemmas.Option.{same_Some, slice_get_within, slice_get-get_or, slice_get_past}
 use Rattle.wb_flow.specs.declared.positions.Position.{Position}
@@ -78,7 +79,8 @@ module _ (production : Production) (k : ℕ) where
   module _ (slice : List Child) (same : slice ≡ production.children) where
     pub child_at : (d : Child) → k < length slice → child_nonterminal (get_or slice k d).kind ≡ nonterminal_at production (p.Child k)
     child_at d within =
-        ap kind_nonterminal (sym (subst (λ (z : List Child). slice_get z k ≡ Some (get_or slice k d)) same (slice_get-get_or slice k d within)))
+        ap kind_nonterminal (sym (subst (λ (z : List Child). slice_get z k ≡ Some (get_or slice k d)) same (slice_get-get_or slice k d
+        within)))
 
     pub no_child : length slice ≤ k → None ≡ nonterminal_at production (p.Child k)
     no_child past =

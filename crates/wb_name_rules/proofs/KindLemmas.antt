@@ -1,5 +1,6 @@
 -- What shows that something is of another kind.
-use Rattle.std.proofs.Common.{◌≡◌, ◌<◌, ℕ, List, Option, Some, None, Bool, false, true≢false, ◌∷◌, get_or, length, Contains, All, [], refl, sym, ap, ◌∙◌, subst}
+use Rattle.std.proofs.Common.{◌≡◌, ◌<◌, ℕ, List, Option, Some, None, Bool, false, true≢false, ◌∷◌, get_or, length, Contains}
+use Rattle.std.proofs.Common.{All, [], refl, sym, ap, ◌∙◌, subst}
 use Rattle.std.specs.Prelude.{is_some, option_map}
 use Rattle.std.specs.Bool.{◌==◌}
 use Rattle.std.proofs.lemmas.Option.{slice_get-get_or}

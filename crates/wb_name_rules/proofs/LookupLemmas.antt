@@ -1,5 +1,6 @@
 -- What a look-up by the key of a declaration says of the declaration.
-use Rattle.std.proofs.Common.{◌≡◌, ◌∷◌, ◌++◌, [], ℕ, List, Option, Some, None, Result, Ok, Err, length, slice_get, Contains, refl, subst, inr}
+use Rattle.std.proofs.Common.{◌≡◌, ◌∷◌, ◌++◌, [], ℕ, List, Option, Some, None, Result, Ok, Err}
+use Rattle.std.proofs.Common.{length, slice_get, Contains, refl, subst, inr}
 use Rattle.std.specs.Prelude.{IfOk, IfSome, IfNone}
 use Rattle.std.proofs.lemmas.Option.{slice_get_within}
 use Rattle.wb_lemmas.proofs.Members.{place_of}
@@ -43,14 +44,16 @@ module _ (declared : List Declaration) where
       counts same
 
   -- what is at a place where a key is found
-  pub found_as : {E : Type 0} (r : Result (Option ℕ) E) (key : List ℕ) (P : ℕ → Type 0) → ((place : ℕ) → IsAtKey declared key place → P place)
+  pub found_as : {E : Type 0} (r : Result (Option ℕ) E) (key : List ℕ) (P : ℕ → Type 0) → ((place : ℕ) → IsAtKey declared key place
+      → P place)
       → IfOk r (IsFound declared key) → IfOk r (λ (found : Option ℕ). IfSome found P)
   found_as (Ok None) key P gives found = tt
   found_as (Ok (Some place)) key P gives found = gives place found
   found_as (Err e) key P gives found = tt
 
   -- what isn't there where a key isn't found
-  pub none_as : {E : Type 0} (r : Result (Option ℕ) E) (key : List ℕ) (P : Type 0) → (HasNoKey declared key → P) → IfOk r (IsFound declared key)
+  pub none_as : {E : Type 0} (r : Result (Option ℕ) E) (key : List ℕ) (P : Type 0) → (HasNoKey declared key → P)
+      → IfOk r (IsFound declared key)
       → IfOk r (λ (found : Option ℕ). IfNone found P)
   none_as (Ok None) key P gives found = gives found
   none_as (Ok (Some place)) key P gives found = tt

@@ -117,7 +117,8 @@ module _ (declared : List Declaration) (place : ℕ) (here : Declaration) (withi
   pub is_production_there : (name : List ℕ) (is : Sort) → here ≡ d.Symbol name is → is ≡ sort.Production → IsProductionAt declared place
   is_production_there name is same e = (name, there ∙ ap Some same ∙ ap (λ (z : Sort). Some (d.Symbol name z)) e)
 
-  pub other_sort_there : (name : List ℕ) (is : Sort) → here ≡ d.Symbol name is → (is ≡ sort.Production → ⊥) → ¬ IsProductionAt declared place
+  pub other_sort_there : (name : List ℕ) (is : Sort) → here ≡ d.Symbol name is → (is ≡ sort.Production → ⊥)
+      → ¬ IsProductionAt declared place
   other_sort_there name is same other (x, at) =
       let e : d.Symbol name is ≡ d.Symbol x sort.Production = sym same ∙ same_Some here (d.Symbol x sort.Production) (sym there ∙ at) in
       let sorts : is ≡ sort.Production = cc in

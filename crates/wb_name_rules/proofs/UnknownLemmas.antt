@@ -1,5 +1,6 @@
 -- What shows that a name isn't declared.
-use Rattle.std.proofs.Common.{◌≡◌, ◌<◌, ℕ, List, Option, Some, None, Bool, true, false, not, true≢false, Result, IfOk, get_or, length, Contains, All, slice_get, refl, sym, ap}
+use Rattle.std.proofs.Common.{◌≡◌, ◌<◌, ℕ, List, Option, Some, None, Bool, true, false, not, true≢false, Result, IfOk}
+use Rattle.std.proofs.Common.{get_or, length, Contains, All, slice_get, refl, sym, ap}
 use Rattle.std.proofs.Common.{◌∙◌, subst}
 use Rattle.std.specs.Prelude.{◌↔◌, IsTrue, IfSome, IfNone, is_some}
 use Rattle.std.specs.declared.alloc.AllocError.{AllocError}

@@ -38,6 +38,7 @@ productions-init c k p lt at = absurd (omega (arith, lt))
 
 pub check_cycle-requires-clause-there : goal.check_cycle-requires-clause-there
 check_cycle-requires-clause-there c =
-    subst (λ (z : List Production). slice_get z c.productions.number ≡ Some c.index-productions-number.result) c.as_slice-productions.ensures
+    subst (λ (z : List Production). slice_get z c.productions.number ≡ Some c.index-productions-number.result)
+    c.as_slice-productions.ensures
     (read_item c.as_slice-productions.result.now c.productions.number c.index-productions-number.result c.productions-test.true
     c.index-productions-number.is)

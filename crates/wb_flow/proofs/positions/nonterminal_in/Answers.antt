@@ -6,7 +6,8 @@ use Rattle.wb_flow.proofs.positions.nonterminal_in.Goals as goal
 pub returns-then-number-children : goal.returns-then-number-children
 returns-then-number-children c =
     c.tree_kind.ensures
-    ∙ child_at c.args.production.now c.in-Child.number c.as_slice-children.result.now c.as_slice-children.ensures c.index-children-number.result
+    ∙ child_at c.args.production.now c.in-Child.number c.as_slice-children.result.now c.as_slice-children.ensures
+    c.index-children-number.result
     c.if-number-children.true
     ∙ ap (nonterminal_at c.args.production.now) (sym c.in-Child.is)
 

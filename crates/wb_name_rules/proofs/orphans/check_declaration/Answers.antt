@@ -4,8 +4,10 @@ use Rattle.std.proofs.lemmas.Result.{IfErr-weaker}
 use Rattle.wb_naming.specs.declared.declaration.Declaration.{Declaration}
 use Rattle.wb_naming.specs.declared.declaration.Sort.TheVariants.{Layout}
 use Rattle.wb_naming.specs.Orphan.{IsOwnSymbol}
-use Rattle.wb_name_rules.specs.Inner.Owners.{MayDeclare, IsOrphanIf, ShowsOrphan, IsForeignOccurrence, IsForeignPreference, IsForeignEquation}
-use Rattle.wb_name_rules.proofs.OwnerLemmas.{shows_start, shows_extensible, shows_symbol, shows_forward_needs, shows_occurrence, shows_preference, shows_equation}
+use Rattle.wb_name_rules.specs.Inner.Owners.{MayDeclare, IsOrphanIf, ShowsOrphan, IsForeignOccurrence}
+use Rattle.wb_name_rules.specs.Inner.Owners.{IsForeignPreference, IsForeignEquation}
+use Rattle.wb_name_rules.proofs.OwnerLemmas.{shows_start, shows_extensible, shows_symbol, shows_forward_needs}
+use Rattle.wb_name_rules.proofs.OwnerLemmas.{shows_occurrence, shows_preference, shows_equation}
 use Rattle.wb_name_rules.proofs.orphans.check_declaration.Goals as goal
 
 pub returns-in-ForwardNeeds-clause-refused : goal.returns-in-ForwardNeeds-clause-refused
@@ -55,20 +57,25 @@ returns-in-Symbol-clause-refused c =
 
 pub returns-in-Symbol-clause-ok : goal.returns-in-Symbol-clause-ok
 returns-in-Symbol-clause-ok c =
-    subst (λ (z : Declaration). OnOk c.check_symbol.result (MayDeclare c.args.index.now c.args.from z)) (sym c.in-Symbol.is) c.check_symbol.ensures.ok
+    subst (λ (z : Declaration). OnOk c.check_symbol.result (MayDeclare c.args.index.now c.args.from z)) (sym c.in-Symbol.is)
+    c.check_symbol.ensures.ok
 
 pub returns-in-ForwardNeeds-clause-ok : goal.returns-in-ForwardNeeds-clause-ok
 returns-in-ForwardNeeds-clause-ok c =
-    subst (λ (z : Declaration). OnOk c.check_forward_needs.result (MayDeclare c.args.index.now c.args.from z)) (sym c.in-ForwardNeeds.is) c.check_forward_needs.ensures.ok
+    subst (λ (z : Declaration). OnOk c.check_forward_needs.result (MayDeclare c.args.index.now c.args.from z)) (sym c.in-ForwardNeeds.is)
+    c.check_forward_needs.ensures.ok
 
 pub returns-in-Occurrence-clause-ok : goal.returns-in-Occurrence-clause-ok
 returns-in-Occurrence-clause-ok c =
-    subst (λ (z : Declaration). OnOk c.check_occurrence.result (MayDeclare c.args.index.now c.args.from z)) (sym c.in-Occurrence.is) c.check_occurrence.ensures.ok
+    subst (λ (z : Declaration). OnOk c.check_occurrence.result (MayDeclare c.args.index.now c.args.from z)) (sym c.in-Occurrence.is)
+    c.check_occurrence.ensures.ok
 
 pub returns-in-Preference-clause-ok : goal.returns-in-Preference-clause-ok
 returns-in-Preference-clause-ok c =
-    subst (λ (z : Declaration). OnOk c.check_preference.result (MayDeclare c.args.index.now c.args.from z)) (sym c.in-Preference.is) c.check_preference.ensures.ok
+    subst (λ (z : Declaration). OnOk c.check_preference.result (MayDeclare c.args.index.now c.args.from z)) (sym c.in-Preference.is)
+    c.check_preference.ensures.ok
 
 pub returns-in-Equation-clause-ok : goal.returns-in-Equation-clause-ok
 returns-in-Equation-clause-ok c =
-    subst (λ (z : Declaration). OnOk c.check_equation.result (MayDeclare c.args.index.now c.args.from z)) (sym c.in-Equation.is) c.check_equation.ensures.ok
+    subst (λ (z : Declaration). OnOk c.check_equation.result (MayDeclare c.args.index.now c.args.from z)) (sym c.in-Equation.is)
+    c.check_equation.ensures.ok

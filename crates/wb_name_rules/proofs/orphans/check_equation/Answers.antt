@@ -42,7 +42,8 @@ returns-then-branch-2-clause-ok c =
 pub returns-else-branch-2-clause-refused : goal.returns-else-branch-2-clause-refused
 returns-else-branch-2-clause-refused c =
     let only = rw c.as_slice-2.ensures at (rw c.in-Some.is at c.in_ok-site_of.ensures) in
-    orphan_if (IsForeignEquation c.args.index.now c.args.from c.args.production.now c.args.attribute.now c.args.site.now) c.args.attribute.now
+    orphan_if (IsForeignEquation c.args.index.now c.args.from c.args.production.now c.args.attribute.now c.args.site.now)
+    c.args.attribute.now
     c.orphan.result (record {
       of_host = subst (λ (p : List ℕ). IsOfHost (take c.args.from c.args.index.now) p) c.as_slice.ensures
           (c.in_ok-is_of_host.ensures.0 c.if-not-branch.false);

@@ -7,5 +7,6 @@ use Rattle.wb_name_rules.proofs.orphans.check_forward_needs.Goals as goal
 pub returns-clause-refused : goal.returns-clause-refused
 returns-clause-refused c =
     let not = fails_when _ c.if-branch.false c.in_ok-is_own_symbol.ensures in
-    orphan_if (¬ IsOwnSymbol (drop c.args.from c.args.index.now) c.args.name.now) c.args.name.now c.orphan.result (rw c.as_slice.ensures at not)
+    orphan_if (¬ IsOwnSymbol (drop c.args.from c.args.index.now) c.args.name.now) c.args.name.now c.orphan.result (rw c.as_slice.ensures
+    at not)
     c.orphan.ensures

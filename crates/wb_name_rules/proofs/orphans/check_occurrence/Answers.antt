@@ -14,5 +14,6 @@ pub returns-clause-refused : goal.returns-clause-refused
 returns-clause-refused c =
     let first = rw c.as_slice.ensures at (fails_when _ c.if-branch.false c.in_ok-is_own_attribute.ensures) in
     let second = rw c.as_slice-2.ensures at (fails_when _ c.if-branch-2.false c.in_ok-is_own_symbol.ensures) in
-    orphan_if (IsForeignOccurrence (drop c.args.from c.args.index.now) c.args.attribute.now c.args.nonterminal.now) c.args.attribute.now c.orphan.result
+    orphan_if (IsForeignOccurrence (drop c.args.from c.args.index.now) c.args.attribute.now c.args.nonterminal.now) c.args.attribute.now
+    c.orphan.result
     (first, second) c.orphan.ensures

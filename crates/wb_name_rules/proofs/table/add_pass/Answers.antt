@@ -15,4 +15,5 @@ places-preserved c = c.in_ok-add_at.ensures.ok
 pub returns-clause-ok : goal.returns-clause-ok
 returns-clause-ok c =
     let ended : c.places.place ≡ length c.args.declarations.now = omega arith in
-    subst (λ (n : ℕ). IsIndexed c.args.declarations.now c.places.table.keys c.places.table.places.items c.args.pass n) ended c.places.invariant
+    subst (λ (n : ℕ). IsIndexed c.args.declarations.now c.places.table.keys c.places.table.places.items c.args.pass n) ended
+    c.places.invariant

@@ -12,8 +12,10 @@ pub returns-then-branch-clause-refused : goal.returns-then-branch-clause-refused
 returns-then-branch-clause-refused c =
     let there = rw c.as_slice.ensures at (c.in_ok-is_production.ensures.0 c.if-not-branch.false) in
     let lacks = rw c.if-branch.true at c.in_ok-lacks_forward.ensures in
-    shows_name c.args.index.now (u.Attribute c.args.production.now c.args.attribute.now c.args.site.now) c.args.attribute.now c.unknown.result
-    (λ used has. shows_no_forward c.args.index.now used c.args.production.now c.args.attribute.now c.args.site.now there has lacks.0 lacks.1)
+    shows_name c.args.index.now (u.Attribute c.args.production.now c.args.attribute.now c.args.site.now) c.args.attribute.now
+    c.unknown.result
+    (λ used has. shows_no_forward c.args.index.now used c.args.production.now c.args.attribute.now c.args.site.now there has
+    lacks.0 lacks.1)
     c.unknown.ensures
 
 pub returns-in-Some-clause-refused : goal.returns-in-Some-clause-refused

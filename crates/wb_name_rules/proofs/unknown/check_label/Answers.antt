@@ -11,8 +11,9 @@ pub returns-in-None-clause-refused : goal.returns-in-None-clause-refused
 returns-in-None-clause-refused c =
     let none = rw c.in-None.is at c.in_ok-label.ensures.none in
     let there = c.in_ok-is_production.ensures.0 c.if-not-branch.false in
-    shows_name c.args.index.now (u.Label c.args.production.now c.args.label.now c.args.wanted) c.args.label.now c.unknown.result (λ used has.
-    label (record { written = has; there = rw c.as_slice.ensures at there }) (λ is. rw (c.as_slice-2.ensures, c.as_slice-3.ensures) at (none is)))
+    shows_name c.args.index.now (u.Label c.args.production.now c.args.label.now c.args.wanted) c.args.label.now c.unknown.result
+    (λ used has. label (record { written = has; there = rw c.as_slice.ensures at there })
+    (λ is. rw (c.as_slice-2.ensures, c.as_slice-3.ensures) at (none is)))
     c.unknown.ensures
 
 pub returns-in-Some-clause-ok : goal.returns-in-Some-clause-ok

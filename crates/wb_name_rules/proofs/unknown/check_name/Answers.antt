@@ -10,4 +10,5 @@ pub returns-clause-refused : goal.returns-clause-refused
 returns-clause-refused c =
     let not = fails_when _ c.if-branch.false c.in_ok-is_declared.ensures in
     shows_name c.args.index.now (u.Name c.args.name.now c.args.wanted) c.args.name.now c.unknown.result
-    (λ used has. undeclared has (λ is. not (subst (IsDeclared c.args.index.now c.args.wanted) (sym c.as_slice.ensures) is))) c.unknown.ensures
+    (λ used has. undeclared has (λ is. not (subst (IsDeclared c.args.index.now c.args.wanted) (sym c.as_slice.ensures) is)))
+    c.unknown.ensures

@@ -26,7 +26,8 @@ returns-in-Attribute-clause-ok c =
 
 pub returns-in-Attribute-clause-refused : goal.returns-in-Attribute-clause-refused
 returns-in-Attribute-clause-refused c =
-    subst (λ (z : Usage). IfErr c.check_attribute.result (ShowsUnknown c.args.index.now z)) (sym c.in-Attribute.is) c.check_attribute.ensures.refused
+    subst (λ (z : Usage). IfErr c.check_attribute.result (ShowsUnknown c.args.index.now z)) (sym c.in-Attribute.is)
+    c.check_attribute.ensures.refused
 
 pub returns-in-Needs-clause-ok : goal.returns-in-Needs-clause-ok
 returns-in-Needs-clause-ok c =
