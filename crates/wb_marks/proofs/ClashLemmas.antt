@@ -20,6 +20,7 @@ use Rattle.wb_termset.specs.Sets.{IsMember}
 use Rattle.wb_marks.specs.declared.clashes.Compared.{Compared}
 use Rattle.wb_marks.specs.declared.first_bytes.Beginning.{Beginning}
 use Rattle.wb_marks.specs.Clashes.{AreRivals, HasNoMarkerClash, preference_pairs}
+use Rattle.wb_marks.specs.Markers.{IsMarker}
 use Rattle.wb_marks.specs.Refusals.{IsShownClash}
 use Rattle.wb_marks.specs.Inner.Compared.{AreCompared, IsPreferenceBelow, Orders, SomeOrders, AreOrderedBy, AreOrderedWith}
 use Rattle.wb_marks.specs.Inner.Compared.{AreBeginnings, ShowsNone, IsCompared, MayClash}
@@ -122,7 +123,13 @@ module _ (r : ResolvedParts) where
       );
     }
 
-    -- what isn't compared shows no clash
+    -- what is no marker shows no clash
+    pub unmarked : ¬ IsMarker r marker → (other : ℕ) → ShowsNone r marker other
+    unmarked lacks other text shown =
+        let rivals = shown.clash.rivals in
+        lacks (record { terminal = rivals.own; is = rivals.own_is; marking = rivals.marking })
+
+    -- nor does what isn't compared
     pub not_compared : (other : ℕ) → ¬ AreCompared r marker other → ShowsNone r marker other
     not_compared other apart text shown = apart (record { rivals = shown.clash.rivals; in_order = shown.in_order })
 

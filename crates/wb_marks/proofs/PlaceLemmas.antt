@@ -4,11 +4,11 @@ use Rattle.std.proofs.Common.{None, Some, is_some, length, take, set}
 use Rattle.std.proofs.Common.{refl, sym, ◌∙◌, ap, subst, arith, get_or, slice_get, Contains, length-set, get_or-set_same, get_or-set_other}
 use Rattle.std.specs.Prelude.{IfSome, IfNone, slice_index_or, replicate}
 use Rattle.std.proofs.lemmas.Bool.{cases_eq, cases_lt}
-use Rattle.std.proofs.lemmas.Option.{same_Some, slice_get_within, get_or_from_slice_get}
-use Rattle.std.proofs.lemmas.List.{take_more}
-use Rattle.wb_lemmas.proofs.Members.{push_contains, push_contains_last, contains_push}
+use Rattle.std.proofs.lemmas.Option.{same_Some, slice_get-get_or, slice_get_within, get_or_from_slice_get}
+use Rattle.std.proofs.lemmas.List.{take_more, length-replicate}
+use Rattle.wb_lemmas.proofs.Members.{nothing_in, push_contains, push_contains_last, contains_push}
 use Rattle.wb_lemmas.proofs.Places.{at_within, at_once}
-use Rattle.wb_termset.proofs.CallerLemmas.{IsMember-insert, IsMember-insert_same, IsSubset-insert}
+use Rattle.wb_termset.proofs.CallerLemmas.{IsEmpty-replicate, IsMember-insert, IsMember-insert_same, IsSubset-insert}
 use Rattle.wb_termset.specs.Sets.{IsMember}
 use Rattle.wb_base.specs.Grammar.{GrammarView, Production}
 use Rattle.wb_base.specs.declared.symbol.Symbol.{Symbol}
@@ -89,6 +89,21 @@ none_begins r g number right is None d never = λ marker marked at.
     let there = right_at g number right is marker 0 at in
     never marker (get_or_from_slice_get right 0 (Terminal marker) d there) marked
 none_begins r g number right is (Some found) d never = tt
+
+-- where a marker that the symbol at a place is isn't at its beginning, it is misplaced
+pub misplaced_at : (r : ResolvedParts) (g : GrammarView) (table : List (Option ℕ)) (number place : ℕ) (right : List Symbol)
+    → number < length g.productions → IfSome (slice_get g.productions number) (λ p. right ≡ p.1) → place < length right → (d : Symbol)
+    → (found : Option ℕ)
+    → IfSome found (λ marker. (get_or right place d ≡ Terminal marker) × IsMarker r marker × (¬ IsBeginning table marker number place))
+    → IfSome found (IsMisplaced r g table)
+misplaced_at r g table number place right within is low d None some = tt
+misplaced_at r g table number place right within is low d (Some marker) (symbol, is_marker, other) = record {
+  is_marker = is_marker;
+  number = number;
+  place = place;
+  at = at_right g number right within is marker place (slice_get-get_or right place d low ∙ ap (λ (s : Symbol). Some s) symbol);
+  no_beginning = other;
+}
 
 -- one place more at which a marker is at its beginning
 pub place_more : (r : ResolvedParts) (g : GrammarView) (table : List (Option ℕ)) (number count : ℕ) (right : List Symbol)
@@ -218,6 +233,13 @@ module _ (r : ResolvedParts) (g : GrammarView) where
     -- where each place is a beginning and each marker in the table
     pub each_one : ((number : ℕ) → BeginsAll r g table number) → ((marker : ℕ) → ¬ IsUnused r table marker) → EachBeginsOne r g
     each_one each used marker is = begins_one each marker is (slice_index_or table marker None) refl (used marker)
+
+-- a set of no numbers
+pub set_none : (count : ℕ) → AreIn count [] (replicate count false)
+set_none count = record {
+  len = length-replicate count false;
+  each = λ n. (λ has. absurd (IsEmpty-replicate count n has), λ listed. absurd (nothing_in n listed));
+}
 
 -- one number more in a set
 pub set_more : (count : ℕ) (numbers : List ℕ) (i d : ℕ) (set_now after : List Bool) → i < length numbers → get_or numbers i d < count

@@ -20,7 +20,10 @@ pub(crate) fn is_marker(parts: &ResolvedParts, number: usize) -> bool
     ensures { IsTrue result ↔ IsMarker parts.now number }
 {
     let terminals = parts.terminals.as_slice();
-    number < terminals.len() && matches!(terminals[number].kind, TerminalKind::Marking)
+    if number >= terminals.len() {
+        return false;
+    }
+    matches!(terminals[number].kind, TerminalKind::Marking)
 }
 
 // The marker that a symbol is.
@@ -57,7 +60,10 @@ pub(crate) fn is_hosts(parts: &ResolvedParts, nonterminal: usize) -> bool
     ensures { IsTrue result ↔ IsHosts parts.now nonterminal }
 {
     let nonterminals = parts.attributes.parts().nonterminals.as_slice();
-    nonterminal < nonterminals.len() && nonterminals[nonterminal].owner == 0
+    if nonterminal >= nonterminals.len() {
+        return false;
+    }
+    nonterminals[nonterminal].owner == 0
 }
 
 // Whether there is a production of this number, and it isn't the host's.
@@ -65,7 +71,10 @@ fn is_extensions(parts: &ResolvedParts, number: usize) -> bool
     ensures { IsTrue result ↔ IsExtensions parts.now number }
 {
     let productions = parts.attributes.parts().productions.as_slice();
-    number < productions.len() && productions[number].owner != 0
+    if number >= productions.len() {
+        return false;
+    }
+    productions[number].owner != 0
 }
 
 // Whether a production is an extension's, on a nonterminal of the host.

@@ -8,3 +8,6 @@ returns c =
     let g = c.args.scope.now.grammar.now in
     let all : c.productions.number ≡ length g.productions = omega arith in
     subst (λ z. AreBegun r g z c.productions.table.items) all c.productions.invariant
+
+pub put-requires-clause-number : goal.put-requires-clause-number
+put-requires-clause-number c = omega (arith, c.productions-test.true, c.productions-number-end.ensures.count)

@@ -15,3 +15,12 @@ returns-clause-none c marker place is at =
     let there = p.right_at c.args.scope.now.grammar.now c.args.number c.right-right.result.now right marker place at in
     let within = slice_get_within c.right-right.result.now place _ there in
     c.places.invariant marker place (omega (arith, within)) is at
+
+pub misplaced-found-requires : goal.misplaced-found-requires
+misplaced-found-requires c = c.requires.table
+
+pub returns-then-is_some-clause-some : goal.returns-then-is_some-clause-some
+returns-then-is_some-clause-some c =
+    p.misplaced_at c.args.scope.now.parts.now c.args.scope.now.grammar.now c.args.table.now c.args.number c.places.place
+    c.right-right.result.now c.requires.number c.right-right.ensures.right c.places-test.true _ c.misplaced-found.result
+    c.misplaced-found.ensures.some
