@@ -10,7 +10,8 @@ use Rattle.wb_grammars.specs.Items.{IsValidItem, start, close, move}
 use Rattle.wb_grammars.proofs.ProductionLemmas.{production_within}
 use Rattle.wb_extensions.specs.declared.context.Context.{Context}
 use Rattle.wb_extensions.specs.declared.numbers.Numbers.{Numbers}
-use Rattle.wb_extensions.specs.Numbers.{AreInTurn, production_up}
+use Rattle.wb_extensions.specs.Numbers.{production_up}
+use Rattle.wb_extensions.specs.Inner.Numbers.{AreInTurn}
 use Rattle.wb_extensions.specs.Inner.Contexts.{IsContext, host_of}
 use Rattle.wb_extensions.specs.Inner.Envelopes.{AreInKernel}
 use Rattle.wb_extensions.proofs.NumberLemmas.{lifted_past}

@@ -1,11 +1,13 @@
 -- What rows of items show of a new kernel of host's items.
-use Rattle.std.proofs.Common.{◌≡◌, ◌<◌, ◌≤◌, ◌∙◌, ◌⊎◌, ℕ, Bool, List, [], Option, Some, None, length, refl, sym, subst, ap, inl, inr, arith}
+use Rattle.std.proofs.Common.{◌≡◌, ◌<◌, ◌≤◌, ◌+◌, ◌++◌, ◌∷◌, ◌∙◌, ◌⊎◌, ℕ, Bool, List, [], Option, Some, None, length}
+use Rattle.std.proofs.Common.{refl, sym, subst, ap, inl, inr, arith, length-append}
 use Rattle.std.specs.Prelude.{◌↔◌, Contains, slice_get}
 use Rattle.std.specs.Option.{option_map}
 use Rattle.std.proofs.lemmas.Bool.{cases_eq, cases_lt}
 use Rattle.std.proofs.lemmas.Option.{slice_get-map, slice_get_within, same_Some}
 use Rattle.wb_lemmas.proofs.Members.{contains_at, place_of}
 use Rattle.wb_lemmas.proofs.Elements.{all_at, all_contained}
+use Rattle.wb_lemmas.proofs.Places.{at_once, at_push, nothing_at}
 use Rattle.wb_grammars.specs.declared.item.Item.{Item}
 use Rattle.wb_grammars.specs.Closure.{InClosure, kernel}
 use Rattle.wb_grammars.specs.Items.{after_dot, IsKernelItem}
@@ -19,17 +21,39 @@ use Rattle.wb_unions.specs.Numbered.{IsEnvelopeLookahead, CanShiftInEnvelope, Ca
 use Rattle.wb_extensions.specs.declared.conflict.ActionPair.{ActionPair}
 use Rattle.wb_extensions.specs.declared.context.Context.{Context}
 use Rattle.wb_extensions.specs.declared.context.ItemFault.{ItemFault}
+use Rattle.wb_extensions.specs.declared.regions.Region.{Region}
 use Rattle.wb_extensions.specs.Numbers.{item_up}
 use Rattle.wb_extensions.specs.Inner.Contexts.{HasImage, IsContext, both_of, host_of}
 use Rattle.wb_extensions.specs.Inner.Envelopes.{AreInKernel, IsEnvelopeRow, IsEnvelopeSet, IsRowFault, KeepsRow}
 use Rattle.wb_extensions.specs.Inner.Index.{IsIndexable}
 use Rattle.wb_extensions.specs.Inner.Conflicts.{HasNoConflictIn, IsFoundBy}
-use Rattle.wb_extensions.specs.Inner.Considered.{CanBoth, IsClearSet, IsLookaheadAt, IsOwnList, IsPairAt, KernelAt}
+use Rattle.wb_extensions.specs.Inner.Considered.{AreConsidered, CanBoth, IsClearSet, IsConsideredFor, IsLookaheadAt, IsOwnList, IsPairAt}
+use Rattle.wb_extensions.specs.Inner.Considered.{KernelAt}
 use Rattle.wb_extensions.specs.Inner.Valid.{IsReduced, IsShifted}
 use Rattle.wb_extensions.proofs.BoundLemmas.{own_bound}
 use Rattle.wb_extensions.proofs.EnvelopeLemmas.{closure_kept}
 use Rattle.wb_extensions.proofs.RegionLemmas.{kernel_item}
 use Rattle.wb_extensions.proofs.RowLemmas.{row_entry}
+
+-- no sets
+pub considered_none : (c : Context) (layout : List Bool) (regions : List Region) → AreConsidered c layout regions 0 []
+considered_none c layout regions = record { len = refl; each = λ s region set at at_set. absurd (nothing_at set s at_set) }
+
+-- the set of one kernel more
+pub considered_more : (c : Context) (layout : List Bool) (regions : List Region) (n : ℕ) (sets : List (List Bool)) (region : Region)
+    (set : List Bool) → slice_get regions n ≡ Some region → AreConsidered c layout regions n sets → IsConsideredFor c layout n region set
+    → AreConsidered c layout regions (n + 1) (sets ++ set ∷ [])
+considered_more c layout regions n sets region set at are is = record {
+  len = length-append sets (set ∷ []) ∙ ap (λ k. k + 1) are.len;
+  each = λ s other found at_region at_set. elim (at_push sets set found s at_set) [
+    | inl old ↦ are.each s other found at_region old
+    | inr (here, same) ↦
+        let place : s ≡ n = here ∙ are.len in
+        let one : region ≡ other = at_once regions n region other at (subst (λ k. slice_get regions k ≡ Some other) place at_region) in
+        subst (λ k. IsConsideredFor c layout k other found) (sym place)
+        (subst (λ z. IsConsideredFor c layout n z found) one (subst (IsConsideredFor c layout n region) same is))
+  ];
+}
 
 -- an entry's item is listed
 pub entry_listed : (row : List ItemLookahead) (n : ℕ) (looks : ItemLookahead) → slice_get row n ≡ Some looks

@@ -21,7 +21,7 @@ use Rattle.wb_termset.specs.Sets.{IsMember, IsUnion}
 use Rattle.wb_termset.proofs.CallerLemmas.{IsEmpty-replicate}
 use Rattle.wb_unions.specs.Numbered.{IsEnvelopeLookahead}
 use Rattle.wb_extensions.specs.Inner.Index.{IsIndex}
-use Rattle.wb_extensions.specs.Inner.Envelopes.{HasAll, AreContaining, IsEnvelopeSet, IsEnvelopeRow}
+use Rattle.wb_extensions.specs.Inner.Envelopes.{AddsEntry, HasAll, AreContaining, IsEnvelopeSet, IsEnvelopeRow}
 use Rattle.wb_extensions.proofs.KeepLemmas.{lookahead_kept}
 
 -- the closure of more items has more
@@ -168,18 +168,15 @@ containing_all kernels own index candidates list n first is at row past are s =
         (j, (let w = slice_get_within candidates j s there in omega (arith, w, past)), there)
 
 -- an item more with its lookaheads in the envelope
-pub row_more : (g : GrammarView) (own closure : List Item) (n : ℕ) (d : Item) (row more : List ItemLookahead) (set : List Bool)
-    → n < length closure
-    → IsEnvelopeSet g own (record { item = get_or closure n d; set = set })
-    → more ≡ row ++ record { item = get_or closure n d; set = set } ∷ []
-    → (items_in row ≡ take n closure) × All (IsEnvelopeSet g own) row
+pub row_added : (g : GrammarView) (own closure : List Item) (n : ℕ) (d : Item) (row more : List ItemLookahead) → n < length closure
+    → AddsEntry g own (get_or closure n d) row more → (items_in row ≡ take n closure) × All (IsEnvelopeSet g own) row
     → (items_in more ≡ take (n + 1) closure) × All (IsEnvelopeSet g own) more
-row_more g own closure n d row more set within is pushed (items, sets) =
-    let entry : ItemLookahead = record { item = get_or closure n d; set = set } in (
-      ap items_in pushed ∙ map-append (λ (l : ItemLookahead). l.item) row (entry ∷ [])
-          ∙ ap (λ (z : List Item). z ++ get_or closure n d ∷ []) items ∙ sym (take_more closure n d within),
-      subst (All (IsEnvelopeSet g own)) (sym pushed) (All-push (IsEnvelopeSet g own) row entry sets is),
-    )
+row_added g own closure n d row more within adds (items, sets) = (
+  ap items_in adds.after ∙ map-append (λ (l : ItemLookahead). l.item) row (adds.looks ∷ [])
+      ∙ ap (λ (z : List Item). z ++ adds.looks.item ∷ []) items ∙ ap (λ (z : Item). take n closure ++ z ∷ []) adds.of_item
+      ∙ sym (take_more closure n d within),
+  subst (All (IsEnvelopeSet g own)) (sym adds.after) (All-push (IsEnvelopeSet g own) row adds.looks sets adds.envelope),
+)
 
 -- all items
 pub row_all : (g : GrammarView) (own closure : List Item) (n : ℕ) (row : List ItemLookahead) → length closure ≤ n

@@ -1,12 +1,26 @@
--- The first production that a terminal begins, in a list without its first productions.
-use Rattle.std.proofs.Common.{◌≡◌, ◌<◌, ◌+◌, ◌∙◌, ℕ, Bool, true, false, List, ◌∷◌, Option, Some, IfSome, drop, length, cond, sym, ap, subst}
+-- What terminals stand for, one more, and the first production that a terminal begins, in a list without its first productions.
+use Rattle.std.proofs.Common.{◌≡◌, ◌<◌, ◌+◌, ◌++◌, ◌∙◌, ℕ, Bool, true, false, List, [], ◌∷◌, Option, Some, IfSome, drop, length, cond}
+use Rattle.std.proofs.Common.{sym, ap, subst, inl, inr, length-append}
 use Rattle.std.specs.Prelude.{slice_get}
 use Rattle.std.proofs.lemmas.Option.{slice_get_within, get_or_from_slice_get}
 use Rattle.wb_lemmas.proofs.Parts.{drop_from}
-use Rattle.wb_lemmas.proofs.Places.{at_within}
+use Rattle.wb_lemmas.proofs.Places.{at_push, at_within}
 use Rattle.wb_base.specs.declared.symbol.Symbol.{Symbol}
 use Rattle.wb_base.specs.Grammar.{Production}
+use Rattle.wb_extensions.specs.declared.numbers.Numbers.{Numbers}
 use Rattle.wb_extensions.specs.Images.{begins, bridged}
+use Rattle.wb_extensions.specs.Inner.Images.{AreImages, IsDown}
+
+-- one terminal more with what it stands for
+pub images_more : (m : Numbers) (phi : ℕ → ℕ) (t : ℕ) (images : List (Option ℕ)) (o : Option ℕ) → AreImages m phi t images
+    → IsDown m (phi t) o → AreImages m phi (t + 1) (images ++ o ∷ [])
+images_more m phi t images o are is = record {
+  len = length-append images (o ∷ []) ∙ ap (λ k. k + 1) are.len;
+  each = λ n other at. elim (at_push images o other n at) [
+    | inl old ↦ are.each n other old
+    | inr (here, same) ↦ subst (λ k. IsDown m (phi k) other) (sym (here ∙ are.len)) (subst (IsDown m (phi t)) same is)
+  ];
+}
 
 module _ (t : ℕ) (rules : List Production) (p : ℕ) (rule : Production) (at : slice_get rules p ≡ Some rule) where
   headed : drop p rules ≡ rule ∷ drop (p + 1) rules

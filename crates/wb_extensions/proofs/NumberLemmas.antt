@@ -1,9 +1,21 @@
 -- Numbers that are moved up: below and past a bound, and once each.
 use Rattle.std.proofs.Common.{◌≡◌, ◌≢◌, ◌+◌, ◌-◌, ◌<◌, ◌≤◌, ◌∙◌, ◌⊎◌, ℕ, refl, sym, ap, inl, inr, arith}
 use Rattle.std.proofs.lemmas.Bool.{cond_below, cond_above, cases_lt}
+use Rattle.wb_base.specs.Grammar.{GrammarView}
 use Rattle.wb_grammars.specs.declared.item.Item.{Item}
 use Rattle.wb_extensions.specs.declared.numbers.Numbers.{Numbers}
+use Rattle.wb_extensions.specs.Extensions.{IsPartOf, numbers_of}
+use Rattle.wb_extensions.specs.Inner.Numbers.{AreInTurn}
 use Rattle.wb_extensions.specs.Numbers.{lifted, item_up}
+
+-- the numbers of a host's grammar and of one of which it is a part
+pub numbers_in_turn : (host both : GrammarView) (holes : ℕ) → IsPartOf host both holes → AreInTurn (numbers_of host both holes)
+numbers_in_turn host both holes part = record {
+  own_terminals = omega arith;
+  terminals = part.more_terminals;
+  own_productions = omega arith;
+  productions = part.more_productions;
+}
 
 pub lifted_below : (own more n : ℕ) → n < own → lifted own more n ≡ n
 lifted_below own more n below = sym (cond_below n own n (n + more) below)

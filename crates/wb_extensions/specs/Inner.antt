@@ -1,4 +1,5 @@
 -- Words of private functions, and what loops keep.
+pub mod Numbers
 pub mod Moved
 pub mod Contexts
 pub mod Keeps

@@ -1,5 +1,5 @@
 -- The numbers of a host, with holes, in those of the host with an extension, with holes.
-use Rattle.std.specs.Prelude.{◌≤◌, ◌+◌, ◌-◌, ℕ, nat_lt, if◌then◌else◌}
+use Rattle.std.specs.Prelude.{◌+◌, ◌-◌, ℕ, nat_lt, if◌then◌else◌}
 use Rattle.wb_grammars.specs.declared.item.Item.{Item}
 use Rattle.wb_unions.specs.Renamings.{Renaming}
 use Rattle.wb_extensions.specs.declared.numbers.Numbers.{Numbers}
@@ -27,10 +27,3 @@ renaming_by m nonterminal = record { terminal = terminal_up m; nonterminal = non
 -- the same where nonterminals keep their numbers
 abbrev pub up_by : Numbers → Renaming
 up_by m = renaming_by m (λ a. a)
-
--- the host's own are among those with holes, and there are no fewer with the extension
-pub record AreInTurn (m : Numbers) : Type 0 where
-  pub own_terminals : m.own_terminals ≤ m.host_terminals
-  pub terminals : m.host_terminals ≤ m.both_terminals
-  pub own_productions : m.own_productions ≤ m.host_productions
-  pub productions : m.host_productions ≤ m.both_productions

@@ -1,6 +1,6 @@
 //! Which lookaheads may the items of a new kernel have? Those that they have at the host's kernels that contain it.
 
-ghost use Rattle.std.specs.Prelude.{◌≡◌, ◌↔◌, ◌⊎◌, ◌<◌, ◌+◌, ℕ, All, IfOk, IsTrue, Contains, length};
+ghost use Rattle.std.specs.Prelude.{◌≡◌, ◌↔◌, ◌⊎◌, ◌<◌, ◌+◌, ℕ, All, IfOk, OnOk, IsTrue, Contains, length};
 ghost use Rattle.wb_grammars.specs.declared.item.Item.{Item};
 ghost use Rattle.wb_grammars.specs.Closure.{InClosure};
 ghost use Rattle.wb_grammars.specs.Items.{HasItem};
@@ -11,14 +11,13 @@ ghost use Rattle.wb_items.specs.Table.{AreProductions};
 ghost use Rattle.wb_termset.specs.Sets.{IsMember};
 ghost use Rattle.wb_extensions.specs.Inner.Contexts.{IsContext, host_of};
 ghost use Rattle.wb_extensions.specs.Inner.Index.{IsIndex, IsIndexable};
-ghost use Rattle.wb_extensions.specs.Inner.Envelopes.{AreContaining, IsEnvelopeRow, IsEnvelopeSet};
+ghost use Rattle.wb_extensions.specs.Inner.Envelopes.{AddsContaining, AddsEntry, AreContaining, IsEnvelopeRow, IsEnvelopeSet};
 
-use crate::closure::closure_of;
 use crate::context::Context;
 use crate::host_index::{States, listed};
 use std::alloc::{AllocError, Global};
 use wb_base::push;
-use wb_items::{Item, ItemLookahead, Kernels, Numbers};
+use wb_items::{Item, ItemLookahead, Kernels, Numbers, kernel_closure};
 use wb_termset::TermSet;
 
 // The items of the closure of a kernel, each with its lookaheads in the envelope.
@@ -33,7 +32,7 @@ pub(crate) fn envelope_of(
     requires own { IsIndexable (host_of context.now) own.now }
     ensures { IfOk result (λ row. IsEnvelopeRow (host_of context.now) own.now row.items) }
 {
-    let closure = closure_of(alloc, context.grammar, rules, own)?;
+    let closure = kernel_closure(alloc, context.grammar, rules, own)?;
     envelope_row(alloc, context, own, &closure)
 }
 
@@ -68,10 +67,28 @@ fn row_by(
 {
     let mut row = Vec::with_capacity(alloc, closure.len())?;
     'items: for &item in closure {
-        let set = envelope_set(alloc, context, own, containing, item)?;
-        push(&mut row, ItemLookahead { item, set })?;
+        add_entry(context, own, containing, item, &mut row)?;
     }
     Ok(row)
+}
+
+// Adds an item with its lookaheads in the envelope.
+fn add_entry(
+    context: &Context,
+    own: &[Item],
+    containing: &[usize],
+    item: Item,
+    row: &mut Vec<ItemLookahead>,
+) -> Result<(), AllocError>
+    requires context { IsContext context.now }
+    requires containing { AreContaining context.now.host.now own.now containing.now }
+    requires item { InClosure (host_of context.now) (Contains own.now) item }
+    ensures { OnOk result (AddsEntry (host_of context.now) own.now item row.old.items row.new.items) }
+{
+    let alloc = *row.allocator();
+    let set = envelope_set(alloc, context, own, containing, item)?;
+    push(row, ItemLookahead { item, set })?;
+    Ok(())
 }
 
 // The lookaheads of one item in the envelope.
@@ -121,11 +138,27 @@ fn containing(
     let candidates = listed(index, own[0].production);
     let mut list = Vec::new(alloc);
     'candidates: for &state in candidates {
-        if has_all(host.kernel(state), own) {
-            push(&mut list, state)?;
-        }
+        add_containing(host, own, state, &mut list)?;
     }
     Ok(list)
+}
+
+// Adds the number of a kernel, if it has all these items.
+fn add_containing(
+    host: &Kernels,
+    own: &[Item],
+    state: usize,
+    list: &mut Vec<usize>,
+) -> Result<(), AllocError>
+    requires exact { AreKernels host.now }
+    requires state { state < count_of host.now }
+    ensures { OnOk result (AddsContaining host.now own.now state list.old.items list.new.items) }
+{
+    if !has_all(host.kernel(state), own) {
+        return Ok(());
+    }
+    push(list, state)?;
+    Ok(())
 }
 
 // Whether all these items are in the list.

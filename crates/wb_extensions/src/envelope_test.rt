@@ -10,7 +10,8 @@ ghost use Rattle.wb_items.specs.Table.{AreProductions};
 ghost use Rattle.wb_termset.specs.Sets.{IsMember};
 ghost use Rattle.wb_unions.specs.Numbered.{IsNewHostKernel};
 ghost use Rattle.wb_extensions.specs.Inner.Valid.{IsReduced};
-ghost use Rattle.wb_extensions.specs.Numbers.{AreInTurn, up_by};
+ghost use Rattle.wb_extensions.specs.Numbers.{up_by};
+ghost use Rattle.wb_extensions.specs.Inner.Numbers.{AreInTurn};
 ghost use Rattle.wb_extensions.specs.Regions.{AreRegions, IsRegion};
 ghost use Rattle.wb_extensions.specs.Inner.Contexts.{IsContext, both_of, host_of};
 ghost use Rattle.wb_extensions.specs.Inner.Envelopes.{AreInKernel, IsEnvelopeRow, KeepsRow};
@@ -96,10 +97,21 @@ fn new_set(
     ensures ok { IfOk result (IsConsideredFor context.now layout.now state Region.NewHost) }
     ensures refused { IfErr result (IsInnerRefusal context.now) }
 {
+    let own = own_items(alloc, context, state)?;
+    set_of_items(alloc, context, rules, layout, state, own.as_slice())
+}
+
+// The items of a new kernel in the host's numbers.
+fn own_items(alloc: Global, context: &Context, state: usize) -> Result<Sequence<Item>, AllocError>
+    requires context { IsContext context.now }
+    requires state { state < count_of context.now.both.now }
+    requires new { IsNewHostKernel (host_of context.now) (both_of context.now) (up_by context.now.numbers.now) (prefix_of context.now.both.now state) }
+    ensures { IfOk result (IsOwnList context.now state) }
+{
     let Some(own) = moved_items(alloc, context.numbers, context.both.kernel(state))? else {
         unreachable!()
     };
-    set_of_items(alloc, context, rules, layout, state, own.as_slice())
+    Ok(own)
 }
 
 // The same with its items in the host's numbers.

@@ -3,13 +3,15 @@
 //! Each test in the order in which refusals are shown: what is asked of hosts is asked of the host with the extension; then what the
 //! extension adds is compared with what the host allows. Marks are tested elsewhere, before all this or after.
 
-ghost use Rattle.std.specs.Prelude.{◌≡◌, ◌≤◌, IfErr, IfOk, IfSome, IsSome, length};
+ghost use Rattle.std.specs.Prelude.{◌≡◌, ◌≤◌, ◌+◌, IfErr, IfOk, IfSome, IsSome, length};
 ghost use Rattle.wb_determinism.specs.HostGrammar.{HasGrammar};
 ghost use Rattle.wb_extensions.specs.Extensions.{AreExtensionParts, IsDeterministicExtension, IsHostBeside, both_numbers, numbers_of};
 ghost use Rattle.wb_extensions.specs.Refusals.{IsExtensionRefusal};
 ghost use Rattle.wb_extensions.specs.Regions.{AreRegions};
 ghost use Rattle.wb_items.specs.Kernels.{count_of};
+ghost use Rattle.wb_extensions.specs.Images.{stands_for};
 ghost use Rattle.wb_extensions.specs.Inner.Extended.{IsContextOf, IsExtended};
+ghost use Rattle.wb_extensions.specs.Inner.Images.{AreImages};
 
 use crate::context::Context;
 use crate::host_index::host_index;
@@ -138,10 +140,28 @@ fn test_rules(
     ensures refused { IfErr result (IsExtensionRefusal extended.now.parts.now extended.now.grammar.now extended.now.host.now.grammar) }
 {
     let count = extended.both.grammar.lookahead_count()?;
+    let images = images_of(alloc, extended.parts, extended.grammar, numbers, count)?;
+    test_by_images(alloc, extended, numbers, regions, &images)
+}
+
+// The same with what the terminals stand for.
+fn test_by_images(
+    alloc: Global,
+    extended: &Extended,
+    numbers: &Numbers,
+    regions: &[Region],
+    images: &[Option<usize>],
+) -> Result<(), DeterminismRefusal>
+    requires extended { IsExtended extended.now }
+    requires numbers { numbers.now ≡ both_numbers extended.now.parts.now extended.now.grammar.now extended.now.host.now.grammar }
+    requires regions { AreRegions extended.now.host.now.kernels extended.now.both.now.kernels numbers.now (count_of extended.now.both.now.kernels) regions.now }
+    requires images { AreImages numbers.now (stands_for extended.now.parts.now extended.now.grammar.now) (extended.now.both.now.grammar.terminals + 1) images.now }
+    ensures ok { IfOk result (λ done. IsDeterministicExtension extended.now.parts.now extended.now.grammar.now extended.now.host.now.grammar) }
+    ensures refused { IfErr result (IsExtensionRefusal extended.now.parts.now extended.now.grammar.now extended.now.host.now.grammar) }
+{
     let Some(productions) = extended.host.grammar.productions().checked_add(1) else {
         return Err(DeterminismRefusal::NoMemory(AllocError));
     };
-    let images = images_of(alloc, extended.parts, extended.grammar, numbers, count)?;
     let index = host_index(alloc, &extended.host.kernels, productions)?;
     let context = Context {
         grammar: &extended.host.grammar,
@@ -150,7 +170,7 @@ fn test_rules(
         both: &extended.both.kernels,
         both_lookaheads: &extended.both.lookaheads,
         numbers,
-        images: &images,
+        images,
         index: &index,
     };
     test_both(alloc, extended, &context, regions)
@@ -170,6 +190,5 @@ fn test_both(
     ensures refused { IfErr result (IsExtensionRefusal extended.now.parts.now extended.now.grammar.now extended.now.host.now.grammar) }
 {
     test_lookaheads(alloc, context, regions)?;
-    test_envelopes(alloc, context, regions, extended.parts)?;
-    Ok(())
+    test_envelopes(alloc, context, regions, extended.parts)
 }

@@ -3,7 +3,7 @@
 ghost use Rattle.std.specs.Prelude.{◌≡◌, ◌≤◌, ◌<◌, ◌+◌, ◌^◌, IfOk, length, slice_get};
 ghost use Rattle.wb_extensions.specs.Images.{begins, bridged, hole_among, hole_for, is_marker_row, is_marking, stands_for};
 ghost use Rattle.wb_extensions.specs.Inner.Images.{AreImages, IsDown};
-ghost use Rattle.wb_extensions.specs.Numbers.{AreInTurn};
+ghost use Rattle.wb_extensions.specs.Inner.Numbers.{AreInTurn};
 
 use crate::numbers::{Numbers, terminal_before};
 use std::alloc::{AllocError, Global};

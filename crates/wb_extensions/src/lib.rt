@@ -4,7 +4,6 @@
 //! marks are tested elsewhere.
 #![tactic(auto)]
 
-mod closure;
 mod conflict;
 mod context;
 mod envelope;

@@ -4,7 +4,8 @@
 
 ghost use Rattle.std.specs.Prelude.{◌≡◌, ◌≢◌, ◌<◌, ◌≤◌, ◌+◌, ◌-◌, ◌^◌, ℕ, MatchOption};
 ghost use Rattle.wb_grammars.specs.declared.item.Item.{Item};
-ghost use Rattle.wb_extensions.specs.Numbers.{AreInTurn, item_up, lifted, production_up, terminal_up};
+ghost use Rattle.wb_extensions.specs.Numbers.{item_up, lifted, production_up, terminal_up};
+ghost use Rattle.wb_extensions.specs.Inner.Numbers.{AreInTurn};
 
 use wb_items::Item;
 

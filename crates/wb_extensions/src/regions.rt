@@ -4,9 +4,9 @@
 
 ghost use Rattle.std.specs.Prelude.{◌≡◌, ◌<◌, IfOk, MatchOption};
 ghost use Rattle.wb_items.specs.Kernels.{AreKernels, count_of};
-ghost use Rattle.wb_extensions.specs.Numbers.{AreInTurn};
 ghost use Rattle.wb_extensions.specs.Regions.{AreRegions, IsRegion};
 ghost use Rattle.wb_extensions.specs.Inner.Moved.{AreMoved, HasForeign};
+ghost use Rattle.wb_extensions.specs.Inner.Numbers.{AreInTurn};
 
 use crate::numbers::{Numbers, item_down};
 use std::alloc::{AllocError, Global};

@@ -8,8 +8,10 @@ ghost use Rattle.wb_resolved.specs.declared.terminal.Terminal.{Terminal};
 ghost use Rattle.wb_extensions.specs.Inner.Keeps.{KeepsHostLookaheads};
 ghost use Rattle.wb_extensions.specs.Regions.{AreRegions};
 ghost use Rattle.wb_extensions.specs.Inner.Clashes.{HasSets};
+ghost use Rattle.wb_extensions.specs.Inner.Considered.{AreConsidered};
 ghost use Rattle.wb_extensions.specs.Inner.Contexts.{HasImage, IsContext, both_of, host_of};
 ghost use Rattle.wb_extensions.specs.Inner.Extended.{IsEnvelopeRefusal, IsLookaheadRefusal, MeetsEnvelope, lexicon_for};
+ghost use Rattle.wb_extensions.specs.Inner.Shown.{IsInnerRefusal};
 
 use crate::Region;
 use crate::context::Context;
@@ -81,9 +83,25 @@ fn test_with_layout(
     ensures ok { IfOk result (λ done. MeetsEnvelope context.now (lexicon_for parts.now context.now.numbers.now.own_terminals)) }
     ensures refused { IfErr result (IsEnvelopeRefusal context.now (lexicon_for parts.now context.now.numbers.now.own_terminals)) }
 {
-    let rules = production_numbers(alloc, context.grammar)?;
-    let sets = envelope_sets(alloc, context, &rules, regions, layout)?;
+    let sets = considered(alloc, context, regions, layout)?;
     test_scanner(alloc, context, parts, layout, &sets)
+}
+
+// The sets of what is considered.
+fn considered(
+    alloc: Global,
+    context: &Context,
+    regions: &[Region],
+    layout: &TermSet,
+) -> Result<Vec<TermSet>, DeterminismRefusal>
+    requires context { IsContext context.now }
+    requires regions { AreRegions context.now.host.now context.now.both.now context.now.numbers.now (count_of context.now.both.now) regions.now }
+    requires layout { context.now.numbers.now.own_terminals ≤ length layout.now }
+    ensures ok { IfOk result (λ sets. AreConsidered context.now layout.now regions.now (count_of context.now.both.now) sets.items) }
+    ensures refused { IfErr result (IsInnerRefusal context.now) }
+{
+    let rules = production_numbers(alloc, context.grammar)?;
+    envelope_sets(alloc, context, &rules, regions, layout)
 }
 
 // The same with the sets of what is considered.

@@ -11,7 +11,8 @@ use Rattle.wb_termset.specs.Sets.{IsMember}
 use Rattle.wb_extensions.specs.declared.context.Context.{Context}
 use Rattle.wb_extensions.specs.LookaheadRule.{IsLookaheadFault}
 use Rattle.wb_extensions.specs.Inner.Index.{IsIndex}
-use Rattle.wb_extensions.specs.Numbers.{AreInTurn, item_up, up_by}
+use Rattle.wb_extensions.specs.Inner.Numbers.{AreInTurn}
+use Rattle.wb_extensions.specs.Numbers.{item_up, up_by}
 use Rattle.wb_unions.specs.Numbered.{IsHostKernel}
 
 -- the terminal stands for the other

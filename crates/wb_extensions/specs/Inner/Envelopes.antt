@@ -1,5 +1,5 @@
 -- Envelopes of a set of items, as sets of terminals.
-use Rattle.std.specs.Prelude.{◌≡◌, ◌↔◌, ◌<◌, ◌+◌, ℕ, List, All, length, Contains}
+use Rattle.std.specs.Prelude.{◌≡◌, ◌↔◌, ◌⊎◌, ◌<◌, ◌+◌, ◌++◌, ◌∷◌, [], ℕ, List, All, length, Contains}
 use Rattle.wb_base.specs.Grammar.{GrammarView}
 use Rattle.wb_grammars.specs.declared.item.Item.{Item}
 use Rattle.wb_grammars.specs.Closure.{InClosure}
@@ -22,6 +22,10 @@ HasAll kernels own s = (s < count_of kernels) × ((i : Item) → Contains own i 
 abbrev pub AreContaining : KernelsView → List Item → List ℕ → Type 0
 AreContaining kernels own list = (s : ℕ) → Contains list s ↔ HasAll kernels own s
 
+-- the kernel's number comes after the others where it has all these items, and else they stay as they are
+abbrev pub AddsContaining : KernelsView → List Item → ℕ → List ℕ → List ℕ → Type 0
+AddsContaining kernels own s old new = (HasAll kernels own s × (new ≡ old ++ s ∷ [])) ⊎ ((¬ HasAll kernels own s) × (new ≡ old))
+
 -- the set has room for the terminals and the end of a text, and its members are the item's lookaheads in the envelope
 pub record IsEnvelopeSet (g : GrammarView) (own : List Item) (looks : ItemLookahead) : Type 0 where
   pub len : length looks.set ≡ g.terminals + 1
@@ -31,6 +35,13 @@ pub record IsEnvelopeSet (g : GrammarView) (own : List Item) (looks : ItemLookah
 pub record IsEnvelopeRow (g : GrammarView) (own : List Item) (row : List ItemLookahead) : Type 0 where
   pub items : (item : Item) → Contains (items_in row) item ↔ InClosure g (Contains own) item
   pub sets : All (IsEnvelopeSet g own) row
+
+-- the item comes after the others, with its lookaheads in the envelope
+pub record AddsEntry (g : GrammarView) (own : List Item) (item : Item) (old new : List ItemLookahead) : Type 0 where
+  pub looks : ItemLookahead
+  pub of_item : looks.item ≡ item
+  pub envelope : IsEnvelopeSet g own looks
+  pub after : new ≡ old ++ looks ∷ []
 
 -- the items are, in the extended host's numbers, in the kernel of this number
 abbrev pub AreInKernel : Context → ℕ → List Item → Type 0

@@ -1,12 +1,12 @@
 use Rattle.std.proofs.Common.{arith}
 use Rattle.wb_extensions.specs.Inner.Contexts.{host_of}
-use Rattle.wb_extensions.proofs.EnvelopeLemmas.{row_more, row_all}
+use Rattle.wb_extensions.proofs.EnvelopeLemmas.{row_added, row_all}
 use Rattle.wb_extensions.proofs.envelope.row_by.Goals as goal
 
 pub items-preserved : goal.items-preserved
 items-preserved c =
-    row_more (host_of c.args.context.now) c.args.own.now c.args.closure.now c.items.item-index _ c.items.row.items c.push.new.list.items
-    c.in_ok-set.set c.items-test.true c.in_ok-set.ensures c.in_ok-push.ensures.ok c.items.invariant
+    row_added (host_of c.args.context.now) c.args.own.now c.args.closure.now c.items.item-index _ c.items.row.items
+    c.add_entry.new.row.items c.items-test.true c.in_ok-add_entry.ensures c.items.invariant
 
 pub returns : goal.returns
 returns c =

@@ -1,6 +1,8 @@
+use Rattle.std.proofs.lemmas.Result.{IfOk-weaker, IfErr-weaker}
 use Rattle.wb_lemmas.proofs.Refusals.{handed_on}
+use Rattle.wb_extensions.specs.Extensions.{IsDeterministicExtension}
 use Rattle.wb_extensions.specs.Refusals.{IsExtensionRefusal}
-use Rattle.wb_extensions.specs.Inner.Extended.{IsEnvelopeRefusal, IsLookaheadRefusal, lexicon_for}
+use Rattle.wb_extensions.specs.Inner.Extended.{IsEnvelopeRefusal, IsLookaheadRefusal, MeetsEnvelope, lexicon_for}
 use Rattle.wb_extensions.proofs.ExtensionLemmas.{deterministic, envelope_refusal, lookahead_refusal}
 use Rattle.wb_extensions.proofs.extension.test_both.Goals as goal
 
@@ -13,16 +15,20 @@ returns-in_err-test_lookaheads-clause-refused c =
     (lookahead_refusal x c.args.context.now c.requires.extended c.requires.context)
     c.in_err-test_lookaheads.ensures.refused
 
-pub returns-in_err-test_envelopes-clause-refused : goal.returns-in_err-test_envelopes-clause-refused
-returns-in_err-test_envelopes-clause-refused c =
+pub returns-clause-refused : goal.returns-clause-refused
+returns-clause-refused c =
     let x = c.args.extended.now in
-    handed_on (IsEnvelopeRefusal c.args.context.now (lexicon_for x.parts.now c.args.context.now.numbers.now.own_terminals))
-    (IsExtensionRefusal x.parts.now x.grammar.now x.host.now.grammar) c.from_residual-in_err-test_envelopes.result
-    c.in_err-test_envelopes.field-0.0 c.from_residual-in_err-test_envelopes.ensures.1
+    IfErr-weaker c.test_envelopes.result
+    (IsEnvelopeRefusal c.args.context.now (lexicon_for x.parts.now c.args.context.now.numbers.now.own_terminals))
+    (IsExtensionRefusal x.parts.now x.grammar.now x.host.now.grammar)
     (envelope_refusal x c.args.context.now c.requires.extended c.requires.context c.in_ok-test_lookaheads.ensures.ok)
-    c.in_err-test_envelopes.ensures.refused
+    c.test_envelopes.ensures.refused
 
 pub returns-clause-ok : goal.returns-clause-ok
 returns-clause-ok c =
-    deterministic c.args.extended.now c.args.context.now c.requires.extended c.requires.context c.in_ok-test_lookaheads.ensures.ok
-    c.in_ok-test_envelopes.ensures.ok
+    let x = c.args.extended.now in
+    IfOk-weaker c.test_envelopes.result
+    (λ done. MeetsEnvelope c.args.context.now (lexicon_for x.parts.now c.args.context.now.numbers.now.own_terminals))
+    (λ done. IsDeterministicExtension x.parts.now x.grammar.now x.host.now.grammar)
+    (λ done meets. deterministic x c.args.context.now c.requires.extended c.requires.context c.in_ok-test_lookaheads.ensures.ok meets)
+    c.test_envelopes.ensures.ok

@@ -1,7 +1,11 @@
-use Rattle.std.proofs.Common.{◌≡◌, ℕ, subst, arith}
+use Rattle.std.proofs.Common.{◌≡◌, ℕ, subst, sym, arith}
 use Rattle.wb_items.specs.Kernels.{count_of}
 use Rattle.wb_extensions.specs.Inner.Index.{IsIndex}
+use Rattle.wb_extensions.proofs.IndexLemmas.{index_none}
 use Rattle.wb_extensions.proofs.host_index.host_index.Goals as goal
+
+pub kernels-init : goal.kernels-init
+kernels-init c = subst (IsIndex c.args.host.now 0) (sym c.in_ok-index.ensures) (index_none c.args.host.now c.args.count c.requires)
 
 pub returns : goal.returns
 returns c =

@@ -1,7 +1,0 @@
-use Rattle.std.proofs.Common.{◌≡◌, ◌++◌, drop, map}
-use Rattle.wb_grammars.specs.Items.{initial_item}
-use Rattle.wb_extensions.proofs.closure.add_initial_items.Given as goal
-
-abbrev pub invariant-productions : goal.invariant-productions
-invariant-productions l = l.closure.items ++ map initial_item
-    (drop l.production-index l.productions) ≡ l.initial.closure.items ++ map initial_item l.productions
