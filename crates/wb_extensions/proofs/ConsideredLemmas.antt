@@ -27,7 +27,8 @@ use Rattle.wb_extensions.specs.Inner.Contexts.{HasImage, IsContext, both_of, hos
 use Rattle.wb_extensions.specs.Inner.Envelopes.{AreInKernel, IsEnvelopeRow, IsEnvelopeSet, IsRowFault, KeepsRow}
 use Rattle.wb_extensions.specs.Inner.Index.{IsIndexable}
 use Rattle.wb_extensions.specs.Inner.Conflicts.{HasNoConflictIn, IsFoundBy}
-use Rattle.wb_extensions.specs.Inner.Considered.{AreConsidered, CanBoth, IsClearSet, IsConsideredFor, IsLookaheadAt, IsOwnList, IsPairAt, KernelAt}
+use Rattle.wb_extensions.specs.Inner.Considered.{AreConsidered, CanBoth, IsClearSet, IsConsideredFor, IsLookaheadAt, IsOwnList, IsPairAt}
+use Rattle.wb_extensions.specs.Inner.Considered.{KernelAt}
 use Rattle.wb_extensions.specs.Inner.Valid.{IsReduced, IsShifted}
 use Rattle.wb_extensions.proofs.BoundLemmas.{own_bound}
 use Rattle.wb_extensions.proofs.EnvelopeLemmas.{closure_kept}
