@@ -2,52 +2,60 @@
 //!
 //! By the table of nested lists, which has a token, a list and an action of each sort.
 
+use std::alloc::{AllocError, Global};
 use std::test::Fail;
-use wb_predictive::nested::Event::{Began, Finished};
+use wb_predictive::nested::Event::{Began, Finished, Met};
 use wb_predictive::nested::{Event, Events, Nested};
 use wb_predictive::{Outcome, read_all};
 
-#[test]
-fn a_whole_text_has_what_it_meets(rt: HostRuntime) -> Result<(), Fail> {
-    let values = Events::new(rt.alloc());
-    let met = |digit: u8, at: usize| Event::Met { digit, at };
-    match read_all(rt.alloc(), &Nested, b"(1 (2 3)) ", values)? {
-        Outcome::Whole(events) => assert_eq!(rt;
-            events.as_slice(),
-            [
-                Began,
-                met(1, 1),
-                Began,
-                met(2, 4),
-                met(3, 6),
-                Finished,
-                Finished
-            ]
-            .as_slice()
-        ),
-        Outcome::Stopped { at } => assert!(rt; false, "stopped at {at}"),
+// What the text below meets.
+static MET: [Event; 7] = [
+    Began,
+    Met { digit: 1, at: 1 },
+    Began,
+    Met { digit: 2, at: 4 },
+    Met { digit: 3, at: 6 },
+    Finished,
+    Finished,
+];
+
+// Whether the whole text is read, and meets these.
+fn meets(alloc: Global, text: &[u8], wanted: &[Event]) -> Result<bool, AllocError> {
+    match read_all(alloc, &Nested, text, Events::new(alloc))? {
+        Outcome::Whole(events) => Ok(events.as_slice() == wanted),
+        Outcome::Stopped { at: _ } => Ok(false),
     }
-    Ok(())
 }
 
 #[test]
+fn a_whole_text_has_what_it_meets(rt: HostRuntime) -> Result<(), Fail> {
+    assert!(rt; meets(rt.alloc(), b"(1 (2 3)) ", &MET)?);
+    Ok(())
+}
+
+// Whether a text is read up to this place.
+fn stops_at(alloc: Global, text: &[u8], place: usize) -> Result<bool, AllocError> {
+    match read_all(alloc, &Nested, text, Events::new(alloc))? {
+        Outcome::Whole(_) => Ok(false),
+        Outcome::Stopped { at } => Ok(at == place),
+    }
+}
+
+static STOPPED: [(&str, usize); 8] = [
+    ("", 0), // the end comes too early
+    ("( 1 ", 4), // too early as well: the length, after the space
+    ("7", 0), // a token that begins no text
+    ("(1))", 3), // one too many
+    ("() ()", 3),
+    ("(1x)", 2), // no token
+    ("()x", 2),
+    ("((x", 2), // no token, before the text could end
+];
+
+#[test]
 fn other_texts_stop_at_what_cannot_follow(rt: HostRuntime) -> Result<(), Fail> {
-    let cases = [
-        ("", 0), // the end comes too early
-        ("( 1 ", 4), // too early as well: the length, after the space
-        ("7", 0), // a token that begins no text
-        ("(1))", 3), // one too many
-        ("() ()", 3),
-        ("(1x)", 2), // no token
-        ("()x", 2),
-        ("((x", 2), // no token, before the text could end
-    ];
-    for (text, place) in cases {
-        let values = Events::new(rt.alloc());
-        match read_all(rt.alloc(), &Nested, text.as_bytes(), values)? {
-            Outcome::Whole(_) => assert!(rt; false, "{text:?} is whole"),
-            Outcome::Stopped { at } => assert_eq!(rt; at, place, "{text:?}"),
-        }
+    for (text, place) in &STOPPED {
+        assert!(rt; stops_at(rt.alloc(), text.as_bytes(), *place)?, "{text:?}");
     }
     Ok(())
 }

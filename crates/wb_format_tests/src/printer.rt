@@ -2,12 +2,13 @@
 //!
 //! Expected values follow from the rule of canonical texts, not from a run.
 
-use std::alloc::Global;
+use std::alloc::{AllocError, Global};
 use std::test::Fail;
 use wb_printer::print_spec;
-use wb_reader::{SpecRefusal, read_spec};
+use wb_reader::read_spec;
+use wb_syntax::Spec;
 
-const TEXTS: [(&str, &str); 4] = [
+static TEXTS: [(&str, &str); 4] = [
     (
         "format 01;host h;aspect p{top.a=@add(-05 ,\"a\\\"b\\n\");}terminal N/[0-9]+/;",
         "format 1;\nhost h;\naspect p { top.a = @add(-5, \"a\\\"b\\n\"); }\nterminal N /[0-9]+/;\n",
@@ -26,28 +27,23 @@ const TEXTS: [(&str, &str); 4] = [
     ),
 ];
 
-// Whether the second text is the canonical one of the first.
-fn is_canonical(alloc: Global, text: &str, canonical: &str) -> Result<bool, SpecRefusal> {
-    let spec = read_spec(alloc, text.as_bytes())?;
-    let printed = print_spec(alloc, &spec)?;
-    Ok(printed.as_slice() == canonical.as_bytes())
+// Whether this is the canonical text of a specification.
+fn is_printed(alloc: Global, spec: &Spec, canonical: &str) -> Result<bool, AllocError> {
+    Ok(print_spec(alloc, spec)?.as_slice() == canonical.as_bytes())
 }
 
-// The place of the first text that isn't printed so.
-fn first_wrong(alloc: Global, texts: &[(&str, &str)]) -> Result<Option<usize>, SpecRefusal> {
-    for (place, (text, canonical)) in texts.iter().enumerate() {
-        if !is_canonical(alloc, text, canonical)? {
-            return Ok(Some(place));
-        }
+// Whether the second text is the canonical one of the first.
+fn is_canonical(alloc: Global, text: &str, canonical: &str) -> Result<bool, AllocError> {
+    match read_spec(alloc, text.as_bytes()) {
+        Ok(spec) => is_printed(alloc, &spec, canonical),
+        Err(_) => Ok(false),
     }
-    Ok(None)
 }
 
 #[test]
 fn a_canonical_text_has_lines_and_spaces(rt: HostRuntime) -> Result<(), Fail> {
-    let Ok(wrong) = first_wrong(rt.alloc(), &TEXTS) else {
-        return Err(Fail::from("the texts are specifications"));
-    };
-    assert_eq!(rt; wrong, None);
+    for (text, canonical) in &TEXTS {
+        assert!(rt; is_canonical(rt.alloc(), text, canonical)?, "{text}");
+    }
     Ok(())
 }

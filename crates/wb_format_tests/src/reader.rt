@@ -2,39 +2,44 @@
 //!
 //! Expected values follow from the grammar and the order of refusals, not from a run.
 
-use std::alloc::{AllocError, Global};
-use std::test::Fail;
+use std::alloc::Global;
 use wb_reader::{SpecRefusal, read_spec};
 use wb_syntax::{Header, Item, ItemForm, Node, Pattern, ProductionRole, Spec};
 
-// What becomes of a text: the number of its items, or the code of its refusal with its place, or with 0 where it has none.
-fn outcome(alloc: Global, text: &[u8]) -> Result<(&'static str, usize), AllocError> {
-    match read_spec(alloc, text) {
-        Ok(spec) => Ok(("items", spec.items().len())),
-        Err(SpecRefusal::TooLong) => Ok(("S2", 0)),
-        Err(SpecRefusal::WrongFormat) => Ok(("S3", 0)),
-        Err(SpecRefusal::Syntax(at)) => Ok(("S1", at)),
-        Err(SpecRefusal::BadRegex(at)) => Ok(("R1", at)),
-        Err(SpecRefusal::MatchesEmpty(name)) => Ok(("R2", name.as_slice().len())),
-        Err(SpecRefusal::NoMemory(error)) => Err(error),
+// The code and the place of a refusal; 0 where it has no place, and the length of its name where it has one.
+fn shown(refusal: &SpecRefusal) -> (&'static str, usize) {
+    match refusal {
+        SpecRefusal::TooLong => ("S2", 0),
+        SpecRefusal::WrongFormat => ("S3", 0),
+        SpecRefusal::Syntax(at) => ("S1", *at),
+        SpecRefusal::BadRegex(at) => ("R1", *at),
+        SpecRefusal::MatchesEmpty(name) => ("R2", name.as_slice().len()),
+        SpecRefusal::NoMemory(_) => ("no memory", 0),
     }
 }
 
-// The first text, of those with their code and place, that has another outcome.
-fn first_wrong<'a>(
-    alloc: Global,
-    cases: &[(&'a str, &str, usize)],
-) -> Result<Option<&'a str>, AllocError> {
-    for (text, code, at) in cases {
-        let (is, place) = outcome(alloc, text.as_bytes())?;
-        if is != *code || place != *at {
-            return Ok(Some(*text));
+// Whether a text has so many items, or is refused by this code at this place.
+fn has_outcome(alloc: Global, text: &[u8], code: &str, place: usize) -> bool {
+    match read_spec(alloc, text) {
+        Ok(spec) => code == "items" && spec.items().len() == place,
+        Err(refusal) => {
+            let (is, at) = shown(&refusal);
+            is == code && at == place
         }
     }
-    Ok(None)
 }
 
-const HEADERS: [(&str, &str, usize); 14] = [
+// Whether each text, of those with their code and place, has its outcome.
+fn have_outcomes(alloc: Global, cases: &[(&str, &str, usize)]) -> bool {
+    for (text, code, place) in cases {
+        if !has_outcome(alloc, text.as_bytes(), *code, *place) {
+            return false;
+        }
+    }
+    true
+}
+
+static HEADERS: [(&str, &str, usize); 14] = [
     ("", "S1", 0),
     ("  // c", "S1", 6),
     ("format 1; host h;", "items", 0),
@@ -51,7 +56,7 @@ const HEADERS: [(&str, &str, usize); 14] = [
     ("format 1; extension e;", "S1", 21),
 ];
 
-const ITEMS: [(&str, &str, usize); 16] = [
+static ITEMS: [(&str, &str, usize); 16] = [
     ("format 1; host r; terminal T /a(/;", "R1", 32),
     ("format 1; host h; terminal T /a*/;", "R2", 1),
     ("format 1; host h; terminal Tt /b?/; ignore U /(/;", "R2", 2),
@@ -75,17 +80,13 @@ const ITEMS: [(&str, &str, usize); 16] = [
 ];
 
 #[test]
-fn a_header_has_its_outcome(rt: HostRuntime) -> Result<(), Fail> {
-    let wrong = first_wrong(rt.alloc(), &HEADERS)?;
-    assert!(rt; wrong.is_none(), "{wrong:?}");
-    Ok(())
+fn a_header_has_its_outcome(rt: HostRuntime) {
+    assert!(rt; have_outcomes(rt.alloc(), &HEADERS));
 }
 
 #[test]
-fn a_pattern_or_an_item_has_its_outcome(rt: HostRuntime) -> Result<(), Fail> {
-    let wrong = first_wrong(rt.alloc(), &ITEMS)?;
-    assert!(rt; wrong.is_none(), "{wrong:?}");
-    Ok(())
+fn a_pattern_or_an_item_has_its_outcome(rt: HostRuntime) {
+    assert!(rt; have_outcomes(rt.alloc(), &ITEMS));
 }
 
 // Whether the node of the equation below is at its place.
@@ -143,13 +144,17 @@ fn is_extension(spec: &Spec) -> bool {
     right
 }
 
-#[test]
-fn a_specification_has_its_parts_in_order(rt: HostRuntime) -> Result<(), Fail> {
+// Whether the extension is read as it is.
+fn is_read(alloc: Global) -> bool {
     let text =
         b"format 1; extension e for h; abstract p : N ::= a : int b : M {\n  b.i = if a then f(b.s, \"x\") else @g(); }";
-    let Ok(spec) = read_spec(rt.alloc(), text) else {
-        return Err(Fail::from("it is a specification"));
-    };
-    assert!(rt; is_extension(&spec));
-    Ok(())
+    match read_spec(alloc, text) {
+        Ok(spec) => is_extension(&spec),
+        Err(_) => false,
+    }
+}
+
+#[test]
+fn a_specification_has_its_parts_in_order(rt: HostRuntime) {
+    assert!(rt; is_read(rt.alloc()));
 }

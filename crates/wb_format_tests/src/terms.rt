@@ -11,13 +11,13 @@ use wb_terms::{PrintRefusal, TermRefusal, print_value, read_term};
 use wb_values::{Signatures, TreeId, TreeStore, Value};
 
 // What a reading answers.
-#[derive(Clone, Copy, Debug, PartialEq, Eq)]
+#[derive(Clone, Copy, PartialEq, Eq)]
 enum Answer {
     Read,
     Bad(usize),
     Unknown(usize),
     WrongChild(usize),
-    Long,
+    NoMemory,
 }
 
 // The productions `lit` and `add` of numbers, `e:both` with a child of each kind, and `leaf` without a child, of another nonterminal;
@@ -36,101 +36,116 @@ fn signatures(alloc: Global) -> Result<Signatures, AllocError> {
     Ok(made)
 }
 
-// What the text of a tree is, or that it is too long.
-fn printed(
+// What is read of a text into a store.
+fn answer_in(alloc: Global, text: &[u8], signatures: &Signatures, store: &mut TreeStore) -> Answer {
+    match read_term(alloc, text, signatures, store) {
+        Ok(_) => Answer::Read,
+        Err(TermRefusal::Bad(at)) => Answer::Bad(at),
+        Err(TermRefusal::Unknown(at)) => Answer::Unknown(at),
+        Err(TermRefusal::WrongChild(at)) => Answer::WrongChild(at),
+        Err(TermRefusal::NoMemory(_)) => Answer::NoMemory,
+    }
+}
+
+// Whether each text is answered as beside it.
+fn are_answered(alloc: Global, signatures: &Signatures, cases: &[(&str, Answer)]) -> bool {
+    let mut store = TreeStore::new(alloc);
+    for (text, wanted) in cases {
+        if answer_in(alloc, text.as_bytes(), signatures, &mut store) != *wanted {
+            return false;
+        }
+    }
+    true
+}
+
+fn are_read(alloc: Global, cases: &[(&str, Answer)]) -> Result<bool, AllocError> {
+    let signatures = signatures(alloc)?;
+    Ok(are_answered(alloc, &signatures, cases))
+}
+
+static READ: [(&str, Answer); 24] = [
+    ("lit(1)", Answer::Read),
+    (" add ( lit(1) ,\nlit(-2) ) \t", Answer::Read),
+    ("e : both(1, true, \"x\", leaf())", Answer::Read),
+    ("add(lit(1)", Answer::Bad(10)),
+    ("sub(lit(1))", Answer::Unknown(0)),
+    ("lit(\"1\")", Answer::WrongChild(4)),
+    ("", Answer::Bad(0)),
+    ("  ", Answer::Bad(2)),
+    ("lit(1) lit(1)", Answer::Bad(7)),
+    ("lit(1) // one", Answer::Bad(7)),
+    ("lit(1,)", Answer::Bad(6)),
+    ("true", Answer::Bad(0)),
+    ("lit(host)", Answer::Bad(4)),
+    ("lit(9223372036854775808)", Answer::Bad(4)),
+    ("sub(lit(1)", Answer::Bad(10)),
+    ("add(lit(), mul())", Answer::Unknown(11)),
+    ("e:lit(1)", Answer::Unknown(0)),
+    ("e:both(1, 1, sub())", Answer::Unknown(13)),
+    ("add(lit(), 1)", Answer::WrongChild(4)),
+    ("add(lit(1), lit(), 2)", Answer::WrongChild(0)),
+    ("add(lit(1), leaf())", Answer::WrongChild(12)),
+    ("add(leaf(), leaf())", Answer::WrongChild(4)),
+    ("e:both(1, 0, true, lit(1))", Answer::WrongChild(10)),
+    ("e:both(1, true, \"x\", lit(1))", Answer::WrongChild(21)),
+];
+
+#[test]
+fn terms_are_read_exactly(rt: HostRuntime) -> Result<(), Fail> {
+    assert!(rt; are_read(rt.alloc(), &READ)?);
+    Ok(())
+}
+
+// What is printed of a tree.
+fn is_text(
     alloc: Global,
     tree: TreeId,
     signatures: &Signatures,
     store: &TreeStore,
-) -> Result<(Answer, Vec<u8>), AllocError>
+    wanted: &[u8],
+) -> bool
     requires { tree.0 < length store.now }
 {
     match print_value(alloc, &Value::Tree(tree), signatures, store) {
-        Ok(printed) => Ok((Answer::Read, printed)),
-        Err(PrintRefusal::TooLong) => Ok((Answer::Long, Vec::new(alloc))),
-        Err(PrintRefusal::NoMemory(error)) => Err(error),
+        Ok(printed) => printed.as_slice() == wanted,
+        Err(_) => false,
     }
 }
 
-// What is read of a text, and what its tree is printed as.
-fn answer_to(alloc: Global, text: &[u8]) -> Result<(Answer, Vec<u8>), AllocError> {
-    let signatures = signatures(alloc)?;
+// Whether the term of a text is printed so.
+fn is_printed(alloc: Global, signatures: &Signatures, text: &[u8], wanted: &[u8]) -> bool {
     let mut store = TreeStore::new(alloc);
-    match read_term(alloc, text, &signatures, &mut store) {
-        Ok(tree) => printed(alloc, tree, &signatures, &store),
-        Err(TermRefusal::Bad(at)) => Ok((Answer::Bad(at), Vec::new(alloc))),
-        Err(TermRefusal::Unknown(at)) => Ok((Answer::Unknown(at), Vec::new(alloc))),
-        Err(TermRefusal::WrongChild(at)) => Ok((Answer::WrongChild(at), Vec::new(alloc))),
-        Err(TermRefusal::NoMemory(error)) => Err(error),
+    match read_term(alloc, text, signatures, &mut store) {
+        Ok(tree) => is_text(alloc, tree, signatures, &store, wanted),
+        Err(_) => false,
     }
 }
 
-// The first text that is answered otherwise.
-fn first_other(alloc: Global, cases: &[(&str, Answer)]) -> Result<Option<usize>, AllocError> {
-    for (place, (text, wanted)) in cases.iter().enumerate() {
-        if answer_to(alloc, text.as_bytes())?.0 != *wanted {
-            return Ok(Some(place));
-        }
-    }
-    Ok(None)
+fn is_printed_as(alloc: Global, text: &[u8], wanted: &[u8]) -> Result<bool, AllocError> {
+    let signatures = signatures(alloc)?;
+    Ok(is_printed(alloc, &signatures, text, wanted))
 }
 
-#[test]
-fn terms_are_read_exactly(rt: HostRuntime) -> Result<(), Fail> {
-    let cases = [
-        ("lit(1)", Answer::Read),
-        (" add ( lit(1) ,\nlit(-2) ) \t", Answer::Read),
-        ("e : both(1, true, \"x\", leaf())", Answer::Read),
-        ("add(lit(1)", Answer::Bad(10)),
-        ("sub(lit(1))", Answer::Unknown(0)),
-        ("lit(\"1\")", Answer::WrongChild(4)),
-        ("", Answer::Bad(0)),
-        ("  ", Answer::Bad(2)),
-        ("lit(1) lit(1)", Answer::Bad(7)),
-        ("lit(1) // one", Answer::Bad(7)),
-        ("lit(1,)", Answer::Bad(6)),
-        ("true", Answer::Bad(0)),
-        ("lit(host)", Answer::Bad(4)),
-        ("lit(9223372036854775808)", Answer::Bad(4)),
-        ("sub(lit(1)", Answer::Bad(10)),
-        ("add(lit(), mul())", Answer::Unknown(11)),
-        ("e:lit(1)", Answer::Unknown(0)),
-        ("e:both(1, 1, sub())", Answer::Unknown(13)),
-        ("add(lit(), 1)", Answer::WrongChild(4)),
-        ("add(lit(1), lit(), 2)", Answer::WrongChild(0)),
-        ("add(lit(1), leaf())", Answer::WrongChild(12)),
-        ("add(leaf(), leaf())", Answer::WrongChild(4)),
-        ("e:both(1, 0, true, lit(1))", Answer::WrongChild(10)),
-        ("e:both(1, true, \"x\", lit(1))", Answer::WrongChild(21)),
-    ];
-    assert_eq!(rt; first_other(rt.alloc(), &cases)?, None);
-    Ok(())
-}
-
-// The first text that is printed otherwise.
-fn first_misprint(alloc: Global, cases: &[(&str, &str)]) -> Result<Option<usize>, AllocError> {
-    for (place, (text, wanted)) in cases.iter().enumerate() {
-        if answer_to(alloc, text.as_bytes())?.1.as_slice() != wanted.as_bytes() {
-            return Ok(Some(place));
-        }
-    }
-    Ok(None)
-}
+static PRINTED: [(&str, &str); 3] = [
+    (" add( lit(007) , lit ( -2 ) )", "add(lit(7), lit(-2))"),
+    (
+        "e : both(0, false, \"\", leaf( ))",
+        "e:both(0, false, \"\", leaf())",
+    ),
+    (
+        "e:both(-9223372036854775808, true, \"a\\\"\\\\\\n\\t\\x7F~ \\xff\", leaf())",
+        "e:both(-9223372036854775808, true, \"a\\\"\\\\\\n\\x09\\x7f~ \\xff\", leaf())",
+    ),
+];
 
 #[test]
 fn values_are_printed(rt: HostRuntime) -> Result<(), Fail> {
-    let cases = [
-        (" add( lit(007) , lit ( -2 ) )", "add(lit(7), lit(-2))"),
-        (
-            "e : both(0, false, \"\", leaf( ))",
-            "e:both(0, false, \"\", leaf())",
-        ),
-        (
-            "e:both(-9223372036854775808, true, \"a\\\"\\\\\\n\\t\\x7F~ \\xff\", leaf())",
-            "e:both(-9223372036854775808, true, \"a\\\"\\\\\\n\\x09\\x7f~ \\xff\", leaf())",
-        ),
-    ];
-    assert_eq!(rt; first_misprint(rt.alloc(), &cases)?, None);
+    for (text, wanted) in &PRINTED {
+        assert!(rt;
+            is_printed_as(rt.alloc(), text.as_bytes(), wanted.as_bytes())?,
+            "{text}"
+        );
+    }
     Ok(())
 }
 
@@ -154,8 +169,7 @@ fn nested(alloc: Global, depth: usize) -> Result<Vec<u8>, AllocError> {
 // Whether a term nested so deep is printed as it was read.
 fn is_the_same(alloc: Global, depth: usize) -> Result<bool, AllocError> {
     let text = nested(alloc, depth)?;
-    let (found, printed) = answer_to(alloc, &text)?;
-    Ok(found == Answer::Read && printed.as_slice() == text.as_slice())
+    is_printed_as(alloc, &text, &text)
 }
 
 #[test]
@@ -167,17 +181,25 @@ fn what_is_printed_reads_the_same(rt: HostRuntime) -> Result<(), Fail> {
     Ok(())
 }
 
-// Whether a text leaves a store of one tree as it was.
-fn is_refused(alloc: Global, text: &[u8]) -> Result<bool, AllocError> {
-    let signatures = signatures(alloc)?;
-    let mut store = TreeStore::new(alloc);
-    let first = read_term(alloc, b"lit(5)", &signatures, &mut store).is_ok();
-    let second = read_term(alloc, text, &signatures, &mut store).is_err();
-    let third = match read_term(alloc, b"add(lit(1), lit(2))", &signatures, &mut store) {
+// Whether a text is refused and leaves a store of one tree as it was.
+fn is_refused_in(
+    alloc: Global,
+    text: &[u8],
+    signatures: &Signatures,
+    store: &mut TreeStore,
+) -> bool {
+    let first = answer_in(alloc, b"lit(5)", signatures, store) == Answer::Read;
+    let second = answer_in(alloc, text, signatures, store) != Answer::Read;
+    let third = match read_term(alloc, b"add(lit(1), lit(2))", signatures, store) {
         Ok(tree) => tree.0 == 3,
         Err(_) => false,
     };
-    Ok(first && second && third && store.len() == 4)
+    first && second && third && store.len() == 4
+}
+
+fn is_refused(alloc: Global, text: &[u8]) -> Result<bool, AllocError> {
+    let signatures = signatures(alloc)?;
+    Ok(is_refused_in(alloc, text, &signatures, &mut TreeStore::new(alloc)))
 }
 
 #[test]
@@ -208,12 +230,36 @@ fn shared(alloc: Global, store: &mut TreeStore, count: usize) -> Result<TreeId, 
     Ok(last)
 }
 
+// Whether the text of a tree is too long.
+fn is_too_long(
+    alloc: Global,
+    tree: TreeId,
+    signatures: &Signatures,
+    store: &TreeStore,
+) -> Result<bool, AllocError>
+    requires { tree.0 < length store.now }
+{
+    match print_value(alloc, &Value::Tree(tree), signatures, store) {
+        Ok(_) => Ok(false),
+        Err(PrintRefusal::TooLong) => Ok(true),
+        Err(PrintRefusal::NoMemory(error)) => Err(error),
+    }
+}
+
 // Whether a graph of so many doublings is too long to be printed.
-fn is_long(alloc: Global, count: usize) -> Result<bool, AllocError> {
-    let signatures = signatures(alloc)?;
+fn is_shared_long(
+    alloc: Global,
+    count: usize,
+    signatures: &Signatures,
+) -> Result<bool, AllocError> {
     let mut store = TreeStore::new(alloc);
     let tree = shared(alloc, &mut store, count)?;
-    Ok(printed(alloc, tree, &signatures, &store)?.0 == Answer::Long)
+    is_too_long(alloc, tree, signatures, &store)
+}
+
+fn is_long(alloc: Global, count: usize) -> Result<bool, AllocError> {
+    let signatures = signatures(alloc)?;
+    is_shared_long(alloc, count, &signatures)
 }
 
 #[test]

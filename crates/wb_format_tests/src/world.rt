@@ -2,33 +2,51 @@
 //!
 //! Expected values follow from their limits, not from a run. Runs of the program over them are in `show` and `value`.
 
+use std::alloc::{AllocError, Global};
 use std::test::Fail;
 use wb_world::{Got, MemoryShelf, MemorySink, Put, Shelf, Sink};
 
-#[test]
-fn reads_give_the_file_from_a_place(rt: HostRuntime) -> Result<(), Fail> {
-    let mut shelf = MemoryShelf::new(rt.alloc());
+// Whether reads of the file below are answered so, the fourth by a failure.
+fn are_read(shelf: &mut MemoryShelf) -> bool {
+    let mut buffer = [0; 4];
+    let first = shelf.read("h", 0, &mut buffer) == Got::Bytes(4) && buffer == *b"abcd";
+    let second = shelf.read("h", 4, &mut buffer) == Got::Bytes(1) && buffer[0] == b'e';
+    let third = shelf.read("h", 5, &mut buffer) == Got::Bytes(0);
+    let fourth = shelf.read("h", 0, &mut buffer) == Got::Failed;
+    let other = shelf.read("t", 0, &mut buffer) == Got::Absent;
+    first && second && third && fourth && other
+}
+
+fn is_shelf(alloc: Global) -> Result<bool, AllocError> {
+    let mut shelf = MemoryShelf::new(alloc);
     shelf.add_file("h", b"abcde")?;
     shelf.fail_at(4)?;
-    let mut buffer = [0; 4];
-    assert_eq!(rt; shelf.read("h", 0, &mut buffer), Got::Bytes(4));
-    assert_eq!(rt; buffer, *b"abcd");
-    assert_eq!(rt; shelf.read("h", 4, &mut buffer), Got::Bytes(1));
-    assert_eq!(rt; buffer[0], b'e');
-    assert_eq!(rt; shelf.read("h", 5, &mut buffer), Got::Bytes(0));
-    assert_eq!(rt; shelf.read("h", 0, &mut buffer), Got::Failed);
-    assert_eq!(rt; shelf.read("t", 0, &mut buffer), Got::Absent);
+    Ok(are_read(&mut shelf))
+}
+
+#[test]
+fn reads_give_the_file_from_a_place(rt: HostRuntime) -> Result<(), Fail> {
+    assert!(rt; is_shelf(rt.alloc())?);
     Ok(())
+}
+
+// Whether writes are answered so, the second by a failure.
+fn are_written(sink: &mut MemorySink) -> bool {
+    let first = sink.write(b"abcd") == Put::Took(3);
+    let second = sink.write(b"de") == Put::Failed;
+    let third = sink.write(b"def") == Put::Took(2);
+    let fourth = sink.write(b"f") == Put::Failed;
+    first && second && third && fourth && sink.bytes() == b"abcde".as_slice()
+}
+
+fn is_sink(alloc: Global) -> Result<bool, AllocError> {
+    let mut sink = MemorySink::new(alloc, 5, 3)?;
+    sink.fail_at(2)?;
+    Ok(are_written(&mut sink))
 }
 
 #[test]
 fn writes_take_what_the_limits_let_through(rt: HostRuntime) -> Result<(), Fail> {
-    let mut sink = MemorySink::new(rt.alloc(), 5, 3)?;
-    sink.fail_at(2)?;
-    assert_eq!(rt; sink.write(b"abcd"), Put::Took(3));
-    assert_eq!(rt; sink.write(b"de"), Put::Failed);
-    assert_eq!(rt; sink.write(b"def"), Put::Took(2));
-    assert_eq!(rt; sink.write(b"f"), Put::Failed);
-    assert_eq!(rt; sink.bytes(), b"abcde".as_slice());
+    assert!(rt; is_sink(rt.alloc())?);
     Ok(())
 }
