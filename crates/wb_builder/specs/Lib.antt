@@ -8,3 +8,5 @@ pub mod Parts
 pub mod Items
 -- what an action makes of the parts
 pub mod Actions
+-- words of private functions
+pub mod Inner

@@ -5,9 +5,10 @@
 
 ghost use Rattle.std.specs.Prelude.{◌≡◌, OnOk};
 ghost use Rattle.wb_expressions.specs.declared.node.Node.TheVariants as n;
-ghost use Rattle.wb_builder.specs.Expressions.{expression_act, with_node, with_number, with_string, with_label, with_read, with_placed_read, with_arguments, with_argument, with_call, with_if};
+ghost use Rattle.wb_builder.specs.Expressions.{expression_act, with_node, with_number, with_string, with_label, with_read, with_placed_read, with_argument, with_call, with_if};
 
 use crate::builder::SpecBuilder;
+use crate::stacks::{append, append_at, take_two};
 use std::alloc::{AllocError, Global};
 use wb_lists::List;
 use wb_syntax::Node;
@@ -46,7 +47,7 @@ pub(crate) fn expression_act(
         ExpressionAction::False => values.add_node(Node::Bool(false)),
         ExpressionAction::ReadTop => values.add_top(),
         ExpressionAction::ReadForward => values.add_forward(),
-        ExpressionAction::BeginArguments => values.begin_arguments(alloc),
+        ExpressionAction::BeginArguments => values.arguments.push(List::new(alloc)),
         ExpressionAction::Call => values.add_call(),
         ExpressionAction::If => values.add_if(),
         ExpressionAction::Label => values.add_label(),
@@ -62,12 +63,9 @@ impl SpecBuilder {
     fn add_node(&mut self, node: Node) -> Result<(), AllocError>
         ensures ok { OnOk result (self.new ≡ with_node node self.old) }
     {
-        let Some(mut nodes) = self.nodes.pop() else {
+        let Some(place) = append_at(&mut self.nodes, node)? else {
             return Ok(());
         };
-        let place = nodes.len();
-        nodes.push(node)?;
-        self.nodes.push(nodes)?;
         self.roots.push(place)
     }
 
@@ -115,10 +113,7 @@ impl SpecBuilder {
     fn add_read(&mut self) -> Result<(), AllocError>
         ensures ok { OnOk result (self.new ≡ with_read self.old) }
     {
-        let Some(attribute) = self.names.pop() else {
-            return Ok(());
-        };
-        let Some(label) = self.names.pop() else {
+        let Some((label, attribute)) = take_two(&mut self.names) else {
             return Ok(());
         };
         self.add_node(Node::Read {
@@ -153,13 +148,6 @@ impl SpecBuilder {
         self.add_node(Node::Forward(name.bytes))
     }
 
-    // Arguments begin. The only error is want of memory.
-    fn begin_arguments(&mut self, alloc: Global) -> Result<(), AllocError>
-        ensures ok { OnOk result (self.new ≡ with_arguments self.old) }
-    {
-        self.arguments.push(List::new(alloc))
-    }
-
     // The last part is an argument. The only error is want of memory.
     fn add_argument(&mut self) -> Result<(), AllocError>
         ensures ok { OnOk result (self.new ≡ with_argument self.old) }
@@ -167,11 +155,7 @@ impl SpecBuilder {
         let Some(root) = self.roots.pop() else {
             return Ok(());
         };
-        let Some(mut arguments) = self.arguments.pop() else {
-            return Ok(());
-        };
-        arguments.push(root)?;
-        self.arguments.push(arguments)
+        append(&mut self.arguments, root)
     }
 
     // A tree of a production is a part. The only error is want of memory.

@@ -5,9 +5,10 @@
 ghost use Rattle.std.specs.Prelude.{◌≡◌, OnOk};
 ghost use Rattle.wb_syntax.specs.declared.item.ItemForm.TheVariants as f;
 ghost use Rattle.wb_syntax.specs.declared.item.PlainForm.TheVariants as i;
-ghost use Rattle.wb_builder.specs.Items.{word_shift, item_act, format_of, with_begin, with_header, with_host, with_extension, last_start, without_start, with_item, with_named, with_pair, with_role, with_attribute, with_occurs, with_forward_on, with_children, with_production, with_production_item, with_aspect};
+ghost use Rattle.wb_builder.specs.Items.{word_shift, item_act, format_of, with_begin, with_header, with_host, with_extension, last_start, without_start, with_item, with_named, with_pair, with_role, with_attribute, with_occurs, with_forward_on, with_production, with_production_item, with_aspect};
 
 use crate::builder::SpecBuilder;
+use crate::stacks::take_two;
 use std::alloc::{AllocError, Global};
 use wb_base::Bytes;
 use wb_lists::List;
@@ -69,7 +70,7 @@ pub(crate) fn item_act(
         ItemAction::ForwardOn => values.add_forward_on(),
         ItemAction::ProductionItem(role) => values.add_production_item(role),
         ItemAction::Aspect => values.add_aspect(),
-        ItemAction::BeginChildren => values.begin_children(alloc),
+        ItemAction::BeginChildren => values.children.push(List::new(alloc)),
         ItemAction::Production => values.add_production(),
     }
 }
@@ -141,10 +142,7 @@ impl SpecBuilder {
     fn add_extension(&mut self)
         ensures { self.new ≡ with_extension self.old }
     {
-        let Some(host) = self.names.pop() else {
-            return;
-        };
-        let Some(name) = self.names.pop() else {
+        let Some((name, host)) = take_two(&mut self.names) else {
             return;
         };
         self.set_header(name.bytes, Header::Extension { host: host.bytes });
@@ -190,10 +188,7 @@ impl SpecBuilder {
     fn add_prefer(&mut self) -> Result<(), AllocError>
         ensures ok { OnOk result (self.new ≡ with_pair (λ first second. f.Plain (i.Prefer first second)) self.old) }
     {
-        let Some(second) = self.names.pop() else {
-            return Ok(());
-        };
-        let Some(first) = self.names.pop() else {
+        let Some((first, second)) = take_two(&mut self.names) else {
             return Ok(());
         };
         self.add_item(ItemForm::Plain(PlainForm::Prefer {
@@ -271,10 +266,7 @@ impl SpecBuilder {
         let Some(needs) = self.needs.pop() else {
             return Ok(());
         };
-        let Some(nonterminal) = self.names.pop() else {
-            return Ok(());
-        };
-        let Some(attribute) = self.names.pop() else {
+        let Some((attribute, nonterminal)) = take_two(&mut self.names) else {
             return Ok(());
         };
         self.add_item(ItemForm::Plain(PlainForm::Occurs {
@@ -326,13 +318,6 @@ impl SpecBuilder {
         })
     }
 
-    // Children begin. The only error is want of memory.
-    fn begin_children(&mut self, alloc: Global) -> Result<(), AllocError>
-        ensures ok { OnOk result (self.new ≡ with_children self.old) }
-    {
-        self.children.push(List::new(alloc))
-    }
-
     // A production is whole. The only error is want of memory.
     fn add_production(&mut self) -> Result<(), AllocError>
         ensures ok { OnOk result (self.new ≡ with_production self.old) }
@@ -343,10 +328,7 @@ impl SpecBuilder {
         let Some(children) = self.children.pop() else {
             return Ok(());
         };
-        let Some(left) = self.names.pop() else {
-            return Ok(());
-        };
-        let Some(name) = self.names.pop() else {
+        let Some((name, left)) = take_two(&mut self.names) else {
             return Ok(());
         };
         self.productions.push(Production {

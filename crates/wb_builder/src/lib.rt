@@ -9,6 +9,7 @@ mod builder;
 mod expressions;
 mod items;
 mod parts;
+mod stacks;
 
 pub use actions::{Action, act};
 pub use builder::{PlacedBytes, PlacedTarget, SpecBuilder};

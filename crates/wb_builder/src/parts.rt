@@ -4,9 +4,10 @@
 
 ghost use Rattle.std.specs.Prelude.{◌≡◌, OnOk};
 ghost use Rattle.wb_syntax.specs.declared.expression.Target.TheVariants as g;
-ghost use Rattle.wb_builder.specs.Parts.{part_act, with_kind, with_named_kind, with_no_needs, with_needs, with_names, with_listed, with_child, with_equations, with_target, with_label_target, with_local_target, with_forwards_to, with_nodes, with_equation};
+ghost use Rattle.wb_builder.specs.Parts.{part_act, with_kind, with_named_kind, with_needs, with_listed, with_child, with_target, with_label_target, with_local_target, with_forwards_to, with_equation};
 
 use crate::builder::{PlacedTarget, SpecBuilder};
+use crate::stacks::{append, take_two};
 use std::alloc::{AllocError, Global};
 use wb_lists::List;
 use wb_syntax::{Child, Equation, NamedKind, Target};
@@ -46,18 +47,18 @@ pub(crate) fn part_act(
         PartAction::BoolKind => values.add_kind(NamedKind::Bool),
         PartAction::TextKind => values.add_kind(NamedKind::Text),
         PartAction::NameKind => values.add_named_kind(),
-        PartAction::NoNeeds => values.add_no_needs(),
+        PartAction::NoNeeds => values.needs.push(None),
         PartAction::SomeNeeds => values.add_needs(),
-        PartAction::BeginNames => values.begin_names(alloc),
+        PartAction::BeginNames => values.lists.push(List::new(alloc)),
         PartAction::AddName => values.add_name(),
         PartAction::AddChild => values.add_child(),
-        PartAction::BeginEquations => values.begin_equations(alloc),
+        PartAction::BeginEquations => values.equations.push(List::new(alloc)),
         PartAction::TopTarget => values.begin_top(),
         PartAction::LabelTarget => values.begin_label(),
         PartAction::ForwardTarget => values.begin_forward(),
         PartAction::LocalTarget => values.begin_local(),
         PartAction::ForwardsToTarget => values.begin_forwards_to(),
-        PartAction::BeginNodes => values.begin_nodes(alloc),
+        PartAction::BeginNodes => values.nodes.push(List::new(alloc)),
         PartAction::AddEquation => values.add_equation(),
     }
 }
@@ -80,13 +81,6 @@ impl SpecBuilder {
         self.kinds.push(NamedKind::Name(name.bytes))
     }
 
-    // No flow type is written. The only error is want of memory.
-    fn add_no_needs(&mut self) -> Result<(), AllocError>
-        ensures ok { OnOk result (self.new ≡ with_no_needs self.old) }
-    {
-        self.needs.push(None)
-    }
-
     // A flow type is whole. The only error is want of memory.
     fn add_needs(&mut self) -> Result<(), AllocError>
         ensures ok { OnOk result (self.new ≡ with_needs self.old) }
@@ -97,13 +91,6 @@ impl SpecBuilder {
         self.needs.push(Some(names.into_sequence()))
     }
 
-    // A list of names begins. The only error is want of memory.
-    fn begin_names(&mut self, alloc: Global) -> Result<(), AllocError>
-        ensures ok { OnOk result (self.new ≡ with_names self.old) }
-    {
-        self.lists.push(List::new(alloc))
-    }
-
     // The last name goes to the end of its list. The only error is want of memory.
     fn add_name(&mut self) -> Result<(), AllocError>
         ensures ok { OnOk result (self.new ≡ with_listed self.old) }
@@ -111,11 +98,7 @@ impl SpecBuilder {
         let Some(name) = self.names.pop() else {
             return Ok(());
         };
-        let Some(mut list) = self.lists.pop() else {
-            return Ok(());
-        };
-        list.push(name.bytes)?;
-        self.lists.push(list)
+        append(&mut self.lists, name.bytes)
     }
 
     // A child is whole. The only error is want of memory.
@@ -128,21 +111,8 @@ impl SpecBuilder {
         let Some(name) = self.names.pop() else {
             return Ok(());
         };
-        let Some(mut children) = self.children.pop() else {
-            return Ok(());
-        };
-        children.push(Child {
-            label: name.bytes,
-            kind,
-        })?;
-        self.children.push(children)
-    }
-
-    // Equations begin. The only error is want of memory.
-    fn begin_equations(&mut self, alloc: Global) -> Result<(), AllocError>
-        ensures ok { OnOk result (self.new ≡ with_equations self.old) }
-    {
-        self.equations.push(List::new(alloc))
+        let label = name.bytes;
+        append(&mut self.children, Child { label, kind })
     }
 
     // An equation for an attribute of the top begins. The only error is want of memory.
@@ -177,10 +147,7 @@ impl SpecBuilder {
     fn begin_label(&mut self) -> Result<(), AllocError>
         ensures ok { OnOk result (self.new ≡ with_label_target self.old) }
     {
-        let Some(attribute) = self.names.pop() else {
-            return Ok(());
-        };
-        let Some(label) = self.names.pop() else {
+        let Some((label, attribute)) = take_two(&mut self.names) else {
             return Ok(());
         };
         let at = label.at;
@@ -195,10 +162,7 @@ impl SpecBuilder {
     fn begin_local(&mut self) -> Result<(), AllocError>
         ensures ok { OnOk result (self.new ≡ with_local_target self.old) }
     {
-        let Some(nonterminal) = self.names.pop() else {
-            return Ok(());
-        };
-        let Some(label) = self.names.pop() else {
+        let Some((label, nonterminal)) = take_two(&mut self.names) else {
             return Ok(());
         };
         let Some(at) = self.starts.pop() else {
@@ -222,13 +186,6 @@ impl SpecBuilder {
         self.targets.push(PlacedTarget { target, at })
     }
 
-    // An expression begins. The only error is want of memory.
-    fn begin_nodes(&mut self, alloc: Global) -> Result<(), AllocError>
-        ensures ok { OnOk result (self.new ≡ with_nodes self.old) }
-    {
-        self.nodes.push(List::new(alloc))
-    }
-
     // An equation is whole. The only error is want of memory.
     fn add_equation(&mut self) -> Result<(), AllocError>
         ensures ok { OnOk result (self.new ≡ with_equation self.old) }
@@ -242,14 +199,11 @@ impl SpecBuilder {
         let Some(target) = self.targets.pop() else {
             return Ok(());
         };
-        let Some(mut equations) = self.equations.pop() else {
-            return Ok(());
-        };
-        equations.push(Equation {
+        let equation = Equation {
             offset: target.at,
             target: target.target,
             nodes: nodes.into_sequence(),
-        })?;
-        self.equations.push(equations)
+        };
+        append(&mut self.equations, equation)
     }
 }
