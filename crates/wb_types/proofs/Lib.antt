@@ -1,4 +1,5 @@
 pub mod AnswerLemmas
+mod AtLemmas
 pub mod NodeLemmas
 pub mod OperationLemmas
 pub mod PassLemmas

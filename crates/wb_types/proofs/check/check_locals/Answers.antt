@@ -1,12 +1,24 @@
-use Rattle.std.proofs.Common.{List, All, refl, subst}
+use Rattle.std.proofs.Common.{List, All, refl, subst, sym}
 use Rattle.wb_base.specs.declared.symbol.Kind.TheVariants.{Tree}
 use Rattle.wb_lemmas.proofs.Elements.{all_contained}
 use Rattle.wb_lemmas.proofs.Refusals.{handed_on}
+use Rattle.wb_expressions.specs.Expression.{IsWhole}
 use Rattle.wb_resolved.specs.declared.production.Local.{Local}
+use Rattle.wb_resolved.specs.Named.{IsNamedLocal}
 use Rattle.wb_types.specs.Expected as s
 use Rattle.wb_types.specs.Inner.Passes.{Passes, Fails, SomeFails}
 use Rattle.wb_types.proofs.PassLemmas.{some_fails, taken_more, taken_all, read_contained}
 use Rattle.wb_types.proofs.check.check_locals.Goals as goal
+
+pub check_expression-requires : goal.check_expression-requires
+check_expression-requires c =
+    let a = c.args.context.now.attributes.now in
+    let production = c.args.context.now.production.now in
+    let l = c.local-item.result in
+    let named = all_contained (IsNamedLocal a production) production.locals l c.requires.locals
+    (read_contained c.as_slice-local-items.result.now production.locals c.locals.local-index l c.as_slice-local-items.ensures
+    c.locals-test.true c.local-item.is) in
+    subst IsWhole (sym c.as_slice.ensures) named.value.whole
 
 pub returns-in_err-check_expression-clause-refused : goal.returns-in_err-check_expression-clause-refused
 returns-in_err-check_expression-clause-refused c =

@@ -1,7 +1,15 @@
 use Rattle.std.proofs.Common.{◌≡◌, Some, ap, subst, true}
 use Rattle.wb_types.specs.Inner.Nodes.{CallsKind}
-use Rattle.wb_types.proofs.OperationLemmas.{operation_within, calls_exact, calls_gives, gives_calls}
+use Rattle.wb_types.proofs.AtLemmas.{none_exact}
+use Rattle.wb_types.proofs.OperationLemmas.{unknown_none, operation_within, calls_exact, calls_gives, gives_calls}
 use Rattle.wb_types.proofs.kinds.kind_called.Goals as goal
+
+pub returns-in_err-number : goal.returns-in_err-number
+returns-in_err-number c =
+    none_exact c.from_residual.result (CallsKind c.args.operations.now c.args.kinds.now c.args.name.now c.args.arguments.now)
+    c.from_residual.ensures
+    (λ is calls. unknown_none c.args.operations.now c.args.name.now calls.number calls.signature c.in_err-number.ensures.none
+    calls.listed calls.named)
 
 pub returns-then-not-are_at : goal.returns-then-not-are_at
 returns-then-not-are_at c = λ is. (

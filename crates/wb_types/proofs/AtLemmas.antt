@@ -1,0 +1,27 @@
+-- Kinds of parts at places, and that a kind is exactly what is found.
+use Rattle.std.proofs.Common.{◌≡◌, ◌<◌, ◌+◌, ◌↔◌, ℕ, List, Option, Some, None, sym, ◌∙◌, subst, slice_get, arith}
+use Rattle.std.proofs.Math.Decide.{dec_lt}
+use Rattle.wb_base.specs.declared.symbol.Kind.{Kind}
+use Rattle.wb_lemmas.proofs.Places.{at_once}
+use Rattle.wb_types.specs.Inner.Nodes.{IsAt}
+
+-- nothing is found where nothing is
+pub none_exact : (found : Option Kind) (P : Kind → Type 0) → found ≡ None → ((is : Kind) → P is → ⊥) → (is : Kind)
+    → (found ≡ Some is) ↔ P is
+none_exact found P none never is = (λ some. absurd (let e : None ≡ Some is = sym none ∙ some in cc), λ holds. absurd (never is holds))
+
+-- parts are of their kinds up to a place, and the one there is too
+pub each_more : (kinds : List (Option Kind)) (places : List ℕ) (are : List Kind) (count at : ℕ) (is : Kind)
+    → ((i p : ℕ) (q : Kind) → i < count → slice_get places i ≡ Some p → slice_get are i ≡ Some q → IsAt kinds p q)
+    → slice_get places count ≡ Some at → slice_get are count ≡ Some is → IsAt kinds at is
+    → (i p : ℕ) (q : Kind) → i < count + 1 → slice_get places i ≡ Some p → slice_get are i ≡ Some q → IsAt kinds p q
+each_more kinds places are count at is before here there holds i p q within first second = cases (dec_lt i count) where
+  last : (i < count → ⊥) → IsAt kinds p q
+  last above =
+      let same : i ≡ count = omega (arith, above, within) in
+      subst (λ z. IsAt kinds z q) (at_once places count at p here (subst (λ z. slice_get places z ≡ Some p) same first))
+      (subst (IsAt kinds at) (at_once are count is q there (subst (λ z. slice_get are z ≡ Some q) same second)) holds)
+
+  cases : Dec (i < count) → IsAt kinds p q
+  cases (yes below) = before i p q below first second
+  cases (no above) = last above
