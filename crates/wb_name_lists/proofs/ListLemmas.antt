@@ -22,13 +22,19 @@ pub flat_map_all : {A B : Type 0} (f : A → List B) (xs : List A) (i : ℕ) (ol
     → length xs ≤ i → new ≡ old ++ flat_map f xs
 flat_map_all f xs i old new so_far ended = so_far ∙ ap (λ z. old ++ flat_map f z) (take_all i xs ended)
 
+-- one list is added, and then another
+pub both_added : {A : Type 0} (xs ys zs : List A) (old mid new : List A) → mid ≡ old ++ xs → new ≡ mid ++ ys → ys ≡ zs
+    → new ≡ old ++ (xs ++ zs)
+both_added xs ys zs old mid new first second same =
+    second ∙ (ap (λ z. z ++ ys) first ∙ (append_assoc old xs ys ∙ ap (λ z. old ++ (xs ++ z)) same))
+
 -- each element adds one
-pub map_next : {A B : Type 0} (f : A → B) (xs : List A) (i : ℕ) (x : A) (y : B) (old mid new : List B)
-    → mid ≡ old ++ map f (take i xs) → i < length xs → x ≡ get_or xs i x → y ≡ f x → new ≡ mid ++ y ∷ []
+pub map_next : {A B : Type 0} (f : A → B) (xs : List A) (i : ℕ) (x : A) (old mid new : List B)
+    → mid ≡ old ++ map f (take i xs) → i < length xs → x ≡ get_or xs i x → new ≡ mid ++ f x ∷ []
     → new ≡ old ++ map f (take (i + 1) xs)
-map_next f xs i x y old mid new so_far within is same adds =
-    adds ∙ (ap (λ z. mid ++ z ∷ []) same ∙ (ap (λ z. z ++ f x ∷ []) so_far ∙ (append_assoc old (map f (take i xs)) (f x ∷ [])
-    ∙ ap (λ z. old ++ z) (sym (map-append f (take i xs) (x ∷ [])) ∙ ap (map f) (next xs i x within is)))))
+map_next f xs i x old mid new so_far within is adds =
+    adds ∙ (ap (λ z. z ++ f x ∷ []) so_far ∙ (append_assoc old (map f (take i xs)) (f x ∷ [])
+    ∙ ap (λ z. old ++ z) (sym (map-append f (take i xs) (x ∷ [])) ∙ ap (map f) (next xs i x within is))))
 
 pub map_all : {A B : Type 0} (f : A → B) (xs : List A) (i : ℕ) (old new : List B) → new ≡ old ++ map f (take i xs)
     → length xs ≤ i → new ≡ old ++ map f xs

@@ -15,7 +15,7 @@ ghost use Rattle.wb_naming.specs.declared.declaration.Labelled.TheVariants as la
 ghost use Rattle.wb_naming.specs.declared.declaration.Sort.TheVariants as sort;
 ghost use Rattle.wb_naming.specs.Declares as spec;
 
-use crate::items::{attribute_of, equation_of, label_of, symbol_of};
+use crate::items::{add_attribute, add_equation, add_label, add_left, add_symbol};
 use std::alloc::AllocError;
 use wb_base::{Bytes, Kind, push};
 use wb_naming::{Declaration, Labelled, Site, Sort};
@@ -52,10 +52,7 @@ fn add_terminals(terminals: &[Terminal], out: &mut Vec<Declaration>) -> Result<(
     ensures { OnOk result (out.new.items ≡ out.old.items ++ map (λ (x : Terminal). d.Symbol x.name (spec.terminal_sort x.kind)) terminals.now) }
 {
     'terminals: for terminal in terminals {
-        push(
-            out,
-            symbol_of(&terminal.name, terminal_sort(terminal.kind))?,
-        )?;
+        add_symbol(&terminal.name, terminal_sort(terminal.kind), out)?;
     }
     Ok(())
 }
@@ -79,7 +76,7 @@ fn add_nonterminals(
     ensures { OnOk result (out.new.items ≡ out.old.items ++ map (λ (x : Nonterminal). d.Symbol x.name sort.Nonterminal) nonterminals.now) }
 {
     'nonterminals: for nonterminal in nonterminals {
-        push(out, symbol_of(&nonterminal.name, Sort::Nonterminal)?)?;
+        add_symbol(&nonterminal.name, Sort::Nonterminal, out)?;
     }
     Ok(())
 }
@@ -89,7 +86,7 @@ fn add_attributes(attributes: &[Attribute], out: &mut Vec<Declaration>) -> Resul
     ensures { OnOk result (out.new.items ≡ out.old.items ++ map (λ (x : Attribute). d.Attribute x.name x.direction) attributes.now) }
 {
     'attributes: for attribute in attributes {
-        push(out, attribute_of(&attribute.name, attribute.direction)?)?;
+        add_attribute(&attribute.name, attribute.direction, out)?;
     }
     Ok(())
 }
@@ -103,23 +100,28 @@ fn add_occurrences(
     ensures { OnOk result (out.new.items ≡ out.old.items ++ map (λ (x : Occurrence). d.Occurrence (spec.attribute_name base.now x.attribute) (spec.nonterminal_name base.now x.nonterminal)) occurrences.now) }
 {
     'occurrences: for occurrence in occurrences {
-        push(out, occurrence_declaration(base, occurrence)?)?;
+        add_occurrence(base, occurrence, out)?;
     }
     Ok(())
 }
 
-// What an occurrence declares.
-fn occurrence_declaration(
+// Adds what an occurrence declares.
+fn add_occurrence(
     base: &ResolvedParts,
     occurrence: &Occurrence,
-) -> Result<Declaration, AllocError>
-    ensures { IfOk result (λ made. made ≡ d.Occurrence (spec.attribute_name base.now occurrence.now.attribute) (spec.nonterminal_name base.now occurrence.now.nonterminal)) }
+    out: &mut Vec<Declaration>,
+) -> Result<(), AllocError>
+    ensures { OnOk result (out.new.items ≡ out.old.items ++ d.Occurrence (spec.attribute_name base.now occurrence.now.attribute) (spec.nonterminal_name base.now occurrence.now.nonterminal) ∷ []) }
 {
     let attribute = attribute_name(base, occurrence.attribute)?;
-    Ok(Declaration::Occurrence {
-        attribute,
-        nonterminal: nonterminal_name(base, occurrence.nonterminal)?,
-    })
+    let nonterminal = nonterminal_name(base, occurrence.nonterminal)?;
+    push(
+        out,
+        Declaration::Occurrence {
+            attribute,
+            nonterminal,
+        },
+    )
 }
 
 // The name of the terminal of a number; none has the empty name.
@@ -174,16 +176,15 @@ fn add_production(
 ) -> Result<(), AllocError>
     ensures { OnOk result (out.new.items ≡ out.old.items ++ spec.production_declarations base.now production.now) }
 {
-    push(out, symbol_of(&production.name, Sort::Production)?)?;
-    add_left(base, production, out)?;
-    add_children(base, &production.name, production.children.as_slice(), out)?;
-    add_locals(base, &production.name, production.locals.as_slice(), out)?;
+    add_symbol(&production.name, Sort::Production, out)?;
+    add_left_name(base, production, out)?;
+    add_labels(base, production, out)?;
     add_forward(production, out)?;
     add_equations(base, production, production.equations.as_slice(), out)
 }
 
 // Adds which nonterminal is on its left.
-fn add_left(
+fn add_left_name(
     base: &ResolvedParts,
     production: &Production,
     out: &mut Vec<Declaration>,
@@ -191,14 +192,19 @@ fn add_left(
     ensures { OnOk result (out.new.items ≡ out.old.items ++ d.Left production.now.name (spec.nonterminal_name base.now production.now.left) ∷ []) }
 {
     let nonterminal = nonterminal_name(base, production.left)?;
-    let production = production.name.copy()?;
-    push(
-        out,
-        Declaration::Left {
-            production,
-            nonterminal,
-        },
-    )
+    add_left(&production.name, &nonterminal, out)
+}
+
+// Adds what its children and then its locals declare.
+fn add_labels(
+    base: &ResolvedParts,
+    production: &Production,
+    out: &mut Vec<Declaration>,
+) -> Result<(), AllocError>
+    ensures { OnOk result (out.new.items ≡ out.old.items ++ (map (λ (c : Child). d.Label production.now.name c.label (spec.base_labelled base.now c.kind)) production.now.children ++ map (λ (l : Local). d.Label production.now.name l.label (label.Local (spec.nonterminal_name base.now l.nonterminal))) production.now.locals)) }
+{
+    add_children(base, &production.name, production.children.as_slice(), out)?;
+    add_locals(base, &production.name, production.locals.as_slice(), out)
 }
 
 // Adds what its children declare.
@@ -212,7 +218,7 @@ fn add_children(
 {
     'children: for child in children {
         let is = labelled(base, child.kind)?;
-        push(out, label_of(production, &child.label, is)?)?;
+        add_label(production, &child.label, is, out)?;
     }
     Ok(())
 }
@@ -241,8 +247,7 @@ fn add_locals(
 {
     'locals: for local in locals {
         let nonterminal = nonterminal_name(base, local.nonterminal)?;
-        let is = Labelled::Local(nonterminal);
-        push(out, label_of(production, &local.label, is)?)?;
+        add_label(production, &local.label, Labelled::Local(nonterminal), out)?;
     }
     Ok(())
 }
@@ -267,50 +272,43 @@ fn add_equations(
     ensures { OnOk result (out.new.items ≡ out.old.items ++ map (λ (e : Equation). d.Equation production.now.name (spec.target_attribute base.now e.target) (spec.target_site production.now e.target)) equations.now) }
 {
     'equations: for equation in equations {
-        push(
-            out,
-            equation_declaration(base, production, equation.target)?,
-        )?;
+        add_target(base, production, equation.target, out)?;
     }
     Ok(())
 }
 
-// What an equation declares, by what it is for.
-fn equation_declaration(
+// Adds what an equation declares, by what it is for.
+fn add_target(
     base: &ResolvedParts,
     production: &Production,
     target: Target,
-) -> Result<Declaration, AllocError>
-    ensures { IfOk result (λ made. made ≡ d.Equation production.now.name (spec.target_attribute base.now target) (spec.target_site production.now target)) }
+    out: &mut Vec<Declaration>,
+) -> Result<(), AllocError>
+    ensures { OnOk result (out.new.items ≡ out.old.items ++ d.Equation production.now.name (spec.target_attribute base.now target) (spec.target_site production.now target) ∷ []) }
 {
-    let attribute = target_attribute(base, target)?;
-    equation_of(
-        &production.name,
-        &attribute,
-        target_site(production, target)?,
-    )
-}
-
-// The attribute that an equation is for.
-fn target_attribute(base: &ResolvedParts, target: Target) -> Result<Bytes, AllocError>
-    ensures { IfOk result (λ name. name ≡ spec.target_attribute base.now target) }
-{
+    let name = &production.name;
     match target {
-        Target::Top(attribute) => attribute_name(base, attribute),
-        Target::Place { attribute, .. } => attribute_name(base, attribute),
-        Target::Forward(attribute) => attribute_name(base, attribute),
+        Target::Top(attribute) => add_given(base, name, attribute, Site::Top, out),
+        Target::Place { place, attribute } => {
+            let label = label_at(production, place)?;
+            add_given(base, name, attribute, Site::Label(label), out)
+        }
+        Target::Forward(attribute) => add_given(base, name, attribute, Site::Forward, out),
     }
 }
 
-// The tree of which it is.
-fn target_site(production: &Production, target: Target) -> Result<Site, AllocError>
-    ensures { IfOk result (λ site. site ≡ spec.target_site production.now target) }
+// Adds that an equation of a production gives the attribute of a number.
+fn add_given(
+    base: &ResolvedParts,
+    production: &Bytes,
+    attribute: usize,
+    site: Site,
+    out: &mut Vec<Declaration>,
+) -> Result<(), AllocError>
+    ensures { OnOk result (out.new.items ≡ out.old.items ++ d.Equation production.now (spec.attribute_name base.now attribute) site ∷ []) }
 {
-    match target {
-        Target::Top(_) => Ok(Site::Top),
-        Target::Place { place, .. } => Ok(Site::Label(label_at(production, place)?)),
-        Target::Forward(_) => Ok(Site::Forward),
-    }
+    let attribute = attribute_name(base, attribute)?;
+    add_equation(production, &attribute, site, out)
 }
 
 // The label of a place of a production; none has the empty label.

@@ -2,7 +2,7 @@
 //!
 //! Declarations are listed in the order of the text. What the items use is in `uses`, and what a base declares in `base`.
 
-ghost use Rattle.std.specs.Prelude.{◌≡◌, ◌++◌, OnOk, IfOk, map};
+ghost use Rattle.std.specs.Prelude.{◌≡◌, ◌++◌, ◌∷◌, [], OnOk, IfOk, map};
 ghost use Rattle.wb_syntax.specs.declared.production.Child.{Child};
 ghost use Rattle.wb_naming.specs.declared.declaration.Declaration.TheVariants as d;
 ghost use Rattle.wb_naming.specs.Declares as spec;
@@ -34,8 +34,8 @@ fn add_form(form: &ItemForm<Pattern>, out: &mut Vec<Declaration>) -> Result<(), 
     ensures { OnOk result (out.new.items ≡ out.old.items ++ spec.form_declarations form.now) }
 {
     match form {
-        ItemForm::Lexical { role, name, .. } => push(out, symbol_of(name, role_sort(*role))?),
-        ItemForm::Plain(plain) => push(out, plain_declaration(plain)?),
+        ItemForm::Lexical { role, name, .. } => add_symbol(name, role_sort(*role), out),
+        ItemForm::Plain(plain) => add_plain(plain, out),
         ItemForm::Production { production, .. } => add_production(production, out),
         ItemForm::Aspect { name, equations } => add_equations(name, equations.as_slice(), out),
     }
@@ -52,82 +52,108 @@ fn role_sort(role: Role) -> Sort
     }
 }
 
-// What an item of names alone declares.
-fn plain_declaration(plain: &PlainForm) -> Result<Declaration, AllocError>
-    ensures { IfOk result (λ made. made ≡ spec.plain_declaration plain.now) }
+// Adds what an item of names alone declares.
+fn add_plain(plain: &PlainForm, out: &mut Vec<Declaration>) -> Result<(), AllocError>
+    ensures { OnOk result (out.new.items ≡ out.old.items ++ spec.plain_declaration plain.now ∷ []) }
 {
     match plain {
-        PlainForm::Prefer { first, second } => preference_of(first, second),
-        PlainForm::Nonterminal(name) => symbol_of(name, Sort::Nonterminal),
-        PlainForm::Start(name) => Ok(Declaration::Start(name.copy()?)),
-        PlainForm::Extensible(name) => Ok(Declaration::Extensible(name.copy()?)),
-        PlainForm::Synthesized { name, .. } => attribute_of(name, Direction::Synthesized),
-        PlainForm::Inherited { name, .. } => attribute_of(name, Direction::Inherited),
+        PlainForm::Prefer { first, second } => add_preference(first, second, out),
+        PlainForm::Nonterminal(name) => add_symbol(name, Sort::Nonterminal, out),
+        PlainForm::Start(name) => push(out, Declaration::Start(name.copy()?)),
+        PlainForm::Extensible(name) => push(out, Declaration::Extensible(name.copy()?)),
+        PlainForm::Synthesized { name, .. } => add_attribute(name, Direction::Synthesized, out),
+        PlainForm::Inherited { name, .. } => add_attribute(name, Direction::Inherited, out),
         PlainForm::Occurs {
             attribute,
             nonterminal,
             ..
-        } => occurrence_of(attribute, nonterminal),
+        } => add_occurrence(attribute, nonterminal, out),
         PlainForm::ForwardOn { nonterminal, .. } => {
-            Ok(Declaration::ForwardNeeds(nonterminal.copy()?))
+            push(out, Declaration::ForwardNeeds(nonterminal.copy()?))
         }
     }
 }
 
-// That one terminal is preferred to another.
-fn preference_of(first: &Bytes, second: &Bytes) -> Result<Declaration, AllocError>
-    ensures { IfOk result (λ made. made ≡ d.Preference first.now second.now) }
+// Adds that one terminal is preferred to another.
+fn add_preference(
+    first: &Bytes,
+    second: &Bytes,
+    out: &mut Vec<Declaration>,
+) -> Result<(), AllocError>
+    ensures { OnOk result (out.new.items ≡ out.old.items ++ d.Preference first.now second.now ∷ []) }
 {
     let (first, second) = copies(first, second)?;
-    Ok(Declaration::Preference { first, second })
+    push(out, Declaration::Preference { first, second })
 }
 
-// That an attribute is declared.
-pub(crate) fn attribute_of(name: &Bytes, direction: Direction) -> Result<Declaration, AllocError>
-    ensures { IfOk result (λ made. made ≡ d.Attribute name.now direction) }
+// Adds an attribute.
+pub(crate) fn add_attribute(
+    name: &Bytes,
+    direction: Direction,
+    out: &mut Vec<Declaration>,
+) -> Result<(), AllocError>
+    ensures { OnOk result (out.new.items ≡ out.old.items ++ d.Attribute name.now direction ∷ []) }
 {
     let name = name.copy()?;
-    Ok(Declaration::Attribute { name, direction })
+    push(out, Declaration::Attribute { name, direction })
 }
 
-// That an attribute occurs on a nonterminal.
-fn occurrence_of(attribute: &Bytes, nonterminal: &Bytes) -> Result<Declaration, AllocError>
-    ensures { IfOk result (λ made. made ≡ d.Occurrence attribute.now nonterminal.now) }
+// Adds that an attribute occurs on a nonterminal.
+fn add_occurrence(
+    attribute: &Bytes,
+    nonterminal: &Bytes,
+    out: &mut Vec<Declaration>,
+) -> Result<(), AllocError>
+    ensures { OnOk result (out.new.items ≡ out.old.items ++ d.Occurrence attribute.now nonterminal.now ∷ []) }
 {
     let (attribute, nonterminal) = copies(attribute, nonterminal)?;
-    Ok(Declaration::Occurrence {
-        attribute,
-        nonterminal,
-    })
+    push(
+        out,
+        Declaration::Occurrence {
+            attribute,
+            nonterminal,
+        },
+    )
 }
 
 // Adds what a production declares.
 fn add_production(production: &Production, out: &mut Vec<Declaration>) -> Result<(), AllocError>
     ensures { OnOk result (out.new.items ≡ out.old.items ++ spec.written_declarations production.now) }
 {
-    push(out, symbol_of(&production.name, Sort::Production)?)?;
-    push(out, left_of(&production.name, &production.left)?)?;
+    add_symbol(&production.name, Sort::Production, out)?;
+    add_left(&production.name, &production.left, out)?;
     add_children(&production.name, production.children.as_slice(), out)?;
     add_equations(&production.name, production.equations.as_slice(), out)
 }
 
-// That a terminal, layout, marker, nonterminal or production is declared.
-pub(crate) fn symbol_of(name: &Bytes, sort: Sort) -> Result<Declaration, AllocError>
-    ensures { IfOk result (λ made. made ≡ d.Symbol name.now sort) }
+// Adds a terminal, layout, marker, nonterminal or production.
+pub(crate) fn add_symbol(
+    name: &Bytes,
+    sort: Sort,
+    out: &mut Vec<Declaration>,
+) -> Result<(), AllocError>
+    ensures { OnOk result (out.new.items ≡ out.old.items ++ d.Symbol name.now sort ∷ []) }
 {
     let name = name.copy()?;
-    Ok(Declaration::Symbol { name, sort })
+    push(out, Declaration::Symbol { name, sort })
 }
 
-// Which nonterminal is on a production's left.
-fn left_of(production: &Bytes, nonterminal: &Bytes) -> Result<Declaration, AllocError>
-    ensures { IfOk result (λ made. made ≡ d.Left production.now nonterminal.now) }
+// Adds which nonterminal is on a production's left.
+pub(crate) fn add_left(
+    production: &Bytes,
+    nonterminal: &Bytes,
+    out: &mut Vec<Declaration>,
+) -> Result<(), AllocError>
+    ensures { OnOk result (out.new.items ≡ out.old.items ++ d.Left production.now nonterminal.now ∷ []) }
 {
     let (production, nonterminal) = copies(production, nonterminal)?;
-    Ok(Declaration::Left {
-        production,
-        nonterminal,
-    })
+    push(
+        out,
+        Declaration::Left {
+            production,
+            nonterminal,
+        },
+    )
 }
 
 // Adds what the children of a production declare.
@@ -140,7 +166,7 @@ fn add_children(
 {
     'children: for child in children {
         let is = labelled(&child.kind)?;
-        push(out, label_of(production, &child.label, is)?)?;
+        add_label(production, &child.label, is, out)?;
     }
     Ok(())
 }
@@ -155,20 +181,24 @@ fn labelled(kind: &NamedKind) -> Result<Labelled, AllocError>
     }
 }
 
-// That a production has a label.
-pub(crate) fn label_of(
+// Adds that a production has a label.
+pub(crate) fn add_label(
     production: &Bytes,
     label: &Bytes,
     is: Labelled,
-) -> Result<Declaration, AllocError>
-    ensures { IfOk result (λ made. made ≡ d.Label production.now label.now is) }
+    out: &mut Vec<Declaration>,
+) -> Result<(), AllocError>
+    ensures { OnOk result (out.new.items ≡ out.old.items ++ d.Label production.now label.now is ∷ []) }
 {
     let (production, label) = copies(production, label)?;
-    Ok(Declaration::Label {
-        production,
-        label,
-        is,
-    })
+    push(
+        out,
+        Declaration::Label {
+            production,
+            label,
+            is,
+        },
+    )
 }
 
 // Adds what equations on a production declare.
@@ -180,42 +210,50 @@ fn add_equations(
     ensures { OnOk result (out.new.items ≡ out.old.items ++ spec.equation_declarations production.now equations.now) }
 {
     'equations: for equation in equations {
-        push(out, target_declaration(production, &equation.target)?)?;
+        add_target(production, &equation.target, out)?;
     }
     Ok(())
 }
 
-// What an equation on a production declares.
-fn target_declaration(production: &Bytes, target: &Target) -> Result<Declaration, AllocError>
-    ensures { IfOk result (λ made. made ≡ spec.target_declaration production.now target.now) }
+// Adds what an equation on a production declares.
+fn add_target(
+    production: &Bytes,
+    target: &Target,
+    out: &mut Vec<Declaration>,
+) -> Result<(), AllocError>
+    ensures { OnOk result (out.new.items ≡ out.old.items ++ spec.target_declaration production.now target.now ∷ []) }
 {
     match target {
-        Target::Top(attribute) => equation_of(production, attribute, Site::Top),
+        Target::Top(attribute) => add_equation(production, attribute, Site::Top, out),
         Target::Label { label, attribute } => {
             let label = label.copy()?;
-            equation_of(production, attribute, Site::Label(label))
+            add_equation(production, attribute, Site::Label(label), out)
         }
-        Target::Forward(attribute) => equation_of(production, attribute, Site::Forward),
+        Target::Forward(attribute) => add_equation(production, attribute, Site::Forward, out),
         Target::Local { label, nonterminal } => {
             let nonterminal = nonterminal.copy()?;
-            label_of(production, label, Labelled::Local(nonterminal))
+            add_label(production, label, Labelled::Local(nonterminal), out)
         }
-        Target::ForwardsTo => Ok(Declaration::Forward(production.copy()?)),
+        Target::ForwardsTo => push(out, Declaration::Forward(production.copy()?)),
     }
 }
 
-// That an equation of a production gives an attribute.
-pub(crate) fn equation_of(
+// Adds that an equation of a production gives an attribute.
+pub(crate) fn add_equation(
     production: &Bytes,
     attribute: &Bytes,
     site: Site,
-) -> Result<Declaration, AllocError>
-    ensures { IfOk result (λ made. made ≡ d.Equation production.now attribute.now site) }
+    out: &mut Vec<Declaration>,
+) -> Result<(), AllocError>
+    ensures { OnOk result (out.new.items ≡ out.old.items ++ d.Equation production.now attribute.now site ∷ []) }
 {
     let (production, attribute) = copies(production, attribute)?;
-    Ok(Declaration::Equation {
-        production,
-        attribute,
-        site,
-    })
+    push(
+        out,
+        Declaration::Equation {
+            production,
+            attribute,
+            site,
+        },
+    )
 }

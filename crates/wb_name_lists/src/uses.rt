@@ -174,21 +174,10 @@ fn add_equations(
     ensures { OnOk result (out.new.items ≡ out.old.items ++ flat_map (spec.equation_uses production.now) equations.now) }
 {
     'equations: for equation in equations {
-        add_equation(production, equation, out)?;
+        add_target(production, &equation.target, out)?;
+        add_nodes(production, equation.nodes.as_slice(), out)?;
     }
     Ok(())
-}
-
-// Adds what an equation on a production uses.
-fn add_equation(
-    production: &Bytes,
-    equation: &Equation,
-    out: &mut Vec<Usage>,
-) -> Result<(), AllocError>
-    ensures { OnOk result (out.new.items ≡ out.old.items ++ spec.equation_uses production.now equation.now) }
-{
-    add_target(production, &equation.target, out)?;
-    add_nodes(production, equation.nodes.as_slice(), out)
 }
 
 // Adds what the left side of an equation uses.
@@ -197,16 +186,13 @@ fn add_target(production: &Bytes, target: &Target, out: &mut Vec<Usage>) -> Resu
 {
     match target {
         Target::Top(attribute) => {
-            add_name(attribute, Wanted::Synthesized, out)?;
-            add_attribute(production, attribute, Site::Top, out)
+            add_use(production, attribute, Wanted::Synthesized, Site::Top, out)
         }
         Target::Label { label, attribute } => {
-            add_name(attribute, Wanted::Inherited, out)?;
-            add_read(production, label, attribute, out)
+            add_read(production, label, attribute, Wanted::Inherited, out)
         }
         Target::Forward(attribute) => {
-            add_name(attribute, Wanted::Inherited, out)?;
-            add_attribute(production, attribute, Site::Forward, out)
+            add_use(production, attribute, Wanted::Inherited, Site::Forward, out)
         }
         Target::Local { nonterminal, .. } => add_name(nonterminal, Wanted::Nonterminal, out),
         Target::ForwardsTo => Ok(()),
@@ -233,6 +219,20 @@ fn add_label(
     )
 }
 
+// Adds the name of an attribute in its place, and the attribute of the tree at a site of a production.
+fn add_use(
+    production: &Bytes,
+    attribute: &Bytes,
+    wanted: Wanted,
+    site: Site,
+    out: &mut Vec<Usage>,
+) -> Result<(), AllocError>
+    ensures { OnOk result (out.new.items ≡ out.old.items ++ u.Name attribute.now wanted ∷ u.Attribute production.now attribute.now site ∷ []) }
+{
+    add_name(attribute, wanted, out)?;
+    add_attribute(production, attribute, site, out)
+}
+
 // Adds an attribute of the tree at a site of a production.
 fn add_attribute(
     production: &Bytes,
@@ -253,15 +253,17 @@ fn add_attribute(
     )
 }
 
-// Adds an attribute of the tree of a label, and the label.
+// Adds the name of an attribute in its place, and then a label and the attribute of its tree.
 fn add_read(
     production: &Bytes,
     label: &Bytes,
     attribute: &Bytes,
+    wanted: Wanted,
     out: &mut Vec<Usage>,
 ) -> Result<(), AllocError>
-    ensures { OnOk result (out.new.items ≡ out.old.items ++ spec.read_uses production.now label.now attribute.now) }
+    ensures { OnOk result (out.new.items ≡ out.old.items ++ u.Name attribute.now wanted ∷ spec.read_uses production.now label.now attribute.now) }
 {
+    add_name(attribute, wanted, out)?;
     add_label(production, label, LabelWanted::Tree, out)?;
     let label = label.copy()?;
     add_attribute(production, attribute, Site::Label(label), out)
@@ -284,17 +286,20 @@ fn add_node(production: &Bytes, node: &Node, out: &mut Vec<Usage>) -> Result<(),
     match node {
         Node::Label(label) => add_label(production, label, LabelWanted::Value, out),
         Node::Read { label, attribute } => {
-            add_name(attribute, Wanted::Synthesized, out)?;
-            add_read(production, label, attribute, out)
+            add_read(production, label, attribute, Wanted::Synthesized, out)
         }
         Node::Lexeme(label) => add_label(production, label, LabelWanted::Lexeme, out),
         Node::Top(attribute) => {
-            add_name(attribute, Wanted::Inherited, out)?;
-            add_attribute(production, attribute, Site::Top, out)
+            add_use(production, attribute, Wanted::Inherited, Site::Top, out)
         }
         Node::Forward(attribute) => {
-            add_name(attribute, Wanted::Synthesized, out)?;
-            add_attribute(production, attribute, Site::Forward, out)
+            add_use(
+                production,
+                attribute,
+                Wanted::Synthesized,
+                Site::Forward,
+                out,
+            )
         }
         Node::Build { production, .. } => add_name(production, Wanted::Production, out),
         _ => Ok(()),

@@ -6,10 +6,9 @@ use Rattle.wb_name_lists.proofs.base.add_attributes.Goals as goal
 pub attributes-preserved : goal.attributes-preserved
 attributes-preserved c =
     map_next (λ (x : Attribute). d.Attribute x.name x.direction)
-    c.args.attributes.now c.attributes.attribute-index c.attribute-item.result c.in_ok-attribute_of.field-0 c.args.out.now.items
-    c.attributes.out.items
-    c.push.new.list.items c.attributes.invariant
-    c.attributes-test.true c.attribute-item.is c.in_ok-attribute_of.ensures c.in_ok-push.ensures.ok
+    c.args.attributes.now c.attributes.attribute-index c.attribute-item.result c.args.out.now.items c.attributes.out.items
+    c.add_attribute.new.out.items
+    c.attributes.invariant c.attributes-test.true c.attribute-item.is c.in_ok-add_attribute.ensures
 
 pub returns : goal.returns
 returns c =

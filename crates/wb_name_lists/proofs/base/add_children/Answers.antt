@@ -1,4 +1,4 @@
-use Rattle.std.proofs.Common.{ap, ◌∙◌}
+use Rattle.std.proofs.Common.{◌++◌, ◌∷◌, [], ap, ◌∙◌}
 use Rattle.wb_resolved.specs.declared.production.Child.{Child}
 use Rattle.wb_naming.specs.declared.declaration.Declaration.TheVariants as d
 use Rattle.wb_naming.specs.Declares.{base_labelled}
@@ -8,11 +8,10 @@ use Rattle.wb_name_lists.proofs.base.add_children.Goals as goal
 pub children-preserved : goal.children-preserved
 children-preserved c =
     map_next (λ (x : Child). d.Label c.args.production.now x.label (base_labelled c.args.base.now x.kind))
-    c.args.children.now c.children.child-index c.child-item.result c.in_ok-label_of.field-0 c.args.out.now.items c.children.out.items
-    c.push.new.list.items c.children.invariant
-    c.children-test.true c.child-item.is
-    (c.in_ok-label_of.ensures ∙ ap (λ z. d.Label c.args.production.now c.child-item.result.label z) c.in_ok-is.ensures)
-    c.in_ok-push.ensures.ok
+    c.args.children.now c.children.child-index c.child-item.result c.args.out.now.items c.children.out.items c.add_label.new.out.items
+    c.children.invariant c.children-test.true c.child-item.is
+    (c.in_ok-add_label.ensures
+    ∙ ap (λ z. c.children.out.items ++ d.Label c.args.production.now c.child-item.result.label z ∷ []) c.in_ok-is.ensures)
 
 pub returns : goal.returns
 returns c =

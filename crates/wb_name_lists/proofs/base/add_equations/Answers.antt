@@ -8,10 +8,9 @@ pub equations-preserved : goal.equations-preserved
 equations-preserved c =
     map_next (λ (e : Equation). d.Equation c.args.production.now.name (target_attribute c.args.base.now e.target)
     (target_site c.args.production.now e.target))
-    c.args.equations.now c.equations.equation-index c.equation-item.result c.in_ok-equation_declaration.field-0 c.args.out.now.items
-    c.equations.out.items
-    c.push.new.list.items c.equations.invariant
-    c.equations-test.true c.equation-item.is c.in_ok-equation_declaration.ensures c.in_ok-push.ensures.ok
+    c.args.equations.now c.equations.equation-index c.equation-item.result c.args.out.now.items c.equations.out.items
+    c.add_target.new.out.items
+    c.equations.invariant c.equations-test.true c.equation-item.is c.in_ok-add_target.ensures
 
 pub returns : goal.returns
 returns c =

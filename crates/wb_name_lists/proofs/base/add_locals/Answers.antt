@@ -1,4 +1,4 @@
-use Rattle.std.proofs.Common.{ap, ◌∙◌}
+use Rattle.std.proofs.Common.{◌++◌, ◌∷◌, [], ap, ◌∙◌}
 use Rattle.wb_resolved.specs.declared.production.Local.{Local}
 use Rattle.wb_naming.specs.declared.declaration.Declaration.TheVariants as d
 use Rattle.wb_naming.specs.declared.declaration.Labelled.TheVariants as label
@@ -9,12 +9,11 @@ use Rattle.wb_name_lists.proofs.base.add_locals.Goals as goal
 pub locals-preserved : goal.locals-preserved
 locals-preserved c =
     map_next (λ (x : Local). d.Label c.args.production.now x.label (label.Local (nonterminal_name c.args.base.now x.nonterminal)))
-    c.args.locals.now c.locals.local-index c.local-item.result c.in_ok-label_of.field-0 c.args.out.now.items c.locals.out.items
-    c.push.new.list.items c.locals.invariant
-    c.locals-test.true c.local-item.is
-    (c.in_ok-label_of.ensures ∙ ap (λ z. d.Label c.args.production.now c.local-item.result.label (label.Local z))
+    c.args.locals.now c.locals.local-index c.local-item.result c.args.out.now.items c.locals.out.items c.add_label.new.out.items
+    c.locals.invariant c.locals-test.true c.local-item.is
+    (c.in_ok-add_label.ensures
+    ∙ ap (λ z. c.locals.out.items ++ d.Label c.args.production.now c.local-item.result.label (label.Local z) ∷ [])
     c.in_ok-nonterminal.ensures)
-    c.in_ok-push.ensures.ok
 
 pub returns : goal.returns
 returns c =

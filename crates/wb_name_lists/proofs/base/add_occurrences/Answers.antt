@@ -8,10 +8,9 @@ pub occurrences-preserved : goal.occurrences-preserved
 occurrences-preserved c =
     map_next (λ (x : Occurrence). d.Occurrence (attribute_name c.args.base.now x.attribute)
     (nonterminal_name c.args.base.now x.nonterminal))
-    c.args.occurrences.now c.occurrences.occurrence-index c.occurrence-item.result c.in_ok-occurrence_declaration.field-0
-    c.args.out.now.items c.occurrences.out.items
-    c.push.new.list.items c.occurrences.invariant
-    c.occurrences-test.true c.occurrence-item.is c.in_ok-occurrence_declaration.ensures c.in_ok-push.ensures.ok
+    c.args.occurrences.now c.occurrences.occurrence-index c.occurrence-item.result c.args.out.now.items c.occurrences.out.items
+    c.add_occurrence.new.out.items
+    c.occurrences.invariant c.occurrences-test.true c.occurrence-item.is c.in_ok-add_occurrence.ensures
 
 pub returns : goal.returns
 returns c =

@@ -1,4 +1,4 @@
-use Rattle.std.proofs.Common.{ap, ◌∙◌}
+use Rattle.std.proofs.Common.{◌++◌, ◌∷◌, [], ap, ◌∙◌}
 use Rattle.wb_resolved.specs.declared.terminal.Terminal.{Terminal}
 use Rattle.wb_naming.specs.declared.declaration.Declaration.TheVariants as d
 use Rattle.wb_naming.specs.Declares.{terminal_sort}
@@ -8,12 +8,10 @@ use Rattle.wb_name_lists.proofs.base.add_terminals.Goals as goal
 pub terminals-preserved : goal.terminals-preserved
 terminals-preserved c =
     map_next (λ (x : Terminal). d.Symbol x.name (terminal_sort x.kind))
-    c.args.terminals.now c.terminals.terminal-index c.terminal-item.result c.in_ok-symbol_of.field-0 c.args.out.now.items
-    c.terminals.out.items
-    c.push.new.list.items c.terminals.invariant
-    c.terminals-test.true c.terminal-item.is
-    (c.in_ok-symbol_of.ensures ∙ ap (λ z. d.Symbol c.terminal-item.result.name z) c.terminal_sort.ensures)
-    c.in_ok-push.ensures.ok
+    c.args.terminals.now c.terminals.terminal-index c.terminal-item.result c.args.out.now.items c.terminals.out.items
+    c.add_symbol.new.out.items
+    c.terminals.invariant c.terminals-test.true c.terminal-item.is
+    (c.in_ok-add_symbol.ensures ∙ ap (λ z. c.terminals.out.items ++ d.Symbol c.terminal-item.result.name z ∷ []) c.terminal_sort.ensures)
 
 pub returns : goal.returns
 returns c =

@@ -6,10 +6,9 @@ use Rattle.wb_name_lists.proofs.items.add_equations.Goals as goal
 pub equations-preserved : goal.equations-preserved
 equations-preserved c =
     map_next (λ (e : Equation). target_declaration c.args.production.now e.target)
-    c.args.equations.now c.equations.equation-index c.equation-item.result c.in_ok-target_declaration.field-0 c.args.out.now.items
-    c.equations.out.items
-    c.push.new.list.items c.equations.invariant
-    c.equations-test.true c.equation-item.is c.in_ok-target_declaration.ensures c.in_ok-push.ensures.ok
+    c.args.equations.now c.equations.equation-index c.equation-item.result c.args.out.now.items c.equations.out.items
+    c.add_target.new.out.items
+    c.equations.invariant c.equations-test.true c.equation-item.is c.in_ok-add_target.ensures
 
 pub returns : goal.returns
 returns c =
