@@ -24,10 +24,18 @@ pub(crate) fn forwarders_of(alloc: Global, items: &[Item<Pattern>]) -> Result<In
     ensures { IfOk result (λ names. names ≡ map (λ (item : Written Read). form_forwarder item.form) items.now) }
 {
     let mut names = Index::new(alloc);
-    'items: for item in items {
-        add_forwarder(&item.form, &mut names)?;
-    }
+    add_forwarders(items, &mut names)?;
     Ok(names)
+}
+
+// Adds those of items.
+fn add_forwarders(items: &[Item<Pattern>], names: &mut Index) -> Result<(), AllocError>
+    ensures { OnOk result (names.new ≡ names.old ++ map (λ (item : Written Read). form_forwarder item.form) items.now) }
+{
+    'items: for item in items {
+        add_forwarder(&item.form, names)?;
+    }
+    Ok(())
 }
 
 // Adds that of an item.

@@ -8,7 +8,7 @@ ghost use Rattle.wb_numbering.specs.Given.{IsFile};
 ghost use Rattle.wb_names.specs.Resolving.{file_scope};
 ghost use Rattle.wb_names.specs.Inner.Ground.{IsGround};
 ghost use Rattle.wb_names.specs.Inner.Lent.{lent_file};
-ghost use Rattle.wb_names.specs.Inner.Tables.{AreNamed, IsEmpty};
+ghost use Rattle.wb_names.specs.Inner.Tables.{AreNamed, AreTerminals, IsEmpty};
 
 use crate::lent::Lent;
 use crate::nonterminals::{Nonterminals, add_nonterminals};
@@ -100,13 +100,20 @@ fn add_names(
     requires scope { scope.old ≡ record { owner = file.now.owner; terminals = []; nonterminals = []; attributes = []; productions = [] } }
     ensures { OnOk result (AreNamed (lent_file file.now) terminals.new nonterminals.new scope.new) }
 {
-    add_base(file.base.terminals.as_slice(), terminals)?;
-    add_declared(file.owner, file.items, terminals)?;
+    add_terminals(file, terminals)?;
     add_attribute_names(file, &mut scope.attributes)?;
     add_nonterminals(alloc, file, scope, nonterminals)?;
-    add_terminal_names(terminals.scanned.as_slice(), &mut scope.terminals)?;
-    add_terminal_names(terminals.layout.as_slice(), &mut scope.terminals)?;
-    add_nonterminal_names(nonterminals.of_grammar.as_slice(), &mut scope.nonterminals)?;
-    add_nonterminal_names(nonterminals.others.as_slice(), &mut scope.nonterminals)?;
+    add_terminal_names(terminals, &mut scope.terminals)?;
+    add_nonterminal_names(nonterminals, &mut scope.nonterminals)?;
     add_production_names(file, &mut scope.productions)
+}
+
+// Makes the rows of terminals, those of the base before those that items declare.
+fn add_terminals(file: &Lent, made: &mut Terminals) -> Result<(), AllocError>
+    requires scanned { made.old.scanned.items ≡ [] }
+    requires layout { made.old.layout.items ≡ [] }
+    ensures { OnOk result (AreTerminals (lent_file file.now) made.new) }
+{
+    add_base(file.base.terminals.as_slice(), made)?;
+    add_declared(file.owner, file.items, made)
 }

@@ -2,7 +2,7 @@
 //!
 //! All rows are there; what is left are the grammar, and what repeats the file or its rows.
 
-ghost use Rattle.std.specs.Prelude.{◌≡◌, IfOk, IfSome, Some};
+ghost use Rattle.std.specs.Prelude.{◌≡◌, ◌++◌, IfOk, IfSome, OnOk, Some};
 ghost use Rattle.wb_resolved.specs.Attribution.{IsAttribution};
 ghost use Rattle.wb_naming.specs.Hold.{NamesHold};
 ghost use Rattle.wb_numbering.specs.Given.{IsFile};
@@ -100,10 +100,18 @@ fn names_of(alloc: Global, names: &[Bytes]) -> Result<Sequence<Bytes>, AllocErro
     ensures { IfOk result (λ made. made ≡ names.now) }
 {
     let mut made = Vec::new(alloc);
-    'names: for name in names {
-        push(&mut made, name.copy()?)?;
-    }
+    add_names(names, &mut made)?;
     Ok(Sequence::from_vec(made))
+}
+
+// Adds the same names.
+fn add_names(names: &[Bytes], made: &mut Vec<Bytes>) -> Result<(), AllocError>
+    ensures { OnOk result (made.new.items ≡ made.old.items ++ names.now) }
+{
+    'names: for name in names {
+        push(made, name.copy()?)?;
+    }
+    Ok(())
 }
 
 // The grammar, where there is a start.

@@ -3,6 +3,7 @@
 //! The first line is tested here, names in `wb_name_rules`; then everything has a number.
 
 ghost use Rattle.std.specs.Prelude.{◌≡◌, [], IfErr, IfOk};
+ghost use Rattle.wb_naming.specs.Hold.{NamesHold};
 ghost use Rattle.wb_naming.specs.NamesOk.{NamesOk};
 ghost use Rattle.wb_naming.specs.Refusals.{IsTrueRefusal};
 ghost use Rattle.wb_numbering.specs.Given.{IsFile};
@@ -15,7 +16,7 @@ ghost use Rattle.wb_names.specs.Inner.Wrong.{IsWrongHost, IsWrongSort};
 use crate::empty::nothing_before;
 use crate::lent::Lent;
 use crate::numbered::numbered;
-use std::alloc::Global;
+use std::alloc::{AllocError, Global};
 use wb_base::Bytes;
 use wb_name_rules::check_names;
 use wb_naming::NameRefusal;
@@ -102,8 +103,18 @@ fn resolve_in(alloc: Global, file: &Lent) -> Result<Resolved, NameRefusal>
     ensures refused { IfErr result (IsTrueRefusal (file_scope (lent_file file.now))) }
 {
     check_names(alloc, file.base, file.owner, file.items)?;
+    Ok(resolved_value(alloc, file)?)
+}
+
+// The numbered value of a file whose names are right. The only error is want of memory.
+fn resolved_value(alloc: Global, file: &Lent) -> Result<Resolved, AllocError>
+    requires file { IsFile (lent_file file.now) }
+    requires hold { NamesHold (file_scope (lent_file file.now)) }
+    requires alone { BeginsAlone (lent_file file.now) }
+    ensures { IfOk result (Resolves (lent_file file.now)) }
+{
     let parts = numbered(alloc, file)?;
-    Ok(Resolved::new(alloc, parts)?)
+    Resolved::new(alloc, parts)
 }
 
 // That a file is of the wrong sort, with its name.

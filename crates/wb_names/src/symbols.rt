@@ -19,17 +19,25 @@ ghost use Rattle.wb_names.specs.Inner.Names as spec;
 ghost use Rattle.wb_names.specs.Inner.Nonterminals.{attribute_names};
 
 use crate::lent::Lent;
+use crate::nonterminals::Nonterminals;
 use std::alloc::AllocError;
 use wb_base::Bytes;
 use wb_resolved::{Attribute, Nonterminal, Production, ProductionRole, Terminal};
 use wb_rows::index::Index;
+use wb_rows::terminals::Terminals;
 use wb_syntax::{Item, ItemForm, Pattern, PlainForm};
 
+// Adds the names of terminals, of those that are scanned before layout's.
+pub(crate) fn add_terminal_names(terminals: &Terminals, names: &mut Index) -> Result<(), AllocError>
+    requires { names.old ≡ [] }
+    ensures { OnOk result (names.new ≡ map (λ (t : Word). t.name) (terminals.now.scanned.items ++ terminals.now.layout.items)) }
+{
+    add_terminals(terminals.scanned.as_slice(), names)?;
+    add_terminals(terminals.layout.as_slice(), names)
+}
+
 // Adds the names of these terminals.
-pub(crate) fn add_terminal_names(
-    terminals: &[Terminal],
-    names: &mut Index,
-) -> Result<(), AllocError>
+fn add_terminals(terminals: &[Terminal], names: &mut Index) -> Result<(), AllocError>
     ensures { OnOk result (names.new ≡ names.old ++ map (λ (t : Word). t.name) terminals.now) }
 {
     'terminals: for terminal in terminals {
@@ -38,11 +46,20 @@ pub(crate) fn add_terminal_names(
     Ok(())
 }
 
-// Adds the names of these nonterminals.
+// Adds the names of nonterminals, of those of the grammar before the others'.
 pub(crate) fn add_nonterminal_names(
-    nonterminals: &[Nonterminal],
+    nonterminals: &Nonterminals,
     names: &mut Index,
 ) -> Result<(), AllocError>
+    requires { names.old ≡ [] }
+    ensures { OnOk result (names.new ≡ map (λ (x : Node). x.name) (nonterminals.now.of_grammar.items ++ nonterminals.now.others.items)) }
+{
+    add_nonterminals(nonterminals.of_grammar.as_slice(), names)?;
+    add_nonterminals(nonterminals.others.as_slice(), names)
+}
+
+// Adds the names of these nonterminals.
+fn add_nonterminals(nonterminals: &[Nonterminal], names: &mut Index) -> Result<(), AllocError>
     ensures { OnOk result (names.new ≡ names.old ++ map (λ (x : Node). x.name) nonterminals.now) }
 {
     'nonterminals: for nonterminal in nonterminals {

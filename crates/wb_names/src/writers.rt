@@ -39,10 +39,19 @@ pub(crate) fn writers_of(alloc: Global, items: &[Item<Pattern>]) -> Result<Write
         names: Names::new(alloc),
         places: Vec::new(alloc),
     };
-    'items: for place in 0..items.len() {
-        add_item(alloc, &items[place], place, &mut made)?;
-    }
+    add_items(alloc, items, &mut made)?;
     Ok(made)
+}
+
+// Adds the places of these items to none.
+fn add_items(alloc: Global, items: &[Item<Pattern>], made: &mut Writers) -> Result<(), AllocError>
+    requires { AreWriters items.now [] made.old }
+    ensures { OnOk result (AreWriters items.now items.now made.new) }
+{
+    'items: for place in 0..items.len() {
+        add_item(alloc, &items[place], place, made)?;
+    }
+    Ok(())
 }
 
 // Adds the place of an item, where it writes on a production.

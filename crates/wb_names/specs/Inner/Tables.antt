@@ -47,11 +47,16 @@ pub record IsEmpty (owner : ℕ) (g : Ground) : Type 0 where
   pub by_nonterminal : g.moves.nonterminals.items ≡ []
   pub by_production : g.moves.productions.items ≡ []
 
+-- the rows of terminals of a base and of a file, those that are scanned first
+abbrev pub AreTerminals : File → Terminals → Type 0
+AreTerminals file t =
+    AreGroupedBy (length t.scanned.items) IsScanned (IsTerminalNow file) (sources file.base.terminals (lexicals file.items))
+    (t.scanned.items ++ t.layout.items)
+
 -- names by number, and the rows whose names they are
 pub record AreNamed (file : File) (t : Terminals) (n : Nonterminals) (s : Scope) : Type 0 where
   pub owner : s.owner ≡ file.owner
-  pub terminals : AreGroupedBy (length t.scanned.items) IsScanned (IsTerminalNow file)
-      (sources file.base.terminals (lexicals file.items)) (t.scanned.items ++ t.layout.items)
+  pub terminals : AreTerminals file t
   pub nonterminals : AreGroupedBy (length n.of_grammar.items) (IsInGrammarOf file) (IsNonterminalNow file s)
       (sources file.base.attributes.nonterminals (nonterminals file.items)) (n.of_grammar.items ++ n.others.items)
   pub terminal_names : s.terminals ≡ map (λ (x : Terminal). x.name) (t.scanned.items ++ t.layout.items)

@@ -1,7 +1,5 @@
-use Rattle.wb_names.proofs.Gathered.{copy_added}
+use Rattle.std.proofs.Common.{◌++◌, ◌∙◌, ap}
 use Rattle.wb_names.proofs.numbered.names_of.Goals as goal
 
-pub names-preserved : goal.names-preserved
-names-preserved c =
-    copy_added c.args.names.now c.names.name-index c.name-item.result c.in_ok-copy.field-0 c.names.made.items c.push.new.list.items
-    c.names.invariant c.names-test.true c.name-item.is c.in_ok-copy.ensures.ok c.in_ok-push.ensures.ok
+pub returns : goal.returns
+returns c = c.from_vec.ensures ∙ (c.in_ok-add_names.ensures ∙ ap (λ z. z ++ c.args.names.now) c.new-made.ensures.items)

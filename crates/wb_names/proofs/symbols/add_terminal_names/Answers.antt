@@ -1,9 +1,12 @@
+use Rattle.std.proofs.lemmas.Result.{on_ok_weaker}
 use Rattle.wb_resolved.specs.declared.terminal.Terminal.{Terminal}
-use Rattle.wb_names.proofs.Gathered.{name_added}
+use Rattle.wb_names.proofs.NamesFlat.{names_joined}
 use Rattle.wb_names.proofs.symbols.add_terminal_names.Goals as goal
 
-pub terminals-preserved : goal.terminals-preserved
-terminals-preserved c =
-    name_added (λ (t : Terminal). t.name) c.args.terminals.now c.terminals.terminal-index c.terminal-item.result c.in_ok-copy.field-0
-    c.args.names.now c.terminals.names c.add.new.self c.terminals.invariant c.terminals-test.true c.terminal-item.is c.in_ok-copy.ensures.ok
-    c.in_ok-add.ensures
+pub returns : goal.returns
+returns c =
+    on_ok_weaker c.add_terminals-2.result
+    (λ added. names_joined (λ (t : Terminal). t.name) c.args.names.now c.add_terminals.new.names c.add_terminals-2.new.names c.as_slice.result.now
+    c.as_slice-2.result.now c.args.terminals.now.scanned.items c.args.terminals.now.layout.items c.requires c.as_slice.ensures.value
+    c.as_slice-2.ensures.value c.in_ok-add_terminals.ensures added)
+    c.add_terminals-2.ensures

@@ -1,18 +1,6 @@
-use Rattle.std.proofs.Common.{subst}
-use Rattle.std.proofs.lemmas.List.{take_all}
-use Rattle.wb_names.specs.Inner.Writers.{AreWriters}
-use Rattle.wb_names.proofs.WritersLemmas.{next_item, no_items}
+use Rattle.wb_names.proofs.WritersLemmas.{no_items}
 use Rattle.wb_names.proofs.writers.writers_of.Goals as goal
 
-pub items-init : goal.items-init
-items-init c =
+pub add_items-requires : goal.add_items-requires
+add_items-requires c =
     no_items c.args.items.now (record { names = c.new.result; places = c.new-2.result }) c.new.ensures c.new-2.ensures.items
-
-pub items-preserved : goal.items-preserved
-items-preserved c =
-    next_item c.args.items.now c.items.place c.index-items-place.result c.items.made c.add_item.new.made c.items.invariant c.items-test.true
-    c.index-items-place.is c.in_ok-add_item.ensures
-
-pub returns : goal.returns
-returns c =
-    subst (λ z. AreWriters c.args.items.now z c.items.made) (take_all c.items.place c.args.items.now c.items-test.false) c.items.invariant
