@@ -1,5 +1,6 @@
 -- A visit that is done, by the form of the node.
-use Rattle.std.proofs.Common.{◌≡◌, ◌∙◌, ◌≤◌, ◌<◌, ◌+◌, ◌++◌, ℕ, zero, suc, pos, ℤ, Bool, List, [], ◌∷◌, Option, Some, None, length, refl, sym, ap, subst, arith}
+use Rattle.std.proofs.Common.{◌≡◌, ◌∙◌, ◌≤◌, ◌<◌, ◌+◌, ◌++◌, ℕ, zero, suc, pos, ℤ, Bool, List, [], ◌∷◌, Option, Some, None, length, refl}
+use Rattle.std.proofs.Common.{sym, ap, subst, arith}
 use Rattle.std.proofs.Common.{slice_get, get_or}
 use Rattle.std.proofs.lemmas.Option.{slice_get-map}
 use Rattle.std.specs.Prelude.{option_map}
@@ -9,7 +10,7 @@ use Rattle.wb_evaluation.proofs.SoundLemmas.{found_number}
 use Rattle.wb_attributes.specs.Vertices.{local, step_to}
 use Rattle.std.proofs.Common.{append-nil}
 use Rattle.std.proofs.lemmas.List.{append_assoc}
-use Rattle.wb_expressions.proofs.NodeLemmas.{of_node}
+use Rattle.wb_expressions.proofs.NodeLemmas.{has_node, of_node}
 use Rattle.wb_expressions.proofs.PlaceLemmas.{within}
 use Rattle.wb_expressions.specs.declared.node.Node.TheVariants as n
 use Rattle.wb_expressions.specs.Expression as x
@@ -30,7 +31,8 @@ use Rattle.wb_evaluation.specs.Instances.{Path, down, synthesized_at}
 use Rattle.wb_evaluation.specs.Walks.{Walk, read, with_value, number_of, walk_expression}
 use Rattle.wb_evaluator.proofs.MachineLemmas.{never_missed}
 use Rattle.wb_evaluator.proofs.StackLemmas.{size_stands, sizes_stand, left_push, left_visiting}
-use Rattle.wb_evaluator.proofs.VisitLemmas.{IsVisiting, visiting_of, at_once, read_known, read_new, parts_of_build, parts_of_call, parts_of_choice, call_known}
+use Rattle.wb_evaluator.proofs.VisitLemmas.{IsVisiting, visiting_of, at_once, read_known, read_new, parts_of_build, parts_of_call}
+use Rattle.wb_evaluator.proofs.VisitLemmas.{parts_of_choice, call_known}
 use Rattle.wb_evaluator.proofs.VisitLemmas.{ready, grown}
 use Rattle.wb_evaluator.specs.Inner.Machines.{tree_named, named, IsKey, Runs, IsSame, with_memo}
 use Rattle.wb_memo.specs.Memos.{path_in}
@@ -39,7 +41,8 @@ use Rattle.wb_memo.specs.Sites.{step_of}
 use Rattle.wb_evaluator.specs.Inner.Tasks.{resume}
 use Rattle.wb_evaluator.specs.Inner.Jobs.{visiting, stack_of}
 use Rattle.wb_evaluator.specs.Inner.Works.{node_size, size_at, task_size, left_to_do, IsEvaluating, Parks, IsReading}
-use Rattle.wb_evaluator.specs.Inner.Works.{HasChildAt, IsChildPushed, HasLabel, IsLabelVisited, IsPushed, ArePushed, IsLess, IsDone, IsReadBelow, way_to, IsExtended}
+use Rattle.wb_evaluator.specs.Inner.Works.{HasChildAt, IsChildPushed, HasLabel, IsLabelVisited, IsPushed, ArePushed, IsLess, IsDone}
+use Rattle.wb_evaluator.specs.Inner.Works.{IsReadBelow, way_to, IsExtended}
 use Rattle.wb_evaluator.specs.declared.machine.Key.{Key}
 use Rattle.wb_evaluator.specs.declared.machine.Key.TheVariants as key
 use Rattle.wb_evaluator.specs.declared.machine.Machine.{Machine}
@@ -76,10 +79,23 @@ way_is : (at : Place) → step_of (way_to at) ≡ step_to at
 way_is (place.Child k) = refl
 way_is (place.Local y) = refl
 
+-- a node that was matched is at its place
+pub node_here : (nodes : List Node) (at : ℕ) (node : Node) {form : Node} → at < length nodes → node ≡ get_or nodes at node
+    → get_or nodes at node ≡ form → HasNode nodes at form
+node_here nodes at node h is form_is = subst (HasNode nodes at) (is ∙ form_is) (has_node nodes at node h is)
+
+pub same_memo : (old new : Machine) → new ≡ with_memo old new.memo → IsSame old new
+same_memo old new is = record {
+  root = ap (λ (z : Machine). z.root) is;
+  attribute = ap (λ (z : Machine). z.attribute) is;
+  stack = ap (λ (z : Machine). z.stack) is;
+  entered = ap (λ (z : Machine). z.entered) is;
+}
+
 pub same_machine : (m : Machine) → IsSame m m
 same_machine m = record { root = refl; attribute = refl; stack = refl; entered = refl }
 
-module _ (a : AttributionParts) (operations : Operations) (trees : List Tree) (m : Machine) (site : ℕ) (nodes : List Node) (old new : Work)
+module _ {a : AttributionParts} {operations : Operations} {trees : List Tree} {m : Machine} {site : ℕ} {nodes : List Node} (old new : Work)
     (at : ℕ) (ev : IsEvaluating a operations trees m site nodes (old.tasks.items ++ task.Visit at ∷ []) old.values.items) where
   abbrev q : Path
   q = path_in m.memo site
@@ -91,8 +107,10 @@ module _ (a : AttributionParts) (operations : Operations) (trees : List Tree) (m
   v_of : (e : Expression) × Stands nodes at e × IsVisiting a operations trees m site nodes old.tasks.items old.values.items e
   v_of = visiting_of a operations trees m site nodes old.tasks.items old.values.items at ev
 
-  pub runs_ev : (e : Expression) (v : IsVisiting a operations trees m site nodes old.tasks.items old.values.items e) → Runs a operations trees m
-      (walk_expression operations q (children_of (tree_in trees v.id.0)) e (λ w. resume operations q (children_of (tree_in trees v.id.0)) v.rest (w ∷ stack_of trees old.values.items)))
+  pub runs_ev : (e : Expression) (v : IsVisiting a operations trees m site nodes old.tasks.items old.values.items e)
+      → Runs a operations trees m
+      (walk_expression operations q (children_of (tree_in trees v.id.0)) e
+      (λ w. resume operations q (children_of (tree_in trees v.id.0)) v.rest (w ∷ stack_of trees old.values.items)))
   runs_ev e v = v.runs
 
   less_here : (after : Machine) (result : Option Key) → new.tasks ≡ old.tasks
@@ -104,7 +122,8 @@ module _ (a : AttributionParts) (operations : Operations) (trees : List Tree) (m
   less_here after (Some key) same = tt
 
   -- a value was pushed
-  pushed_done : (after : Machine) (w : Value) (e : Expression) → IsEvaluating a operations trees after site nodes old.tasks.items (old.values.items ++ w ∷ [])
+  pushed_done : (after : Machine) (w : Value) (e : Expression)
+      → IsEvaluating a operations trees after site nodes old.tasks.items (old.values.items ++ w ∷ [])
       → new.tasks ≡ old.tasks → new.values.items ≡ old.values.items ++ w ∷ [] → IsSame m after → Done after None
   pushed_done after w e it tasks values same = record {
     after_it = subst (λ (vs : List Value). IsEvaluating a operations trees after site nodes new.tasks.items vs) (sym values)
@@ -118,9 +137,11 @@ module _ (a : AttributionParts) (operations : Operations) (trees : List Tree) (m
       → ((rest : t.Value → Walk) → walk_expression operations q (children_of (tree_in trees v.id.0)) e rest ≡ rest (value_in trees w))
       → IsIn (length trees) w → new.tasks ≡ old.tasks → new.values.items ≡ old.values.items ++ w ∷ [] → Done m None
   once_done e w v is inside tasks values =
-      pushed_done m w e (at_once a operations trees m site nodes old.tasks.items old.values.items e v w is inside) tasks values (same_machine m)
+      pushed_done m w e (at_once a operations trees m site nodes old.tasks.items old.values.items e v w is inside) tasks values
+      (same_machine m)
 
-  pub int_done : (z : ℤ) → HasNode nodes at (n.Int z) → new.tasks ≡ old.tasks → new.values.items ≡ old.values.items ++ stored.Int z ∷ [] → Done m None
+  pub int_done : (z : ℤ) → HasNode nodes at (n.Int z) → new.tasks ≡ old.tasks → new.values.items ≡ old.values.items ++ stored.Int z ∷ []
+      → Done m None
   unfolding walk_expression
   int_done z has tasks values =
       let (e, stands, v) = v_of in
@@ -128,7 +149,8 @@ module _ (a : AttributionParts) (operations : Operations) (trees : List Tree) (m
       let v' = subst (IsVisiting a operations trees m site nodes old.tasks.items old.values.items) e_is v in
       once_done (x.Int z) (stored.Int z) v' (λ rest. refl) tt tasks values
 
-  pub text_done : (z : List ℕ) → HasNode nodes at (n.Text z) → new.tasks ≡ old.tasks → new.values.items ≡ old.values.items ++ stored.Text z ∷ [] → Done m None
+  pub text_done : (z : List ℕ) → HasNode nodes at (n.Text z) → new.tasks ≡ old.tasks
+      → new.values.items ≡ old.values.items ++ stored.Text z ∷ [] → Done m None
   unfolding walk_expression
   text_done z has tasks values =
       let (e, stands, v) = v_of in
@@ -136,7 +158,8 @@ module _ (a : AttributionParts) (operations : Operations) (trees : List Tree) (m
       let v' = subst (IsVisiting a operations trees m site nodes old.tasks.items old.values.items) e_is v in
       once_done (x.Text z) (stored.Text z) v' (λ rest. refl) tt tasks values
 
-  pub truth_done : (z : Bool) → HasNode nodes at (n.Bool z) → new.tasks ≡ old.tasks → new.values.items ≡ old.values.items ++ stored.Bool z ∷ [] → Done m None
+  pub truth_done : (z : Bool) → HasNode nodes at (n.Bool z) → new.tasks ≡ old.tasks
+      → new.values.items ≡ old.values.items ++ stored.Bool z ∷ [] → Done m None
   unfolding walk_expression
   truth_done z has tasks values =
       let (e, stands, v) = v_of in
@@ -146,19 +169,24 @@ module _ (a : AttributionParts) (operations : Operations) (trees : List Tree) (m
 
   -- a child as a value
   child_there : (k : ℕ) (v : (e : Expression) × IsVisiting a operations trees m site nodes old.tasks.items old.values.items e)
-      → ((rest : t.Value → Walk) → walk_expression operations q (children_of (tree_in trees v.1.id.0)) v.0 rest ≡ with_value (value_at (children_of (tree_in trees v.1.id.0)) k) rest)
+      → ((rest : t.Value → Walk) → walk_expression operations q (children_of (tree_in trees v.1.id.0)) v.0 rest ≡ with_value
+      (value_at (children_of (tree_in trees v.1.id.0)) k) rest)
       → HasChildAt trees m site k
   child_there k (e, v) is =
-      (v.id, v.has, (v.runs.machine.memo.nodes site v.id v.has).inside, by_value (value_at (children_of (tree_in trees v.id.0)) k) refl) where
-        by_value : (o : Option t.Value) → value_at (children_of (tree_in trees v.id.0)) k ≡ o → HasChild trees v.id k
-        by_value (Some w) there = (w, there)
-        by_value None there =
-            let rest : t.Value → Walk = λ w. resume operations q (children_of (tree_in trees v.id.0)) v.rest (w ∷ stack_of trees old.values.items) in
-            let runs = subst (Runs a operations trees m) (is rest ∙ ap (λ (o : Option t.Value). with_value o rest) there) v.runs in
-            absurd (never_missed a operations runs.machine.top m.attribute runs.machine.evaluable runs.machine.asked runs.machine.state runs.come)
+      (v.id, v.has, (v.runs.machine.memo.nodes site v.id v.has).inside, by_value (value_at (children_of (tree_in trees v.id.0)) k) refl)
+    where
+      by_value : (o : Option t.Value) → value_at (children_of (tree_in trees v.id.0)) k ≡ o → HasChild trees v.id k
+      by_value (Some w) there = (w, there)
+      by_value None there =
+          let rest : t.Value → Walk =
+          λ w. resume operations q (children_of (tree_in trees v.id.0)) v.rest (w ∷ stack_of trees old.values.items) in
+          let runs = subst (Runs a operations trees m) (is rest ∙ ap (λ (o : Option t.Value). with_value o rest) there) v.runs in
+          absurd (never_missed a operations runs.machine.top m.attribute runs.machine.evaluable runs.machine.asked runs.machine.state
+          runs.come)
 
   child_pushed : (k : ℕ) (e : Expression) (v : IsVisiting a operations trees m site nodes old.tasks.items old.values.items e)
-      → ((rest : t.Value → Walk) → walk_expression operations q (children_of (tree_in trees v.id.0)) e rest ≡ with_value (value_at (children_of (tree_in trees v.id.0)) k) rest)
+      → ((rest : t.Value → Walk) → walk_expression operations q (children_of (tree_in trees v.id.0)) e rest ≡ with_value
+      (value_at (children_of (tree_in trees v.id.0)) k) rest)
       → (result : Option Key) → IsChildPushed trees m old new site k result → Done m result
   child_pushed k e v is None (id, w, has, value, inside, tasks, values) =
       let same_id : v.id ≡ id = cc (v.has, has) in
@@ -174,7 +202,8 @@ module _ (a : AttributionParts) (operations : Operations) (trees : List Tree) (m
       let v' = subst (IsVisiting a operations trees m site nodes old.tasks.items old.values.items) e_is v in
       child_there k (x.Label (place.Child k), v') (λ rest. refl)
 
-  pub label_done : (k : ℕ) → HasNode nodes at (n.Label (place.Child k)) → (result : Option Key) → IsChildPushed trees m old new site k result
+  pub label_done : (k : ℕ) → HasNode nodes at (n.Label (place.Child k)) → (result : Option Key)
+      → IsChildPushed trees m old new site k result
       → Done m result
   unfolding walk_expression
   label_done k has result pushed =
@@ -191,7 +220,8 @@ module _ (a : AttributionParts) (operations : Operations) (trees : List Tree) (m
       let v' = subst (IsVisiting a operations trees m site nodes old.tasks.items old.values.items) e_is v in
       child_there k (x.Lexeme (place.Child k), v') (λ rest. refl)
 
-  pub lexeme_done : (k : ℕ) → HasNode nodes at (n.Lexeme (place.Child k)) → (result : Option Key) → IsChildPushed trees m old new site k result
+  pub lexeme_done : (k : ℕ) → HasNode nodes at (n.Lexeme (place.Child k)) → (result : Option Key)
+      → IsChildPushed trees m old new site k result
       → Done m result
   unfolding walk_expression
   lexeme_done k has result pushed =
@@ -218,12 +248,15 @@ module _ (a : AttributionParts) (operations : Operations) (trees : List Tree) (m
   label_label (place.Local k) has = tt
 
   -- an instance is read, at a machine whose memo may have grown
-  read_done : (after : Machine) (e : Expression) (v : IsVisiting a operations trees after site nodes old.tasks.items old.values.items e) (k : Key)
+  read_done : (after : Machine) (e : Expression) (v : IsVisiting a operations trees after site nodes old.tasks.items old.values.items e)
+      (k : Key)
       → IsKey after.memo k
-      → ((rest : t.Value → Walk) → walk_expression operations (path_in after.memo site) (children_of (tree_in trees v.id.0)) e rest ≡ read (named after.memo k) rest)
+      → ((rest : t.Value → Walk) → walk_expression operations (path_in after.memo site) (children_of (tree_in trees v.id.0)) e rest ≡ read
+      (named after.memo k) rest)
       → Stands nodes at e → (result : Option Key) → IsReading after old new k result → IsSame m after → Done after result
   read_done after e v k is_key is stands None (w, has, tasks, values) same =
-      pushed_done after w e (read_known a operations trees after site nodes old.tasks.items old.values.items e v k is_key is w has) tasks values same
+      pushed_done after w e (read_known a operations trees after site nodes old.tasks.items old.values.items e v k is_key is w has) tasks
+      values same
   read_done after e v k is_key is stands (Some other) (key_is, none, tasks, values) same = record {
     after_it = subst (Parks a operations trees after site nodes (new.tasks.items ++ task.Visit at ∷ []) new.values.items) (sym key_is)
         (subst (λ vs. Parks a operations trees after site nodes (new.tasks.items ++ task.Visit at ∷ []) vs.items k) (sym values)
@@ -233,26 +266,21 @@ module _ (a : AttributionParts) (operations : Operations) (trees : List Tree) (m
     less = tt;
   }
 
-  pub top_done : (y : ℕ) → HasNode nodes at (n.Top y) → (result : Option Key) → IsReading m old new (key.Inherited site y) result → Done m result
+  pub top_done : (y : ℕ) → HasNode nodes at (n.Top y) → (result : Option Key) → IsReading m old new (key.Inherited site y) result
+      → Done m result
   unfolding walk_expression
   top_done y has result reading =
       let (e, stands, v) = v_of in
       let e_is : e ≡ x.Top y = of_node nodes at e (n.Top y) stands has in
       let v' = subst (IsVisiting a operations trees m site nodes old.tasks.items old.values.items) e_is v in
-      read_done m (x.Top y) v' (key.Inherited site y) ev.there (λ rest. refl) (subst (Stands nodes at) e_is stands) result reading (same_machine m)
+      read_done m (x.Top y) v' (key.Inherited site y) ev.there (λ rest. refl) (subst (Stands nodes at) e_is stands) result reading
+      (same_machine m)
 
   -- one step down
   module _ (after : Machine) (way : Step) (result : Option Key) where
-    same_after : (m' : Machine) → m' ≡ with_memo m m'.memo → IsSame m m'
-    same_after m' is = record {
-      root = ap (λ (z : Machine). z.root) is;
-      attribute = ap (λ (z : Machine). z.attribute) is;
-      stack = ap (λ (z : Machine). z.stack) is;
-      entered = ap (λ (z : Machine). z.entered) is;
-    }
-
     visiting_after : (e : Expression) → IsVisiting a operations trees m site nodes old.tasks.items old.values.items e → (key_at : ℕ → Key)
-        → (r : IsReadBelow trees m after site way key_at old new result) → IsVisiting a operations trees after site nodes old.tasks.items old.values.items e
+        → (r : IsReadBelow trees m after site way key_at old new result)
+        → IsVisiting a operations trees after site nodes old.tasks.items old.values.items e
     visiting_after e v key_at r =
         subst (λ (z : Machine). IsVisiting a operations trees z site nodes old.tasks.items old.values.items e) (sym r.machine)
         (grown a operations trees m site nodes old.tasks.items old.values.items e v after.memo way r.below r.whole r.grown r.reached)
@@ -282,7 +310,7 @@ module _ (a : AttributionParts) (operations : Operations) (trees : List Tree) (m
       read_done after (x.Read at_place y) w (key.Synthesized r.below y) r.reached.2.there
       (λ rest. ap (λ s. read (synthesized_at (down (path_in after.memo site) s) y) rest) (sym (way_is at_place))
       ∙ ap (λ (p : Path). read (synthesized_at p y) rest) (sym path)) (subst (Stands nodes at) e_is stands) result r.reading
-      (same_after after (way_to at_place) result after r.machine)
+      (same_memo m after r.machine)
 
   pub forward_done : (y : ℕ) → HasNode nodes at (n.Forward y) → (after : Machine) (result : Option Key)
       → IsReadBelow trees m after site step.Forward (λ below. key.Synthesized below y) old new result → Done after result
@@ -295,7 +323,7 @@ module _ (a : AttributionParts) (operations : Operations) (trees : List Tree) (m
       let path = path_below after step.Forward result _ r in
       read_done after (x.Forward y) w (key.Synthesized r.below y) r.reached.2.there
       (λ rest. ap (λ (p : Path). read (synthesized_at p y) rest) (sym path)) (subst (Stands nodes at) e_is stands) result r.reading
-      (same_after after step.Forward result after r.machine)
+      (same_memo m after r.machine)
 
   pub local_done : (c : ℕ) → HasNode nodes at (n.Label (place.Local c)) → (after : Machine) (result : Option Key)
       → IsReadBelow trees m after site (step.Local c) (λ below. key.Tree below) old new result → Done after result
@@ -309,7 +337,7 @@ module _ (a : AttributionParts) (operations : Operations) (trees : List Tree) (m
       read_done after (x.Label (place.Local c)) w (key.Tree r.below)
       (r.reached.2.there, (path_in after.memo site, local c, path))
       (λ rest. ap (λ (p : Path). read (tree_named p) rest) (sym path)) (subst (Stands nodes at) e_is stands) result r.reading
-      (same_after after (step.Local c) result after r.machine)
+      (same_memo m after r.machine)
 
   pub label_visited : (p : Place) → HasNode nodes at (n.Label p) → (after : Machine) (result : Option Key)
       → IsLabelVisited trees m after site p old new result → Done after result
@@ -328,11 +356,13 @@ module _ (a : AttributionParts) (operations : Operations) (trees : List Tree) (m
   int_visited z has None (tasks, values) = int_done z has tasks values
   int_visited z has (Some key) pushed = absurd pushed
 
-  pub text_visited : (z : List ℕ) → HasNode nodes at (n.Text z) → (result : Option Key) → IsPushed old new (stored.Text z) result → Done m result
+  pub text_visited : (z : List ℕ) → HasNode nodes at (n.Text z) → (result : Option Key) → IsPushed old new (stored.Text z) result
+      → Done m result
   text_visited z has None (tasks, values) = text_done z has tasks values
   text_visited z has (Some key) pushed = absurd pushed
 
-  pub truth_visited : (z : Bool) → HasNode nodes at (n.Bool z) → (result : Option Key) → IsPushed old new (stored.Bool z) result → Done m result
+  pub truth_visited : (z : Bool) → HasNode nodes at (n.Bool z) → (result : Option Key) → IsPushed old new (stored.Bool z) result
+      → Done m result
   truth_visited z has None (tasks, values) = truth_done z has tasks values
   truth_visited z has (Some key) pushed = absurd pushed
 
@@ -359,7 +389,8 @@ module _ (a : AttributionParts) (operations : Operations) (trees : List Tree) (m
 
   pub call_done : (name : List ℕ) (number : ℕ) (places : List ℕ) → HasNode nodes at (n.Call name places)
       → number_of operations.signatures name ≡ Some number
-      → new.tasks.items ≡ (old.tasks.items ++ task.Call number (length places) ∷ []) ++ visiting places → new.values ≡ old.values → Done m None
+      → new.tasks.items ≡ (old.tasks.items ++ task.Call number (length places) ∷ []) ++ visiting places → new.values ≡ old.values
+      → Done m None
   call_done name number places has found tasks values =
       let (e, stands, v) = v_of in
       let (es, all, e_is) = of_node nodes at e (n.Call name places) stands has in
@@ -383,7 +414,8 @@ module _ (a : AttributionParts) (operations : Operations) (trees : List Tree) (m
   choice_done c h f has tasks values =
       let (e, stands, v) = v_of in
       let (first, second, third, at_c, at_h, at_f, e_is) = of_node nodes at e (n.If c h f) stands has in
-      let it = parts_of_choice a operations trees m site nodes old.tasks.items old.values.items e v first second third c h f e_is at_c at_h at_f in
+      let it =
+      parts_of_choice a operations trees m site nodes old.tasks.items old.values.items e v first second third c h f e_is at_c at_h at_f in
       let small = subst (λ (z : Expression). size z ≤ length nodes) e_is v.small in
       let here = size_stands operations.signatures nodes (length nodes) at e stands v.small ∙ ap size e_is in
       let one = size_stands operations.signatures nodes (length nodes) c first at_c (omega (arith, small)) in
@@ -423,7 +455,8 @@ module _ (a : AttributionParts) (operations : Operations) (trees : List Tree) (m
   build_visited p places has (Some key) pushed = absurd pushed
 
   pub call_visited : (name : List ℕ) (places : List ℕ) → HasNode nodes at (n.Call name places) → (result : Option Key)
-      → (number : ℕ) × IsOperation operations.signatures name number × ArePushed old new (task.Call number (length places)) places result → Done m result
+      → (number : ℕ) × IsOperation operations.signatures name number × ArePushed old new (task.Call number (length places)) places result
+      → Done m result
   call_visited name places has None (number, is, (tasks, values)) =
       call_done name number places has (number_there name number is) tasks values
   call_visited name places has (Some key) (number, is, pushed) = absurd pushed

@@ -12,6 +12,8 @@ pub mod PerformLemmas
 pub mod StepLemmas
 pub mod LeaveLemmas
 pub mod BeginLemmas
+pub mod HomeLemmas
 pub mod StartLemmas
+pub mod ForwardLemmas
 pub mod PileLemmas
 pub mod ParkLemmas

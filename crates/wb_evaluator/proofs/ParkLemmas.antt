@@ -25,10 +25,11 @@ use Rattle.wb_evaluator.specs.declared.machine.Key.{Key}
 use Rattle.wb_evaluator.specs.declared.machine.Machine.{Machine}
 use Rattle.wb_evaluator.specs.declared.work.Task.{Task}
 
-module _ (a : AttributionParts) (operations : Operations) (trees : List Tree) (m : Machine) where
+module _ {a : AttributionParts} {operations : Operations} {trees : List Tree} {m : Machine} where
   -- a machine with other frames
   abbrev framed : (r : IsMachine a operations trees m) (frames : Frames)
-      → AreSuspended a operations trees r.top m.attribute r.all m.memo m.stack.items (waits frames) → IsPiled frames → IsMachine a operations trees (with_frames m frames)
+      → AreSuspended a operations trees r.top m.attribute r.all m.memo m.stack.items (waits frames) → IsPiled frames
+      → IsMachine a operations trees (with_frames m frames)
   framed r frames suspended piled = record {
     top = r.top;
     root_inside = r.root_inside;
@@ -52,16 +53,17 @@ module _ (a : AttributionParts) (operations : Operations) (trees : List Tree) (m
   rows_count r = sym (waits_length m.frames.rows.items m.frames.tasks.items m.frames.values.items) ∙ r.frames.count
 
   pub rows_some : IsMachine a operations trees m → 0 < length m.frames.rows.items
-  rows_some r = let c = rows_count r in let s = stack_some a operations trees m r in omega (arith, c, s)
+  rows_some r = let c = rows_count r in let s = stack_some r in omega (arith, c, s)
 
   module _ (r : IsMachine a operations trees m) (frames : Frames)
       (piled : IsPiled frames)
       (taken : waits frames ≡ slice_set (waits m.frames) (length m.stack.items - 1) None) where
     without : AreSuspended a operations trees r.top m.attribute r.all m.memo m.stack.items (waits frames)
     without =
-        let some = stack_some a operations trees m r in
+        let some = stack_some r in
         subst (AreSuspended a operations trees r.top m.attribute r.all m.memo m.stack.items) (sym taken)
-        (frames_set a operations trees r.top m.attribute r.all m.memo m.stack.items (waits m.frames) (length m.stack.items - 1) None r.frames
+        (frames_set a operations trees r.top m.attribute r.all m.memo m.stack.items (waits m.frames)
+        (length m.stack.items - 1) None r.frames
         (omega (arith, some)) (λ k f at same. absurd (cc same)))
 
     -- the frame of the instance at work is taken
@@ -94,7 +96,8 @@ module _ (a : AttributionParts) (operations : Operations) (trees : List Tree) (m
         }
 
   -- what is left at the instance at work is kept
-  module _ (site : ℕ) (nodes : List Node) (tasks : List Task) (values : List Value) (key : Key) (p : Parks a operations trees m site nodes tasks values key)
+  module _ (site : ℕ) (nodes : List Node) (tasks : List Task) (values : List Value) (key : Key)
+      (p : Parks a operations trees m site nodes tasks values key)
       (frames : Frames) (piled : IsPiled frames)
       (kept : waits frames ≡ slice_set (waits m.frames) (length m.stack.items - 1) (Some (wait site nodes tasks values))) where
     abbrev r : IsMachine a operations trees m
@@ -102,15 +105,17 @@ module _ (a : AttributionParts) (operations : Operations) (trees : List Tree) (m
 
     with_it : AreSuspended a operations trees r.top m.attribute r.all m.memo m.stack.items (waits frames)
     with_it =
-        let some = stack_some a operations trees m r in
+        let some = stack_some r in
         subst (AreSuspended a operations trees r.top m.attribute r.all m.memo m.stack.items) (sym kept)
         (frames_set a operations trees r.top m.attribute r.all m.memo m.stack.items (waits m.frames) (length m.stack.items - 1)
         (Some (wait site nodes tasks values)) r.frames (omega (arith, some)) (λ k other at same.
         let (is_key, this_is) = key_here a operations trees m r k at in
         let f_is : wait site nodes tasks values ≡ other = same_Some (wait site nodes tasks values) other same in (
           is_key,
-          subst (λ (z : Wait). IsSuspended a operations trees r.top m.attribute r.all m.memo (named m.memo k) z.site z.nodes z.tasks z.values) f_is
-              (subst (λ (i : Instance). IsSuspended a operations trees r.top m.attribute r.all m.memo i site nodes tasks values) this_is p.waits),
+          subst (λ (z : Wait). IsSuspended a operations trees r.top m.attribute r.all m.memo
+              (named m.memo k) z.site z.nodes z.tasks z.values) f_is
+              (subst (λ (i : Instance). IsSuspended a operations trees r.top m.attribute r.all m.memo i site nodes tasks values) this_is
+              p.waits),
         )))
 
     pub parked : Wants a operations trees (with_frames m frames) key

@@ -1,18 +1,21 @@
 -- A task that was done: a tree was built, an operation called, or a branch chosen.
-use Rattle.std.proofs.Common.{◌≡◌, ◌<◌, ◌+◌, ◌-◌, ◌++◌, ◌∷◌, [], ℕ, inl, inr, Bool, true, false, List, Option, Some, None, length, take, refl, sym, ap, subst, arith}
-use Rattle.wb_operations.specs.Given.{Given, plains_of}
-use Rattle.wb_operations.specs.Operations.{Operations}
+use Rattle.std.proofs.Common.{◌≡◌, ◌≤◌, ◌<◌, ◌+◌, ◌-◌, ◌++◌, ◌∷◌, [], ℕ, inl, inr, Bool, true, false, List, Option, Some, None, length}
+use Rattle.std.proofs.Common.{take, slice_get, All, refl, sym, ap, subst, arith}
+use Rattle.wb_operations.specs.Given.{Given, FitKinds, plains_of}
+use Rattle.wb_operations.specs.Operations.{OperationSignature, Operations}
 use Rattle.wb_resolved.specs.declared.attribution.AttributionParts.{AttributionParts}
 use Rattle.wb_resolved.specs.Expression.{Node}
 use Rattle.wb_values.specs.declared.value.Value.{Value}
 use Rattle.wb_values.specs.declared.value.Value.TheVariants as stored
 use Rattle.wb_values.specs.Tree.{Tree}
-use Rattle.wb_values.specs.ValuesIn.{last}
+use Rattle.wb_values.specs.ValuesIn.{IsIn, last}
 use Rattle.wb_evaluation.specs.Walks.{done, fault}
-use Rattle.wb_evaluator.proofs.CallTaskLemmas.{called, call_failed, chosen_after, choice_less, given_value, given_fault}
-use Rattle.wb_evaluator.proofs.TreeTaskLemmas.{built}
+use Rattle.wb_evaluator.proofs.CallTaskLemmas.{call_ready, choice_ready, called, call_failed, chosen_after, choice_less, given_value}
+use Rattle.wb_evaluator.proofs.CallTaskLemmas.{given_fault}
+use Rattle.wb_evaluator.proofs.TreeTaskLemmas.{build_ready, built}
+use Rattle.wb_evaluator.proofs.DoneLemmas.{visit_within}
 use Rattle.wb_evaluator.specs.Inner.Machines.{Runs}
-use Rattle.wb_evaluator.specs.Inner.Works.{task_size, left_to_do, IsEvaluating, IsOver, IsBuilt, IsChosenBy, IsChosen, IsCalled}
+use Rattle.wb_evaluator.specs.Inner.Works.{task_size, left_to_do, IsEvaluating, IsOver, IsBuilt, IsChosenBy, IsChosen, IsCalled, HasTruth}
 use Rattle.wb_evaluator.specs.declared.machine.Machine.{Machine}
 use Rattle.wb_evaluator.specs.declared.work.Ran.{Ran}
 use Rattle.wb_evaluator.specs.declared.work.Ran.TheVariants as ran
@@ -20,14 +23,16 @@ use Rattle.wb_evaluator.specs.declared.work.Task.{Task}
 use Rattle.wb_evaluator.specs.declared.work.Task.TheVariants as task
 use Rattle.wb_evaluator.specs.declared.work.Work.{Work}
 
-module _ (a : AttributionParts) (operations : Operations) (trees : List Tree) (m : Machine) (site : ℕ) (nodes : List Node) (old new : Work) where
+module _ (a : AttributionParts) (operations : Operations) (trees : List Tree) (m : Machine) (site : ℕ) (nodes : List Node)
+    (old new : Work) where
   -- what is left of the work with a task on top
   abbrev pub With : Task → Type 0
   With t = IsEvaluating a operations trees m site nodes (old.tasks.items ++ t ∷ []) old.values.items
 
   -- the work goes on, with these tasks and values
   goes_on : (trees' : List Tree) (ts : List Task) (vs : List Value) (before : ℕ) → IsEvaluating a operations trees' m site nodes ts vs
-      → new.tasks.items ≡ ts → new.values.items ≡ vs → left_to_do nodes ts < before → IsOver a operations trees' m site nodes new before None
+      → new.tasks.items ≡ ts → new.values.items ≡ vs → left_to_do nodes ts < before
+      → IsOver a operations trees' m site nodes new before None
   goes_on trees' ts vs before it tasks values less = (
     subst (λ (us : List Value). IsEvaluating a operations trees' m site nodes new.tasks.items us) (sym values)
         (subst (λ (us : List Task). IsEvaluating a operations trees' m site nodes us vs) (sym tasks) it),
@@ -50,7 +55,8 @@ module _ (a : AttributionParts) (operations : Operations) (trees : List Tree) (m
       → IsOver a operations trees m site nodes new (left_to_do nodes old.tasks.items + task_size nodes (task.Call number n)) r
   call_over number n ev None (w, gave, tasks, values) =
       let (p, means, plain_one) = given_value _ w gave in
-      goes_on trees old.tasks.items _ _ (called a operations trees m site nodes old.tasks.items old.values.items number n w p ev means plain_one)
+      goes_on trees old.tasks.items _ _ (called a operations trees m site nodes old.tasks.items old.values.items number n w p ev means
+      plain_one)
       (ap (λ ts. ts.items) tasks) values (omega arith)
   call_over number n ev (Some (ran.Fault operation code)) (same, gave) =
       subst (λ (i : ℕ). Runs a operations trees m (done (fault i code))) (sym same)
@@ -67,3 +73,43 @@ module _ (a : AttributionParts) (operations : Operations) (trees : List Tree) (m
       goes_on trees _ _ _ ((chosen_after a operations trees m site nodes old.tasks.items old.values.items h f ev false by.is).1 refl)
       by.tasks by.values (choice_less nodes old.tasks.items h f f (inr refl))
   choice_over h f ev (Some r) never = absurd never
+
+-- a task that was on top, by its form
+module _ {a : AttributionParts} {operations : Operations} {trees : List Tree} {m : Machine} {site : ℕ} {nodes : List Node} (old : Work)
+    (t : Task) (ev : With a operations trees m site nodes old old t) where
+  as_form : (u : Task) → t ≡ u → With a operations trees m site nodes old old u
+  as_form u is = subst (With a operations trees m site nodes old old) is ev
+
+  pub visit_here : (at : ℕ) → t ≡ task.Visit at
+      → (at < length nodes) × IsEvaluating a operations trees m site nodes (old.tasks.items ++ task.Visit at ∷ []) old.values.items
+  visit_here at is = (visit_within old old at (as_form (task.Visit at) is), as_form (task.Visit at) is)
+
+  pub build_here : (p n : ℕ) → t ≡ task.Build p n → (n ≤ length old.values.items) × All (IsIn (length trees)) (last n old.values.items)
+  build_here p n is = build_ready a operations trees m site nodes old.tasks.items old.values.items p n (as_form (task.Build p n) is)
+
+  pub call_here : (number n : ℕ) → t ≡ task.Call number n → (n ≤ length old.values.items) × (number < length operations.signatures)
+      × ((s : OperationSignature) → slice_get operations.signatures number ≡ Some s → FitKinds s.takes (last n old.values.items))
+  call_here number n is =
+      call_ready a operations trees m site nodes old.tasks.items old.values.items number n (as_form (task.Call number n) is)
+
+  pub choice_here : (h f : ℕ) → t ≡ task.Choose h f
+      → (0 < length old.values.items) × HasTruth old.values.items (length old.values.items - 1)
+  choice_here h f is = choice_ready a operations trees m site nodes old.tasks.items old.values.items h f (as_form (task.Choose h f) is)
+
+  module _ (new : Work) (r : Option Ran) where
+    -- the work is over, or goes on with less than the task
+    abbrev pub Over : List Tree → Task → Type 0
+    Over trees' u = IsOver a operations trees' m site nodes new (left_to_do nodes old.tasks.items + task_size nodes u) r
+
+    pub build_done : (p n : ℕ) → t ≡ task.Build p n → (trees' : List Tree) → IsBuilt trees trees' old new p n r → Over trees' t
+    build_done p n is trees' it =
+        subst (Over trees') (sym is) (build_over a operations trees m site nodes old new p n (as_form (task.Build p n) is) trees' r it)
+
+    pub call_done : (number n : ℕ) → t ≡ task.Call number n
+        → IsCalled (operations.meaning number (plains_of (last n old.values.items))) old new number n r → Over trees t
+    call_done number n is it =
+        subst (Over trees) (sym is) (call_over a operations trees m site nodes old new number n (as_form (task.Call number n) is) r it)
+
+    pub choice_done : (h f : ℕ) → t ≡ task.Choose h f → IsChosen old new h f r → Over trees t
+    choice_done h f is it =
+        subst (Over trees) (sym is) (choice_over a operations trees m site nodes old new h f (as_form (task.Choose h f) is) r it)

@@ -20,7 +20,7 @@ use crate::context::Context;
 use crate::evaluated::Evaluated;
 use crate::machine::{Key, Machine};
 use crate::run::run;
-use crate::steps::{begin, enter, leave};
+use crate::steps::{begin, leave};
 use crate::work::{Ran, Work};
 use std::alloc::{AllocError, Global};
 use wb_operations::{Meaning, OperationRefusal, OperationTable};
@@ -158,6 +158,6 @@ fn enter_or_stop<M: Meaning>(
     if machine.entered >= steps {
         return Ok(Some(Evaluated::MoreSteps));
     }
-    enter(context, machine, store, key)?;
+    machine.push(key)?;
     Ok(None)
 }

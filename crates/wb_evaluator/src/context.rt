@@ -1,7 +1,7 @@
-//! By what is evaluated?
+//! By what is evaluated, and which expression?
 
 use wb_operations::{Meaning, OperationTable};
-use wb_resolved::AttributionParts;
+use wb_resolved::{AttributionParts, Node};
 use wb_rules::RuleIndex;
 
 // Attributes, their rules by what they define, and the operations that their expressions call.
@@ -10,4 +10,13 @@ pub(crate) struct Context<'a, M: Meaning> {
     pub attributes: &'a AttributionParts,
     pub rules: &'a RuleIndex,
     pub operations: &'a OperationTable<M>,
+}
+
+// An expression at a site, with the attributes and operations by which it is evaluated.
+#[derive(Drop)]
+pub(crate) struct Expression<'a, M: Meaning> {
+    pub attributes: &'a AttributionParts,
+    pub operations: &'a OperationTable<M>,
+    pub site: usize,
+    pub nodes: &'a [Node],
 }

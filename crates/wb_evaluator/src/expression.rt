@@ -76,8 +76,7 @@ pub(crate) fn read_below(
         site: below,
         attribute,
     };
-    let result = read(machine, work, key)?;
-    Ok(result)
+    read(machine, work, key)
 }
 
 // Reads the tree of a local.
@@ -93,8 +92,7 @@ pub(crate) fn read_local(
     ensures { IfOk result (IsReadBelow store.now machine.old machine.new site (Local local) (λ below. Tree below) work.old work.new) }
 {
     let below = machine.below(store, site, Step::Local(local))?;
-    let result = read(machine, work, Key::Tree { site: below })?;
-    Ok(result)
+    read(machine, work, Key::Tree { site: below })
 }
 
 // The step to a child or local.

@@ -11,34 +11,31 @@ ghost use Rattle.wb_values.specs.ValuesIn.{IsIn, last};
 ghost use Rattle.wb_values.specs.declared.value.Value.TheVariants.{Bool};
 ghost use Rattle.wb_evaluator.specs.declared.work.Task.TheVariants.{Visit};
 
-use crate::context::Context;
+use crate::context::Expression;
 use crate::machine::Machine;
 use crate::visit::visit;
 use crate::work::{Ran, Task, Work};
 use std::alloc::AllocError;
 use wb_operations::{Meaning, OperationRefusal, OperationTable};
-use wb_resolved::Node;
 use wb_values::{TreeStore, Value};
 
 // Evaluates the expression whose tasks are left.
 pub(crate) fn evaluate_tasks<M: Meaning>(
-    context: &Context<M>,
+    expression: &Expression<M>,
     machine: &mut Machine,
     store: &mut TreeStore,
     work: &mut Work,
-    site: usize,
-    nodes: &[Node],
 ) -> Result<Ran, AllocError>
-    requires evaluating { IsEvaluating context.now.attributes.now (record { signatures = context.now.operations.now.signatures; meaning = M.meaning }) store.old machine.old site nodes.now work.old.tasks.items work.old.values.items }
-    requires kept { IsKept context.now.operations.now.signatures context.now.operations.now.built_in context.now.operations.now.runs.items M.meaning
+    requires evaluating { IsEvaluating expression.now.attributes.now (record { signatures = expression.now.operations.now.signatures; meaning = M.meaning }) store.old machine.old expression.now.site expression.now.nodes.now work.old.tasks.items work.old.values.items }
+    requires kept { IsKept expression.now.operations.now.signatures expression.now.operations.now.built_in expression.now.operations.now.runs.items M.meaning
         (λ run vs. ⟦<Box<dyn Fn(&[Value]) -> Result<Value, OperationRefusal>> as Fn(&[Value]) -> Result<Value, OperationRefusal>>⟧.pre run vs)
         (λ run vs r. ⟦<Box<dyn Fn(&[Value]) -> Result<Value, OperationRefusal>> as Fn(&[Value]) -> Result<Value, OperationRefusal>>⟧.post run vs r) }
-    ensures ran { IfOk result (IsRanAt context.now.attributes.now (record { signatures = context.now.operations.now.signatures; meaning = M.meaning }) store.new machine.new site nodes.now work.new) }
+    ensures ran { IfOk result (IsRanAt expression.now.attributes.now (record { signatures = expression.now.operations.now.signatures; meaning = M.meaning }) store.new machine.new expression.now.site expression.now.nodes.now work.new) }
     ensures same { OnOk result (IsSame machine.old machine.new) }
     ensures store { IsExtended store.old store.new }
 {
     'tasks: while let Some(task) = work.tasks.pop() {
-        if let Some(ran) = perform(context, machine, store, work, site, nodes, task)? {
+        if let Some(ran) = perform(expression, machine, store, work, task)? {
             return Ok(ran);
         }
     }
@@ -47,46 +44,42 @@ pub(crate) fn evaluate_tasks<M: Meaning>(
 
 // Does a task, which was on top: what the work comes to, where it is over.
 fn perform<M: Meaning>(
-    context: &Context<M>,
+    expression: &Expression<M>,
     machine: &mut Machine,
     store: &mut TreeStore,
     work: &mut Work,
-    site: usize,
-    nodes: &[Node],
     task: Task,
 ) -> Result<Option<Ran>, AllocError>
-    requires evaluating { IsEvaluating context.now.attributes.now (record { signatures = context.now.operations.now.signatures; meaning = M.meaning }) store.old machine.old site nodes.now (work.old.tasks.items ++ task ∷ []) work.old.values.items }
-    requires kept { IsKept context.now.operations.now.signatures context.now.operations.now.built_in context.now.operations.now.runs.items M.meaning
+    requires evaluating { IsEvaluating expression.now.attributes.now (record { signatures = expression.now.operations.now.signatures; meaning = M.meaning }) store.old machine.old expression.now.site expression.now.nodes.now (work.old.tasks.items ++ task ∷ []) work.old.values.items }
+    requires kept { IsKept expression.now.operations.now.signatures expression.now.operations.now.built_in expression.now.operations.now.runs.items M.meaning
         (λ run vs. ⟦<Box<dyn Fn(&[Value]) -> Result<Value, OperationRefusal>> as Fn(&[Value]) -> Result<Value, OperationRefusal>>⟧.pre run vs)
         (λ run vs r. ⟦<Box<dyn Fn(&[Value]) -> Result<Value, OperationRefusal>> as Fn(&[Value]) -> Result<Value, OperationRefusal>>⟧.post run vs r) }
-    ensures over { IfOk result (IsOver context.now.attributes.now (record { signatures = context.now.operations.now.signatures; meaning = M.meaning }) store.new machine.new site nodes.now work.new (left_to_do nodes.now work.old.tasks.items + task_size nodes.now task)) }
+    ensures over { IfOk result (IsOver expression.now.attributes.now (record { signatures = expression.now.operations.now.signatures; meaning = M.meaning }) store.new machine.new expression.now.site expression.now.nodes.now work.new (left_to_do expression.now.nodes.now work.old.tasks.items + task_size expression.now.nodes.now task)) }
     ensures same { OnOk result (IsSame machine.old machine.new) }
     ensures store { IsExtended store.old store.new }
 {
     match task {
-        Task::Visit(at) => visit_or_wait(context, machine, store, work, site, nodes, at),
+        Task::Visit(at) => visit_or_wait(expression, machine, store, work, at),
         Task::Build { production, count } => build_tree(store, work, production, count),
-        Task::Call { operation, count } => call(context.operations, work, operation, count),
+        Task::Call { operation, count } => call(expression.operations, work, operation, count),
         Task::Choose { holds, fails } => choose(work, holds, fails),
     }
 }
 
 // Visits a node, and leaves the visit to do where it waits for an instance.
 fn visit_or_wait<M: Meaning>(
-    context: &Context<M>,
+    expression: &Expression<M>,
     machine: &mut Machine,
     store: &TreeStore,
     work: &mut Work,
-    site: usize,
-    nodes: &[Node],
     at: usize,
 ) -> Result<Option<Ran>, AllocError>
-    requires there { at < length nodes.now }
-    requires evaluating { IsEvaluating context.now.attributes.now (record { signatures = context.now.operations.now.signatures; meaning = M.meaning }) store.now machine.old site nodes.now (work.old.tasks.items ++ Visit at ∷ []) work.old.values.items }
-    ensures over { IfOk result (IsOver context.now.attributes.now (record { signatures = context.now.operations.now.signatures; meaning = M.meaning }) store.now machine.new site nodes.now work.new (left_to_do nodes.now work.old.tasks.items + task_size nodes.now (Visit at))) }
+    requires there { at < length expression.now.nodes.now }
+    requires evaluating { IsEvaluating expression.now.attributes.now (record { signatures = expression.now.operations.now.signatures; meaning = M.meaning }) store.now machine.old expression.now.site expression.now.nodes.now (work.old.tasks.items ++ Visit at ∷ []) work.old.values.items }
+    ensures over { IfOk result (IsOver expression.now.attributes.now (record { signatures = expression.now.operations.now.signatures; meaning = M.meaning }) store.now machine.new expression.now.site expression.now.nodes.now work.new (left_to_do expression.now.nodes.now work.old.tasks.items + task_size expression.now.nodes.now (Visit at))) }
     ensures same { OnOk result (IsSame machine.old machine.new) }
 {
-    match visit(context, machine, store, work, site, nodes, at)? {
+    match visit(expression, machine, store, work, at)? {
         Some(key) => {
             work.push_task(Task::Visit(at))?;
             Ok(Some(Ran::Needs(key)))

@@ -4,12 +4,12 @@
 
 ghost use Rattle.std.specs.Prelude.{◌≡◌, ◌≤◌, ◌<◌, length, IfOk, OnOk};
 ghost use Rattle.wb_operations.specs.Kept.{IsKept};
-ghost use Rattle.wb_evaluator.specs.Inner.Machines.{IsMachine, IsSame, Wants};
+ghost use Rattle.wb_evaluator.specs.Inner.Machines.{IsMachine, IsSame};
 ghost use Rattle.wb_evaluator.specs.Inner.Starts.{IsStarting, IsAlone, IsForwarding};
 ghost use Rattle.wb_evaluator.specs.Inner.Works.{IsEvaluating, IsExtended, IsRan, Parks};
 ghost use Rattle.wb_rules.specs.Indexes.{AreIndexes};
 
-use crate::context::Context;
+use crate::context::{Context, Expression};
 use crate::machine::{Key, Machine};
 use crate::perform::evaluate_tasks;
 use crate::start::{Start, start_of};
@@ -17,7 +17,6 @@ use crate::work::{Ran, Task, Work};
 use std::alloc::AllocError;
 use wb_memo::Step;
 use wb_operations::{Meaning, OperationRefusal};
-use wb_resolved::Node;
 use wb_values::{TreeStore, Value};
 
 // Works on the last instance, on from where it waited.
@@ -37,7 +36,15 @@ pub(crate) fn run<'a, M: Meaning>(
     ensures store { IsExtended store.old store.new }
 {
     match machine.frames.take(work)? {
-        Some(frame) => go_on(context, machine, store, work, frame.site, frame.nodes),
+        Some(frame) => {
+            let expression = Expression {
+                attributes: context.attributes,
+                operations: context.operations,
+                site: frame.site,
+                nodes: frame.nodes,
+            };
+            go_on(&expression, machine, store, work)
+        }
         None => run_from_start(context, machine, store, work),
     }
 }
@@ -60,9 +67,15 @@ fn run_from_start<'a, M: Meaning>(
 {
     let at = machine.stack.len() - 1;
     match start_of(context, machine, store, machine.stack[at]) {
-        Start::Expression { site, nodes } => evaluate_at(
-            context, machine, store, work, site, nodes,
-        ),
+        Start::Expression { site, nodes } => {
+            let expression = Expression {
+                attributes: context.attributes,
+                operations: context.operations,
+                site,
+                nodes,
+            };
+            evaluate_at(&expression, machine, store, work)
+        }
         Start::Read(key) => read_alone(context, machine, store, key),
         Start::Forward { site, attribute } => {
             run_forward(context, machine, store, site, attribute)
@@ -91,8 +104,7 @@ fn run_forward<M: Meaning>(
         site: below,
         attribute,
     };
-    let ran = read_alone(context, machine, store, key)?;
-    Ok(ran)
+    read_alone(context, machine, store, key)
 }
 
 // Reads one instance, whose value is the value.
@@ -111,71 +123,63 @@ fn read_alone<M: Meaning>(
     }
 }
 
-// Evaluates the expression of these nodes at a site.
+// Evaluates an expression from its start.
 fn evaluate_at<'a, M: Meaning>(
-    context: &Context<'a, M>,
+    expression: &Expression<'a, M>,
     machine: &mut Machine<'a>,
     store: &mut TreeStore,
     work: &mut Work,
-    site: usize,
-    nodes: &'a [Node],
 ) -> Result<Ran, AllocError>
-    requires starting { IsStarting context.now.attributes.now (record { signatures = context.now.operations.now.signatures; meaning = M.meaning }) store.old machine.old site nodes.now }
-    requires kept { IsKept context.now.operations.now.signatures context.now.operations.now.built_in context.now.operations.now.runs.items M.meaning
+    requires starting { IsStarting expression.now.attributes.now (record { signatures = expression.now.operations.now.signatures; meaning = M.meaning }) store.old machine.old expression.now.site expression.now.nodes.now }
+    requires kept { IsKept expression.now.operations.now.signatures expression.now.operations.now.built_in expression.now.operations.now.runs.items M.meaning
         (λ run vs. ⟦<Box<dyn Fn(&[Value]) -> Result<Value, OperationRefusal>> as Fn(&[Value]) -> Result<Value, OperationRefusal>>⟧.pre run vs)
         (λ run vs r. ⟦<Box<dyn Fn(&[Value]) -> Result<Value, OperationRefusal>> as Fn(&[Value]) -> Result<Value, OperationRefusal>>⟧.post run vs r) }
-    ensures ran { IfOk result (IsRan context.now.attributes.now (record { signatures = context.now.operations.now.signatures; meaning = M.meaning }) store.new machine.new) }
+    ensures ran { IfOk result (IsRan expression.now.attributes.now (record { signatures = expression.now.operations.now.signatures; meaning = M.meaning }) store.new machine.new) }
     ensures same { OnOk result (IsSame machine.old machine.new) }
     ensures store { IsExtended store.old store.new }
 {
     work.tasks.clear();
     work.values.clear();
-    let last = nodes.len() - 1;
+    let last = expression.nodes.len() - 1;
     work.push_task(Task::Visit(last))?;
-    go_on(context, machine, store, work, site, nodes)
+    go_on(expression, machine, store, work)
 }
 
 // Evaluates the expression whose work this is, which is kept where it waits.
 fn go_on<'a, M: Meaning>(
-    context: &Context<'a, M>,
+    expression: &Expression<'a, M>,
     machine: &mut Machine<'a>,
     store: &mut TreeStore,
     work: &mut Work,
-    site: usize,
-    nodes: &'a [Node],
 ) -> Result<Ran, AllocError>
-    requires evaluating { IsEvaluating context.now.attributes.now (record { signatures = context.now.operations.now.signatures; meaning = M.meaning }) store.old machine.old site nodes.now work.old.tasks.items work.old.values.items }
-    requires kept { IsKept context.now.operations.now.signatures context.now.operations.now.built_in context.now.operations.now.runs.items M.meaning
+    requires evaluating { IsEvaluating expression.now.attributes.now (record { signatures = expression.now.operations.now.signatures; meaning = M.meaning }) store.old machine.old expression.now.site expression.now.nodes.now work.old.tasks.items work.old.values.items }
+    requires kept { IsKept expression.now.operations.now.signatures expression.now.operations.now.built_in expression.now.operations.now.runs.items M.meaning
         (λ run vs. ⟦<Box<dyn Fn(&[Value]) -> Result<Value, OperationRefusal>> as Fn(&[Value]) -> Result<Value, OperationRefusal>>⟧.pre run vs)
         (λ run vs r. ⟦<Box<dyn Fn(&[Value]) -> Result<Value, OperationRefusal>> as Fn(&[Value]) -> Result<Value, OperationRefusal>>⟧.post run vs r) }
-    ensures ran { IfOk result (IsRan context.now.attributes.now (record { signatures = context.now.operations.now.signatures; meaning = M.meaning }) store.new machine.new) }
+    ensures ran { IfOk result (IsRan expression.now.attributes.now (record { signatures = expression.now.operations.now.signatures; meaning = M.meaning }) store.new machine.new) }
     ensures same { OnOk result (IsSame machine.old machine.new) }
     ensures store { IsExtended store.old store.new }
 {
-    match evaluate_tasks(context, machine, store, work, site, nodes)? {
-        Ran::Needs(key) => {
-            park(context, machine, store, work, site, nodes, key)?;
-            Ok(Ran::Needs(key))
-        }
-        Ran::Value(value) => Ok(Ran::Value(value)),
-        Ran::Fault { operation, code } => Ok(Ran::Fault { operation, code }),
+    match evaluate_tasks(expression, machine, store, work)? {
+        Ran::Needs(key) => park(expression, machine, store, work, key),
+        ran => Ok(ran),
     }
 }
 
-// Keeps the work in the frame of the last instance.
+// Keeps the work in the frame of the last instance, for the one that it needs.
 fn park<'a, M: Meaning>(
-    context: &Context<'a, M>,
+    expression: &Expression<'a, M>,
     machine: &mut Machine<'a>,
     store: &TreeStore,
     work: &mut Work,
-    site: usize,
-    nodes: &'a [Node],
     key: Key,
-) -> Result<(), AllocError>
-    requires parks { Parks context.now.attributes.now (record { signatures = context.now.operations.now.signatures; meaning = M.meaning }) store.now machine.old site nodes.now work.old.tasks.items work.old.values.items key }
-    ensures wants { OnOk result (Wants context.now.attributes.now (record { signatures = context.now.operations.now.signatures; meaning = M.meaning }) store.now machine.new key) }
+) -> Result<Ran, AllocError>
+    requires parks { Parks expression.now.attributes.now (record { signatures = expression.now.operations.now.signatures; meaning = M.meaning }) store.now machine.old expression.now.site expression.now.nodes.now work.old.tasks.items work.old.values.items key }
+    ensures ran { IfOk result (IsRan expression.now.attributes.now (record { signatures = expression.now.operations.now.signatures; meaning = M.meaning }) store.now machine.new) }
     ensures same { OnOk result (IsSame machine.old machine.new) }
 {
-    machine.frames.keep(site, nodes, work)?;
-    Ok(())
+    machine
+        .frames
+        .keep(expression.site, expression.nodes, work)?;
+    Ok(Ran::Needs(key))
 }

@@ -1,13 +1,14 @@
-//! How does an evaluation come from one instance to the next?
+//! Where does an evaluation begin, and how does it leave an instance?
 //!
-//! It enters one that is read and wasn't entered, and leaves one whose value is there. What is done at one is in `run`.
+//! It enters an attribute of the root, and leaves an instance whose value is there. What is done at one is in `run`.
 
-ghost use Rattle.std.specs.Prelude.{◌≡◌, ◌<◌, ◌≤◌, ◌+◌, ◌^◌, ◌-◌, Some, slice_get, length, suc, IfOk, OnOk};
+ghost use Rattle.std.specs.Prelude.{◌≡◌, ◌<◌, ◌-◌, Some, slice_get, length, IfOk, OnOk};
 ghost use Rattle.wb_values.specs.ValuesIn.{tree_in, value_in, IsIn};
 ghost use Rattle.wb_evaluation.specs.Evaluable.{IsEvaluable, IsAsked};
 ghost use Rattle.wb_evaluation.specs.Walks.{done, value};
 ghost use Rattle.wb_values.specs.declared.value.Value.TheVariants.{Tree};
-ghost use Rattle.wb_evaluator.specs.Inner.Machines.{IsMachine, IsTree, IsKeptIn, Runs, Wants, with_memo};
+ghost use Rattle.wb_evaluator.specs.Inner.Answering.{IsBack};
+ghost use Rattle.wb_evaluator.specs.Inner.Machines.{IsMachine, IsTree, IsKeptIn, Runs, with_memo};
 
 use crate::context::Context;
 use crate::machine::{Key, Machine};
@@ -44,25 +45,6 @@ fn room_for(attributes: &AttributionParts) -> usize {
     attributes.attributes.as_slice().len().min(16)
 }
 
-// Enters an instance.
-pub(crate) fn enter<M: Meaning>(
-    context: &Context<M>,
-    machine: &mut Machine,
-    store: &TreeStore,
-    key: Key,
-) -> Result<(), AllocError>
-    requires wants { Wants context.now.attributes.now (record { signatures = context.now.operations.now.signatures; meaning = M.meaning }) store.now machine.old key }
-    requires room { machine.old.entered + 1 < 2 ^ 64 }
-    ensures whole { OnOk result (IsMachine context.now.attributes.now (record { signatures = context.now.operations.now.signatures; meaning = M.meaning }) store.now machine.new) }
-    ensures root { OnOk result (machine.new.root ≡ machine.old.root) }
-    ensures attribute { OnOk result (machine.new.attribute ≡ machine.old.attribute) }
-    ensures entered { OnOk result (machine.new.entered ≡ machine.old.entered + 1) }
-    ensures stack { OnOk result (length machine.new.stack.items ≡ suc (length machine.old.stack.items)) }
-{
-    machine.push(key)?;
-    Ok(())
-}
-
 // Leaves the instance at work with its value, for the one that waits for it.
 pub(crate) fn leave<M: Meaning>(
     context: &Context<M>,
@@ -73,11 +55,7 @@ pub(crate) fn leave<M: Meaning>(
     requires runs { Runs context.now.attributes.now (record { signatures = context.now.operations.now.signatures; meaning = M.meaning }) store.now machine.old (done (value (value_in store.now answer))) }
     requires inside { IsIn (length store.now) answer }
     requires waits { 1 < length machine.old.stack.items }
-    ensures whole { OnOk result (IsMachine context.now.attributes.now (record { signatures = context.now.operations.now.signatures; meaning = M.meaning }) store.now machine.new) }
-    ensures root { OnOk result (machine.new.root ≡ machine.old.root) }
-    ensures attribute { OnOk result (machine.new.attribute ≡ machine.old.attribute) }
-    ensures entered { OnOk result (machine.new.entered ≡ machine.old.entered) }
-    ensures stack { OnOk result (suc (length machine.new.stack.items) ≡ length machine.old.stack.items) }
+    ensures { OnOk result (IsBack context.now.attributes.now (record { signatures = context.now.operations.now.signatures; meaning = M.meaning }) store.now machine.old machine.new) }
 {
     let at = machine.stack.len() - 1;
     let key = machine.stack[at];

@@ -9,7 +9,7 @@ ghost use Rattle.wb_values.specs.declared.value.Value.TheVariants.{Text};
 ghost use Rattle.wb_memo.specs.Memos.{count, IsWhole};
 ghost use Rattle.wb_operations.specs.Operations.{HasOperation, IsOperation};
 
-use crate::context::Context;
+use crate::context::Expression;
 use crate::expression::{read, read_below, read_local, step_to, visit_child};
 use crate::machine::{Key, Machine};
 use crate::work::{Task, Work};
@@ -22,19 +22,18 @@ use wb_values::{TreeStore, Value};
 
 // Visits a node.
 pub(crate) fn visit<M: Meaning>(
-    context: &Context<M>,
+    expression: &Expression<M>,
     machine: &mut Machine,
     store: &TreeStore,
     work: &mut Work,
-    site: usize,
-    nodes: &[Node],
     at: usize,
 ) -> Result<Option<Key>, AllocError>
-    requires there { at < length nodes.now }
-    requires evaluating { IsEvaluating context.now.attributes.now (record { signatures = context.now.operations.now.signatures; meaning = M.meaning }) store.now machine.old site nodes.now (work.old.tasks.items ++ Visit at ∷ []) work.old.values.items }
-    ensures { IfOk result (IsDone context.now.attributes.now (record { signatures = context.now.operations.now.signatures; meaning = M.meaning }) store.now machine.old machine.new site nodes.now work.old work.new (Visit at)) }
+    requires there { at < length expression.now.nodes.now }
+    requires evaluating { IsEvaluating expression.now.attributes.now (record { signatures = expression.now.operations.now.signatures; meaning = M.meaning }) store.now machine.old expression.now.site expression.now.nodes.now (work.old.tasks.items ++ Visit at ∷ []) work.old.values.items }
+    ensures { IfOk result (IsDone expression.now.attributes.now (record { signatures = expression.now.operations.now.signatures; meaning = M.meaning }) store.now machine.old machine.new expression.now.site expression.now.nodes.now work.old work.new (Visit at)) }
 {
-    match &nodes[at] {
+    let site = expression.site;
+    match &expression.nodes[at] {
         Node::Int(number) => visit_value(work, Value::Int(*number)),
         Node::Text(text) => visit_text(work, text),
         Node::Bool(truth) => visit_value(work, Value::Bool(*truth)),
@@ -61,7 +60,7 @@ pub(crate) fn visit<M: Meaning>(
             operation,
             arguments,
         } => visit_call(
-            context.operations,
+            expression.operations,
             work,
             operation.as_slice(),
             arguments.as_slice(),

@@ -9,14 +9,16 @@ use Rattle.wb_evaluator.proofs.perform.evaluate_tasks.Goals as goal
 
 pub tasks-smaller : goal.tasks-smaller
 tasks-smaller g c =
-    let nodes = c.args.nodes.now in
-    let over : IsOver c.args.context.now.attributes.now
-    (record { signatures = c.args.context.now.operations.now.signatures; meaning = g.M.Meaning.meaning }) c.perform.new.store
-    c.perform.new.machine c.args.site nodes c.perform.new.work (left_to_do nodes c.pop.new.self.items + task_size nodes c.in-Some.task)
+    let nodes = c.args.expression.now.nodes.now in
+    let over : IsOver c.args.expression.now.attributes.now
+    (record { signatures = c.args.expression.now.operations.now.signatures; meaning = g.M.Meaning.meaning }) c.perform.new.store
+    c.perform.new.machine c.args.expression.now.site nodes c.perform.new.work
+    (left_to_do nodes c.pop.new.self.items + task_size nodes c.in-Some.task)
     c.in_ok-ran.field-0 = c.in_ok-ran.ensures.over in
-    let less = (subst (IsOver c.args.context.now.attributes.now
-    (record { signatures = c.args.context.now.operations.now.signatures; meaning = g.M.Meaning.meaning }) c.perform.new.store
-    c.perform.new.machine c.args.site nodes c.perform.new.work (left_to_do nodes c.pop.new.self.items + task_size nodes c.in-Some.task))
+    let less = (subst (IsOver c.args.expression.now.attributes.now
+    (record { signatures = c.args.expression.now.operations.now.signatures; meaning = g.M.Meaning.meaning }) c.perform.new.store
+    c.perform.new.machine c.args.expression.now.site nodes c.perform.new.work
+    (left_to_do nodes c.pop.new.self.items + task_size nodes c.in-Some.task))
     c.in_default-2.is over).1 in
     let popped : c.tasks.work.tasks.items ≡ c.pop.new.self.items ++ c.in-Some.task ∷ [] = search rules in
     smaller nodes c.perform.new.work.tasks.items c.tasks.work.tasks.items c.pop.new.self.items c.in-Some.task less popped
@@ -26,12 +28,14 @@ take_last-requires g c =
     let m = c.tasks in
     let none : m.work.tasks.items ≡ [] = search rules in
     let some : 0 < length m.work.values.items =
-    some_left c.args.context.now.attributes.now
-    (record { signatures = c.args.context.now.operations.now.signatures; meaning = g.M.Meaning.meaning }) m.store m.machine c.args.site
-    c.args.nodes.now [] m.work.values.items m.work.values.items
-    (subst (λ (ts : List Task). IsEvaluating c.args.context.now.attributes.now
-    (record { signatures = c.args.context.now.operations.now.signatures; meaning = g.M.Meaning.meaning }) m.store m.machine c.args.site
-    c.args.nodes.now ts m.work.values.items) none m.invariant.evaluating) in
+    some_left c.args.expression.now.attributes.now
+    (record { signatures = c.args.expression.now.operations.now.signatures; meaning = g.M.Meaning.meaning }) m.store m.machine
+    c.args.expression.now.site
+    c.args.expression.now.nodes.now [] m.work.values.items m.work.values.items
+    (subst (λ (ts : List Task). IsEvaluating c.args.expression.now.attributes.now
+    (record { signatures = c.args.expression.now.operations.now.signatures; meaning = g.M.Meaning.meaning }) m.store m.machine
+    c.args.expression.now.site
+    c.args.expression.now.nodes.now ts m.work.values.items) none m.invariant.evaluating) in
     search rules
 
 pub returns-clause-ran : goal.returns-clause-ran
@@ -39,27 +43,32 @@ returns-clause-ran g c =
     let m = c.tasks in
     let none : m.work.tasks.items ≡ [] = search rules in
     let some : m.work.values.items ≡ c.take_last.new.self.items ++ c.take_last.result ∷ [] = search rules in
-    ends c.args.context.now.attributes.now
-    (record { signatures = c.args.context.now.operations.now.signatures; meaning = g.M.Meaning.meaning }) m.store m.machine c.args.site
-    c.args.nodes.now [] m.work.values.items c.take_last.new.self.items c.take_last.result
-    (subst (λ (vs : List Value). IsEvaluating c.args.context.now.attributes.now
-    (record { signatures = c.args.context.now.operations.now.signatures; meaning = g.M.Meaning.meaning }) m.store m.machine c.args.site
-    c.args.nodes.now [] vs) some
-    (subst (λ (ts : List Task). IsEvaluating c.args.context.now.attributes.now
-    (record { signatures = c.args.context.now.operations.now.signatures; meaning = g.M.Meaning.meaning }) m.store m.machine c.args.site
-    c.args.nodes.now ts m.work.values.items) none m.invariant.evaluating))
+    ends c.args.expression.now.attributes.now
+    (record { signatures = c.args.expression.now.operations.now.signatures; meaning = g.M.Meaning.meaning }) m.store m.machine
+    c.args.expression.now.site
+    c.args.expression.now.nodes.now [] m.work.values.items c.take_last.new.self.items c.take_last.result
+    (subst (λ (vs : List Value). IsEvaluating c.args.expression.now.attributes.now
+    (record { signatures = c.args.expression.now.operations.now.signatures; meaning = g.M.Meaning.meaning }) m.store m.machine
+    c.args.expression.now.site
+    c.args.expression.now.nodes.now [] vs) some
+    (subst (λ (ts : List Task). IsEvaluating c.args.expression.now.attributes.now
+    (record { signatures = c.args.expression.now.operations.now.signatures; meaning = g.M.Meaning.meaning }) m.store m.machine
+    c.args.expression.now.site
+    c.args.expression.now.nodes.now ts m.work.values.items) none m.invariant.evaluating))
 
 pub tasks-preserved : goal.tasks-preserved
 tasks-preserved g c =
-    let nodes = c.args.nodes.now in
-    let over : IsOver c.args.context.now.attributes.now
-    (record { signatures = c.args.context.now.operations.now.signatures; meaning = g.M.Meaning.meaning }) c.perform.new.store
-    c.perform.new.machine c.args.site nodes c.perform.new.work (left_to_do nodes c.pop.new.self.items + task_size nodes c.in-Some.task)
+    let nodes = c.args.expression.now.nodes.now in
+    let over : IsOver c.args.expression.now.attributes.now
+    (record { signatures = c.args.expression.now.operations.now.signatures; meaning = g.M.Meaning.meaning }) c.perform.new.store
+    c.perform.new.machine c.args.expression.now.site nodes c.perform.new.work
+    (left_to_do nodes c.pop.new.self.items + task_size nodes c.in-Some.task)
     c.in_ok-ran.field-0 = c.in_ok-ran.ensures.over in
     record {
-      evaluating = (subst (IsOver c.args.context.now.attributes.now
-          (record { signatures = c.args.context.now.operations.now.signatures; meaning = g.M.Meaning.meaning }) c.perform.new.store
-          c.perform.new.machine c.args.site nodes c.perform.new.work (left_to_do nodes c.pop.new.self.items + task_size nodes c.in-Some.task))
+      evaluating = (subst (IsOver c.args.expression.now.attributes.now
+          (record { signatures = c.args.expression.now.operations.now.signatures; meaning = g.M.Meaning.meaning }) c.perform.new.store
+          c.perform.new.machine c.args.expression.now.site nodes c.perform.new.work
+          (left_to_do nodes c.pop.new.self.items + task_size nodes c.in-Some.task))
           c.in_default-2.is over).0;
       same = same_twice c.args.machine.now c.tasks.machine c.perform.new.machine c.tasks.invariant.same c.in_ok-ran.ensures.same;
       store = extended_twice c.args.store.now c.tasks.store c.perform.new.store c.tasks.invariant.store c.perform.ensures.store;

@@ -4,11 +4,11 @@ use Rattle.wb_evaluator.proofs.perform.evaluate_tasks.Given as goal
 
 abbrev pub invariant-tasks : goal.invariant-tasks
 invariant-tasks g l = record {
-  evaluating : IsEvaluating l.context.attributes.now (record { signatures = l.context.operations.now.signatures; meaning = g.M.Meaning.meaning })
-      l.store l.machine l.site l.nodes l.work.tasks.items l.work.values.items;
+  evaluating : IsEvaluating l.expression.attributes.now (record { signatures = l.expression.operations.now.signatures; meaning = g.M.Meaning.meaning })
+      l.store l.machine l.expression.site l.expression.nodes.now l.work.tasks.items l.work.values.items;
   same : IsSame l.initial.machine l.machine;
   store : IsExtended l.initial.store l.store;
 }
 
 abbrev pub decreases-tasks : goal.decreases-tasks
-decreases-tasks g l = left_to_do l.nodes l.work.tasks.items
+decreases-tasks g l = left_to_do l.expression.nodes.now l.work.tasks.items

@@ -8,20 +8,19 @@ use Rattle.wb_evaluator.proofs.run.evaluate_at.Goals as goal
 
 pub overflow_sub-last : goal.overflow_sub-last
 overflow_sub-last g c =
-    (starts c.args.context.now.attributes.now
-    (record { signatures = c.args.context.now.operations.now.signatures; meaning = g.M.Meaning.meaning }) c.args.store.now c.args.machine.now
-    c.args.site c.args.nodes.now c.requires.starting).0
+    (starts c.args.expression.now.site c.args.expression.now.nodes.now c.requires.starting).0
 
 pub go_on-requires-clause-evaluating : goal.go_on-requires-clause-evaluating
 go_on-requires-clause-evaluating g c =
-    let it = (starts c.args.context.now.attributes.now
-    (record { signatures = c.args.context.now.operations.now.signatures; meaning = g.M.Meaning.meaning }) c.args.store.now c.args.machine.now
-    c.args.site c.args.nodes.now c.requires.starting).1 in
-    let tasks_is : c.push_task.new.self.tasks.items ≡ task.Visit (length c.args.nodes.now - 1) ∷ [] = search rules in
+    let it = (starts c.args.expression.now.site c.args.expression.now.nodes.now c.requires.starting).1 in
+    let tasks_is : c.push_task.new.self.tasks.items ≡ task.Visit (length c.args.expression.now.nodes.now - 1) ∷ [] = search rules in
     let values_is : c.push_task.new.self.values.items ≡ [] = search rules in
-    subst (λ (ts : List Task). IsEvaluating c.args.context.now.attributes.now
-    (record { signatures = c.args.context.now.operations.now.signatures; meaning = g.M.Meaning.meaning }) c.args.store.now c.args.machine.now
-    c.args.site c.args.nodes.now ts c.push_task.new.self.values.items) (sym tasks_is)
-    (subst (λ (vs : List Value). IsEvaluating c.args.context.now.attributes.now
-    (record { signatures = c.args.context.now.operations.now.signatures; meaning = g.M.Meaning.meaning }) c.args.store.now c.args.machine.now
-    c.args.site c.args.nodes.now (task.Visit (length c.args.nodes.now - 1) ∷ []) vs) (sym values_is) it)
+    subst (λ (ts : List Task). IsEvaluating c.args.expression.now.attributes.now
+    (record { signatures = c.args.expression.now.operations.now.signatures; meaning = g.M.Meaning.meaning }) c.args.store.now
+    c.args.machine.now
+    c.args.expression.now.site c.args.expression.now.nodes.now ts c.push_task.new.self.values.items) (sym tasks_is)
+    (subst (λ (vs : List Value). IsEvaluating c.args.expression.now.attributes.now
+    (record { signatures = c.args.expression.now.operations.now.signatures; meaning = g.M.Meaning.meaning }) c.args.store.now
+    c.args.machine.now
+    c.args.expression.now.site c.args.expression.now.nodes.now (task.Visit (length c.args.expression.now.nodes.now - 1) ∷ []) vs)
+    (sym values_is) it)

@@ -9,20 +9,15 @@ keep-requires-clause-piled g c = c.requires.parks.wants.runs.machine.piled
 
 pub keep-requires-clause-some : goal.keep-requires-clause-some
 keep-requires-clause-some g c =
-    rows_some c.args.context.now.attributes.now
-    (record { signatures = c.args.context.now.operations.now.signatures; meaning = g.M.Meaning.meaning }) c.args.store.now c.args.machine.now
-    c.requires.parks.wants.runs.machine
+    rows_some c.requires.parks.wants.runs.machine
 
-pub returns-clause-wants : goal.returns-clause-wants
-returns-clause-wants g c =
+pub returns-clause-ran : goal.returns-clause-ran
+returns-clause-ran g c =
     let m = c.args.machine.now in
     let tasks = c.args.work.now.tasks.items in
     let values = c.args.work.now.values.items in
-    let count = rows_count c.args.context.now.attributes.now
-    (record { signatures = c.args.context.now.operations.now.signatures; meaning = g.M.Meaning.meaning }) c.args.store.now m
-    c.requires.parks.wants.runs.machine in
+    let count = rows_count c.requires.parks.wants.runs.machine in
     let e = c.in_ok-keep.ensures in
-    parked c.args.context.now.attributes.now
-    (record { signatures = c.args.context.now.operations.now.signatures; meaning = g.M.Meaning.meaning }) c.args.store.now m
-    c.args.site c.args.nodes.now tasks values c.args.key c.requires.parks c.keep.new.self e.piled
-    (e.waits ∙ ap (λ n. slice_set (waits m.frames) (n - 1) (Some (wait c.args.site c.args.nodes.now tasks values))) count)
+    parked c.args.expression.now.site c.args.expression.now.nodes.now tasks values c.args.key c.requires.parks c.keep.new.self e.piled
+    (e.waits ∙ ap (λ n. slice_set (waits m.frames) (n - 1) (Some
+    (wait c.args.expression.now.site c.args.expression.now.nodes.now tasks values))) count)

@@ -8,24 +8,19 @@ use Rattle.wb_evaluator.proofs.run.run.Goals as goal
 
 pub take-requires-clause-some : goal.take-requires-clause-some
 take-requires-clause-some g c =
-    rows_some c.args.context.now.attributes.now
-    (record { signatures = c.args.context.now.operations.now.signatures; meaning = g.M.Meaning.meaning }) c.args.store.now c.args.machine.now
-    c.requires.whole
+    rows_some c.requires.whole
 
 pub go_on-requires-clause-evaluating : goal.go_on-requires-clause-evaluating
 go_on-requires-clause-evaluating g c =
     let m = c.args.machine.now in
     let r = c.requires.whole in
-    let some = stack_some c.args.context.now.attributes.now
-    (record { signatures = c.args.context.now.operations.now.signatures; meaning = g.M.Meaning.meaning }) c.args.store.now m r in
-    let count = rows_count c.args.context.now.attributes.now
-    (record { signatures = c.args.context.now.operations.now.signatures; meaning = g.M.Meaning.meaning }) c.args.store.now m r in
+    let some = stack_some r in
+    let count = rows_count r in
     let (k, at) = at_within m.stack.items (length m.stack.items - 1) (omega (arith, some)) in
     let e = c.in_ok-frame.ensures in
     let f = c.in-Some.frame in
     let work = c.take.new.work in
-    resumed c.args.context.now.attributes.now
-    (record { signatures = c.args.context.now.operations.now.signatures; meaning = g.M.Meaning.meaning }) c.args.store.now m r c.take.new.self
+    resumed r c.take.new.self
     e.piled (e.taken.without ∙ ap (λ n. slice_set (waits m.frames) (n - 1) None) count)
     k (wait f.site f.nodes.now work.tasks.items work.values.items) at
     (sym (ap (λ n. slice_get (waits m.frames) (n - 1)) count) ∙ e.taken.its f c.in-Some.is)
@@ -33,9 +28,7 @@ go_on-requires-clause-evaluating g c =
 pub run_from_start-requires-clause-whole : goal.run_from_start-requires-clause-whole
 run_from_start-requires-clause-whole g c =
     let m = c.args.machine.now in
-    let count = rows_count c.args.context.now.attributes.now
-    (record { signatures = c.args.context.now.operations.now.signatures; meaning = g.M.Meaning.meaning }) c.args.store.now m c.requires.whole in
+    let count = rows_count c.requires.whole in
     let e = c.in_ok-frame.ensures in
-    started c.args.context.now.attributes.now
-    (record { signatures = c.args.context.now.operations.now.signatures; meaning = g.M.Meaning.meaning }) c.args.store.now m c.requires.whole c.take.new.self
+    started c.requires.whole c.take.new.self
     e.piled (e.taken.without ∙ ap (λ n. slice_set (waits m.frames) (n - 1) None) count)

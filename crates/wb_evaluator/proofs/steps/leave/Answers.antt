@@ -15,12 +15,10 @@ leave-requires-clause-piled g c =
 pub leave-requires-clause-some : goal.leave-requires-clause-some
 leave-requires-clause-some g c =
     subst (λ (m : Machine). 0 < length m.frames.rows.items) (sym c.in_ok-keep.ensures.same)
-    (rows_some c.args.context.now.attributes.now
-    (record { signatures = c.args.context.now.operations.now.signatures; meaning = g.M.Meaning.meaning }) c.args.store.now c.args.machine.now
-    c.requires.runs.machine)
+    (rows_some c.requires.runs.machine)
 
-pub returns-clause-whole : goal.returns-clause-whole
-returns-clause-whole g c =
+pub returns : goal.returns
+returns g c =
     let keys = c.args.machine.now.stack.items in
     let new = c.keep.new.machine in
     let below = c.requires.waits in
@@ -31,14 +29,12 @@ returns-clause-whole g c =
     let some : 0 < length (take (length keys - 1) keys) =
     (let l = length-take-le (length keys - 1) keys (omega arith) in omega (arith, l, below)) in
     let stack_is : c.truncate.new.self.items ≡ take (length keys - 1) keys = search rules in
-    let count = rows_count c.args.context.now.attributes.now
-    (record { signatures = c.args.context.now.operations.now.signatures; meaning = g.M.Meaning.meaning }) c.args.store.now c.args.machine.now
-    c.requires.runs.machine in
+    let count = rows_count c.requires.runs.machine in
     let frames_is : waits c.leave.new.self ≡ take (length (take (length keys - 1) keys)) (waits c.args.machine.now.frames) =
     (let l = length-take-le (length keys - 1) keys (omega arith) in
     c.leave.ensures.waits ∙ ap (λ (m : Machine). take (length m.frames.rows.items - 1) (waits m.frames)) same
     ∙ ap (λ n. take (n - 1) (waits c.args.machine.now.frames)) count ∙ ap (λ n. take n (waits c.args.machine.now.frames)) (sym l)) in
-    left c.args.context.now.attributes.now
+    let whole = left c.args.context.now.attributes.now
     (record { signatures = c.args.context.now.operations.now.signatures; meaning = g.M.Meaning.meaning }) c.args.store.now c.args.machine.now c.args.answer c.requires.runs c.requires.inside
     (record {
       memo = new.memo;
@@ -50,4 +46,13 @@ returns-clause-whole g c =
     })
     (take (length keys - 1) keys) c.index-key.result.now (sym (last_key keys c.index-key.result.now last)) some
     (c.in_ok-keep.ensures.kept c.requires.runs) (ap (λ (m : Machine). m.root) same) (ap (λ (m : Machine). m.attribute) same)
-    (ap (λ (m : Machine). m.entered) same) stack_is frames_is c.leave.ensures.piled
+    (ap (λ (m : Machine). m.entered) same) stack_is frames_is c.leave.ensures.piled in
+    let count_is = length-take-le (length keys - 1) keys (omega arith) in
+    let less = ap length stack_is in
+    record {
+      whole = whole;
+      root = ap (λ (m : Machine). m.root) same;
+      attribute = ap (λ (m : Machine). m.attribute) same;
+      entered = ap (λ (m : Machine). m.entered) same;
+      stack = omega (arith, count_is, less, below);
+    }

@@ -2,11 +2,10 @@ use Rattle.std.proofs.lemmas.Int.{to_z-of_z}
 use Rattle.std.proofs.Common.{rules, FitsSigned, w64, ℕ, List, Option, length, sym, ap, subst}
 use Rattle.std.specs.Prelude.{IfOk}
 use Rattle.std.proofs.lemmas.Result.{IfOk-weaker}
-use Rattle.wb_expressions.proofs.NodeLemmas.{has_node}
-use Rattle.wb_expressions.specs.declared.node.Node.TheVariants as n
-use Rattle.wb_expressions.specs.Places.{HasNode}
-use Rattle.wb_evaluator.proofs.DoneLemmas.{int_visited, text_visited, truth_visited, label_label, label_visited, lexeme_label, lexeme_visited}
-use Rattle.wb_evaluator.proofs.DoneLemmas.{top_done, read_ready, read_below_done, forward_done, build_visited, call_visited, choice_visited, call_there}
+use Rattle.wb_evaluator.proofs.DoneLemmas.{node_here, int_visited, text_visited, truth_visited, label_label, label_visited, lexeme_label}
+use Rattle.wb_evaluator.proofs.DoneLemmas.{lexeme_visited}
+use Rattle.wb_evaluator.proofs.DoneLemmas.{top_done, read_ready, read_below_done, forward_done, build_visited, call_visited, choice_visited}
+use Rattle.wb_evaluator.proofs.DoneLemmas.{call_there}
 use Rattle.wb_evaluator.specs.Inner.Reached.{IsReady}
 use Rattle.wb_evaluator.specs.Inner.Works.{IsPushed, ArePushed, IsReadBelow}
 use Rattle.wb_evaluator.specs.declared.machine.Key.{Key}
@@ -27,11 +26,9 @@ visit_label-requires-clause-there g c =
 
 pub visit_label-requires-clause-label : goal.visit_label-requires-clause-label
 visit_label-requires-clause-label g c =
-    let has : HasNode c.args.nodes.now c.args.at (n.Label c.in-Label.place) =
-    subst (HasNode c.args.nodes.now c.args.at) (c.in-Label.is) (has_node c.args.nodes.now c.args.at c.index-nodes-at.result c.requires.there c.index-nodes-at.is) in
-    label_label c.args.context.now.attributes.now
-    (record { signatures = c.args.context.now.operations.now.signatures; meaning = g.M.Meaning.meaning }) c.args.store.now c.args.machine.now c.args.site
-    c.args.nodes.now c.args.work.now c.args.work.now c.args.at c.requires.evaluating c.in-Label.place has
+    let has = node_here c.args.expression.now.nodes.now c.args.at c.index-expression-at.result c.requires.there
+    c.index-expression-at.is c.in-Label.is in
+    label_label c.args.work.now c.args.work.now c.args.at c.requires.evaluating c.in-Label.place has
 
 pub visit_label-requires-in-Lexeme-clause-whole : goal.visit_label-requires-in-Lexeme-clause-whole
 visit_label-requires-in-Lexeme-clause-whole g c =
@@ -43,11 +40,9 @@ visit_label-requires-in-Lexeme-clause-there g c =
 
 pub visit_label-requires-in-Lexeme-clause-label : goal.visit_label-requires-in-Lexeme-clause-label
 visit_label-requires-in-Lexeme-clause-label g c =
-    let has : HasNode c.args.nodes.now c.args.at (n.Lexeme c.in-Lexeme.place) =
-    subst (HasNode c.args.nodes.now c.args.at) (c.in-Lexeme.is) (has_node c.args.nodes.now c.args.at c.index-nodes-at.result c.requires.there c.index-nodes-at.is) in
-    lexeme_label c.args.context.now.attributes.now
-    (record { signatures = c.args.context.now.operations.now.signatures; meaning = g.M.Meaning.meaning }) c.args.store.now c.args.machine.now c.args.site
-    c.args.nodes.now c.args.work.now c.args.work.now c.args.at c.requires.evaluating c.in-Lexeme.place has
+    let has = node_here c.args.expression.now.nodes.now c.args.at c.index-expression-at.result c.requires.there
+    c.index-expression-at.is c.in-Lexeme.is in
+    lexeme_label c.args.work.now c.args.work.now c.args.at c.requires.evaluating c.in-Lexeme.place has
 
 pub read_below-requires-clause-whole : goal.read_below-requires-clause-whole
 read_below-requires-clause-whole g c =
@@ -59,12 +54,10 @@ read_below-requires-clause-there g c =
 
 pub read_below-requires-clause-ready : goal.read_below-requires-clause-ready
 read_below-requires-clause-ready g c =
-    let has : HasNode c.args.nodes.now c.args.at (n.Read c.in-Read.label c.in-Read.attribute) =
-    subst (HasNode c.args.nodes.now c.args.at) (c.in-Read.is) (has_node c.args.nodes.now c.args.at c.index-nodes-at.result c.requires.there c.index-nodes-at.is) in
-    subst (IsReady c.args.store.now c.args.machine.now.memo c.args.site) (sym c.step_to.ensures)
-    (read_ready c.args.context.now.attributes.now
-    (record { signatures = c.args.context.now.operations.now.signatures; meaning = g.M.Meaning.meaning }) c.args.store.now c.args.machine.now c.args.site
-    c.args.nodes.now c.args.work.now c.args.work.now c.args.at c.requires.evaluating c.in-Read.label c.in-Read.attribute has)
+    let has = node_here c.args.expression.now.nodes.now c.args.at c.index-expression-at.result c.requires.there
+    c.index-expression-at.is c.in-Read.is in
+    subst (IsReady c.args.store.now c.args.machine.now.memo c.args.expression.now.site) (sym c.step_to.ensures)
+    (read_ready c.args.work.now c.args.work.now c.args.at c.requires.evaluating c.in-Read.label c.in-Read.attribute has)
 
 pub read_below-requires-in-Forward-clause-whole : goal.read_below-requires-in-Forward-clause-whole
 read_below-requires-in-Forward-clause-whole g c =
@@ -84,120 +77,108 @@ read-requires-clause-key g c =
 
 pub visit_call-requires : goal.visit_call-requires
 visit_call-requires g c =
-    let has : HasNode c.args.nodes.now c.args.at (n.Call c.in-Call.operation c.in-Call.arguments) =
-    subst (HasNode c.args.nodes.now c.args.at) (c.in-Call.is) (has_node c.args.nodes.now c.args.at c.index-nodes-at.result c.requires.there c.index-nodes-at.is) in
-    subst (HasOperation c.args.context.now.operations.now.signatures) (sym c.as_slice-in-Call.ensures)
-    (call_there c.args.context.now.attributes.now
-    (record { signatures = c.args.context.now.operations.now.signatures; meaning = g.M.Meaning.meaning }) c.args.store.now c.args.machine.now c.args.site
-    c.args.nodes.now c.args.work.now c.args.work.now c.args.at c.requires.evaluating c.in-Call.operation c.in-Call.arguments has)
+    let has = node_here c.args.expression.now.nodes.now c.args.at c.index-expression-at.result c.requires.there
+    c.index-expression-at.is c.in-Call.is in
+    subst (HasOperation c.args.expression.now.operations.now.signatures) (sym c.as_slice-in-Call.ensures)
+    (call_there c.args.work.now c.args.work.now c.args.at c.requires.evaluating c.in-Call.operation c.in-Call.arguments has)
 
 pub returns-in-Int : goal.returns-in-Int
 returns-in-Int g c =
-    let has : HasNode c.args.nodes.now c.args.at (n.Int c.in-Int.number) =
-    subst (HasNode c.args.nodes.now c.args.at) (c.in-Int.is) (has_node c.args.nodes.now c.args.at c.index-nodes-at.result c.requires.there c.index-nodes-at.is) in
+    let has = node_here c.args.expression.now.nodes.now c.args.at c.index-expression-at.result c.requires.there
+    c.index-expression-at.is c.in-Int.is in
     let fits : FitsSigned w64 c.in-Int.number = search rules in
     let number = to_z-of_z w64 c.in-Int.number fits in
     IfOk-weaker c.visit_value.result _ _
-    (λ r it. int_visited c.args.context.now.attributes.now
-    (record { signatures = c.args.context.now.operations.now.signatures; meaning = g.M.Meaning.meaning }) c.args.store.now c.args.machine.now c.args.site
-    c.args.nodes.now c.args.work.now c.visit_value.new.work c.args.at c.requires.evaluating c.in-Int.number has r
+    (λ r it. int_visited c.args.work.now c.visit_value.new.work c.args.at c.requires.evaluating c.in-Int.number has r
     (subst (λ z. IsPushed c.args.work.now c.visit_value.new.work (stored.Int z) r) number it)) c.visit_value.ensures
 
 pub returns-in-Text : goal.returns-in-Text
 returns-in-Text g c =
-    let has : HasNode c.args.nodes.now c.args.at (n.Text c.in-Text.text) =
-    subst (HasNode c.args.nodes.now c.args.at) (c.in-Text.is) (has_node c.args.nodes.now c.args.at c.index-nodes-at.result c.requires.there c.index-nodes-at.is) in
+    let has = node_here c.args.expression.now.nodes.now c.args.at c.index-expression-at.result c.requires.there
+    c.index-expression-at.is c.in-Text.is in
     IfOk-weaker c.visit_text.result _ _
-    (λ r it. text_visited c.args.context.now.attributes.now
-    (record { signatures = c.args.context.now.operations.now.signatures; meaning = g.M.Meaning.meaning }) c.args.store.now c.args.machine.now c.args.site
-    c.args.nodes.now c.args.work.now c.visit_text.new.work c.args.at c.requires.evaluating c.in-Text.text has r it) c.visit_text.ensures
+    (λ r it. text_visited c.args.work.now c.visit_text.new.work c.args.at c.requires.evaluating c.in-Text.text has r it)
+    c.visit_text.ensures
 
 pub returns-in-Bool : goal.returns-in-Bool
 returns-in-Bool g c =
-    let has : HasNode c.args.nodes.now c.args.at (n.Bool c.in-Bool.truth) =
-    subst (HasNode c.args.nodes.now c.args.at) (c.in-Bool.is) (has_node c.args.nodes.now c.args.at c.index-nodes-at.result c.requires.there c.index-nodes-at.is) in
+    let has = node_here c.args.expression.now.nodes.now c.args.at c.index-expression-at.result c.requires.there
+    c.index-expression-at.is c.in-Bool.is in
     IfOk-weaker c.visit_value-in-Bool.result _ _
-    (λ r it. truth_visited c.args.context.now.attributes.now
-    (record { signatures = c.args.context.now.operations.now.signatures; meaning = g.M.Meaning.meaning }) c.args.store.now c.args.machine.now c.args.site
-    c.args.nodes.now c.args.work.now c.visit_value-in-Bool.new.work c.args.at c.requires.evaluating c.in-Bool.truth has r it) c.visit_value-in-Bool.ensures
+    (λ r it. truth_visited c.args.work.now c.visit_value-in-Bool.new.work c.args.at c.requires.evaluating c.in-Bool.truth has r it)
+    c.visit_value-in-Bool.ensures
 
 pub returns-in-Label : goal.returns-in-Label
 returns-in-Label g c =
-    let has : HasNode c.args.nodes.now c.args.at (n.Label c.in-Label.place) =
-    subst (HasNode c.args.nodes.now c.args.at) (c.in-Label.is) (has_node c.args.nodes.now c.args.at c.index-nodes-at.result c.requires.there c.index-nodes-at.is) in
+    let has = node_here c.args.expression.now.nodes.now c.args.at c.index-expression-at.result c.requires.there
+    c.index-expression-at.is c.in-Label.is in
     IfOk-weaker c.visit_label.result _ _
-    (λ r it. label_visited c.args.context.now.attributes.now
-    (record { signatures = c.args.context.now.operations.now.signatures; meaning = g.M.Meaning.meaning }) c.args.store.now c.args.machine.now c.args.site
-    c.args.nodes.now c.args.work.now c.visit_label.new.work c.args.at c.requires.evaluating c.in-Label.place has c.visit_label.new.machine r it) c.visit_label.ensures
+    (λ r it. label_visited c.args.work.now c.visit_label.new.work c.args.at c.requires.evaluating c.in-Label.place has
+    c.visit_label.new.machine r it) c.visit_label.ensures
 
 pub returns-in-Lexeme : goal.returns-in-Lexeme
 returns-in-Lexeme g c =
-    let has : HasNode c.args.nodes.now c.args.at (n.Lexeme c.in-Lexeme.place) =
-    subst (HasNode c.args.nodes.now c.args.at) (c.in-Lexeme.is) (has_node c.args.nodes.now c.args.at c.index-nodes-at.result c.requires.there c.index-nodes-at.is) in
+    let has = node_here c.args.expression.now.nodes.now c.args.at c.index-expression-at.result c.requires.there
+    c.index-expression-at.is c.in-Lexeme.is in
     IfOk-weaker c.visit_label-in-Lexeme.result _ _
-    (λ r it. lexeme_visited c.args.context.now.attributes.now
-    (record { signatures = c.args.context.now.operations.now.signatures; meaning = g.M.Meaning.meaning }) c.args.store.now c.args.machine.now c.args.site
-    c.args.nodes.now c.args.work.now c.visit_label-in-Lexeme.new.work c.args.at c.requires.evaluating c.in-Lexeme.place has c.visit_label-in-Lexeme.new.machine r it) c.visit_label-in-Lexeme.ensures
+    (λ r it. lexeme_visited c.args.work.now c.visit_label-in-Lexeme.new.work c.args.at c.requires.evaluating c.in-Lexeme.place has
+    c.visit_label-in-Lexeme.new.machine r it) c.visit_label-in-Lexeme.ensures
 
 pub returns-in-Read : goal.returns-in-Read
 returns-in-Read g c =
-    let has : HasNode c.args.nodes.now c.args.at (n.Read c.in-Read.label c.in-Read.attribute) =
-    subst (HasNode c.args.nodes.now c.args.at) (c.in-Read.is) (has_node c.args.nodes.now c.args.at c.index-nodes-at.result c.requires.there c.index-nodes-at.is) in
+    let has = node_here c.args.expression.now.nodes.now c.args.at c.index-expression-at.result c.requires.there
+    c.index-expression-at.is c.in-Read.is in
     IfOk-weaker c.read_below.result _ _
-    (λ r it. read_below_done c.args.context.now.attributes.now
-    (record { signatures = c.args.context.now.operations.now.signatures; meaning = g.M.Meaning.meaning }) c.args.store.now c.args.machine.now c.args.site
-    c.args.nodes.now c.args.work.now c.read_below.new.work c.args.at c.requires.evaluating c.in-Read.label c.in-Read.attribute has c.read_below.new.machine r
-    (subst (λ (s : Step). IsReadBelow c.args.store.now c.args.machine.now c.read_below.new.machine c.args.site s
-    (λ below. key.Synthesized below c.in-Read.attribute) c.args.work.now c.read_below.new.work r) c.step_to.ensures it)) c.read_below.ensures
+    (λ r it. read_below_done c.args.work.now c.read_below.new.work c.args.at c.requires.evaluating c.in-Read.label c.in-Read.attribute has
+    c.read_below.new.machine r
+    (subst (λ (s : Step). IsReadBelow c.args.store.now c.args.machine.now c.read_below.new.machine c.args.expression.now.site s
+    (λ below. key.Synthesized below c.in-Read.attribute) c.args.work.now c.read_below.new.work r) c.step_to.ensures it))
+    c.read_below.ensures
 
 pub returns-in-Top : goal.returns-in-Top
 returns-in-Top g c =
-    let has : HasNode c.args.nodes.now c.args.at (n.Top c.in-Top.attribute) =
-    subst (HasNode c.args.nodes.now c.args.at) (c.in-Top.is) (has_node c.args.nodes.now c.args.at c.index-nodes-at.result c.requires.there c.index-nodes-at.is) in
+    let has = node_here c.args.expression.now.nodes.now c.args.at c.index-expression-at.result c.requires.there
+    c.index-expression-at.is c.in-Top.is in
     IfOk-weaker c.read.result _ _
-    (λ r it. top_done c.args.context.now.attributes.now
-    (record { signatures = c.args.context.now.operations.now.signatures; meaning = g.M.Meaning.meaning }) c.args.store.now c.args.machine.now c.args.site
-    c.args.nodes.now c.args.work.now c.read.new.work c.args.at c.requires.evaluating c.in-Top.attribute has r it) c.read.ensures
+    (λ r it. top_done c.args.work.now c.read.new.work c.args.at c.requires.evaluating c.in-Top.attribute has r it) c.read.ensures
 
 pub returns-in-Forward : goal.returns-in-Forward
 returns-in-Forward g c =
-    let has : HasNode c.args.nodes.now c.args.at (n.Forward c.in-Forward.attribute) =
-    subst (HasNode c.args.nodes.now c.args.at) (c.in-Forward.is) (has_node c.args.nodes.now c.args.at c.index-nodes-at.result c.requires.there c.index-nodes-at.is) in
+    let has = node_here c.args.expression.now.nodes.now c.args.at c.index-expression-at.result c.requires.there
+    c.index-expression-at.is c.in-Forward.is in
     IfOk-weaker c.read_below-in-Forward.result _ _
-    (λ r it. forward_done c.args.context.now.attributes.now
-    (record { signatures = c.args.context.now.operations.now.signatures; meaning = g.M.Meaning.meaning }) c.args.store.now c.args.machine.now c.args.site
-    c.args.nodes.now c.args.work.now c.read_below-in-Forward.new.work c.args.at c.requires.evaluating c.in-Forward.attribute has c.read_below-in-Forward.new.machine r it) c.read_below-in-Forward.ensures
+    (λ r it. forward_done c.args.work.now c.read_below-in-Forward.new.work c.args.at c.requires.evaluating c.in-Forward.attribute has
+    c.read_below-in-Forward.new.machine r it) c.read_below-in-Forward.ensures
 
 pub returns-in-Build : goal.returns-in-Build
 returns-in-Build g c =
-    let has : HasNode c.args.nodes.now c.args.at (n.Build c.in-Build.production c.in-Build.children) =
-    subst (HasNode c.args.nodes.now c.args.at) (c.in-Build.is) (has_node c.args.nodes.now c.args.at c.index-nodes-at.result c.requires.there c.index-nodes-at.is) in
+    let has = node_here c.args.expression.now.nodes.now c.args.at c.index-expression-at.result c.requires.there
+    c.index-expression-at.is c.in-Build.is in
     IfOk-weaker c.visit_build.result _ _
-    (λ r it. build_visited c.args.context.now.attributes.now
-    (record { signatures = c.args.context.now.operations.now.signatures; meaning = g.M.Meaning.meaning }) c.args.store.now c.args.machine.now c.args.site
-    c.args.nodes.now c.args.work.now c.visit_build.new.work c.args.at c.requires.evaluating c.in-Build.production c.in-Build.children has r it)
+    (λ r it. build_visited c.args.work.now c.visit_build.new.work c.args.at c.requires.evaluating c.in-Build.production c.in-Build.children
+    has r it)
     (subst (λ (xs : List ℕ). IfOk c.visit_build.result (ArePushed c.args.work.now c.visit_build.new.work
     (task.Build c.in-Build.production (length xs)) xs)) c.as_slice.ensures c.visit_build.ensures)
 
 pub returns-in-Call : goal.returns-in-Call
 returns-in-Call g c =
-    let has : HasNode c.args.nodes.now c.args.at (n.Call c.in-Call.operation c.in-Call.arguments) =
-    subst (HasNode c.args.nodes.now c.args.at) (c.in-Call.is) (has_node c.args.nodes.now c.args.at c.index-nodes-at.result c.requires.there c.index-nodes-at.is) in
+    let has = node_here c.args.expression.now.nodes.now c.args.at c.index-expression-at.result c.requires.there
+    c.index-expression-at.is c.in-Call.is in
     IfOk-weaker c.visit_call.result _ _
-    (λ r it. call_visited c.args.context.now.attributes.now
-    (record { signatures = c.args.context.now.operations.now.signatures; meaning = g.M.Meaning.meaning }) c.args.store.now c.args.machine.now c.args.site
-    c.args.nodes.now c.args.work.now c.visit_call.new.work c.args.at c.requires.evaluating c.in-Call.operation c.in-Call.arguments has r it)
-    (subst (λ (name : List ℕ). IfOk c.visit_call.result (λ r. (number : ℕ) × IsOperation c.args.context.now.operations.now.signatures name number
-    × ArePushed c.args.work.now c.visit_call.new.work (task.Call number (length c.in-Call.arguments)) c.in-Call.arguments r)) c.as_slice-in-Call.ensures
-    (subst (λ (xs : List ℕ). IfOk c.visit_call.result (λ r. (number : ℕ) × IsOperation c.args.context.now.operations.now.signatures
+    (λ r it. call_visited c.args.work.now c.visit_call.new.work c.args.at c.requires.evaluating c.in-Call.operation c.in-Call.arguments has
+    r it)
+    (subst (λ (name : List ℕ). IfOk c.visit_call.result (λ r. (number : ℕ) × IsOperation c.args.expression.now.operations.now.signatures
+    name number
+    × ArePushed c.args.work.now c.visit_call.new.work (task.Call number (length c.in-Call.arguments)) c.in-Call.arguments r))
+    c.as_slice-in-Call.ensures
+    (subst (λ (xs : List ℕ). IfOk c.visit_call.result (λ r. (number : ℕ) × IsOperation c.args.expression.now.operations.now.signatures
     c.as_slice-in-Call.result.now number × ArePushed c.args.work.now c.visit_call.new.work (task.Call number (length xs)) xs r))
     c.as_slice-in-Call-2.ensures c.visit_call.ensures))
 
 pub returns-in-If : goal.returns-in-If
 returns-in-If g c =
-    let has : HasNode c.args.nodes.now c.args.at (n.If c.in-If.condition c.in-If.holds c.in-If.fails) =
-    subst (HasNode c.args.nodes.now c.args.at) (c.in-If.is) (has_node c.args.nodes.now c.args.at c.index-nodes-at.result c.requires.there c.index-nodes-at.is) in
+    let has = node_here c.args.expression.now.nodes.now c.args.at c.index-expression-at.result c.requires.there
+    c.index-expression-at.is c.in-If.is in
     IfOk-weaker c.visit_branches.result _ _
-    (λ r it. choice_visited c.args.context.now.attributes.now
-    (record { signatures = c.args.context.now.operations.now.signatures; meaning = g.M.Meaning.meaning }) c.args.store.now c.args.machine.now c.args.site
-    c.args.nodes.now c.args.work.now c.visit_branches.new.work c.args.at c.requires.evaluating c.in-If.condition c.in-If.holds c.in-If.fails has r it) c.visit_branches.ensures
+    (λ r it. choice_visited c.args.work.now c.visit_branches.new.work c.args.at c.requires.evaluating c.in-If.condition c.in-If.holds
+    c.in-If.fails has r it) c.visit_branches.ensures

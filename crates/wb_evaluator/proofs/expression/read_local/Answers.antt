@@ -1,0 +1,31 @@
+use Rattle.std.specs.Prelude.{Option}
+use Rattle.std.proofs.lemmas.Result.{IfOk-weaker}
+use Rattle.wb_attributes.specs.Vertices.{local}
+use Rattle.wb_memo.specs.Memos.{path_in}
+use Rattle.wb_evaluator.specs.Inner.Works.{IsReading, IsReadBelow}
+use Rattle.wb_evaluator.specs.declared.machine.Key.{Key}
+use Rattle.wb_evaluator.specs.declared.machine.Key.TheVariants as key
+use Rattle.wb_memo.specs.declared.sites.Step.TheVariants as step
+use Rattle.wb_evaluator.proofs.expression.read_local.Goals as goal
+
+pub read-requires-clause-whole : goal.read-requires-clause-whole
+read-requires-clause-whole c = c.in_ok-below.ensures.whole
+
+pub read-requires-clause-key : goal.read-requires-clause-key
+read-requires-clause-key c = let e = c.in_ok-below.ensures in (e.site.2.there, (path_in c.args.machine.now.memo c.args.site, local c.args.local, e.site.2.path))
+
+pub returns : goal.returns
+returns c =
+    let e = c.in_ok-below.ensures in
+    let made : (r : Option Key) → IsReading c.below.new.self c.args.work.now c.read.new.work (key.Tree c.in_ok-below.below) r
+    → IsReadBelow c.args.store.now c.args.machine.now c.below.new.self c.args.site (step.Local c.args.local)
+    (λ below. key.Tree below) c.args.work.now c.read.new.work r =
+    λ r reading. record {
+      below = c.in_ok-below.below;
+      machine = e.same;
+      whole = e.whole;
+      grown = e.grown;
+      reached = e.site;
+      reading = reading;
+    } in
+    IfOk-weaker c.read.result _ _ made c.read.ensures
