@@ -134,7 +134,8 @@ module _ (host : Rows) (adds : List Addition) where
       flat_map mine placed ≡ joined.joined (numbered theirs 0 all)
   gather mine theirs same =
       flat_numbered mine (placed_at (counts_in host) adds) 0 adds ∙
-      (ap joined.joined (numbered_same (λ k x. mine (placed_at (counts_in host) adds k x)) (λ k x. theirs k (addition_in host x)) same 0 adds) ∙
+      (ap joined.joined
+      (numbered_same (λ k x. mine (placed_at (counts_in host) adds k x)) (λ k x. theirs k (addition_in host x)) same 0 adds) ∙
       ap joined.joined (sym (numbered_map theirs (addition_in host) 0 adds)))
 
   pub nonterminals_are : gathered_nonterminals own_numbers host placed ≡ united_nonterminals (rows_in host) all

@@ -4,3 +4,5 @@ pub mod Counted
 pub mod Written
 -- lists as they are gathered
 pub mod Gathered
+-- lists in the making
+pub mod Filled

@@ -1,35 +1,31 @@
 //! Which attributes has the union, and where do they occur?
 
-ghost use Rattle.std.specs.Prelude.{◌≡◌, ◌++◌, IfOk, OnOk, map};
+ghost use Rattle.std.specs.Prelude.{◌≡◌, ◌++◌, [], OnOk};
 ghost use Rattle.std.specs.List.{flat_map};
 ghost use Rattle.wb_united_attribution.specs.Inner.Gathered.{attributes_by, attributes_in, gathered_attributes, gathered_occurrences, occurrences_by, occurrences_in};
 
 use crate::Rows;
 use crate::placed::Placed;
 use std::alloc::{AllocError, Global};
-use wb_base::{Sequence, push};
+use wb_base::push;
 use wb_renumbered::{Numbers, new_attribute, new_occurrence};
 use wb_resolved::{Attribute, Occurrence};
 
 // The attributes, the host's first.
-pub(crate) fn united_attributes(
-    alloc: Global,
+pub(crate) fn add_united_attributes(
+    made: &mut Vec<Attribute>,
     numbers: &Numbers,
     host: &Rows,
     placed: &[Placed],
-) -> Result<Sequence<Attribute>, AllocError>
-    ensures { IfOk result (λ made. made ≡ gathered_attributes numbers.now host.now placed.now) }
+) -> Result<(), AllocError>
+    requires { made.old.items ≡ [] }
+    ensures { OnOk result (made.new.items ≡ gathered_attributes numbers.now host.now placed.now) }
 {
-    let mut made = Vec::new(alloc);
-    add_attributes(&mut made, numbers, host.attributes)?;
+    add_attributes(made, numbers, host.attributes)?;
     'placed: for extension in placed {
-        add_attributes(
-            &mut made,
-            &extension.numbers,
-            extension.addition.rows.attributes,
-        )?;
+        add_attributes(made, &extension.numbers, extension.addition.rows.attributes)?;
     }
-    Ok(Sequence::from_vec(made))
+    Ok(())
 }
 
 // Adds attributes in new numbers.
@@ -48,25 +44,26 @@ fn add_attributes(
 }
 
 // The occurrences, the host's first.
-pub(crate) fn united_occurrences(
+pub(crate) fn add_united_occurrences(
     alloc: Global,
+    made: &mut Vec<Occurrence>,
     numbers: &Numbers,
     host: &Rows,
     placed: &[Placed],
-) -> Result<Sequence<Occurrence>, AllocError>
-    ensures { IfOk result (λ made. made ≡ gathered_occurrences numbers.now host.now placed.now) }
+) -> Result<(), AllocError>
+    requires { made.old.items ≡ [] }
+    ensures { OnOk result (made.new.items ≡ gathered_occurrences numbers.now host.now placed.now) }
 {
-    let mut made = Vec::new(alloc);
-    add_occurrences(alloc, &mut made, numbers, host.occurrences)?;
+    add_occurrences(alloc, made, numbers, host.occurrences)?;
     'placed: for extension in placed {
         add_occurrences(
             alloc,
-            &mut made,
+            made,
             &extension.numbers,
             extension.addition.rows.occurrences,
         )?;
     }
-    Ok(Sequence::from_vec(made))
+    Ok(())
 }
 
 // Adds occurrences in new numbers.

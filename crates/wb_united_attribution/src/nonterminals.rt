@@ -1,31 +1,31 @@
 //! Which nonterminals has the union?
 
-ghost use Rattle.std.specs.Prelude.{◌≡◌, ◌++◌, IfOk, OnOk};
+ghost use Rattle.std.specs.Prelude.{◌≡◌, ◌++◌, [], OnOk};
 ghost use Rattle.std.specs.List.{flat_map};
 ghost use Rattle.wb_united_attribution.specs.Inner.Gathered.{abstract_nonterminals_in, gathered_nonterminals, nonterminals_by, nonterminals_in};
 
 use crate::Rows;
 use crate::placed::Placed;
 use std::alloc::{AllocError, Global};
-use wb_base::{Sequence, push};
+use wb_base::push;
 use wb_renumbered::{Numbers, new_nonterminal};
 use wb_resolved::Nonterminal;
 
 // Those of the grammar, the host's first, and then those that are abstract alone.
-pub(crate) fn united_nonterminals(
+pub(crate) fn add_united_nonterminals(
     alloc: Global,
+    made: &mut Vec<Nonterminal>,
     numbers: &Numbers,
     host: &Rows,
     placed: &[Placed],
-) -> Result<Sequence<Nonterminal>, AllocError>
-    ensures { IfOk result (λ made. made ≡ gathered_nonterminals numbers.now host.now placed.now) }
+) -> Result<(), AllocError>
+    requires { made.old.items ≡ [] }
+    ensures { OnOk result (made.new.items ≡ gathered_nonterminals numbers.now host.now placed.now) }
 {
-    let mut made = Vec::new(alloc);
-    add_nonterminals(alloc, &mut made, numbers, host.nonterminals)?;
-    add_each(alloc, &mut made, placed)?;
-    add_nonterminals(alloc, &mut made, numbers, host.abstract_nonterminals)?;
-    add_each_abstract(alloc, &mut made, placed)?;
-    Ok(Sequence::from_vec(made))
+    add_nonterminals(alloc, made, numbers, host.nonterminals)?;
+    add_each(alloc, made, placed)?;
+    add_nonterminals(alloc, made, numbers, host.abstract_nonterminals)?;
+    add_each_abstract(alloc, made, placed)
 }
 
 fn add_each(alloc: Global, made: &mut Vec<Nonterminal>, placed: &[Placed]) -> Result<(), AllocError>

@@ -1,9 +1,10 @@
 //! What is a production in new numbers, with what is written on it besides?
 
-ghost use Rattle.std.specs.Prelude.{◌≡◌, ◌++◌, IfOk, OnOk, map, option_map};
+ghost use Rattle.std.specs.Prelude.{◌≡◌, ◌++◌, [], IfOk, OnOk, map, option_map};
 ghost use Rattle.std.specs.List.{flat_map};
 ghost use Rattle.wb_united_attributes.specs.Rows as rows;
 ghost use Rattle.wb_renumbered.specs.NewNumbers.{map_of};
+ghost use Rattle.wb_united_attribution.specs.Inner.Filled.{with_rules};
 ghost use Rattle.wb_united_attribution.specs.Inner.Written.{equations_by, locals_by, production_by, written_equations, written_locals};
 
 use crate::written::{Written, equations_behind, locals_behind};
@@ -23,18 +24,61 @@ pub(crate) fn new_production(
 ) -> Result<Production, AllocError>
     ensures { IfOk result (λ made. made ≡ production_by numbers.now row.now written.now) }
 {
+    let mut rules = Rules {
+        locals: Vec::new(alloc),
+        forward: None,
+        equations: Vec::new(alloc),
+    };
+    add_rules(alloc, &mut rules, numbers, row, written)?;
+    production_of(alloc, numbers, row, rules)
+}
+
+// Its locals, what it forwards to, and its equations. They are made in place, so that a failure has one thing to drop.
+#[derive(Drop)]
+struct Rules {
+    locals: Vec<Local>,
+    forward: Option<Forward>,
+    equations: Vec<Equation>,
+}
+
+fn add_rules(
+    alloc: Global,
+    rules: &mut Rules,
+    numbers: &Numbers,
+    row: &Production,
+    written: &[Written],
+) -> Result<(), AllocError>
+    requires locals { rules.old.locals.items ≡ [] }
+    requires equations { rules.old.equations.items ≡ [] }
+    ensures locals { OnOk result (rules.new.locals.items ≡ locals_by numbers.now row.now.locals ++ flat_map written_locals written.now) }
+    ensures forward { OnOk result (rules.new.forward ≡ option_map (rows.new_forward (map_of numbers.now) 0) row.now.forward) }
+    ensures equations { OnOk result (rules.new.equations.items ≡ equations_by numbers.now row.now.equations ++ flat_map written_equations written.now) }
+{
+    rules.forward = forward_of(alloc, numbers, &row.forward)?;
+    add_all_locals(alloc, &mut rules.locals, numbers, row, written)?;
+    add_all_equations(alloc, &mut rules.equations, numbers, row, written)
+}
+
+// The production with these rules.
+fn production_of(
+    alloc: Global,
+    numbers: &Numbers,
+    row: &Production,
+    rules: Rules,
+) -> Result<Production, AllocError>
+    ensures { IfOk result (λ made. made ≡ with_rules (production_by numbers.now row.now []) rules.locals.items rules.forward rules.equations.items) }
+{
     let left = new_left(numbers, row.left)?;
     let head = head_of(alloc, numbers, row)?;
-    let body = body_of(alloc, numbers, row, written)?;
     Ok(Production {
         name: head.name,
         owner: new_owner(numbers, row.owner),
         role: row.role,
         left,
         children: head.children,
-        locals: body.locals,
-        forward: body.rules.forward,
-        equations: body.rules.equations,
+        locals: Sequence::from_vec(rules.locals),
+        forward: rules.forward,
+        equations: Sequence::from_vec(rules.equations),
     })
 }
 
@@ -54,48 +98,6 @@ fn head_of(alloc: Global, numbers: &Numbers, row: &Production) -> Result<Head, A
     Ok(Head { name, children })
 }
 
-// Its locals, what it forwards to, and its equations.
-#[derive(Drop)]
-struct Body {
-    locals: Sequence<Local>,
-    rules: Rules,
-}
-
-fn body_of(
-    alloc: Global,
-    numbers: &Numbers,
-    row: &Production,
-    written: &[Written],
-) -> Result<Body, AllocError>
-    ensures locals { IfOk result (λ body. body.locals ≡ locals_by numbers.now row.now.locals ++ flat_map written_locals written.now) }
-    ensures forward { IfOk result (λ body. body.rules.forward ≡ option_map (rows.new_forward (map_of numbers.now) 0) row.now.forward) }
-    ensures equations { IfOk result (λ body. body.rules.equations ≡ equations_by numbers.now row.now.equations ++ flat_map written_equations written.now) }
-{
-    let locals = locals_of(alloc, numbers, row, written)?;
-    let rules = rules_of(alloc, numbers, row, written)?;
-    Ok(Body { locals, rules })
-}
-
-#[derive(Drop)]
-struct Rules {
-    forward: Option<Forward>,
-    equations: Sequence<Equation>,
-}
-
-fn rules_of(
-    alloc: Global,
-    numbers: &Numbers,
-    row: &Production,
-    written: &[Written],
-) -> Result<Rules, AllocError>
-    ensures forward { IfOk result (λ rules. rules.forward ≡ option_map (rows.new_forward (map_of numbers.now) 0) row.now.forward) }
-    ensures equations { IfOk result (λ rules. rules.equations ≡ equations_by numbers.now row.now.equations ++ flat_map written_equations written.now) }
-{
-    let forward = forward_of(alloc, numbers, &row.forward)?;
-    let equations = equations_of(alloc, numbers, row, written)?;
-    Ok(Rules { forward, equations })
-}
-
 fn forward_of(
     alloc: Global,
     numbers: &Numbers,
@@ -110,21 +112,22 @@ fn forward_of(
 }
 
 // Its own locals, and then those that are written on it.
-fn locals_of(
+fn add_all_locals(
     alloc: Global,
+    made: &mut Vec<Local>,
     numbers: &Numbers,
     row: &Production,
     written: &[Written],
-) -> Result<Sequence<Local>, AllocError>
-    ensures { IfOk result (λ made. made ≡ locals_by numbers.now row.now.locals ++ flat_map written_locals written.now) }
+) -> Result<(), AllocError>
+    requires { made.old.items ≡ [] }
+    ensures { OnOk result (made.new.items ≡ locals_by numbers.now row.now.locals ++ flat_map written_locals written.now) }
 {
-    let mut made = Vec::new(alloc);
-    add_locals(alloc, &mut made, numbers, row.locals.as_slice())?;
+    add_locals(alloc, made, numbers, row.locals.as_slice())?;
     'written: for other in written {
         let locals = locals_behind(other.rows, other.at, other.own_locals);
-        add_locals(alloc, &mut made, &other.numbers, locals)?;
+        add_locals(alloc, made, &other.numbers, locals)?;
     }
-    Ok(Sequence::from_vec(made))
+    Ok(())
 }
 
 fn add_locals(
@@ -143,21 +146,22 @@ fn add_locals(
 }
 
 // Its own equations, and then those that are written on it.
-fn equations_of(
+fn add_all_equations(
     alloc: Global,
+    made: &mut Vec<Equation>,
     numbers: &Numbers,
     row: &Production,
     written: &[Written],
-) -> Result<Sequence<Equation>, AllocError>
-    ensures { IfOk result (λ made. made ≡ equations_by numbers.now row.now.equations ++ flat_map written_equations written.now) }
+) -> Result<(), AllocError>
+    requires { made.old.items ≡ [] }
+    ensures { OnOk result (made.new.items ≡ equations_by numbers.now row.now.equations ++ flat_map written_equations written.now) }
 {
-    let mut made = Vec::new(alloc);
-    add_equations(alloc, &mut made, numbers, row.equations.as_slice())?;
+    add_equations(alloc, made, numbers, row.equations.as_slice())?;
     'written: for other in written {
         let equations = equations_behind(other.rows, other.at, other.own_equations);
-        add_equations(alloc, &mut made, &other.numbers, equations)?;
+        add_equations(alloc, made, &other.numbers, equations)?;
     }
-    Ok(Sequence::from_vec(made))
+    Ok(())
 }
 
 fn add_equations(

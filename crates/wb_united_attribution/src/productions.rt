@@ -1,6 +1,6 @@
 //! Which productions has the union?
 
-ghost use Rattle.std.specs.Prelude.{◌≡◌, ◌++◌, IfOk, OnOk};
+ghost use Rattle.std.specs.Prelude.{◌≡◌, ◌++◌, [], IfOk, OnOk};
 ghost use Rattle.std.specs.List.{flat_map};
 ghost use Rattle.wb_united_attribution.specs.Inner.Gathered.{abstract_productions_in, gathered_productions, host_productions, own_productions, productions_in};
 ghost use Rattle.wb_united_attribution.specs.Inner.Written.{host_production_by};
@@ -10,7 +10,7 @@ use crate::placed::{Placed, sum};
 use crate::production::new_production;
 use crate::written::{HostRow, total_on, written_on};
 use std::alloc::{AllocError, Global};
-use wb_base::{Sequence, push};
+use wb_base::push;
 use wb_renumbered::{Block, Numbers};
 use wb_resolved::Production;
 
@@ -23,13 +23,15 @@ struct Host<'a> {
 }
 
 // Those of the grammar, the host's first, and then those that are abstract.
-pub(crate) fn united_productions(
+pub(crate) fn add_united_productions(
     alloc: Global,
+    made: &mut Vec<Production>,
     numbers: &Numbers,
     rows: &Rows,
     placed: &[Placed],
-) -> Result<Sequence<Production>, AllocError>
-    ensures { IfOk result (λ made. made ≡ gathered_productions numbers.now rows.now placed.now) }
+) -> Result<(), AllocError>
+    requires { made.old.items ≡ [] }
+    ensures { OnOk result (made.new.items ≡ gathered_productions numbers.now rows.now placed.now) }
 {
     let leading = rows.productions.len();
     let host = Host {
@@ -37,12 +39,10 @@ pub(crate) fn united_productions(
         leading,
         placed,
     };
-    let mut made = Vec::new(alloc);
-    add_host(alloc, &mut made, &host, 0, rows.productions)?;
-    add_each(alloc, &mut made, placed)?;
-    add_host(alloc, &mut made, &host, leading, rows.abstract_productions)?;
-    add_each_abstract(alloc, &mut made, placed)?;
-    Ok(Sequence::from_vec(made))
+    add_host(alloc, made, &host, 0, rows.productions)?;
+    add_each(alloc, made, placed)?;
+    add_host(alloc, made, &host, leading, rows.abstract_productions)?;
+    add_each_abstract(alloc, made, placed)
 }
 
 // Adds productions of the host, of which the first has this number there.

@@ -1,24 +1,23 @@
 //! Which attributes has the union of a host and extensions?
 
-ghost use Rattle.std.specs.Prelude.{◌≡◌, [], IfOk, map};
+ghost use Rattle.std.specs.Prelude.{◌≡◌, ◌++◌, [], IfOk, OnOk};
 ghost use Rattle.wb_numbered_unions.specs.United as united;
 ghost use Rattle.wb_resolved.specs.Attribution.{IsAttribution};
-ghost use Rattle.wb_resolved.specs.Numbered.{signature_of};
 ghost use Rattle.wb_united_attribution.specs.Lent.{all_in, rows_in};
 ghost use Rattle.wb_united_attribution.specs.Inner.Counted.{no_counts, numbers_at};
-ghost use Rattle.wb_united_attribution.specs.Inner.Gathered.{gathered, gathered_attributes, gathered_nonterminals, gathered_occurrences, gathered_productions, names_in};
+ghost use Rattle.wb_united_attribution.specs.Inner.Filled.{AreEmpty, parts_in};
+ghost use Rattle.wb_united_attribution.specs.Inner.Gathered.{gathered, names_in};
 
-use crate::attributes::{united_attributes, united_occurrences};
-use crate::nonterminals::united_nonterminals;
+use crate::attributes::{add_united_attributes, add_united_occurrences};
+use crate::nonterminals::add_united_nonterminals;
 use crate::placed::{Counts, Placed, Spot, counts_of, numbers_of, placed_of};
-use crate::productions::united_productions;
+use crate::productions::add_united_productions;
 use crate::{Addition, Rows};
 use std::alloc::{AllocError, Global};
 use wb_base::{Bytes, Sequence, push};
 use wb_renumbered::Numbers;
 use wb_resolved::{Attribute, Attribution, AttributionParts, Nonterminal, Occurrence, Production};
 use wb_rows::signatures::signatures_of;
-use wb_values::Signatures;
 
 /// The attributes of the union of a host and extensions. The only error is want of memory.
 pub fn united_attribution(
@@ -41,10 +40,41 @@ fn united_parts(
 ) -> Result<AttributionParts, AllocError>
     ensures { IfOk result (λ made. made ≡ united.united_attribution (rows_in host.now) (all_in host.now additions.now)) }
 {
+    let mut made = Lists {
+        extensions: Vec::new(alloc),
+        nonterminals: Vec::new(alloc),
+        attributes: Vec::new(alloc),
+        occurrences: Vec::new(alloc),
+        productions: Vec::new(alloc),
+    };
+    gather(alloc, host, additions, &mut made)?;
+    parts_of(alloc, made)
+}
+
+// The lists in the making. One alone is owned while rows are added, so that a failure has one thing to drop.
+#[derive(Drop)]
+struct Lists {
+    extensions: Vec<Bytes>,
+    nonterminals: Vec<Nonterminal>,
+    attributes: Vec<Attribute>,
+    occurrences: Vec<Occurrence>,
+    productions: Vec<Production>,
+}
+
+// Adds all rows of the host and of the extensions.
+fn gather(
+    alloc: Global,
+    host: &Rows,
+    additions: &[Addition],
+    made: &mut Lists,
+) -> Result<(), AllocError>
+    requires { AreEmpty made.old }
+    ensures { OnOk result (parts_in made.new ≡ united.united_attribution (rows_in host.now) (all_in host.now additions.now)) }
+{
     let counts = counts_of(host);
     let numbers = host_numbers(&counts, additions)?;
     let placed = placed_of(alloc, &counts, additions)?;
-    parts_of(alloc, host, &numbers, &placed)
+    add_all(alloc, host, &numbers, &placed, made)
 }
 
 // The host's new numbers.
@@ -67,129 +97,46 @@ fn host_numbers(host: &Counts, additions: &[Addition]) -> Result<Numbers, AllocE
     numbers_of(host, &spot)
 }
 
-// The lists by these numbers.
-fn parts_of(
+// Adds all rows by these numbers.
+fn add_all(
     alloc: Global,
     host: &Rows,
     numbers: &Numbers,
     placed: &[Placed],
-) -> Result<AttributionParts, AllocError>
-    ensures { IfOk result (λ made. made ≡ gathered numbers.now host.now placed.now) }
+    made: &mut Lists,
+) -> Result<(), AllocError>
+    requires { AreEmpty made.old }
+    ensures { OnOk result (parts_in made.new ≡ gathered numbers.now host.now placed.now) }
 {
-    let rows = rows_of(alloc, host, numbers, placed)?;
-    let ruled = ruled_of(alloc, host, numbers, placed)?;
-    Ok(AttributionParts {
-        extensions: ruled.extensions,
-        nonterminals: rows.nonterminals,
-        attributes: rows.named.attributes,
-        occurrences: rows.named.occurrences,
-        productions: ruled.signed.productions,
-        signatures: ruled.signed.signatures,
-    })
+    add_names(alloc, &mut made.extensions, placed)?;
+    add_united_nonterminals(alloc, &mut made.nonterminals, numbers, host, placed)?;
+    add_united_attributes(&mut made.attributes, numbers, host, placed)?;
+    add_united_occurrences(alloc, &mut made.occurrences, numbers, host, placed)?;
+    add_united_productions(alloc, &mut made.productions, numbers, host, placed)
 }
 
-// Nonterminals, attributes, and where they occur.
-#[derive(Drop)]
-struct UnitedRows {
-    nonterminals: Sequence<Nonterminal>,
-    named: Named,
-}
-
-fn rows_of(
-    alloc: Global,
-    host: &Rows,
-    numbers: &Numbers,
-    placed: &[Placed],
-) -> Result<UnitedRows, AllocError>
-    ensures nonterminals { IfOk result (λ made. made.nonterminals ≡ gathered_nonterminals numbers.now host.now placed.now) }
-    ensures attributes { IfOk result (λ made. made.named.attributes ≡ gathered_attributes numbers.now host.now placed.now) }
-    ensures occurrences { IfOk result (λ made. made.named.occurrences ≡ gathered_occurrences numbers.now host.now placed.now) }
+// Adds the names of the extensions.
+fn add_names(alloc: Global, made: &mut Vec<Bytes>, placed: &[Placed]) -> Result<(), AllocError>
+    ensures { OnOk result (made.new.items ≡ made.old.items ++ names_in placed.now) }
 {
-    let nonterminals = united_nonterminals(alloc, numbers, host, placed)?;
-    let named = named_of(alloc, host, numbers, placed)?;
-    Ok(UnitedRows {
-        nonterminals,
-        named,
-    })
-}
-
-// Attributes, and where they occur.
-#[derive(Drop)]
-struct Named {
-    attributes: Sequence<Attribute>,
-    occurrences: Sequence<Occurrence>,
-}
-
-fn named_of(
-    alloc: Global,
-    host: &Rows,
-    numbers: &Numbers,
-    placed: &[Placed],
-) -> Result<Named, AllocError>
-    ensures attributes { IfOk result (λ made. made.attributes ≡ gathered_attributes numbers.now host.now placed.now) }
-    ensures occurrences { IfOk result (λ made. made.occurrences ≡ gathered_occurrences numbers.now host.now placed.now) }
-{
-    let attributes = united_attributes(alloc, numbers, host, placed)?;
-    let occurrences = united_occurrences(alloc, numbers, host, placed)?;
-    Ok(Named {
-        attributes,
-        occurrences,
-    })
-}
-
-// The names of the extensions, and productions with their signatures.
-#[derive(Drop)]
-struct Ruled {
-    extensions: Sequence<Bytes>,
-    signed: Signed,
-}
-
-fn ruled_of(
-    alloc: Global,
-    host: &Rows,
-    numbers: &Numbers,
-    placed: &[Placed],
-) -> Result<Ruled, AllocError>
-    ensures extensions { IfOk result (λ made. made.extensions ≡ names_in placed.now) }
-    ensures productions { IfOk result (λ made. made.signed.productions ≡ gathered_productions numbers.now host.now placed.now) }
-    ensures signatures { IfOk result (λ made. made.signed.signatures ≡ map (signature_of (names_in placed.now)) (gathered_productions numbers.now host.now placed.now)) }
-{
-    let extensions = names_of(alloc, placed)?;
-    let productions = united_productions(alloc, numbers, host, placed)?;
-    let signed = signed_of(alloc, extensions.as_slice(), productions)?;
-    Ok(Ruled { extensions, signed })
-}
-
-// Productions with their signatures.
-#[derive(Drop)]
-struct Signed {
-    productions: Sequence<Production>,
-    signatures: Signatures,
-}
-
-fn signed_of(
-    alloc: Global,
-    extensions: &[Bytes],
-    productions: Sequence<Production>,
-) -> Result<Signed, AllocError>
-    ensures productions { IfOk result (λ made. made.productions ≡ productions) }
-    ensures signatures { IfOk result (λ made. made.signatures ≡ map (signature_of extensions.now) productions) }
-{
-    let signatures = signatures_of(alloc, extensions, productions.as_slice())?;
-    Ok(Signed {
-        productions,
-        signatures,
-    })
-}
-
-// The names of the extensions.
-fn names_of(alloc: Global, placed: &[Placed]) -> Result<Sequence<Bytes>, AllocError>
-    ensures { IfOk result (λ made. made ≡ names_in placed.now) }
-{
-    let mut made = Vec::new(alloc);
     'placed: for extension in placed {
         let name = Bytes::from_slice(alloc, extension.addition.name)?;
-        push(&mut made, name)?;
+        push(made, name)?;
     }
-    Ok(Sequence::from_vec(made))
+    Ok(())
+}
+
+// The lists, with the signatures of the productions.
+fn parts_of(alloc: Global, made: Lists) -> Result<AttributionParts, AllocError>
+    ensures { IfOk result (λ parts. parts ≡ parts_in made) }
+{
+    let signatures = signatures_of(alloc, &made.extensions, &made.productions)?;
+    Ok(AttributionParts {
+        extensions: Sequence::from_vec(made.extensions),
+        nonterminals: Sequence::from_vec(made.nonterminals),
+        attributes: Sequence::from_vec(made.attributes),
+        occurrences: Sequence::from_vec(made.occurrences),
+        productions: Sequence::from_vec(made.productions),
+        signatures,
+    })
 }

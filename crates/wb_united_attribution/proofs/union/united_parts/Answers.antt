@@ -1,13 +1,5 @@
-use Rattle.std.proofs.Common.{◌≡◌, ◌∙◌, IfOk, subst}
-use Rattle.wb_united_attribution.specs.Inner.Gathered.{gathered}
-use Rattle.wb_united_attribution.proofs.PartLemmas.{gathered_are}
-use Rattle.wb_united_attribution.proofs.UnitedLemmas.{same_gathered}
+use Rattle.std.proofs.Common.{◌≡◌, IfOk, subst}
 use Rattle.wb_united_attribution.proofs.union.united_parts.Goals as goal
 
 pub returns : goal.returns
-returns c =
-    let host = c.args.host.now in
-    let adds = c.args.additions.now in
-    subst (λ z. IfOk c.parts_of.result (λ made. made ≡ z)) (same_gathered host adds gathered
-    c.counts_of-counts.result c.in_ok-numbers.numbers c.deref.result.now c.in_ok-placed.placed.items c.counts_of-counts.ensures
-    c.in_ok-numbers.ensures c.deref.ensures.value c.in_ok-placed.ensures ∙ gathered_are host adds) c.parts_of.ensures
+returns c = subst (λ z. IfOk c.parts_of.result (λ made. made ≡ z)) c.in_ok-gather.ensures c.parts_of.ensures

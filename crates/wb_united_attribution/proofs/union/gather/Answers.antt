@@ -1,0 +1,14 @@
+use Rattle.std.proofs.Common.{◌≡◌, ◌∙◌, OnOk, subst}
+use Rattle.wb_united_attribution.specs.Inner.Filled.{parts_in}
+use Rattle.wb_united_attribution.specs.Inner.Gathered.{gathered}
+use Rattle.wb_united_attribution.proofs.PartLemmas.{gathered_are}
+use Rattle.wb_united_attribution.proofs.UnitedLemmas.{same_gathered}
+use Rattle.wb_united_attribution.proofs.union.gather.Goals as goal
+
+pub returns : goal.returns
+returns c =
+    let host = c.args.host.now in
+    let adds = c.args.additions.now in
+    subst (λ z. OnOk c.add_all.result (parts_in c.add_all.new.made ≡ z)) (same_gathered host adds gathered c.counts_of-counts.result
+    c.in_ok-numbers.numbers c.deref.result.now c.in_ok-placed.placed.items c.counts_of-counts.ensures c.in_ok-numbers.ensures
+    c.deref.ensures.value c.in_ok-placed.ensures ∙ gathered_are host adds) c.add_all.ensures
