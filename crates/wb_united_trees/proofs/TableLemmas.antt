@@ -2,8 +2,9 @@
 use Rattle.std.proofs.Common.{◌≡◌, ◌<◌, ◌≤◌, ◌+◌, ◌-◌, ◌++◌, ◌∷◌, ◌∙◌, [], ℕ, List, Some, drop, get_or, length}
 use Rattle.std.proofs.Common.{map, slice_get, take, ap, refl, subst, sym, arith}
 use Rattle.std.specs.Prelude.{IfSome, option_map}
-use Rattle.std.proofs.lemmas.List.{length-drop, length-map, length-take-le, map-append, take_all, take_more}
-use Rattle.std.proofs.lemmas.Option.{get_or_from_slice_get, same_Some, slice_get-map, slice_get_read, slice_get_within}
+use Rattle.std.proofs.lemmas.List.{append-nil, length-drop, length-map, length-take-le, map-append, take_all, take_more}
+use Rattle.std.proofs.lemmas.Option.{get_or_from_slice_get, same_Some, slice_get-get_or, slice_get-map, slice_get_read}
+use Rattle.std.proofs.lemmas.Option.{slice_get_within}
 use Rattle.wb_beside.specs.Kept.{ExtensionView}
 use Rattle.wb_lemmas.proofs.Parts.{append_assoc}
 use Rattle.wb_lemmas.proofs.Places.{at_take, at_within}
@@ -45,6 +46,23 @@ part_next xs from k x above at =
 pub part_all : {X : Type 0} (xs : List X) (from k n : ℕ) → length xs ≡ n → n ≤ k → take (k - from) (drop from xs) ≡ drop from xs
 part_all xs from k n len past =
     let count = length-drop from xs in take_all (k - from) (drop from xs) (omega (arith, count, len, past))
+
+-- what is made of it, where nothing was read yet, and where all was
+pub none_read : {X Y : Type 0} (f : List X → List Y) (xs : List X) (from : ℕ) (old : List Y) → f [] ≡ [] →
+    old ≡ old ++ f (take (from - from) xs)
+none_read f xs from old empty =
+    let zero_is : from - from ≡ 0 = omega arith in
+    sym (ap (λ n. old ++ f (take n xs)) zero_is ∙ (ap (λ z. old ++ z) empty ∙ append-nil old))
+
+pub all_read : {X Y : Type 0} (f : List X → List Y) (xs : List X) (from k n : ℕ) (old made : List Y) → length xs ≡ n → n ≤ k →
+    made ≡ old ++ f (take (k - from) (drop from xs)) → made ≡ old ++ f (drop from xs)
+all_read f xs from k n old made len past was = was ∙ ap (λ z. old ++ f z) (part_all xs from k n len past)
+
+-- what one element more is mapped to
+pub mapped_next : {X Y : Type 0} (f : X → Y) (xs : List X) (i : ℕ) (d : X) (y : Y) (now new : List Y) → i < length xs →
+    now ≡ map f (take i xs) → y ≡ f (get_or xs i d) → new ≡ now ++ y ∷ [] → new ≡ map f (take (i + 1) xs)
+mapped_next f xs i d y now new less was is pushed =
+    pushed ∙ ((λ z. was z ++ is z ∷ []) ∙ sym (map_next f xs i (get_or xs i d) (slice_get-get_or xs i d less)))
 
 -- lists one after another, with one more
 pub all_next : {X : Type 0} (blocks : List (List X)) (block : List X) → all_of (blocks ++ block ∷ []) ≡ all_of blocks ++ block

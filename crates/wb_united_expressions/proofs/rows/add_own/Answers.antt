@@ -1,7 +1,10 @@
 use Rattle.std.proofs.Common.{◌≡◌, ◌∙◌, None, ap, sym}
 use Rattle.wb_resolved.specs.declared.terminal.Terminal.{Terminal}
-use Rattle.wb_united_expressions.proofs.AddedLemmas.{read_next}
+use Rattle.wb_united_expressions.proofs.AddedLemmas.{begun, read_all, read_next}
 use Rattle.wb_united_expressions.proofs.rows.add_own.Goals as goal
+
+pub rows-init : goal.rows-init
+rows-init c = begun None c.args.from c.args.to c.args.rows.now c.args.expressions.now.items
 
 pub rows-preserved : goal.rows-preserved
 rows-preserved c =
@@ -10,3 +13,8 @@ rows-preserved c =
     read_next None c.args.from c.args.to c.args.rows.now c.requires c.rows.number c.index-rows-number.result c.args.expressions.now.items
     c.rows.expressions.items c.push.new.list.items c.in_ok-made.made c.rows.auto.number c.rows-test.true c.index-rows-number.is
     c.rows.invariant own c.in_ok-push.ensures.ok
+
+pub returns : goal.returns
+returns c =
+    read_all None c.args.from c.args.to c.args.rows.now c.requires c.rows.number c.args.expressions.now.items
+    c.rows.expressions.items c.rows-test.false c.rows.invariant
