@@ -1,2 +1,3 @@
 pub mod HoleLemmas
 pub mod CallerLemmas
+mod ListLemmas

@@ -1,7 +1,8 @@
 //! Which rule of attributes does a report show, by names?
 
-ghost use Rattle.std.specs.Prelude.{◌≡◌, ◌++◌, ◌∷◌, [], Option, IfOk, map, option_map, slice_get};
+ghost use Rattle.std.specs.Prelude.{◌≡◌, ◌++◌, ◌∷◌, [], Option, Some, IfOk, map, option_map, slice_get};
 ghost use Rattle.wb_report.specs.declared.attribute_reason.AttributeReason.TheVariants as shown;
+ghost use Rattle.wb_report.specs.declared.shown.ShownVertex.TheVariants as shown_vertex;
 ghost use Rattle.wb_naming.specs.Declares.{name_in};
 ghost use Rattle.wb_resolved.specs.declared.production.Child.{Child as Part};
 ghost use Rattle.wb_resolved.specs.declared.production.Local.{Local as Made};
@@ -35,7 +36,7 @@ pub(crate) fn attribute_rule(
         AttributeRefusal::NoEquation {
             production,
             attribute,
-        } => Ok(Some(no_equation(alloc, resolved, *production, *attribute)?)),
+        } => no_equation(alloc, resolved, *production, *attribute),
         AttributeRefusal::NoInherited { production, vertex } => {
             no_inherited(alloc, resolved, *production, *vertex)
         }
@@ -43,21 +44,21 @@ pub(crate) fn attribute_rule(
             nonterminal,
             attribute,
             inherited,
-        } => Ok(Some(lacks_forward(alloc, resolved, *nonterminal, *attribute, *inherited)?)),
+        } => lacks_forward(alloc, resolved, *nonterminal, *attribute, *inherited),
         AttributeRefusal::Reads {
             production,
             attribute,
             inherited,
-        } => Ok(Some(reads(alloc, resolved, *production, *attribute, *inherited)?)),
+        } => reads(alloc, resolved, *production, *attribute, *inherited),
         AttributeRefusal::Cycle {
             production,
             vertices,
-        } => Ok(Some(cycle(alloc, resolved, *production, vertices.as_slice())?)),
+        } => cycle(alloc, resolved, *production, vertices.as_slice()),
         AttributeRefusal::ForwardReads {
             production,
             attribute,
             inherited,
-        } => Ok(Some(forward_reads(alloc, resolved, *production, *attribute, *inherited)?)),
+        } => forward_reads(alloc, resolved, *production, *attribute, *inherited),
         AttributeRefusal::NoMemory(_) => Ok(None),
     }
 }
@@ -68,15 +69,28 @@ fn no_equation(
     resolved: &Resolved,
     production: usize,
     attribute: usize,
-) -> Result<AttributeReason, AllocError>
-    ensures { IfOk result (λ made. made ≡ shown.NoEquation (names.production_shown resolved.now production) (names.attribute_shown resolved.now attribute)) }
+) -> Result<Option<AttributeReason>, AllocError>
+    ensures { IfOk result (λ made. made ≡ Some (shown.NoEquation (names.production_shown resolved.now production) (names.attribute_shown resolved.now attribute))) }
+{
+    let (production, attribute) = lacking(alloc, resolved, production, attribute)?;
+    Ok(Some(AttributeReason::NoEquation {
+        production,
+        attribute,
+    }))
+}
+
+// The names of a production and of the attribute that it has no equation for.
+fn lacking(
+    alloc: Global,
+    resolved: &Resolved,
+    production: usize,
+    attribute: usize,
+) -> Result<(Bytes, Bytes), AllocError>
+    ensures { IfOk result (λ made. (made.0 ≡ names.production_shown resolved.now production) × (made.1 ≡ names.attribute_shown resolved.now attribute)) }
 {
     let production = production_name(alloc, resolved, production)?;
     let attribute = attribute_name(alloc, resolved, attribute)?;
-    Ok(AttributeReason::NoEquation {
-        production,
-        attribute,
-    })
+    Ok((production, attribute))
 }
 
 // A production without an equation for an attribute of a child or local.
@@ -91,11 +105,11 @@ fn no_inherited(
     match vertex {
         Vertex::Child(place, attribute) => {
             let label = child_label(resolved, number, place)?;
-            Ok(Some(no_inherited_at(alloc, resolved, number, label, attribute)?))
+            no_inherited_at(alloc, resolved, number, label, attribute)
         }
         Vertex::Local(place, attribute) => {
             let label = local_label(alloc, resolved, number, place)?;
-            Ok(Some(no_inherited_at(alloc, resolved, number, label, attribute)?))
+            no_inherited_at(alloc, resolved, number, label, attribute)
         }
         _ => Ok(None),
     }
@@ -108,16 +122,15 @@ fn no_inherited_at(
     number: usize,
     label: Bytes,
     attribute: usize,
-) -> Result<AttributeReason, AllocError>
-    ensures { IfOk result (λ made. made ≡ shown.NoInherited (names.production_shown resolved.now number) label (names.attribute_shown resolved.now attribute)) }
+) -> Result<Option<AttributeReason>, AllocError>
+    ensures { IfOk result (λ made. made ≡ Some (shown.NoInherited (names.production_shown resolved.now number) label (names.attribute_shown resolved.now attribute))) }
 {
-    let production = production_name(alloc, resolved, number)?;
-    let attribute = attribute_name(alloc, resolved, attribute)?;
-    Ok(AttributeReason::NoInherited {
+    let (production, attribute) = lacking(alloc, resolved, number, attribute)?;
+    Ok(Some(AttributeReason::NoInherited {
         production,
         label,
         attribute,
-    })
+    }))
 }
 
 // An attribute whose flow type lacks what a forward's has.
@@ -127,17 +140,30 @@ fn lacks_forward(
     nonterminal: usize,
     attribute: usize,
     inherited: usize,
-) -> Result<AttributeReason, AllocError>
-    ensures { IfOk result (λ made. made ≡ shown.LacksForward (names.nonterminal_shown resolved.now nonterminal) (names.attribute_shown resolved.now attribute) (names.attribute_shown resolved.now inherited)) }
+) -> Result<Option<AttributeReason>, AllocError>
+    ensures { IfOk result (λ made. made ≡ Some (shown.LacksForward (names.nonterminal_shown resolved.now nonterminal) (names.attribute_shown resolved.now attribute) (names.attribute_shown resolved.now inherited))) }
 {
     let nonterminal = nonterminal_name(alloc, resolved, nonterminal)?;
-    let attribute = attribute_name(alloc, resolved, attribute)?;
-    let inherited = attribute_name(alloc, resolved, inherited)?;
-    Ok(AttributeReason::LacksForward {
+    let (attribute, inherited) = attribute_pair(alloc, resolved, attribute, inherited)?;
+    Ok(Some(AttributeReason::LacksForward {
         nonterminal,
         attribute,
         inherited,
-    })
+    }))
+}
+
+// The names of an attribute and of one that it needs.
+fn attribute_pair(
+    alloc: Global,
+    resolved: &Resolved,
+    attribute: usize,
+    inherited: usize,
+) -> Result<(Bytes, Bytes), AllocError>
+    ensures { IfOk result (λ made. (made.0 ≡ names.attribute_shown resolved.now attribute) × (made.1 ≡ names.attribute_shown resolved.now inherited)) }
+{
+    let attribute = attribute_name(alloc, resolved, attribute)?;
+    let inherited = attribute_name(alloc, resolved, inherited)?;
+    Ok((attribute, inherited))
 }
 
 // An attribute, or the forwarded tree, that needs what isn't in its flow type.
@@ -147,17 +173,16 @@ fn reads(
     production: usize,
     attribute: Option<usize>,
     inherited: usize,
-) -> Result<AttributeReason, AllocError>
-    ensures { IfOk result (λ made. made ≡ shown.Reads (names.production_shown resolved.now production) (option_map (names.attribute_shown resolved.now) attribute) (names.attribute_shown resolved.now inherited)) }
+) -> Result<Option<AttributeReason>, AllocError>
+    ensures { IfOk result (λ made. made ≡ Some (shown.Reads (names.production_shown resolved.now production) (option_map (names.attribute_shown resolved.now) attribute) (names.attribute_shown resolved.now inherited))) }
 {
-    let production = production_name(alloc, resolved, production)?;
     let attribute = reader_name(alloc, resolved, attribute)?;
-    let inherited = attribute_name(alloc, resolved, inherited)?;
-    Ok(AttributeReason::Reads {
+    let (production, inherited) = lacking(alloc, resolved, production, inherited)?;
+    Ok(Some(AttributeReason::Reads {
         production,
         attribute,
         inherited,
-    })
+    }))
 }
 
 // The name of an attribute, where it is one.
@@ -180,15 +205,15 @@ fn cycle(
     resolved: &Resolved,
     number: usize,
     vertices: &[Vertex],
-) -> Result<AttributeReason, AllocError>
-    ensures { IfOk result (λ made. made ≡ shown.Cycle (names.production_shown resolved.now number) (map (spec.vertex_shown resolved.now (slice_get resolved.now.attributes.productions number)) vertices.now)) }
+) -> Result<Option<AttributeReason>, AllocError>
+    ensures { IfOk result (λ made. made ≡ Some (shown.Cycle (names.production_shown resolved.now number) (map (spec.vertex_shown resolved.now (slice_get resolved.now.attributes.productions number)) vertices.now))) }
 {
     let vertices = vertices_of(alloc, resolved, number, vertices)?;
     let production = production_name(alloc, resolved, number)?;
-    Ok(AttributeReason::Cycle {
+    Ok(Some(AttributeReason::Cycle {
         production,
         vertices,
-    })
+    }))
 }
 
 // The equation for an attribute of the forwarded tree that needs too much.
@@ -198,17 +223,16 @@ fn forward_reads(
     production: usize,
     attribute: usize,
     inherited: usize,
-) -> Result<AttributeReason, AllocError>
-    ensures { IfOk result (λ made. made ≡ shown.ForwardReads (names.production_shown resolved.now production) (names.attribute_shown resolved.now attribute) (names.attribute_shown resolved.now inherited)) }
+) -> Result<Option<AttributeReason>, AllocError>
+    ensures { IfOk result (λ made. made ≡ Some (shown.ForwardReads (names.production_shown resolved.now production) (names.attribute_shown resolved.now attribute) (names.attribute_shown resolved.now inherited))) }
 {
     let production = production_name(alloc, resolved, production)?;
-    let attribute = attribute_name(alloc, resolved, attribute)?;
-    let inherited = attribute_name(alloc, resolved, inherited)?;
-    Ok(AttributeReason::ForwardReads {
+    let (attribute, inherited) = attribute_pair(alloc, resolved, attribute, inherited)?;
+    Ok(Some(AttributeReason::ForwardReads {
         production,
         attribute,
         inherited,
-    })
+    }))
 }
 
 // Vertices of a production.
@@ -241,13 +265,11 @@ fn vertex_of(
         Vertex::Top(attribute) => Ok(ShownVertex::Top(attribute_name(alloc, resolved, attribute)?)),
         Vertex::Child(place, attribute) => {
             let label = child_label(resolved, number, place)?;
-            let attribute = attribute_name(alloc, resolved, attribute)?;
-            Ok(ShownVertex::Label { label, attribute })
+            attribute_at(alloc, resolved, label, attribute)
         }
         Vertex::Local(place, attribute) => {
             let label = local_label(alloc, resolved, number, place)?;
-            let attribute = attribute_name(alloc, resolved, attribute)?;
-            Ok(ShownVertex::Label { label, attribute })
+            attribute_at(alloc, resolved, label, attribute)
         }
         Vertex::Forward(attribute) => {
             Ok(ShownVertex::Forward(attribute_name(alloc, resolved, attribute)?))
@@ -257,6 +279,19 @@ fn vertex_of(
         }
         Vertex::ForwardTree => Ok(ShownVertex::ForwardTree),
     }
+}
+
+// An attribute of what has this label.
+fn attribute_at(
+    alloc: Global,
+    resolved: &Resolved,
+    label: Bytes,
+    attribute: usize,
+) -> Result<ShownVertex, AllocError>
+    ensures { IfOk result (λ made. made ≡ shown_vertex.Label label (names.attribute_shown resolved.now attribute)) }
+{
+    let attribute = attribute_name(alloc, resolved, attribute)?;
+    Ok(ShownVertex::Label { label, attribute })
 }
 
 // The label of a child of a production, as its file writes it.

@@ -7,7 +7,7 @@ ghost use Rattle.wb_report.specs.declared.extension_reason.ExtensionReason.TheVa
 ghost use Rattle.wb_shown.specs.Extensions as spec;
 ghost use Rattle.wb_shown.specs.Names as names;
 
-use crate::grammar::{Pair, conflict_of, symbol_names};
+use crate::grammar::{Pair, conflict_of, shown_pair, symbol_names};
 use crate::holes::{lookahead_name, reduction_name};
 use crate::names::{production_name, terminal_name};
 use std::alloc::{AllocError, Global};
@@ -42,14 +42,21 @@ pub(crate) fn extension_rule(
             marker,
             other,
             text,
-        } => Ok(Some(marker_clash(alloc, resolved, *marker, *other, text)?)),
+        } => {
+            let pair = Pair {
+                left: *marker,
+                right: *other,
+                text,
+            };
+            marker_clash(alloc, resolved, &pair)
+        }
         DeterminismRefusal::Lookahead {
             prefix,
             item,
             terminal,
-        } => Ok(Some(lookahead(alloc, resolved, prefix, *item, *terminal)?)),
+        } => lookahead(alloc, resolved, prefix, *item, *terminal),
         DeterminismRefusal::Envelope { prefix, fault } => {
-            Ok(Some(envelope_rule(alloc, resolved, prefix, fault)?))
+            envelope_rule(alloc, resolved, prefix, fault)
         }
         _ => Ok(None),
     }
@@ -59,19 +66,16 @@ pub(crate) fn extension_rule(
 fn marker_clash(
     alloc: Global,
     resolved: &Resolved,
-    marker: usize,
-    other: usize,
-    text: &Bytes,
-) -> Result<ExtensionReason, AllocError>
-    ensures { IfOk result (λ made. made ≡ shown.MarkerClash (names.terminal_shown resolved.now marker) (names.terminal_shown resolved.now other) text.now) }
+    pair: &Pair,
+) -> Result<Option<ExtensionReason>, AllocError>
+    ensures { IfOk result (λ made. made ≡ Some (shown.MarkerClash (names.terminal_shown resolved.now pair.now.left) (names.terminal_shown resolved.now pair.now.right) pair.now.text.now)) }
 {
-    let marker = terminal_name(alloc, resolved, marker)?;
-    let terminal = terminal_name(alloc, resolved, other)?;
-    Ok(ExtensionReason::MarkerClash {
-        marker,
-        terminal,
-        text: text.copy()?,
-    })
+    let shown = shown_pair(alloc, resolved, pair)?;
+    Ok(Some(ExtensionReason::MarkerClash {
+        marker: shown.left,
+        terminal: shown.right,
+        text: shown.text,
+    }))
 }
 
 // A lookahead that is added to an item of the host.
@@ -81,17 +85,30 @@ fn lookahead(
     prefix: &Sequence<Symbol>,
     item: Item,
     terminal: usize,
-) -> Result<ExtensionReason, AllocError>
-    ensures { IfOk result (λ made. made ≡ shown.Lookahead (map (names.symbol_shown resolved.now) prefix.now) (spec.item_shown resolved.now item) (names.lookahead_shown resolved.now terminal)) }
+) -> Result<Option<ExtensionReason>, AllocError>
+    ensures { IfOk result (λ made. made ≡ Some (shown.Lookahead (map (names.symbol_shown resolved.now) prefix.now) (spec.item_shown resolved.now item) (names.lookahead_shown resolved.now terminal))) }
 {
-    let terminal = lookahead_name(alloc, resolved, terminal)?;
-    let item = item_of(alloc, resolved, item)?;
+    let (item, terminal) = item_lookahead(alloc, resolved, item, terminal)?;
     let prefix = symbol_names(alloc, resolved, prefix.as_slice())?;
-    Ok(ExtensionReason::Lookahead {
+    Ok(Some(ExtensionReason::Lookahead {
         prefix,
         item,
         terminal,
-    })
+    }))
+}
+
+// An item, and a lookahead.
+fn item_lookahead(
+    alloc: Global,
+    resolved: &Resolved,
+    item: Item,
+    terminal: usize,
+) -> Result<(ShownItem, Bytes), AllocError>
+    ensures { IfOk result (λ made. (made.0 ≡ spec.item_shown resolved.now item) × (made.1 ≡ names.lookahead_shown resolved.now terminal)) }
+{
+    let terminal = lookahead_name(alloc, resolved, terminal)?;
+    let item = item_of(alloc, resolved, item)?;
+    Ok((item, terminal))
 }
 
 // An item.
@@ -111,8 +128,8 @@ fn envelope_rule(
     resolved: &Resolved,
     prefix: &Sequence<Symbol>,
     fault: &EnvelopeFault,
-) -> Result<ExtensionReason, AllocError>
-    ensures { IfOk result (λ made. made ≡ spec.envelope_reason resolved.now (map (names.symbol_shown resolved.now) prefix.now) fault.now) }
+) -> Result<Option<ExtensionReason>, AllocError>
+    ensures { IfOk result (λ made. made ≡ Some (spec.envelope_reason resolved.now (map (names.symbol_shown resolved.now) prefix.now) fault.now)) }
 {
     match fault {
         EnvelopeFault::Lookahead { item, terminal } => {
@@ -144,17 +161,16 @@ fn new_lookahead(
     prefix: &Sequence<Symbol>,
     item: Item,
     terminal: usize,
-) -> Result<ExtensionReason, AllocError>
-    ensures { IfOk result (λ made. made ≡ shown.NewLookahead (map (names.symbol_shown resolved.now) prefix.now) (spec.item_shown resolved.now item) (names.lookahead_shown resolved.now terminal)) }
+) -> Result<Option<ExtensionReason>, AllocError>
+    ensures { IfOk result (λ made. made ≡ Some (shown.NewLookahead (map (names.symbol_shown resolved.now) prefix.now) (spec.item_shown resolved.now item) (names.lookahead_shown resolved.now terminal))) }
 {
-    let terminal = lookahead_name(alloc, resolved, terminal)?;
-    let item = item_of(alloc, resolved, item)?;
+    let (item, terminal) = item_lookahead(alloc, resolved, item, terminal)?;
     let prefix = symbol_names(alloc, resolved, prefix.as_slice())?;
-    Ok(ExtensionReason::NewLookahead {
+    Ok(Some(ExtensionReason::NewLookahead {
         prefix,
         item,
         terminal,
-    })
+    }))
 }
 
 // A conflict at a new kernel.
@@ -163,11 +179,11 @@ fn new_conflict(
     resolved: &Resolved,
     prefix: &Sequence<Symbol>,
     conflict: ShownConflict,
-) -> Result<ExtensionReason, AllocError>
-    ensures { IfOk result (λ made. made ≡ shown.NewConflict (map (names.symbol_shown resolved.now) prefix.now) conflict) }
+) -> Result<Option<ExtensionReason>, AllocError>
+    ensures { IfOk result (λ made. made ≡ Some (shown.NewConflict (map (names.symbol_shown resolved.now) prefix.now) conflict)) }
 {
     let prefix = symbol_names(alloc, resolved, prefix.as_slice())?;
-    Ok(ExtensionReason::NewConflict { prefix, conflict })
+    Ok(Some(ExtensionReason::NewConflict { prefix, conflict }))
 }
 
 // Two terminals that match a text at a new kernel.
@@ -176,16 +192,15 @@ fn new_clash(
     resolved: &Resolved,
     prefix: &Sequence<Symbol>,
     pair: &Pair,
-) -> Result<ExtensionReason, AllocError>
-    ensures { IfOk result (λ made. made ≡ shown.NewClash (map (names.symbol_shown resolved.now) prefix.now) (names.terminal_shown resolved.now pair.now.left) (names.terminal_shown resolved.now pair.now.right) pair.now.text.now) }
+) -> Result<Option<ExtensionReason>, AllocError>
+    ensures { IfOk result (λ made. made ≡ Some (shown.NewClash (map (names.symbol_shown resolved.now) prefix.now) (names.terminal_shown resolved.now pair.now.left) (names.terminal_shown resolved.now pair.now.right) pair.now.text.now)) }
 {
+    let shown = shown_pair(alloc, resolved, pair)?;
     let prefix = symbol_names(alloc, resolved, prefix.as_slice())?;
-    let left = terminal_name(alloc, resolved, pair.left)?;
-    let right = terminal_name(alloc, resolved, pair.right)?;
-    Ok(ExtensionReason::NewClash {
+    Ok(Some(ExtensionReason::NewClash {
         prefix,
-        left,
-        right,
-        text: pair.text.copy()?,
-    })
+        left: shown.left,
+        right: shown.right,
+        text: shown.text,
+    }))
 }

@@ -28,9 +28,7 @@ pub(crate) fn grammar_rule(
             let names = terminal_names(alloc, resolved, terminals.as_slice())?;
             Ok(Some(GrammarReason::PreferenceCycle(names)))
         }
-        DeterminismRefusal::NotReduced(reason) => {
-            Ok(Some(reduced_rule(alloc, resolved, reason)?))
-        }
+        DeterminismRefusal::NotReduced(reason) => reduced_rule(alloc, resolved, reason),
         DeterminismRefusal::UnitCycle(cycle) => {
             let names = nonterminal_names(alloc, resolved, cycle.as_slice())?;
             Ok(Some(GrammarReason::UnitCycle(names)))
@@ -46,7 +44,7 @@ pub(crate) fn grammar_rule(
             second,
         } => {
             let conflict = conflict_of(alloc, resolved, *terminal, *first, *second)?;
-            Ok(Some(conflict_after(alloc, resolved, prefix, conflict)?))
+            conflict_after(alloc, resolved, prefix, conflict)
         }
         DeterminismRefusal::Clash {
             prefix,
@@ -59,7 +57,7 @@ pub(crate) fn grammar_rule(
                 right: *right,
                 text,
             };
-            Ok(Some(clash_after(alloc, resolved, prefix, &pair)?))
+            clash_after(alloc, resolved, prefix, &pair)
         }
         _ => Ok(None),
     }
@@ -70,16 +68,18 @@ fn reduced_rule(
     alloc: Global,
     resolved: &Resolved,
     reason: &Reason,
-) -> Result<GrammarReason, AllocError>
-    ensures { IfOk result (λ shown. shown ≡ spec.reduced_reason resolved.now reason.now) }
+) -> Result<Option<GrammarReason>, AllocError>
+    ensures { IfOk result (λ shown. shown ≡ Some (spec.reduced_reason resolved.now reason.now)) }
 {
     match reason {
-        Reason::Unreachable(number) => Ok(GrammarReason::Unreachable(nonterminal_name(
-            alloc, resolved, *number,
-        )?)),
-        Reason::Unproductive(number) => Ok(GrammarReason::Unproductive(nonterminal_name(
-            alloc, resolved, *number,
-        )?)),
+        Reason::Unreachable(number) => {
+            let name = nonterminal_name(alloc, resolved, *number)?;
+            Ok(Some(GrammarReason::Unreachable(name)))
+        }
+        Reason::Unproductive(number) => {
+            let name = nonterminal_name(alloc, resolved, *number)?;
+            Ok(Some(GrammarReason::Unproductive(name)))
+        }
     }
 }
 
@@ -93,14 +93,27 @@ pub(crate) fn conflict_of(
 ) -> Result<ShownConflict, AllocError>
     ensures { IfOk result (λ shown. shown ≡ record { terminal = names.lookahead_shown resolved.now terminal; first = spec.action_shown resolved.now first; second = spec.action_shown resolved.now second }) }
 {
-    let first = action_of(alloc, resolved, first)?;
-    let second = action_of(alloc, resolved, second)?;
     let terminal = lookahead_name(alloc, resolved, terminal)?;
+    let (first, second) = actions_of(alloc, resolved, first, second)?;
     Ok(ShownConflict {
         terminal,
         first,
         second,
     })
+}
+
+// Both actions.
+fn actions_of(
+    alloc: Global,
+    resolved: &Resolved,
+    first: Action,
+    second: Action,
+) -> Result<(ShownAction, ShownAction), AllocError>
+    ensures { IfOk result (λ made. (made.0 ≡ spec.action_shown resolved.now first) × (made.1 ≡ spec.action_shown resolved.now second)) }
+{
+    let first = action_of(alloc, resolved, first)?;
+    let second = action_of(alloc, resolved, second)?;
+    Ok((first, second))
 }
 
 // An action.
@@ -123,11 +136,11 @@ fn conflict_after(
     resolved: &Resolved,
     prefix: &Sequence<Symbol>,
     conflict: ShownConflict,
-) -> Result<GrammarReason, AllocError>
-    ensures { IfOk result (λ made. made ≡ shown.Conflict (map (names.symbol_shown resolved.now) prefix.now) conflict) }
+) -> Result<Option<GrammarReason>, AllocError>
+    ensures { IfOk result (λ made. made ≡ Some (shown.Conflict (map (names.symbol_shown resolved.now) prefix.now) conflict)) }
 {
     let prefix = symbol_names(alloc, resolved, prefix.as_slice())?;
-    Ok(GrammarReason::Conflict { prefix, conflict })
+    Ok(Some(GrammarReason::Conflict { prefix, conflict }))
 }
 
 // Two terminals that match a text.
@@ -144,18 +157,51 @@ fn clash_after(
     resolved: &Resolved,
     prefix: &Sequence<Symbol>,
     pair: &Pair,
-) -> Result<GrammarReason, AllocError>
-    ensures { IfOk result (λ made. made ≡ shown.Clash (map (names.symbol_shown resolved.now) prefix.now) (names.terminal_shown resolved.now pair.now.left) (names.terminal_shown resolved.now pair.now.right) pair.now.text.now) }
+) -> Result<Option<GrammarReason>, AllocError>
+    ensures { IfOk result (λ made. made ≡ Some (shown.Clash (map (names.symbol_shown resolved.now) prefix.now) (names.terminal_shown resolved.now pair.now.left) (names.terminal_shown resolved.now pair.now.right) pair.now.text.now)) }
 {
+    let shown = shown_pair(alloc, resolved, pair)?;
     let prefix = symbol_names(alloc, resolved, prefix.as_slice())?;
+    Ok(Some(GrammarReason::Clash {
+        prefix,
+        left: shown.left,
+        right: shown.right,
+        text: shown.text,
+    }))
+}
+
+// The names of two terminals, and the text that both match.
+#[derive(Drop)]
+pub(crate) struct ShownPair {
+    pub(crate) left: Bytes,
+    pub(crate) right: Bytes,
+    pub(crate) text: Bytes,
+}
+
+// Two terminals that match a text, by names.
+pub(crate) fn shown_pair(
+    alloc: Global,
+    resolved: &Resolved,
+    pair: &Pair,
+) -> Result<ShownPair, AllocError>
+    ensures { IfOk result (λ made. made ≡ record { left = names.terminal_shown resolved.now pair.now.left; right = names.terminal_shown resolved.now pair.now.right; text = pair.now.text.now }) }
+{
+    let text = pair.text.copy()?;
+    let (left, right) = terminal_pair(alloc, resolved, pair)?;
+    Ok(ShownPair { left, right, text })
+}
+
+// The names of both.
+fn terminal_pair(
+    alloc: Global,
+    resolved: &Resolved,
+    pair: &Pair,
+) -> Result<(Bytes, Bytes), AllocError>
+    ensures { IfOk result (λ made. (made.0 ≡ names.terminal_shown resolved.now pair.now.left) × (made.1 ≡ names.terminal_shown resolved.now pair.now.right)) }
+{
     let left = terminal_name(alloc, resolved, pair.left)?;
     let right = terminal_name(alloc, resolved, pair.right)?;
-    Ok(GrammarReason::Clash {
-        prefix,
-        left,
-        right,
-        text: pair.text.copy()?,
-    })
+    Ok((left, right))
 }
 
 // The names of terminals.
