@@ -1,5 +1,6 @@
 -- A run that stops at a later file has its cause: the files before it pass, and the count of this one rose since the run began.
-use Rattle.std.proofs.Common.{◌≡◌, ◌≤◌, inl, inr, ℕ, List, [], ◌∷◌, Option, Some, None, Result, Ok, Err, IfOk, IfErr, arith, subst, ◌∙◌}
+use Rattle.std.proofs.Common.{◌≡◌, ◌≤◌, inl, inr, ℕ, List, [], ◌∷◌, Option, Some, None, Result, Ok, Err, IfOk, IfErr}
+use Rattle.std.proofs.Common.{arith, refl, subst, ◌∙◌}
 use Rattle.wb_world.specs.Cause.{Rose}
 use Rattle.wb_world.specs.Shelf.{Files}
 use Rattle.wb_hosts.specs.Contents.{IsHostText}
@@ -38,6 +39,10 @@ some_certified operations known host r is = some_known known host (IsHostText op
 pub some_well_defined : (operations : List OperationSignature) (known : Option Files) (host : List ℕ) (r : ResolvedParts)
     → KnownFile known host (λ contents. IsWellDefinedText operations contents r) → Passes operations known (well_defined_host host)
 some_well_defined operations known host r is = some_known known host (IsWellDefinedText operations) r is
+
+-- where nothing was read, all is kept
+pub goes_on_here : (now : Outside) → GoesOn now now
+goes_on_here now = record { files = refl; absences = λ name. omega arith; faults = λ name. omega arith }
 
 -- what is kept twice is kept
 pub goes_on_twice : (before between now : Outside) → GoesOn before between → GoesOn between now → GoesOn before now

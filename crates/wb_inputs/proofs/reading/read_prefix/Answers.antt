@@ -4,6 +4,8 @@ use Rattle.std.proofs.lemmas.Grind.{common_steps}
 use Rattle.wb_inputs.specs.Files.{KnownFile}
 use Rattle.wb_inputs.specs.Inner.Contents.{KnownPrefix}
 use Rattle.wb_inputs.proofs.Pieces.{prefix_end, prefix_limit}
+use Rattle.wb_inputs.specs.Stopped.{outside}
+use Rattle.wb_inputs.proofs.CauseLemmas.{goes_on_here, goes_on_twice}
 use Rattle.wb_inputs.proofs.reading.read_prefix.Goals as goal
 
 pub returns-then-branch-eq0-clause-ok : goal.returns-then-branch-eq0-clause-ok
@@ -23,3 +25,21 @@ returns-then-branch-eq0-clause-ok g c =
 pub returns-clause-ok : goal.returns-clause-ok
 returns-clause-ok g c = prefix_limit (g.S.Shelf.files c.args.shelf.now) c.args.name.now c.loop-bytes.bytes.items
     (c.args.limit + 1) c.loop-bytes.invariant.part (grind (arith, common_steps)) (omega arith)
+
+pub returns-in_err-piece-clause-goes_on : goal.returns-in_err-piece-clause-goes_on
+returns-in_err-piece-clause-goes_on g c =
+    goes_on_here (outside (g.S.Shelf.files c.args.shelf.now) (g.S.Shelf.absences c.args.shelf.now) (g.S.Shelf.faults c.args.shelf.now))
+
+pub returns-in_err-read_piece-clause-goes_on : goal.returns-in_err-read_piece-clause-goes_on
+returns-in_err-read_piece-clause-goes_on g c =
+    goes_on_twice (outside (g.S.Shelf.files c.args.shelf.now) (g.S.Shelf.absences c.args.shelf.now) (g.S.Shelf.faults c.args.shelf.now))
+    (outside (g.S.Shelf.files c.loop-bytes.shelf) (g.S.Shelf.absences c.loop-bytes.shelf) (g.S.Shelf.faults c.loop-bytes.shelf))
+    (outside (g.S.Shelf.files c.read_piece.new.shelf) (g.S.Shelf.absences c.read_piece.new.shelf) (g.S.Shelf.faults c.read_piece.new.shelf))
+    c.loop-bytes.invariant.goes_on c.read_piece.ensures.goes_on
+
+pub returns-then-branch-eq0-clause-goes_on : goal.returns-then-branch-eq0-clause-goes_on
+returns-then-branch-eq0-clause-goes_on g c =
+    goes_on_twice (outside (g.S.Shelf.files c.args.shelf.now) (g.S.Shelf.absences c.args.shelf.now) (g.S.Shelf.faults c.args.shelf.now))
+    (outside (g.S.Shelf.files c.loop-bytes.shelf) (g.S.Shelf.absences c.loop-bytes.shelf) (g.S.Shelf.faults c.loop-bytes.shelf))
+    (outside (g.S.Shelf.files c.read_piece.new.shelf) (g.S.Shelf.absences c.read_piece.new.shelf) (g.S.Shelf.faults c.read_piece.new.shelf))
+    c.loop-bytes.invariant.goes_on c.read_piece.ensures.goes_on

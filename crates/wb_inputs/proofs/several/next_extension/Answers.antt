@@ -6,6 +6,8 @@ use Rattle.wb_inputs.specs.SeveralChecks.{IsNextText}
 use Rattle.wb_inputs.specs.Inner.Several.{IsNextRefusal, RefusedNext}
 use Rattle.wb_inputs.proofs.HostLemmas.{read_is}
 use Rattle.wb_inputs.proofs.SeveralLemmas.{refused_next}
+use Rattle.wb_inputs.specs.Stopped.{outside}
+use Rattle.wb_inputs.proofs.CauseLemmas.{goes_on_here}
 use Rattle.wb_inputs.proofs.several.next_extension.Goals as goal
 
 pub returns-in-Ok-clause-ok : goal.returns-in-Ok-clause-ok
@@ -29,3 +31,7 @@ returns-in_ok-refused_next-in-Err-clause-refused g c =
     subst (λ (file : List ℕ). RefusedNext file c.in-Err.refusal answer.status answer.report.items) word
     c.in_ok-refused_next-in-Err.ensures in
     refused_next operations known host before c.args.file.now c.in-Err.refusal answer.status answer.report.items cause shown
+
+pub returns-in_err-word-clause-goes_on : goal.returns-in_err-word-clause-goes_on
+returns-in_err-word-clause-goes_on g c =
+    goes_on_here (outside (g.S.Shelf.files c.args.shelf.now) (g.S.Shelf.absences c.args.shelf.now) (g.S.Shelf.faults c.args.shelf.now))

@@ -11,7 +11,7 @@ use Rattle.wb_inputs.specs.SeveralChecks.{IsNext, RefusesNext}
 use Rattle.wb_inputs.specs.ExtensionChecks.{AreApart}
 use Rattle.wb_inputs.specs.Inner.Several.{IsApartFrom, IsReached}
 use Rattle.wb_inputs.specs.Stopped.{outside, Stopped}
-use Rattle.wb_inputs.proofs.CauseLemmas.{goes_on_twice, on_err, stops_since, ok_of, err_of}
+use Rattle.wb_inputs.proofs.CauseLemmas.{err_of, goes_on_twice, ok_of, on_err, stops_since}
 use Rattle.wb_inputs.proofs.WordLemmas.{texts_from}
 use Rattle.wb_inputs.proofs.SeveralLemmas.{apart_more, reached_on, refused_here, stopped_here, values_more}
 use Rattle.wb_inputs.proofs.several.read_extensions.Goals as goal
@@ -114,3 +114,19 @@ files-preserved g c =
       reached = subst (λ (list : List ExtensionView). IsReached operations before host.resolved files (c.files.at + 1) (all_resolved list))
           (sym c.in_ok-push-in-Ok.ensures.ok) reached_all;
     }
+
+pub returns-in_err-extension-clause-goes_on : goal.returns-in_err-extension-clause-goes_on
+returns-in_err-extension-clause-goes_on g c =
+    goes_on_twice (outside (g.S.Shelf.files c.args.shelf.now) (g.S.Shelf.absences c.args.shelf.now) (g.S.Shelf.faults c.args.shelf.now))
+    (outside (g.S.Shelf.files c.files.shelf) (g.S.Shelf.absences c.files.shelf) (g.S.Shelf.faults c.files.shelf))
+    (outside (g.S.Shelf.files c.next_extension.new.shelf) (g.S.Shelf.absences c.next_extension.new.shelf)
+    (g.S.Shelf.faults c.next_extension.new.shelf))
+    c.files.invariant.goes_on c.next_extension.ensures.goes_on
+
+pub returns-in-Err-clause-goes_on : goal.returns-in-Err-clause-goes_on
+returns-in-Err-clause-goes_on g c =
+    goes_on_twice (outside (g.S.Shelf.files c.args.shelf.now) (g.S.Shelf.absences c.args.shelf.now) (g.S.Shelf.faults c.args.shelf.now))
+    (outside (g.S.Shelf.files c.files.shelf) (g.S.Shelf.absences c.files.shelf) (g.S.Shelf.faults c.files.shelf))
+    (outside (g.S.Shelf.files c.next_extension.new.shelf) (g.S.Shelf.absences c.next_extension.new.shelf)
+    (g.S.Shelf.faults c.next_extension.new.shelf))
+    c.files.invariant.goes_on c.next_extension.ensures.goes_on
