@@ -1,5 +1,5 @@
 -- What is answered of a text's source is the report of its host and extensions, and a run that stops at its file has its cause.
-use Rattle.std.proofs.Common.{◌≡◌, inl, inr, ℕ, List, Option, subst}
+use Rattle.std.proofs.Common.{◌≡◌, inl, inr, ℕ, List, Option}
 use Rattle.wb_operations.specs.Operations.{Operations, OperationSignature}
 use Rattle.wb_report.specs.Lines.{report_of}
 use Rattle.wb_report.specs.declared.outcome.Outcome.TheVariants as o

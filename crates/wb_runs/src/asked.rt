@@ -3,11 +3,10 @@
 //! The text's value is found by `wb_united_values`, and the text that a number makes by `wb_generated_texts`.
 
 ghost use Rattle.std.specs.Prelude.{◌≡◌, ◌≤◌, IfOk, IfErr, ℕ, List, None, Some, length};
-ghost use Rattle.wb_generated_texts.specs.Generated.{IsGeneratedText};
+ghost use Rattle.wb_composition.specs.Composed.{IsComposed};
 ghost use Rattle.wb_operations.specs.Kept.{IsKept};
 ghost use Rattle.wb_united_trees.specs.Unions.{all_resolved};
 ghost use Rattle.wb_inputs.specs.Checks.{Check};
-ghost use Rattle.wb_inputs.specs.ExtensionChecks.{AreApart};
 ghost use Rattle.wb_inputs.specs.Stopped.{outside, Stopped, GoesOn};
 ghost use Rattle.wb_inputs.specs.Texts.{IsText, IsTooLongText, ReadText};
 ghost use Rattle.wb_runs.specs.GenerateReport.{MadeReport, MadeTextReport};
@@ -19,14 +18,14 @@ use std::alloc::{AllocError, Global};
 use wb_base::FILE_LIMIT;
 use wb_beside::CertifiedExtension;
 use wb_certify::CertifiedHost;
-use wb_composition::compose;
+use wb_composition::Composed;
 use wb_generate::Generated;
 use wb_generated_texts::generated_text;
 use wb_inputs::{Answer, Contents, ReadFailure, Status, read_file, reported};
 use wb_operations::{Meaning, OperationRefusal, OperationTable};
 use wb_report::Outcome;
 use wb_resolved::Attribution;
-use wb_united_values::text_value;
+use wb_united_values::{Question, text_value};
 use wb_values::Value;
 use wb_world::Shelf;
 
@@ -50,9 +49,11 @@ pub(crate) fn file_answer<S: Shelf, M: Meaning>(
     file: &str,
     steps: u64,
     asked: &Asked<'_>,
+    composed: &Composed,
     operations: &OperationTable<M>,
 ) -> Result<Answer, ReadFailure>
     requires asked { IsAsked operations.now.signatures asked.now }
+    requires composed { IsComposed asked.now.host.now asked.now.extensions.now composed.now.language.language composed.now.withdrawn.items }
     requires kept { IsKept operations.now.signatures operations.now.built_in operations.now.runs.items M.meaning
         (λ run vs. ⟦<Box<dyn Fn(&[Value]) -> Result<Value, OperationRefusal>> as Fn(&[Value]) -> Result<Value, OperationRefusal>>⟧.pre run vs)
         (λ run vs r. ⟦<Box<dyn Fn(&[Value]) -> Result<Value, OperationRefusal>> as Fn(&[Value]) -> Result<Value, OperationRefusal>>⟧.post run vs r) }
@@ -65,7 +66,7 @@ pub(crate) fn file_answer<S: Shelf, M: Meaning>(
         (outside (S.files shelf.new) (S.absences shelf.new) (S.faults shelf.new)) }
 {
     let contents = read_file(alloc, shelf, file, FILE_LIMIT)?;
-    Ok(contents_answer(alloc, contents, steps, asked, operations)?)
+    Ok(contents_answer(alloc, contents, steps, asked, composed, operations)?)
 }
 
 // The answer for what was read of the file.
@@ -74,16 +75,20 @@ fn contents_answer<M: Meaning>(
     contents: Contents,
     steps: u64,
     asked: &Asked<'_>,
+    composed: &Composed,
     operations: &OperationTable<M>,
 ) -> Result<Answer, AllocError>
     requires asked { IsAsked operations.now.signatures asked.now }
+    requires composed { IsComposed asked.now.host.now asked.now.extensions.now composed.now.language.language composed.now.withdrawn.items }
     requires kept { IsKept operations.now.signatures operations.now.built_in operations.now.runs.items M.meaning
         (λ run vs. ⟦<Box<dyn Fn(&[Value]) -> Result<Value, OperationRefusal>> as Fn(&[Value]) -> Result<Value, OperationRefusal>>⟧.pre run vs)
         (λ run vs r. ⟦<Box<dyn Fn(&[Value]) -> Result<Value, OperationRefusal>> as Fn(&[Value]) -> Result<Value, OperationRefusal>>⟧.post run vs r) }
     ensures { IfOk result (λ answer. ReadText (λ (text : List ℕ). TextValueReport (record { signatures = operations.now.signatures; meaning = M.meaning }) asked.now.host.now.resolved (all_resolved asked.now.extensions.now) asked.now.name.now steps (shown_with asked.now.name.now 0 None) text) contents answer.status answer.report.items) }
 {
     match contents {
-        Contents::Whole(bytes) => text_answer(alloc, &bytes, steps, None, asked, operations),
+        Contents::Whole(bytes) => {
+            text_answer(alloc, &bytes, steps, None, asked, composed, operations)
+        },
         Contents::TooLong => reported(alloc, Status::TextTooLong, Outcome::TextTooLong),
     }
 }
@@ -95,27 +100,25 @@ fn text_answer<M: Meaning>(
     steps: u64,
     leaves: Option<u64>,
     asked: &Asked<'_>,
+    composed: &Composed,
     operations: &OperationTable<M>,
 ) -> Result<Answer, AllocError>
     requires asked { IsAsked operations.now.signatures asked.now }
+    requires composed { IsComposed asked.now.host.now asked.now.extensions.now composed.now.language.language composed.now.withdrawn.items }
     requires kept { IsKept operations.now.signatures operations.now.built_in operations.now.runs.items M.meaning
         (λ run vs. ⟦<Box<dyn Fn(&[Value]) -> Result<Value, OperationRefusal>> as Fn(&[Value]) -> Result<Value, OperationRefusal>>⟧.pre run vs)
         (λ run vs r. ⟦<Box<dyn Fn(&[Value]) -> Result<Value, OperationRefusal>> as Fn(&[Value]) -> Result<Value, OperationRefusal>>⟧.post run vs r) }
     ensures { IfOk result (λ answer. TextValueReport (record { signatures = operations.now.signatures; meaning = M.meaning }) asked.now.host.now.resolved (all_resolved asked.now.extensions.now) asked.now.name.now steps (shown_with asked.now.name.now (length text.now) leaves) text.now answer.status answer.report.items) }
 {
-    // As in `answer_source`, what is composed is dropped by a call.
-    let held = [compose(alloc, asked.host, asked.extensions)?];
-    let value = text_value(
-        alloc,
-        asked.host,
-        asked.extensions,
-        &held[0],
-        asked.attributes,
-        asked.attribute,
-        text,
+    let question = Question {
+        host: asked.host,
+        extensions: asked.extensions,
+        composed,
+        attributes: asked.attributes,
+        attribute: asked.attribute,
         steps,
-        operations,
-    )?;
+    };
+    let value = text_value(alloc, &question, text, operations)?;
     shown_text(alloc, value, asked.name, steps, text.len(), leaves)
 }
 
@@ -125,21 +128,24 @@ pub(crate) fn made_answer<M: Meaning>(
     number: u64,
     size: u64,
     asked: &Asked<'_>,
+    composed: &Composed,
     operations: &OperationTable<M>,
 ) -> Result<Answer, AllocError>
     requires asked { IsAsked operations.now.signatures asked.now }
+    requires composed { IsComposed asked.now.host.now asked.now.extensions.now composed.now.language.language composed.now.withdrawn.items }
     requires size { size ≤ 100000 }
     requires kept { IsKept operations.now.signatures operations.now.built_in operations.now.runs.items M.meaning
         (λ run vs. ⟦<Box<dyn Fn(&[Value]) -> Result<Value, OperationRefusal>> as Fn(&[Value]) -> Result<Value, OperationRefusal>>⟧.pre run vs)
         (λ run vs r. ⟦<Box<dyn Fn(&[Value]) -> Result<Value, OperationRefusal>> as Fn(&[Value]) -> Result<Value, OperationRefusal>>⟧.post run vs r) }
     ensures { IfOk result (λ answer. MadeReport (record { signatures = operations.now.signatures; meaning = M.meaning }) asked.now.host.now.resolved (all_resolved asked.now.extensions.now) asked.now.name.now number size answer.status answer.report.items) }
 {
-    match made(alloc, number, size, asked)? {
+    match generated_text(alloc, asked.host, asked.extensions, composed, number, size)? {
         Generated::Text { text, leaves } => made_text(
             alloc,
             text.as_slice(),
             leaves,
             asked,
+            composed,
             operations,
         ),
         Generated::NoSentence(least) => reported(
@@ -150,26 +156,17 @@ pub(crate) fn made_answer<M: Meaning>(
     }
 }
 
-// What the number makes in the union of a host and extensions.
-fn made(alloc: Global, number: u64, size: u64, asked: &Asked<'_>) -> Result<Generated, AllocError>
-    requires apart { AreApart asked.now.host.now asked.now.extensions.now }
-    requires size { size ≤ 100000 }
-    ensures { IfOk result (IsGeneratedText asked.now.host.now.resolved asked.now.host.now.operations (all_resolved asked.now.extensions.now) number size) }
-{
-    // As in `answer_source`, what is composed is dropped by a call.
-    let held = [compose(alloc, asked.host, asked.extensions)?];
-    generated_text(alloc, asked.host, asked.extensions, &held[0], number, size)
-}
-
 // The answer for a text that was made.
 fn made_text<M: Meaning>(
     alloc: Global,
     text: &[u8],
     leaves: u64,
     asked: &Asked<'_>,
+    composed: &Composed,
     operations: &OperationTable<M>,
 ) -> Result<Answer, AllocError>
     requires asked { IsAsked operations.now.signatures asked.now }
+    requires composed { IsComposed asked.now.host.now asked.now.extensions.now composed.now.language.language composed.now.withdrawn.items }
     requires kept { IsKept operations.now.signatures operations.now.built_in operations.now.runs.items M.meaning
         (λ run vs. ⟦<Box<dyn Fn(&[Value]) -> Result<Value, OperationRefusal>> as Fn(&[Value]) -> Result<Value, OperationRefusal>>⟧.pre run vs)
         (λ run vs r. ⟦<Box<dyn Fn(&[Value]) -> Result<Value, OperationRefusal>> as Fn(&[Value]) -> Result<Value, OperationRefusal>>⟧.post run vs r) }
@@ -178,5 +175,13 @@ fn made_text<M: Meaning>(
     if text.len() > FILE_LIMIT {
         return reported(alloc, Status::TextTooLong, Outcome::TextTooLong);
     }
-    text_answer(alloc, text, STEPS, Some(leaves), asked, operations)
+    text_answer(
+        alloc,
+        text,
+        STEPS,
+        Some(leaves),
+        asked,
+        composed,
+        operations,
+    )
 }

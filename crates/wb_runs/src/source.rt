@@ -4,6 +4,7 @@
 
 ghost use Rattle.std.specs.Prelude.{◌≡◌, IfOk, IfErr};
 ghost use Rattle.wb_certified_unions.specs.United.{IsOfUnion};
+ghost use Rattle.wb_composition.specs.Composed.{IsComposed};
 ghost use Rattle.wb_operations.specs.Kept.{IsKept};
 ghost use Rattle.wb_report.specs.Lines.{report_of};
 ghost use Rattle.wb_united_trees.specs.Unions.{all_resolved};
@@ -21,10 +22,10 @@ use wb_base::Bytes;
 use wb_beside::CertifiedExtension;
 use wb_certify::CertifiedHost;
 use wb_composed_attributes::composed_attributes;
-use wb_composition::compose;
+use wb_composition::{Composed, compose};
 use wb_inputs::{
     Answer, MOST_EXTENSIONS, ReadFailure, Status, certified_of, read_extensions, refused_host,
-    reported,
+    release_attributes, release_extensions, release_host, reported,
 };
 use wb_operations::{Meaning, OperationRefusal, OperationTable};
 use wb_report::Outcome;
@@ -32,6 +33,9 @@ use wb_resolved::Attribution;
 use wb_united_values::root_attribute;
 use wb_values::Value;
 use wb_world::Shelf;
+
+/// Lets go of what was composed. As for `wb_inputs::release_host`, no crate above drops it.
+pub fn release_composed(_: Composed) {}
 
 // Where a text comes from.
 #[derive(Clone, Copy)]
@@ -69,11 +73,11 @@ pub(crate) fn answer_source<S: Shelf, M: Meaning>(
     let file = Bytes::from_slice(alloc, host.as_bytes())?;
     match certified_of(alloc, shelf, host, operations)? {
         Ok(certified) => {
-            // An array lets go of what it holds by a call, so that the drop of a host is proved once and part by part.
-            let held = [certified];
-            files_answer(
-                alloc, shelf, source, attribute, &held[0], extensions, operations,
-            )
+            let answer = files_answer(
+                alloc, shelf, source, attribute, &certified, extensions, operations,
+            );
+            release_host(certified);
+            answer
         }
         Err(refusal) => Ok(refused_host(alloc, file, refusal)?),
     }
@@ -104,7 +108,7 @@ fn files_answer<S: Shelf, M: Meaning>(
 {
     match read_extensions(alloc, shelf, host, files, operations)? {
         Ok(extensions) => {
-            union_answer(
+            let answer = union_answer(
                 alloc,
                 shelf,
                 source,
@@ -112,7 +116,9 @@ fn files_answer<S: Shelf, M: Meaning>(
                 host,
                 &extensions,
                 operations,
-            )
+            );
+            release_extensions(extensions);
+            answer
         }
         Err(answer) => Ok(answer),
     }
@@ -141,11 +147,19 @@ fn union_answer<S: Shelf, M: Meaning>(
     ensures goes_on { GoesOn (outside (S.files shelf.old) (S.absences shelf.old) (S.faults shelf.old))
         (outside (S.files shelf.new) (S.absences shelf.new) (S.faults shelf.new)) }
 {
-    // As in `answer_source`, the attributes are dropped by a call.
-    let held = [composed_attributes(alloc, host, extensions)?];
-    attribute_answer(
-        alloc, shelf, source, attribute, host, extensions, &held[0], operations,
-    )
+    let attributes = composed_attributes(alloc, host, extensions)?;
+    let answer = attribute_answer(
+        alloc,
+        shelf,
+        source,
+        attribute,
+        host,
+        extensions,
+        &attributes,
+        operations,
+    );
+    release_attributes(attributes);
+    answer
 }
 
 // The answer for an attribute among those of the union.
@@ -220,8 +234,40 @@ fn source_answer<S: Shelf, M: Meaning>(
     ensures goes_on { GoesOn (outside (S.files shelf.old) (S.absences shelf.old) (S.faults shelf.old))
         (outside (S.files shelf.new) (S.absences shelf.new) (S.faults shelf.new)) }
 {
+    let composed = compose(alloc, asked.host, asked.extensions)?;
+    let answer = composed_answer(alloc, shelf, source, asked, &composed, operations);
+    release_composed(composed);
+    answer
+}
+
+// The answer for an attribute that may be asked at the start, in what is composed.
+fn composed_answer<S: Shelf, M: Meaning>(
+    alloc: Global,
+    shelf: &mut S,
+    source: Source<'_>,
+    asked: &Asked<'_>,
+    composed: &Composed,
+    operations: &OperationTable<M>,
+) -> Result<Answer, ReadFailure>
+    requires asked { IsAsked operations.now.signatures asked.now }
+    requires composed { IsComposed asked.now.host.now asked.now.extensions.now composed.now.language.language composed.now.withdrawn.items }
+    requires size { HasFewLeaves source }
+    requires kept { IsKept operations.now.signatures operations.now.built_in operations.now.runs.items M.meaning
+        (λ run vs. ⟦<Box<dyn Fn(&[Value]) -> Result<Value, OperationRefusal>> as Fn(&[Value]) -> Result<Value, OperationRefusal>>⟧.pre run vs)
+        (λ run vs r. ⟦<Box<dyn Fn(&[Value]) -> Result<Value, OperationRefusal>> as Fn(&[Value]) -> Result<Value, OperationRefusal>>⟧.post run vs r) }
+    ensures ok { IfOk result (λ answer. SourceRest (record { signatures = operations.now.signatures; meaning = M.meaning }) (S.files shelf.old) source.entry asked.now answer.status answer.report.items) }
+    ensures stopped { IfErr result (Stopped (outside (S.files shelf.old) (S.absences shelf.old) (S.faults shelf.old))
+        (outside (S.files shelf.new) (S.absences shelf.new) (S.faults shelf.new))
+        (λ P. SourceText P source.entry)) }
+    ensures goes_on { GoesOn (outside (S.files shelf.old) (S.absences shelf.old) (S.faults shelf.old))
+        (outside (S.files shelf.new) (S.absences shelf.new) (S.faults shelf.new)) }
+{
     match source {
-        Source::File { file, steps } => file_answer(alloc, shelf, file, steps, asked, operations),
-        Source::Number { number, size } => Ok(made_answer(alloc, number, size, asked, operations)?),
+        Source::File { file, steps } => {
+            file_answer(alloc, shelf, file, steps, asked, composed, operations)
+        }
+        Source::Number { number, size } => Ok(made_answer(
+            alloc, number, size, asked, composed, operations,
+        )?),
     }
 }

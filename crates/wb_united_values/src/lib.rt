@@ -5,11 +5,13 @@
 #![tactic(auto)]
 
 mod laws;
+mod question;
 mod root;
 mod text;
 mod value;
 
 pub use laws::{one_answer_law, one_root_law};
+pub use question::Question;
 pub use root::root_attribute;
 pub use text::text_value;
 pub use value::TextValue;

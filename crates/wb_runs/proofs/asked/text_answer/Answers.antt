@@ -1,5 +1,5 @@
 -- What comes of a text is shown.
-use Rattle.std.proofs.Common.{ℕ, List, length}
+use Rattle.std.proofs.Common.{length}
 use Rattle.wb_operations.specs.Operations.{Operations}
 use Rattle.wb_united_trees.specs.Unions.{all_resolved}
 use Rattle.wb_united_values.specs.Values.{IsTextValue}
@@ -8,6 +8,15 @@ use Rattle.wb_inputs.proofs.CauseLemmas.{ok_of, on_ok}
 use Rattle.wb_runs.specs.Inner.Sources.{shown_with}
 use Rattle.wb_runs.specs.Values.{ShownTextValue, TextValueReport}
 use Rattle.wb_runs.proofs.asked.text_answer.Goals as goal
+
+pub text_value-requires-clause-question : goal.text_value-requires-clause-question
+text_value-requires-clause-question g c =
+    record {
+      composed = c.requires.composed;
+      attributes = c.requires.asked.attributes;
+      same = c.requires.asked.same;
+      asked = (c.args.asked.now.name.now, c.requires.asked.is_root);
+    }
 
 pub returns : goal.returns
 returns g c =

@@ -1,5 +1,5 @@
 -- Extensions are read after their host, and their report comes after that host's checks.
-use Rattle.std.proofs.Common.{rules, ◌≡◌, ◌≤◌, ◌∙◌, ℕ, List, [], Option, IfOk, length, subst, arith}
+use Rattle.std.proofs.Common.{rules, ◌≡◌, ◌≤◌, ◌∙◌, ℕ, List, Option, IfOk, length, subst, arith}
 use Rattle.wb_hosts.specs.Contents.{IsHostRefusal}
 use Rattle.wb_operations.specs.Operations.{Operations}
 use Rattle.wb_words.specs.Words.{texts}
@@ -10,7 +10,7 @@ use Rattle.wb_inputs.specs.Reads.{StopsComposed, StopsThen}
 use Rattle.wb_inputs.specs.SeveralChecks.{EachChecks, SeveralChecks}
 use Rattle.wb_inputs.specs.Stopped.{outside, Stopped}
 use Rattle.wb_inputs.specs.declared.answer.Answer.{Answer}
-use Rattle.wb_inputs.proofs.CauseLemmas.{on_ok, on_err}
+use Rattle.wb_inputs.proofs.CauseLemmas.{goes_on_here, goes_on_twice, on_err, on_ok}
 use Rattle.wb_inputs.proofs.ComposeLemmas.{several_certified, several_refused, composed_later}
 use Rattle.wb_inputs.proofs.WordLemmas.{few_texts}
 use Rattle.wb_runs.specs.Inner.Sources.{SourceChecks, SourceEnd}
@@ -27,14 +27,17 @@ returns-in-Ok-clause-ok g c =
     let few : length extensions ≤ 64 = few_texts c.args.extensions.now 64 (omega arith) in
     let is : IsHostFile operations.signatures files c.args.host.now r = search rules in
     let IsAnswered : Option Files → Answer → Type 0 = λ known answer.
-    EachChecks operations.signatures known r extensions (SourceChecks operations known name c.args.source r) answer.status answer.report.items in
-    let report : IfOk c.files_answer.result (IsAnswered files) =
-    subst (λ (known : Option Files). IfOk c.files_answer.result (IsAnswered known)) c.certified_of.ensures.goes_on.files
-    c.files_answer.ensures.ok in
-    on_ok c.files_answer.result (IsAnswered files)
-    (λ answer. SeveralChecks operations.signatures files c.args.host.now extensions (SourceChecks operations files name c.args.source) answer.status
+    EachChecks operations.signatures known r extensions (SourceChecks operations known name c.args.source r) answer.status
+    answer.report.items in
+    let report : IfOk c.files_answer-answer.result (IsAnswered files) =
+    subst (λ (known : Option Files). IfOk c.files_answer-answer.result (IsAnswered known)) c.certified_of.ensures.goes_on.files
+    c.files_answer-answer.ensures.ok in
+    on_ok c.files_answer-answer.result (IsAnswered files)
+    (λ answer. SeveralChecks operations.signatures files c.args.host.now extensions
+    (SourceChecks operations files name c.args.source) answer.status
     answer.report.items)
-    (λ answer shown. several_certified operations.signatures files c.args.host.now extensions (SourceChecks operations files name c.args.source) r
+    (λ answer shown. several_certified operations.signatures files c.args.host.now extensions
+    (SourceChecks operations files name c.args.source) r
     answer.status answer.report.items few is shown)
     report
 
@@ -50,16 +53,16 @@ returns-in-Ok-clause-stopped g c =
     let before = outside files (g.S.Shelf.absences c.args.shelf.now) (g.S.Shelf.faults c.args.shelf.now) in
     let between = outside (g.S.Shelf.files c.certified_of.new.shelf) (g.S.Shelf.absences c.certified_of.new.shelf)
     (g.S.Shelf.faults c.certified_of.new.shelf) in
-    let now = outside (g.S.Shelf.files c.files_answer.new.shelf) (g.S.Shelf.absences c.files_answer.new.shelf)
-    (g.S.Shelf.faults c.files_answer.new.shelf) in
+    let now = outside (g.S.Shelf.files c.files_answer-answer.new.shelf) (g.S.Shelf.absences c.files_answer-answer.new.shelf)
+    (g.S.Shelf.faults c.files_answer-answer.new.shelf) in
     let few : length extensions ≤ 64 = few_texts c.args.extensions.now 64 (omega arith) in
     let is : IsHostFile operations files host r = search rules in
-    on_err c.files_answer.result
+    on_err c.files_answer-answer.result
     (Stopped between now (λ P. StopsThen operations between.files r P extensions (SourceEnd operations name source P r)))
     (Stopped before now (λ P. StopsComposed operations files host extensions P (SourceEnd operations name source P)))
     (λ failure stopped. composed_later operations before between now host extensions r (λ P. SourceEnd operations name source P) failure
     (λ P Q weaker values. end_weaker operations name source P Q r values weaker) few is c.certified_of.ensures.goes_on stopped)
-    c.files_answer.ensures.stopped
+    c.files_answer-answer.ensures.stopped
 
 pub returns-in_ok-refused_host-in-Err-clause-ok : goal.returns-in_ok-refused_host-in-Err-clause-ok
 returns-in_ok-refused_host-in-Err-clause-ok g c =
@@ -68,10 +71,24 @@ returns-in_ok-refused_host-in-Err-clause-ok g c =
     let extensions = texts c.args.extensions.now in
     let answer = c.in_ok-refused_host-in-Err.field-0 in
     let few : length extensions ≤ 64 = few_texts c.args.extensions.now 64 (omega arith) in
-    let cause : KnownFile known c.args.host.now (λ contents. IsHostRefusal operations.signatures contents c.in-Err.refusal) = search rules in
+    let cause : KnownFile known c.args.host.now (λ contents. IsHostRefusal operations.signatures contents c.in-Err.refusal) =
+    search rules in
     let word : c.in_ok-file.file ≡ c.args.host.now = c.in_ok-file.ensures.ok ∙ c.as_bytes.ensures.value in
     let shown : RefusedHost c.args.host.now c.in-Err.refusal answer.status answer.report.items =
     subst (λ (file : List ℕ). RefusedHost file c.in-Err.refusal answer.status answer.report.items) word
     c.in_ok-refused_host-in-Err.ensures in
     several_refused operations.signatures known c.args.host.now extensions
     (SourceChecks operations known c.args.attribute.now c.args.source) c.in-Err.refusal answer.status answer.report.items few cause shown
+
+pub returns-in_err-file-clause-goes_on : goal.returns-in_err-file-clause-goes_on
+returns-in_err-file-clause-goes_on g c =
+    goes_on_here (outside (g.S.Shelf.files c.args.shelf.now) (g.S.Shelf.absences c.args.shelf.now) (g.S.Shelf.faults c.args.shelf.now))
+
+pub returns-in-Ok-clause-goes_on : goal.returns-in-Ok-clause-goes_on
+returns-in-Ok-clause-goes_on g c =
+    goes_on_twice (outside (g.S.Shelf.files c.args.shelf.now) (g.S.Shelf.absences c.args.shelf.now) (g.S.Shelf.faults c.args.shelf.now))
+    (outside (g.S.Shelf.files c.certified_of.new.shelf) (g.S.Shelf.absences c.certified_of.new.shelf)
+    (g.S.Shelf.faults c.certified_of.new.shelf))
+    (outside (g.S.Shelf.files c.files_answer-answer.new.shelf) (g.S.Shelf.absences c.files_answer-answer.new.shelf)
+    (g.S.Shelf.faults c.files_answer-answer.new.shelf))
+    c.certified_of.ensures.goes_on c.files_answer-answer.ensures.goes_on

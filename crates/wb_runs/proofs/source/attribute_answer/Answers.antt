@@ -1,11 +1,11 @@
 -- An attribute was found that may be asked at the start, and what is behind it comes after it.
-use Rattle.std.proofs.Common.{◌≡◌, ℕ, List, Option, Some, IfOk, MatchOption, subst}
+use Rattle.std.proofs.Common.{◌≡◌, ℕ, List, Option, Some, MatchOption, subst}
 use Rattle.wb_operations.specs.Operations.{Operations, OperationSignature}
 use Rattle.wb_resolved.specs.declared.resolved.ResolvedParts.{ResolvedParts}
 use Rattle.wb_united_trees.specs.Unions.{all_resolved}
 use Rattle.wb_united_values.specs.Roots.{HasNoRootAttribute, IsRootAttribute}
 use Rattle.wb_inputs.specs.Stopped.{outside, Stopped}
-use Rattle.wb_inputs.proofs.CauseLemmas.{ok_of, on_ok, on_err, weaker_stop}
+use Rattle.wb_inputs.proofs.CauseLemmas.{goes_on_here, ok_of, on_err, on_ok, weaker_stop}
 use Rattle.wb_runs.specs.Inner.Sources.{SourceChecks, SourceEnd, SourceRest, SourceText}
 use Rattle.wb_runs.specs.declared.asked.Asked.{Asked}
 use Rattle.wb_runs.proofs.SourceLemmas.{found_checks, found_end}
@@ -89,3 +89,15 @@ returns-in-Some-clause-stopped g c =
     (λ failure. weaker_stop before now (λ P. SourceText P c.args.source)
     (λ P. SourceEnd signatures c.args.name.now c.args.source P host.resolved values) failure
     (λ P. found_end signatures c.args.name.now c.args.source host.resolved values attribute P is_root)) c.source_answer.ensures.stopped
+
+pub returns-in_err-attribute-clause-goes_on : goal.returns-in_err-attribute-clause-goes_on
+returns-in_err-attribute-clause-goes_on g c =
+    goes_on_here (outside (g.S.Shelf.files c.args.shelf.now) (g.S.Shelf.absences c.args.shelf.now) (g.S.Shelf.faults c.args.shelf.now))
+
+pub returns-in_err-unknown-in-None-clause-goes_on : goal.returns-in_err-unknown-in-None-clause-goes_on
+returns-in_err-unknown-in-None-clause-goes_on g c =
+    goes_on_here (outside (g.S.Shelf.files c.args.shelf.now) (g.S.Shelf.absences c.args.shelf.now) (g.S.Shelf.faults c.args.shelf.now))
+
+pub returns-in_ok-unknown-in-None-clause-goes_on : goal.returns-in_ok-unknown-in-None-clause-goes_on
+returns-in_ok-unknown-in-None-clause-goes_on g c =
+    goes_on_here (outside (g.S.Shelf.files c.args.shelf.now) (g.S.Shelf.absences c.args.shelf.now) (g.S.Shelf.faults c.args.shelf.now))

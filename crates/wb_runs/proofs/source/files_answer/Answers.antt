@@ -1,5 +1,5 @@
 -- A text comes after the extensions, and its report comes after theirs.
-use Rattle.std.proofs.Common.{ℕ, List, [], Option, IfErr, IfOk, inr, subst}
+use Rattle.std.proofs.Common.{List, [], Option, IfErr, IfOk, inr, subst}
 use Rattle.wb_beside.specs.Kept.{ExtensionView}
 use Rattle.wb_operations.specs.Operations.{Operations}
 use Rattle.wb_united_trees.specs.Unions.{all_resolved}
@@ -9,7 +9,7 @@ use Rattle.wb_inputs.specs.Reads.{StopsThen}
 use Rattle.wb_inputs.specs.SeveralChecks.{AreEach, EachChecks}
 use Rattle.wb_inputs.specs.Stopped.{outside, Stopped}
 use Rattle.wb_inputs.specs.declared.answer.Answer.{Answer}
-use Rattle.wb_inputs.proofs.CauseLemmas.{ok_of, on_err, on_ok}
+use Rattle.wb_inputs.proofs.CauseLemmas.{goes_on_twice, ok_of, on_err, on_ok}
 use Rattle.wb_inputs.proofs.ComposeLemmas.{reason_since}
 use Rattle.wb_runs.specs.Inner.Sources.{SourceChecks, SourceEnd}
 use Rattle.wb_runs.proofs.SourceLemmas.{end_weaker}
@@ -30,12 +30,13 @@ returns-in-Ok-clause-ok g c =
     c.in_ok-extensions.ensures.ok in
     let IsAnswered : List ExtensionView → Option Files → Answer → Type 0 = λ list told answer.
     SourceChecks operations told name c.args.source host.resolved (all_resolved list) answer.status answer.report.items in
-    let listed : IfOk c.union_answer.result (IsAnswered es between) =
-    subst (λ (list : List ExtensionView). IfOk c.union_answer.result (IsAnswered list between)) c.deref.ensures.value
-    c.union_answer.ensures.ok in
-    let report : IfOk c.union_answer.result (IsAnswered es known) =
-    subst (λ (told : Option Files). IfOk c.union_answer.result (IsAnswered es told)) c.read_extensions.ensures.goes_on.files listed in
-    on_ok c.union_answer.result (IsAnswered es known)
+    let listed : IfOk c.union_answer-answer.result (IsAnswered es between) =
+    subst (λ (list : List ExtensionView). IfOk c.union_answer-answer.result (IsAnswered list between)) c.deref.ensures.value
+    c.union_answer-answer.ensures.ok in
+    let report : IfOk c.union_answer-answer.result (IsAnswered es known) =
+    subst (λ (told : Option Files). IfOk c.union_answer-answer.result
+    (IsAnswered es told)) c.read_extensions.ensures.goes_on.files listed in
+    on_ok c.union_answer-answer.result (IsAnswered es known)
     (λ answer. EachChecks operations.signatures known host.resolved files (SourceChecks operations known name c.args.source host.resolved)
     answer.status answer.report.items)
     (λ answer shown. inr (all_resolved es, each, shown)) report
@@ -45,8 +46,8 @@ returns-in-Ok-clause-stopped g c =
     let before = outside (g.S.Shelf.files c.args.shelf.now) (g.S.Shelf.absences c.args.shelf.now) (g.S.Shelf.faults c.args.shelf.now) in
     let between = outside (g.S.Shelf.files c.read_extensions.new.shelf) (g.S.Shelf.absences c.read_extensions.new.shelf)
     (g.S.Shelf.faults c.read_extensions.new.shelf) in
-    let now = outside (g.S.Shelf.files c.union_answer.new.shelf) (g.S.Shelf.absences c.union_answer.new.shelf)
-    (g.S.Shelf.faults c.union_answer.new.shelf) in
+    let now = outside (g.S.Shelf.files c.union_answer-answer.new.shelf) (g.S.Shelf.absences c.union_answer-answer.new.shelf)
+    (g.S.Shelf.faults c.union_answer-answer.new.shelf) in
     let signatures = c.args.operations.now.signatures in
     let host = c.args.host.now in
     let files = texts c.args.files.now in
@@ -56,14 +57,23 @@ returns-in-Ok-clause-stopped g c =
     let each : AreEach signatures before.files host.resolved files [] (all_resolved es) =
     ok_of c.in_ok-extensions.field-0 c.in-Ok.extensions
     (λ list. AreEach signatures before.files host.resolved files [] (all_resolved list.items)) c.in-Ok.is c.in_ok-extensions.ensures.ok in
-    let listed : IfErr c.union_answer.result (Stopped between now
+    let listed : IfErr c.union_answer-answer.result (Stopped between now
     (λ P. SourceEnd signatures name source P host.resolved (all_resolved es))) =
-    subst (λ (list : List ExtensionView). IfErr c.union_answer.result (Stopped between now
-    (λ P. SourceEnd signatures name source P host.resolved (all_resolved list)))) c.deref.ensures.value c.union_answer.ensures.stopped in
-    on_err c.union_answer.result (Stopped between now (λ P. SourceEnd signatures name source P host.resolved (all_resolved es)))
+    subst (λ (list : List ExtensionView). IfErr c.union_answer-answer.result (Stopped between now
+    (λ P. SourceEnd signatures name source P host.resolved (all_resolved list)))) c.deref.ensures.value c.union_answer-answer.ensures.stopped in
+    on_err c.union_answer-answer.result (Stopped between now (λ P. SourceEnd signatures name source P host.resolved (all_resolved es)))
     (Stopped before now (λ P. StopsThen signatures before.files host.resolved P files (SourceEnd signatures name source P host.resolved)))
     (λ failure. reason_since before between now (λ P. SourceEnd signatures name source P host.resolved (all_resolved es))
     (λ P. StopsThen signatures before.files host.resolved P files (SourceEnd signatures name source P host.resolved)) failure
     c.read_extensions.ensures.goes_on
     (λ P Q weaker stops. inr (all_resolved es, each, end_weaker signatures name source P Q host.resolved (all_resolved es) weaker stops)))
     listed
+
+pub returns-in-Ok-clause-goes_on : goal.returns-in-Ok-clause-goes_on
+returns-in-Ok-clause-goes_on g c =
+    goes_on_twice (outside (g.S.Shelf.files c.args.shelf.now) (g.S.Shelf.absences c.args.shelf.now) (g.S.Shelf.faults c.args.shelf.now))
+    (outside (g.S.Shelf.files c.read_extensions.new.shelf) (g.S.Shelf.absences c.read_extensions.new.shelf)
+    (g.S.Shelf.faults c.read_extensions.new.shelf))
+    (outside (g.S.Shelf.files c.union_answer-answer.new.shelf) (g.S.Shelf.absences c.union_answer-answer.new.shelf)
+    (g.S.Shelf.faults c.union_answer-answer.new.shelf))
+    c.read_extensions.ensures.goes_on c.union_answer-answer.ensures.goes_on
