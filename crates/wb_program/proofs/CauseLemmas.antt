@@ -1,5 +1,5 @@
 -- A run that stops at a later file has its cause: the files before it pass, and the count of this one rose since the run began.
-use Rattle.std.proofs.Common.{◌≡◌, inl, inr, ℕ, List, [], ◌∷◌, Option, refl}
+use Rattle.std.proofs.Common.{◌≡◌, inl, ℕ, List, [], ◌∷◌, Option, refl}
 use Rattle.wb_world.specs.Shelf.{Files}
 use Rattle.wb_hosts.specs.Contents.{IsHostText}
 use Rattle.wb_hosts.specs.WellDefined.{IsWellDefinedText}

@@ -1,5 +1,5 @@
 -- The report of extensions comes after the checks of their host, and a run that stops at one of them, or at a text after them, has its cause.
-use Rattle.std.proofs.Common.{◌≢◌, inl, inr, ℕ, List, [], ◌∷◌, Option, refl}
+use Rattle.std.proofs.Common.{◌≢◌, inr, ℕ, List, [], ◌∷◌, Option, refl}
 use Rattle.wb_operations.specs.Operations.{OperationSignature, Operations}
 use Rattle.wb_words.specs.Asked as a
 use Rattle.wb_world.specs.Shelf.{Files}

@@ -23,7 +23,7 @@ use wb_certify::CertifiedHost;
 use wb_extension_files::{FileRefusal, extension_of};
 use wb_inputs::{
     Answer, Contents, MOST_EXTENSIONS, ReadFailure, Status, certified_of, read_file,
-    refused_extension, refused_host, reported,
+    refused_extension, refused_host, release_extension, release_host, reported,
 };
 use wb_operations::{Meaning, OperationTable};
 use wb_report::{Done, Outcome, Refusal, SpecReason};
@@ -50,9 +50,9 @@ pub(crate) fn answer_certify<S: Shelf, M: Meaning>(
     let file = Bytes::from_slice(alloc, host.as_bytes())?;
     match certified_of(alloc, shelf, host, operations)? {
         Ok(certified) => {
-            // As in `check`, the host is dropped by a call.
-            let held = [certified];
-            answer_extensions(alloc, shelf, &held[0], extensions, operations)
+            let answer = answer_extensions(alloc, shelf, &certified, extensions, operations);
+            release_host(certified);
+            answer
         }
         Err(refusal) => Ok(refused_host(alloc, file, refusal)?),
     }
@@ -163,9 +163,9 @@ fn extension_in<M: Meaning>(
 fn extension_name(alloc: Global, extension: CertifiedExtension) -> Result<Bytes, AllocError>
     ensures { IfOk result (IsOneExtension extension.resolved) }
 {
-    // An array lets go of what it holds by a call, so that the drop of an extension is proved once and part by part.
-    let held = [extension];
-    Bytes::from_slice(alloc, held[0].name())
+    let name = Bytes::from_slice(alloc, extension.name());
+    release_extension(extension);
+    name
 }
 
 // The answer for a host and extensions of these names that are certified.

@@ -11,7 +11,7 @@ ghost use Rattle.wb_program.specs.CheckReport.{CheckReport};
 use std::alloc::{AllocError, Global};
 use wb_base::{Bytes, Sequence};
 use wb_certify::CertifiedHost;
-use wb_inputs::{Answer, ReadFailure, Status, certified_of, refused_host, reported};
+use wb_inputs::{Answer, ReadFailure, Status, certified_of, refused_host, release_host, reported};
 use wb_operations::{Meaning, OperationTable};
 use wb_report::{Done, Outcome};
 use wb_world::Shelf;
@@ -41,9 +41,9 @@ fn certified_answer(alloc: Global, host: CertifiedHost) -> Result<Answer, AllocE
     ensures status { IfOk result (λ answer. answer.status ≡ Status.Done) }
     ensures report { IfOk result (λ answer. answer.report.items ≡ report_of (Outcome.Done (Done.Certified host.resolved.host []))) }
 {
-    // An array lets go of what it holds by a call, so that the drop of a host is proved once and part by part.
-    let held = [host];
-    name_answer(alloc, held[0].name())
+    let answer = name_answer(alloc, host.name());
+    release_host(host);
+    answer
 }
 
 // The answer for a certified host of this name.

@@ -22,10 +22,11 @@ use wb_certify::CertifiedHost;
 use wb_composition::{Composed, compose};
 use wb_inputs::{
     Answer, MOST_EXTENSIONS, ReadFailure, Status, certified_of, read_extensions, refused_host,
-    reported,
+    release_extensions, release_host, reported,
 };
 use wb_operations::{Meaning, OperationTable};
 use wb_report::{Done, Outcome};
+use wb_runs::release_composed;
 use wb_united_trees::withdrawn_names;
 use wb_world::Shelf;
 
@@ -49,9 +50,9 @@ pub(crate) fn answer_compose<S: Shelf, M: Meaning>(
     let file = Bytes::from_slice(alloc, host.as_bytes())?;
     match certified_of(alloc, shelf, host, operations)? {
         Ok(certified) => {
-            // As in `check`, the host is dropped by a call.
-            let held = [certified];
-            compose_files(alloc, shelf, &held[0], extensions, operations)
+            let answer = compose_files(alloc, shelf, &certified, extensions, operations);
+            release_host(certified);
+            answer
         }
         Err(refusal) => Ok(refused_host(alloc, file, refusal)?),
     }
@@ -74,7 +75,11 @@ fn compose_files<S: Shelf, M: Meaning>(
         (outside (S.files shelf.new) (S.absences shelf.new) (S.faults shelf.new)) }
 {
     match read_extensions(alloc, shelf, host, files, operations)? {
-        Ok(extensions) => Ok(answer_composed(alloc, host, &extensions)?),
+        Ok(extensions) => {
+            let answer = answer_composed(alloc, host, &extensions);
+            release_extensions(extensions);
+            Ok(answer?)
+        }
         Err(answer) => Ok(answer),
     }
 }
@@ -88,9 +93,10 @@ fn answer_composed(
     requires { AreApart host.now extensions.now }
     ensures { IfOk result (λ answer. Ends Status.Done (ComposedLines host.now.operations host.now.resolved (all_resolved extensions.now)) answer.status answer.report.items) }
 {
-    // As in `check`, what is composed is dropped by a call.
-    let held = [compose(alloc, host, extensions)?];
-    composed_lines(alloc, host, extensions, &held[0])
+    let composed = compose(alloc, host, extensions)?;
+    let answer = composed_lines(alloc, host, extensions, &composed);
+    release_composed(composed);
+    answer
 }
 
 // The answer for what is composed of them.

@@ -14,7 +14,8 @@ use std::alloc::{AllocError, Global};
 use wb_base::{Bytes, FILE_LIMIT, Sequence};
 use wb_certify::CertifiedHost;
 use wb_inputs::{
-    Answer, Contents, ReadFailure, Status, certified_of, read_file, refused_host, reported,
+    Answer, Contents, ReadFailure, Status, certified_of, read_file, refused_host, release_host,
+    reported,
 };
 use wb_operations::{Meaning, OperationTable};
 use wb_report::{Done, Outcome};
@@ -39,9 +40,9 @@ pub(crate) fn answer_tree<S: Shelf, M: Meaning>(
     let file = Bytes::from_slice(alloc, host.as_bytes())?;
     match certified_of(alloc, shelf, host, operations)? {
         Ok(certified) => {
-            // As in `check`, the host is dropped by a call.
-            let held = [certified];
-            answer_text(alloc, shelf, text, &held[0])
+            let answer = answer_text(alloc, shelf, text, &certified);
+            release_host(certified);
+            answer
         }
         Err(refusal) => Ok(refused_host(alloc, file, refusal)?),
     }

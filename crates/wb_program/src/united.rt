@@ -3,6 +3,7 @@
 //! The host and the extensions come as in `compose`, and then the text, whose answer in their language is found by `wb_united_trees`.
 
 ghost use Rattle.std.specs.Prelude.{◌≡◌, IfOk, IfErr, ℕ, List};
+ghost use Rattle.wb_composition.specs.Composed.{IsComposed};
 ghost use Rattle.wb_resolved.specs.declared.resolved.ResolvedParts.{ResolvedParts};
 ghost use Rattle.wb_united_trees.specs.Unions.{all_resolved};
 ghost use Rattle.wb_words.specs.Words.{texts};
@@ -19,13 +20,14 @@ use std::alloc::{AllocError, Global};
 use wb_base::{Bytes, FILE_LIMIT};
 use wb_beside::CertifiedExtension;
 use wb_certify::CertifiedHost;
-use wb_composition::compose;
+use wb_composition::{Composed, compose};
 use wb_inputs::{
     Answer, Contents, MOST_EXTENSIONS, ReadFailure, Status, certified_of, read_extensions,
-    read_file, refused_host, reported,
+    read_file, refused_host, release_extensions, release_host, reported,
 };
 use wb_operations::{Meaning, OperationTable};
 use wb_report::Outcome;
+use wb_runs::release_composed;
 use wb_united_trees::united_text_answer;
 use wb_world::Shelf;
 
@@ -50,9 +52,9 @@ pub(crate) fn answer_united<S: Shelf, M: Meaning>(
     let file = Bytes::from_slice(alloc, host.as_bytes())?;
     match certified_of(alloc, shelf, host, operations)? {
         Ok(certified) => {
-            // As in `check`, the host is dropped by a call.
-            let held = [certified];
-            united_files(alloc, shelf, text, &held[0], extensions, operations)
+            let answer = united_files(alloc, shelf, text, &certified, extensions, operations);
+            release_host(certified);
+            answer
         }
         Err(refusal) => Ok(refused_host(alloc, file, refusal)?),
     }
@@ -77,7 +79,11 @@ fn united_files<S: Shelf, M: Meaning>(
         (outside (S.files shelf.new) (S.absences shelf.new) (S.faults shelf.new)) }
 {
     match read_extensions(alloc, shelf, host, files, operations)? {
-        Ok(extensions) => united_text(alloc, shelf, text, host, &extensions),
+        Ok(extensions) => {
+            let answer = united_text(alloc, shelf, text, host, &extensions);
+            release_extensions(extensions);
+            answer
+        }
         Err(answer) => Ok(answer),
     }
 }
@@ -128,8 +134,23 @@ fn united_answer(
     requires { AreApart host.now extensions.now }
     ensures { IfOk result (λ answer. UnitedReport host.now.operations host.now.resolved (all_resolved extensions.now) text.now answer.status answer.report.items) }
 {
-    // As in `check`, what is composed is dropped by a call.
-    let held = [compose(alloc, host, extensions)?];
-    let answer = united_text_answer(alloc, host, extensions, &held[0], text)?;
+    let composed = compose(alloc, host, extensions)?;
+    let answer = composed_answer(alloc, host, extensions, &composed, text);
+    release_composed(composed);
+    answer
+}
+
+// The answer for a text in the language that is composed.
+fn composed_answer(
+    alloc: Global,
+    host: &CertifiedHost,
+    extensions: &[CertifiedExtension],
+    composed: &Composed,
+    text: &[u8],
+) -> Result<Answer, AllocError>
+    requires { IsComposed host.now extensions.now composed.now.language.language composed.now.withdrawn.items }
+    ensures { IfOk result (λ answer. UnitedReport host.now.operations host.now.resolved (all_resolved extensions.now) text.now answer.status answer.report.items) }
+{
+    let answer = united_text_answer(alloc, host, extensions, composed, text)?;
     shown_text(alloc, answer)
 }

@@ -16,7 +16,8 @@ ghost use Rattle.wb_program.specs.ValueReport.{RootReport, TermReport, ValueRepo
 use std::alloc::{AllocError, Global};
 use wb_base::{Bytes, FILE_LIMIT, Sequence};
 use wb_inputs::{
-    Answer, Contents, ReadFailure, Status, read_file, refused_host, reported, well_defined_of,
+    Answer, Contents, ReadFailure, Status, read_file, refused_host, release_resolved, reported,
+    well_defined_of,
 };
 use wb_operations::{Meaning, OperationRefusal, OperationTable};
 use wb_report::{Done, Outcome, Refusal, TermReason};
@@ -50,16 +51,16 @@ pub(crate) fn answer_value<S: Shelf, M: Meaning>(
     let file = Bytes::from_slice(alloc, host.as_bytes())?;
     match well_defined_of(alloc, shelf, host, operations)? {
         Ok(resolved) => {
-            // As in `check`, the host is dropped by a call.
-            let held = [resolved];
-            answer_term(
+            let answer = answer_term(
                 alloc,
                 shelf,
-                &held[0].parts().attributes,
+                &resolved.parts().attributes,
                 term,
                 attribute,
                 operations,
-            )
+            );
+            release_resolved(resolved);
+            answer
         }
         Err(refusal) => Ok(refused_host(alloc, file, refusal)?),
     }

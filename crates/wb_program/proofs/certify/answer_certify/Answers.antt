@@ -8,7 +8,7 @@ use Rattle.wb_inputs.specs.Files.{KnownFile}
 use Rattle.wb_inputs.specs.HostChecks.{IsHostFile, RefusedHost}
 use Rattle.wb_inputs.specs.Stopped.{outside, Stopped}
 use Rattle.wb_inputs.specs.declared.answer.Answer.{Answer}
-use Rattle.wb_inputs.proofs.CauseLemmas.{on_ok, on_err, some_certified}
+use Rattle.wb_inputs.proofs.CauseLemmas.{goes_on_here, goes_on_twice, on_err, on_ok, some_certified}
 use Rattle.wb_inputs.proofs.WordLemmas.{few_texts}
 use Rattle.wb_program.specs.CertifyReport.{CertifyReport, ExtensionsReport}
 use Rattle.wb_program.specs.Inner.Extensions.{CertifyStops}
@@ -25,10 +25,10 @@ returns-in-Ok-clause-ok g c =
     let is : IsHostFile operations files c.args.host.now r = search rules in
     let IsAnswered : Option Files → Answer → Type 0 = λ known answer.
     ExtensionsReport operations known r extensions [] answer.status answer.report.items in
-    let report : IfOk c.answer_extensions.result (IsAnswered files) =
-    subst (λ (known : Option Files). IfOk c.answer_extensions.result (IsAnswered known)) c.certified_of.ensures.goes_on.files
-    c.answer_extensions.ensures.ok in
-    on_ok c.answer_extensions.result (IsAnswered files)
+    let report : IfOk c.answer_extensions-answer.result (IsAnswered files) =
+    subst (λ (known : Option Files). IfOk c.answer_extensions-answer.result (IsAnswered known)) c.certified_of.ensures.goes_on.files
+    c.answer_extensions-answer.ensures.ok in
+    on_ok c.answer_extensions-answer.result (IsAnswered files)
     (λ answer. CertifyReport operations files c.args.host.now extensions answer.status answer.report.items)
     (λ answer shown. certify_certified operations files c.args.host.now extensions r answer.status answer.report.items few is shown)
     report
@@ -42,17 +42,17 @@ returns-in-Ok-clause-stopped g c =
     let before = outside files (g.S.Shelf.absences c.args.shelf.now) (g.S.Shelf.faults c.args.shelf.now) in
     let between = outside (g.S.Shelf.files c.certified_of.new.shelf) (g.S.Shelf.absences c.certified_of.new.shelf)
     (g.S.Shelf.faults c.certified_of.new.shelf) in
-    let now = outside (g.S.Shelf.files c.answer_extensions.new.shelf) (g.S.Shelf.absences c.answer_extensions.new.shelf)
-    (g.S.Shelf.faults c.answer_extensions.new.shelf) in
+    let now = outside (g.S.Shelf.files c.answer_extensions-answer.new.shelf) (g.S.Shelf.absences c.answer_extensions-answer.new.shelf)
+    (g.S.Shelf.faults c.answer_extensions-answer.new.shelf) in
     let few : length extensions ≤ 64 = few_texts c.args.extensions.now 64 (omega arith) in
     let is : IsHostFile operations files host c.in-Ok.certified.resolved = search rules in
-    on_err c.answer_extensions.result
+    on_err c.answer_extensions-answer.result
     (Stopped between now (λ P. StopsAt operations between.files P (map (certified_extension host) extensions)))
     (Stopped before now (CertifyStops operations files host extensions))
     (λ failure stopped. certify_stops_later operations before now host extensions failure few
     (some_certified operations files host c.in-Ok.certified.resolved is.contents)
     (stops_before operations before between now (map (certified_extension host) extensions) failure c.certified_of.ensures.goes_on stopped))
-    (c.answer_extensions.ensures.stopped host
+    (c.answer_extensions-answer.ensures.stopped host
     (subst (λ (known : Option Files). KnownFile known host (λ contents. IsHostText operations contents c.in-Ok.certified.resolved))
     (sym c.certified_of.ensures.goes_on.files) is.contents))
 
@@ -69,3 +69,16 @@ returns-in_ok-refused_host-in-Err-clause-ok g c =
     subst (λ (file : List ℕ). RefusedHost file c.in-Err.refusal answer.status answer.report.items) word
     c.in_ok-refused_host-in-Err.ensures in
     certify_refused operations known c.args.host.now extensions c.in-Err.refusal answer.status answer.report.items few cause shown
+
+pub returns-in_err-file-clause-goes_on : goal.returns-in_err-file-clause-goes_on
+returns-in_err-file-clause-goes_on g c =
+    goes_on_here (outside (g.S.Shelf.files c.args.shelf.now) (g.S.Shelf.absences c.args.shelf.now) (g.S.Shelf.faults c.args.shelf.now))
+
+pub returns-in-Ok-clause-goes_on : goal.returns-in-Ok-clause-goes_on
+returns-in-Ok-clause-goes_on g c =
+    goes_on_twice (outside (g.S.Shelf.files c.args.shelf.now) (g.S.Shelf.absences c.args.shelf.now) (g.S.Shelf.faults c.args.shelf.now))
+    (outside (g.S.Shelf.files c.certified_of.new.shelf) (g.S.Shelf.absences c.certified_of.new.shelf)
+    (g.S.Shelf.faults c.certified_of.new.shelf))
+    (outside (g.S.Shelf.files c.answer_extensions-answer.new.shelf) (g.S.Shelf.absences c.answer_extensions-answer.new.shelf)
+    (g.S.Shelf.faults c.answer_extensions-answer.new.shelf))
+    c.certified_of.ensures.goes_on c.answer_extensions-answer.ensures.goes_on

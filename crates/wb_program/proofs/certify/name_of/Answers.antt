@@ -5,6 +5,8 @@ use Rattle.wb_extension_files.specs.Contents.{IsExtensionText, IsExtensionRefusa
 use Rattle.wb_inputs.specs.Files.{KnownFile}
 use Rattle.wb_inputs.specs.ExtensionChecks.{RefusedExtension}
 use Rattle.wb_program.proofs.ExtensionLemmas.{is_named, refused_ends}
+use Rattle.wb_inputs.specs.Stopped.{outside}
+use Rattle.wb_inputs.proofs.CauseLemmas.{goes_on_here}
 use Rattle.wb_program.proofs.certify.name_of.Goals as goal
 
 pub returns-in_ok-extension_name-in-Ok-clause-ok : goal.returns-in_ok-extension_name-in-Ok-clause-ok
@@ -28,3 +30,7 @@ returns-in_ok-refused_extension-in-Err-clause-refused g c =
     subst (λ (file : List ℕ). RefusedExtension file c.in-Err.refusal answer.status answer.report.items) word
     c.in_ok-refused_extension-in-Err.ensures in
     refused_ends operations known host c.args.file.now c.in-Err.refusal answer.status answer.report.items cause shown
+
+pub returns-in_err-word-clause-goes_on : goal.returns-in_err-word-clause-goes_on
+returns-in_err-word-clause-goes_on g c =
+    goes_on_here (outside (g.S.Shelf.files c.args.shelf.now) (g.S.Shelf.absences c.args.shelf.now) (g.S.Shelf.faults c.args.shelf.now))

@@ -1,5 +1,5 @@
 -- Each command's answer is the report of what it asks.
-use Rattle.std.proofs.Common.{rules, ◌≡◌, ◌<◌, ℕ, List, IfOk, IfErr, [], ◌∷◌, inl, inr, length, ap, sym, subst}
+use Rattle.std.proofs.Common.{rules, ◌≡◌, ◌<◌, ℕ, List, IfOk, IfErr, [], ◌∷◌, inr, length, ap, sym, subst}
 use Rattle.std.proofs.lemmas.List.{nil_from_length}
 use Rattle.wb_operations.specs.Operations.{Operations}
 use Rattle.wb_words.specs.Asked.{Asked}
@@ -19,7 +19,6 @@ use Rattle.wb_program.specs.CheckReport.{CheckReport}
 use Rattle.wb_program.specs.ComposeReport.{ComposeReport, UnitedTreeReport}
 use Rattle.wb_program.specs.Report.{IsReportOf, run_report, generate_report}
 use Rattle.wb_program.specs.Report.{value_report, show_report, check_report, certify_report, compose_report, tree_report}
-use Rattle.wb_program.specs.Report.{united_tree_report}
 use Rattle.wb_program.specs.Reads.{ReadsTo, value_reads, show_reads, check_reads, tree_reads}
 use Rattle.wb_program.specs.ShowReport.{ShowReport}
 use Rattle.wb_program.specs.TreeReport.{TreeReport}

@@ -1,5 +1,5 @@
 -- Extensions are read after their host, and their report comes after that host's checks.
-use Rattle.std.proofs.Common.{rules, ◌≡◌, ◌≤◌, ◌∙◌, ℕ, List, Option, IfOk, length, subst, arith}
+use Rattle.std.proofs.Common.{rules, ◌≡◌, ◌≤◌, ◌∙◌, ℕ, List, Option, IfOk, length, subst, arith, IfErr}
 use Rattle.wb_hosts.specs.Contents.{IsHostRefusal}
 use Rattle.wb_resolved.specs.declared.resolved.ResolvedParts.{ResolvedParts}
 use Rattle.wb_words.specs.Words.{texts}
@@ -13,8 +13,8 @@ use Rattle.wb_inputs.specs.SeveralChecks.{EachChecks, SeveralChecks}
 use Rattle.wb_inputs.specs.HostChecks.{IsHostFile, RefusedHost}
 use Rattle.wb_inputs.specs.Stopped.{outside, Stopped}
 use Rattle.wb_inputs.specs.declared.answer.Answer.{Answer}
-use Rattle.wb_inputs.proofs.ComposeLemmas.{several_certified, several_refused, composed_later}
-use Rattle.wb_inputs.proofs.CauseLemmas.{on_ok, on_err}
+use Rattle.wb_inputs.proofs.ComposeLemmas.{several_certified, several_refused, composed_later, composed_first}
+use Rattle.wb_inputs.proofs.CauseLemmas.{goes_on_here, goes_on_twice, on_err, on_ok}
 use Rattle.wb_inputs.proofs.WordLemmas.{few_texts}
 use Rattle.wb_program.specs.ComposeReport.{UnitedReport}
 use Rattle.wb_program.proofs.united.answer_united.Goals as goal
@@ -33,10 +33,10 @@ returns-in-Ok-clause-ok g c =
     (λ (text : List ℕ). UnitedReport operations r values text) in
     let IsAnswered : Option Files → Answer → Type 0 = λ known answer.
     EachChecks operations known r extensions (rest known r) answer.status answer.report.items in
-    let report : IfOk c.united_files.result (IsAnswered files) =
-    subst (λ (known : Option Files). IfOk c.united_files.result (IsAnswered known)) c.certified_of.ensures.goes_on.files
-    c.united_files.ensures.ok in
-    on_ok c.united_files.result (IsAnswered files)
+    let report : IfOk c.united_files-answer.result (IsAnswered files) =
+    subst (λ (known : Option Files). IfOk c.united_files-answer.result (IsAnswered known)) c.certified_of.ensures.goes_on.files
+    c.united_files-answer.ensures.ok in
+    on_ok c.united_files-answer.result (IsAnswered files)
     (λ answer. SeveralChecks operations files c.args.host.now extensions (rest files) answer.status answer.report.items)
     (λ answer shown. several_certified operations files c.args.host.now extensions (rest files) r answer.status answer.report.items few is
     shown)
@@ -52,16 +52,17 @@ returns-in-Ok-clause-stopped g c =
     let before = outside files (g.S.Shelf.absences c.args.shelf.now) (g.S.Shelf.faults c.args.shelf.now) in
     let between = outside (g.S.Shelf.files c.certified_of.new.shelf) (g.S.Shelf.absences c.certified_of.new.shelf)
     (g.S.Shelf.faults c.certified_of.new.shelf) in
-    let now = outside (g.S.Shelf.files c.united_files.new.shelf) (g.S.Shelf.absences c.united_files.new.shelf)
-    (g.S.Shelf.faults c.united_files.new.shelf) in
+    let now = outside (g.S.Shelf.files c.united_files-answer.new.shelf) (g.S.Shelf.absences c.united_files-answer.new.shelf)
+    (g.S.Shelf.faults c.united_files-answer.new.shelf) in
     let few : length extensions ≤ 64 = few_texts c.args.extensions.now 64 (omega arith) in
     let is : IsHostFile operations files host r = search rules in
-    on_err c.united_files.result (Stopped between now (λ P. StopsThen operations between.files r P extensions (λ values. P c.args.text.now)))
+    on_err c.united_files-answer.result (Stopped between now (λ P. StopsThen operations between.files r P extensions
+    (λ values. P c.args.text.now)))
     (Stopped before now (λ P. StopsComposed operations files host extensions P (λ s values. P c.args.text.now)))
     (λ failure stopped. composed_later operations before between now host extensions r (λ P s values. P c.args.text.now) failure
     (λ P Q weaker values. weaker c.args.text.now) few is
     c.certified_of.ensures.goes_on stopped)
-    c.united_files.ensures.stopped
+    c.united_files-answer.ensures.stopped
 
 pub returns-in_ok-refused_host-in-Err-clause-ok : goal.returns-in_ok-refused_host-in-Err-clause-ok
 returns-in_ok-refused_host-in-Err-clause-ok g c =
@@ -79,3 +80,29 @@ returns-in_ok-refused_host-in-Err-clause-ok g c =
     (λ r values.
     Check TextTooLong (IsTooLongText known c.args.text.now) (IsText known c.args.text.now)
     (λ (text : List ℕ). UnitedReport operations r values text)) c.in-Err.refusal answer.status answer.report.items few cause shown
+
+pub returns-in_err-file-clause-goes_on : goal.returns-in_err-file-clause-goes_on
+returns-in_err-file-clause-goes_on g c =
+    goes_on_here (outside (g.S.Shelf.files c.args.shelf.now) (g.S.Shelf.absences c.args.shelf.now) (g.S.Shelf.faults c.args.shelf.now))
+
+pub returns-in-Ok-clause-goes_on : goal.returns-in-Ok-clause-goes_on
+returns-in-Ok-clause-goes_on g c =
+    goes_on_twice (outside (g.S.Shelf.files c.args.shelf.now) (g.S.Shelf.absences c.args.shelf.now) (g.S.Shelf.faults c.args.shelf.now))
+    (outside (g.S.Shelf.files c.certified_of.new.shelf) (g.S.Shelf.absences c.certified_of.new.shelf)
+    (g.S.Shelf.faults c.certified_of.new.shelf))
+    (outside (g.S.Shelf.files c.united_files-answer.new.shelf) (g.S.Shelf.absences c.united_files-answer.new.shelf)
+    (g.S.Shelf.faults c.united_files-answer.new.shelf))
+    c.certified_of.ensures.goes_on c.united_files-answer.ensures.goes_on
+
+pub returns-in_err-certified-clause-stopped : goal.returns-in_err-certified-clause-stopped
+returns-in_err-certified-clause-stopped g c =
+    let before = outside (g.S.Shelf.files c.args.shelf.now) (g.S.Shelf.absences c.args.shelf.now) (g.S.Shelf.faults c.args.shelf.now) in
+    let now = outside (g.S.Shelf.files c.certified_of.new.shelf) (g.S.Shelf.absences c.certified_of.new.shelf)
+    (g.S.Shelf.faults c.certified_of.new.shelf) in
+    let operations = c.args.operations.now.signatures in
+    let host = c.args.host.now in
+    let extensions = texts c.args.extensions.now in
+    let few : length extensions ≤ 64 = few_texts c.args.extensions.now 64 (omega arith) in
+    let stopped : IfErr c.from_residual-in_err-certified.result (Stopped before now (λ P. P host)) = search rules in
+    on_err c.from_residual-in_err-certified.result (Stopped before now (λ P. P host)) (Stopped before now (λ P. StopsComposed operations before.files host extensions P (λ r values. P c.args.text.now)))
+    (λ failure. composed_first operations before now host extensions (λ P r values. P c.args.text.now) failure few) stopped

@@ -11,7 +11,8 @@ use Rattle.wb_inputs.specs.SeveralChecks.{AreEach, EachChecks}
 use Rattle.wb_inputs.specs.Texts.{IsText, IsTooLongText}
 use Rattle.wb_inputs.specs.declared.answer.Answer.{Answer}
 use Rattle.wb_inputs.specs.declared.status.Status.TheVariants.{TextTooLong}
-use Rattle.wb_inputs.proofs.CauseLemmas.{ok_of, on_ok}
+use Rattle.wb_inputs.specs.Stopped.{outside}
+use Rattle.wb_inputs.proofs.CauseLemmas.{goes_on_twice, ok_of, on_ok}
 use Rattle.wb_program.specs.ComposeReport.{UnitedReport}
 use Rattle.wb_program.proofs.united.united_files.Goals as goal
 
@@ -30,15 +31,26 @@ returns-in-Ok-clause-ok g c =
     let IsAnswered : List OperationSignature → List ExtensionView → Option Files → Answer → Type 0 = λ operations list told answer.
     Check TextTooLong (IsTooLongText told file) (IsText told file)
     (λ (text : List ℕ). UnitedReport operations host.resolved (all_resolved list) text) answer.status answer.report.items in
-    let listed : IfOk c.united_text.result (IsAnswered host.operations es between) =
-    subst (λ (list : List ExtensionView). IfOk c.united_text.result (IsAnswered host.operations list between)) c.deref.ensures.value
-    c.united_text.ensures.ok in
-    let signed : IfOk c.united_text.result (IsAnswered signatures es between) =
-    subst (λ (operations : List OperationSignature). IfOk c.united_text.result (IsAnswered operations es between)) c.requires listed in
-    let report : IfOk c.united_text.result (IsAnswered signatures es known) =
-    subst (λ (told : Option Files). IfOk c.united_text.result (IsAnswered signatures es told)) c.read_extensions.ensures.goes_on.files signed in
-    on_ok c.united_text.result (IsAnswered signatures es known)
+    let listed : IfOk c.united_text-answer.result (IsAnswered host.operations es between) =
+    subst (λ (list : List ExtensionView). IfOk c.united_text-answer.result (IsAnswered host.operations list between)) c.deref.ensures.value
+    c.united_text-answer.ensures.ok in
+    let signed : IfOk c.united_text-answer.result (IsAnswered signatures es between) =
+    subst (λ (operations : List OperationSignature). IfOk c.united_text-answer.result
+    (IsAnswered operations es between)) c.requires listed in
+    let report : IfOk c.united_text-answer.result (IsAnswered signatures es known) =
+    subst (λ (told : Option Files). IfOk c.united_text-answer.result
+    (IsAnswered signatures es told)) c.read_extensions.ensures.goes_on.files signed in
+    on_ok c.united_text-answer.result (IsAnswered signatures es known)
     (λ answer. EachChecks signatures known host.resolved files (λ (values : List ResolvedParts).
     Check TextTooLong (IsTooLongText known file) (IsText known file) (λ (text : List ℕ). UnitedReport signatures host.resolved values text))
     answer.status answer.report.items)
     (λ answer shown. inr (all_resolved es, each, shown)) report
+
+pub returns-in-Ok-clause-goes_on : goal.returns-in-Ok-clause-goes_on
+returns-in-Ok-clause-goes_on g c =
+    goes_on_twice (outside (g.S.Shelf.files c.args.shelf.now) (g.S.Shelf.absences c.args.shelf.now) (g.S.Shelf.faults c.args.shelf.now))
+    (outside (g.S.Shelf.files c.read_extensions.new.shelf) (g.S.Shelf.absences c.read_extensions.new.shelf)
+    (g.S.Shelf.faults c.read_extensions.new.shelf))
+    (outside (g.S.Shelf.files c.united_text-answer.new.shelf) (g.S.Shelf.absences c.united_text-answer.new.shelf)
+    (g.S.Shelf.faults c.united_text-answer.new.shelf))
+    c.read_extensions.ensures.goes_on c.united_text-answer.ensures.goes_on

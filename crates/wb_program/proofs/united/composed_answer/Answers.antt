@@ -3,7 +3,7 @@ use Rattle.wb_united_trees.specs.Unions.{all_resolved}
 use Rattle.wb_inputs.proofs.CauseLemmas.{on_ok}
 use Rattle.wb_program.specs.ComposeReport.{UnitedReport}
 use Rattle.wb_program.specs.TreeReport.{ShownText}
-use Rattle.wb_program.proofs.united.united_answer.Goals as goal
+use Rattle.wb_program.proofs.united.composed_answer.Goals as goal
 
 pub returns : goal.returns
 returns c =
