@@ -2,10 +2,13 @@
 //!
 //! Their names are right, whatever later rules say of them. Each is one line here.
 
-use crate::extension_names::{file_gets, host_in};
-use crate::names::{is_answer, spec_of};
+use crate::written::{Asked, Tested, extensions_get, hosts_get};
 use std::alloc::Global;
-use wb_names::resolve_host;
+
+static NAMES: Asked = Asked {
+    tested: Tested::Names,
+    first_line: "",
+};
 
 // A small language with statements, expressions and environments.
 const STATEMENTS: &str =
@@ -118,31 +121,18 @@ static WITH_HOSTS: [(&str, &str); 15] = [
     ),
 ];
 
-// Whether the names of each host are right.
-fn hosts_are_resolved(alloc: Global, files: &[&str]) -> bool {
-    'files: for file in files {
-        let Some(spec) = spec_of(alloc, "", *file) else {
-            return false;
-        };
-        if !is_answer(&resolve_host(alloc, &spec), "ok", "") {
+fn hosts_are_resolved(alloc: Global, files: &[&'static str]) -> bool {
+    for file in files {
+        if !hosts_get(alloc, &NAMES, &[(*file, "ok")]) {
             return false;
         }
     }
     true
 }
 
-// Whether the names of an extension of a host are right.
-fn is_resolved_with(alloc: Global, host: &str, extension: &str) -> bool {
-    match host_in(alloc, "", host) {
-        Some(host) => file_gets(alloc, &host, ("", extension), "ok", ""),
-        None => false,
-    }
-}
-
-// Whether the names of each extension are right with its host.
-fn extensions_are_resolved(alloc: Global, rows: &[(&str, &str)]) -> bool {
-    'rows: for (host, extension) in rows {
-        if !is_resolved_with(alloc, *host, *extension) {
+fn extensions_are_resolved(alloc: Global, rows: &[(&'static str, &'static str)]) -> bool {
+    for (host, extension) in rows {
+        if !extensions_get(alloc, &NAMES, *host, &[(*extension, "ok")]) {
             return false;
         }
     }

@@ -1,208 +1,143 @@
 //! Do an extension's equations for a forwarded tree keep to the flow type of the forward?
 //!
-//! Extensions are named `e`, and each row has what comes after the first line, the production, the attribute of the forwarded tree and what it
-//! needs of the top. Expected answers follow from the rules.
+//! Extensions are named `e`, and each row has what comes after the first line; a refusal shows the production, the attribute of the
+//! forwarded tree and what it needs of the top. Expected answers follow from the rules.
 
-ghost use Rattle.std.specs.Prelude.{◌≡◌, [], IfSome};
-
-use crate::names::spec_of;
-use std::alloc::Global;
+use crate::markers::append_production;
+use crate::written::{Asked, Row, Tested, append, extensions_get};
+use std::alloc::{AllocError, Global};
 use wb_flow::AttributeRefusal;
 use wb_forwards::check_forward;
-use wb_names::{resolve_extension, resolve_host};
-use wb_resolved::{Attribute, Production, Resolved};
+use wb_resolved::{Resolved, ResolvedParts};
 
 // A host: the forward on E may need i, and that on F needs nothing.
 const HOST: &str =
-    "nonterminal E; nonterminal F; inh i : int; inh j : int; syn v : int; syn w : int; occurs i on E; occurs j on E; occurs v on E needs { i, j }; occurs w on E needs { i }; forward on E needs { i }; occurs i on F; occurs j on F; occurs v on F needs { i, j }; abstract p : E ::= x : E { x.i = 1; x.j = 2; top.v = x.v; top.w = x.w; } abstract q : F ::= n : int { top.v = n; }";
+    "format 1; host h; nonterminal E; nonterminal F; inh i : int; inh j : int; syn v : int; syn w : int; occurs i on E; occurs j on E; occurs v on E needs { i, j }; occurs w on E needs { i }; forward on E needs { i }; occurs i on F; occurs j on F; occurs v on F needs { i, j }; abstract p : E ::= x : E { x.i = 1; x.j = 2; top.v = x.v; top.w = x.w; } abstract q : F ::= n : int { top.v = n; }";
 
-// The host.
-fn host(alloc: Global) -> Option<Resolved>
-    ensures { IfSome result (λ host. host.attributes.extensions ≡ []) }
-{
-    let spec = spec_of(alloc, "format 1; host h; ", HOST)?;
-    match resolve_host(alloc, &spec) {
-        Ok(host) => Some(host),
-        Err(_) => None,
+static FORWARDS: Asked = Asked {
+    tested: Tested::Forwards,
+    first_line: "format 1; extension e for h; ",
+};
+
+// Appends the equation for a forwarded tree that needs too much, with the names that show it.
+pub(crate) fn append_forwards(
+    alloc: Global,
+    extension: &Resolved,
+    out: &mut Vec<u8>,
+) -> Result<(), AllocError> {
+    let parts = extension.parts();
+    match check_forward(alloc, &parts.attributes, 1) {
+        Ok(()) => out.extend_from_slice(b"ok"),
+        Err(refusal) => append_refusal(parts, &refusal, out),
     }
 }
 
-// The extension of the host with these items.
-fn extension(alloc: Global, host: &Resolved, items: &str) -> Option<Resolved>
-    requires { host.now.attributes.extensions ≡ [] }
-{
-    let spec = spec_of(alloc, "format 1; extension e for h; ", items)?;
-    match resolve_extension(alloc, host, &spec) {
-        Ok(extension) => Some(extension),
-        Err(_) => None,
-    }
-}
-
-// Whether the extension gets the answer: the production, the attribute and what it needs, or three empty names.
-fn gets(alloc: Global, extension: &Resolved, shown: (&str, &str, &str)) -> bool {
-    match check_forward(alloc, &extension.parts().attributes, 1) {
-        Ok(()) => shown.0 == "",
-        Err(refusal) => shows(extension, &refusal, shown),
-    }
-}
-
-// Whether a refusal shows these names.
-fn shows(extension: &Resolved, refusal: &AttributeRefusal, shown: (&str, &str, &str)) -> bool {
-    let parts = extension.parts().attributes.parts();
+fn append_refusal(
+    parts: &ResolvedParts,
+    refusal: &AttributeRefusal,
+    out: &mut Vec<u8>,
+) -> Result<(), AllocError> {
     let AttributeRefusal::ForwardReads {
         production,
         attribute,
         inherited,
     } = refusal
     else {
-        return false;
+        return Ok(());
     };
-    is_production(parts.productions.as_slice(), *production, shown.0)
-        && is_attribute(parts.attributes.as_slice(), *attribute, shown.1)
-        && is_attribute(parts.attributes.as_slice(), *inherited, shown.2)
+    append_production(parts, "E8 ", *production, out)?;
+    append_attribute(parts, *attribute, out)?;
+    append_attribute(parts, *inherited, out)
 }
 
-// Whether the production of this number has the name.
-fn is_production(productions: &[Production], number: usize, name: &str) -> bool {
-    number < productions.len() && productions[number].name.as_slice() == name.as_bytes()
-}
-
-// Whether the attribute of this number has the name.
-fn is_attribute(attributes: &[Attribute], number: usize, name: &str) -> bool {
-    number < attributes.len() && attributes[number].name.as_slice() == name.as_bytes()
-}
-
-// Whether the extension of these items gets the answer.
-fn items_get(alloc: Global, host: &Resolved, items: &str, shown: (&str, &str, &str)) -> bool
-    requires { host.now.attributes.extensions ≡ [] }
-{
-    match extension(alloc, host, items) {
-        Some(extension) => gets(alloc, &extension, shown),
-        None => false,
+// Appends the name of an attribute after a blank.
+fn append_attribute(
+    parts: &ResolvedParts,
+    number: usize,
+    out: &mut Vec<u8>,
+) -> Result<(), AllocError> {
+    let attributes = parts.attributes.parts().attributes.as_slice();
+    if number >= attributes.len() {
+        return Ok(());
     }
-}
-
-// Whether each extension of the host gets the answer that is beside it.
-fn all_get(alloc: Global, host: &Resolved, rows: &[(&str, &str, &str, &str)]) -> bool
-    requires { host.now.attributes.extensions ≡ [] }
-{
-    'rows: for (items, production, attribute, inherited) in rows {
-        if !items_get(alloc, host, *items, (*production, *attribute, *inherited)) {
-            return false;
-        }
-    }
-    true
-}
-
-// The same of the host of these tests.
-fn extensions_get(alloc: Global, rows: &[(&str, &str, &str, &str)]) -> bool {
-    match host(alloc) {
-        Some(host) => all_get(alloc, &host, rows),
-        None => false,
-    }
+    append(out, &[b" ".as_slice(), attributes[number].name.as_slice()])
 }
 
 // Equations for a forwarded tree that need an attribute of the top that the forward's flow type hasn't.
-static OUTSIDE: [(&str, &str, &str, &str); 7] = [
+static OUTSIDE: [Row; 7] = [
     (
         "abstract x : E ::= { forwards to p(y()); forward.i = top.j; } abstract y : E ::= { forwards to y(); }",
-        "x",
-        "i",
-        "j",
+        "E8 x i j",
     ),
     (
         "abstract x : F ::= { forwards to q(1); forward.i = top.j; }",
-        "x",
-        "i",
-        "j",
+        "E8 x i j",
     ),
     (
         "abstract x : F ::= { forwards to q(1); forward.j = top.i; }",
-        "x",
-        "j",
-        "i",
+        "E8 x j i",
     ),
     // By a child, whose attribute needs what the production gives it.
     (
         "abstract x : E ::= a : E { forwards to a; a.i = top.j; a.j = 1; forward.i = a.w; }",
-        "x",
-        "i",
-        "j",
+        "E8 x i j",
     ),
     // By the forwarded tree's other attribute, which is that of the top where no equation is for it.
     (
         "abstract x : E ::= { forwards to x(); forward.i = forward.v; }",
-        "x",
-        "i",
-        "j",
+        "E8 x i j",
     ),
     // By a local.
     (
         "abstract x : F ::= { local l : E = p(y()); l.i = top.j; l.j = 1; forwards to q(1); forward.i = l.w; } abstract y : E ::= { forwards to y(); }",
-        "x",
-        "i",
-        "j",
+        "E8 x i j",
     ),
     // In one branch alone.
     (
         "abstract x : E ::= b : bool { forwards to x(b); forward.i = if b then top.j else 1; }",
-        "x",
-        "i",
-        "j",
+        "E8 x i j",
     ),
 ];
 
 #[test]
 fn what_is_given_to_a_forwarded_tree_needs_no_more_than_the_flow_type(rt: HostRuntime) {
-    assert!(rt; extensions_get(rt.alloc(), &OUTSIDE));
+    assert!(rt; extensions_get(rt.alloc(), &FORWARDS, HOST, &OUTSIDE));
 }
 
 // Extensions that keep to the flow types of forwards.
-static KEPT: [(&str, &str, &str, &str); 8] = [
-    ("", "", "", ""),
-    ("abstract x : E ::= { forwards to x(); }", "", "", ""),
+static KEPT: [Row; 8] = [
+    ("", "ok"),
+    ("abstract x : E ::= { forwards to x(); }", "ok"),
     (
         "abstract x : E ::= { forwards to x(); forward.i = 1; forward.j = 2; }",
-        "",
-        "",
-        "",
+        "ok",
     ),
     // What the flow type has may be needed, and so may the attribute itself.
     (
         "abstract x : E ::= { forwards to x(); forward.j = top.i; forward.i = top.i; }",
-        "",
-        "",
-        "",
+        "ok",
     ),
     (
         "abstract x : E ::= { forwards to x(); forward.j = top.j; }",
-        "",
-        "",
-        "",
+        "ok",
     ),
     (
         "abstract x : F ::= { forwards to q(1); forward.i = top.i; forward.j = top.j; }",
-        "",
-        "",
-        "",
+        "ok",
     ),
     // On its own nonterminal an extension gives what it likes.
     (
         "nonterminal N; occurs i on N; occurs j on N; abstract x : N ::= { forwards to x(); forward.i = top.j; }",
-        "",
-        "",
-        "",
+        "ok",
     ),
     // Other equations are no matter of this rule.
     (
         "abstract x : E ::= a : E { forwards to a; a.i = top.j; a.j = top.i; top.v = a.v; }",
-        "",
-        "",
-        "",
+        "ok",
     ),
 ];
 
 #[test]
 fn what_keeps_to_the_flow_type_is_taken(rt: HostRuntime) {
-    assert!(rt; extensions_get(rt.alloc(), &KEPT));
+    assert!(rt; extensions_get(rt.alloc(), &FORWARDS, HOST, &KEPT));
 }

@@ -24,3 +24,5 @@ mod report_lines;
 mod report_outcomes;
 #[cfg(test)]
 mod report_refusals;
+#[cfg(test)]
+mod written;

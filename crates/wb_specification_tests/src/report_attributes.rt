@@ -1,9 +1,9 @@
 //! Which line reports a specification that is refused for its attributes?
 
-use crate::report_lines::{is_refused, text};
+use crate::report_lines::{Reported, are_reported, text};
 use std::alloc::Global;
 use wb_base::Sequence;
-use wb_report::{AttributeReason, Refusal, ShownVertex};
+use wb_report::{AttributeReason, ShownVertex};
 
 // A vertex of each kind.
 fn vertices(alloc: Global) -> Sequence<ShownVertex> {
@@ -28,7 +28,7 @@ fn labelled(alloc: Global) -> ShownVertex {
 }
 
 // The number of a refusal of attributes.
-fn attribute_reason(alloc: Global, number: usize) -> AttributeReason {
+pub(crate) fn attribute_reason(alloc: Global, number: usize) -> AttributeReason {
     match number {
         0 => AttributeReason::StartInherits(text(alloc, "i")),
         1 => AttributeReason::NoForward(text(alloc, "go")),
@@ -107,9 +107,5 @@ static ATTRIBUTES: [&str; 8] = [
 
 #[test]
 fn attributes_are_refused_with_an_example(rt: HostRuntime) {
-    for (number, line) in ATTRIBUTES.iter().enumerate() {
-        let reason = attribute_reason(rt.alloc(), number);
-        let held = is_refused(rt.alloc(), Refusal::Attributes(reason), line);
-        assert!(rt; held, "{line:?}");
-    }
+    assert!(rt; are_reported(rt.alloc(), Reported::Attributes, &ATTRIBUTES));
 }

@@ -1,23 +1,64 @@
-//! Is an outcome reported by these lines?
+//! Are outcomes reported by these lines?
 //!
 //! Texts and lists that find no memory are empty, and then the lines differ: so no outcome is alive where a test may end early. The
 //! outcomes are in `report_refusals`, `report_attributes` and `report_outcomes`, and the expected lines are those of the table of reports.
 
+use crate::report_attributes::attribute_reason;
+use crate::report_outcomes::{done, outcome};
+use crate::report_refusals::{extension_reason, grammar_reason, spec_reason, term_reason};
 use std::alloc::Global;
 use wb_base::{Bytes, Sequence};
 use wb_report::{Outcome, Refusal, report};
 
+// What is reported: what a command shows that comes to its end, an outcome that refuses no file, or why the file `f` is refused.
+#[derive(Clone, Copy)]
+pub(crate) enum Reported {
+    Ends,
+    Others,
+    Written,
+    Terms,
+    Grammars,
+    Extensions,
+    Attributes,
+}
+
+// The number of an outcome of these.
+fn outcome_of(alloc: Global, reported: Reported, number: usize) -> Outcome {
+    match reported {
+        Reported::Ends => Outcome::Done(done(alloc, number)),
+        Reported::Others => outcome(alloc, number),
+        Reported::Written => refused(alloc, Refusal::Specification(spec_reason(alloc, number))),
+        Reported::Terms => refused(alloc, Refusal::Term(term_reason(number))),
+        Reported::Grammars => refused(alloc, Refusal::Grammar(grammar_reason(alloc, number))),
+        Reported::Extensions => refused(alloc, Refusal::Extension(extension_reason(alloc, number))),
+        Reported::Attributes => refused(
+            alloc,
+            Refusal::Attributes(attribute_reason(alloc, number)),
+        ),
+    }
+}
+
+// That the file `f` is refused for this reason.
+fn refused(alloc: Global, refusal: Refusal) -> Outcome {
+    let file = text(alloc, "f");
+    Outcome::Refused { file, refusal }
+}
+
+// Whether each of these is reported by the lines of its number.
+pub(crate) fn are_reported(alloc: Global, reported: Reported, rows: &[&str]) -> bool {
+    for (number, lines) in rows.iter().enumerate() {
+        if !is_reported(alloc, outcome_of(alloc, reported, number), *lines) {
+            return false;
+        }
+    }
+    true
+}
+
 // Whether the outcome is reported so.
-pub(crate) fn is_reported(alloc: Global, outcome: Outcome, lines: &str) -> bool {
+fn is_reported(alloc: Global, outcome: Outcome, lines: &str) -> bool {
     // An array lets go of what it holds by a call, so that the drop of an outcome is proved once and part by part.
     let held = [outcome];
     are_lines(alloc, &held[0], lines)
-}
-
-// Whether the file `f` is refused for this reason with this line.
-pub(crate) fn is_refused(alloc: Global, refusal: Refusal, line: &str) -> bool {
-    let file = text(alloc, "f");
-    is_reported(alloc, Outcome::Refused { file, refusal }, line)
 }
 
 // Whether these are the lines of the outcome.

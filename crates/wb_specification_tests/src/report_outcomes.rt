@@ -1,11 +1,11 @@
 //! Which lines report the end of a command, and an outcome that refuses no file?
 
-use crate::report_lines::{bytes, is_reported, text, texts};
+use crate::report_lines::{Reported, are_reported, bytes, text, texts};
 use std::alloc::Global;
 use wb_report::{Done, Outcome, ShownStop};
 
 // The number of an outcome without a refused file.
-fn outcome(alloc: Global, number: usize) -> Outcome {
+pub(crate) fn outcome(alloc: Global, number: usize) -> Outcome {
     match number {
         0 => Outcome::Usage,
         1 => stopped(4, ShownStop::NoToken),
@@ -61,14 +61,11 @@ static OTHERS: [&str; 12] = [
 
 #[test]
 fn other_outcomes_have_their_line(rt: HostRuntime) {
-    for (number, line) in OTHERS.iter().enumerate() {
-        let held = is_reported(rt.alloc(), outcome(rt.alloc(), number), line);
-        assert!(rt; held, "{line:?}");
-    }
+    assert!(rt; are_reported(rt.alloc(), Reported::Others, &OTHERS));
 }
 
 // The number of what a command shows that comes to its end.
-fn done(alloc: Global, number: usize) -> Done {
+pub(crate) fn done(alloc: Global, number: usize) -> Done {
     match number {
         0 => value(alloc),
         1 => Done::Canonical(bytes(alloc, "format 1;\nhost t;\n")),
@@ -126,8 +123,5 @@ static ENDS: [&str; 6] = [
 
 #[test]
 fn commands_that_come_to_their_end_have_their_lines(rt: HostRuntime) {
-    for (number, shown) in ENDS.iter().enumerate() {
-        let held = is_reported(rt.alloc(), Outcome::Done(done(rt.alloc(), number)), shown);
-        assert!(rt; held, "{shown:?}");
-    }
+    assert!(rt; are_reported(rt.alloc(), Reported::Ends, &ENDS));
 }

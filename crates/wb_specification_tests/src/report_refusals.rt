@@ -1,15 +1,14 @@
 //! Which line reports a specification or a term that is refused for what is written, its names, its grammar or what it adds?
 
-use crate::report_lines::{is_refused, text, texts};
+use crate::report_lines::{Reported, are_reported, text, texts};
 use std::alloc::Global;
 use wb_base::Sequence;
 use wb_report::{
-    ExtensionReason, GrammarReason, Refusal, ShownAction, ShownConflict, ShownItem, SpecReason,
-    TermReason,
+    ExtensionReason, GrammarReason, ShownAction, ShownConflict, ShownItem, SpecReason, TermReason,
 };
 
 // The number of a refusal of what is written.
-fn spec_reason(alloc: Global, number: usize) -> SpecReason {
+pub(crate) fn spec_reason(alloc: Global, number: usize) -> SpecReason {
     match number {
         0 => SpecReason::Syntax(14),
         1 => SpecReason::TooLong,
@@ -42,15 +41,11 @@ static WRITTEN: [&str; 11] = [
 
 #[test]
 fn what_is_written_is_refused_with_place_or_name(rt: HostRuntime) {
-    for (number, line) in WRITTEN.iter().enumerate() {
-        let reason = spec_reason(rt.alloc(), number);
-        let held = is_refused(rt.alloc(), Refusal::Specification(reason), line);
-        assert!(rt; held, "{line:?}");
-    }
+    assert!(rt; are_reported(rt.alloc(), Reported::Written, &WRITTEN));
 }
 
 // The number of a refusal of a term.
-fn term_reason(number: usize) -> TermReason {
+pub(crate) fn term_reason(number: usize) -> TermReason {
     match number {
         0 => TermReason::Syntax(10),
         1 => TermReason::Unknown(0),
@@ -67,14 +62,11 @@ static TERMS: [&str; 3] = [
 
 #[test]
 fn terms_are_refused_with_their_place(rt: HostRuntime) {
-    for (number, line) in TERMS.iter().enumerate() {
-        let held = is_refused(rt.alloc(), Refusal::Term(term_reason(number)), line);
-        assert!(rt; held, "{line:?}");
-    }
+    assert!(rt; are_reported(rt.alloc(), Reported::Terms, &TERMS));
 }
 
 // The number of a refusal of a grammar.
-fn grammar_reason(alloc: Global, number: usize) -> GrammarReason {
+pub(crate) fn grammar_reason(alloc: Global, number: usize) -> GrammarReason {
     match number {
         0 => GrammarReason::PreferenceCycle(texts(alloc, "T", "e:U")),
         1 => GrammarReason::NoStart,
@@ -128,15 +120,11 @@ static GRAMMARS: [&str; 8] = [
 
 #[test]
 fn grammars_are_refused_with_an_example(rt: HostRuntime) {
-    for (number, line) in GRAMMARS.iter().enumerate() {
-        let reason = grammar_reason(rt.alloc(), number);
-        let held = is_refused(rt.alloc(), Refusal::Grammar(reason), line);
-        assert!(rt; held, "{line:?}");
-    }
+    assert!(rt; are_reported(rt.alloc(), Reported::Grammars, &GRAMMARS));
 }
 
 // The number of a refusal of what an extension adds.
-fn extension_reason(alloc: Global, number: usize) -> ExtensionReason {
+pub(crate) fn extension_reason(alloc: Global, number: usize) -> ExtensionReason {
     match number {
         0 => ExtensionReason::NotBridge(text(alloc, "e:p")),
         1 => ExtensionReason::MarkerElsewhere(text(alloc, "e:M")),
@@ -216,9 +204,5 @@ static EXTENSIONS: [&str; 8] = [
 
 #[test]
 fn extensions_are_refused_with_an_example(rt: HostRuntime) {
-    for (number, line) in EXTENSIONS.iter().enumerate() {
-        let reason = extension_reason(rt.alloc(), number);
-        let held = is_refused(rt.alloc(), Refusal::Extension(reason), line);
-        assert!(rt; held, "{line:?}");
-    }
+    assert!(rt; are_reported(rt.alloc(), Reported::Extensions, &EXTENSIONS));
 }

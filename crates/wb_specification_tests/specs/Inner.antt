@@ -1,2 +1,0 @@
--- What loops keep, and words of private functions.
-pub mod Sample

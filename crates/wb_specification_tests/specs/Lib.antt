@@ -1,2 +1,0 @@
--- what loops keep, and words of private functions
-pub mod Inner

@@ -1,0 +1,191 @@
+//! What comes of a written host, and of a written extension of it?
+//!
+//! An answer is a text: the rule that fails first, with the names that show it, or `ok`. Tests have tables of what is written and its answer.
+
+ghost use Rattle.std.specs.Prelude.{◌≡◌, []};
+
+use crate::attributes::append_attributes;
+use crate::forwards::append_forwards;
+use crate::markers::append_markers;
+use std::alloc::{AllocError, Global};
+use wb_names::{resolve_extension, resolve_host};
+use wb_naming::NameRefusal;
+use wb_reader::read_spec;
+use wb_resolved::Resolved;
+use wb_syntax::Spec;
+
+// What is tested of a specification whose names are right.
+#[derive(Clone, Copy)]
+pub(crate) enum Tested {
+    Names,
+    Attributes,
+    Markers,
+    Forwards,
+}
+
+// What is tested, and the first line before what is written.
+pub(crate) struct Asked {
+    pub(crate) tested: Tested,
+    pub(crate) first_line: &'static str,
+}
+
+// What is written, and its answer.
+pub(crate) type Row = (&'static str, &'static str);
+
+// Appends pieces of text.
+pub(crate) fn append(out: &mut Vec<u8>, pieces: &[&[u8]]) -> Result<(), AllocError> {
+    for piece in pieces {
+        out.extend_from_slice(*piece)?;
+    }
+    Ok(())
+}
+
+// The rule that a name breaks, and the name.
+fn shown(refusal: &NameRefusal) -> (&'static str, &[u8]) {
+    match refusal {
+        NameRefusal::Unknown(name) => ("N1 ", name.as_slice()),
+        NameRefusal::Duplicate(name) => ("N2 ", name.as_slice()),
+        NameRefusal::Orphan(name) => ("N3 ", name.as_slice()),
+        NameRefusal::WrongKind(name) => ("N4 ", name.as_slice()),
+        NameRefusal::WrongHost(name) => ("N5 ", name.as_slice()),
+        NameRefusal::NoMemory(_) => ("no memory", "".as_bytes()),
+    }
+}
+
+fn append_refusal(refusal: &NameRefusal, out: &mut Vec<u8>) -> Result<(), AllocError> {
+    let (rule, name) = shown(refusal);
+    out.extend_from_slice(rule.as_bytes())?;
+    out.extend_from_slice(name)
+}
+
+fn append_tested(
+    alloc: Global,
+    tested: Tested,
+    resolved: &Resolved,
+    out: &mut Vec<u8>,
+) -> Result<(), AllocError> {
+    match tested {
+        Tested::Names => out.extend_from_slice(b"ok"),
+        Tested::Attributes => append_attributes(alloc, resolved, out),
+        Tested::Markers => append_markers(alloc, resolved, out),
+        Tested::Forwards => append_forwards(alloc, resolved, out),
+    }
+}
+
+fn append_host(
+    alloc: Global,
+    tested: Tested,
+    spec: &Spec,
+    out: &mut Vec<u8>,
+) -> Result<(), AllocError> {
+    match resolve_host(alloc, spec) {
+        Ok(host) => append_tested(alloc, tested, &host, out),
+        Err(refusal) => append_refusal(&refusal, out),
+    }
+}
+
+fn is_answer_to_host(alloc: Global, tested: Tested, spec: &Spec, answer: &str) -> bool {
+    let mut out = Vec::new(alloc);
+    append_host(alloc, tested, spec, &mut out).is_ok() && out.as_slice() == answer.as_bytes()
+}
+
+fn host_text_gets(alloc: Global, tested: Tested, text: &[u8], answer: &str) -> bool {
+    match read_spec(alloc, text) {
+        Ok(spec) => is_answer_to_host(alloc, tested, &spec, answer),
+        Err(_) => false,
+    }
+}
+
+fn host_gets(alloc: Global, asked: &Asked, row: &Row) -> bool {
+    let mut text = Vec::new(alloc);
+    append(&mut text, &[asked.first_line.as_bytes(), row.0.as_bytes()]).is_ok()
+        && host_text_gets(alloc, asked.tested, &text, row.1)
+}
+
+// Whether each host gets its answer.
+pub(crate) fn hosts_get(alloc: Global, asked: &Asked, rows: &[Row]) -> bool {
+    for row in rows {
+        if !host_gets(alloc, asked, row) {
+            return false;
+        }
+    }
+    true
+}
+
+fn append_extension(
+    alloc: Global,
+    tested: Tested,
+    host: &Resolved,
+    spec: &Spec,
+    out: &mut Vec<u8>,
+) -> Result<(), AllocError>
+    requires { host.now.attributes.extensions ≡ [] }
+{
+    match resolve_extension(alloc, host, spec) {
+        Ok(extension) => append_tested(alloc, tested, &extension, out),
+        Err(refusal) => append_refusal(&refusal, out),
+    }
+}
+
+fn is_answer_to_extension(
+    alloc: Global,
+    tested: Tested,
+    host: &Resolved,
+    spec: &Spec,
+    answer: &str,
+) -> bool
+    requires { host.now.attributes.extensions ≡ [] }
+{
+    let mut out = Vec::new(alloc);
+    append_extension(alloc, tested, host, spec, &mut out).is_ok()
+        && out.as_slice() == answer.as_bytes()
+}
+
+fn extension_text_gets(
+    alloc: Global,
+    tested: Tested,
+    host: &Resolved,
+    text: &[u8],
+    answer: &str,
+) -> bool
+    requires { host.now.attributes.extensions ≡ [] }
+{
+    match read_spec(alloc, text) {
+        Ok(spec) => is_answer_to_extension(alloc, tested, host, &spec, answer),
+        Err(_) => false,
+    }
+}
+
+fn extension_gets(alloc: Global, asked: &Asked, host: &Resolved, row: &Row) -> bool
+    requires { host.now.attributes.extensions ≡ [] }
+{
+    let mut text = Vec::new(alloc);
+    append(&mut text, &[asked.first_line.as_bytes(), row.0.as_bytes()]).is_ok()
+        && extension_text_gets(alloc, asked.tested, host, &text, row.1)
+}
+
+fn all_get(alloc: Global, asked: &Asked, host: &Resolved, rows: &[Row]) -> bool
+    requires { host.now.attributes.extensions ≡ [] }
+{
+    'rows: for row in rows {
+        if !extension_gets(alloc, asked, host, row) {
+            return false;
+        }
+    }
+    true
+}
+
+fn all_get_with(alloc: Global, asked: &Asked, spec: &Spec, rows: &[Row]) -> bool {
+    match resolve_host(alloc, spec) {
+        Ok(host) => all_get(alloc, asked, &host, rows),
+        Err(_) => false,
+    }
+}
+
+// Whether each extension of the host gets its answer.
+pub(crate) fn extensions_get(alloc: Global, asked: &Asked, host: &str, rows: &[Row]) -> bool {
+    match read_spec(alloc, host.as_bytes()) {
+        Ok(spec) => all_get_with(alloc, asked, &spec, rows),
+        Err(_) => false,
+    }
+}
