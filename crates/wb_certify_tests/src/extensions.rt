@@ -5,21 +5,23 @@
 
 ghost use Rattle.std.specs.Prelude.{◌≡◌, IfOk};
 
-use crate::answers::{shows, shows_names, spec_of};
+use crate::answers::{Answer, Row, shows, shows_name, spec_of};
 use crate::files::{STATEMENTS, SUMS};
 use std::alloc::Global;
+use std::process::Abort;
 use wb_beside::{CertifiedExtension, certify_extension};
 use wb_certify::{CertifiedHost, CertifyRefusal, certify_host};
 use wb_names::resolve_extension;
 use wb_operations::{OperationTable, Standard, standard_table};
 use wb_syntax::Spec;
 
-// Whether each extension of the host of this text gets the answer that is beside it.
-pub(crate) fn extensions_get(
-    alloc: Global,
-    host: &str,
-    rows: &[(&str, (&str, &str, &str, &str))],
-) -> bool {
+// Fails unless each extension of the host of this text gets the answer that is beside it.
+pub(crate) fn extensions_get<R: Abort + AllocGlobal>(rt: &R, host: &str, rows: &[Row]) {
+    assert!(rt; are_answered(rt.alloc(), host, rows));
+}
+
+// Whether each extension of the host of this text gets its answer.
+fn are_answered(alloc: Global, host: &str, rows: &[Row]) -> bool {
     match standard_table(alloc) {
         Ok(operations) => all_over(alloc, &operations, host, rows),
         Err(_) => false,
@@ -31,7 +33,7 @@ fn all_over(
     alloc: Global,
     operations: &OperationTable<Standard>,
     host: &str,
-    rows: &[(&str, (&str, &str, &str, &str))],
+    rows: &[Row],
 ) -> bool {
     match spec_of(alloc, host) {
         Some(spec) => all_of(alloc, operations, &spec, rows),
@@ -40,12 +42,7 @@ fn all_over(
 }
 
 // The same of the host of this specification.
-fn all_of(
-    alloc: Global,
-    operations: &OperationTable<Standard>,
-    spec: &Spec,
-    rows: &[(&str, (&str, &str, &str, &str))],
-) -> bool {
+fn all_of(alloc: Global, operations: &OperationTable<Standard>, spec: &Spec, rows: &[Row]) -> bool {
     let held = [certify_host(alloc, spec, operations)];
     all_with(alloc, operations, &held[0], rows)
 }
@@ -55,7 +52,7 @@ fn all_with(
     alloc: Global,
     operations: &OperationTable<Standard>,
     given: &Result<CertifiedHost, CertifyRefusal>,
-    rows: &[(&str, (&str, &str, &str, &str))],
+    rows: &[Row],
 ) -> bool
     requires { IfOk given.now (λ host. host.operations ≡ operations.now.signatures) }
 {
@@ -70,12 +67,12 @@ fn all_get(
     alloc: Global,
     host: &CertifiedHost,
     operations: &OperationTable<Standard>,
-    rows: &[(&str, (&str, &str, &str, &str))],
+    rows: &[Row],
 ) -> bool
     requires { operations.now.signatures ≡ host.now.operations }
 {
     'rows: for (text, answer) in rows {
-        if !text_gets(alloc, host, operations, *text, *answer) {
+        if !text_gets(alloc, host, operations, *text, answer) {
             return false;
         }
     }
@@ -88,7 +85,7 @@ fn text_gets(
     host: &CertifiedHost,
     operations: &OperationTable<Standard>,
     text: &str,
-    answer: (&str, &str, &str, &str),
+    answer: &Answer,
 ) -> bool
     requires { operations.now.signatures ≡ host.now.operations }
 {
@@ -104,7 +101,7 @@ fn spec_gets(
     host: &CertifiedHost,
     operations: &OperationTable<Standard>,
     file: (&str, &Spec),
-    answer: (&str, &str, &str, &str),
+    answer: &Answer,
 ) -> bool
     requires { operations.now.signatures ≡ host.now.operations }
 {
@@ -118,11 +115,11 @@ fn is_answer(
     host: &CertifiedHost,
     file: (&str, &Spec),
     given: &Result<CertifiedExtension, CertifyRefusal>,
-    answer: (&str, &str, &str, &str),
+    answer: &Answer,
 ) -> bool {
     match given {
         Ok(_) => answer.0 == "ok",
-        Err(CertifyRefusal::Names(refusal)) => shows_names(refusal, answer.0, answer.1),
+        Err(CertifyRefusal::Names(refusal)) => shows_name(refusal, answer),
         Err(refusal) => is_refused(alloc, host, file, refusal, answer),
     }
 }
@@ -133,7 +130,7 @@ fn is_refused(
     host: &CertifiedHost,
     file: (&str, &Spec),
     refusal: &CertifyRefusal,
-    answer: (&str, &str, &str, &str),
+    answer: &Answer,
 ) -> bool {
     match resolve_extension(alloc, host.resolved(), file.1) {
         Ok(resolved) => shows(&resolved, file.0, refusal, answer),
@@ -142,7 +139,7 @@ fn is_refused(
 }
 
 // Extensions of the language with statements.
-static OF_STATEMENTS: [(&str, (&str, &str, &str, &str)); 6] = [
+static OF_STATEMENTS: [Row; 6] = [
     (
         "format 1; extension a for mini; marking Sum /sum/; prefer Sum over Id; concrete dbl : Factor ::= m : Sum o : Open x : Expr c : Close { forwards to paren(\"(\", plus(x, \"+\", factor(paren(\"(\", x, \")\"))), \")\"); }",
         ("ok", "", "", ""),
@@ -171,11 +168,11 @@ static OF_STATEMENTS: [(&str, (&str, &str, &str, &str)); 6] = [
 
 #[test]
 fn extensions_of_a_language_with_statements(rt: HostRuntime) {
-    assert!(rt; extensions_get(rt.alloc(), STATEMENTS, &OF_STATEMENTS));
+    extensions_get(&rt, STATEMENTS, &OF_STATEMENTS);
 }
 
 // Extensions of sums that are certified.
-static OF_SUMS: [(&str, (&str, &str, &str, &str)); 4] = [
+static OF_SUMS: [Row; 4] = [
     ("format 1; extension e for tiny;", ("ok", "", "", "")),
     (
         "format 1; extension count for tiny; syn leaves : int; occurs leaves on E; occurs leaves on T; aspect plus { top.leaves = @add(a.leaves, b.leaves); } aspect term { top.leaves = t.leaves; } aspect num { top.leaves = 1; }",
@@ -193,11 +190,11 @@ static OF_SUMS: [(&str, (&str, &str, &str, &str)); 4] = [
 
 #[test]
 fn extensions_that_keep_all_rules(rt: HostRuntime) {
-    assert!(rt; extensions_get(rt.alloc(), SUMS, &OF_SUMS));
+    extensions_get(&rt, SUMS, &OF_SUMS);
 }
 
 // Extensions of sums whose names or kinds are wrong.
-static WRONG_NAMES: [(&str, (&str, &str, &str, &str)); 7] = [
+static WRONG_NAMES: [Row; 7] = [
     (
         "format 1; extension second for adj; marking K /k/; concrete kh : H ::= k : K y : Y { forwards to hx(\"x\"); }",
         ("N5", "adj", "", ""),
@@ -230,11 +227,11 @@ static WRONG_NAMES: [(&str, (&str, &str, &str, &str)); 7] = [
 
 #[test]
 fn names_and_kinds_of_extensions_are_right(rt: HostRuntime) {
-    assert!(rt; extensions_get(rt.alloc(), SUMS, &WRONG_NAMES));
+    extensions_get(&rt, SUMS, &WRONG_NAMES);
 }
 
 // Extensions of sums whose markers or preferences are wrong.
-static WRONG_MARKERS: [(&str, (&str, &str, &str, &str)); 10] = [
+static WRONG_MARKERS: [Row; 10] = [
     (
         "format 1; extension e for tiny; terminal K /k/; concrete p : T ::= k : K { forwards to num(\"1\"); }",
         ("E1", "p", "", ""),
@@ -279,11 +276,11 @@ static WRONG_MARKERS: [(&str, (&str, &str, &str, &str)); 10] = [
 
 #[test]
 fn markers_and_preferences_of_extensions_keep_their_rules(rt: HostRuntime) {
-    assert!(rt; extensions_get(rt.alloc(), SUMS, &WRONG_MARKERS));
+    extensions_get(&rt, SUMS, &WRONG_MARKERS);
 }
 
 // Extensions of sums whose grammar or scanner is wrong.
-static WRONG_GRAMMARS: [(&str, (&str, &str, &str, &str)); 8] = [
+static WRONG_GRAMMARS: [Row; 8] = [
     (
         "format 1; extension e for tiny; marking K /k/; nonterminal Q; concrete p : T ::= k : K { forwards to num(\"1\"); } concrete q : Q ::= n : Num { }",
         ("G1 unreachable", "Q", "", ""),
@@ -320,11 +317,11 @@ static WRONG_GRAMMARS: [(&str, (&str, &str, &str, &str)); 8] = [
 
 #[test]
 fn host_and_extension_are_deterministic(rt: HostRuntime) {
-    assert!(rt; extensions_get(rt.alloc(), SUMS, &WRONG_GRAMMARS));
+    extensions_get(&rt, SUMS, &WRONG_GRAMMARS);
 }
 
 // Extensions of sums whose attributes are wrong.
-static WRONG_ATTRIBUTES: [(&str, (&str, &str, &str, &str)); 6] = [
+static WRONG_ATTRIBUTES: [Row; 6] = [
     (
         "format 1; extension e for tiny; inh j : int; occurs j on E;",
         ("A5", "j", "", ""),
@@ -353,5 +350,5 @@ static WRONG_ATTRIBUTES: [(&str, (&str, &str, &str, &str)); 6] = [
 
 #[test]
 fn attributes_of_extensions_are_well_defined(rt: HostRuntime) {
-    assert!(rt; extensions_get(rt.alloc(), SUMS, &WRONG_ATTRIBUTES));
+    extensions_get(&rt, SUMS, &WRONG_ATTRIBUTES);
 }

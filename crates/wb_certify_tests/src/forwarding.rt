@@ -2,42 +2,43 @@
 //!
 //! Each rule on forwarding is needed for this. Expected answers follow from the rules.
 
+use crate::answers::Row;
 use crate::extensions::extensions_get;
 use crate::files::{FORWARD_NEEDS, TWO_INHERITED};
 
 // A nonterminal that inherits two attributes, and its forward may need none of them.
-const CLOSED: &str =
+static CLOSED: &str =
     "format 1; host h; terminal X /x/; nonterminal P; nonterminal N; start P; extensible N; inh env : bool; inh store : bool; syn value : bool; occurs env on N; occurs store on N; occurs value on P; occurs value on N needs { env, store }; concrete root : P ::= n : N { n.env = true; n.store = false; top.value = n.value; } concrete leaf : N ::= x : X { top.value = top.env; }";
 
 // The same, and its forward may look at one of them.
-const LOOKING: &str =
+static LOOKING: &str =
     "format 1; host h; terminal X /x/; nonterminal P; nonterminal N; start P; extensible N; inh env : bool; inh store : bool; syn value : bool; occurs env on N; occurs store on N; occurs value on P; occurs value on N needs { env, store }; forward on N needs { env }; concrete root : P ::= n : N { n.env = true; n.store = false; top.value = n.value; } concrete leaf : N ::= x : X { top.value = top.env; }";
 
 // An extension that swaps what its forwarded tree inherits.
-static OF_TWO_INHERITED: [(&str, (&str, &str, &str, &str)); 1] = [(
+static OF_TWO_INHERITED: [Row; 1] = [(
     "format 1; extension swap for ctx; marking M /m/; concrete swap : N ::= m : M n : N { forwards to n; forward.env = top.store; }",
     ("E8", "swap", "env", "store"),
 )];
 
 #[test]
 fn equations_for_a_forwarded_tree_keep_to_its_flow_type(rt: HostRuntime) {
-    assert!(rt; extensions_get(rt.alloc(), TWO_INHERITED, &OF_TWO_INHERITED));
+    extensions_get(&rt, TWO_INHERITED, &OF_TWO_INHERITED);
 }
 
 // The same where the flow type has it.
-static OF_FORWARD_NEEDS: [(&str, (&str, &str, &str, &str)); 1] = [(
+static OF_FORWARD_NEEDS: [Row; 1] = [(
     "format 1; extension swap for ctx; marking M /m/; concrete swap : N ::= m : M n : N { forwards to n; forward.env = top.store; }",
     ("ok", "", "", ""),
 )];
 
 #[test]
 fn equations_for_a_forwarded_tree_may_need_what_its_flow_type_has(rt: HostRuntime) {
-    assert!(rt; extensions_get(rt.alloc(), FORWARD_NEEDS, &OF_FORWARD_NEEDS));
+    extensions_get(&rt, FORWARD_NEEDS, &OF_FORWARD_NEEDS);
 }
 
 // With the second extension, which is right alone, either of the others would need what isn't there: one swaps what its forwarded tree
 // inherits, and one doesn't forward.
-static OF_CLOSED: [(&str, (&str, &str, &str, &str)); 7] = [
+static OF_CLOSED: [Row; 7] = [
     (
         "format 1; extension e for h; marking M /m/; concrete p : N ::= m : M n : N { forwards to n; forward.env = top.store; }",
         ("E8", "p", "env", "store"),
@@ -70,11 +71,11 @@ static OF_CLOSED: [(&str, (&str, &str, &str, &str)); 7] = [
 
 #[test]
 fn an_extension_is_right_with_any_other(rt: HostRuntime) {
-    assert!(rt; extensions_get(rt.alloc(), CLOSED, &OF_CLOSED));
+    extensions_get(&rt, CLOSED, &OF_CLOSED);
 }
 
 // The first is right, and so the second is refused, whose attribute lacks what a forward may look at.
-static OF_LOOKING: [(&str, (&str, &str, &str, &str)); 4] = [
+static OF_LOOKING: [Row; 4] = [
     (
         "format 1; extension e for h; marking M /m/; concrete p : N ::= m : M n : N { forwards to if top.env then n else n; }",
         ("ok", "", "", ""),
@@ -95,5 +96,5 @@ static OF_LOOKING: [(&str, (&str, &str, &str, &str)); 4] = [
 
 #[test]
 fn attributes_need_what_forwards_look_at(rt: HostRuntime) {
-    assert!(rt; extensions_get(rt.alloc(), LOOKING, &OF_LOOKING));
+    extensions_get(&rt, LOOKING, &OF_LOOKING);
 }

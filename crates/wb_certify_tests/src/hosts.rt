@@ -3,15 +3,21 @@
 //! Each row has a host and its answer. Expected answers follow from the rules; where more than one example is true, what they differ in is left
 //! empty.
 
-use crate::answers::{shows, shows_names, spec_of};
+use crate::answers::{Answer, Row, shows, shows_name, spec_of};
 use std::alloc::Global;
+use std::process::Abort;
 use wb_certify::{CertifiedHost, CertifyRefusal, certify_host};
 use wb_names::resolve_host;
 use wb_operations::{OperationTable, Standard, standard_table};
 use wb_syntax::Spec;
 
-// Whether each host gets the answer that is beside it.
-fn hosts_get(alloc: Global, rows: &[(&str, (&str, &str, &str, &str))]) -> bool {
+// Fails unless each host gets the answer that is beside it.
+fn hosts_get<R: Abort + AllocGlobal>(rt: &R, rows: &[Row]) {
+    assert!(rt; are_answered(rt.alloc(), rows));
+}
+
+// Whether each host gets its answer.
+fn are_answered(alloc: Global, rows: &[Row]) -> bool {
     match standard_table(alloc) {
         Ok(operations) => all_get(alloc, &operations, rows),
         Err(_) => false,
@@ -19,13 +25,9 @@ fn hosts_get(alloc: Global, rows: &[(&str, (&str, &str, &str, &str))]) -> bool {
 }
 
 // The same over these operations.
-fn all_get(
-    alloc: Global,
-    operations: &OperationTable<Standard>,
-    rows: &[(&str, (&str, &str, &str, &str))],
-) -> bool {
+fn all_get(alloc: Global, operations: &OperationTable<Standard>, rows: &[Row]) -> bool {
     'rows: for (text, answer) in rows {
-        if !text_gets(alloc, operations, *text, *answer) {
+        if !text_gets(alloc, operations, *text, answer) {
             return false;
         }
     }
@@ -37,7 +39,7 @@ fn text_gets(
     alloc: Global,
     operations: &OperationTable<Standard>,
     text: &str,
-    answer: (&str, &str, &str, &str),
+    answer: &Answer,
 ) -> bool {
     match spec_of(alloc, text) {
         Some(spec) => spec_gets(alloc, operations, (text, &spec), answer),
@@ -50,7 +52,7 @@ fn spec_gets(
     alloc: Global,
     operations: &OperationTable<Standard>,
     file: (&str, &Spec),
-    answer: (&str, &str, &str, &str),
+    answer: &Answer,
 ) -> bool {
     let held = [certify_host(alloc, file.1, operations)];
     is_answer(alloc, file, &held[0], answer)
@@ -61,11 +63,11 @@ fn is_answer(
     alloc: Global,
     file: (&str, &Spec),
     given: &Result<CertifiedHost, CertifyRefusal>,
-    answer: (&str, &str, &str, &str),
+    answer: &Answer,
 ) -> bool {
     match given {
         Ok(_) => answer.0 == "ok",
-        Err(CertifyRefusal::Names(refusal)) => shows_names(refusal, answer.0, answer.1),
+        Err(CertifyRefusal::Names(refusal)) => shows_name(refusal, answer),
         Err(refusal) => is_refused(alloc, file, refusal, answer),
     }
 }
@@ -75,7 +77,7 @@ fn is_refused(
     alloc: Global,
     file: (&str, &Spec),
     refusal: &CertifyRefusal,
-    answer: (&str, &str, &str, &str),
+    answer: &Answer,
 ) -> bool {
     match resolve_host(alloc, file.1) {
         Ok(resolved) => shows(&resolved, file.0, refusal, answer),
@@ -84,7 +86,7 @@ fn is_refused(
 }
 
 // Hosts that are certified.
-static CERTIFIED: [(&str, (&str, &str, &str, &str)); 10] = [
+static CERTIFIED: [Row; 10] = [
     (
         "format 1; host mini; ignore Space /[ \\n]+/; terminal Let /let/; terminal Print /print/; terminal Id /[a-z]+/; terminal Num /[0-9]+/; terminal Eq /=/; terminal Semi /;/; terminal Begin /\\{/; terminal End /\\}/; terminal Plus /\\+/; terminal Times /\\*/; terminal Open /\\(/; terminal Close /\\)/; nonterminal Program; nonterminal Stmts; nonterminal Stmt; nonterminal Expr; nonterminal Term; nonterminal Factor; nonterminal Env; start Program; extensible Stmt; extensible Factor; syn out : text; syn defs : Env; syn value : int; syn found : int; inh env : Env; inh key : text; occurs out on Program; occurs env on Stmts; occurs defs on Stmts needs { env }; occurs out on Stmts needs { env }; occurs env on Stmt; occurs defs on Stmt needs { env }; occurs out on Stmt needs { env }; occurs env on Expr; occurs value on Expr needs { env }; occurs env on Term; occurs value on Term needs { env }; occurs env on Factor; occurs value on Factor needs { env }; occurs key on Env; occurs found on Env needs { key }; abstract empty : Env ::= { top.found = 0; } abstract bind : Env ::= n : text v : int r : Env { r.key = top.key; top.found = if @same(top.key, n) then v else r.found; } concrete prog : Program ::= s : Stmts { s.env = empty(); top.out = s.out; } concrete none : Stmts ::= { top.defs = top.env; top.out = \"\"; } concrete more : Stmts ::= a : Stmts b : Stmt { a.env = top.env; b.env = a.defs; top.defs = b.defs; top.out = @concat(a.out, b.out); } concrete let : Stmt ::= k : Let x : Id e : Eq v : Expr z : Semi { v.env = top.env; top.out = \"\"; top.defs = bind(x.lexeme, v.value, top.env); } concrete print : Stmt ::= k : Print v : Expr z : Semi { v.env = top.env; top.defs = top.env; top.out = @concat(@to_text(v.value), \"\\n\"); } concrete block : Stmt ::= o : Begin s : Stmts c : End { s.env = top.env; top.defs = top.env; top.out = s.out; } concrete plus : Expr ::= a : Expr p : Plus b : Term { a.env = top.env; b.env = top.env; top.value = @add(a.value, b.value); } concrete term : Expr ::= t : Term { t.env = top.env; top.value = t.value; } concrete times : Term ::= a : Term m : Times b : Factor { a.env = top.env; b.env = top.env; top.value = @mul(a.value, b.value); } concrete factor : Term ::= f : Factor { f.env = top.env; top.value = f.value; } concrete num : Factor ::= n : Num { top.value = @to_int(n.lexeme); } concrete var : Factor ::= x : Id { local e : Env = top.env; e.key = x.lexeme; top.value = e.found; } concrete paren : Factor ::= o : Open e : Expr c : Close { e.env = top.env; top.value = e.value; }",
         ("ok", "", "", ""),
@@ -129,11 +131,11 @@ static CERTIFIED: [(&str, (&str, &str, &str, &str)); 10] = [
 
 #[test]
 fn hosts_that_keep_all_rules(rt: HostRuntime) {
-    assert!(rt; hosts_get(rt.alloc(), &CERTIFIED));
+    hosts_get(&rt, &CERTIFIED);
 }
 
 // Hosts that aren't, each with its answer.
-static REFUSED: [(&str, (&str, &str, &str, &str)); 16] = [
+static REFUSED: [Row; 16] = [
     (
         "format 1; extension dup for tiny; marking D /d/; concrete twin : T ::= m : D t : T { forwards to num(@to_text(@mul(2, t.value))); }",
         ("N4", "dup", "", ""),
@@ -202,5 +204,5 @@ static REFUSED: [(&str, (&str, &str, &str, &str)); 16] = [
 
 #[test]
 fn each_rule_refuses_a_host(rt: HostRuntime) {
-    assert!(rt; hosts_get(rt.alloc(), &REFUSED));
+    hosts_get(&rt, &REFUSED);
 }

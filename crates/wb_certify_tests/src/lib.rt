@@ -6,10 +6,6 @@
 #[cfg(test)]
 mod answers;
 #[cfg(test)]
-mod attribute_answers;
-#[cfg(test)]
-mod determinism_answers;
-#[cfg(test)]
 mod envelopes;
 #[cfg(test)]
 mod extensions;
@@ -20,4 +16,6 @@ mod forwarding;
 #[cfg(test)]
 mod hosts;
 #[cfg(test)]
-mod numbers;
+mod parts;
+#[cfg(test)]
+mod shown;
