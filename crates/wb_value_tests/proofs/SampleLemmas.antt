@@ -31,7 +31,7 @@ use Rattle.wb_resolved.specs.Owned.{IsOwned, IsOwnOccurrence, IsOwnEquation}
 use Rattle.wb_resolved.specs.Resolved.{IsNamedTerminal, IsNamedPreference, HasGrammarTerminals, IsResolved}
 use Rattle.wb_resolved.specs.Visible.{SeesNonterminal, SeesAttribute, SeesOccurrence}
 use Rattle.wb_value_tests.specs.Inner.Empty.{no_parts}
-use Rattle.wb_value_tests.specs.Inner.Sample.{nonterminal_n, attribute_v, v_on_n, equation_of, production_p, signature_p, sample}
+use Rattle.wb_value_tests.specs.Inner.Sample.{nonterminal_n, attribute_v, v_on_n, equation_of, production_p, sample}
 use Rattle.wb_value_tests.specs.Inner.Sample.{IsSampleNode}
 use Rattle.wb_value_tests.proofs.NameLemmas.{n_name, v_name, p_name, frob_name}
 
@@ -177,25 +177,9 @@ module _ (node : Node) (is : IsSampleNode node) where
     };
   }
 
--- attributes with the sample's lists are the sample
-same_sample : (a : AttributionParts) (node : Node) → a.extensions ≡ [] → a.nonterminals ≡ nonterminal_n ∷ []
-    → a.attributes ≡ attribute_v ∷ []
-    → a.occurrences ≡ v_on_n ∷ [] → a.productions ≡ production_p node ∷ [] → a.signatures ≡ signature_p ∷ [] → a ≡ sample node
-same_sample a node e n v o p s i = record {
-  extensions = e i;
-  nonterminals = n i;
-  attributes = v i;
-  occurrences = o i;
-  productions = p i;
-  signatures = s i;
-}
-
--- so they are an attribution
-pub is_sampled : (a : AttributionParts) (node : Node) → IsSampleNode node → a.extensions ≡ [] → a.nonterminals ≡ nonterminal_n ∷ []
-    → a.attributes ≡ attribute_v ∷ [] → a.occurrences ≡ v_on_n ∷ [] → a.productions ≡ production_p node ∷ []
-    → a.signatures ≡ signature_p ∷ []
-    → IsAttribution a
-is_sampled a node is e n v o p s = subst IsAttribution (sym (same_sample a node e n v o p s)) (is_sample node is)
+-- so attributes that are the sample's are an attribution
+pub is_sampled : (a : AttributionParts) (node : Node) → IsSampleNode node → a ≡ sample node → IsAttribution a
+is_sampled a node is same = subst IsAttribution (sym same) (is_sample node is)
 
 -- a list without elements has none
 none_all : {X : Type 0} (P : X → Type 0) (xs : List X) → xs ≡ [] → All P xs

@@ -11,3 +11,12 @@ mod operations;
 mod types;
 #[cfg(test)]
 mod values;
+
+#[cfg(test)]
+use std::alloc::AllocError;
+
+// Whether there was memory for a check, and it holds.
+#[cfg(test)]
+fn holds(answer: Result<bool, AllocError>) -> bool {
+    matches!(answer, Ok(true))
+}

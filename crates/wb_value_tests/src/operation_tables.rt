@@ -7,8 +7,8 @@ ghost use Rattle.wb_operations.specs.Given.{FitKinds, IsGiven, plains_of};
 ghost use Rattle.wb_operations.specs.Takes.{one_text, two_bools, two_ints, two_texts};
 ghost use Rattle.wb_operations.specs.Standard.{standard};
 
+use crate::holds;
 use std::alloc::{AllocError, Global};
-use std::test::Fail;
 use wb_base::{Bytes, Kind};
 use wb_operations::{
     Meaning, OperationRefusal, OperationTable, standard_concat, standard_or, standard_table,
@@ -25,22 +25,21 @@ fn is_standard(alloc: Global) -> Result<bool, AllocError> {
 }
 
 #[test]
-fn the_standard_table_has_sixteen_operations(rt: HostRuntime) -> Result<(), Fail> {
-    assert!(rt; is_standard(rt.alloc())?);
-    Ok(())
+fn the_standard_table_has_sixteen_operations(rt: HostRuntime) {
+    assert!(rt; holds(is_standard(rt.alloc())));
 }
 
-// Seven by two, by the standard table.
+// Whether seven by two is three, by the standard table.
 #[tactic(auto, unfolding(wb_operations::specs::Standard::standard_operations))]
-fn quotient(alloc: Global) -> Result<Result<Value, OperationRefusal>, AllocError> {
+fn is_divided(alloc: Global) -> Result<bool, AllocError> {
     let table = standard_table(alloc)?;
-    Ok(table.call(3, &[Value::Int(7), Value::Int(2)]))
+    let quotient = table.call(3, &[Value::Int(7), Value::Int(2)]);
+    Ok(matches!(quotient, Ok(Value::Int(3))))
 }
 
 #[test]
-fn a_standard_operation_is_called(rt: HostRuntime) -> Result<(), Fail> {
-    assert!(rt; matches!(quotient(rt.alloc())?, Ok(Value::Int(3))));
-    Ok(())
+fn a_standard_operation_is_called(rt: HostRuntime) {
+    assert!(rt; holds(is_divided(rt.alloc())));
 }
 
 // Whether one or both hold.
@@ -53,10 +52,9 @@ impl Meaning for Swapped {
     ghost meaning = { λ number. standard (number + 11) };
 }
 
-// What a table gives of true and false whose only operation is called `and` and means `or`.
+// Whether a table whose only operation is called `and` and means `or` gives true of true and false.
 #[tactic(auto, unfolding(wb_operations::specs::Standard::standard_at, wb_operations::specs::Standard::standard_operations))]
-fn true_and_false(alloc: Global) -> Result<Result<Value, OperationRefusal>, AllocError> {
-    let mut table: OperationTable<Swapped> = OperationTable::new(alloc);
+fn is_either(alloc: Global) -> Result<bool, AllocError> {
     let run = Box::new(
         alloc,
         |arguments: &[Value]|
@@ -64,14 +62,15 @@ fn true_and_false(alloc: Global) -> Result<Result<Value, OperationRefusal>, Allo
             ensures { IsGiven (standard 11 (plains_of arguments.now)) result }
         { standard_or(arguments) },
     )?;
+    let mut table: OperationTable<Swapped> = OperationTable::new(alloc);
     table.add(b"and", &[Kind::Bool, Kind::Bool], Kind::Bool, run)?;
-    Ok(table.call(0, &[Value::Bool(true), Value::Bool(false)]))
+    let either = table.call(0, &[Value::Bool(true), Value::Bool(false)]);
+    Ok(matches!(either, Ok(Value::Bool(true))))
 }
 
 #[test]
-fn a_table_answers_its_own_meaning(rt: HostRuntime) -> Result<(), Fail> {
-    assert!(rt; matches!(true_and_false(rt.alloc())?, Ok(Value::Bool(true))));
-    Ok(())
+fn a_table_answers_its_own_meaning(rt: HostRuntime) {
+    assert!(rt; holds(is_either(rt.alloc())));
 }
 
 // The first operation adds, with fault 9 where the second number is 4, and the second reads a number: they differ by their number.
@@ -114,9 +113,10 @@ fn odd_to_int(arguments: &[Value]) -> Result<Value, OperationRefusal>
     standard_to_int(arguments)
 }
 
-// Whether the first operation fails where it is odd, and the second reads a number.
-fn is_odd(alloc: Global) -> Result<bool, AllocError> {
-    let mut table: OperationTable<Odd> = OperationTable::new(alloc);
+// Whether the first operation fails where it is odd, and the second reads -7.
+fn is_odd(alloc: Global, seven: &[Value]) -> Result<bool, AllocError>
+    requires { FitKinds one_text seven.now }
+{
     let sum = Box::new(
         alloc,
         |arguments: &[Value]|
@@ -124,6 +124,7 @@ fn is_odd(alloc: Global) -> Result<bool, AllocError> {
             ensures { IsGiven (odd 0 (plains_of arguments.now)) result }
         { odd_add(arguments) },
     )?;
+    let mut table: OperationTable<Odd> = OperationTable::new(alloc);
     table.add(b"add", &[Kind::Int, Kind::Int], Kind::Int, sum)?;
     let read = Box::new(
         alloc,
@@ -134,34 +135,19 @@ fn is_odd(alloc: Global) -> Result<bool, AllocError> {
     )?;
     table.add(b"to_int", &[Kind::Text], Kind::Int, read)?;
     let fault = table.call(0, &[Value::Int(3), Value::Int(4)]);
+    let number = table.call(1, seven);
     let faults = matches!(fault, Err(OperationRefusal::Fault(9)));
-    let text = Bytes::from_slice(alloc, b"-7")?;
-    let seven = table.call(1, &[Value::Text(text)]);
-    Ok(faults && matches!(seven, Ok(Value::Int(-7))))
+    Ok(faults && matches!(number, Ok(Value::Int(-7))))
+}
+
+fn are_odd(alloc: Global) -> Result<bool, AllocError> {
+    let seven = Bytes::from_slice(alloc, b"-7")?;
+    is_odd(alloc, &[Value::Text(seven)])
 }
 
 #[test]
-fn operations_go_by_their_number(rt: HostRuntime) -> Result<(), Fail> {
-    assert!(rt; is_odd(rt.alloc())?);
-    Ok(())
-}
-
-// Two texts joined by a closure that holds the allocator.
-#[tactic(auto, unfolding(wb_operations::specs::Standard::standard_at, wb_operations::specs::Standard::standard_operations))]
-fn is_joined(alloc: Global) -> Result<bool, AllocError> {
-    let mut table: OperationTable<Joining> = OperationTable::new(alloc);
-    let join = Box::new(
-        alloc,
-        move |arguments: &[Value]|
-            requires { FitKinds two_texts arguments.now }
-            ensures { IsGiven (standard 12 (plains_of arguments.now)) result }
-        { standard_concat(alloc, arguments) },
-    )?;
-    table.add(b"concat", &[Kind::Text, Kind::Text], Kind::Text, join)?;
-    let a = Bytes::from_slice(alloc, b"a")?;
-    let b = Bytes::from_slice(alloc, b"b")?;
-    let both = table.call(0, &[Value::Text(a), Value::Text(b)]);
-    Ok(matches!(both, Ok(Value::Text(text)) if text.as_slice() == b"ab".as_slice()))
+fn operations_go_by_their_number(rt: HostRuntime) {
+    assert!(rt; holds(are_odd(rt.alloc())));
 }
 
 // The texts joined.
@@ -174,8 +160,31 @@ impl Meaning for Joining {
     ghost meaning = { λ number. standard (number + 12) };
 }
 
+// Whether two texts are joined to `ab` by a closure that holds the allocator.
+#[tactic(auto, unfolding(wb_operations::specs::Standard::standard_at, wb_operations::specs::Standard::standard_operations))]
+fn is_joined(alloc: Global, texts: &[Value]) -> Result<bool, AllocError>
+    requires { FitKinds two_texts texts.now }
+{
+    let join = Box::new(
+        alloc,
+        move |arguments: &[Value]|
+            requires { FitKinds two_texts arguments.now }
+            ensures { IsGiven (standard 12 (plains_of arguments.now)) result }
+        { standard_concat(alloc, arguments) },
+    )?;
+    let mut table: OperationTable<Joining> = OperationTable::new(alloc);
+    table.add(b"concat", &[Kind::Text, Kind::Text], Kind::Text, join)?;
+    let both = table.call(0, texts);
+    Ok(matches!(both, Ok(Value::Text(text)) if text.as_slice() == b"ab".as_slice()))
+}
+
+fn are_joined(alloc: Global) -> Result<bool, AllocError> {
+    let a = Bytes::from_slice(alloc, b"a")?;
+    let b = Bytes::from_slice(alloc, b"b")?;
+    is_joined(alloc, &[Value::Text(a), Value::Text(b)])
+}
+
 #[test]
-fn a_closure_may_hold_the_allocator(rt: HostRuntime) -> Result<(), Fail> {
-    assert!(rt; is_joined(rt.alloc())?);
-    Ok(())
+fn a_closure_may_hold_the_allocator(rt: HostRuntime) {
+    assert!(rt; holds(are_joined(rt.alloc())));
 }

@@ -3,12 +3,12 @@
 //! One host declares nothing, and one has a single equation, which each test gives another expression. Expected answers follow from the
 //! rules of kinds.
 
-ghost use Rattle.std.specs.Prelude.{◌≡◌, [], ◌∷◌, IfOk};
+ghost use Rattle.std.specs.Prelude.{◌≡◌, [], ◌∷◌, IfOk, OnOk};
 ghost use Rattle.wb_value_tests.specs.Inner.Empty.{no_parts};
-ghost use Rattle.wb_value_tests.specs.Inner.Sample.{IsSampleNode, attribute_v, equation_of, nonterminal_n, production_p, sample, signature_p, v_on_n};
+ghost use Rattle.wb_value_tests.specs.Inner.Sample.{IsSampleNode, attribute_v, equation_of, nonterminal_n, production_p, sample, v_on_n};
 
+use crate::holds;
 use std::alloc::{AllocError, Global};
-use std::test::Fail;
 use wb_base::{Bytes, Kind, Sequence};
 use wb_operations::{Standard, standard_table};
 use wb_resolved::{
@@ -25,19 +25,25 @@ fn nothing<T>(alloc: Global) -> Sequence<T>
     Sequence::from_vec(Vec::new(alloc))
 }
 
-// The attributes of a host that declares none.
-fn no_attributes(alloc: Global) -> Result<Attribution, AllocError>
-    ensures { IfOk result (λ made. made ≡ no_parts) }
+// Lists without values.
+fn no_parts(alloc: Global) -> AttributionParts
+    ensures { result ≡ no_parts }
 {
-    let parts = AttributionParts {
+    AttributionParts {
         extensions: nothing(alloc),
         nonterminals: nothing(alloc),
         attributes: nothing(alloc),
         occurrences: nothing(alloc),
         productions: nothing(alloc),
         signatures: Signatures::new(alloc),
-    };
-    Attribution::new(alloc, parts)
+    }
+}
+
+// The attributes of a host that declares none.
+fn no_attributes(alloc: Global) -> Result<Attribution, AllocError>
+    ensures { IfOk result (λ made. made ≡ no_parts) }
+{
+    Attribution::new(alloc, no_parts(alloc))
 }
 
 // The nonterminal `N`.
@@ -122,33 +128,27 @@ fn productions(alloc: Global, node: Node) -> Result<Sequence<Production>, AllocE
     Ok(Sequence::from_vec(all))
 }
 
-// Its signature.
-fn signatures(alloc: Global) -> Result<Signatures, AllocError>
-    ensures { IfOk result (λ made. made ≡ signature_p ∷ []) }
+// Fills in the lists of a host whose one equation is by this node.
+fn fill(alloc: Global, parts: &mut AttributionParts, node: Node) -> Result<(), AllocError>
+    requires { parts.old ≡ no_parts }
+    ensures { OnOk result (parts.new ≡ sample node) }
 {
-    let mut signatures = Signatures::new(alloc);
-    signatures.add(b"p", 0, &[])?;
-    Ok(signatures)
+    parts.productions = productions(alloc, node)?;
+    parts.signatures.add(b"p", 0, &[])?;
+    parts.nonterminals = nonterminals(alloc)?;
+    parts.attributes = attributes(alloc)?;
+    parts.occurrences = occurrences(alloc)?;
+    Ok(())
 }
 
-// The attributes of a host whose one equation is by this node.
+// The attributes of such a host. Lists that are empty at first are filled in place, so that no more than one value is dropped
+// where there is no memory for the next.
 fn one_equation(alloc: Global, node: Node) -> Result<Attribution, AllocError>
     requires { IsSampleNode node }
     ensures { IfOk result (λ made. made ≡ sample node) }
 {
-    let productions = productions(alloc, node)?;
-    let signatures = signatures(alloc)?;
-    let nonterminals = nonterminals(alloc)?;
-    let attributes = attributes(alloc)?;
-    let occurrences = occurrences(alloc)?;
-    let parts = AttributionParts {
-        extensions: nothing(alloc),
-        nonterminals,
-        attributes,
-        occurrences,
-        productions,
-        signatures,
-    };
+    let mut parts = no_parts(alloc);
+    fill(alloc, &mut parts, node)?;
     Attribution::new(alloc, parts)
 }
 
@@ -171,8 +171,8 @@ fn empty_host(alloc: Global) -> Result<Resolved, AllocError> {
 fn sample_host(alloc: Global, node: Node) -> Result<Resolved, AllocError>
     requires { IsSampleNode node }
 {
-    let attributes = one_equation(alloc, node)?;
     let host = Bytes::from_slice(alloc, b"h")?;
+    let attributes = one_equation(alloc, node)?;
     let parts = ResolvedParts {
         host,
         grammar: None,
@@ -184,59 +184,84 @@ fn sample_host(alloc: Global, node: Node) -> Result<Resolved, AllocError>
     Resolved::new(alloc, parts)
 }
 
-// Whether a copy of a resolved specification has its parts.
-fn is_copied(resolved: &Resolved) -> Result<bool, AllocError> {
-    let copy = resolved.copy()?;
-    let parts = copy.parts();
-    let attributes = parts.attributes.copy()?;
-    Ok(parts.host.as_slice() == b"h".as_slice() && attributes.parts().productions.is_empty())
+// Whether a copy of attributes has no productions.
+fn is_empty_copied(attributes: &Attribution) -> Result<bool, AllocError> {
+    Ok(attributes.copy()?.parts().productions.is_empty())
 }
 
-// What the rules of kinds say of it: 0 where they hold, 1 for an unknown operation, 2 and 3 for a wrong arity or kind at byte 7.
-fn answer(alloc: Global, resolved: &Resolved) -> Result<u8, AllocError> {
-    let table = standard_table(alloc)?;
-    match check_types::<Standard>(alloc, resolved, &table) {
-        Ok(()) => Ok(0),
-        Err(TypeRefusal::UnknownOperation(name)) if name.as_slice() == b"frob".as_slice() => Ok(1),
-        Err(TypeRefusal::WrongArity(7)) => Ok(2),
-        Err(TypeRefusal::TypeMismatch(7)) => Ok(3),
-        Err(TypeRefusal::NoMemory(error)) => Err(error),
-        Err(_) => Ok(4),
+// Whether these are the parts of the host that declares nothing.
+fn is_empty_host(resolved: &Resolved) -> Result<bool, AllocError> {
+    let parts = resolved.parts();
+    Ok(parts.host.as_slice() == b"h".as_slice() && is_empty_copied(&parts.attributes)?)
+}
+
+fn is_copied(resolved: &Resolved) -> Result<bool, AllocError> {
+    is_empty_host(&resolved.copy()?)
+}
+
+// What is said of kinds.
+#[derive(Clone, Copy, PartialEq, Eq)]
+enum Verdict {
+    // That they are right.
+    Right,
+    // That there is no operation `frob`.
+    Unknown,
+    // That the arity or the kind at this byte is wrong.
+    WrongArity(usize),
+    WrongKind(usize),
+    Else,
+}
+
+fn verdict_of(answer: &Result<(), TypeRefusal>) -> Verdict {
+    match answer {
+        Ok(()) => Verdict::Right,
+        Err(TypeRefusal::UnknownOperation(name)) if name.as_slice() == b"frob".as_slice() => {
+            Verdict::Unknown
+        }
+        Err(TypeRefusal::WrongArity(at)) => Verdict::WrongArity(*at),
+        Err(TypeRefusal::TypeMismatch(at)) => Verdict::WrongKind(*at),
+        Err(_) => Verdict::Else,
     }
 }
 
+// Whether this is what the rules of kinds say of a host.
+fn has_verdict(alloc: Global, resolved: &Resolved, wanted: Verdict) -> Result<bool, AllocError> {
+    let table = standard_table(alloc)?;
+    Ok(verdict_of(&check_types::<Standard>(alloc, resolved, &table)) == wanted)
+}
+
 // The same of a host whose one equation is by this node.
-fn answer_to(alloc: Global, node: Node) -> Result<u8, AllocError>
+fn has_verdict_by(alloc: Global, node: Node, wanted: Verdict) -> Result<bool, AllocError>
     requires { IsSampleNode node }
 {
     let resolved = sample_host(alloc, node)?;
-    answer(alloc, &resolved)
+    has_verdict(alloc, &resolved, wanted)
 }
 
 // The same of a call of an operation that isn't there.
-fn answer_to_call(alloc: Global) -> Result<u8, AllocError> {
+fn has_verdict_by_call(alloc: Global, wanted: Verdict) -> Result<bool, AllocError> {
     let operation = Bytes::from_slice(alloc, b"frob")?;
-    answer_to(
-        alloc,
-        Node::Call {
-            operation,
-            arguments: nothing(alloc),
-        },
-    )
+    let call = Node::Call {
+        operation,
+        arguments: nothing(alloc),
+    };
+    has_verdict_by(alloc, call, wanted)
+}
+
+// Whether the host that declares nothing is copied, and its kinds are right.
+fn is_nothing_right(alloc: Global) -> Result<bool, AllocError> {
+    let host = empty_host(alloc)?;
+    Ok(is_copied(&host)? && has_verdict(alloc, &host, Verdict::Right)?)
 }
 
 #[test]
-fn a_host_that_declares_nothing_has_kinds(rt: HostRuntime) -> Result<(), Fail> {
-    let host = empty_host(rt.alloc())?;
-    assert!(rt; is_copied(&host)?);
-    assert_eq!(rt; answer(rt.alloc(), &host)?, 0);
-    Ok(())
+fn a_host_that_declares_nothing_has_kinds(rt: HostRuntime) {
+    assert!(rt; holds(is_nothing_right(rt.alloc())));
 }
 
 #[test]
-fn an_equation_has_the_kind_of_its_attribute(rt: HostRuntime) -> Result<(), Fail> {
-    assert_eq!(rt; answer_to(rt.alloc(), Node::Int(7))?, 0);
-    assert_eq!(rt; answer_to(rt.alloc(), Node::Bool(true))?, 3);
-    assert_eq!(rt; answer_to_call(rt.alloc())?, 1);
-    Ok(())
+fn an_equation_has_the_kind_of_its_attribute(rt: HostRuntime) {
+    assert!(rt; holds(has_verdict_by(rt.alloc(), Node::Int(7), Verdict::Right)));
+    assert!(rt; holds(has_verdict_by(rt.alloc(), Node::Bool(true), Verdict::WrongKind(7))));
+    assert!(rt; holds(has_verdict_by_call(rt.alloc(), Verdict::Unknown)));
 }

@@ -1,8 +1,7 @@
 use Rattle.std.proofs.Common.{refl, sym, subst}
 use Rattle.wb_base.specs.Identifiers.{IsName}
-use Rattle.wb_resolved.specs.Attribution.{IsAttribution}
 use Rattle.wb_value_tests.proofs.NameLemmas.{h_name}
-use Rattle.wb_value_tests.proofs.SampleLemmas.{sample_resolved}
+use Rattle.wb_value_tests.proofs.SampleLemmas.{is_sampled, sample_resolved}
 use Rattle.wb_value_tests.proofs.types.sample_host.Goals as goal
 
 pub new-requires : goal.new-requires
@@ -14,4 +13,4 @@ new-requires c = sample_resolved _
       preferences = c.nothing-2.ensures;
       extensible = c.nothing-3.ensures;
     })
-    (subst IsAttribution c.attributes.view_is c.attributes.invariant) c.args.node c.in_ok-attributes.ensures
+    (is_sampled _ c.args.node c.requires c.in_ok-attributes.ensures) c.args.node c.in_ok-attributes.ensures
