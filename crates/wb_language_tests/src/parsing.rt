@@ -1,135 +1,156 @@
 //! Trees and stops of small texts.
 
-ghost use Rattle.std.specs.Prelude.{length};
-ghost use Rattle.wb_values.specs.ValuesIn.{IsIn};
+ghost use Rattle.std.specs.Prelude.{◌<◌, length};
 
-use crate::sample::{Sample, language, signatures_of};
+use crate::sample::{Sample, add_signatures, language};
 use crate::samples::{AMBIGUOUS, CONTEXTS, KEYWORDS, LAYOUTS, LISTS, POINTERS, RING, UNDECIDED};
-use std::alloc::{AllocError, Global};
-use std::test::Fail;
+use std::alloc::Global;
 use wb_bare::LanguageRefusal;
 use wb_parser::{Parsed, StopKind, parse};
 use wb_scan::Language;
 use wb_terms::print_value;
-use wb_values::{TreeStore, Value};
+use wb_values::{Signatures, TreeId, TreeStore, Value};
 
-// What a text gives: a tree, as it prints, or a stop at a place, at which no token is next or this terminal.
+// What a text gives: a tree, as it prints, or a stop at a place, at which no token is next or this terminal; or why it has no language.
 #[derive(Clone, Copy)]
 enum Wanted {
     Tree(&'static str),
     NoToken(usize),
     Unexpected(usize, usize),
+    Cycle,
+    Conflict,
+    Clash,
 }
 
-// Whether the text of the sample gives this.
-fn gives(alloc: Global, sample: &Sample, text: &str, wanted: Wanted) -> Result<bool, AllocError> {
-    match language(alloc, sample)? {
-        Some(Ok(language)) => gives_in(alloc, sample, &language, text, wanted),
-        _ => Ok(false),
+// A sample, a text, and what it gives.
+type Row = (&'static Sample, &'static str, Wanted);
+
+// Whether the refusal is this.
+fn is_refusal(refusal: &LanguageRefusal, wanted: Wanted) -> bool {
+    match wanted {
+        Wanted::Cycle => matches!(refusal, LanguageRefusal::Cycle(_)),
+        Wanted::Conflict => matches!(refusal, LanguageRefusal::Conflict { .. }),
+        Wanted::Clash => matches!(refusal, LanguageRefusal::Clash { .. }),
+        _ => false,
     }
 }
 
-fn gives_in(
-    alloc: Global,
-    sample: &Sample,
-    language: &Language,
-    text: &str,
-    wanted: Wanted,
-) -> Result<bool, AllocError> {
-    let mut store = TreeStore::new(alloc);
-    match parse(alloc, language, text.as_bytes(), &mut store)? {
-        Parsed::Tree(tree) => match wanted {
-            Wanted::Tree(printed) => prints(alloc, sample, &store, &Value::Tree(tree), printed),
-            _ => Ok(false),
-        },
-        Parsed::Stopped { at, kind } => Ok(store.is_empty() && is_stop(at, kind, wanted)),
-    }
-}
-
+// Whether the stop is this.
 fn is_stop(at: usize, kind: StopKind, wanted: Wanted) -> bool {
     match wanted {
-        Wanted::Tree(_) => false,
         Wanted::NoToken(place) => at == place && kind == StopKind::NoToken,
         Wanted::Unexpected(place, terminal) => at == place
             && kind == StopKind::Unexpected(terminal),
+        _ => false,
     }
 }
 
-// Whether the value prints so.
-fn prints(
+// Whether the tree prints so.
+fn is_printed(
     alloc: Global,
-    sample: &Sample,
+    signatures: &Signatures,
     store: &TreeStore,
-    value: &Value,
+    tree: TreeId,
     printed: &str,
-) -> Result<bool, AllocError>
-    requires { IsIn (length store.now) value.now }
+) -> bool
+    requires { tree.0 < length store.now }
 {
-    let signatures = signatures_of(alloc, sample)?;
-    match print_value(alloc, value, &signatures, store) {
-        Ok(text) => Ok(text.as_slice() == printed.as_bytes()),
-        Err(_) => Ok(false),
+    match print_value(alloc, &Value::Tree(tree), signatures, store) {
+        Ok(text) => text.as_slice() == printed.as_bytes(),
+        Err(_) => false,
     }
 }
+
+// Whether the tree is this.
+fn is_tree(alloc: Global, sample: &Sample, store: &TreeStore, tree: TreeId, wanted: Wanted) -> bool
+    requires { tree.0 < length store.now }
+{
+    let Wanted::Tree(printed) = wanted else {
+        return false;
+    };
+    let mut signatures = Signatures::new(alloc);
+    add_signatures(alloc, sample.rules, &mut signatures)
+        && is_printed(alloc, &signatures, store, tree, printed)
+}
+
+// Whether the text gives this in the language, where nothing is in the store yet.
+fn gives_into(alloc: Global, language: &Language, row: &Row, store: &mut TreeStore) -> bool {
+    let (sample, text, wanted) = *row;
+    let Ok(parsed) = parse(alloc, language, text.as_bytes(), store) else {
+        return false;
+    };
+    match parsed {
+        Parsed::Tree(tree) => is_tree(alloc, sample, store, tree, wanted),
+        Parsed::Stopped { at, kind } => store.is_empty() && is_stop(at, kind, wanted),
+    }
+}
+
+fn gives_in(alloc: Global, language: &Language, row: &Row) -> bool {
+    let mut store = TreeStore::new(alloc);
+    gives_into(alloc, language, row, &mut store)
+}
+
+fn gives(alloc: Global, row: &Row) -> bool {
+    // An array lets go of what it holds by a call, so that the drop of a language is proved once.
+    let held = [language(alloc, row.0)];
+    match &held[0] {
+        Ok(language) => gives_in(alloc, language, row),
+        Err(refusal) => is_refusal(refusal, row.2),
+    }
+}
+
+fn are_given(alloc: Global, rows: &[Row]) -> bool {
+    for row in rows {
+        if !gives(alloc, row) {
+            return false;
+        }
+    }
+    true
+}
+
+static TEXTS: [Row; 20] = [
+    (&KEYWORDS, "if if", Wanted::Tree("one(\"if\", \"if\")")),
+    (&KEYWORDS, "iffy", Wanted::Tree("two(\"iffy\")")),
+    (&KEYWORDS, "if", Wanted::Unexpected(2, 2)), // the end
+    (&KEYWORDS, "", Wanted::Unexpected(0, 2)),
+    (&KEYWORDS, "  ", Wanted::Unexpected(2, 2)), // behind the layout
+    (&KEYWORDS, " if  x ", Wanted::Tree("one(\"if\", \"x\")")),
+    (&KEYWORDS, "if if if", Wanted::NoToken(6)), // no terminal is valid there but the end
+    (&KEYWORDS, "if 7", Wanted::NoToken(3)),
+    (&LISTS, "", Wanted::Tree("none()")),
+    (&LISTS, "   ", Wanted::Tree("none()")),
+    (&LISTS, "  7 x", Wanted::NoToken(4)),
+    (
+        &LISTS,
+        "7 8",
+        Wanted::Tree("more(more(none(), \"7\"), \"8\")"),
+    ),
+    (
+        &POINTERS,
+        "*a=b",
+        Wanted::Tree("assign(star(\"*\", ofl(id(\"a\"))), \"=\", ofl(id(\"b\")))"),
+    ),
+    (&POINTERS, "a=", Wanted::Unexpected(2, 3)),
+    (&POINTERS, "a=b=c", Wanted::Unexpected(3, 1)), // a name has one kernel before and behind the sign
+    (&POINTERS, "=a", Wanted::NoToken(0)),
+    (&CONTEXTS, "aaa", Wanted::Tree("pair(\"a\", \"aa\")")), // "aa" isn't considered at the beginning
+    (&CONTEXTS, "aa", Wanted::NoToken(1)),
+    (&LAYOUTS, "---", Wanted::Tree("a(none(), \"---\")")), // longer than layout
+    (&LAYOUTS, "--bbb", Wanted::Tree("b(none(), \"b\")")), // layout wins twice
+];
 
 #[test]
-fn texts_give_their_one_tree_or_stop(rt: HostRuntime) -> Result<(), Fail> {
-    let rows: [(&Sample, &str, Wanted); 20] = [
-        (&KEYWORDS, "if if", Wanted::Tree("one(\"if\", \"if\")")),
-        (&KEYWORDS, "iffy", Wanted::Tree("two(\"iffy\")")),
-        (&KEYWORDS, "if", Wanted::Unexpected(2, 2)), // the end
-        (&KEYWORDS, "", Wanted::Unexpected(0, 2)),
-        (&KEYWORDS, "  ", Wanted::Unexpected(2, 2)), // behind the layout
-        (&KEYWORDS, " if  x ", Wanted::Tree("one(\"if\", \"x\")")),
-        (&KEYWORDS, "if if if", Wanted::NoToken(6)), // no terminal is valid there but the end
-        (&KEYWORDS, "if 7", Wanted::NoToken(3)),
-        (&LISTS, "", Wanted::Tree("none()")),
-        (&LISTS, "   ", Wanted::Tree("none()")),
-        (&LISTS, "  7 x", Wanted::NoToken(4)),
-        (
-            &LISTS,
-            "7 8",
-            Wanted::Tree("more(more(none(), \"7\"), \"8\")"),
-        ),
-        (
-            &POINTERS,
-            "*a=b",
-            Wanted::Tree("assign(star(\"*\", ofl(id(\"a\"))), \"=\", ofl(id(\"b\")))"),
-        ),
-        (&POINTERS, "a=", Wanted::Unexpected(2, 3)),
-        (&POINTERS, "a=b=c", Wanted::Unexpected(3, 1)), // a name has one kernel before and behind the sign
-        (&POINTERS, "=a", Wanted::NoToken(0)),
-        (&CONTEXTS, "aaa", Wanted::Tree("pair(\"a\", \"aa\")")), // "aa" isn't considered at the beginning
-        (&CONTEXTS, "aa", Wanted::NoToken(1)),
-        (&LAYOUTS, "---", Wanted::Tree("a(none(), \"---\")")), // longer than layout
-        (&LAYOUTS, "--bbb", Wanted::Tree("b(none(), \"b\")")), // layout wins twice
-    ];
-    for (sample, text, wanted) in rows {
-        let held = gives(rt.alloc(), sample, text, wanted)?;
-        assert!(rt; held, "{text:?}");
-    }
-    Ok(())
+fn texts_give_their_one_tree_or_stop(rt: HostRuntime) {
+    assert!(rt; are_given(rt.alloc(), &TEXTS));
 }
 
-// Whether the sample is refused for a cycle, a conflict or a clash: 0, 1 or 2.
-fn refused_for(alloc: Global, sample: &Sample, reason: usize) -> Result<bool, AllocError> {
-    match language(alloc, sample)? {
-        Some(Err(refusal)) => Ok(match &refusal {
-            LanguageRefusal::Cycle(_) => reason == 0,
-            LanguageRefusal::Conflict { .. } => reason == 1,
-            LanguageRefusal::Clash { .. } => reason == 2,
-            LanguageRefusal::NoMemory(_) => false,
-        }),
-        _ => Ok(false),
-    }
-}
+static REFUSED: [Row; 3] = [
+    (&RING, "", Wanted::Cycle),
+    (&AMBIGUOUS, "", Wanted::Conflict),
+    (&UNDECIDED, "", Wanted::Clash),
+];
 
 #[test]
-fn languages_are_refused_for_cycles_conflicts_and_clashes(rt: HostRuntime) -> Result<(), Fail> {
-    let rows: [(&Sample, usize); 3] = [(&RING, 0), (&AMBIGUOUS, 1), (&UNDECIDED, 2)];
-    for (sample, reason) in rows {
-        let held = refused_for(rt.alloc(), sample, reason)?;
-        assert!(rt; held, "{reason}");
-    }
-    Ok(())
+fn languages_are_refused_for_cycles_conflicts_and_clashes(rt: HostRuntime) {
+    assert!(rt; are_given(rt.alloc(), &REFUSED));
 }

@@ -1,6 +1,9 @@
 //! A small language by number, and what is made of it.
+//!
+//! A sample whose numbers are out of range is answered as one that finds no memory, so that its test fails.
 
 ghost use Rattle.std.specs.Prelude.{◌≡◌, ◌<◌, ◌≤◌, ◌+◌, ℕ, All, IsTrue, IfOk, Some, length, slice_get};
+ghost use Rattle.wb_bare.specs.Bare.{AreWrittenFor};
 ghost use Rattle.wb_base.specs.Grammar.{IsSymbolBelow};
 ghost use Rattle.wb_grammar.specs.Facts.{AreFacts};
 ghost use Rattle.wb_graph.specs.Graphs.{IsEdgeBelow};
@@ -29,27 +32,25 @@ pub(crate) struct Sample {
     pub(crate) preferences: &'static [(usize, usize)],
 }
 
-// The language of a sample, or why there is none. None where the sample is no language by its form.
-pub(crate) fn language(
-    alloc: Global,
-    sample: &Sample,
-) -> Result<Option<Result<Language, LanguageRefusal>>, AllocError> {
-    let regexes = regexes_of(alloc, sample.expressions)?;
-    let Some(grammar) = grammar_of(alloc, sample)? else {
-        return Ok(None);
-    };
-    with_grammar(alloc, sample, grammar, &regexes)
+// The language of a sample, or why there is none.
+pub(crate) fn language(alloc: Global, sample: &Sample) -> Result<Language, LanguageRefusal> {
+    let mut regexes = Vec::new(alloc);
+    if add_regexes(alloc, sample.expressions, &mut regexes) {
+        with_regexes(alloc, sample, &regexes)
+    } else {
+        Err(LanguageRefusal::NoMemory(AllocError))
+    }
 }
 
-fn with_grammar(
+fn with_regexes(
     alloc: Global,
     sample: &Sample,
-    grammar: Grammar,
     regexes: &[Regex],
-) -> Result<Option<Result<Language, LanguageRefusal>>, AllocError> {
+) -> Result<Language, LanguageRefusal> {
+    let grammar = grammar_of(alloc, sample)?;
     match analyse(alloc, &grammar) {
         Ok(facts) => with_facts(alloc, sample, grammar, &facts, regexes),
-        Err(_) => Ok(None),
+        Err(_) => Err(LanguageRefusal::NoMemory(AllocError)),
     }
 }
 
@@ -59,24 +60,46 @@ fn with_facts(
     grammar: Grammar,
     facts: &Facts,
     regexes: &[Regex],
-) -> Result<Option<Result<Language, LanguageRefusal>>, AllocError>
+) -> Result<Language, LanguageRefusal>
     requires { AreFacts grammar facts.now }
 {
-    let terminals = grammar.terminals();
-    if regexes.len() < terminals {
-        return Ok(None);
-    }
+    let Beside {
+        layout,
+        preferences,
+    } = beside_of(alloc, sample, grammar.terminals(), regexes)?;
+    language_of(alloc, grammar, facts, regexes, layout, preferences)
+}
+
+// What a language has beside its grammar and its expressions: the numbers of layout, and preferences.
+struct Beside {
+    layout: Vec<usize>,
+    preferences: Vec<(usize, usize)>,
+}
+
+fn beside_of(
+    alloc: Global,
+    sample: &Sample,
+    terminals: usize,
+    regexes: &[Regex],
+) -> Result<Beside, AllocError>
+    ensures { IfOk result (λ beside. AreWrittenFor terminals regexes.now beside.layout.items beside.preferences.items) }
+{
     let layout = layout_of(alloc, terminals, regexes.len())?;
     let preferences = pairs_of(alloc, sample.preferences, regexes.len())?;
-    Ok(Some(language_of(alloc, grammar, facts, regexes, layout, preferences)))
+    Ok(Beside {
+        layout,
+        preferences,
+    })
 }
 
 // The numbers of layout.
 fn layout_of(alloc: Global, terminals: usize, count: usize) -> Result<Vec<usize>, AllocError>
-    requires { terminals ≤ count }
     ensures numbers { IfOk result (λ layout. (k t : ℕ) → slice_get layout.items k ≡ Some t → t ≡ terminals + k) }
-    ensures count { IfOk result (λ layout. terminals + length layout.items ≡ count) }
+    ensures count { IfOk result (λ layout. count ≡ terminals + length layout.items) }
 {
+    if count < terminals {
+        return Err(AllocError);
+    }
     let mut layout = Vec::new(alloc);
     'numbers: for number in terminals..count {
         push(&mut layout, number)?;
@@ -84,7 +107,7 @@ fn layout_of(alloc: Global, terminals: usize, count: usize) -> Result<Vec<usize>
     Ok(layout)
 }
 
-// The pairs whose numbers are in range.
+// The pairs, where their numbers are in range.
 fn pairs_of(
     alloc: Global,
     pairs: &[(usize, usize)],
@@ -92,84 +115,104 @@ fn pairs_of(
 ) -> Result<Vec<(usize, usize)>, AllocError>
     ensures { IfOk result (λ made. All (IsEdgeBelow count) made.items) }
 {
-    let mut made = Vec::new(alloc);
-    for pair in pairs {
-        if pair.0 < count && pair.1 < count {
-            push(&mut made, *pair)?;
-        }
+    if are_pairs_below(pairs, count) {
+        Vec::from_slice(alloc, pairs)
+    } else {
+        Err(AllocError)
     }
-    Ok(made)
 }
 
-// The expressions that are read.
-pub(crate) fn regexes_of(alloc: Global, texts: &[&str]) -> Result<Vec<Regex>, AllocError> {
-    let mut regexes = Vec::new(alloc);
-    for text in texts {
-        if let Ok(regex) = read_regex(alloc, text.as_bytes()) {
-            push(&mut regexes, regex)?;
-        }
-    }
-    Ok(regexes)
-}
-
-pub(crate) fn grammar_of(alloc: Global, sample: &Sample) -> Result<Option<Grammar>, AllocError> {
-    if sample.nonterminals == 0 {
-        return Ok(None);
-    }
-    let mut grammar = Grammar::new(alloc, sample.terminals, sample.nonterminals, 0);
-    for rule in sample.rules {
-        add(&mut grammar, rule.left, rule.right)?;
-    }
-    Ok(Some(grammar))
-}
-
-// Adds a production where its numbers are in range.
-pub(crate) fn add(grammar: &mut Grammar, left: usize, right: &[Symbol]) -> Result<(), AllocError> {
-    if left < grammar.nonterminals() && are_below(grammar, right) {
-        grammar.add(left, right)?;
-    }
-    Ok(())
-}
-
-// Whether the symbols are in range.
-fn are_below(grammar: &Grammar, symbols: &[Symbol]) -> bool
-    ensures { IsTrue result → All (IsSymbolBelow grammar.now.terminals grammar.now.nonterminals) symbols.now }
+fn are_pairs_below(pairs: &[(usize, usize)], count: usize) -> bool
+    ensures { IsTrue result → All (IsEdgeBelow count) pairs.now }
 {
-    for symbol in symbols {
-        if !is_below(grammar, *symbol) {
+    pairs.iter().all(|pair| pair.0 < count && pair.1 < count)
+}
+
+// Adds the expressions, and answers whether all are read.
+pub(crate) fn add_regexes(alloc: Global, texts: &[&str], regexes: &mut Vec<Regex>) -> bool {
+    for text in texts {
+        if !add_regex(alloc, *text, regexes) {
             return false;
         }
     }
     true
 }
 
-fn is_below(grammar: &Grammar, symbol: Symbol) -> bool
-    ensures { IsTrue result → IsSymbolBelow grammar.now.terminals grammar.now.nonterminals symbol }
+fn add_regex(alloc: Global, text: &str, regexes: &mut Vec<Regex>) -> bool {
+    match read_regex(alloc, text.as_bytes()) {
+        Ok(regex) => push(regexes, regex).is_ok(),
+        Err(_) => false,
+    }
+}
+
+fn grammar_of(alloc: Global, sample: &Sample) -> Result<Grammar, AllocError> {
+    if sample.nonterminals == 0 {
+        return Err(AllocError);
+    }
+    let mut grammar = Grammar::new(alloc, sample.terminals, sample.nonterminals, 0);
+    if add_rules(&mut grammar, sample.rules) {
+        Ok(grammar)
+    } else {
+        Err(AllocError)
+    }
+}
+
+// Adds the productions, and answers whether all are in range.
+pub(crate) fn add_rules(grammar: &mut Grammar, rules: &[Rule]) -> bool {
+    for rule in rules {
+        if !add(grammar, rule.left, rule.right) {
+            return false;
+        }
+    }
+    true
+}
+
+// Adds a production, and answers whether its numbers are in range.
+pub(crate) fn add(grammar: &mut Grammar, left: usize, right: &[Symbol]) -> bool {
+    left < grammar.nonterminals()
+        && are_below(right, grammar.terminals(), grammar.nonterminals())
+        && grammar.add(left, right).is_ok()
+}
+
+fn are_below(symbols: &[Symbol], terminals: usize, nonterminals: usize) -> bool
+    ensures { IsTrue result → All (IsSymbolBelow terminals nonterminals) symbols.now }
 {
-    match symbol {
-        Symbol::Terminal(number) => number < grammar.terminals(),
-        Symbol::Nonterminal(number) => number < grammar.nonterminals(),
-    }
+    symbols.iter().all(|symbol| match *symbol {
+        Symbol::Terminal(number) => number < terminals,
+        Symbol::Nonterminal(number) => number < nonterminals,
+    })
 }
 
-// The signatures of a sample's productions.
-pub(crate) fn signatures_of(alloc: Global, sample: &Sample) -> Result<Signatures, AllocError> {
-    let mut signatures = Signatures::new(alloc);
-    for rule in sample.rules {
-        let kinds = kinds_of(alloc, rule.right)?;
-        signatures.add(rule.name.as_bytes(), rule.left, &kinds)?;
+// Adds the signatures of productions, and answers whether there was memory.
+pub(crate) fn add_signatures(alloc: Global, rules: &[Rule], signatures: &mut Signatures) -> bool {
+    for rule in rules {
+        if !add_signature(alloc, rule, signatures) {
+            return false;
+        }
     }
-    Ok(signatures)
+    true
 }
 
-fn kinds_of(alloc: Global, symbols: &[Symbol]) -> Result<Vec<Kind>, AllocError> {
+fn add_signature(alloc: Global, rule: &Rule, signatures: &mut Signatures) -> bool {
     let mut kinds = Vec::new(alloc);
+    add_kinds(rule.right, &mut kinds)
+        && signatures
+            .add(rule.name.as_bytes(), rule.left, &kinds)
+            .is_ok()
+}
+
+fn add_kinds(symbols: &[Symbol], kinds: &mut Vec<Kind>) -> bool {
     for symbol in symbols {
-        let kind = match symbol {
-            Symbol::Terminal(_) => Kind::Text,
-            Symbol::Nonterminal(number) => Kind::Tree(*number),
-        };
-        push(&mut kinds, kind)?;
+        if push(kinds, kind_of(*symbol)).is_err() {
+            return false;
+        }
     }
-    Ok(kinds)
+    true
+}
+
+fn kind_of(symbol: Symbol) -> Kind {
+    match symbol {
+        Symbol::Terminal(_) => Kind::Text,
+        Symbol::Nonterminal(number) => Kind::Tree(number),
+    }
 }

@@ -4,7 +4,7 @@ use crate::sample::{Rule, Sample};
 use wb_base::Symbol::{Nonterminal as N, Terminal as T};
 
 // A keyword that is also a name, and blanks: S -> If Id | Id.
-pub(crate) static KEYWORDS: Sample = Sample {
+pub(crate) const KEYWORDS: Sample = Sample {
     terminals: 2,
     nonterminals: 1,
     rules: &[
@@ -24,7 +24,7 @@ pub(crate) static KEYWORDS: Sample = Sample {
 };
 
 // The same without the preference.
-pub(crate) static UNDECIDED: Sample = Sample {
+pub(crate) const UNDECIDED: Sample = Sample {
     terminals: 2,
     nonterminals: 1,
     rules: &[
@@ -44,7 +44,7 @@ pub(crate) static UNDECIDED: Sample = Sample {
 };
 
 // Lists of numbers: L -> | L Num.
-pub(crate) static LISTS: Sample = Sample {
+pub(crate) const LISTS: Sample = Sample {
     terminals: 1,
     nonterminals: 1,
     rules: &[
@@ -64,7 +64,7 @@ pub(crate) static LISTS: Sample = Sample {
 };
 
 // Assignments through pointers: S -> L = R | R, L -> * R | Id, R -> L.
-pub(crate) static POINTERS: Sample = Sample {
+pub(crate) const POINTERS: Sample = Sample {
     terminals: 3,
     nonterminals: 3,
     rules: &[
@@ -99,7 +99,7 @@ pub(crate) static POINTERS: Sample = Sample {
 };
 
 // Sums that can be read in two ways: E -> Num | E + E.
-pub(crate) static AMBIGUOUS: Sample = Sample {
+pub(crate) const AMBIGUOUS: Sample = Sample {
     terminals: 2,
     nonterminals: 1,
     rules: &[
@@ -119,7 +119,7 @@ pub(crate) static AMBIGUOUS: Sample = Sample {
 };
 
 // A short terminal where a longer one of the language isn't considered: S -> A B.
-pub(crate) static CONTEXTS: Sample = Sample {
+pub(crate) const CONTEXTS: Sample = Sample {
     terminals: 2,
     nonterminals: 1,
     rules: &[Rule {
@@ -132,7 +132,7 @@ pub(crate) static CONTEXTS: Sample = Sample {
 };
 
 // Layout that is preferred over a terminal, and one that isn't: S -> | S A | S B.
-pub(crate) static LAYOUTS: Sample = Sample {
+pub(crate) const LAYOUTS: Sample = Sample {
     terminals: 2,
     nonterminals: 1,
     rules: &[
@@ -157,7 +157,7 @@ pub(crate) static LAYOUTS: Sample = Sample {
 };
 
 // Preferences in a ring.
-pub(crate) static RING: Sample = Sample {
+pub(crate) const RING: Sample = Sample {
     terminals: 2,
     nonterminals: 1,
     rules: &[Rule {
@@ -170,7 +170,7 @@ pub(crate) static RING: Sample = Sample {
 };
 
 // Sums: E -> E + T | T, T -> Num.
-pub(crate) static SUMS: Sample = Sample {
+pub(crate) const SUMS: Sample = Sample {
     terminals: 2,
     nonterminals: 2,
     rules: &[
@@ -195,7 +195,7 @@ pub(crate) static SUMS: Sample = Sample {
 };
 
 // The same without layout.
-pub(crate) static TIGHT_SUMS: Sample = Sample {
+pub(crate) const TIGHT_SUMS: Sample = Sample {
     terminals: 2,
     nonterminals: 2,
     rules: &[

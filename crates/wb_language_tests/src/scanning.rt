@@ -2,55 +2,72 @@
 
 use crate::sample::{Sample, language};
 use crate::samples::{CONTEXTS, KEYWORDS, LAYOUTS};
-use std::alloc::{AllocError, Global};
-use std::test::Fail;
-use wb_scan::{Scanned, scan};
+use std::alloc::Global;
+use wb_scan::{Language, Scanned, scan};
 
-// Whether this is next at the beginning of the sample, from a place of the text on.
-fn is_next(
-    alloc: Global,
-    sample: &Sample,
-    text: &str,
-    at: usize,
-    wanted: Scanned,
-) -> Result<bool, AllocError> {
-    match language(alloc, sample)? {
-        Some(Ok(language)) => {
-            if language.tables().count() == 0 || at > text.len() {
-                return Ok(false);
-            }
-            Ok(scan(&language, 0, text.as_bytes(), at) == wanted)
+// What is next: a token of a terminal from a place to another, the end, or nothing.
+#[derive(Clone, Copy)]
+enum Wanted {
+    Token(usize, usize, usize),
+    End(usize),
+    NoToken(usize),
+}
+
+// A sample, a text, where the scan begins in it, and what is next there at the beginning of a sentence.
+type Row = (&'static Sample, &'static str, usize, Wanted);
+
+// The answer to a scan; a token's form has no prefix.
+fn scanned(wanted: Wanted) -> Scanned {
+    match wanted {
+        Wanted::Token(terminal, at, end) => Scanned::Token {
+            terminal,
+            at,
+            lexeme: at,
+            end,
+        },
+        Wanted::End(at) => Scanned::End { at },
+        Wanted::NoToken(at) => Scanned::NoToken { at },
+    }
+}
+
+fn is_next_in(language: &Language, row: &Row) -> bool {
+    let (_, text, at, wanted) = *row;
+    language.tables().count() > 0
+        && at <= text.len()
+        && scan(language, 0, text.as_bytes(), at) == scanned(wanted)
+}
+
+fn is_next(alloc: Global, row: &Row) -> bool {
+    // An array lets go of what it holds by a call, so that the drop of a language is proved once.
+    let held = [language(alloc, row.0)];
+    match &held[0] {
+        Ok(language) => is_next_in(language, row),
+        Err(_) => false,
+    }
+}
+
+fn are_next(alloc: Global, rows: &[Row]) -> bool {
+    for row in rows {
+        if !is_next(alloc, row) {
+            return false;
         }
-        _ => Ok(false),
     }
+    true
 }
 
-// A token whose form has no prefix.
-fn token(terminal: usize, at: usize, end: usize) -> Scanned {
-    Scanned::Token {
-        terminal,
-        at,
-        lexeme: at,
-        end,
-    }
-}
+static NEXT: [Row; 9] = [
+    (&KEYWORDS, "  if x", 0, Wanted::Token(0, 2, 4)),
+    (&KEYWORDS, "  if x", 3, Wanted::Token(1, 3, 4)),
+    (&KEYWORDS, "ifs", 0, Wanted::Token(1, 0, 3)),
+    (&KEYWORDS, "  ", 0, Wanted::End(2)),
+    (&KEYWORDS, "", 0, Wanted::End(0)),
+    (&KEYWORDS, " 7", 0, Wanted::NoToken(1)),
+    (&CONTEXTS, "aa", 0, Wanted::Token(0, 0, 1)),
+    (&CONTEXTS, "ba", 0, Wanted::NoToken(0)),
+    (&LAYOUTS, "-----", 2, Wanted::Token(0, 2, 5)),
+];
 
 #[test]
-fn what_is_considered_is_next(rt: HostRuntime) -> Result<(), Fail> {
-    let rows: [(&Sample, &str, usize, Scanned); 9] = [
-        (&KEYWORDS, "  if x", 0, token(0, 2, 4)),
-        (&KEYWORDS, "  if x", 3, token(1, 3, 4)),
-        (&KEYWORDS, "ifs", 0, token(1, 0, 3)),
-        (&KEYWORDS, "  ", 0, Scanned::End { at: 2 }),
-        (&KEYWORDS, "", 0, Scanned::End { at: 0 }),
-        (&KEYWORDS, " 7", 0, Scanned::NoToken { at: 1 }),
-        (&CONTEXTS, "aa", 0, token(0, 0, 1)),
-        (&CONTEXTS, "ba", 0, Scanned::NoToken { at: 0 }),
-        (&LAYOUTS, "-----", 2, token(0, 2, 5)),
-    ];
-    for (sample, text, at, wanted) in rows {
-        let held = is_next(rt.alloc(), sample, text, at, wanted)?;
-        assert!(rt; held, "{text:?}");
-    }
-    Ok(())
+fn what_is_considered_is_next(rt: HostRuntime) {
+    assert!(rt; are_next(rt.alloc(), &NEXT));
 }

@@ -1,5 +1,6 @@
 //! Does the automaton agree with a plain matcher, and are texts those that were worked out by hand?
 
+use crate::holds;
 use std::alloc::{AllocError, Global};
 use wb_automata::{Automaton, Overlap, least_text, overlap};
 use wb_base::push;
@@ -136,10 +137,45 @@ fn build(alloc: Global, terminals: &[Regex], lists: &[&[usize]]) -> Result<Autom
     Automaton::build(alloc, terminals, &sets)
 }
 
-// The automaton of the expressions of lines, with a set for each list of numbers.
-fn automaton_of(alloc: Global, lines: &str, lists: &[&[usize]]) -> Result<Automaton, RegexRefusal> {
+// What is asked of an automaton.
+#[derive(Clone, Copy)]
+enum Question {
+    // Whether it agrees with a plain matcher.
+    Agrees,
+    // Whether its states are in order.
+    IsOrdered,
+    // Whether it matches those of the nested texts that it is to.
+    Matches,
+}
+
+fn answer(alloc: Global, automaton: &Automaton, question: Question) -> Result<bool, AllocError> {
+    match question {
+        Question::Agrees => agree(alloc, automaton),
+        Question::IsOrdered => are_found(alloc, automaton),
+        Question::Matches => Ok(are_matched(automaton, &NESTED)),
+    }
+}
+
+// The answer of the automaton of terminals, with a set for each list of numbers.
+fn answer_of(
+    alloc: Global,
+    terminals: &[Regex],
+    lists: &[&[usize]],
+    question: Question,
+) -> Result<bool, AllocError> {
+    let automaton = build(alloc, terminals, lists)?;
+    answer(alloc, &automaton, question)
+}
+
+// The same, with the terminals on the lines of a text.
+fn answers(
+    alloc: Global,
+    lines: &str,
+    lists: &[&[usize]],
+    question: Question,
+) -> Result<bool, RegexRefusal> {
     let terminals = expressions(alloc, lines)?;
-    Ok(build(alloc, &terminals, lists)?)
+    Ok(answer_of(alloc, &terminals, lists, question)?)
 }
 
 const TWENTY: &str = "a
@@ -212,15 +248,9 @@ fn agree(alloc: Global, automaton: &Automaton) -> Result<bool, AllocError> {
     Ok(automaton.terminals().len() == 20)
 }
 
-fn do_twenty_agree(alloc: Global) -> Result<bool, RegexRefusal> {
-    let automaton = automaton_of(alloc, TWENTY, &ALL_AND_HALF)?;
-    Ok(agree(alloc, &automaton)?)
-}
-
 #[test]
-fn the_automaton_agrees_with_a_plain_matcher(rt: HostRuntime) -> Result<(), RegexRefusal> {
-    assert!(rt; do_twenty_agree(rt.alloc())?);
-    Ok(())
+fn the_automaton_agrees_with_a_plain_matcher(rt: HostRuntime) {
+    assert!(rt; holds(answers(rt.alloc(), TWENTY, &ALL_AND_HALF, Question::Agrees)));
 }
 
 // Terminals that take any text but a blank and a letter, a different one each, after a name, a keyword and blanks.
@@ -255,9 +285,8 @@ fn has_few_states(alloc: Global) -> Result<bool, RegexRefusal> {
 }
 
 #[test]
-fn terminals_of_no_common_set_do_not_multiply(rt: HostRuntime) -> Result<(), RegexRefusal> {
-    assert!(rt; has_few_states(rt.alloc())?);
-    Ok(())
+fn terminals_of_no_common_set_do_not_multiply(rt: HostRuntime) {
+    assert!(rt; holds(has_few_states(rt.alloc())));
 }
 
 // Whether a state was found from the start of this set by this text.
@@ -274,26 +303,24 @@ fn is_found_by(
     Ok(automaton.text(alloc, state)?.as_slice() == text)
 }
 
-// Whether the automaton of `ab` and `c`, each in a set of its own, has its states in order.
-fn are_in_order(alloc: Global) -> Result<bool, RegexRefusal> {
-    let automaton = automaton_of(alloc, "ab\nc", &[&[0], &[1]])?;
-    Ok(are_found(alloc, &automaton)?)
-}
+// States of the automaton of `ab` and `c`, each in a set of its own, with their sets and texts.
+static FOUND: [(usize, usize, &str); 4] = [(0, 0, ""), (2, 0, "ab"), (3, 1, ""), (4, 1, "c")];
 
+static ONE_EACH: [&[usize]; 2] = [&[0], &[1]];
+
+// Whether that automaton has its states in order.
 fn are_found(alloc: Global, automaton: &Automaton) -> Result<bool, AllocError> {
-    Ok(
-        automaton.states() == 5
-            && is_found_by(alloc, automaton, 0, 0, b"")?
-            && is_found_by(alloc, automaton, 2, 0, b"ab")?
-            && is_found_by(alloc, automaton, 3, 1, b"")?
-            && is_found_by(alloc, automaton, 4, 1, b"c")?,
-    )
+    for (state, set, text) in &FOUND {
+        if !is_found_by(alloc, automaton, *state, *set, text.as_bytes())? {
+            return Ok(false);
+        }
+    }
+    Ok(automaton.states() == 5)
 }
 
 #[test]
-fn states_are_numbered_by_sets_and_texts(rt: HostRuntime) -> Result<(), RegexRefusal> {
-    assert!(rt; are_in_order(rt.alloc())?);
-    Ok(())
+fn states_are_numbered_by_sets_and_texts(rt: HostRuntime) {
+    assert!(rt; holds(answers(rt.alloc(), "ab\nc", &ONE_EACH, Question::IsOrdered)));
 }
 
 static NESTED: [(&str, bool); 8] = [
@@ -317,16 +344,12 @@ fn are_matched(automaton: &Automaton, rows: &[(&str, bool)]) -> bool {
     true
 }
 
-// Whether an expression whose marks are nested matches what it is to.
-fn does_nested_match(alloc: Global) -> Result<bool, RegexRefusal> {
-    let automaton = automaton_of(alloc, "((((a|b*)*)+)?(a|(b+)*)*)*c", &[&[0]])?;
-    Ok(are_matched(&automaton, &NESTED))
-}
+static ALONE: [&[usize]; 1] = [&[0]];
 
 #[test]
-fn nested_marks_match_what_one_does(rt: HostRuntime) -> Result<(), RegexRefusal> {
-    assert!(rt; does_nested_match(rt.alloc())?);
-    Ok(())
+fn nested_marks_match_what_one_does(rt: HostRuntime) {
+    let nested = "((((a|b*)*)+)?(a|(b+)*)*)*c";
+    assert!(rt; holds(answers(rt.alloc(), nested, &ALONE, Question::Matches)));
 }
 
 // Whether an expression and a text's overlap in the last text, or in none where that is empty.
@@ -355,39 +378,51 @@ static OVERLAPS: [(&str, &str, &str); 3] = [
     ("a+b|c+", "[a-d]+b|cc", "ab"),
 ];
 
-#[test]
-fn a_keyword_overlaps_with_names_and_numbers_do_not(rt: HostRuntime) -> Result<(), RegexRefusal> {
-    for (left, right, text) in &OVERLAPS {
-        assert!(rt;
-            overlaps(
-                rt.alloc(),
-                left.as_bytes(),
-                right.as_bytes(),
-                text.as_bytes()
-            )?
-        );
+// Whether the first two texts of each row overlap in the third.
+fn all_overlap(alloc: Global, rows: &[(&str, &str, &str)]) -> Result<bool, RegexRefusal> {
+    for (left, right, text) in rows {
+        if !overlaps(alloc, left.as_bytes(), right.as_bytes(), text.as_bytes())? {
+            return Ok(false);
+        }
     }
-    Ok(())
+    Ok(true)
+}
+
+#[test]
+fn a_keyword_overlaps_with_names_and_numbers_do_not(rt: HostRuntime) {
+    assert!(rt; holds(all_overlap(rt.alloc(), &OVERLAPS)));
 }
 
 // An automaton of one of these has a state for each choice of the last letters.
-#[test]
-fn letters_far_from_the_end_overlap(rt: HostRuntime) -> Result<(), RegexRefusal> {
-    let left =
-        b"[ab]*a[ab][ab][ab][ab][ab][ab][ab][ab][ab][ab][ab][ab][ab][ab][ab][ab][ab][ab][ab][ab]";
-    let right =
-        b"[ab]*b[ab][ab][ab][ab][ab][ab][ab][ab][ab][ab][ab][ab][ab][ab][ab][ab][ab][ab][ab]";
-    assert!(rt; overlaps(rt.alloc(), left, right, b"abaaaaaaaaaaaaaaaaaaa")?);
-    Ok(())
-}
-
-fn is_least(alloc: Global, text: &[u8], wanted: &[u8]) -> Result<bool, RegexRefusal> {
-    let regex = read_regex(alloc, text)?;
-    Ok(least_text(alloc, &regex)?.as_slice() == wanted)
-}
+static FAR_FROM_THE_END: [(&str, &str, &str); 1] = [(
+    "[ab]*a[ab][ab][ab][ab][ab][ab][ab][ab][ab][ab][ab][ab][ab][ab][ab][ab][ab][ab][ab][ab]",
+    "[ab]*b[ab][ab][ab][ab][ab][ab][ab][ab][ab][ab][ab][ab][ab][ab][ab][ab][ab][ab][ab]",
+    "abaaaaaaaaaaaaaaaaaaa",
+)];
 
 #[test]
-fn the_least_text_is_the_shortest_and_then_the_first(rt: HostRuntime) -> Result<(), RegexRefusal> {
-    assert!(rt; is_least(rt.alloc(), b"[ \\n]+", b"\n")? && is_least(rt.alloc(), b"aa|b", b"b")?);
-    Ok(())
+fn letters_far_from_the_end_overlap(rt: HostRuntime) {
+    assert!(rt; holds(all_overlap(rt.alloc(), &FAR_FROM_THE_END)));
+}
+
+static LEAST: [(&str, &str); 2] = [("[ \\n]+", "\n"), ("aa|b", "b")];
+
+fn is_least(alloc: Global, text: &str, wanted: &str) -> Result<bool, RegexRefusal> {
+    let regex = read_regex(alloc, text.as_bytes())?;
+    Ok(least_text(alloc, &regex)?.as_slice() == wanted.as_bytes())
+}
+
+// Whether the second text of each row is the least one of the first.
+fn all_least(alloc: Global, rows: &[(&str, &str)]) -> Result<bool, RegexRefusal> {
+    for (text, wanted) in rows {
+        if !is_least(alloc, text, wanted)? {
+            return Ok(false);
+        }
+    }
+    Ok(true)
+}
+
+#[test]
+fn the_least_text_is_the_shortest_and_then_the_first(rt: HostRuntime) {
+    assert!(rt; holds(all_least(rt.alloc(), &LEAST)));
 }

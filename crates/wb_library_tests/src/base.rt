@@ -2,8 +2,10 @@
 //!
 //! Lengths around 22 are those between a text in the value itself and one that is shared.
 
+ghost use Rattle.std.specs.Prelude.{◌≡◌};
+
+use crate::holds;
 use std::alloc::{AllocError, Global};
-use std::test::Fail;
 use wb_base::decimal::{digit_count, hex_value, magnitude, with_sign};
 use wb_base::{Added, Bytes, FILE_LIMIT, Grammar, Names, Sequence, Symbol, push};
 
@@ -24,16 +26,25 @@ fn is_moved(alloc: Global, text: &[u8]) -> Result<bool, AllocError> {
     has_bytes(&made, text)
 }
 
-#[test]
-fn bytes_are_those_put_in(rt: HostRuntime) -> Result<(), Fail> {
-    let text = b"an identifier of many more bytes";
-    for length in [0, 1, 16, 21, 22, 23, 24, 32] {
-        assert!(rt;
-            is_kept(rt.alloc(), &text[..length])? && is_moved(rt.alloc(), &text[..length])?
-        );
+static LENGTHS: [usize; 8] = [0, 1, 16, 21, 22, 23, 24, 32];
+
+// Whether the beginnings of a text of these lengths are kept.
+fn are_kept(alloc: Global, text: &[u8], lengths: &[usize]) -> Result<bool, AllocError> {
+    for length in lengths {
+        let Some(part) = text.get(..*length) else {
+            return Ok(false);
+        };
+        if !is_kept(alloc, part)? || !is_moved(alloc, part)? {
+            return Ok(false);
+        }
     }
-    assert!(rt; Bytes::empty().as_slice().is_empty());
-    Ok(())
+    Ok(Bytes::empty().as_slice().is_empty())
+}
+
+#[test]
+fn bytes_are_those_put_in(rt: HostRuntime) {
+    let text = b"an identifier of many more bytes";
+    assert!(rt; holds(are_kept(rt.alloc(), text, &LENGTHS)));
 }
 
 // Whether names are numbered in the order in which they came, each once.
@@ -50,9 +61,8 @@ fn is_numbering(alloc: Global) -> Result<bool, AllocError> {
 }
 
 #[test]
-fn names_are_numbered_in_order(rt: HostRuntime) -> Result<(), Fail> {
-    assert!(rt; is_numbering(rt.alloc())?);
-    Ok(())
+fn names_are_numbered_in_order(rt: HostRuntime) {
+    assert!(rt; holds(is_numbering(rt.alloc())));
 }
 
 static RECURSIVE: [Symbol; 2] = [Symbol::Nonterminal(0), Symbol::Terminal(0)];
@@ -71,18 +81,24 @@ fn is_copy_recursive(grammar: &Grammar) -> Result<bool, AllocError> {
     is_recursive(&grammar.copy()?)
 }
 
-// Whether a grammar of two productions is as it was made, and so is its copy.
-fn is_made(alloc: Global) -> Result<bool, AllocError> {
-    let mut grammar = Grammar::new(alloc, 1, 1, 0);
+// Whether a grammar is that one after two productions are added, and so is its copy.
+fn becomes_recursive(grammar: &mut Grammar) -> Result<bool, AllocError>
+    requires terminals { grammar.old.terminals ≡ 1 }
+    requires nonterminals { grammar.old.nonterminals ≡ 1 }
+{
     grammar.add(0, &[])?;
     grammar.add(0, &[Symbol::Nonterminal(0), Symbol::Terminal(0)])?;
-    Ok(is_recursive(&grammar)? && is_copy_recursive(&grammar)?)
+    Ok(is_recursive(grammar)? && is_copy_recursive(grammar)?)
+}
+
+fn is_made(alloc: Global) -> Result<bool, AllocError> {
+    let mut grammar = Grammar::new(alloc, 1, 1, 0);
+    becomes_recursive(&mut grammar)
 }
 
 #[test]
-fn a_grammar_holds_its_productions(rt: HostRuntime) -> Result<(), Fail> {
-    assert!(rt; is_made(rt.alloc())?);
-    Ok(())
+fn a_grammar_holds_its_productions(rt: HostRuntime) {
+    assert!(rt; holds(is_made(rt.alloc())));
 }
 
 // Whether a sequence gives back its values, and its copy too.
@@ -95,15 +111,17 @@ fn is_given_back(alloc: Global) -> Result<bool, AllocError> {
 }
 
 #[test]
-fn a_sequence_gives_back_its_values(rt: HostRuntime) -> Result<(), Fail> {
-    assert!(rt; is_given_back(rt.alloc())?);
-    Ok(())
+fn a_sequence_gives_back_its_values(rt: HostRuntime) {
+    assert!(rt; holds(is_given_back(rt.alloc())));
+}
+
+fn are_ordered() -> bool {
+    Symbol::Terminal(1) < Symbol::Nonterminal(0) && Symbol::Nonterminal(0) < Symbol::Nonterminal(1)
 }
 
 #[test]
 fn terminals_come_before_nonterminals(rt: HostRuntime) {
-    assert!(rt; Symbol::Terminal(1) < Symbol::Nonterminal(0));
-    assert!(rt; Symbol::Nonterminal(0) < Symbol::Nonterminal(1));
+    assert!(rt; are_ordered());
 }
 
 // Whether digits write their number, up to the largest of 64 bits.
@@ -120,12 +138,12 @@ fn are_signed() -> bool {
         && with_sign(true, 0) == Some(0)
 }
 
+fn are_hexadecimal() -> bool {
+    hex_value(b'F') == Some(15) && hex_value(b'a') == Some(10) && hex_value(b'g') == None
+}
+
 #[test]
 fn digits_write_numbers(rt: HostRuntime) {
-    assert!(rt; are_magnitudes());
-    assert!(rt; are_signed());
-    assert!(rt;
-        hex_value(b'F') == Some(15) && hex_value(b'a') == Some(10) && hex_value(b'g') == None
-    );
+    assert!(rt; are_magnitudes() && are_signed() && are_hexadecimal());
     assert!(rt; FILE_LIMIT == 1_048_576);
 }

@@ -2,8 +2,8 @@
 ghost use Rattle.std.specs.Prelude.{All, length};
 ghost use Rattle.wb_graph.specs.Graphs.{IsEdgeBelow};
 
+use crate::holds;
 use std::alloc::{AllocError, Global};
-use std::test::Fail;
 use wb_graph::{Order, order_of, reachable_from, strong_components};
 
 // Whether the graph has a cycle of so many vertices, with 0 among them or not.
@@ -74,16 +74,14 @@ fn has_roots(
 }
 
 #[test]
-fn vertices_come_after_the_ends_of_their_edges(rt: HostRuntime) -> Result<(), Fail> {
-    assert!(rt; has_order(rt.alloc(), 2, &[(0, 1)], &[1, 0])?);
-    Ok(())
+fn vertices_come_after_the_ends_of_their_edges(rt: HostRuntime) {
+    assert!(rt; holds(has_order(rt.alloc(), 2, &[(0, 1)], &[1, 0])));
 }
 
 #[test]
-fn a_cycle_is_shown_without_what_leads_to_it(rt: HostRuntime) -> Result<(), Fail> {
-    assert!(rt; has_cycle(rt.alloc(), 1, &[(0, 0)], 1, true)?);
-    assert!(rt; has_cycle(rt.alloc(), 4, &[(0, 1), (1, 2), (2, 3), (3, 1)], 3, false)?);
-    Ok(())
+fn a_cycle_is_shown_without_what_leads_to_it(rt: HostRuntime) {
+    assert!(rt; holds(has_cycle(rt.alloc(), 1, &[(0, 0)], 1, true)));
+    assert!(rt; holds(has_cycle(rt.alloc(), 4, &[(0, 1), (1, 2), (2, 3), (3, 1)], 3, false)));
 }
 
 // Whether a walk from 0 over the edge to 1 reaches these, and not 2.
@@ -93,33 +91,28 @@ fn reaches_the_first_two(alloc: Global) -> Result<bool, AllocError> {
 }
 
 #[test]
-fn a_walk_reaches_its_start_and_its_end(rt: HostRuntime) -> Result<(), Fail> {
-    assert!(rt; reaches_the_first_two(rt.alloc())?);
-    Ok(())
+fn a_walk_reaches_its_start_and_its_end(rt: HostRuntime) {
+    assert!(rt; holds(reaches_the_first_two(rt.alloc())));
 }
 
 #[test]
-fn components_are_numbered_so_that_edges_fall(rt: HostRuntime) -> Result<(), Fail> {
+fn components_are_numbered_so_that_edges_fall(rt: HostRuntime) {
     let edges = [(0, 1), (1, 2), (2, 0), (2, 3), (3, 4), (4, 3)];
-    assert!(rt; has_numbers(rt.alloc(), &edges, &[1, 1, 1, 0, 0])?);
-    Ok(())
+    assert!(rt; holds(has_numbers(rt.alloc(), &edges, &[1, 1, 1, 0, 0])));
 }
 
 #[test]
-fn each_component_has_a_vertex_of_its_number(rt: HostRuntime) -> Result<(), Fail> {
-    assert!(rt; has_roots(rt.alloc(), 3, &[(0, 1), (1, 0), (1, 2)], 2)?);
-    Ok(())
+fn each_component_has_a_vertex_of_its_number(rt: HostRuntime) {
+    assert!(rt; holds(has_roots(rt.alloc(), 3, &[(0, 1), (1, 0), (1, 2)], 2)));
 }
 
 #[test]
-fn no_vertices_have_no_component(rt: HostRuntime) -> Result<(), Fail> {
-    assert!(rt; has_roots(rt.alloc(), 0, &[], 0)?);
-    Ok(())
+fn no_vertices_have_no_component(rt: HostRuntime) {
+    assert!(rt; holds(has_roots(rt.alloc(), 0, &[], 0)));
 }
 
 #[test]
-fn one_edge_back_makes_one_component(rt: HostRuntime) -> Result<(), Fail> {
+fn one_edge_back_makes_one_component(rt: HostRuntime) {
     let edges = [(0, 1), (1, 2), (2, 3), (3, 1), (3, 0)];
-    assert!(rt; has_numbers(rt.alloc(), &edges, &[0, 0, 0, 0])?);
-    Ok(())
+    assert!(rt; holds(has_numbers(rt.alloc(), &edges, &[0, 0, 0, 0])));
 }

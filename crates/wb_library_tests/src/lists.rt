@@ -1,7 +1,7 @@
 //! Do lists and stacks give back what was pushed?
 
+use crate::holds;
 use std::alloc::{AllocError, Global};
-use std::test::Fail;
 use wb_lists::{List, Stack};
 
 // Whether a list has the values that were pushed, in their order.
@@ -14,9 +14,13 @@ fn is_list_of(alloc: Global, values: &[usize]) -> Result<bool, AllocError> {
     Ok(right && list.into_sequence().as_slice() == values)
 }
 
-// Whether a stack gives back two values, the last first.
 fn is_stack_of(alloc: Global, first: usize, last: usize) -> Result<bool, AllocError> {
     let mut stack = Stack::new(alloc);
+    gives_back(&mut stack, first, last)
+}
+
+// Whether a stack gives back two values, the last first.
+fn gives_back(stack: &mut Stack<usize>, first: usize, last: usize) -> Result<bool, AllocError> {
     stack.push(first)?;
     stack.push(last)?;
     let taken = stack.pop() == Some(last) && stack.pop() == Some(first);
@@ -24,8 +28,7 @@ fn is_stack_of(alloc: Global, first: usize, last: usize) -> Result<bool, AllocEr
 }
 
 #[test]
-fn a_list_and_a_stack_have_what_is_pushed(rt: HostRuntime) -> Result<(), Fail> {
-    assert!(rt; is_list_of(rt.alloc(), &[3, 1, 2])?);
-    assert!(rt; is_stack_of(rt.alloc(), 1, 2)?);
-    Ok(())
+fn a_list_and_a_stack_have_what_is_pushed(rt: HostRuntime) {
+    assert!(rt; holds(is_list_of(rt.alloc(), &[3, 1, 2])));
+    assert!(rt; holds(is_stack_of(rt.alloc(), 1, 2)));
 }

@@ -5,8 +5,8 @@
 
 ghost use Rattle.std.specs.Prelude.{◌<◌};
 
+use crate::holds;
 use std::alloc::{AllocError, Global};
-use std::test::Fail;
 use wb_base::push;
 use wb_regex::{Regex, RegexNode, RegexRefusal, read_regex};
 
@@ -20,7 +20,7 @@ fn show_byte(sign: u8, byte: usize, shown: &mut Vec<u8>) -> Result<(), AllocErro
 }
 
 // Whether a byte is in the set.
-fn holds(words: &[u64; 4], byte: usize) -> bool {
+fn has_byte(words: &[u64; 4], byte: usize) -> bool {
     byte < 256 && words[byte / 64] >> (byte % 64) & 1 == 1
 }
 
@@ -28,11 +28,11 @@ fn holds(words: &[u64; 4], byte: usize) -> bool {
 fn show_set(words: &[u64; 4], shown: &mut Vec<u8>) -> Result<(), AllocError> {
     let mut sign = b'<';
     for byte in 0..256usize {
-        if holds(words, byte) {
-            if byte == 0 || !holds(words, byte - 1) {
+        if has_byte(words, byte) {
+            if byte == 0 || !has_byte(words, byte - 1) {
                 show_byte(sign, byte, shown)?;
                 sign = b',';
-            } else if !holds(words, byte + 1) {
+            } else if !has_byte(words, byte + 1) {
                 show_byte(b'-', byte, shown)?;
             }
         }
@@ -268,33 +268,45 @@ a?b?c? => empty
 (a?)(b*) => empty"#,
 ];
 
-#[test]
-fn texts_are_read_by_the_grammar(rt: HostRuntime) -> Result<(), Fail> {
-    for lines in &TABLES {
-        assert!(rt; are_answers(rt.alloc(), lines)?);
+// Whether the lines of each table have the answers that are wanted, and a line's end has.
+fn are_tables_right(alloc: Global, tables: &[&str]) -> Result<bool, AllocError> {
+    for lines in tables {
+        if !are_answers(alloc, lines)? {
+            return Ok(false);
+        }
     }
-    assert!(rt; is_answer(rt.alloc(), b"\n", b"<0a>")?);
+    is_answer(alloc, b"\n", b"<0a>")
+}
+
+#[test]
+fn texts_are_read_by_the_grammar(rt: HostRuntime) {
+    assert!(rt; holds(are_tables_right(rt.alloc(), &TABLES)));
+}
+
+fn push_many(text: &mut Vec<u8>, byte: u8) -> Result<(), AllocError> {
+    for _ in 0..500_000u32 {
+        push(text, byte)?;
+    }
     Ok(())
+}
+
+fn push_deep(text: &mut Vec<u8>, first: u8, last: u8) -> Result<(), AllocError> {
+    push_many(text, first)?;
+    push(text, b'a')?;
+    push_many(text, last)
 }
 
 // Whether many bytes, then another and then as many again have the answer that is wanted.
 fn is_repeated(alloc: Global, first: u8, last: u8, wanted: &[u8]) -> Result<bool, AllocError> {
     let mut text = Vec::new(alloc);
-    for _ in 0..500_000u32 {
-        push(&mut text, first)?;
-    }
-    push(&mut text, b'a')?;
-    for _ in 0..500_000u32 {
-        push(&mut text, last)?;
-    }
+    push_deep(&mut text, first, last)?;
     is_answer(alloc, &text, wanted)
 }
 
 #[test]
-fn deep_groups_take_no_stack(rt: HostRuntime) -> Result<(), Fail> {
-    assert!(rt; is_repeated(rt.alloc(), b'(', b')', b"<61>")?);
-    assert!(rt; is_repeated(rt.alloc(), b'(', b'(', b"bad 1000001")?);
-    Ok(())
+fn deep_groups_take_no_stack(rt: HostRuntime) {
+    assert!(rt; holds(is_repeated(rt.alloc(), b'(', b')', b"<61>")));
+    assert!(rt; holds(is_repeated(rt.alloc(), b'(', b'(', b"bad 1000001")));
 }
 
 // Whether a copy has the same nodes.
@@ -309,9 +321,8 @@ fn are_five_copied(alloc: Global) -> Result<bool, RegexRefusal> {
 }
 
 #[test]
-fn an_equal_expression_is_copied(rt: HostRuntime) -> Result<(), RegexRefusal> {
-    assert!(rt; are_five_copied(rt.alloc())?);
-    Ok(())
+fn an_equal_expression_is_copied(rt: HostRuntime) {
+    assert!(rt; holds(are_five_copied(rt.alloc())));
 }
 
 // Whether an expression behind a prefix, which isn't empty, is shown so.
@@ -341,10 +352,17 @@ static BEHIND: [(&[u8], &[u8], &[u8]); 3] = [
     (b"a", b"(b|c*)d?e", b"<61><62><63>*|<64>?.<65>.."),
 ];
 
-#[test]
-fn an_expression_is_put_behind_a_prefix(rt: HostRuntime) -> Result<(), RegexRefusal> {
-    for (prefix, text, wanted) in &BEHIND {
-        assert!(rt; is_behind(rt.alloc(), prefix, text, wanted)?);
+// Whether the second text of each row behind the first is shown so.
+fn are_behind(alloc: Global, rows: &[(&[u8], &[u8], &[u8])]) -> Result<bool, RegexRefusal> {
+    for (prefix, text, wanted) in rows {
+        if !is_behind(alloc, prefix, text, wanted)? {
+            return Ok(false);
+        }
     }
-    Ok(())
+    Ok(true)
+}
+
+#[test]
+fn an_expression_is_put_behind_a_prefix(rt: HostRuntime) {
+    assert!(rt; holds(are_behind(rt.alloc(), &BEHIND)));
 }

@@ -1,6 +1,6 @@
 //! Sets of numbers: members across words, unions, subsets, and members in their order.
+use crate::holds;
 use std::alloc::{AllocError, Global};
-use std::test::Fail;
 use wb_termset::TermSet;
 
 // The set of these numbers below 200.
@@ -60,16 +60,19 @@ fn is_added(set: &mut TermSet) -> bool {
     new && !old && set.contains(63) && !set.contains(65)
 }
 
-#[test]
-fn numbers_are_new_once(rt: HostRuntime) -> Result<(), Fail> {
-    assert!(rt; is_added(&mut set_of(rt.alloc(), &[63, 129])?));
-    Ok(())
+fn is_added_to(alloc: Global, numbers: &[usize]) -> Result<bool, AllocError> {
+    let mut set = set_of(alloc, numbers)?;
+    Ok(is_added(&mut set))
 }
 
 #[test]
-fn members_come_in_increasing_order(rt: HostRuntime) -> Result<(), Fail> {
-    assert!(rt; is_set_of(rt.alloc(), &[199, 5, 64, 63], &[5, 63, 64, 199])?);
-    Ok(())
+fn numbers_are_new_once(rt: HostRuntime) {
+    assert!(rt; holds(is_added_to(rt.alloc(), &[63, 129])));
+}
+
+#[test]
+fn members_come_in_increasing_order(rt: HostRuntime) {
+    assert!(rt; holds(is_set_of(rt.alloc(), &[199, 5, 64, 63], &[5, 63, 64, 199])));
 }
 
 // Whether the sets of these two numbers are joined so.
@@ -80,13 +83,11 @@ fn are_joined(alloc: Global, one: usize, other: usize) -> Result<bool, AllocErro
 }
 
 #[test]
-fn unions_and_subsets_agree(rt: HostRuntime) -> Result<(), Fail> {
-    assert!(rt; are_joined(rt.alloc(), 1, 64)?);
-    Ok(())
+fn unions_and_subsets_agree(rt: HostRuntime) {
+    assert!(rt; holds(are_joined(rt.alloc(), 1, 64)));
 }
 
 #[test]
-fn a_copy_is_equal(rt: HostRuntime) -> Result<(), Fail> {
-    assert!(rt; is_copied(rt.alloc(), &[0, 199])?);
-    Ok(())
+fn a_copy_is_equal(rt: HostRuntime) {
+    assert!(rt; holds(is_copied(rt.alloc(), &[0, 199])));
 }
