@@ -1,14 +1,10 @@
 //! Has each extension with its host the report of `certify`?
 //!
-//! Over files and a sink in memory. A refusal may show any true example, so that a row has how its report begins and ends. The checks of a host
-//! are in `check`.
+//! Over files in memory. A refusal may show any true example, so that a row leaves open what may differ. The checks of a host are in `check`.
 
-use crate::runs::status_to;
+use crate::runs::{Row, each_ends_so};
 use crate::specifications::{KW0, MINI, TINY};
-use std::alloc::{AllocError, Global};
-use std::test::Fail;
 use wb_inputs::Status;
-use wb_world::MemorySink;
 
 const ADJ: &str =
     "format 1; host adj; terminal A /a/; terminal X /x/; terminal P /p/; terminal Q /q/; terminal Y /y/; nonterminal S; nonterminal N; nonterminal H; nonterminal G; start S; extensible H; extensible G; concrete sn : S ::= n : N x : X { } concrete sh : S ::= p : P h : H { } concrete sg : S ::= q : Q g : G { } concrete na : N ::= a : A { } concrete hx : H ::= x : X { } concrete gy : G ::= y : Y { }";
@@ -19,205 +15,209 @@ const PQ: &str =
 const CTX: &str =
     "format 1; host ctx; ignore Space /[ ]+/; terminal X /x/; nonterminal P; nonterminal N; start P; extensible N; inh env : int; inh store : int; syn value : int; occurs env on N; occurs store on N; occurs value on P; occurs value on N needs { env, store }; concrete root : P ::= n : N { n.env = 1; n.store = 2; top.value = n.value; } concrete leaf : N ::= x : X { top.value = @add(top.env, top.store); }";
 
-// Whether these words end so and write a report that begins and ends so, where the files have these bytes.
-fn ends(
-    alloc: Global,
-    words: &[&str],
-    (host, extension): (&[u8], &[u8]),
-    status: Status,
-    (begins, ends): (&[u8], &[u8]),
-) -> Result<bool, AllocError> {
-    let mut sink = MemorySink::new(alloc, 1000, 1000)?;
-    let ended = status_to(alloc, words, host, extension, &mut sink)?;
-    let report = sink.bytes();
-    Ok(ended == status && report.starts_with(begins) && report.ends_with(ends))
-}
-
-// The number of the first row that ends otherwise: a host, an extension, a status, and how the report begins and ends.
-fn first_wrong(
-    alloc: Global,
-    rows: &[(&str, &str, Status, &str, &str)],
-) -> Result<Option<usize>, AllocError> {
-    for (place, (host, extension, status, begins, ending)) in rows.iter().enumerate() {
-        let files = (host.as_bytes(), extension.as_bytes());
-        let report = (begins.as_bytes(), ending.as_bytes());
-        if !ends(alloc, &["certify", "h", "t"], files, *status, report)? {
-            return Ok(Some(place));
-        }
-    }
-    Ok(None)
-}
-
-const ROWS: [(&str, &str, Status, &str, &str); 19] = [
+static ROWS: [Row; 19] = [
     (
-        TINY,
-        "format 1; extension dup for tiny; marking D /d/; concrete twin : T ::= m : D t : T {   forwards to num(@to_text(@mul(2, t.value))); }",
+        "workbench certify h t",
+        &[
+            TINY,
+            "format 1; extension dup for tiny; marking D /d/; concrete twin : T ::= m : D t : T {   forwards to num(@to_text(@mul(2, t.value))); }",
+        ],
         Status::Done,
-        "certified host tiny\n",
-        "certified extension dup\n",
+        "certified host tiny\n…certified extension dup\n",
     ),
     (
-        TINY,
-        "format 1; extension count for tiny; syn leaves : int; occurs leaves on E; occurs leaves on T; aspect plus { top.leaves = @add(a.leaves, b.leaves); } aspect term { top.leaves = t.leaves; } aspect num { top.leaves = 1; }",
+        "workbench certify h t",
+        &[
+            TINY,
+            "format 1; extension count for tiny; syn leaves : int; occurs leaves on E; occurs leaves on T; aspect plus { top.leaves = @add(a.leaves, b.leaves); } aspect term { top.leaves = t.leaves; } aspect num { top.leaves = 1; }",
+        ],
         Status::Done,
-        "certified host tiny\n",
-        "certified extension count\n",
+        "certified host tiny\n…certified extension count\n",
     ),
     (
-        TINY,
-        "format 1; extension minus for tiny; marking M /-/; concrete same : T ::= m : M t : T { forwards to t; }",
+        "workbench certify h t",
+        &[
+            TINY,
+            "format 1; extension minus for tiny; marking M /-/; concrete same : T ::= m : M t : T { forwards to t; }",
+        ],
         Status::Done,
-        "certified host tiny\n",
-        "certified extension minus\n",
+        "certified host tiny\n…certified extension minus\n",
     ),
     (
-        TINY,
-        "format 1; extension lone for tiny; marking L /l/; concrete one : T ::= m : L { top.value = 1; }",
+        "workbench certify h t",
+        &[
+            TINY,
+            "format 1; extension lone for tiny; marking L /l/; concrete one : T ::= m : L { top.value = 1; }",
+        ],
         Status::NotCertified,
-        "refused t E7 lone:one\n",
         "refused t E7 lone:one\n",
     ),
     (
-        TINY,
-        "format 1; extension e for tiny; marking D /d/; concrete a : T ::= n : Num m : D { forwards to num(\"1\"); }",
+        "workbench certify h t",
+        &[
+            TINY,
+            "format 1; extension e for tiny; marking D /d/; concrete a : T ::= n : Num m : D { forwards to num(\"1\"); }",
+        ],
         Status::NotCertified,
         "refused t E1 e:a\n",
-        "refused t E1 e:a\n",
     ),
     (
-        TINY,
-        "format 1; extension e for tiny; marking D /d/; concrete a : T ::= m : D { forwards to num(\"1\"); } concrete b : T ::= m : D n : Num { forwards to num(\"1\"); }",
+        "workbench certify h t",
+        &[
+            TINY,
+            "format 1; extension e for tiny; marking D /d/; concrete a : T ::= m : D { forwards to num(\"1\"); } concrete b : T ::= m : D n : Num { forwards to num(\"1\"); }",
+        ],
         Status::NotCertified,
         "refused t E2 e:D\n",
-        "refused t E2 e:D\n",
     ),
     (
-        TINY,
-        "format 1; extension e for tiny; marking D /d/; concrete a : E ::= m : D { forwards to term(num(\"1\")); }",
+        "workbench certify h t",
+        &[
+            TINY,
+            "format 1; extension e for tiny; marking D /d/; concrete a : E ::= m : D { forwards to term(num(\"1\")); }",
+        ],
         Status::NotCertified,
         "refused t E3 e:a\n",
-        "refused t E3 e:a\n",
     ),
     (
-        TINY,
-        "format 1; extension e for tiny; marking D /7/; concrete a : T ::= m : D { forwards to num(\"1\"); }",
+        "workbench certify h t",
+        &[
+            TINY,
+            "format 1; extension e for tiny; marking D /7/; concrete a : T ::= m : D { forwards to num(\"1\"); }",
+        ],
         Status::NotCertified,
         "refused t E4 e:D and Num share \"7\"\n",
-        "refused t E4 e:D and Num share \"7\"\n",
     ),
     (
-        MINI,
-        "format 1; extension comma for mini; marking Dot /dot/; terminal Comma /,/; prefer Dot over Id; concrete two : Factor ::= m : Dot o : Open x : Expr k : Comma y : Expr c : Close {   forwards to paren(\"(\", plus(x, \"+\", factor(paren(\"(\", y, \")\"))), \")\"); }",
+        "workbench certify h t",
+        &[
+            MINI,
+            "format 1; extension comma for mini; marking Dot /dot/; terminal Comma /,/; prefer Dot over Id; concrete two : Factor ::= m : Dot o : Open x : Expr k : Comma y : Expr c : Close {   forwards to paren(\"(\", plus(x, \"+\", factor(paren(\"(\", y, \")\"))), \")\"); }",
+        ],
         Status::NotCertified,
-        "refused t E5 after",
-        "on comma:Comma\n",
+        "refused t E5 after…on comma:Comma\n",
     ),
     (
-        ADJ,
-        "format 1; extension second for adj; marking K /k/; concrete kh : H ::= k : K y : Y { forwards to hx(\"x\"); }",
+        "workbench certify h t",
+        &[
+            ADJ,
+            "format 1; extension second for adj; marking K /k/; concrete kh : H ::= k : K y : Y { forwards to hx(\"x\"); }",
+        ],
         Status::Done,
-        "certified host adj\n",
-        "certified extension second\n",
+        "certified host adj\n…certified extension second\n",
     ),
     (
-        ADJ,
-        "format 1; extension first for adj; marking M /m/; concrete mg : G ::= m : M n : N h : H { forwards to gy(\"y\"); }",
+        "workbench certify h t",
+        &[
+            ADJ,
+            "format 1; extension first for adj; marking M /m/; concrete mg : G ::= m : M n : N h : H { forwards to gy(\"y\"); }",
+        ],
         Status::NotCertified,
-        "refused t E5 after",
-        "item na/1 on hole:H\n",
+        "refused t E5 after…item na/1 on hole:H\n",
     ),
     (
-        PQ,
-        "format 1; extension fit for pq; marking M /m/; concrete mg : G ::= m : M a : A x : X { forwards to gz(\"z\"); }",
+        "workbench certify h t",
+        &[
+            PQ,
+            "format 1; extension fit for pq; marking M /m/; concrete mg : G ::= m : M a : A x : X { forwards to gz(\"z\"); }",
+        ],
         Status::Done,
-        "certified host pq\n",
-        "certified extension fit\n",
+        "certified host pq\n…certified extension fit\n",
     ),
     (
-        PQ,
-        "format 1; extension unfit for pq; marking M /m/; concrete mg : G ::= m : M a : A y : Y { forwards to gz(\"z\"); }",
+        "workbench certify h t",
+        &[
+            PQ,
+            "format 1; extension unfit for pq; marking M /m/; concrete mg : G ::= m : M a : A y : Y { forwards to gz(\"z\"); }",
+        ],
         Status::NotCertified,
-        "refused t E6 after",
-        "item ac/1 on Y\n",
+        "refused t E6 after…item ac/1 on Y\n",
     ),
     (
-        CTX,
-        "format 1; extension swap for ctx; marking M /m/; concrete swap : N ::= m : M n : N { forwards to n; forward.env = top.store; }",
+        "workbench certify h t",
+        &[
+            CTX,
+            "format 1; extension swap for ctx; marking M /m/; concrete swap : N ::= m : M n : N { forwards to n; forward.env = top.store; }",
+        ],
         Status::NotCertified,
         "refused t E8 swap:swap forward.env reads store\n",
-        "refused t E8 swap:swap forward.env reads store\n",
     ),
     (
-        MINI,
-        "format 1; extension dup for tiny; marking D /d/; concrete twin : T ::= m : D t : T {   forwards to num(@to_text(@mul(2, t.value))); }",
+        "workbench certify h t",
+        &[
+            MINI,
+            "format 1; extension dup for tiny; marking D /d/; concrete twin : T ::= m : D t : T {   forwards to num(@to_text(@mul(2, t.value))); }",
+        ],
         Status::WrongHost,
         "wrong host t names tiny\n",
-        "wrong host t names tiny\n",
     ),
     (
-        TINY,
-        "format 1; host tiny;",
+        "workbench certify h t",
+        &[TINY, "format 1; host tiny;"],
         Status::SpecRefused,
-        "refused t N4 tiny\n",
         "refused t N4 tiny\n",
     ),
     (
-        TINY,
-        "format 1; extension e for tiny; start Q;",
+        "workbench certify h t",
+        &[TINY, "format 1; extension e for tiny; start Q;"],
         Status::SpecRefused,
-        "refused t N1 Q\n",
         "refused t N1 Q\n",
     ),
     (
-        TINY,
-        "format 1; extension e for tiny; concrete",
+        "workbench certify h t",
+        &[TINY, "format 1; extension e for tiny; concrete"],
         Status::SpecRefused,
-        "refused t S1 at",
-        "\n",
+        "refused t S1 at…\n",
     ),
     (
-        KW0,
-        "format 1; extension dup for tiny; marking D /d/; concrete twin : T ::= m : D t : T {   forwards to num(@to_text(@mul(2, t.value))); }",
+        "workbench certify h t",
+        &[
+            KW0,
+            "format 1; extension dup for tiny; marking D /d/; concrete twin : T ::= m : D t : T {   forwards to num(@to_text(@mul(2, t.value))); }",
+        ],
         Status::NotCertified,
-        "refused h G5 after",
-        "\n",
+        "refused h G5 after…\n",
     ),
 ];
 
 #[test]
-fn each_extension_has_its_report(rt: HostRuntime) -> Result<(), Fail> {
-    let wrong = first_wrong(rt.alloc(), &ROWS)?;
-    assert!(rt; wrong.is_none(), "{wrong:?}");
-    Ok(())
+fn each_extension_has_its_report(rt: HostRuntime) {
+    each_ends_so(&rt, &ROWS);
 }
 
-// Whether so many words that name one extension end so.
-fn ends_with(alloc: Global, count: usize, status: Status, line: &str) -> Result<bool, AllocError> {
-    let mut words = Vec::new(alloc);
-    words.push("certify")?;
-    words.push("h")?;
-    for _ in 0..count {
-        words.push("t")?;
-    }
-    ends(
-        alloc,
-        &words,
-        (KW0.as_bytes(), b""),
-        status,
-        (line.as_bytes(), b"\n"),
-    )
-}
+// One extension named 64 times, and once more.
+static MANY: [Row; 2] = [
+    (
+        "workbench certify h \
+        t t t t t t t t \
+        t t t t t t t t \
+        t t t t t t t t \
+        t t t t t t t t \
+        t t t t t t t t \
+        t t t t t t t t \
+        t t t t t t t t \
+        t t t t t t t t",
+        &[KW0, ""],
+        Status::NotCertified,
+        "refused h G5…\n",
+    ),
+    (
+        "workbench certify h \
+        t t t t t t t t \
+        t t t t t t t t \
+        t t t t t t t t \
+        t t t t t t t t \
+        t t t t t t t t \
+        t t t t t t t t \
+        t t t t t t t t \
+        t t t t t t t t t",
+        &[KW0, ""],
+        Status::TooManyExtensions,
+        "too many extensions…\n",
+    ),
+];
 
 #[test]
-fn more_than_64_extensions_are_too_many(rt: HostRuntime) -> Result<(), Fail> {
-    assert!(rt; ends_with(rt.alloc(), 64, Status::NotCertified, "refused h G5")?);
-    assert!(rt;
-        ends_with(
-            rt.alloc(),
-            65,
-            Status::TooManyExtensions,
-            "too many extensions"
-        )?
-    );
-    Ok(())
+fn more_than_64_extensions_are_too_many(rt: HostRuntime) {
+    each_ends_so(&rt, &MANY);
 }

@@ -11,7 +11,11 @@ mod check;
 #[cfg(test)]
 mod compose;
 #[cfg(test)]
+mod failing_runs;
+#[cfg(test)]
 mod generate;
+#[cfg(test)]
+mod long_runs;
 #[cfg(test)]
 mod long_texts;
 #[cfg(test)]

@@ -6,15 +6,14 @@ ghost use Rattle.wb_tests.specs.Inner.Odd.{odd, odd_sum};
 ghost use Rattle.wb_operations.specs.Given.{FitKinds, IsGiven, plains_of};
 ghost use Rattle.wb_operations.specs.Takes.{one_text, two_ints};
 
-use crate::runs::status_by;
+use crate::runs::{Row, add_files, expect, fits, status_by};
 use crate::specifications::TINY;
 use std::alloc::{AllocError, Global};
-use std::test::Fail;
 use wb_base::Kind;
 use wb_inputs::Status;
 use wb_operations::{Meaning, OperationRefusal, OperationTable, standard_to_int};
 use wb_values::Value;
-use wb_world::MemorySink;
+use wb_world::{MemoryShelf, MemorySink};
 
 // What the two operations mean.
 struct Odd;
@@ -59,10 +58,11 @@ fn odd_to_int(arguments: &[Value]) -> Result<Value, OperationRefusal>
     standard_to_int(arguments)
 }
 
-// How `run --text t --attr value h` ends by a table of both.
+// How a run by a table of both ends.
 fn status_to(
     alloc: Global,
-    files: (&[u8], &[u8]),
+    line: &str,
+    shelf: &mut MemoryShelf,
     sink: &mut MemorySink,
 ) -> Result<Status, AllocError> {
     let mut table: OperationTable<Odd> = OperationTable::new(alloc);
@@ -82,20 +82,40 @@ fn status_to(
         { odd_to_int(arguments) },
     )?;
     table.add(b"to_int", &[Kind::Text], Kind::Int, read)?;
-    let words = ["run", "--text", "t", "--attr", "value", "h"];
-    status_by(alloc, &words, files, sink, &table)
+    status_by(alloc, line, shelf, sink, &table)
 }
 
-// Whether such a run of a text of sums ends so and writes this.
-fn ends(alloc: Global, text: &str, status: Status, report: &str) -> Result<bool, AllocError> {
-    let mut sink = MemorySink::new(alloc, 1000, 1000)?;
-    let ended = status_to(alloc, (TINY.as_bytes(), text.as_bytes()), &mut sink)?;
-    Ok(ended == status && sink.bytes() == report.as_bytes())
+// The same over the files of a row.
+fn row_to(alloc: Global, row: &Row, sink: &mut MemorySink) -> Result<Status, AllocError> {
+    let mut shelf = MemoryShelf::new(alloc);
+    add_files(&mut shelf, row.1)?;
+    status_to(alloc, row.0, &mut shelf, sink)
 }
+
+// Whether a row ends so.
+fn ends_so(alloc: Global, row: &Row) -> Result<bool, AllocError> {
+    let mut sink = MemorySink::new(alloc, 1_000, 1_000)?;
+    let ended = row_to(alloc, row, &mut sink)?;
+    Ok(ended == row.2 && fits(row.3, sink.bytes()))
+}
+
+static SUMS: [Row; 2] = [
+    (
+        "workbench run --text t --attr value h",
+        &[TINY, "3+4"],
+        Status::OperationFault,
+        "fault add 9\n",
+    ),
+    (
+        "workbench run --text t --attr value h",
+        &[TINY, "4+3"],
+        Status::Done,
+        "value = 7\n",
+    ),
+];
 
 #[test]
-fn the_operations_of_the_table_are_called(rt: HostRuntime) -> Result<(), Fail> {
-    assert!(rt; ends(rt.alloc(), "3+4", Status::OperationFault, "fault add 9\n")?);
-    assert!(rt; ends(rt.alloc(), "4+3", Status::Done, "value = 7\n")?);
-    Ok(())
+fn the_operations_of_the_table_are_called(rt: HostRuntime) {
+    expect(&rt, ends_so(rt.alloc(), &SUMS[0]));
+    expect(&rt, ends_so(rt.alloc(), &SUMS[1]));
 }

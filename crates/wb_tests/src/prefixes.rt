@@ -6,7 +6,7 @@ use crate::show::Wrong;
 use crate::show::Wrong::{At, AtItsEnd, Nowhere};
 
 /// From each length on, where a prefix of `MINI` of that length has its first error. Worked out from the grammar, by another reader.
-pub const MINI_PREFIXES: [(usize, Wrong); 375] = [
+pub static MINI_PREFIXES: [(usize, Wrong); 375] = [
     (0, AtItsEnd),
     (1, At(0)),
     (6, AtItsEnd),

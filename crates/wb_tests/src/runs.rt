@@ -1,109 +1,179 @@
-//! How does a run of the program end, over a host and a text in memory?
+//! Does a run of the program end as its row says, over files in memory?
 //!
-//! For the tests of one command each.
+//! For the tests of one command each, whose rows are plain data. What a run needs is made in one function each and lent to the next, since a
+//! proof goes through all that is owned at each exit. Long files are in `long_runs`, and faults in `failing_runs`.
 
+ghost use Rattle.std.specs.Prelude.{◌≡◌, []};
 ghost use Rattle.wb_operations.specs.Kept.{IsKept};
 
 use std::alloc::{AllocError, Global};
+use std::process::Abort;
 use wb_inputs::Status;
 use wb_operations::{Meaning, OperationRefusal, OperationTable, standard_table};
 use wb_program::workbench;
 use wb_values::Value;
 use wb_world::{MemoryShelf, MemorySink};
 
-/// The words as the program has them.
-pub fn words_of(alloc: Global, words: &[&str]) -> Result<Vec<String>, AllocError> {
-    let mut texts = Vec::new(alloc);
-    for word in words {
-        texts.push(String::from_str(alloc, *word)?)?;
-    }
-    Ok(texts)
+/// A command line, the files `h`, `t`, `u` and `v` or the first of them, a status, and a report, in which `…` stands for any text.
+pub type Row = (&'static str, &'static [&'static str], Status, &'static str);
+
+/// Fails unless this holds.
+pub fn expect<R: Abort>(rt: &R, holds: Result<bool, AllocError>) {
+    assert!(rt; matches!(holds, Ok(true)));
 }
 
-/// How a run of these words ends, with a host in the file `h` and a text in the file `t`.
-pub fn status_to(
-    alloc: Global,
-    words: &[&str],
-    host: &[u8],
-    text: &[u8],
-    sink: &mut MemorySink,
-) -> Result<Status, AllocError> {
-    let operations = standard_table(alloc)?;
-    status_by(alloc, words, (host, text), sink, &operations)
+/// Fails where something is wrong, and shows its number.
+pub fn expect_none<R: Abort>(rt: &R, wrong: Result<Option<usize>, AllocError>) {
+    assert!(rt; matches!(wrong, Ok(None)), "{wrong:?}");
 }
 
-/// The same over this table of operations.
-pub fn status_by<M: Meaning>(
-    alloc: Global,
-    words: &[&str],
-    files: (&[u8], &[u8]),
-    sink: &mut MemorySink,
-    operations: &OperationTable<M>,
-) -> Result<Status, AllocError>
-    requires kept { IsKept operations.now.signatures operations.now.built_in operations.now.runs.items M.meaning
-        (λ run vs. ⟦<Box<dyn Fn(&[Value]) -> Result<Value, OperationRefusal>> as Fn(&[Value]) -> Result<Value, OperationRefusal>>⟧.pre run vs)
-        (λ run vs r. ⟦<Box<dyn Fn(&[Value]) -> Result<Value, OperationRefusal>> as Fn(&[Value]) -> Result<Value, OperationRefusal>>⟧.post run vs r) }
-{
-    let mut shelf = MemoryShelf::new(alloc);
-    shelf.add_file("h", files.0)?;
-    shelf.add_file("t", files.1)?;
-    let words = words_of(alloc, words)?;
-    Ok(workbench(alloc, &words, &mut shelf, sink, operations))
+/// Fails at the first row that ends otherwise, and shows its number, counted from 0.
+pub fn each_ends_so<R: Abort + AllocGlobal>(rt: &R, rows: &[Row]) {
+    expect_none(rt, first_wrong(rt.alloc(), rows));
 }
 
-/// How a run of these words ends, with a host in the file `h` and others in the files `t`, `u` and `v`.
-pub fn status_of_four(
-    alloc: Global,
-    words: &[&str],
-    files: &[&str; 4],
-    sink: &mut MemorySink,
-) -> Result<Status, AllocError> {
-    let operations = standard_table(alloc)?;
-    status_of_four_by(alloc, words, files, sink, &operations)
-}
-
-// The same over this table of operations.
-fn status_of_four_by<M: Meaning>(
-    alloc: Global,
-    words: &[&str],
-    files: &[&str; 4],
-    sink: &mut MemorySink,
-    operations: &OperationTable<M>,
-) -> Result<Status, AllocError>
-    requires kept { IsKept operations.now.signatures operations.now.built_in operations.now.runs.items M.meaning
-        (λ run vs. ⟦<Box<dyn Fn(&[Value]) -> Result<Value, OperationRefusal>> as Fn(&[Value]) -> Result<Value, OperationRefusal>>⟧.pre run vs)
-        (λ run vs r. ⟦<Box<dyn Fn(&[Value]) -> Result<Value, OperationRefusal>> as Fn(&[Value]) -> Result<Value, OperationRefusal>>⟧.post run vs r) }
-{
-    let mut shelf = MemoryShelf::new(alloc);
-    shelf.add_file("h", files[0].as_bytes())?;
-    shelf.add_file("t", files[1].as_bytes())?;
-    shelf.add_file("u", files[2].as_bytes())?;
-    shelf.add_file("v", files[3].as_bytes())?;
-    let words = words_of(alloc, words)?;
-    Ok(workbench(alloc, &words, &mut shelf, sink, operations))
-}
-
-/// Words, the files `h`, `t`, `u` and `v`, a status and a report.
-pub type Row = (
-    &'static [&'static str],
-    [&'static str; 4],
-    Status,
-    &'static str,
-);
-
-// Whether a row ends so.
-fn ends(alloc: Global, row: &Row) -> Result<bool, AllocError> {
-    let mut sink = MemorySink::new(alloc, 1000, 1000)?;
-    let ended = status_of_four(alloc, row.0, &row.1, &mut sink)?;
-    Ok(ended == row.2 && sink.bytes() == row.3.as_bytes())
-}
-
-/// The number of the first row that ends otherwise.
-pub fn first_wrong(alloc: Global, rows: &[Row]) -> Result<Option<usize>, AllocError> {
-    for (place, row) in rows.iter().enumerate() {
-        if !ends(alloc, row)? {
+// The number of the first row that ends otherwise.
+fn first_wrong(alloc: Global, rows: &[Row]) -> Result<Option<usize>, AllocError> {
+    for (place, (line, files, status, report)) in rows.iter().enumerate() {
+        if !ends_so(alloc, *line, *files, *status, *report)? {
             return Ok(Some(place));
         }
     }
     Ok(None)
+}
+
+/// Fails at the first line that ends otherwise over these files, and shows its number.
+pub fn each_line_ends_so<R: Abort + AllocGlobal>(
+    rt: &R,
+    lines: &[&str],
+    files: &[&str],
+    status: Status,
+    report: &str,
+) {
+    expect_none(
+        rt,
+        first_wrong_line(rt.alloc(), lines, files, status, report),
+    );
+}
+
+// The number of the first line that ends otherwise over these files.
+fn first_wrong_line(
+    alloc: Global,
+    lines: &[&str],
+    files: &[&str],
+    status: Status,
+    report: &str,
+) -> Result<Option<usize>, AllocError> {
+    for (place, line) in lines.iter().enumerate() {
+        if !ends_so(alloc, *line, files, status, report)? {
+            return Ok(Some(place));
+        }
+    }
+    Ok(None)
+}
+
+/// Fails unless one of the rows ends so, of those that say what may be reported of one run.
+pub fn one_ends_so<R: Abort + AllocGlobal>(rt: &R, rows: &[Row]) {
+    expect(rt, is_one(rt.alloc(), rows));
+}
+
+// Whether one of the rows ends so.
+fn is_one(alloc: Global, rows: &[Row]) -> Result<bool, AllocError> {
+    for (line, files, status, report) in rows {
+        if ends_so(alloc, *line, *files, *status, *report)? {
+            return Ok(true);
+        }
+    }
+    Ok(false)
+}
+
+/// Whether a run of this line over these files has the status and the report.
+pub fn ends_so(
+    alloc: Global,
+    line: &str,
+    files: &[&str],
+    status: Status,
+    report: &str,
+) -> Result<bool, AllocError> {
+    let mut sink = MemorySink::new(alloc, 1_000_000, 1_000)?;
+    let ended = status_of(alloc, line, files, &mut sink)?;
+    Ok(ended == status && fits(report, sink.bytes()))
+}
+
+/// Whether a text is the report of a row.
+pub fn fits(report: &str, text: &[u8]) -> bool {
+    match report.split_once('…') {
+        Some((begin, end)) => text.starts_with(begin.as_bytes()) && text.ends_with(end.as_bytes()),
+        None => text == report.as_bytes(),
+    }
+}
+
+/// How a run of this line over these files ends, which writes to the sink.
+pub fn status_of(
+    alloc: Global,
+    line: &str,
+    files: &[&str],
+    sink: &mut MemorySink,
+) -> Result<Status, AllocError> {
+    let mut shelf = MemoryShelf::new(alloc);
+    add_files(&mut shelf, files)?;
+    status_on(alloc, line, &mut shelf, sink)
+}
+
+/// Adds the files of a row under their names, to a shelf that holds nothing.
+pub fn add_files(shelf: &mut MemoryShelf, files: &[&str]) -> Result<(), AllocError>
+    requires { shelf.old.files ≡ [] }
+{
+    let Some(host) = files.first() else {
+        return Ok(());
+    };
+    shelf.add_file("h", host.as_bytes())?;
+    let Some(second) = files.get(1) else {
+        return Ok(());
+    };
+    shelf.add_file("t", second.as_bytes())?;
+    let Some(third) = files.get(2) else {
+        return Ok(());
+    };
+    shelf.add_file("u", third.as_bytes())?;
+    let Some(last) = files.get(3) else {
+        return Ok(());
+    };
+    shelf.add_file("v", last.as_bytes())
+}
+
+/// How a run of this line over the files of a shelf ends.
+pub fn status_on(
+    alloc: Global,
+    line: &str,
+    shelf: &mut MemoryShelf,
+    sink: &mut MemorySink,
+) -> Result<Status, AllocError> {
+    let operations = standard_table(alloc)?;
+    status_by(alloc, line, shelf, sink, &operations)
+}
+
+/// The same by this table of operations.
+pub fn status_by<M: Meaning>(
+    alloc: Global,
+    line: &str,
+    shelf: &mut MemoryShelf,
+    sink: &mut MemorySink,
+    operations: &OperationTable<M>,
+) -> Result<Status, AllocError>
+    requires kept { IsKept operations.now.signatures operations.now.built_in operations.now.runs.items M.meaning
+        (λ run vs. ⟦<Box<dyn Fn(&[Value]) -> Result<Value, OperationRefusal>> as Fn(&[Value]) -> Result<Value, OperationRefusal>>⟧.pre run vs)
+        (λ run vs r. ⟦<Box<dyn Fn(&[Value]) -> Result<Value, OperationRefusal>> as Fn(&[Value]) -> Result<Value, OperationRefusal>>⟧.post run vs r) }
+{
+    let words = words_of(alloc, line)?;
+    Ok(workbench(alloc, &words, shelf, sink, operations))
+}
+
+// The words of a line after the name of the program, each after one space.
+fn words_of(alloc: Global, line: &str) -> Result<Vec<String>, AllocError> {
+    let mut words = Vec::new(alloc);
+    for word in line.split(' ').skip(1) {
+        words.push(String::from_str(alloc, word)?)?;
+    }
+    Ok(words)
 }

@@ -206,8 +206,8 @@ pub const SWAP: &str = r#"format 1; extension swap for ctx; marking M /m/;
 concrete swap : N ::= m : M n : N { forwards to n; forward.env = top.store; }
 "#;
 
-/// Other specifications.
-pub const OTHERS: [&str; 37] = [
+/// The specifications of the tests, as they stand in files.
+pub static ALL: [&str; 38] = [
     r#"format 1; extension a for mini;
 marking Sum /sum/; prefer Sum over Id;
 concrete dbl : Factor ::= m : Sum o : Open x : Expr c : Close {
@@ -342,4 +342,5 @@ concrete num : T ::= n : Num { top.value = @to_int(n.lexeme); }
     r#"format 1; extension unfit for pq; marking M /m/;
 concrete mg : G ::= m : M a : A y : Y { forwards to gz("z"); }
 "#,
+    MINI,
 ];

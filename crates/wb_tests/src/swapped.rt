@@ -4,15 +4,14 @@ ghost use Rattle.wb_operations.specs.Given.{FitKinds, IsGiven, plains_of};
 ghost use Rattle.wb_operations.specs.Standard.{standard};
 ghost use Rattle.wb_operations.specs.Takes.{two_ints};
 
-use crate::runs::status_by;
+use crate::runs::{Row, add_files, expect, fits, status_by};
 use crate::specifications::{CALC0, DIVS};
 use std::alloc::{AllocError, Global};
-use std::test::Fail;
 use wb_base::Kind;
 use wb_inputs::Status;
 use wb_operations::{Meaning, OperationTable, standard_sub};
 use wb_values::Value;
-use wb_world::MemorySink;
+use wb_world::{MemoryShelf, MemorySink};
 
 // The first number less the second.
 struct Swapped;
@@ -24,10 +23,11 @@ impl Meaning for Swapped {
     ghost meaning = { λ number. standard (number + 1) };
 }
 
-// How `value h t value` ends by a table whose only operation is called `add` and subtracts.
+// How a run by a table whose only operation is called `add` and subtracts ends.
 fn status_to(
     alloc: Global,
-    files: (&[u8], &[u8]),
+    line: &str,
+    shelf: &mut MemoryShelf,
     sink: &mut MemorySink,
 ) -> Result<Status, AllocError> {
     let mut table: OperationTable<Swapped> = OperationTable::new(alloc);
@@ -39,31 +39,43 @@ fn status_to(
         { standard_sub(arguments) },
     )?;
     table.add(b"add", &[Kind::Int, Kind::Int], Kind::Int, run)?;
-    status_by(alloc, &["value", "h", "t", "value"], files, sink, &table)
+    status_by(alloc, line, shelf, sink, &table)
 }
 
-// Whether such a run ends so and writes this, where the files have these texts.
-fn ends(
-    alloc: Global,
-    (host, term): (&str, &str),
-    status: Status,
-    report: &str,
-) -> Result<bool, AllocError> {
-    let mut sink = MemorySink::new(alloc, 1000, 1000)?;
-    let ended = status_to(alloc, (host.as_bytes(), term.as_bytes()), &mut sink)?;
-    Ok(ended == status && sink.bytes() == report.as_bytes())
+// The same over the files of a row.
+fn row_to(alloc: Global, row: &Row, sink: &mut MemorySink) -> Result<Status, AllocError> {
+    let mut shelf = MemoryShelf::new(alloc);
+    add_files(&mut shelf, row.1)?;
+    status_to(alloc, row.0, &mut shelf, sink)
 }
+
+// Whether a row ends so.
+fn ends_so(alloc: Global, row: &Row) -> Result<bool, AllocError> {
+    let mut sink = MemorySink::new(alloc, 1_000, 1_000)?;
+    let ended = row_to(alloc, row, &mut sink)?;
+    Ok(ended == row.2 && fits(row.3, sink.bytes()))
+}
+
+static CALLED: Row = (
+    "workbench value h t value",
+    &[CALC0, "add(lit(1), lit(2))"],
+    Status::Done,
+    "value = -1\n",
+);
 
 #[test]
-fn operations_are_those_of_the_table(rt: HostRuntime) -> Result<(), Fail> {
-    let files = (CALC0, "add(lit(1), lit(2))");
-    assert!(rt; ends(rt.alloc(), files, Status::Done, "value = -1\n")?);
-    Ok(())
+fn operations_are_those_of_the_table(rt: HostRuntime) {
+    expect(&rt, ends_so(rt.alloc(), &CALLED));
 }
 
+static NOT_DECLARED: Row = (
+    "workbench value h t value",
+    &[DIVS, "div(lit(7), lit(-2))"],
+    Status::SpecRefused,
+    "refused h N1 div\n",
+);
+
 #[test]
-fn an_operation_that_is_not_in_the_table_is_not_declared(rt: HostRuntime) -> Result<(), Fail> {
-    let files = (DIVS, "div(lit(7), lit(-2))");
-    assert!(rt; ends(rt.alloc(), files, Status::SpecRefused, "refused h N1 div\n")?);
-    Ok(())
+fn an_operation_that_is_not_in_the_table_is_not_declared(rt: HostRuntime) {
+    expect(&rt, ends_so(rt.alloc(), &NOT_DECLARED));
 }

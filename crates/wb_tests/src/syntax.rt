@@ -1,29 +1,39 @@
 //! Is a copy of a specification printed as the specification is?
 
 use crate::specifications::MINI;
-use std::alloc::Global;
-use std::test::Fail;
+use std::alloc::{AllocError, Global};
 use wb_printer::print_spec;
-use wb_reader::{SpecRefusal, read_spec};
+use wb_reader::read_spec;
 use wb_syntax::Spec;
 
-// Whether two specifications have one canonical text.
-fn are_printed_alike(alloc: Global, one: &Spec, other: &Spec) -> Result<bool, SpecRefusal> {
-    let printed = print_spec(alloc, one)?;
-    Ok(printed.as_slice() == print_spec(alloc, other)?.as_slice())
+// Whether this is the canonical text of a specification.
+fn is_printed(alloc: Global, spec: &Spec, text: &[u8]) -> Result<bool, AllocError> {
+    Ok(print_spec(alloc, spec)?.as_slice() == text)
 }
 
-// Whether the specification of a text and its copy have one canonical text.
-fn is_copied(alloc: Global, text: &str) -> Result<bool, SpecRefusal> {
-    let spec = read_spec(alloc, text.as_bytes())?;
-    are_printed_alike(alloc, &spec, &spec.copy()?)
+// Whether it is that of a copy.
+fn is_copy_printed(alloc: Global, spec: &Spec, text: &[u8]) -> Result<bool, AllocError> {
+    let copy = spec.copy()?;
+    is_printed(alloc, &copy, text)
 }
+
+// Whether a specification and its copy have one canonical text.
+fn is_copied(alloc: Global, spec: &Spec) -> Result<bool, AllocError> {
+    let text = print_spec(alloc, spec)?;
+    is_copy_printed(alloc, spec, &text)
+}
+
+// Whether the specification of a text and its copy have one.
+fn is_text_copied(alloc: Global, text: &str) -> bool {
+    match read_spec(alloc, text.as_bytes()) {
+        Ok(spec) => matches!(is_copied(alloc, &spec), Ok(true)),
+        Err(_) => false,
+    }
+}
+
+static TEXT: &str = MINI;
 
 #[test]
-fn a_copy_is_printed_alike(rt: HostRuntime) -> Result<(), Fail> {
-    let Ok(is) = is_copied(rt.alloc(), MINI) else {
-        return Err(Fail::from("the text is a specification"));
-    };
-    assert!(rt; is);
-    Ok(())
+fn a_copy_is_printed_alike(rt: HostRuntime) {
+    assert!(rt; is_text_copied(rt.alloc(), TEXT));
 }
