@@ -53,16 +53,12 @@ fn shown_of_kinds(refusal: &TypeRefusal) -> Shown<'_> {
     }
 }
 
-// What a refusal for markers, grammar or scanner shows.
+// What a refusal for markers, what goes beyond the host, grammar or scanner shows.
 fn shown_of_determinism(refusal: &DeterminismRefusal) -> Shown<'_> {
     match refusal {
         DeterminismRefusal::NotBridge(number) => ("E1", Production(*number), Nothing, Nothing),
         DeterminismRefusal::MarkerElsewhere(marker) => ("E2", Terminal(*marker), Nothing, Nothing),
         DeterminismRefusal::NotExtensible(number) => ("E3", Production(*number), Nothing, Nothing),
-        DeterminismRefusal::PreferenceCycle(cycle) => {
-            let cycle = Terminals(cycle.as_slice());
-            ("G6", cycle, cycle, Nothing)
-        }
         DeterminismRefusal::MarkerClash {
             marker,
             other,
@@ -73,6 +69,26 @@ fn shown_of_determinism(refusal: &DeterminismRefusal) -> Shown<'_> {
             Terminal(*other),
             Text(text.as_slice()),
         ),
+        DeterminismRefusal::Lookahead { item, terminal, .. } => {
+            (
+                "E5",
+                Lookahead(*terminal),
+                Production(item.production),
+                Nothing,
+            )
+        }
+        DeterminismRefusal::Envelope { fault, .. } => shown_of_fault(fault),
+        other => shown_of_grammar(other),
+    }
+}
+
+// What a refusal for the grammar or the scanner shows.
+fn shown_of_grammar(refusal: &DeterminismRefusal) -> Shown<'_> {
+    match refusal {
+        DeterminismRefusal::PreferenceCycle(cycle) => {
+            let cycle = Terminals(cycle.as_slice());
+            ("G6", cycle, cycle, Nothing)
+        }
         DeterminismRefusal::NotReduced(reason) => shown_of_reason(reason),
         DeterminismRefusal::UnitCycle(cycle) => {
             ("G2", Nonterminals(cycle.as_slice()), Nothing, Nothing)
@@ -102,16 +118,7 @@ fn shown_of_determinism(refusal: &DeterminismRefusal) -> Shown<'_> {
             Terminal(*right),
             Text(text.as_slice()),
         ),
-        DeterminismRefusal::Lookahead { item, terminal, .. } => {
-            (
-                "E5",
-                Lookahead(*terminal),
-                Production(item.production),
-                Nothing,
-            )
-        }
-        DeterminismRefusal::Envelope { fault, .. } => shown_of_fault(fault),
-        DeterminismRefusal::NoMemory(_) => NOTHING,
+        _ => NOTHING,
     }
 }
 
@@ -179,6 +186,13 @@ fn shown_of_attributes(refusal: &AttributeRefusal) -> Shown<'_> {
             Attribute(*attribute),
             Attribute(*inherited),
         ),
+        other => shown_of_flow(other),
+    }
+}
+
+// What a refusal for what an attribute reads shows.
+fn shown_of_flow(refusal: &AttributeRefusal) -> Shown<'_> {
+    match refusal {
         AttributeRefusal::Reads {
             production,
             attribute,
@@ -206,7 +220,7 @@ fn shown_of_attributes(refusal: &AttributeRefusal) -> Shown<'_> {
             Attribute(*attribute),
             Attribute(*inherited),
         ),
-        AttributeRefusal::NoMemory(_) => NOTHING,
+        _ => NOTHING,
     }
 }
 
