@@ -16,3 +16,8 @@ pub struct HostParts {
     /// What a parser does at each of them.
     pub tables: Tables,
 }
+
+impl HostParts {
+    /// Lets go of the parts. A crate that calls this proves no drop of what it holds.
+    pub fn release(self) {}
+}

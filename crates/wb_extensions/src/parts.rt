@@ -19,3 +19,8 @@ pub struct ExtensionParts {
     /// What each kernel is to the host.
     pub regions: Sequence<Region>,
 }
+
+impl ExtensionParts {
+    /// Lets go of the parts. A crate that calls this proves no drop of what it holds.
+    pub fn release(self) {}
+}

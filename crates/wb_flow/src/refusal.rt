@@ -77,3 +77,8 @@ impl From<AllocError> for AttributeRefusal {
         AttributeRefusal::NoMemory(error)
     }
 }
+
+impl AttributeRefusal {
+    /// Lets go of the refusal. A crate that calls this proves no drop of what it holds.
+    pub fn release(self) {}
+}

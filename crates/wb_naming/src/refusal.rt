@@ -33,3 +33,8 @@ impl From<AllocError> for NameRefusal {
         NameRefusal::NoMemory(error)
     }
 }
+
+impl NameRefusal {
+    /// Lets go of the refusal. A crate that calls this proves no drop of what it holds.
+    pub fn release(self) {}
+}

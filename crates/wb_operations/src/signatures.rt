@@ -129,4 +129,7 @@ impl OperationSignatures {
         }
         Ok(made)
     }
+
+    /// Lets go of the signatures. A crate that calls this proves no drop of what it holds.
+    pub fn release(self) {}
 }

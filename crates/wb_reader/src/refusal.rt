@@ -35,3 +35,8 @@ impl From<AllocError> for SpecRefusal {
         SpecRefusal::NoMemory(error)
     }
 }
+
+impl SpecRefusal {
+    /// Lets go of the refusal. A crate that calls this proves no drop of what it holds.
+    pub fn release(self) {}
+}

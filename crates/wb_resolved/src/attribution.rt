@@ -80,4 +80,7 @@ impl Attribution {
             parts: self.parts.clone()?,
         })
     }
+
+    /// Lets go of the attribution. A crate that calls this proves no drop of what it holds.
+    pub fn release(self) {}
 }

@@ -81,4 +81,7 @@ impl Resolved {
             parts: self.parts.clone()?,
         })
     }
+
+    /// Lets go of the specification. A crate that calls this proves no drop of what it holds.
+    pub fn release(self) {}
 }

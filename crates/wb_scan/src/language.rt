@@ -88,4 +88,7 @@ impl Language {
     {
         &self.tables
     }
+
+    /// Lets go of the language. A crate that calls this proves no drop of what it holds.
+    pub fn release(self) {}
 }

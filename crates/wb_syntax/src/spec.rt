@@ -105,4 +105,7 @@ impl Spec {
             items: self.items.clone()?,
         })
     }
+
+    /// Lets go of the specification. A crate that calls this proves no drop of what it holds.
+    pub fn release(self) {}
 }

@@ -30,3 +30,8 @@ impl From<AllocError> for TypeRefusal {
         TypeRefusal::NoMemory(error)
     }
 }
+
+impl TypeRefusal {
+    /// Lets go of the refusal. A crate that calls this proves no drop of what it holds.
+    pub fn release(self) {}
+}
