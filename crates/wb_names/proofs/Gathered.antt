@@ -26,13 +26,6 @@ names_added names xs i x old mid new was within same now =
     ∙ ap (λ z. old ++ z) (sym (ap (flat_map names) (one_more xs i x within same)
     ∙ (flat_map-append names (take i xs) (x ∷ []) ∙ ap (λ z. flat_map names (take i xs) ++ z) (append-nil (names x)))))))
 
--- what was copied, with one element more
-pub copy_added : {X : Type 0} (xs : List X) (i : ℕ) (x y : X) (old mid new : List X) → mid ≡ old ++ take i xs → i < length xs
-    → x ≡ get_or xs i x → y ≡ x → new ≡ mid ++ y ∷ [] → new ≡ old ++ take (i + 1) xs
-copy_added xs i x y old mid new was within same copied now =
-    now ∙ (ap (λ z. mid ++ z ∷ []) copied ∙ (ap (λ z. z ++ x ∷ []) was ∙ (append_assoc old (take i xs) (x ∷ [])
-    ∙ ap (λ z. old ++ z) (sym (one_more xs i x within same)))))
-
 -- all elements are read
 pub each_all : {A B : Type 0} (R : A → B → Type 0) (xs : List A) (i : ℕ) (old new : List B) → AddsEach R (take i xs) old new
     → length xs ≤ i → AddsEach R xs old new

@@ -7,6 +7,7 @@ mod Bridges
 mod RowsResolve
 mod GrammarRows
 mod GrammarReady
+mod ResolveLemmas
 mod RestStart
 mod MadeRows
 mod BaseParts
@@ -14,6 +15,7 @@ mod BodyLemmas
 mod EquationsThere
 mod Gathered
 mod ForwardsOnce
+mod JoinedLemmas
 mod KnownLabels
 mod OnceLemmas
 mod ScopeNumbering

@@ -25,12 +25,13 @@ use Rattle.wb_rows.specs.declared.scope.Scope.{Scope}
 use Rattle.wb_rows.specs.declared.terminals.Terminals.{Terminals}
 use Rattle.wb_rows.specs.Nodes.{IsAt}
 use Rattle.wb_rows.specs.There.{HasDeclared}
+use Rattle.wb_names.specs.declared.ground.Counts.{Counts}
 use Rattle.wb_names.specs.declared.ground.Ground.{Ground}
 use Rattle.wb_names.specs.declared.nonterminals.Nonterminals.{Nonterminals}
 use Rattle.wb_names.specs.Inner.Ground.{IsGround, IsNameOf, IsTable}
 use Rattle.wb_names.specs.Inner.Nonterminals.{attribute_names}
 use Rattle.wb_names.specs.Inner.Now.{IsTerminalNow, IsNonterminalNow}
-use Rattle.wb_names.specs.Inner.Tables.{AddsNumbers, AddsTables, AreNamed, HasBase}
+use Rattle.wb_names.specs.Inner.Tables.{AddsNames, AddsNumbers, AddsTables, AreNamed, HasBase, HaveRows}
 use Rattle.wb_names.proofs.ApartLemmas.{zip_length}
 use Rattle.wb_names.proofs.AttributesThere.{base_attribute, declared_attribute}
 use Rattle.wb_names.proofs.DeclaredThere.{Holds, holds_of}
@@ -44,18 +45,18 @@ row_named P R xs rows g name names are x has wanted named =
     let there : Contains (map name rows) (name r.row) = map_contains name rows r.row (contains_at rows r.row r.place r.at) in
     subst (λ z. Contains z wanted) (sym are) (subst (Contains (map name rows)) (named r.row r.is_row) there)
 
-module _ (file : File) (t : Terminals) (n : Nonterminals) (s : Scope) (are : AreNamed file t n s) where
+module _ (file : File) (counts : Counts) (t : Terminals) (n : Nonterminals) (s : Scope) (are : AreNamed file counts t n s) where
   terminal : (x : Terminal ⊎ LexicalDeclaration) → Contains (sources file.base.terminals (lexicals file.items)) x → (wanted : List ℕ)
       → ((y : Terminal) → IsTerminalNow file x y → y.name ≡ wanted) → Contains s.terminals wanted
   terminal = row_named IsScanned (IsTerminalNow file) (sources file.base.terminals (lexicals file.items))
-      (t.scanned.items ++ t.layout.items)
+      t.scanned.items
       are.terminals.0 (λ (y : Terminal). y.name) s.terminals are.terminal_names
 
   nonterminal : (x : Nonterminal ⊎ List ℕ) → Contains (sources file.base.attributes.nonterminals (nonterminals file.items)) x
       → (wanted : List ℕ)
       → ((y : Nonterminal) → IsNonterminalNow file s x y → y.name ≡ wanted) → Contains s.nonterminals wanted
   nonterminal = row_named (IsInGrammarOf file) (IsNonterminalNow file s)
-      (sources file.base.attributes.nonterminals (nonterminals file.items)) (n.of_grammar.items ++ n.others.items)
+      (sources file.base.attributes.nonterminals (nonterminals file.items)) n.of_grammar.items
       are.nonterminals.0 (λ (y : Nonterminal). y.name) s.nonterminals are.nonterminal_names
 
   production : (x : Production ⊎ ProductionDeclaration) → Contains (sources file.base.attributes.productions (productions file.items)) x
@@ -106,6 +107,21 @@ module _ (file : File) (t : Terminals) (n : Nonterminals) (s : Scope) (are : Are
     attributes = λ name goes has. subst (λ z. Contains z name) (sym are.attribute_names_are) (there (d.Attribute name goes) has);
   }
 
+-- rows and then their names
+pub named_rows : (file : File) (counts : Counts) (t : Terminals) (n : Nonterminals) (ts : List Terminal) (ns : List Nonterminal)
+    (mid new : Scope) → HaveRows file counts t n mid → ts ≡ t.scanned.items
+    → ns ≡ n.of_grammar.items → AddsNames file ts ns mid new → AreNamed file counts t n new
+named_rows file counts t n ts ns mid new rows same_terminals same_nonterminals names =
+    let attributes : new.attributes ≡ attribute_names file = names.attributes ∙ ap (λ (z : Scope). z.attributes) rows.scope in record {
+      owner = names.owner ∙ ap (λ (z : Scope). z.owner) rows.scope;
+      terminals = rows.terminals;
+      nonterminals = rows.nonterminals new attributes;
+      terminal_names = names.terminals ∙ ap (map (λ (x : Terminal). x.name)) same_terminals;
+      nonterminal_names = names.nonterminals ∙ ap (map (λ (x : Nonterminal). x.name)) same_nonterminals;
+      attribute_names_are = attributes;
+      production_names = names.productions;
+    }
+
 -- numbers that are added to nothing are a table
 table : {X : Type 0} (name : X → List ℕ) (names : List (List ℕ)) (rows : List X) (old new : List ℕ) → old ≡ []
     → AddsNumbers name names rows old new → IsTable (map name rows) names new
@@ -120,13 +136,13 @@ table name names rows old new nothing (own, is, all) =
     }
 
 -- names and numbers are ground
-pub ground_is : (file : File) (g : Ground) (old : Moves) → old.terminals.items ≡ [] → old.nonterminals.items ≡ []
+pub ground_is : (file : File) (counts : Counts) (g : Ground) (old : Moves) → old.terminals.items ≡ [] → old.nonterminals.items ≡ []
     → old.productions.items ≡ []
-    → AreNamed file g.terminals g.nonterminals g.scope → AddsTables file g.scope old g.moves → IsGround file g
-ground_is file g old no_terminals no_nonterminals no_productions are adds = record {
+    → AreNamed file counts g.terminals g.nonterminals g.scope → AddsTables file g.scope old g.moves → IsGround file counts g
+ground_is file counts g old no_terminals no_nonterminals no_productions are adds = record {
   numbers = record {
     owner = are.owner;
-    there = has_declared file g.terminals g.nonterminals g.scope are;
+    there = has_declared file counts g.terminals g.nonterminals g.scope are;
     tables = record {
       terminals = table (λ (x : Terminal). x.name) g.scope.terminals file.base.terminals old.terminals.items g.moves.terminals.items
           no_terminals adds.terminals;

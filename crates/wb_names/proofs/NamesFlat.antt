@@ -4,7 +4,7 @@ use Rattle.std.proofs.Common.{get_or, ap, sym, refl}
 use Rattle.std.proofs.Common.{◌∙◌, subst}
 use Rattle.std.specs.Prelude.{filter, filter_map, flat_map, option_to_list}
 use Rattle.std.specs.List.{AllZip, cons_option}
-use Rattle.std.proofs.lemmas.List.{map-append, take_more}
+use Rattle.std.proofs.lemmas.List.{take_more}
 use Rattle.std.proofs.lemmas.List.Elements.{filter_map-append}
 use Rattle.wb_syntax.specs.declared.item.Item.{Item}
 use Rattle.wb_syntax.specs.declared.item.ItemForm.{ItemForm}
@@ -116,10 +116,3 @@ not_plain (f.Plain plain) other = absurd (other plain refl)
 not_plain (f.Lexical role name pattern) other = refl
 not_plain (f.Production role production) other = refl
 not_plain (f.Aspect name equations) other = refl
-
--- names of two lists of rows, which are added to nothing
-pub names_joined : {X : Type 0} (name : X → List ℕ) (old mid new : List (List ℕ)) (first second xs ys : List X) → old ≡ [] → first ≡ xs
-    → second ≡ ys → mid ≡ old ++ map name first → new ≡ mid ++ map name second → new ≡ map name (xs ++ ys)
-names_joined name old mid new first second xs ys nothing one other begun ended =
-    ended ∙ (ap (λ z. z ++ map name second) (begun ∙ (ap (λ z. z ++ map name first) nothing ∙ ap (map name) one))
-    ∙ (ap (λ z. map name xs ++ map name z) other ∙ sym (map-append name xs ys)))

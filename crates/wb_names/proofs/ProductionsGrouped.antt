@@ -66,12 +66,11 @@ module _ {X : Type 0} (test : X → Bool) (R : X → Production → Type 0) wher
   }
 
   -- the next element of a slice
-  pub one_added : (xs : List X) (i : ℕ) (x : X) (row : Production) (old mid new : Productions) → AddsProductions test R (take i xs) old mid
-      → i < length xs → x ≡ get_or xs i x → has_concrete row ≡ test x → R x row → AddsRow row mid new
-      → AddsProductions test R (take (i + 1) xs) old new
-  one_added xs i x row old mid new so_far within is same holds added =
+  pub next_added : (xs : List X) (i : ℕ) (x : X) (old mid new : Productions) → AddsProductions test R (take i xs) old mid
+      → i < length xs → x ≡ get_or xs i x → AddsProductions test R (x ∷ []) mid new → AddsProductions test R (take (i + 1) xs) old new
+  next_added xs i x old mid new so_far within is added =
       subst (λ z. AddsProductions test R z old new) (sym (take_more xs i x within ∙ ap (λ z. take i xs ++ z ∷ []) (sym is)))
-      (both_added (take i xs) (x ∷ []) old mid new so_far (row_added x row mid new same holds added))
+      (both_added (take i xs) (x ∷ []) old mid new so_far added)
 
 -- an item that declares no production
 pub no_production : (form : ItemForm Pattern) → ((role : declared.ProductionRole) (p : written.Production) → form ≡ f.Production role p → ⊥)
@@ -117,7 +116,8 @@ others (inr d) is = is_false (production_role d.role) is
 module _ (file : File) (s : Scope) (m : Moves) where
   pub all_grouped : (old mid new : Productions) → old.concrete.items ≡ [] → old.others.items ≡ []
       → AddsProductions has_concrete (IsExtendedNow file s m) file.base.attributes.productions old mid
-      → AddsProductions declares_concrete (IsDeclaredNow file s m) (productions file.items) mid new → AreProductions file s m new
+      → AddsProductions declares_concrete (IsDeclaredNow file s m) (productions file.items) mid new
+      → AreProductions file s m (length new.concrete.items) (new.concrete.items ++ new.others.items)
   all_grouped old mid new no_concrete no_others a b =
       let M = IsExtendedNow file s m in
       let W = IsDeclaredNow file s m in

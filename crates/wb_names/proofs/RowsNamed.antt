@@ -26,10 +26,12 @@ use Rattle.wb_rows.specs.Nodes.{IsAt}
 use Rattle.wb_rows.specs.Terminals.{AddsTerminals, IsCopy, IsFoundTerminal, is_scanned, has_scanned, declares_scanned}
 use Rattle.wb_rows.proofs.GroupLemmas.{splits_filter, zip_filtered}
 use Rattle.wb_names.specs.declared.nonterminals.Nonterminals.{Nonterminals}
-use Rattle.wb_names.specs.Inner.Nonterminals.{AddsNonterminals, IsDeclaredRow, IsSame}
+use Rattle.wb_names.specs.Inner.Nonterminals.{AddsJoined, AddsNonterminals, IsDeclaredRow, IsSame}
 use Rattle.wb_names.specs.Inner.Now.{AreGroupedBy, IsTerminalNow, IsNonterminalNow, IsFoundNonterminal}
+use Rattle.wb_names.specs.Inner.Tables.{AreNonterminals}
 use Rattle.wb_names.proofs.ApartLemmas.{grouped_parts, apart_grouped, apart_change, apart_rows}
 use Rattle.wb_names.proofs.InGrammar.{not_base}
+use Rattle.wb_names.proofs.JoinedLemmas.{joined}
 
 -- layout is what isn't scanned
 scanned : (kind : TerminalKind) → is_scanned kind ≡ true → kind ≢ t.Ignore
@@ -118,3 +120,11 @@ module _ (file : File) where
             owner_is = is.owner_is;
             needs = subst (λ z. AllZip (IsAt z) (forward_needs_of name file.items) row.forward_needs) (sym are) is.needs;
           }
+
+    -- and in one list
+    pub nonterminals_joined : (s : Scope) (names : List (List ℕ)) (count : ℕ) (old new : Nonterminals) → old.of_grammar.items ≡ []
+        → old.others.items ≡ [] → AddsJoined file names count old new → s.attributes ≡ names → AreNonterminals file count new s
+    nonterminals_joined s names count old new no_first no_others is are =
+        joined (IsInGrammarOf file) (IsNonterminalNow file s) (sources file.base.attributes.nonterminals (nonterminals file.items)) count
+        (length is.both.of_grammar.items) new.of_grammar.items (is.both.of_grammar.items ++ is.both.others.items) is.count_is is.joined
+        (nonterminals_now s names are old is.both no_first no_others is.adds)

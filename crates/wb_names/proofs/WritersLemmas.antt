@@ -5,7 +5,7 @@ use Rattle.std.proofs.Common.{take, Vec, Global}
 use Rattle.std.specs.Prelude.{option_map}
 use Rattle.std.proofs.Common.{slice_get, ap, sym, refl, subst, ◌∙◌, arith, length-append, get_or-set_same, get_or-set_other}
 use Rattle.std.proofs.lemmas.Bool.{cases_eq}
-use Rattle.std.proofs.lemmas.List.{append-nil, length-map, length-set, get_or-map, map-set, take_more}
+use Rattle.std.proofs.lemmas.List.{append-nil, length-map, length-set, get_or-map, map-append, map-set, take_more}
 use Rattle.std.proofs.lemmas.List.Elements.{All-nil}
 use Rattle.std.proofs.lemmas.Option.{slice_get_within, slice_get-get_or, slice_get-map, get_or_from_slice_get}
 use Rattle.wb_lemmas.proofs.Elements.{all_from_contained, all_contained}
@@ -215,6 +215,13 @@ found_places items w are k name places row at is same =
     slice_get-map list w.places.items k
     ∙ ap (option_map list) (slice_get-get_or w.places.items k row within ∙ ap Some (sym is)) in
     subst (IsWrittenAt items items name) (sym same) (are.listed k name row.items at there)
+
+-- a list of one place more
+pub more_lists : (rows added : List (Vec ℕ Global)) (k : ℕ) (row : Vec ℕ Global) → row.items ≡ k ∷ [] → added ≡ rows ++ row ∷ []
+    → map (λ (z : Vec ℕ Global). z.items) added ≡ map (λ (z : Vec ℕ Global). z.items) rows ++ (k ∷ []) ∷ []
+more_lists rows added k row one is =
+    ap (map (λ (z : Vec ℕ Global). z.items)) is
+    ∙ (map-append (λ (z : Vec ℕ Global). z.items) rows (row ∷ []) ∙ ap (λ z. map (λ (y : Vec ℕ Global). y.items) rows ++ z ∷ []) one)
 
 -- one place more in a list
 pub longer_lists : (rows : List (Vec ℕ Global)) (n k : ℕ) (row new : Vec ℕ Global) → n < length rows → row ≡ get_or rows n row

@@ -12,6 +12,7 @@ ghost use Rattle.wb_names.specs.Inner.Names.{form_forwarder, form_needs};
 ghost use Rattle.wb_names.specs.Inner.Nonterminals.{HasForwards, HasBytes};
 
 use crate::nonterminals::Known;
+use crate::symbols::add_name;
 use std::alloc::{AllocError, Global};
 use wb_base::{Bytes, Sequence};
 use wb_rows::index::Index;
@@ -24,8 +25,13 @@ pub(crate) fn forwarders_of(alloc: Global, items: &[Item<Pattern>]) -> Result<In
     ensures { IfOk result (λ names. names ≡ map (λ (item : Written Read). form_forwarder item.form) items.now) }
 {
     let mut names = Index::new(alloc);
-    add_forwarders(items, &mut names)?;
-    Ok(names)
+    match add_forwarders(items, &mut names) {
+        Ok(()) => Ok(names),
+        Err(error) => {
+            drop(names);
+            Err(error)
+        }
+    }
 }
 
 // Adds those of items.
@@ -44,7 +50,7 @@ fn add_forwarder(form: &ItemForm<Pattern>, names: &mut Index) -> Result<(), Allo
 {
     match form {
         ItemForm::Plain(plain) => match plain {
-            PlainForm::ForwardOn { nonterminal, .. } => names.add(nonterminal.copy()?),
+            PlainForm::ForwardOn { nonterminal, .. } => add_name(nonterminal, names),
             _ => names.add(Bytes::empty()),
         },
         _ => names.add(Bytes::empty()),

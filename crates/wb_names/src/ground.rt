@@ -2,21 +2,22 @@
 //!
 //! Terminals and nonterminals have their rows here. Productions have their names alone, since what is written in them reads all of these.
 
-ghost use Rattle.std.specs.Prelude.{◌≡◌, [], OnOk};
+ghost use Rattle.std.specs.Prelude.{◌≡◌, [], IfOk, OnOk};
 ghost use Rattle.wb_naming.specs.Hold.{NamesHold};
 ghost use Rattle.wb_numbering.specs.Given.{IsFile};
 ghost use Rattle.wb_names.specs.Resolving.{file_scope};
 ghost use Rattle.wb_names.specs.Inner.Ground.{IsGround};
 ghost use Rattle.wb_names.specs.Inner.Lent.{lent_file};
-ghost use Rattle.wb_names.specs.Inner.Tables.{AreNamed, AreTerminals, IsEmpty};
+ghost use Rattle.wb_names.specs.Inner.Tables.{AddsNames, AreTerminals, HaveRows, IsEmpty, no_names};
 
+use crate::joined::join;
 use crate::lent::Lent;
+use crate::named;
 use crate::nonterminals::{Nonterminals, add_nonterminals};
-use crate::symbols::{
-    add_attribute_names, add_nonterminal_names, add_production_names, add_terminal_names,
-};
+use crate::symbols::{add_attribute_names, add_production_names};
 use crate::tables::add_tables;
 use std::alloc::{AllocError, Global};
+use wb_resolved::{Nonterminal, Terminal};
 use wb_rows::index::Index;
 use wb_rows::moves::Moves;
 use wb_rows::scope::Scope;
@@ -44,7 +45,7 @@ pub(crate) fn no_ground(alloc: Global, owner: usize) -> Ground
             of_grammar: Vec::new(alloc),
             others: Vec::new(alloc),
         },
-        scope: no_names(alloc, owner),
+        scope: no_scope(alloc, owner),
         moves: Moves {
             nonterminals: Vec::new(alloc),
             terminals: Vec::new(alloc),
@@ -54,8 +55,8 @@ pub(crate) fn no_ground(alloc: Global, owner: usize) -> Ground
 }
 
 // No names, in a file of this owner.
-fn no_names(alloc: Global, owner: usize) -> Scope
-    ensures { result ≡ record { owner = owner; terminals = []; nonterminals = []; attributes = []; productions = [] } }
+fn no_scope(alloc: Global, owner: usize) -> Scope
+    ensures { result ≡ no_names owner [] }
 {
     Scope {
         owner,
@@ -66,54 +67,84 @@ fn no_names(alloc: Global, owner: usize) -> Scope
     }
 }
 
+// How many terminals are scanned, and how many nonterminals are of the grammar.
+#[derive(Clone, Copy)]
+pub(crate) struct Counts {
+    pub(crate) scanned: usize,
+    pub(crate) of_grammar: usize,
+}
+
 // Makes the rows, the names, and then the numbers. The only error is want of memory.
-pub(crate) fn fill(alloc: Global, file: &Lent, ground: &mut Ground) -> Result<(), AllocError>
+pub(crate) fn fill(alloc: Global, file: &Lent, ground: &mut Ground) -> Result<Counts, AllocError>
     requires file { IsFile (lent_file file.now) }
     requires hold { NamesHold (file_scope (lent_file file.now)) }
     requires nothing { IsEmpty file.now.owner ground.old }
-    ensures { OnOk result (IsGround (lent_file file.now) ground.new) }
+    ensures { IfOk result (λ counts. IsGround (lent_file file.now) counts ground.new) }
 {
-    add_names(
+    let counts = add_rows(
         alloc,
         file,
         &mut ground.terminals,
         &mut ground.nonterminals,
         &mut ground.scope,
     )?;
-    add_tables(file, &ground.scope, &mut ground.moves)
+    let terminals = ground.terminals.scanned.as_slice();
+    let nonterminals = ground.nonterminals.of_grammar.as_slice();
+    add_names(file, terminals, nonterminals, &mut ground.scope)?;
+    add_tables(file, &ground.scope, &mut ground.moves)?;
+    Ok(counts)
 }
 
-// Makes the rows and names. Names of attributes come first, since flow types of nonterminals have their numbers.
-fn add_names(
+// Makes the rows. Names of attributes come before nonterminals, since flow types have their numbers.
+fn add_rows(
     alloc: Global,
     file: &Lent,
     terminals: &mut Terminals,
     nonterminals: &mut Nonterminals,
     scope: &mut Scope,
-) -> Result<(), AllocError>
+) -> Result<Counts, AllocError>
     requires file { IsFile (lent_file file.now) }
     requires hold { NamesHold (file_scope (lent_file file.now)) }
     requires scanned { terminals.old.scanned.items ≡ [] }
     requires layout { terminals.old.layout.items ≡ [] }
     requires of_grammar { nonterminals.old.of_grammar.items ≡ [] }
     requires others { nonterminals.old.others.items ≡ [] }
-    requires scope { scope.old ≡ record { owner = file.now.owner; terminals = []; nonterminals = []; attributes = []; productions = [] } }
-    ensures { OnOk result (AreNamed (lent_file file.now) terminals.new nonterminals.new scope.new) }
+    requires scope { scope.old ≡ no_names file.now.owner [] }
+    ensures { IfOk result (λ counts. HaveRows (lent_file file.now) counts terminals.new nonterminals.new scope.new) }
 {
-    add_terminals(file, terminals)?;
+    let scanned = add_terminals(file, terminals)?;
     add_attribute_names(file, &mut scope.attributes)?;
-    add_nonterminals(alloc, file, scope, nonterminals)?;
-    add_terminal_names(terminals, &mut scope.terminals)?;
-    add_nonterminal_names(nonterminals, &mut scope.nonterminals)?;
-    add_production_names(file, &mut scope.productions)
+    let of_grammar = add_nonterminals(alloc, file, scope, nonterminals)?;
+    Ok(Counts {
+        scanned,
+        of_grammar,
+    })
 }
 
-// Makes the rows of terminals, those of the base before those that items declare.
-fn add_terminals(file: &Lent, made: &mut Terminals) -> Result<(), AllocError>
+// Makes the rows of terminals, and answers how many are scanned. Those of the base go before those that items declare.
+fn add_terminals(file: &Lent, made: &mut Terminals) -> Result<usize, AllocError>
     requires scanned { made.old.scanned.items ≡ [] }
     requires layout { made.old.layout.items ≡ [] }
-    ensures { OnOk result (AreTerminals (lent_file file.now) made.new) }
+    ensures { IfOk result (λ count. AreTerminals (lent_file file.now) count made.new) }
 {
     add_base(file.base.terminals.as_slice(), made)?;
-    add_declared(file.owner, file.items, made)
+    add_declared(file.owner, file.items, made)?;
+    join(&mut made.scanned, &mut made.layout)
+}
+
+// Adds the names of these terminals and nonterminals, and those of productions.
+fn add_names(
+    file: &Lent,
+    terminals: &[Terminal],
+    nonterminals: &[Nonterminal],
+    scope: &mut Scope,
+) -> Result<(), AllocError>
+    requires terminals { scope.old.terminals ≡ [] }
+    requires nonterminals { scope.old.nonterminals ≡ [] }
+    requires productions { scope.old.productions ≡ [] }
+    ensures { OnOk result (AddsNames (lent_file file.now) terminals.now nonterminals.now scope.old scope.new) }
+{
+    named::add_names(terminals, &mut scope.terminals)?;
+    named::add_names(nonterminals, &mut scope.nonterminals)?;
+    add_production_names(file, &mut scope.productions)
 }

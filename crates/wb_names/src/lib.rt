@@ -7,7 +7,9 @@
 mod empty;
 mod forwards;
 mod ground;
+mod joined;
 mod lent;
+mod named;
 mod nonterminals;
 mod numbered;
 mod production;

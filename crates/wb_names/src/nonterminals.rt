@@ -14,6 +14,7 @@ ghost use Rattle.wb_names.specs.Inner.Lent.{lent_file};
 ghost use Rattle.wb_names.specs.Inner.Nonterminals as spec;
 
 use crate::forwards::{forwarders_of, needs_of};
+use crate::joined::join;
 use crate::lent::Lent;
 use std::alloc::{AllocError, Global};
 use wb_base::{Bytes, Sequence, push};
@@ -40,21 +41,23 @@ pub(crate) struct Known<'a> {
     pub(crate) forwarders: &'a Index,
 }
 
-// Adds those of the base, and then those that items declare. The only error is want of memory.
+// Adds those of the base, and then those that items declare, in one list, and answers how many are of the grammar. The only error is want of memory.
 pub(crate) fn add_nonterminals(
     alloc: Global,
     file: &Lent,
     scope: &Scope,
     made: &mut Nonterminals,
-) -> Result<(), AllocError>
+) -> Result<usize, AllocError>
     requires file { IsFile (lent_file file.now) }
     requires hold { NamesHold (file_scope (lent_file file.now)) }
     requires owner { scope.now.owner ≡ file.now.owner }
     requires attributes { scope.now.attributes ≡ spec.attribute_names (lent_file file.now) }
-    ensures { OnOk result (spec.AddsNonterminals (lent_file file.now) scope.now.attributes made.old made.new) }
+    ensures { IfOk result (λ count. spec.AddsJoined (lent_file file.now) scope.now.attributes count made.old made.new) }
 {
     let grammar = grammar_names_of(alloc, file.items)?;
-    add_both(alloc, file, scope, &grammar, made)
+    let added = add_both(alloc, file, scope, &grammar, made);
+    drop(grammar);
+    added
 }
 
 // Adds both, where these are the names of the grammar.
@@ -64,16 +67,17 @@ fn add_both(
     scope: &Scope,
     grammar: &Index,
     made: &mut Nonterminals,
-) -> Result<(), AllocError>
+) -> Result<usize, AllocError>
     requires file { IsFile (lent_file file.now) }
     requires hold { NamesHold (file_scope (lent_file file.now)) }
     requires owner { scope.now.owner ≡ file.now.owner }
     requires attributes { scope.now.attributes ≡ spec.attribute_names (lent_file file.now) }
     requires grammar { grammar.now ≡ grammar_names file.now.items.now }
-    ensures { OnOk result (spec.AddsNonterminals (lent_file file.now) scope.now.attributes made.old made.new) }
+    ensures { IfOk result (λ count. spec.AddsJoined (lent_file file.now) scope.now.attributes count made.old made.new) }
 {
     add_base(alloc, file, grammar, made)?;
-    add_own(alloc, file, scope, grammar, made)
+    add_own(alloc, file, scope, grammar, made)?;
+    join(&mut made.of_grammar, &mut made.others)
 }
 
 // Adds those of the base.
@@ -88,7 +92,9 @@ fn add_base(
     ensures { OnOk result (spec.AddsApart (λ x. IsInGrammar (lent_file file.now) x.name) spec.IsSame file.now.base.now.attributes.nonterminals made.old made.new) }
 {
     let flags = base_flags(alloc, file.base)?;
-    add_rows(alloc, file, &flags, grammar, made)
+    let added = add_rows(alloc, file, &flags, grammar, made);
+    drop(flags);
+    added
 }
 
 // Adds those of the base, which these flags tell apart.
@@ -106,8 +112,9 @@ fn add_rows(
 {
     let rows = file.base.attributes.parts().nonterminals.as_slice();
     for number in 0..rows.len() {
-        let leads = is_marked_or_there(flags, number, grammar, rows[number].name.as_slice());
-        add(leads, copied(alloc, &rows[number])?, made)?;
+        let row = &rows[number];
+        let leads = is_marked_or_there(flags, number, grammar, row.name.as_slice());
+        add_copy(alloc, leads, row, made)?;
     }
     Ok(())
 }
@@ -141,16 +148,31 @@ fn add(leads: bool, row: Nonterminal, made: &mut Nonterminals) -> Result<(), All
     }
 }
 
-// An equal row.
-fn copied(alloc: Global, row: &Nonterminal) -> Result<Nonterminal, AllocError>
-    ensures { IfOk result (spec.IsSame row.now) }
+// Adds an equal row.
+fn add_copy(
+    alloc: Global,
+    leads: bool,
+    row: &Nonterminal,
+    made: &mut Nonterminals,
+) -> Result<(), AllocError>
+    ensures { OnOk result (spec.AddsRow leads row.now made.old made.new) }
 {
-    let forward_needs = Sequence::from_vec(Vec::from_slice(alloc, row.forward_needs.as_slice())?);
-    Ok(Nonterminal {
-        name: row.name.copy()?,
-        owner: row.owner,
-        forward_needs,
-    })
+    let name = row.name.copy()?;
+    match Vec::from_slice(alloc, row.forward_needs.as_slice()) {
+        Ok(needs) => add(
+            leads,
+            Nonterminal {
+                name,
+                owner: row.owner,
+                forward_needs: Sequence::from_vec(needs),
+            },
+            made,
+        ),
+        Err(error) => {
+            drop(name);
+            Err(error)
+        }
+    }
 }
 
 // Adds those that items declare. None of them is of the base's grammar, since none has a name of the base's.
@@ -174,7 +196,9 @@ fn add_own(
         grammar,
         forwarders: &forwarders,
     };
-    add_declared(alloc, &known, made)
+    let added = add_declared(alloc, &known, made);
+    drop(forwarders);
+    added
 }
 
 // Adds those that items declare, item by item.
@@ -217,10 +241,16 @@ fn declared_row(alloc: Global, known: &Known, name: &Bytes) -> Result<Nontermina
     requires name { spec.HasBytes name.now }
     ensures { IfOk result (spec.IsDeclaredRow known.now.scope.now.owner known.now.items.now known.now.scope.now.attributes name.now) }
 {
-    let forward_needs = needs_of(alloc, known, name.as_slice())?;
-    Ok(Nonterminal {
-        name: name.copy()?,
-        owner: known.scope.owner,
-        forward_needs,
-    })
+    let name_copy = name.copy()?;
+    match needs_of(alloc, known, name.as_slice()) {
+        Ok(forward_needs) => Ok(Nonterminal {
+            name: name_copy,
+            owner: known.scope.owner,
+            forward_needs,
+        }),
+        Err(error) => {
+            drop(name_copy);
+            Err(error)
+        }
+    }
 }

@@ -2,36 +2,41 @@
 //!
 //! All rows are there; what is left are the grammar, and what repeats the file or its rows.
 
-ghost use Rattle.std.specs.Prelude.{◌≡◌, ◌++◌, IfOk, IfSome, OnOk, Some};
-ghost use Rattle.wb_resolved.specs.Attribution.{IsAttribution};
+ghost use Rattle.std.specs.Prelude.{◌≡◌, IfOk, IfSome, Some};
+ghost use Rattle.wb_resolved.specs.Resolved.{IsResolved};
 ghost use Rattle.wb_naming.specs.Hold.{NamesHold};
 ghost use Rattle.wb_numbering.specs.Given.{IsFile};
 ghost use Rattle.wb_numbering.specs.Resolves.{Resolves};
 ghost use Rattle.wb_names.specs.Resolving.{file_scope};
 ghost use Rattle.wb_names.specs.Inner.Lent.{lent_file};
 ghost use Rattle.wb_names.specs.Inner.Rest.{BeginsAlone};
-ghost use Rattle.wb_names.specs.Inner.Copies.{AreCopies, AreMade, AreTitles, value_with};
-ghost use Rattle.wb_names.specs.Inner.Value.{AreRows, HasGrammar, IsGrammarFor, made_attribution, made_value};
+ghost use Rattle.wb_names.specs.Inner.Copies.{AreCopies, AreTitles, value_with};
+ghost use Rattle.wb_names.specs.Inner.Value.{AreRows, HasGrammar, IsGrammarFor, made_value};
 
 use crate::lent::Lent;
 use crate::rows::{Rows, rows_of};
 use std::alloc::{AllocError, Global};
-use wb_base::{Bytes, Grammar, Sequence, push};
-use wb_resolved::{Attribution, AttributionParts, Preference, ResolvedParts, Terminal};
+use wb_base::{Bytes, Grammar, Sequence};
+use wb_resolved::{Attribution, AttributionParts, Preference, Resolved, ResolvedParts, Terminal};
 use wb_rows::grammar::grammar_of;
 use wb_rows::signatures::signatures_of;
 use wb_values::Signatures;
 
 // The numbered value. The only error is want of memory.
-pub(crate) fn numbered(alloc: Global, file: &Lent) -> Result<ResolvedParts, AllocError>
+pub(crate) fn numbered(alloc: Global, file: &Lent) -> Result<Resolved, AllocError>
     requires file { IsFile (lent_file file.now) }
     requires hold { NamesHold (file_scope (lent_file file.now)) }
     requires alone { BeginsAlone (lent_file file.now) }
     ensures { IfOk result (Resolves (lent_file file.now)) }
 {
     let rows = rows_of(alloc, file)?;
-    let copies = copies_of(alloc, file, &rows)?;
-    value(alloc, rows, copies)
+    match copies_of(alloc, file, &rows) {
+        Ok(copies) => value(alloc, rows, copies),
+        Err(error) => {
+            drop(rows);
+            Err(error)
+        }
+    }
 }
 
 // The grammar of rows, and copies of what the file and its rows have.
@@ -49,32 +54,26 @@ fn copies_of(alloc: Global, file: &Lent, rows: &Rows) -> Result<Copies, AllocErr
     ensures { IfOk result (AreCopies (lent_file file.now) rows.now) }
 {
     let titles = titles_of(alloc, file)?;
-    let made = made_of(alloc, file, rows)?;
-    Ok(Copies {
-        grammar: made.grammar,
-        host: titles.host,
-        extensions: titles.extensions,
-        signatures: made.signatures,
-    })
-}
-
-// What is made of rows alone.
-#[derive(Drop)]
-struct Made {
-    grammar: Option<Grammar>,
-    signatures: Signatures,
-}
-
-// The grammar and the signatures of rows.
-fn made_of(alloc: Global, file: &Lent, rows: &Rows) -> Result<Made, AllocError>
-    requires { IfSome rows.now.written.rest.start (HasGrammar rows.now) }
-    ensures { IfOk result (AreMade (lent_file file.now) rows.now) }
-{
-    let signatures = signatures_of(alloc, file.extensions, &rows.written.productions)?;
-    Ok(Made {
-        grammar: grammar_for(alloc, rows)?,
-        signatures,
-    })
+    let grammar = match grammar_for(alloc, rows) {
+        Ok(grammar) => grammar,
+        Err(error) => {
+            drop(titles);
+            return Err(error);
+        }
+    };
+    match signatures_of(alloc, file.extensions, &rows.written.productions) {
+        Ok(signatures) => Ok(Copies {
+            grammar,
+            host: titles.host,
+            extensions: titles.extensions,
+            signatures,
+        }),
+        Err(error) => {
+            drop(titles);
+            drop(grammar);
+            Err(error)
+        }
+    }
 }
 
 // The names of a host and of its extensions.
@@ -88,30 +87,17 @@ struct Titles {
 fn titles_of(alloc: Global, file: &Lent) -> Result<Titles, AllocError>
     ensures { IfOk result (AreTitles (lent_file file.now)) }
 {
-    let extensions = names_of(alloc, file.extensions)?;
-    Ok(Titles {
-        host: file.base.host.copy()?,
-        extensions,
-    })
-}
-
-// The same names.
-fn names_of(alloc: Global, names: &[Bytes]) -> Result<Sequence<Bytes>, AllocError>
-    ensures { IfOk result (λ made. made ≡ names.now) }
-{
-    let mut made = Vec::new(alloc);
-    add_names(names, &mut made)?;
-    Ok(Sequence::from_vec(made))
-}
-
-// Adds the same names.
-fn add_names(names: &[Bytes], made: &mut Vec<Bytes>) -> Result<(), AllocError>
-    ensures { OnOk result (made.new.items ≡ made.old.items ++ names.now) }
-{
-    'names: for name in names {
-        push(made, name.copy()?)?;
+    let host = file.base.host.copy()?;
+    match Vec::from_clones(alloc, file.extensions) {
+        Ok(extensions) => Ok(Titles {
+            host,
+            extensions: Sequence::from_vec(extensions),
+        }),
+        Err(error) => {
+            drop(host);
+            Err(error)
+        }
     }
-    Ok(())
 }
 
 // The grammar, where there is a start.
@@ -132,13 +118,18 @@ fn grammar_for(alloc: Global, rows: &Rows) -> Result<Option<Grammar>, AllocError
 }
 
 // The value of the rows.
-fn value(alloc: Global, rows: Rows, copies: Copies) -> Result<ResolvedParts, AllocError>
-    requires { IsAttribution (made_attribution rows copies.extensions copies.signatures) }
+fn value(alloc: Global, rows: Rows, copies: Copies) -> Result<Resolved, AllocError>
+    requires { IsResolved (made_value rows copies.host copies.extensions copies.signatures copies.grammar) }
     ensures { IfOk result (λ r. r ≡ made_value rows copies.host copies.extensions copies.signatures copies.grammar) }
 {
     let halves = halves_of(rows, copies);
-    let attributes = Attribution::new(alloc, halves.attribution)?;
-    Ok(whole(halves.others, attributes))
+    match Attribution::new(alloc, halves.attribution) {
+        Ok(attributes) => Resolved::new(alloc, whole(halves.others, attributes)),
+        Err(error) => {
+            drop(halves.others);
+            Err(error)
+        }
+    }
 }
 
 // The parts of a value's attribution, and the others.

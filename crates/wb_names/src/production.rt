@@ -3,17 +3,18 @@
 //! Its children and its locals give it labels, and then all that the file writes on it is numbered. Which items write on it is in
 //! `writers`.
 
-ghost use Rattle.std.specs.Prelude.{◌≡◌, [], All, Contains, IfOk, OnOk, option_to_list};
+ghost use Rattle.std.specs.Prelude.{◌≡◌, ◌∷◌, [], All, Contains, IfOk, OnOk, option_to_list};
 ghost use Rattle.std.specs.List.{AllZip};
 ghost use Rattle.wb_naming.specs.Declarations.{productions};
 ghost use Rattle.wb_numbering.specs.Files.{equations_on};
-ghost use Rattle.wb_numbering.specs.Numbering.{Numbering};
 ghost use Rattle.wb_rows.specs.Moves.{IsChildNow, IsForwardNow, NodeIsWithin};
-ghost use Rattle.wb_rows.specs.Scope.{IsFoundChild};
-ghost use Rattle.wb_names.specs.Inner.Bodies.{IsContext, IsDeclaredBody, IsExtendedBody, IsMovedHead, IsWritten, KnowsLabels, file_of, labels_with};
+ghost use Rattle.wb_rows.specs.Scope.{KindIsThere};
+ghost use Rattle.wb_names.specs.Inner.Bodies.{IsContext, IsDeclaredBody, IsExtendedBody, IsMovedHead, IsOwn, IsWritten, KnowsLabels, file_of, labels_with};
 ghost use Rattle.wb_names.specs.Inner.Now.{IsDeclaredNow, IsExtendedNow};
+ghost use Rattle.wb_names.specs.Inner.Rows.{AddsProductions, declares_concrete, has_concrete};
 
 use crate::lent::Lent;
+use crate::productions::{Productions, add};
 use crate::symbols::numbered_role;
 use crate::writers::Writers;
 use std::alloc::{AllocError, Global};
@@ -33,19 +34,25 @@ pub(crate) struct Context<'a> {
     pub(crate) writers: &'a Writers,
 }
 
-// The row of a base's production. The only error is want of memory.
-pub(crate) fn extended(
+// Adds the row of a base's production. The only error is want of memory.
+pub(crate) fn add_extended(
     alloc: Global,
     context: &Context,
     production: &Production,
-) -> Result<Production, AllocError>
+    made: &mut Productions,
+) -> Result<(), AllocError>
     requires context { IsContext context.now }
     requires there { Contains context.now.file.base.now.attributes.productions production.now }
-    ensures { IfOk result (IsExtendedNow (file_of context.now) context.now.scope.now context.now.moves.now production.now) }
+    ensures { OnOk result (AddsProductions has_concrete (IsExtendedNow (file_of context.now) context.now.scope.now context.now.moves.now) (production.now ∷ []) made.old made.new) }
 {
     let head = moved_head(alloc, context, production)?;
-    let body = extended_body(alloc, context, production, head.children.as_slice())?;
-    Ok(extended_row(context, production, head, body))
+    match extended_body(alloc, context, production, head.children.as_slice()) {
+        Ok(body) => add(extended_row(context, production, head, body), made),
+        Err(error) => {
+            drop(head);
+            Err(error)
+        }
+    }
 }
 
 // The parts of a row on which items write nothing.
@@ -62,13 +69,26 @@ fn moved_head(alloc: Global, context: &Context, production: &Production) -> Resu
     requires there { Contains context.now.file.base.now.attributes.productions production.now }
     ensures { IfOk result (IsMovedHead context.now.moves.now production.now) }
 {
-    let forward = moved_forwards(alloc, context.moves, &production.forward)?;
-    let children = moved_children(alloc, context.moves, production.children.as_slice())?;
-    Ok(Head {
-        name: production.name.copy()?,
-        children,
-        forward,
-    })
+    let name = production.name.copy()?;
+    let forward = match moved_forwards(alloc, context.moves, &production.forward) {
+        Ok(forward) => forward,
+        Err(error) => {
+            drop(name);
+            return Err(error);
+        }
+    };
+    match moved_children(alloc, context.moves, production.children.as_slice()) {
+        Ok(children) => Ok(Head {
+            name,
+            children,
+            forward,
+        }),
+        Err(error) => {
+            drop(name);
+            drop(forward);
+            Err(error)
+        }
+    }
 }
 
 // The row of these parts.
@@ -119,20 +139,31 @@ fn extended_body(
     ensures { IfOk result (IsExtendedBody (file_of context.now) context.now.scope.now context.now.moves.now production.now children.now) }
 {
     let locals = moved_locals(alloc, context.moves, production.locals.as_slice())?;
-    let equations = moved_equations(alloc, context.moves, production.equations.as_slice())?;
+    let equations = match moved_equations(alloc, context.moves, production.equations.as_slice()) {
+        Ok(equations) => equations,
+        Err(error) => {
+            drop(locals);
+            return Err(error);
+        }
+    };
     let mut body = Body {
         locals,
         forwards: Vec::new(alloc),
         equations,
     };
-    add_written(
+    match add_written(
         alloc,
         context,
         production.name.as_slice(),
         children,
         &mut body,
-    )?;
-    Ok(body)
+    ) {
+        Ok(()) => Ok(body),
+        Err(error) => {
+            drop(body);
+            Err(error)
+        }
+    }
 }
 
 // Adds what the file writes on the production of this name, which has these children.
@@ -150,55 +181,90 @@ fn add_written(
     let items = context.file.items;
     let places = context.writers.places_of(name);
     let labels = labels_of(alloc, children, &body.locals, items, places)?;
-    add_all(alloc, context.scope, &labels, items, places, body)
+    let added = add_all(alloc, context.scope, &labels, items, places, body);
+    drop(labels);
+    added
 }
 
-// The row of a production that the file declares. The only error is want of memory.
-pub(crate) fn declared(
+// Adds the row of a production that the file declares. The only error is want of memory.
+pub(crate) fn add_own(
     alloc: Global,
     context: &Context,
     role: wb_syntax::ProductionRole,
     production: &wb_syntax::Production,
-) -> Result<Production, AllocError>
+    made: &mut Productions,
+) -> Result<(), AllocError>
     requires context { IsContext context.now }
     requires there { Contains (productions context.now.file.items.now) (record { role = role; production = production.now }) }
-    ensures { IfOk result (IsDeclaredNow (file_of context.now) context.now.scope.now context.now.moves.now (record { role = role; production = production.now })) }
+    ensures { OnOk result (AddsProductions declares_concrete (IsDeclaredNow (file_of context.now) context.now.scope.now context.now.moves.now) (record { role = role; production = production.now } ∷ []) made.old made.new) }
 {
-    let children = written_children(alloc, context.scope, production.children.as_slice())?;
-    declared_row(alloc, context, role, production, children)
-}
-
-// The row with these children.
-fn declared_row(
-    alloc: Global,
-    context: &Context,
-    role: wb_syntax::ProductionRole,
-    production: &wb_syntax::Production,
-    children: Sequence<Child>,
-) -> Result<Production, AllocError>
-    requires context { IsContext context.now }
-    requires there { Contains (productions context.now.file.items.now) (record { role = role; production = production.now }) }
-    requires children { (n : Numbering) → AllZip (IsFoundChild context.now.scope.now n) production.now.children children }
-    ensures { IfOk result (IsDeclaredNow (file_of context.now) context.now.scope.now context.now.moves.now (record { role = role; production = production.now })) }
-{
-    let name = production.name.copy()?;
-    let mut body = declared_body(
+    let own = own_parts(alloc, context.scope, production)?;
+    match declared_body(
         alloc,
         context,
         production.name.as_slice(),
-        children.as_slice(),
-    )?;
-    let forward = body.forwards.pop();
-    Ok(Production {
-        name,
+        own.children.as_slice(),
+    ) {
+        Ok(body) => add(declared_row(context, role, production, own, body), made),
+        Err(error) => {
+            drop(own);
+            Err(error)
+        }
+    }
+}
+
+// The name and the children of a row.
+#[derive(Drop)]
+struct Own {
+    name: Bytes,
+    children: Sequence<Child>,
+}
+
+// Those of a production that the file declares.
+fn own_parts(
+    alloc: Global,
+    scope: &Scope,
+    production: &wb_syntax::Production,
+) -> Result<Own, AllocError>
+    requires { All (λ c. KindIsThere scope.now c.kind) production.now.children }
+    ensures { IfOk result (IsOwn scope.now production.now) }
+{
+    let name = production.name.copy()?;
+    match written_children(alloc, scope, production.children.as_slice()) {
+        Ok(children) => Ok(Own { name, children }),
+        Err(error) => {
+            drop(name);
+            Err(error)
+        }
+    }
+}
+
+// The row of these parts.
+fn declared_row(
+    context: &Context,
+    role: wb_syntax::ProductionRole,
+    production: &wb_syntax::Production,
+    own: Own,
+    body: Body,
+) -> Production
+    requires context { IsContext context.now }
+    requires there { Contains (productions context.now.file.items.now) (record { role = role; production = production.now }) }
+    requires own { IsOwn context.now.scope.now production.now own }
+    requires body { IsDeclaredBody (file_of context.now) context.now.scope.now production.now.name own.children body }
+    ensures { IsDeclaredNow (file_of context.now) context.now.scope.now context.now.moves.now (record { role = role; production = production.now }) result }
+{
+    let mut forwards = body.forwards;
+    let forward = forwards.pop();
+    Production {
+        name: own.name,
         owner: context.file.owner,
         role: numbered_role(role),
         left: number_of(&context.scope.nonterminals, production.left.as_slice()),
-        children,
+        children: own.children,
         locals: Sequence::from_vec(body.locals),
         forward,
         equations: Sequence::from_vec(body.equations),
-    })
+    }
 }
 
 // What the file writes on the production of its own of this name.
@@ -217,6 +283,11 @@ fn declared_body(
         forwards: Vec::new(alloc),
         equations: Vec::new(alloc),
     };
-    add_written(alloc, context, name, children, &mut body)?;
-    Ok(body)
+    match add_written(alloc, context, name, children, &mut body) {
+        Ok(()) => Ok(body),
+        Err(error) => {
+            drop(body);
+            Err(error)
+        }
+    }
 }

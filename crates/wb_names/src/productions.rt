@@ -2,7 +2,7 @@
 //!
 //! Concrete ones are kept apart, since they are numbered first. The row of one production is made in `production`.
 
-ghost use Rattle.std.specs.Prelude.{Contains, IfOk, OnOk, option_to_list};
+ghost use Rattle.std.specs.Prelude.{◌≡◌, [], Contains, IfOk, OnOk, option_to_list};
 ghost use Rattle.wb_naming.specs.Declarations.{production_of, productions};
 ghost use Rattle.wb_naming.specs.Hold.{NamesHold};
 ghost use Rattle.wb_numbering.specs.Given.{IsFile};
@@ -14,8 +14,9 @@ ghost use Rattle.wb_names.specs.Inner.Now.{IsDeclaredNow, IsExtendedNow};
 ghost use Rattle.wb_names.specs.Inner.Productions.{AreProductions};
 ghost use Rattle.wb_names.specs.Inner.Rows.{AddsProductions, AddsRow, declares_concrete, has_concrete};
 
+use crate::joined::join;
 use crate::lent::Lent;
-use crate::production::{Context, declared, extended};
+use crate::production::{Context, add_extended, add_own};
 use crate::writers::writers_of;
 use std::alloc::{AllocError, Global};
 use wb_base::push;
@@ -31,17 +32,21 @@ pub(crate) struct Productions {
     pub(crate) others: Vec<Production>,
 }
 
-// The rows of a file's and its base's productions. The only error is want of memory.
-pub(crate) fn productions_of(
+// Adds the rows of a file's and its base's productions to none, in one list, and answers how many are concrete. The only error is want of
+// memory.
+pub(crate) fn add_productions(
     alloc: Global,
     file: &Lent,
     scope: &Scope,
     moves: &Moves,
-) -> Result<Productions, AllocError>
+    made: &mut Productions,
+) -> Result<usize, AllocError>
     requires file { IsFile (lent_file file.now) }
     requires hold { NamesHold (file_scope (lent_file file.now)) }
     requires numbers { AreNumbers (lent_file file.now) scope.now moves.now }
-    ensures { IfOk result (AreProductions (lent_file file.now) scope.now moves.now) }
+    requires concrete { made.old.concrete.items ≡ [] }
+    requires others { made.old.others.items ≡ [] }
+    ensures { IfOk result (λ count. AreProductions (lent_file file.now) scope.now moves.now count made.new.concrete.items) }
 {
     let writers = writers_of(alloc, file.items)?;
     let context = Context {
@@ -50,21 +55,21 @@ pub(crate) fn productions_of(
         moves,
         writers: &writers,
     };
-    rows_of(alloc, &context)
+    let count = add_all(alloc, &context, made);
+    drop(writers);
+    count
 }
 
-// The rows, in a context.
-fn rows_of(alloc: Global, context: &Context) -> Result<Productions, AllocError>
-    requires { IsContext context.now }
-    ensures { IfOk result (AreProductions (file_of context.now) context.now.scope.now context.now.moves.now) }
+// Adds the rows, in a context.
+fn add_all(alloc: Global, context: &Context, made: &mut Productions) -> Result<usize, AllocError>
+    requires context { IsContext context.now }
+    requires concrete { made.old.concrete.items ≡ [] }
+    requires others { made.old.others.items ≡ [] }
+    ensures { IfOk result (λ count. AreProductions (file_of context.now) context.now.scope.now context.now.moves.now count made.new.concrete.items) }
 {
-    let mut made = Productions {
-        concrete: Vec::new(alloc),
-        others: Vec::new(alloc),
-    };
-    add_base(alloc, context, &mut made)?;
-    add_declared(alloc, context, &mut made)?;
-    Ok(made)
+    add_base(alloc, context, made)?;
+    add_declared(alloc, context, made)?;
+    join(&mut made.concrete, &mut made.others)
 }
 
 // Adds those of the base.
@@ -74,8 +79,7 @@ fn add_base(alloc: Global, context: &Context, made: &mut Productions) -> Result<
 {
     let productions = context.file.base.attributes.parts().productions.as_slice();
     for production in productions {
-        let row = extended(alloc, context, production)?;
-        add(row, made)?;
+        add_extended(alloc, context, production, made)?;
     }
     Ok(())
 }
@@ -105,12 +109,11 @@ fn add_item(
     let ItemForm::Production { role, production } = &item.form else {
         return Ok(());
     };
-    let row = declared(alloc, context, *role, production)?;
-    add(row, made)
+    add_own(alloc, context, *role, production, made)
 }
 
 // Adds one.
-fn add(row: Production, made: &mut Productions) -> Result<(), AllocError>
+pub(crate) fn add(row: Production, made: &mut Productions) -> Result<(), AllocError>
     ensures { OnOk result (AddsRow row made.old made.new) }
 {
     match row.role {

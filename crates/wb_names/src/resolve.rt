@@ -3,20 +3,19 @@
 //! The first line is tested here, names in `wb_name_rules`; then everything has a number.
 
 ghost use Rattle.std.specs.Prelude.{◌≡◌, [], IfErr, IfOk};
-ghost use Rattle.wb_naming.specs.Hold.{NamesHold};
-ghost use Rattle.wb_naming.specs.NamesOk.{NamesOk};
 ghost use Rattle.wb_naming.specs.Refusals.{IsTrueRefusal};
 ghost use Rattle.wb_numbering.specs.Given.{IsFile};
-ghost use Rattle.wb_numbering.specs.Resolves.{Resolves};
 ghost use Rattle.wb_names.specs.Resolving.{IsExtensionNameRefusal, IsHostNameRefusal, ResolvesExtension, ResolvesHost, file_scope};
 ghost use Rattle.wb_names.specs.Inner.Lent.{lent_file};
 ghost use Rattle.wb_names.specs.Inner.Rest.{BeginsAlone};
+ghost use Rattle.wb_names.specs.Inner.Value.{IsValueOf};
 ghost use Rattle.wb_names.specs.Inner.Wrong.{IsWrongHost, IsWrongSort};
 
 use crate::empty::nothing_before;
 use crate::lent::Lent;
 use crate::numbered::numbered;
-use std::alloc::{AllocError, Global};
+use std::alloc::Global;
+use std::slice::from_ref;
 use wb_base::Bytes;
 use wb_name_rules::check_names;
 use wb_naming::NameRefusal;
@@ -31,20 +30,30 @@ pub fn resolve_host(alloc: Global, spec: &Spec) -> Result<Resolved, NameRefusal>
     ensures refused { IfErr result (IsHostNameRefusal spec.now) }
 {
     match spec.header() {
-        Header::Host => {
-            let base = nothing_before(alloc, spec.name())?;
-            resolve_in(
-                alloc,
-                &Lent {
-                    base: &base,
-                    owner: 0,
-                    extensions: &[],
-                    items: spec.items(),
-                },
-            )
-        }
+        Header::Host => host_of(alloc, spec),
         Header::Extension { .. } => Err(wrong_kind(alloc, spec.name())),
     }
+}
+
+// The same where the file is a host.
+fn host_of(alloc: Global, spec: &Spec) -> Result<Resolved, NameRefusal>
+    requires { spec.now.header ≡ Header.Host }
+    ensures ok { IfOk result (ResolvesHost spec.now) }
+    ensures refused { IfErr result (IsHostNameRefusal spec.now) }
+{
+    let items = spec.items();
+    let before = nothing_before(alloc, spec.name())?;
+    let made = resolve_in(
+        alloc,
+        &Lent {
+            base: before.parts(),
+            owner: 0,
+            extensions: &[],
+            items,
+        },
+    );
+    before.release();
+    made
 }
 
 /// The numbered value of a host with an extension, or the first name rule that fails.
@@ -78,43 +87,43 @@ fn extension_of(
     ensures ok { IfOk result (ResolvesExtension host.now spec.now) }
     ensures refused { IfErr result (IsExtensionNameRefusal host.now spec.now) }
 {
-    let base = host.parts();
-    if other.as_slice() != base.host.as_slice() {
-        return Err(wrong_host(alloc, other.as_slice()));
+    if other.as_slice() == host.parts().host.as_slice() {
+        extended_host(alloc, host, spec)
+    } else {
+        Err(wrong_host(alloc, other.as_slice()))
     }
-    let extensions = [Bytes::from_slice(alloc, spec.name())?];
-    resolve_in(
+}
+
+// The host with its extension.
+fn extended_host(alloc: Global, host: &Resolved, spec: &Spec) -> Result<Resolved, NameRefusal>
+    requires alone { host.now.attributes.extensions ≡ [] }
+    requires header { spec.now.header ≡ Header.Extension host.now.host }
+    ensures ok { IfOk result (ResolvesExtension host.now spec.now) }
+    ensures refused { IfErr result (IsExtensionNameRefusal host.now spec.now) }
+{
+    let name = Bytes::from_slice(alloc, spec.name())?;
+    let made = resolve_in(
         alloc,
         &Lent {
-            base,
+            base: host.parts(),
             owner: 1,
-            extensions: &extensions,
+            extensions: from_ref(&name),
             items: spec.items(),
         },
-    )
+    );
+    drop(name);
+    made
 }
 
 // The numbered value of a file.
 fn resolve_in(alloc: Global, file: &Lent) -> Result<Resolved, NameRefusal>
     requires file { IsFile (lent_file file.now) }
     requires alone { BeginsAlone (lent_file file.now) }
-    ensures names { IfOk result (λ made. NamesOk (file_scope (lent_file file.now))) }
-    ensures value { IfOk result (Resolves (lent_file file.now)) }
+    ensures ok { IfOk result (IsValueOf (lent_file file.now)) }
     ensures refused { IfErr result (IsTrueRefusal (file_scope (lent_file file.now))) }
 {
-    check_names(alloc, file.base, file.owner, file.items)?;
-    Ok(resolved_value(alloc, file)?)
-}
-
-// The numbered value of a file whose names are right. The only error is want of memory.
-fn resolved_value(alloc: Global, file: &Lent) -> Result<Resolved, AllocError>
-    requires file { IsFile (lent_file file.now) }
-    requires hold { NamesHold (file_scope (lent_file file.now)) }
-    requires alone { BeginsAlone (lent_file file.now) }
-    ensures { IfOk result (Resolves (lent_file file.now)) }
-{
-    let parts = numbered(alloc, file)?;
-    Resolved::new(alloc, parts)
+    drop(check_names(alloc, file.base, file.owner, file.items)?);
+    Ok(numbered(alloc, file)?)
 }
 
 // That a file is of the wrong sort, with its name.

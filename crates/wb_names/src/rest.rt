@@ -18,7 +18,7 @@ ghost use Rattle.wb_rows.specs.Plains.{AddsEach};
 ghost use Rattle.wb_names.specs.Resolving.{file_scope};
 ghost use Rattle.wb_names.specs.Inner.Ground.{AreNumbers};
 ghost use Rattle.wb_names.specs.Inner.Lent.{lent_file};
-ghost use Rattle.wb_names.specs.Inner.Rest.{AddsBase, ArePlains, AreBasePlains, AreRest, BeginsAlone, HasTables, IsNumberNow};
+ghost use Rattle.wb_names.specs.Inner.Rest.{AddsBase, AreRest, BeginsAlone, HasTables, IsBegun, IsNumberNow};
 
 use crate::lent::Lent;
 use std::alloc::{AllocError, Global};
@@ -51,40 +51,43 @@ pub(crate) fn rest_of(
     requires alone { BeginsAlone (lent_file file.now) }
     ensures { IfOk result (AreRest (lent_file file.now) scope.now moves.now) }
 {
-    let extensible = extensible_of(alloc, file, scope, moves)?;
-    let plains = plains_of(alloc, file, scope, moves)?;
-    Ok(Rest {
-        plains,
-        extensible,
+    let mut rest = Rest {
+        plains: Plains {
+            attributes: Vec::new(alloc),
+            occurrences: Vec::new(alloc),
+            preferences: Vec::new(alloc),
+        },
+        extensible: Vec::new(alloc),
         start: start_of(file, scope, moves),
-    })
+    };
+    match add_rest(alloc, file, scope, moves, &mut rest) {
+        Ok(()) => Ok(rest),
+        Err(error) => {
+            drop(rest);
+            Err(error)
+        }
+    }
 }
 
-// The rows of attributes, occurrences and preferences.
-fn plains_of(alloc: Global, file: &Lent, scope: &Scope, moves: &Moves) -> Result<Plains, AllocError>
+// Adds the rows and numbers to none.
+fn add_rest(
+    alloc: Global,
+    file: &Lent,
+    scope: &Scope,
+    moves: &Moves,
+    rest: &mut Rest,
+) -> Result<(), AllocError>
     requires file { IsFile (lent_file file.now) }
     requires hold { NamesHold (file_scope (lent_file file.now)) }
     requires numbers { AreNumbers (lent_file file.now) scope.now moves.now }
-    ensures { IfOk result (ArePlains (lent_file file.now) scope.now moves.now) }
+    requires begun { IsBegun (lent_file file.now) scope.now moves.now rest.old }
+    ensures { OnOk result (AreRest (lent_file file.now) scope.now moves.now rest.new) }
 {
-    let mut made = base_plains(alloc, file.base, moves)?;
-    add_plains(alloc, scope, file.items, &mut made)?;
-    Ok(made)
-}
-
-// Those of a base.
-fn base_plains(alloc: Global, base: &ResolvedParts, moves: &Moves) -> Result<Plains, AllocError>
-    requires base { IsResolved base.now }
-    requires tables { HasTables base.now moves.now }
-    ensures { IfOk result (AreBasePlains base.now moves.now) }
-{
-    let mut made = Plains {
-        attributes: Vec::new(alloc),
-        occurrences: Vec::new(alloc),
-        preferences: Vec::new(alloc),
-    };
-    add_base(alloc, base, moves, &mut made)?;
-    Ok(made)
+    let extensible = &mut rest.extensible;
+    add_moved(moves, file.base.extensible.as_slice(), extensible)?;
+    add_extensible(scope, file.items, extensible)?;
+    add_base(alloc, file.base, moves, &mut rest.plains)?;
+    add_plains(alloc, scope, file.items, &mut rest.plains)
 }
 
 // Adds those of a base.
@@ -107,24 +110,6 @@ fn add_base(
         &mut made.occurrences,
     )?;
     add_preferences(moves, base.preferences.as_slice(), &mut made.preferences)
-}
-
-// The numbers of extensible nonterminals.
-fn extensible_of(
-    alloc: Global,
-    file: &Lent,
-    scope: &Scope,
-    moves: &Moves,
-) -> Result<Vec<usize>, AllocError>
-    requires file { IsFile (lent_file file.now) }
-    requires hold { NamesHold (file_scope (lent_file file.now)) }
-    requires numbers { AreNumbers (lent_file file.now) scope.now moves.now }
-    ensures { IfOk result (λ made. AllZip (IsNumberNow scope.now moves.now) (sources file.now.base.now.extensible (extensibles file.now.items.now)) made.items) }
-{
-    let mut made = Vec::new(alloc);
-    add_moved(moves, file.base.extensible.as_slice(), &mut made)?;
-    add_extensible(scope, file.items, &mut made)?;
-    Ok(made)
 }
 
 // Adds these nonterminals of a base.

@@ -2,11 +2,8 @@
 //!
 //! A base's names go before those of a file, but what is of the grammar goes before what isn't.
 
-ghost use Rattle.std.specs.Prelude.{◌≡◌, ◌++◌, [], OnOk, flat_map, map};
-ghost use Rattle.wb_resolved.specs.declared.attributes.Attribute.{Attribute as Value};
-ghost use Rattle.wb_resolved.specs.declared.attributes.Nonterminal.{Nonterminal as Node};
+ghost use Rattle.std.specs.Prelude.{◌≡◌, ◌++◌, ◌∷◌, [], OnOk, flat_map};
 ghost use Rattle.wb_resolved.specs.declared.production.Production.{Production as Row};
-ghost use Rattle.wb_resolved.specs.declared.terminal.Terminal.{Terminal as Word};
 ghost use Rattle.wb_syntax.specs.declared.item.Item.{Item as Written};
 ghost use Rattle.wb_syntax.specs.declared.pattern.Pattern.{Pattern as Read};
 ghost use Rattle.wb_naming.specs.Declarations.{productions};
@@ -19,72 +16,20 @@ ghost use Rattle.wb_names.specs.Inner.Names as spec;
 ghost use Rattle.wb_names.specs.Inner.Nonterminals.{attribute_names};
 
 use crate::lent::Lent;
-use crate::nonterminals::Nonterminals;
+use crate::named::add_names;
 use std::alloc::AllocError;
 use wb_base::Bytes;
-use wb_resolved::{Attribute, Nonterminal, Production, ProductionRole, Terminal};
+use wb_resolved::{Production, ProductionRole};
 use wb_rows::index::Index;
-use wb_rows::terminals::Terminals;
 use wb_syntax::{Item, ItemForm, Pattern, PlainForm};
-
-// Adds the names of terminals, of those that are scanned before layout's.
-pub(crate) fn add_terminal_names(terminals: &Terminals, names: &mut Index) -> Result<(), AllocError>
-    requires { names.old ≡ [] }
-    ensures { OnOk result (names.new ≡ map (λ (t : Word). t.name) (terminals.now.scanned.items ++ terminals.now.layout.items)) }
-{
-    add_terminals(terminals.scanned.as_slice(), names)?;
-    add_terminals(terminals.layout.as_slice(), names)
-}
-
-// Adds the names of these terminals.
-fn add_terminals(terminals: &[Terminal], names: &mut Index) -> Result<(), AllocError>
-    ensures { OnOk result (names.new ≡ names.old ++ map (λ (t : Word). t.name) terminals.now) }
-{
-    'terminals: for terminal in terminals {
-        names.add(terminal.name.copy()?)?;
-    }
-    Ok(())
-}
-
-// Adds the names of nonterminals, of those of the grammar before the others'.
-pub(crate) fn add_nonterminal_names(
-    nonterminals: &Nonterminals,
-    names: &mut Index,
-) -> Result<(), AllocError>
-    requires { names.old ≡ [] }
-    ensures { OnOk result (names.new ≡ map (λ (x : Node). x.name) (nonterminals.now.of_grammar.items ++ nonterminals.now.others.items)) }
-{
-    add_nonterminals(nonterminals.of_grammar.as_slice(), names)?;
-    add_nonterminals(nonterminals.others.as_slice(), names)
-}
-
-// Adds the names of these nonterminals.
-fn add_nonterminals(nonterminals: &[Nonterminal], names: &mut Index) -> Result<(), AllocError>
-    ensures { OnOk result (names.new ≡ names.old ++ map (λ (x : Node). x.name) nonterminals.now) }
-{
-    'nonterminals: for nonterminal in nonterminals {
-        names.add(nonterminal.name.copy()?)?;
-    }
-    Ok(())
-}
 
 // Adds the names of a base's attributes, and then of those that items declare.
 pub(crate) fn add_attribute_names(file: &Lent, names: &mut Index) -> Result<(), AllocError>
     requires { names.old ≡ [] }
     ensures { OnOk result (names.new ≡ attribute_names (lent_file file.now)) }
 {
-    add_attributes(file.base.attributes.parts().attributes.as_slice(), names)?;
+    add_names(file.base.attributes.parts().attributes.as_slice(), names)?;
     add_declared_attributes(file.items, names)
-}
-
-// Adds the names of these attributes.
-fn add_attributes(attributes: &[Attribute], names: &mut Index) -> Result<(), AllocError>
-    ensures { OnOk result (names.new ≡ names.old ++ map (λ (a : Value). a.name) attributes.now) }
-{
-    'attributes: for attribute in attributes {
-        names.add(attribute.name.copy()?)?;
-    }
-    Ok(())
 }
 
 // Adds the names of the attributes that items declare.
@@ -103,8 +48,8 @@ fn add_form_attribute(form: &ItemForm<Pattern>, names: &mut Index) -> Result<(),
 {
     match form {
         ItemForm::Plain(plain) => match plain {
-            PlainForm::Synthesized { name, .. } => names.add(name.copy()?),
-            PlainForm::Inherited { name, .. } => names.add(name.copy()?),
+            PlainForm::Synthesized { name, .. } => add_name(name, names),
+            PlainForm::Inherited { name, .. } => add_name(name, names),
             _ => Ok(()),
         },
         _ => Ok(()),
@@ -169,10 +114,17 @@ fn add_wanted(wanted: bool, name: &Bytes, names: &mut Index) -> Result<(), Alloc
     ensures { OnOk result (names.new ≡ names.old ++ spec.wanted_name wanted name.now) }
 {
     if wanted {
-        names.add(name.copy()?)
+        add_name(name, names)
     } else {
         Ok(())
     }
+}
+
+// Adds a name.
+pub(crate) fn add_name(name: &Bytes, names: &mut Index) -> Result<(), AllocError>
+    ensures { OnOk result (names.new ≡ names.old ++ name.now ∷ []) }
+{
+    names.add(name.copy()?)
 }
 
 // Whether the role is concrete, where that is wanted, or abstract, where that is.

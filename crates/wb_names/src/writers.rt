@@ -39,8 +39,13 @@ pub(crate) fn writers_of(alloc: Global, items: &[Item<Pattern>]) -> Result<Write
         names: Names::new(alloc),
         places: Vec::new(alloc),
     };
-    add_items(alloc, items, &mut made)?;
-    Ok(made)
+    match add_items(alloc, items, &mut made) {
+        Ok(()) => Ok(made),
+        Err(error) => {
+            drop(made);
+            Err(error)
+        }
+    }
 }
 
 // Adds the places of these items to none.

@@ -5,12 +5,14 @@ use Rattle.wb_resolved.specs.declared.production.Child.{Child}
 use Rattle.wb_resolved.specs.declared.production.Local.{Local}
 use Rattle.wb_resolved.specs.declared.production.Production.{Production}
 use Rattle.wb_syntax.specs.declared.expression.Equation as written
+use Rattle.wb_syntax.specs.declared.production.Production as written_production
 use Rattle.wb_naming.specs.declared.declaration.Labelled.{Labelled}
 use Rattle.wb_naming.specs.Declares.{declarations}
 use Rattle.wb_naming.specs.Hold.{NamesHold}
 use Rattle.wb_naming.specs.Meaning.{HasLabel}
 use Rattle.wb_numbering.specs.Files.{File, equations_on}
 use Rattle.wb_numbering.specs.Given.{IsFile}
+use Rattle.wb_numbering.specs.Numbering.{Numbering}
 use Rattle.wb_numbering.specs.Written.{local_equations}
 use Rattle.wb_numbering.proofs.OneProduction.{local_label}
 use Rattle.wb_rows.specs.declared.body.Body.{Body}
@@ -19,8 +21,10 @@ use Rattle.wb_rows.specs.declared.scope.Scope.{Scope}
 use Rattle.wb_rows.specs.declared.scope.ProductionLabels.{ProductionLabels}
 use Rattle.wb_rows.specs.Blocks.{AddsBody}
 use Rattle.wb_rows.specs.Moves.{IsChildNow, IsLocalNow, IsForwardNow, IsEquationNow}
+use Rattle.wb_rows.specs.Scope.{IsFoundChild}
 use Rattle.wb_names.specs.declared.production.Context.{Context}
 use Rattle.wb_names.specs.declared.production.Head.{Head}
+use Rattle.wb_names.specs.declared.production.Own.{Own}
 use Rattle.wb_names.specs.Inner.Ground.{AreNumbers}
 use Rattle.wb_names.specs.Inner.Lent.{lent_file}
 use Rattle.wb_names.specs.Inner.Writers.{AreWriters}
@@ -75,3 +79,8 @@ pub record IsDeclaredBody (file : File) (s : Scope) (name : List ℕ) (children 
   pub no_forwards : empty.forwards.items ≡ []
   pub no_equations : empty.equations.items ≡ []
   pub written : IsWritten s children (equations_on name file.items) empty body
+
+-- the name and the children of a production that a file declares
+pub record IsOwn (s : Scope) (p : written_production.Production) (own : Own) : Type 0 where
+  pub name : own.name ≡ p.name
+  pub children : (n : Numbering) → AllZip (IsFoundChild s n) p.children own.children

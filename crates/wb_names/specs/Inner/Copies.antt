@@ -5,16 +5,10 @@ use Rattle.wb_resolved.specs.declared.resolved.ResolvedParts.{ResolvedParts}
 use Rattle.wb_resolved.specs.Numbered.{signature_of}
 use Rattle.wb_numbering.specs.Files.{File}
 use Rattle.wb_names.specs.declared.numbered.Copies.{Copies}
-use Rattle.wb_names.specs.declared.numbered.Made.{Made}
 use Rattle.wb_names.specs.declared.numbered.Others.{Others}
 use Rattle.wb_names.specs.declared.numbered.Titles.{Titles}
 use Rattle.wb_names.specs.declared.rows.Rows.{Rows}
 use Rattle.wb_names.specs.Inner.Value.{IsGrammarFor}
-
--- the grammar and the signatures are those of the rows
-pub record AreMade (file : File) (rows : Rows) (made : Made) : Type 0 where
-  pub grammar : IsGrammarFor rows made.grammar
-  pub signatures : made.signatures ≡ map (signature_of file.extensions) rows.written.productions.items
 
 -- the names are those of the file's host and extensions
 pub record AreTitles (file : File) (titles : Titles) : Type 0 where

@@ -13,6 +13,7 @@ use Rattle.wb_numbering.specs.Sources.{sources, AreGrouped}
 use Rattle.wb_rows.specs.declared.moves.Moves.{Moves}
 use Rattle.wb_rows.specs.declared.scope.Scope.{Scope}
 use Rattle.wb_rows.specs.There.{HasDeclared}
+use Rattle.wb_names.specs.declared.ground.Counts.{Counts}
 use Rattle.wb_names.specs.declared.ground.Ground.{Ground}
 use Rattle.wb_names.specs.Inner.Now.{AreGroupedBy, IsTerminalNow, IsNonterminalNow}
 
@@ -38,16 +39,15 @@ pub record AreNumbers (file : File) (s : Scope) (m : Moves) : Type 0 where
   pub there : HasDeclared s (declarations file.base file.items)
   pub tables : AreTables file s m
 
--- rows of terminals and nonterminals, each sort with what is of the grammar first; and the names of all sorts by number
-pub record IsGround (file : File) (g : Ground) : Type 0 where
+-- rows of terminals and nonterminals, of which so many are of the grammar; and the names of all sorts by number
+pub record IsGround (file : File) (counts : Counts) (g : Ground) : Type 0 where
   pub numbers : AreNumbers file g.scope g.moves
-  pub terminals : AreGroupedBy (length g.terminals.scanned.items) IsScanned (IsTerminalNow file)
-      (sources file.base.terminals (lexicals file.items)) (g.terminals.scanned.items ++ g.terminals.layout.items)
-  pub nonterminals : AreGroupedBy (length g.nonterminals.of_grammar.items) (IsInGrammarOf file) (IsNonterminalNow file g.scope)
-      (sources file.base.attributes.nonterminals (nonterminals file.items)) (g.nonterminals.of_grammar.items ++ g.nonterminals.others.items)
-  pub terminal_names : g.scope.terminals ≡ map (λ (t : Terminal). t.name) (g.terminals.scanned.items ++ g.terminals.layout.items)
-  pub nonterminal_names : g.scope.nonterminals
-      ≡ map (λ (x : Nonterminal). x.name) (g.nonterminals.of_grammar.items ++ g.nonterminals.others.items)
+  pub terminals : AreGroupedBy counts.scanned IsScanned (IsTerminalNow file)
+      (sources file.base.terminals (lexicals file.items)) g.terminals.scanned.items
+  pub nonterminals : AreGroupedBy counts.of_grammar (IsInGrammarOf file) (IsNonterminalNow file g.scope)
+      (sources file.base.attributes.nonterminals (nonterminals file.items)) g.nonterminals.of_grammar.items
+  pub terminal_names : g.scope.terminals ≡ map (λ (t : Terminal). t.name) g.terminals.scanned.items
+  pub nonterminal_names : g.scope.nonterminals ≡ map (λ (x : Nonterminal). x.name) g.nonterminals.of_grammar.items
   pub attribute_names : g.scope.attributes ≡ map (λ (a : Attribute). a.name) file.base.attributes.attributes
       ++ map (λ (d : AttributeDeclaration). d.name) (attributes file.items)
   pub production_names : AreGrouped IsConcrete IsNameOf (sources file.base.attributes.productions (productions file.items)) g.scope.productions

@@ -1,5 +1,6 @@
 -- Rows of nonterminals, those of the grammar apart from the others.
-use Rattle.std.specs.Prelude.{◌≡◌, ◌≢◌, ◌↔◌, ◌++◌, ◌∷◌, [], ℕ, Bool, true, false, List, Some, All, Contains, map, option_to_list, slice_get}
+use Rattle.std.specs.Prelude.{◌≡◌, ◌≢◌, ◌↔◌, ◌++◌, ◌∷◌, [], ℕ, Bool, true, false, List, Some}
+use Rattle.std.specs.Prelude.{All, Contains, length, map, option_to_list, slice_get}
 use Rattle.std.specs.List.{AllZip}
 use Rattle.wb_resolved.specs.declared.attributes.Attribute.{Attribute}
 use Rattle.wb_resolved.specs.declared.attributes.Nonterminal.{Nonterminal}
@@ -80,3 +81,10 @@ pub record AddsNonterminals (file : File) (names : List (List ℕ)) (old new : N
   pub mid : Nonterminals
   pub base : AddsApart (λ (x : Nonterminal). IsInGrammar file x.name) IsSame file.base.attributes.nonterminals old mid
   pub own : AddsApart (Contains (grammar_names file.items)) (IsDeclaredRow file.owner file.items names) (nonterminals file.items) mid new
+
+-- these are added, and then the others are put after those of the grammar, of which there are so many
+pub record AddsJoined (file : File) (names : List (List ℕ)) (count : ℕ) (old new : Nonterminals) : Type 0 where
+  pub both : Nonterminals
+  pub adds : AddsNonterminals file names old both
+  pub count_is : count ≡ length both.of_grammar.items
+  pub joined : new.of_grammar.items ≡ both.of_grammar.items ++ both.others.items

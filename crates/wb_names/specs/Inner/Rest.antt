@@ -1,5 +1,5 @@
 -- Attributes, occurrences and preferences, extensible nonterminals and the start, as they are made before all have numbers.
-use Rattle.std.specs.Prelude.{◌≡◌, ◌⊎◌, ℕ, List, None, length, option_to_list}
+use Rattle.std.specs.Prelude.{◌≡◌, ◌⊎◌, ℕ, List, [], None, length, option_to_list}
 use Rattle.std.specs.List.{AllZip}
 use Rattle.wb_resolved.specs.declared.resolved.ResolvedParts.{ResolvedParts}
 use Rattle.wb_naming.specs.Declarations.{attributes, extensibles, occurrences, preferences, starts}
@@ -51,6 +51,14 @@ module _ (file : File) (s : Scope) (m : Moves) where
         (sources file.base.attributes.occurrences (occurrences file.items)) plains.occurrences.items
     pub preferences : AllZip (IsFrom (IsPreferenceNow m) (IsFoundPreference s)) (sources file.base.preferences (preferences file.items))
         plains.preferences.items
+
+  -- no rows and numbers but that of the start
+  pub record IsBegun (rest : Rest) : Type 0 where
+    pub attributes : rest.plains.attributes.items ≡ []
+    pub occurrences : rest.plains.occurrences.items ≡ []
+    pub preferences : rest.plains.preferences.items ≡ []
+    pub extensible : rest.extensible.items ≡ []
+    pub start : AllZip (IsNumberNow s m) (sources (starts_of file.base) (starts file.items)) (option_to_list rest.start)
 
   -- rows and numbers of the base, and of what the file declares
   pub record AreRest (rest : Rest) : Type 0 where

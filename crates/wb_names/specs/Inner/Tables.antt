@@ -1,5 +1,5 @@
 -- The numbers of a base's names, and ground of which the names are there.
-use Rattle.std.specs.Prelude.{◌≡◌, ◌++◌, ℕ, List, [], All, Contains, length, map}
+use Rattle.std.specs.Prelude.{◌≡◌, ℕ, List, [], All, Contains, map}
 use Rattle.wb_resolved.specs.declared.attributes.Nonterminal.{Nonterminal}
 use Rattle.wb_resolved.specs.declared.production.Production.{Production}
 use Rattle.wb_resolved.specs.declared.terminal.Terminal.{Terminal}
@@ -12,6 +12,7 @@ use Rattle.wb_rows.specs.declared.scope.Scope.{Scope}
 use Rattle.wb_rows.specs.declared.terminals.Terminals.{Terminals}
 use Rattle.wb_rows.specs.Nodes.{IsAt}
 use Rattle.wb_rows.specs.Plains.{AddsEach}
+use Rattle.wb_names.specs.declared.ground.Counts.{Counts}
 use Rattle.wb_names.specs.declared.ground.Ground.{Ground}
 use Rattle.wb_names.specs.declared.nonterminals.Nonterminals.{Nonterminals}
 use Rattle.wb_names.specs.Inner.Ground.{IsNameOf}
@@ -36,30 +37,53 @@ pub record HasBase (file : File) (s : Scope) : Type 0 where
   pub nonterminals : All (λ (x : Nonterminal). Contains s.nonterminals x.name) file.base.attributes.nonterminals
   pub productions : All (λ (p : Production). Contains s.productions p.name) file.base.attributes.productions
 
+-- the names of a file of this owner, where attributes alone have some
+abbrev pub no_names : ℕ → List (List ℕ) → Scope
+no_names owner attributes =
+    record { owner = owner; terminals = []; nonterminals = []; attributes = attributes; productions = [] }
+
 -- no rows, names and numbers, in a file of this owner
 pub record IsEmpty (owner : ℕ) (g : Ground) : Type 0 where
   pub scanned : g.terminals.scanned.items ≡ []
   pub layout : g.terminals.layout.items ≡ []
   pub of_grammar : g.nonterminals.of_grammar.items ≡ []
   pub others : g.nonterminals.others.items ≡ []
-  pub scope : g.scope ≡ record { owner = owner; terminals = []; nonterminals = []; attributes = []; productions = [] }
+  pub scope : g.scope ≡ no_names owner []
   pub by_terminal : g.moves.terminals.items ≡ []
   pub by_nonterminal : g.moves.nonterminals.items ≡ []
   pub by_production : g.moves.productions.items ≡ []
 
--- the rows of terminals of a base and of a file, those that are scanned first
-abbrev pub AreTerminals : File → Terminals → Type 0
-AreTerminals file t =
-    AreGroupedBy (length t.scanned.items) IsScanned (IsTerminalNow file) (sources file.base.terminals (lexicals file.items))
-    (t.scanned.items ++ t.layout.items)
+-- the rows of terminals of a base and of a file, of which so many are scanned
+abbrev pub AreTerminals : File → ℕ → Terminals → Type 0
+AreTerminals file count t =
+    AreGroupedBy count IsScanned (IsTerminalNow file) (sources file.base.terminals (lexicals file.items)) t.scanned.items
+
+-- the rows of nonterminals of a base and of a file, of which so many are of the grammar
+abbrev pub AreNonterminals : File → ℕ → Nonterminals → Scope → Type 0
+AreNonterminals file count n s =
+    AreGroupedBy count (IsInGrammarOf file) (IsNonterminalNow file s)
+    (sources file.base.attributes.nonterminals (nonterminals file.items)) n.of_grammar.items
+
+-- the rows of both, where attributes alone have their names
+pub record HaveRows (file : File) (counts : Counts) (t : Terminals) (n : Nonterminals) (named : Scope) : Type 0 where
+  pub scope : named ≡ no_names file.owner (attribute_names file)
+  pub terminals : AreTerminals file counts.scanned t
+  pub nonterminals : (s : Scope) → s.attributes ≡ attribute_names file → AreNonterminals file counts.of_grammar n s
+
+-- the names of these terminals and nonterminals are added to none, and those of productions
+pub record AddsNames (file : File) (ts : List Terminal) (ns : List Nonterminal) (old new : Scope) : Type 0 where
+  pub owner : new.owner ≡ old.owner
+  pub attributes : new.attributes ≡ old.attributes
+  pub terminals : new.terminals ≡ map (λ (x : Terminal). x.name) ts
+  pub nonterminals : new.nonterminals ≡ map (λ (x : Nonterminal). x.name) ns
+  pub productions : AreGrouped IsConcrete IsNameOf (sources file.base.attributes.productions (productions file.items)) new.productions
 
 -- names by number, and the rows whose names they are
-pub record AreNamed (file : File) (t : Terminals) (n : Nonterminals) (s : Scope) : Type 0 where
+pub record AreNamed (file : File) (counts : Counts) (t : Terminals) (n : Nonterminals) (s : Scope) : Type 0 where
   pub owner : s.owner ≡ file.owner
-  pub terminals : AreTerminals file t
-  pub nonterminals : AreGroupedBy (length n.of_grammar.items) (IsInGrammarOf file) (IsNonterminalNow file s)
-      (sources file.base.attributes.nonterminals (nonterminals file.items)) (n.of_grammar.items ++ n.others.items)
-  pub terminal_names : s.terminals ≡ map (λ (x : Terminal). x.name) (t.scanned.items ++ t.layout.items)
-  pub nonterminal_names : s.nonterminals ≡ map (λ (x : Nonterminal). x.name) (n.of_grammar.items ++ n.others.items)
+  pub terminals : AreTerminals file counts.scanned t
+  pub nonterminals : AreNonterminals file counts.of_grammar n s
+  pub terminal_names : s.terminals ≡ map (λ (x : Terminal). x.name) t.scanned.items
+  pub nonterminal_names : s.nonterminals ≡ map (λ (x : Nonterminal). x.name) n.of_grammar.items
   pub attribute_names_are : s.attributes ≡ attribute_names file
   pub production_names : AreGrouped IsConcrete IsNameOf (sources file.base.attributes.productions (productions file.items)) s.productions

@@ -10,7 +10,8 @@ use Rattle.wb_resolved.specs.Numbered.{signature_of}
 use Rattle.wb_values.specs.Signature.{Signature}
 use Rattle.wb_naming.specs.Declarations.{AttributeDeclaration, attributes, lexicals, nonterminals, productions}
 use Rattle.wb_numbering.specs.Files.{File}
-use Rattle.wb_numbering.specs.Resolves.{IsScanned, IsInGrammarOf, IsConcrete, IsGrammarRow}
+use Rattle.wb_naming.specs.NamesOk.{NamesOk}
+use Rattle.wb_numbering.specs.Resolves.{Resolves, IsScanned, IsInGrammarOf, IsConcrete, IsGrammarRow}
 use Rattle.wb_numbering.specs.Sources.{sources, AreGrouped}
 use Rattle.wb_rows.specs.declared.moves.Moves.{Moves}
 use Rattle.wb_rows.specs.declared.scope.Scope.{Scope}
@@ -20,6 +21,7 @@ use Rattle.wb_names.specs.declared.rows.Written.{Written}
 use Rattle.wb_names.specs.Inner.Ground.{AreNumbers, IsNameOf}
 use Rattle.wb_names.specs.Inner.Now.{AreGroupedBy, IsTerminalNow, IsNonterminalNow, IsProductionNow}
 use Rattle.wb_names.specs.Inner.Rest.{AreRest}
+use Rattle.wb_names.specs.Resolving.{file_scope}
 
 -- productions, of which so many are concrete, and what else is written
 pub record AreWritten (file : File) (s : Scope) (m : Moves) (written : Written) : Type 0 where
@@ -70,6 +72,11 @@ made_value rows host extensions signatures grammar = record {
 abbrev pub value_of : File → Rows → Option GrammarView → ResolvedParts
 value_of file rows grammar =
     made_value rows file.base.host file.extensions (map (signature_of file.extensions) rows.written.productions.items) grammar
+
+-- the file's names are right, and it stands for this value
+pub record IsValueOf (file : File) (r : ResolvedParts) : Type 0 where
+  pub names : NamesOk (file_scope file)
+  pub value : Resolves file r
 
 -- the grammar of the first rows, where there is a start
 pub record IsGrammarFor (rows : Rows) (grammar : Option GrammarView) : Type 0 where

@@ -4,7 +4,7 @@ use Rattle.wb_syntax.specs.declared.pattern.Pattern.{Pattern}
 use Rattle.wb_names.specs.Inner.Names.{form_forwarder}
 use Rattle.wb_names.proofs.forwards.forwarders_of.Goals as goal
 
-pub returns : goal.returns
-returns c =
-    c.in_ok-add_forwarders.ensures
+pub returns-in-Ok : goal.returns-in-Ok
+returns-in-Ok c =
+    c.in-Ok.ensures
     ∙ ap (λ z. z ++ map (λ (item : Item Pattern). form_forwarder item.form) c.args.items.now) c.new-names.ensures

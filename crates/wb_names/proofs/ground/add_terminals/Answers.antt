@@ -1,16 +1,26 @@
-use Rattle.std.proofs.Common.{List, subst}
-use Rattle.std.proofs.lemmas.Result.{on_ok_weaker}
+use Rattle.std.proofs.Common.{◌≡◌, ◌++◌, ℕ, List, length, subst}
 use Rattle.wb_resolved.specs.declared.terminal.Terminal.{Terminal}
+use Rattle.wb_naming.specs.Declarations.{lexicals}
+use Rattle.wb_numbering.specs.Resolves.{IsScanned}
+use Rattle.wb_numbering.specs.Sources.{sources}
 use Rattle.wb_rows.specs.Terminals.{AddsTerminals, IsCopy, has_scanned}
 use Rattle.wb_names.specs.Inner.Lent.{lent_file}
+use Rattle.wb_names.specs.Inner.Now.{AreGroupedBy, IsTerminalNow}
+use Rattle.wb_names.proofs.JoinedLemmas.{joined, ok_both}
 use Rattle.wb_names.proofs.RowsNamed.{terminals_now}
 use Rattle.wb_names.proofs.ground.add_terminals.Goals as goal
 
 pub returns : goal.returns
 returns c =
-    on_ok_weaker c.add_declared.result
-    (λ declared. terminals_now (lent_file c.args.file.now) c.args.made.now c.add_base.new.made c.add_declared.new.made c.requires.scanned
-    c.requires.layout
+    let file = lent_file c.args.file.now in
+    let words = sources file.base.terminals (lexicals file.items) in
+    let made = c.add_declared.new.made in
+    let both = made.scanned.items ++ made.layout.items in
+    let now = terminals_now file c.args.made.now c.add_base.new.made made c.requires.scanned c.requires.layout
     (subst (λ (z : List Terminal). AddsTerminals has_scanned IsCopy z c.args.made.now c.add_base.new.made) c.as_slice.ensures
-    c.in_ok-add_base.ensures) declared)
-    c.add_declared.ensures
+    c.in_ok-add_base.ensures) c.in_ok-add_declared.ensures in
+    ok_both c.join.result (λ (count : ℕ). count ≡ length made.scanned.items) (λ (count : ℕ). c.join.new.leading.items ≡ both)
+    (λ (count : ℕ). AreGroupedBy count IsScanned (IsTerminalNow file) words c.join.new.leading.items)
+    (λ count counted all. joined IsScanned (IsTerminalNow file) words count (length made.scanned.items) c.join.new.leading.items both
+    counted all now)
+    c.join.ensures.count c.join.ensures.joined

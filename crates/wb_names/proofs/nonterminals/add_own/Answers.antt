@@ -8,8 +8,8 @@ use Rattle.wb_names.proofs.AttributesThere.{needs_there}
 use Rattle.wb_names.proofs.OnceNames.{once_right}
 use Rattle.wb_names.proofs.nonterminals.add_own.Goals as goal
 
-pub add_declared-requires : goal.add_declared-requires
-add_declared-requires c = record {
+pub add_declared-added-requires : goal.add_declared-added-requires
+add_declared-added-requires c = record {
   are = c.in_ok-forwarders.ensures;
   once = once_right (base_declarations c.args.file.now.base.now) (item_declarations c.args.file.now.items.now) c.requires.hold.once;
   names = c.requires.file.names;

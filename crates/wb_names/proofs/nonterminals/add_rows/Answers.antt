@@ -1,7 +1,7 @@
-use Rattle.std.proofs.Common.{◌≡◌, ◌⊎◌, List, ℕ, Some, true, Contains, slice_get, ap, sym, subst, ◌∙◌, refl}
+use Rattle.std.proofs.Common.{◌≡◌, ◌⊎◌, List, ℕ, Some, true, Contains, slice_get, ap, subst, ◌∙◌, refl}
 use Rattle.std.specs.Prelude.{◌↔◌}
 use Rattle.std.proofs.lemmas.List.{take_all}
-use Rattle.wb_lemmas.proofs.Places.{read_at, at_once}
+use Rattle.wb_lemmas.proofs.Places.{read_at}
 use Rattle.wb_resolved.specs.declared.attributes.Nonterminal.{Nonterminal}
 use Rattle.wb_resolved.specs.declared.attribution.AttributionParts.{AttributionParts}
 use Rattle.wb_numbering.specs.Files.{IsInGrammar}
@@ -21,25 +21,21 @@ loop-number-preserved c =
     let rows = c.as_slice-rows.result.now in
     let k = c.loop-number.number in
     let P = λ (x : Nonterminal). IsInGrammar file x.name in
-    let one = c.index-rows-number.result in
-    let x = c.index-rows-number-in-loop-number.result in
-    let at_one : slice_get rows k ≡ Some one = read_at rows rows k one refl c.loop-number-test.true c.index-rows-number.is in
-    let at : slice_get rows k ≡ Some x = read_at rows rows k x refl c.loop-number-test.true c.index-rows-number-in-loop-number.is in
-    let same : one ≡ x = at_once rows k one x at_one at in
+    let x = c.index-rows-number.result in
+    let at : slice_get rows k ≡ Some x = read_at rows rows k x refl c.loop-number-test.true c.index-rows-number.is in
     let read : rows ≡ c.args.file.now.base.now.attributes.nonterminals =
     c.as_slice-rows.ensures ∙ ap (λ (z : AttributionParts). z.nonterminals) c.parts.ensures.parts in
     let listed : slice_get file.base.attributes.nonterminals k ≡ Some x =
     subst (λ (z : List Nonterminal). slice_get z k ≡ Some x) read at in
-    let named = c.as_slice.ensures ∙ ap (λ (z : Nonterminal). z.name) (sym c.index-rows-number.is ∙ same) in
     let leads = subst (λ (z : List ℕ). (c.is_marked_or_there-leads.result ≡ true)
     ↔ (IsMarked c.args.flags.now k ⊎ Contains c.args.grammar.now z))
-    named c.is_marked_or_there-leads.ensures in
-    apart_more P IsSame rows k x c.args.made.now c.loop-number.made c.add.new.made c.loop-number.invariant c.loop-number-test.true
-    c.index-rows-number-in-loop-number.is
-    (apart_row P IsSame c.is_marked_or_there-leads.result x c.in_ok-copied.field-0 c.loop-number.made c.add.new.made
+    c.as_slice.ensures c.is_marked_or_there-leads.ensures in
+    apart_more P IsSame rows k x c.args.made.now c.loop-number.made c.add_copy.new.made c.loop-number.invariant c.loop-number-test.true
+    c.index-rows-number.is
+    (apart_row P IsSame c.is_marked_or_there-leads.result x x c.loop-number.made c.add_copy.new.made
     (λ e. told file c.args.flags.now c.requires.flags c.args.grammar.now c.requires.grammar k x listed (leads.0 e))
     (λ p. leads.1 (told_back file c.args.flags.now c.requires.flags c.args.grammar.now c.requires.grammar k x listed p))
-    c.in_ok-copied.ensures c.in_ok-add.ensures)
+    refl c.in_ok-add_copy.ensures)
 
 pub returns : goal.returns
 returns c =

@@ -12,8 +12,8 @@ pub labels_of-requires : goal.labels_of-requires
 labels_of-requires c =
     let at = c.places_of-places.ensures c.args.context.now.file.items.now c.requires.context.writers in at.within
 
-pub add_all-requires : goal.add_all-requires
-add_all-requires c =
+pub add_all-added-requires : goal.add_all-added-requires
+add_all-added-requires c =
     let context = c.args.context.now in
     let items = context.file.items.now in
     let name = c.args.name.now in
@@ -33,6 +33,6 @@ returns c =
     let at = c.places_of-places.ensures items c.requires.context.writers in
     let names = labels_by_places items name places c.args.children.now c.deref.result.now c.args.body.now.locals.items
     c.in_ok-labels.labels.names c.in_ok-labels.ensures.names c.deref.ensures.value at in
-    on_ok_weaker c.add_all.result (λ adds.
-    written_body context.scope.now c.args.children.now items name places c.args.body.now c.add_all.new.body c.in_ok-labels.labels names
-    c.in_ok-labels.ensures.count at adds) c.add_all.ensures
+    on_ok_weaker c.add_all-added.result (λ adds.
+    written_body context.scope.now c.args.children.now items name places c.args.body.now c.add_all-added.new.body c.in_ok-labels.labels names
+    c.in_ok-labels.ensures.count at adds) c.add_all-added.ensures

@@ -37,19 +37,19 @@ add_written-requires-clause-labels c =
     (base_known file c.requires.context.hold.once context.moves.now p c.args.children.now c.in_ok-locals.locals.items c.requires.there
     c.requires.children locals)
 
-pub returns : goal.returns
-returns c =
+pub returns-in-Ok-add_written : goal.returns-in-Ok-add_written
+returns-in-Ok-add_written c =
     let context = c.args.context.now in
     let file = file_of context in
     let m = context.moves.now in
     let moved : Body =
-    record { locals = c.in_ok-locals.locals; forwards = c.new.result; equations = c.in_ok-equations.equations } in
+    record { locals = c.in_ok-locals.locals; forwards = c.new.result; equations = c.in-Ok.equations } in
     record {
       moved = moved;
       locals = subst (λ (z : List Local). AllZip (IsLocalNow m) z c.in_ok-locals.locals.items) c.as_slice.ensures c.in_ok-locals.ensures;
-      equations = subst (λ (z : List Equation). AllZip (IsEquationNow m) z c.in_ok-equations.equations.items) c.as_slice-2.ensures
-          c.in_ok-equations.ensures;
+      equations = subst (λ (z : List Equation). AllZip (IsEquationNow m) z c.in-Ok.equations.items) c.as_slice-2.ensures
+          c.in-Ok.ensures;
       written = subst
           (λ (z : List ℕ). IsWritten context.scope.now c.args.children.now (equations_on z file.items) moved c.add_written.new.body)
-          c.as_slice-3.ensures c.in_ok-add_written.ensures;
+          c.as_slice-3.ensures c.in-Ok-add_written.ensures;
     }

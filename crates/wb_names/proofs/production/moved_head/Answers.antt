@@ -19,11 +19,11 @@ moved_children-requires c =
     (children_within (file_of context) context.scope.now context.moves.now c.requires.context.numbers.tables c.requires.context.file.base
     c.args.production.now c.requires.there)
 
-pub returns : goal.returns
-returns c =
+pub returns-in-Ok-moved_children : goal.returns-in-Ok-moved_children
+returns-in-Ok-moved_children c =
     let m = c.args.context.now.moves.now in
     record {
-      name = c.in_ok-copy.ensures.ok;
-      children = subst (λ (z : List Child). AllZip (IsChildNow m) z c.in_ok-children.children) c.as_slice.ensures c.in_ok-children.ensures;
-      forward = c.in_ok-forward.ensures;
+      name = c.in_ok-name.ensures.ok;
+      children = subst (λ (z : List Child). AllZip (IsChildNow m) z c.in-Ok-moved_children.children) c.as_slice.ensures c.in-Ok-moved_children.ensures;
+      forward = c.in-Ok.ensures;
     }

@@ -6,12 +6,12 @@ use Rattle.wb_resolved.specs.declared.attribution.AttributionParts.{AttributionP
 use Rattle.wb_resolved.specs.declared.production.Production.{Production}
 use Rattle.wb_names.specs.Inner.Bodies.{file_of}
 use Rattle.wb_names.specs.Inner.Now.{IsExtendedNow}
-use Rattle.wb_names.specs.Inner.Rows.{AddsProductions, has_concrete, is_concrete}
-use Rattle.wb_names.proofs.ProductionsGrouped.{nothing_added, one_added}
+use Rattle.wb_names.specs.Inner.Rows.{AddsProductions, has_concrete}
+use Rattle.wb_names.proofs.ProductionsGrouped.{nothing_added, next_added}
 use Rattle.wb_names.proofs.productions.add_base.Goals as goal
 
-pub extended-requires-clause-there : goal.extended-requires-clause-there
-extended-requires-clause-there c =
+pub add_extended-requires-clause-there : goal.add_extended-requires-clause-there
+add_extended-requires-clause-there c =
     let rows = c.as_slice-productions.result.now in
     let i = c.loop-production.production-index in
     let x = c.production-item.result in
@@ -34,9 +34,8 @@ loop-production-preserved c =
     c.as_slice-productions.ensures ∙ ap (λ (a : AttributionParts). a.productions) c.parts.ensures.parts in
     let within : i < length all = subst (λ (z : List Production). i < length z) same c.loop-production-test.true in
     let is : x ≡ get_or all i x = subst (λ (z : List Production). x ≡ get_or z i x) same c.production-item.is in
-    let holds = c.in_ok-row.ensures in
-    one_added has_concrete (IsExtendedNow (file_of context) context.scope.now context.moves.now) all i x c.in_ok-row.row c.args.made.now
-    c.loop-production.made c.add.new.made c.loop-production.invariant within is (ap is_concrete holds.role) holds c.in_ok-add.ensures
+    next_added has_concrete (IsExtendedNow (file_of context) context.scope.now context.moves.now) all i x c.args.made.now
+    c.loop-production.made c.add_extended.new.made c.loop-production.invariant within is c.in_ok-add_extended.ensures
 
 pub returns : goal.returns
 returns c =

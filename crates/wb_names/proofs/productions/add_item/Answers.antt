@@ -8,12 +8,12 @@ use Rattle.wb_naming.specs.Declarations.{ProductionDeclaration, production_of}
 use Rattle.wb_numbering.proofs.OwnDeclared.{kept}
 use Rattle.wb_names.specs.Inner.Bodies.{file_of}
 use Rattle.wb_names.specs.Inner.Now.{IsDeclaredNow}
-use Rattle.wb_names.specs.Inner.Rows.{AddsProductions, declares_concrete, is_concrete}
-use Rattle.wb_names.proofs.ProductionsGrouped.{no_production, nothing_added, row_added}
+use Rattle.wb_names.specs.Inner.Rows.{AddsProductions, declares_concrete}
+use Rattle.wb_names.proofs.ProductionsGrouped.{no_production, nothing_added}
 use Rattle.wb_names.proofs.productions.add_item.Goals as goal
 
-pub declared-requires-clause-there : goal.declared-requires-clause-there
-declared-requires-clause-there c =
+pub add_own-requires-clause-there : goal.add_own-requires-clause-there
+add_own-requires-clause-there c =
     let x : ProductionDeclaration = record { role = c.in-Production.role; production = c.in-Production.production } in
     kept (λ (z : Item Pattern). production_of z.form) c.args.context.now.file.items.now c.args.item.now x c.requires.there
     (ap production_of c.in-Production.is)
@@ -29,8 +29,5 @@ pub returns : goal.returns
 returns c =
     let context = c.args.context.now in
     let R = IsDeclaredNow (file_of context) context.scope.now context.moves.now in
-    let x : ProductionDeclaration = record { role = c.in-Production.role; production = c.in-Production.production } in
-    let holds = c.in_ok-row.ensures in
-    on_ok_weaker c.add.result (λ added. subst (λ (z : ItemForm Pattern). AddsProductions declares_concrete R (option_to_list
-    (production_of z)) c.args.made.now c.add.new.made) (sym c.in-Production.is)
-    (row_added declares_concrete R x c.in_ok-row.row c.args.made.now c.add.new.made (ap is_concrete holds.role) holds added)) c.add.ensures
+    on_ok_weaker c.add_own.result (λ added. subst (λ (z : ItemForm Pattern). AddsProductions declares_concrete R (option_to_list
+    (production_of z)) c.args.made.now c.add_own.new.made) (sym c.in-Production.is) added) c.add_own.ensures

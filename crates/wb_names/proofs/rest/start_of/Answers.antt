@@ -1,7 +1,8 @@
-use Rattle.std.proofs.Common.{ℕ, subst}
+use Rattle.std.proofs.Common.{◌<◌, ℕ, length, subst, sym}
 use Rattle.std.specs.Prelude.{option_to_list}
 use Rattle.wb_rows.specs.Moves.{IsNow}
 use Rattle.wb_names.specs.Inner.Lent.{lent_file}
+use Rattle.wb_names.proofs.RestLemmas.{start_within, tables_of}
 use Rattle.wb_names.proofs.RestStart.{start_before, start_declared}
 use Rattle.wb_names.proofs.StartLemmas.{starts_few, starts_there}
 use Rattle.wb_names.proofs.rest.start_of.Goals as goal
@@ -24,3 +25,10 @@ pub returns-in-None : goal.returns-in-None
 returns-in-None c =
     start_declared (lent_file c.args.file.now) c.args.scope.now c.args.moves.now c.in-None.is (option_to_list c.written_start.result)
     c.written_start.ensures
+
+pub moved_number-requires : goal.moved_number-requires
+moved_number-requires c =
+    let file = lent_file c.args.file.now in
+    let m = c.args.moves.now in
+    subst (λ (z : ℕ). z < length m.nonterminals.items) (sym c.start.ensures.start)
+    (start_within file.base m c.requires.file.base (tables_of file c.args.scope.now m c.requires.numbers) c.in-Some.grammar c.in-Some.is)

@@ -16,8 +16,8 @@ returns c =
     let items = c.args.file.now.items.now in
     let rows : names c.as_slice.result.now ≡ names base.attributes =
     ap names (c.as_slice.ensures ∙ ap (λ (z : AttributionParts). z.attributes) c.parts.ensures.parts) in
-    let before : c.add_attributes.new.names ≡ names base.attributes =
-    c.in_ok-add_attributes.ensures ∙ (ap (λ (z : List (List ℕ)). z ++ names c.as_slice.result.now) c.requires ∙ rows) in
+    let before : c.add_names.new.names ≡ names base.attributes =
+    c.in_ok-add_names.ensures ∙ (ap (λ (z : List (List ℕ)). z ++ names c.as_slice.result.now) c.requires ∙ rows) in
     on_ok_weaker c.add_declared_attributes.result
     (λ e. e ∙ (ap (λ (z : List (List ℕ)). z ++ flat_map (λ (item : Item Pattern). form_attributes item.form) items) before
     ∙ ap (λ (z : List (List ℕ)). names base.attributes ++ z) (sym (attributes_flat items))))

@@ -1,0 +1,56 @@
+-- What is made of the file of a host or of an extension is made of its specification, and its refusals are the specification's.
+use Rattle.std.proofs.Common.{◌≡◌, inr, Result, IfErr, subst}
+use Rattle.std.specs.Prelude.{IfOk}
+use Rattle.std.proofs.lemmas.Result.{IfErr-weaker, IfOk-weaker}
+use Rattle.wb_resolved.specs.declared.resolved.ResolvedParts.{ResolvedParts}
+use Rattle.wb_syntax.specs.SpecText.{SpecView}
+use Rattle.wb_syntax.specs.declared.header.Header.TheVariants as h
+use Rattle.wb_naming.specs.Refusals.{IsTrueRefusal}
+use Rattle.wb_naming.specs.declared.refusal.NameRefusal.{NameRefusal}
+use Rattle.wb_naming.specs.declared.refusal.NameRefusal.TheVariants as n
+use Rattle.wb_numbering.specs.Files.{File}
+use Rattle.wb_names.specs.Resolving.{IsExtensionNameRefusal, IsHostNameRefusal, ResolvesExtension, ResolvesHost}
+use Rattle.wb_names.specs.Resolving.{extension_file, file_scope, host_file}
+use Rattle.wb_names.specs.Inner.Value.{IsValueOf}
+
+module _ (spec : SpecView) (file : File) (r : Result ResolvedParts NameRefusal) where
+  pub host_made : spec.header ≡ h.Host → file ≡ host_file spec → IfOk r (IsValueOf file) → IfOk r (ResolvesHost spec)
+  host_made header is = IfOk-weaker r (IsValueOf file) (ResolvesHost spec) (λ made value.
+      let moved = subst (λ (z : File). IsValueOf z made) is value in
+      record { header = header; names = moved.names; value = moved.value })
+
+  pub host_refused : spec.header ≡ h.Host → file ≡ host_file spec → IfErr r (IsTrueRefusal (file_scope file))
+      → IfErr r (IsHostNameRefusal spec)
+  host_refused header is = IfErr-weaker r (IsTrueRefusal (file_scope file)) (IsHostNameRefusal spec) (λ e true. of e (moved e true)) where
+    moved : (e : NameRefusal) → IsTrueRefusal (file_scope file) e → IsTrueRefusal (file_scope (host_file spec)) e
+    moved e true = subst (λ (z : File). IsTrueRefusal (file_scope z) e) is true
+
+    of : (e : NameRefusal) → IsTrueRefusal (file_scope (host_file spec)) e → IsHostNameRefusal spec e
+    of (n.NoMemory error) true = tt
+    of (n.Unknown name) true = inr (header, true)
+    of (n.Duplicate name) true = inr (header, true)
+    of (n.Orphan name) true = inr (header, true)
+    of (n.WrongKind name) true = inr (header, true)
+    of (n.WrongHost name) true = absurd true
+
+  module _ (host : ResolvedParts) where
+    pub extension_made : spec.header ≡ h.Extension host.host → file ≡ extension_file host spec → IfOk r (IsValueOf file)
+        → IfOk r (ResolvesExtension host spec)
+    extension_made header is = IfOk-weaker r (IsValueOf file) (ResolvesExtension host spec) (λ made value.
+        let moved = subst (λ (z : File). IsValueOf z made) is value in
+        record { header = header; names = moved.names; value = moved.value })
+
+    pub extension_refused : spec.header ≡ h.Extension host.host → file ≡ extension_file host spec
+        → IfErr r (IsTrueRefusal (file_scope file)) → IfErr r (IsExtensionNameRefusal host spec)
+    extension_refused header is =
+        IfErr-weaker r (IsTrueRefusal (file_scope file)) (IsExtensionNameRefusal host spec) (λ e true. of e (moved e true)) where
+          moved : (e : NameRefusal) → IsTrueRefusal (file_scope file) e → IsTrueRefusal (file_scope (extension_file host spec)) e
+          moved e true = subst (λ (z : File). IsTrueRefusal (file_scope z) e) is true
+
+          of : (e : NameRefusal) → IsTrueRefusal (file_scope (extension_file host spec)) e → IsExtensionNameRefusal host spec e
+          of (n.NoMemory error) true = tt
+          of (n.Unknown name) true = inr (inr (header, true))
+          of (n.Duplicate name) true = inr (inr (header, true))
+          of (n.Orphan name) true = inr (inr (header, true))
+          of (n.WrongKind name) true = inr (inr (header, true))
+          of (n.WrongHost name) true = absurd true
