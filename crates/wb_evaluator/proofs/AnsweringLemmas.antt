@@ -1,6 +1,7 @@
 -- How an evaluation ends, and how far it is from its end.
-use Rattle.std.proofs.Common.{get_or, ◌≡◌, ◌∙◌, ◌≤◌, ◌<◌, ◌+◌, ◌*◌, ◌-◌, ℕ, suc, List, [], ◌∷◌, Option, Some, None, length, refl, sym, ap, subst, arith}
-use Rattle.std.proofs.lemmas.List.{get_or_append_left}
+use Rattle.std.proofs.Common.{get_or, ◌≡◌, ◌∙◌, ◌≤◌, ◌<◌, ◌+◌, ◌*◌, ◌-◌, ℕ, suc, List, [], ◌∷◌, Option, Some, None, length, refl, sym, ap}
+use Rattle.std.proofs.Common.{subst, arith}
+use Rattle.std.proofs.lemmas.List.{get_or_append_left, length-append}
 use Rattle.std.proofs.lemmas.Option.{slice_get_within}
 use Rattle.wb_operations.specs.Operations.{Operations}
 use Rattle.wb_resolved.specs.declared.attribution.AttributionParts.{AttributionParts}
@@ -11,7 +12,10 @@ use Rattle.wb_values.specs.ValuesIn.{tree_in, value_in, IsIn}
 use Rattle.wb_evaluation.specs.Instances.{Instance}
 use Rattle.wb_evaluation.specs.Needed.{IsNeeded, itself, NeedsMoreThan}
 use Rattle.wb_evaluation.specs.Walks.{done, value, fault}
+use Rattle.wb_evaluator.proofs.BackLemmas.{back}
 use Rattle.wb_evaluator.proofs.LeaveLemmas.{named_length}
+use Rattle.wb_evaluator.proofs.StartLemmas.{stack_some}
+use Rattle.wb_evaluator.proofs.StepLemmas.{entered}
 use Rattle.wb_evaluator.proofs.MachineLemmas.{ends_value, ends_faulted, too_many, not_more}
 use Rattle.wb_evaluator.specs.declared.evaluated.Evaluated.{Evaluated}
 use Rattle.wb_evaluator.specs.declared.evaluated.Evaluated.TheVariants as evaluated
@@ -19,19 +23,19 @@ use Rattle.wb_evaluator.specs.declared.machine.Key.{Key}
 use Rattle.wb_evaluator.specs.declared.machine.Machine.{Machine}
 use Rattle.wb_evaluator.specs.Evaluates.{IsValue, IsFault, AsksMore}
 use Rattle.wb_evaluator.specs.Inner.Answering.{GoesOn, IsAnswered, IsTurned, IsLeftWith, IsEnteredWithin}
-use Rattle.wb_evaluator.specs.Inner.Machines.{IsMachine, IsSame, Runs, Wants}
+use Rattle.wb_evaluator.specs.Inner.Machines.{IsMachine, IsBlank, IsSame, Runs, Wants}
 use Rattle.wb_evaluator.specs.Inner.State.{IsState, start}
 use Rattle.wb_evaluator.specs.Inner.Works.{IsExtended}
 
 module _ (a : AttributionParts) (operations : Operations) (trees : List Tree) (m : Machine) where
   -- the value of the first instance
   pub answers_value : (v : Value) (steps : ℕ) → Runs a operations trees m (done (value (value_in trees v))) → IsIn (length trees) v
-      → length m.stack.items ≡ 1 → m.entered ≤ steps → IsAnswered a operations trees m steps (evaluated.Value v)
+      → length m.stack.items ≡ 1 → m.entered ≤ steps → IsAnswered a operations trees m.root m.attribute steps (evaluated.Value v)
   answers_value v steps runs inside one le = by_waiting r.waiting refl where
     r : IsMachine a operations trees m
     r = runs.machine
 
-    by_waiting : (w : List Instance) → r.waiting ≡ w → IsAnswered a operations trees m steps (evaluated.Value v)
+    by_waiting : (w : List Instance) → r.waiting ≡ w → IsAnswered a operations trees m.root m.attribute steps (evaluated.Value v)
     by_waiting (j ∷ js) is = absurd (let h = named_length m.memo m.stack.items [] (r.this ∷ r.waiting) r.stack in
         let l = ap length is in omega (arith, h, one, l))
     by_waiting [] is =
@@ -40,14 +44,15 @@ module _ (a : AttributionParts) (operations : Operations) (trees : List Tree) (m
         let count = r.counted in
         let within = not_more a operations r.top m.attribute r.all steps all_needed (omega (arith, count, le)) in
         record {
-          value = subst (λ (t : Tree). IsValue a operations t m.attribute steps trees (evaluated.Value v)) (sym r.root_is) (answer, inside, within);
+          value = subst (λ (t : Tree). IsValue a operations t m.attribute steps trees (evaluated.Value v)) (sym r.root_is)
+              (answer, inside, within);
           fault = record {};
           more = record {};
         }
 
   -- a fault is that of the first instance
   pub answers_fault : (operation code steps : ℕ) → Runs a operations trees m (done (fault operation code)) → m.entered ≤ steps
-      → IsAnswered a operations trees m steps (evaluated.Fault operation code)
+      → IsAnswered a operations trees m.root m.attribute steps (evaluated.Fault operation code)
   answers_fault operation code steps runs le =
       let r = runs.machine in
       let (answer, all_needed) = ends_faulted a operations r.top m.attribute r.state runs.come in
@@ -55,13 +60,14 @@ module _ (a : AttributionParts) (operations : Operations) (trees : List Tree) (m
       let within = not_more a operations r.top m.attribute r.all steps all_needed (omega (arith, count, le)) in
       record {
         value = record {};
-        fault = subst (λ (t : Tree). IsFault a operations t m.attribute steps (evaluated.Fault operation code)) (sym r.root_is) (answer, within);
+        fault = subst (λ (t : Tree). IsFault a operations t m.attribute steps (evaluated.Fault operation code)) (sym r.root_is)
+            (answer, within);
         more = record {};
       }
 
   -- one more is needed than there are steps
   pub answers_more : (k : Key) (steps : ℕ) → Wants a operations trees m k → steps ≤ m.entered
-      → IsAnswered a operations trees m steps evaluated.MoreSteps
+      → IsAnswered a operations trees m.root m.attribute steps evaluated.MoreSteps
   answers_more k steps w le =
       let r = w.runs.machine in
       let count = r.counted in
@@ -74,17 +80,20 @@ module _ (a : AttributionParts) (operations : Operations) (trees : List Tree) (m
 
 -- another machine that asks the same
 pub answered_before : (a : AttributionParts) (operations : Operations) (trees : List Tree) (old m : Machine) (steps : ℕ) (e : Evaluated)
-    → m.root ≡ old.root → m.attribute ≡ old.attribute → IsAnswered a operations trees m steps e → IsAnswered a operations trees old steps e
-answered_before a operations trees old m steps e root_is attribute_is h = record {
-  value = at_old (λ (id : TreeId) (y : ℕ). IsValue a operations (tree_in trees id.0) y steps trees e) h.value;
-  fault = at_old (λ (id : TreeId) (y : ℕ). IsFault a operations (tree_in trees id.0) y steps e) h.fault;
-  more = at_old (λ (id : TreeId) (y : ℕ). AsksMore a operations (tree_in trees id.0) y steps e) h.more;
-} where
-  at_old : (P : TreeId → ℕ → Type 0) → P m.root m.attribute → P old.root old.attribute
-  at_old P p = subst (P old.root) attribute_is (subst (λ (id : TreeId). P id m.attribute) root_is p)
+    → m.root ≡ old.root → m.attribute ≡ old.attribute → IsAnswered a operations trees m.root m.attribute steps e
+    → IsAnswered a operations trees old.root old.attribute steps e
+answered_before a operations trees old m steps e root_is attribute_is h =
+    subst (λ (y : ℕ). IsAnswered a operations trees old.root y steps e) attribute_is
+    (subst (λ (id : TreeId). IsAnswered a operations trees id m.attribute steps e) root_is h)
+
+pub answered_as : {a : AttributionParts} {operations : Operations} {trees : List Tree} (m : Machine) (id : TreeId) (y steps : ℕ)
+    (e : Evaluated) → IsBlank id y m → IsAnswered a operations trees m.root m.attribute steps e → IsAnswered a operations trees id y steps e
+answered_as {a} {operations} {trees} m id y steps e blank h =
+    subst (λ (z : ℕ). IsAnswered a operations trees id z steps e) blank.attribute_is
+    (subst (λ (i : TreeId). IsAnswered a operations trees i m.attribute steps e) blank.root_is h)
 
 pub answered_same : (a : AttributionParts) (operations : Operations) (trees : List Tree) (old m : Machine) (steps : ℕ) (e : Evaluated)
-    → IsSame old m → IsAnswered a operations trees m steps e → IsAnswered a operations trees old steps e
+    → IsSame old m → IsAnswered a operations trees m.root m.attribute steps e → IsAnswered a operations trees old.root old.attribute steps e
 answered_same a operations trees old m steps e same h = answered_before a operations trees old m steps e same.root same.attribute h
 
 -- after an instance is left
@@ -122,18 +131,21 @@ goes_entered a operations trees old m new steps same whole root attribute count_
 -- a turn in which the instance at work has its value
 pub left_turned : (a : AttributionParts) (operations : Operations) (trees : List Tree) (old m new : Machine) (steps : ℕ) (v : Value)
     → IsSame old m → old.entered ≤ steps → Runs a operations trees m (done (value (value_in trees v))) → IsIn (length trees) v
-    → (r : Option Evaluated) → IsLeftWith a operations trees m new v r → IsTurned a operations trees old new steps r
-left_turned a operations trees old m new steps v same le runs inside None b =
+    → (r : Option Evaluated) → IsLeftWith m new v r → IsTurned a operations trees old new steps r
+left_turned a operations trees old m new steps v same le runs inside None (popped, others) =
+    let some = stack_some runs.machine in
+    let b = back a operations trees m v runs inside new popped (omega (arith, some, others)) in
     goes_left a operations trees old m new steps same b.whole b.root b.attribute b.entered b.stack le
 left_turned a operations trees old m new steps v same le runs inside (Some e) (is, one) =
     let counts = same.entered in
-    subst (IsAnswered a operations trees old steps) (sym is) (answered_same a operations trees old m steps (evaluated.Value v) same
+    subst (IsAnswered a operations trees old.root old.attribute steps) (sym is)
+    (answered_same a operations trees old m steps (evaluated.Value v) same
     (answers_value a operations trees m v steps runs inside one (omega (arith, counts, le))))
 
 -- one in which it has a fault
 pub fault_turned : (a : AttributionParts) (operations : Operations) (trees : List Tree) (old m : Machine) (steps operation code : ℕ)
     → IsSame old m → old.entered ≤ steps → Runs a operations trees m (done (fault operation code))
-    → IsAnswered a operations trees old steps (evaluated.Fault operation code)
+    → IsAnswered a operations trees old.root old.attribute steps (evaluated.Fault operation code)
 fault_turned a operations trees old m steps operation code same le runs =
     let counts = same.entered in
     answered_same a operations trees old m steps (evaluated.Fault operation code) same
@@ -142,12 +154,15 @@ fault_turned a operations trees old m steps operation code same le runs =
 -- one in which it reads an instance that wasn't entered
 pub entered_turned : (a : AttributionParts) (operations : Operations) (trees : List Tree) (old m new : Machine) (steps : ℕ) (k : Key)
     → IsSame old m → Wants a operations trees m k
-    → (r : Option Evaluated) → IsEnteredWithin a operations trees m new steps r → IsTurned a operations trees old new steps r
+    → (r : Option Evaluated) → IsEnteredWithin m new k steps r → IsTurned a operations trees old new steps r
 entered_turned a operations trees old m new steps k same wants None (h, lt) =
-    goes_entered a operations trees old m new steps same h.whole h.root h.attribute h.entered h.stack lt
+    let whole = entered a operations trees m k new wants h.memo h.root h.attribute h.stack h.entered h.frames h.piled in
+    let count = length-append m.stack.items (k ∷ []) in
+    let more = ap length h.stack in
+    goes_entered a operations trees old m new steps same whole h.root h.attribute h.entered (omega (arith, count, more)) lt
 entered_turned a operations trees old m new steps k same wants (Some e) (is, le) =
-    subst (IsAnswered a operations trees old steps) (sym is) (answered_same a operations trees old m steps evaluated.MoreSteps same
-    (answers_more a operations trees m k steps wants le))
+    subst (IsAnswered a operations trees old.root old.attribute steps) (sym is)
+    (answered_same a operations trees old m steps evaluated.MoreSteps same (answers_more a operations trees m k steps wants le))
 
 -- the tree of the root in a store with more
 pub root_extended : (first second : List Tree) (id : ℕ) → IsExtended first second → id < length first → tree_in second id ≡ tree_in first id
@@ -155,25 +170,18 @@ root_extended first second id (more, is) lt =
     ap (λ (l : List Tree). tree_in l id) is ∙ get_or_append_left first more (node 0 empty) id lt
 
 -- what it asks of the first store
-pub answered_at : (a b : AttributionParts) → a ≡ b → (operations : Operations) (first trees : List Tree) (m : Machine) (id : TreeId)
-    (y steps : ℕ) (e : Evaluated) → m.root ≡ id → m.attribute ≡ y → IsExtended first trees → id.0 < length first
-    → IsAnswered a operations trees m steps e
+pub answered_at : (a b : AttributionParts) → a ≡ b → (operations : Operations) (first trees : List Tree) (id : TreeId) (y steps : ℕ)
+    (e : Evaluated) → IsExtended first trees → id.0 < length first → IsAnswered a operations trees id y steps e
     → IsValue b operations (tree_in first id.0) y steps trees e × IsFault b operations (tree_in first id.0) y steps e
     × AsksMore b operations (tree_in first id.0) y steps e
-answered_at a b same operations first trees m id y steps e root_is attribute_is extended lt h = (value, fault, more) where
-  at_first : (P : AttributionParts → Tree → ℕ → Type 0) → P a (tree_in trees m.root.0) m.attribute → P b (tree_in first id.0) y
-  at_first P p = subst (λ (c : AttributionParts). P c (tree_in first id.0) y) same
-      (subst (λ (t : Tree). P a t y) (root_extended first trees id.0 extended lt)
-      (subst (λ (i : TreeId). P a (tree_in trees i.0) y) root_is (subst (P a (tree_in trees m.root.0)) attribute_is p)))
-
-  value : IsValue b operations (tree_in first id.0) y steps trees e
-  value = at_first (λ (c : AttributionParts) (t : Tree) (z : ℕ). IsValue c operations t z steps trees e) h.value
-
-  fault : IsFault b operations (tree_in first id.0) y steps e
-  fault = at_first (λ (c : AttributionParts) (t : Tree) (z : ℕ). IsFault c operations t z steps e) h.fault
-
-  more : AsksMore b operations (tree_in first id.0) y steps e
-  more = at_first (λ (c : AttributionParts) (t : Tree) (z : ℕ). AsksMore c operations t z steps e) h.more
+answered_at a b same operations first trees id y steps e extended lt h = (
+  at_first (λ (c : AttributionParts) (t : Tree). IsValue c operations t y steps trees e) h.value,
+  at_first (λ (c : AttributionParts) (t : Tree). IsFault c operations t y steps e) h.fault,
+  at_first (λ (c : AttributionParts) (t : Tree). AsksMore c operations t y steps e) h.more,
+) where
+  at_first : (P : AttributionParts → Tree → Type 0) → P a (tree_in trees id.0) → P b (tree_in first id.0)
+  at_first P p =
+      subst (λ (c : AttributionParts). P c (tree_in first id.0)) same (subst (P a) (root_extended first trees id.0 extended lt) p)
 
 -- one instance is needed at least, the one that is asked
 pub needs_first : (a : AttributionParts) (operations : Operations) (top : Tree) (y : ℕ)
@@ -184,5 +192,6 @@ needs_first a operations top y = record {
   different = λ x i j at there. let p = slice_get_within (start a operations top y ∷ []) i x at in
       let r = slice_get_within (start a operations top y ∷ []) j x there in omega (arith, p, r);
   needed = λ k d lt. let k_is : k ≡ 0 = omega (arith, lt) in
-      subst (λ (n : ℕ). IsNeeded a operations top (start a operations top y) (get_or (start a operations top y ∷ []) n d)) (sym k_is) itself;
+      subst (λ (n : ℕ). IsNeeded a operations top (start a operations top y) (get_or (start a operations top y ∷ []) n d))
+      (sym k_is) itself;
 }

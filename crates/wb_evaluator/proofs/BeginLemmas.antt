@@ -1,6 +1,6 @@
 -- What an evaluation begins with.
-use Rattle.std.proofs.Common.{◌≡◌, ◌∙◌, ◌≤◌, ◌<◌, ◌+◌, ◌++◌, inl, ℕ, zero, suc, List, [], ◌∷◌, Some, None, length, refl, sym, ap, subst, arith}
-use Rattle.std.proofs.Common.{slice_get}
+use Rattle.std.proofs.Common.{◌≡◌, ◌∙◌, ◌≤◌, ◌<◌, ◌+◌, ◌++◌, inl, ℕ, zero, suc, List, [], ◌∷◌, Some, None, length, refl, sym, ap, subst}
+use Rattle.std.proofs.Common.{slice_get, arith}
 use Rattle.std.proofs.lemmas.Option.{slice_get_within}
 use Rattle.wb_attributes.specs.Vertices.{child, made}
 use Rattle.wb_operations.specs.Operations.{Operations}
@@ -13,7 +13,8 @@ use Rattle.wb_evaluation.specs.Evaluable.{IsEvaluable, IsAsked}
 use Rattle.wb_evaluation.specs.Instances.{Path, root, down, synthesized_at}
 use Rattle.wb_evaluator.proofs.MachineLemmas.{begins}
 use Rattle.wb_memo.proofs.SitesLemmas.{root_path}
-use Rattle.wb_evaluator.specs.Inner.Machines.{HasTree, AreNamed, IsNode, IsMachine, HasMore}
+use Rattle.wb_evaluator.specs.Inner.Answering.{IsAhead}
+use Rattle.wb_evaluator.specs.Inner.Machines.{HasTree, AreNamed, IsNode, IsMachine, IsBlank, IsFresh, HasMore}
 use Rattle.wb_memo.specs.Memos.{count, path_in, numbered, recall, IsWhole}
 use Rattle.wb_evaluator.specs.Inner.Piles.{Wait, waits, IsPiled}
 use Rattle.wb_evaluator.specs.Inner.State.{start}
@@ -25,7 +26,8 @@ use Rattle.wb_memo.specs.declared.memo.Memo.{Memo}
 module _ (a : AttributionParts) (operations : Operations) (trees : List Tree) (m : Machine) (evaluable : IsEvaluable a operations)
     (inside : m.root.0 < length trees) (asked : IsAsked a (tree_in trees m.root.0) m.attribute) (whole : IsWhole m.memo)
     (origins : m.memo.sites.origins.items ≡ []) (its_trees : m.memo.trees.items ≡ Some m.root ∷ []) (values : m.memo.values.items ≡ [])
-    (stack : m.stack.items ≡ key.Synthesized 0 m.attribute ∷ []) (frames : waits m.frames ≡ None ∷ []) (piled : IsPiled m.frames) (entered : m.entered ≡ 1) where
+    (stack : m.stack.items ≡ key.Synthesized 0 m.attribute ∷ []) (frames : waits m.frames ≡ None ∷ []) (piled : IsPiled m.frames)
+    (entered : m.entered ≡ 1) where
   no_sites : count m.memo ≡ 0
   no_sites = ap length origins
 
@@ -72,7 +74,8 @@ module _ (a : AttributionParts) (operations : Operations) (trees : List Tree) (m
           let (e, f) = only_root i id has in
           subst (λ (z : ℕ). IsNode a operations trees (tree_in trees m.root.0) (path_in m.memo z) id) (sym e)
           (subst (λ (q : Path). IsNode a operations trees (tree_in trees m.root.0) q id) (sym root_here)
-          (subst (λ (z : TreeId). IsNode a operations trees (tree_in trees m.root.0) root z) (sym f) (record { inside = inside; is_node = at_root })));
+          (subst (λ (z : TreeId). IsNode a operations trees (tree_in trees m.root.0) root z) (sym f)
+          (record { inside = inside; is_node = at_root })));
       made_trees = λ i id q k has path.
           let (e, f) = only_root i id has in
           absurd (below_root 0 q (made k) (omega arith) (ap (path_in m.memo) (sym e) ∙ path));
@@ -92,21 +95,40 @@ module _ (a : AttributionParts) (operations : Operations) (trees : List Tree) (m
     piled = piled;
   }
 
--- the root's attribute was entered at a machine without instances
-pub begun_with : (a : AttributionParts) (operations : Operations) (trees : List Tree) (before m : Machine) (memo : Memo) (id : TreeId) (y : ℕ)
-    → IsEvaluable a operations → id.0 < length trees → IsAsked a (tree_in trees id.0) y → IsWhole memo → memo.sites.origins.items ≡ []
-    → memo.trees.items ≡ Some id ∷ [] → memo.values.items ≡ [] → before.memo ≡ memo → before.root ≡ id → before.attribute ≡ y
-    → before.stack.items ≡ [] → before.entered ≡ 0 → waits before.frames ≡ [] → HasMore before m (key.Synthesized 0 y)
-    → IsMachine a operations trees m
-begun_with a operations trees before m memo id y evaluable inside asked whole origins its_trees values memo_is root_is attribute_is stack entered frames more =
-    let same_memo : m.memo ≡ memo = more.memo ∙ memo_is in
-    let same_root : m.root ≡ id = more.root ∙ root_is in
-    let same_attribute : m.attribute ≡ y = more.attribute ∙ attribute_is in
-    begun a operations trees m evaluable (subst (λ (i : TreeId). i.0 < length trees) (sym same_root) inside)
-    (subst (λ (z : ℕ). IsAsked a (tree_in trees m.root.0) z) (sym same_attribute)
-    (subst (λ (i : TreeId). IsAsked a (tree_in trees i.0) y) (sym same_root) asked))
-    (subst IsWhole (sym same_memo) whole) (ap (λ (z : Memo). z.sites.origins.items) same_memo ∙ origins)
-    (ap (λ (z : Memo). z.trees.items) same_memo ∙ its_trees ∙ ap (λ (i : TreeId). Some i ∷ []) (sym same_root))
-    (ap (λ (z : Memo). z.values.items) same_memo ∙ values)
-    (more.stack ∙ ap (λ ks. ks ++ key.Synthesized 0 y ∷ []) stack ∙ ap (λ (z : ℕ). key.Synthesized 0 z ∷ []) (sym same_attribute))
-    (more.frames ∙ ap (λ fs. fs ++ None ∷ []) frames) more.piled (more.entered ∙ ap (λ n. n + 1) entered)
+-- an attribute that can be evaluated, at a machine on which no instance was entered
+pub fresh : {a : AttributionParts} {operations : Operations} {trees : List Tree} (m : Machine) (id : TreeId) (y : ℕ) → IsBlank id y m
+    → IsEvaluable a operations → id.0 < length trees → IsAsked a (tree_in trees id.0) y → IsFresh a operations trees m
+fresh {a} {operations} {trees} m id y blank evaluable inside asked = record {
+  evaluable = evaluable;
+  inside = subst (λ (i : TreeId). i.0 < length trees) (sym blank.root_is) inside;
+  asked = subst (IsAsked a (tree_in trees m.root.0)) (sym blank.attribute_is)
+      (subst (λ (i : TreeId). IsAsked a (tree_in trees i.0) y) (sym blank.root_is) asked);
+  blank = subst (λ (z : ℕ). IsBlank m.root z m) (sym blank.attribute_is) (subst (λ (i : TreeId). IsBlank i y m) (sym blank.root_is) blank);
+}
+
+-- it was entered
+pub begun_ahead : {a : AttributionParts} {operations : Operations} {trees : List Tree} (old m : Machine) → IsFresh a operations trees old
+    → HasMore old m (key.Synthesized 0 old.attribute) → IsAhead a operations trees old m
+begun_ahead {a} {operations} {trees} old m f more =
+    let b = f.blank in
+    let stack : m.stack.items ≡ key.Synthesized 0 m.attribute ∷ [] =
+    more.stack ∙ ap (λ ks. ks ++ key.Synthesized 0 old.attribute ∷ []) b.stack
+    ∙ ap (λ (y : ℕ). key.Synthesized 0 y ∷ []) (sym more.attribute) in
+    record {
+      whole = begun a operations trees m f.evaluable (subst (λ (i : TreeId). i.0 < length trees) (sym more.root) f.inside)
+          (subst (IsAsked a (tree_in trees m.root.0)) (sym more.attribute)
+          (subst (λ (i : TreeId). IsAsked a (tree_in trees i.0) old.attribute) (sym more.root) f.asked))
+          (subst IsWhole (sym more.memo) b.whole) (ap (λ (z : Memo). z.sites.origins.items) more.memo ∙ b.origins)
+          (ap (λ (z : Memo). z.trees.items) more.memo ∙ b.its_trees ∙ ap (λ (i : TreeId). Some i ∷ []) (sym more.root))
+          (ap (λ (z : Memo). z.values.items) more.memo ∙ b.values) stack (more.frames ∙ ap (λ fs. fs ++ None ∷ []) b.frames) more.piled
+          (more.entered ∙ ap (λ n. n + 1) b.entered);
+      root = more.root;
+      attribute = more.attribute;
+      entered = more.entered;
+      stack = ap length stack ∙ sym (ap (λ ks. suc (length ks)) b.stack);
+    }
+
+-- it is the first
+pub first_within : {a : AttributionParts} {operations : Operations} {trees : List Tree} (old m : Machine) (steps : ℕ)
+    → IsFresh a operations trees old → IsAhead a operations trees old m → 0 < steps → m.entered ≤ steps
+first_within old m steps f ahead some = let one = ahead.entered in let none = f.blank.entered in omega (arith, one, none, some)

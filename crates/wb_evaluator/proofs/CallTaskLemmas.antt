@@ -47,7 +47,8 @@ plains_stored trees (stored.Bool b ∷ xs) = ap (λ (l : List Plain). bool b ∷
 plains_stored trees (stored.Text s ∷ xs) = ap (λ (l : List Plain). text s ∷ l) (plains_stored trees xs)
 plains_stored trees (stored.Tree id ∷ xs) = plains_stored trees xs
 
-one_kind : (signatures : _) (trees : List Tree) (x : Value) (k : Kind) → FitsValue signatures (value_in trees x) k → IsPlainKind k → given.HasKind k x
+one_kind : (signatures : _) (trees : List Tree) (x : Value) (k : Kind) → FitsValue signatures (value_in trees x) k → IsPlainKind k
+    → given.HasKind k x
 one_kind signatures trees (stored.Int z) kd.Int fit is = tt
 one_kind signatures trees (stored.Bool z) kd.Bool fit is = tt
 one_kind signatures trees (stored.Text z) kd.Text fit is = tt
@@ -68,8 +69,10 @@ kinds_fit : (signatures : _) (trees : List Tree) (xs : List Value) (ks : List Ki
 kinds_fit signatures trees [] ks fit plain_ones = subst (λ (l : List Kind). FitKinds l []) (sym fit) tt
 kinds_fit signatures trees (x ∷ xs) ks (k, rest, same, first, others) plain_ones =
     let ones = subst (All IsPlainKind) same plain_ones in
-    subst (λ (l : List Kind). FitKinds l (x ∷ xs)) (sym same)
-    (one_kind signatures trees x k first (All-head IsPlainKind k rest ones), kinds_fit signatures trees xs rest others (All-tail IsPlainKind k rest ones))
+    subst (λ (l : List Kind). FitKinds l (x ∷ xs)) (sym same) (
+      one_kind signatures trees x k first (All-head IsPlainKind k rest ones),
+      kinds_fit signatures trees xs rest others (All-tail IsPlainKind k rest ones),
+    )
 
 plain_is : (trees : List Tree) (w : Value) (c : Plain) → plain_of w ≡ Some c → value_in trees w ≡ plain c
 plain_is trees (stored.Int z) c is = ap plain (same_Some (int z) c is)
@@ -83,13 +86,15 @@ plain_inside trees (stored.Bool z) c is = tt
 plain_inside trees (stored.Text z) c is = tt
 plain_inside trees (stored.Tree id) c is = absurd (cc is)
 
-module _ (a : AttributionParts) (operations : Operations) (trees : List Tree) (m : Machine) (site : ℕ) (nodes : List Node) (tasks : List Task)
+module _ (a : AttributionParts) (operations : Operations) (trees : List Tree) (m : Machine) (site : ℕ) (nodes : List Node)
+    (tasks : List Task)
     (values : List Value) where
   abbrev q : Path
   q = path_in m.memo site
 
   -- a call
-  record IsCalling (number n : ℕ) (ev : IsEvaluating a operations trees m site nodes (tasks ++ task.Call number n ∷ []) values) : Type 0 where
+  record IsCalling (number n : ℕ) (ev : IsEvaluating a operations trees m site nodes (tasks ++ task.Call number n ∷ []) values)
+      : Type 0 where
     rest : List Job
     o : OperationSignature
     base : List Kind
@@ -100,7 +105,8 @@ module _ (a : AttributionParts) (operations : Operations) (trees : List Tree) (m
     runs : Runs a operations trees m (with_given number (operations.meaning number (plains_of popped_ones.args))
         (λ v. resume operations q (children_of (tree_in trees ev.id.0)) rest (v ∷ stack_of trees popped_ones.front)))
 
-  calling : (number n : ℕ) (ev : IsEvaluating a operations trees m site nodes (tasks ++ task.Call number n ∷ []) values) → IsCalling number n ev
+  calling : (number n : ℕ) (ev : IsEvaluating a operations trees m site nodes (tasks ++ task.Call number n ∷ []) values)
+      → IsCalling number n ev
   unfolding resume
   calling number n ev =
       let (j, rest, is, same, below_it) = unstacked operations.signatures nodes tasks (task.Call number n) [] ev.jobs ev.stacked in
@@ -112,7 +118,8 @@ module _ (a : AttributionParts) (operations : Operations) (trees : List Tree) (m
             let (i, o, base, at, named_so, len, kinds_are, fit_rest) = fit in
             let r0 = subst (λ (jobs : List Job). Runs a operations trees m (resume operations q (children_of (tree_in trees ev.id.0)) jobs
             (stack_of trees values))) same ev.runs in
-            let it = pop a operations trees m site nodes tasks values n o.takes base ev.kinds ev.id rest ev.inside ev.values_fit kinds_are (len ∙ sym n_is) in
+            let it = pop a operations trees m site nodes tasks values n o.takes base ev.kinds ev.id rest ev.inside ev.values_fit kinds_are
+            (len ∙ sym n_is) in
             let sz : size_of (values_in trees it.args) ≡ n' = values_size trees it.args ∙ it.count ∙ n_is in
             let stack = it.stack_is in
             let us : popped n' (stack_of trees values) empty ≡ values_in trees it.args =
@@ -162,7 +169,8 @@ module _ (a : AttributionParts) (operations : Operations) (trees : List Tree) (m
             (subst (FitKinds b.o.takes) it.args_is fit),
       )
 
-  pub called : (number n : ℕ) (w : Value) (c : Plain) → IsEvaluating a operations trees m site nodes (tasks ++ task.Call number n ∷ []) values
+  pub called : (number n : ℕ) (w : Value) (c : Plain) → IsEvaluating a operations trees m site nodes
+      (tasks ++ task.Call number n ∷ []) values
       → operations.meaning number (plains_of (drop (length values - n) values)) ≡ given.gives c → plain_of w ≡ Some c
       → IsEvaluating a operations trees m site nodes tasks (take (length values - n) values ++ w ∷ [])
   called number n w c ev means is =
@@ -174,7 +182,8 @@ module _ (a : AttributionParts) (operations : Operations) (trees : List Tree) (m
       let stack_is : stack_of trees (it.front ++ w ∷ []) ≡ plain c ∷ stack_of trees it.front =
       stack_push trees it.front w ∙ ap (λ (v : t.Value). v ∷ stack_of trees it.front) w_is in
       let plain_one = all_at IsPlainSignature operations.signatures number b.o ev.runs.machine.evaluable.with_operations.plain b.at in
-      let s = setting_of a operations ev.runs.machine.top ev.runs.machine.asked.nonterminal ev.runs.machine.evaluable ev.runs.machine.asked.fits in
+      let s = setting_of a operations ev.runs.machine.top ev.runs.machine.asked.nonterminal ev.runs.machine.evaluable
+      ev.runs.machine.asked.fits in
       let are = plains_kinds s (values_in trees it.args) b.o.takes it.args_fit plain_one.takes_plain in
       let kept = ev.runs.machine.evaluable.with_operations.kinds number b.o b.at (plains (values_in trees it.args)) are in
       let gave = subst (GivesKind b.o.gives) (ap (operations.meaning number) (plains_stored trees it.args) ∙ means') kept in
@@ -191,13 +200,16 @@ module _ (a : AttributionParts) (operations : Operations) (trees : List Tree) (m
         stacked = b.stacked_ones;
         kinds = b.o.gives ∷ b.base;
         inside = All-push (IsIn (length trees)) it.front w it.front_inside (plain_inside trees w c is);
-        values_fit = subst (λ (l : List t.Value). ValuesFit a.signatures l (b.o.gives ∷ b.base)) (sym stack_is) (b.o.gives, b.base, refl, fits, it.front_fit);
+        values_fit = subst (λ (l : List t.Value). ValuesFit a.signatures l (b.o.gives ∷ b.base)) (sym stack_is)
+            (b.o.gives, b.base, refl, fits, it.front_fit);
         jobs_fit = b.fit;
-        runs = subst (λ (l : List t.Value). Runs a operations trees m (resume operations q (children_of (tree_in trees ev.id.0)) b.rest l)) (sym stack_is) runs;
+        runs = subst (λ (l : List t.Value). Runs a operations trees m (resume operations q (children_of (tree_in trees ev.id.0)) b.rest l))
+            (sym stack_is) runs;
       })
 
   pub call_failed : (number n code : ℕ) → IsEvaluating a operations trees m site nodes (tasks ++ task.Call number n ∷ []) values
-      → operations.meaning number (plains_of (drop (length values - n) values)) ≡ given.fails code → Runs a operations trees m (done (fault number code))
+      → operations.meaning number (plains_of (drop (length values - n) values)) ≡ given.fails code
+      → Runs a operations trees m (done (fault number code))
   call_failed number n code ev means =
       let b = calling number n ev in
       let it = b.popped_ones in
@@ -231,17 +243,20 @@ module _ (a : AttributionParts) (operations : Operations) (trees : List Tree) (m
   ends front w ev =
       let runs = subst (λ (jobs : List Job). Runs a operations trees m (resume operations q (children_of (tree_in trees ev.id.0)) jobs
       (stack_of trees (front ++ w ∷ [])))) ev.stacked ev.runs in
-      let r = subst (λ (l : List t.Value). Runs a operations trees m (on_top l (λ v rest. finish operations v))) (stack_push trees front w) runs in
+      let r = subst (λ (l : List t.Value). Runs a operations trees m (on_top l (λ v rest. finish operations v)))
+      (stack_push trees front w) runs in
       (r, all_right (IsIn (length trees)) front (w ∷ []) ev.inside 0 w (omega arith))
 
   -- a choice
-  truth_of : (signatures : _) (w : Value) (k : Kind) → FitsValue signatures (value_in trees w) k → k ≡ kd.Bool → (b : Bool) × (w ≡ stored.Bool b)
+  truth_of : (signatures : _) (w : Value) (k : Kind) → FitsValue signatures (value_in trees w) k → k ≡ kd.Bool
+      → (b : Bool) × (w ≡ stored.Bool b)
   truth_of signatures (stored.Int z) k fit is = absurd (cc (fit, is))
   truth_of signatures (stored.Bool b) k fit is = (b, refl)
   truth_of signatures (stored.Text z) k fit is = absurd (cc (fit, is))
   truth_of signatures (stored.Tree id) k fit is = let e = fit.1 in absurd (cc (e, is))
 
-  choosing : (h f : ℕ) (front : List Value) (w : Value) (ev : IsEvaluating a operations trees m site nodes (tasks ++ task.Choose h f ∷ []) (front ++ w ∷ []))
+  choosing : (h f : ℕ) (front : List Value) (w : Value)
+      (ev : IsEvaluating a operations trees m site nodes (tasks ++ task.Choose h f ∷ []) (front ++ w ∷ []))
       → (b : Bool) × (w ≡ stored.Bool b) × (b ≡ true → IsEvaluating a operations trees m site nodes (tasks ++ task.Visit h ∷ []) front)
       × (b ≡ false → IsEvaluating a operations trees m site nodes (tasks ++ task.Visit f ∷ []) front)
   unfolding resume
@@ -250,13 +265,15 @@ module _ (a : AttributionParts) (operations : Operations) (trees : List Tree) (m
       by_job j is rest same below_it where
         by_job : (j : Job) → IsJob operations.signatures nodes (task.Choose h f) j → (rest : List Job) → ev.jobs ≡ j ∷ rest
             → Stacked operations.signatures nodes tasks [] rest
-            → (b : Bool) × (w ≡ stored.Bool b) × (b ≡ true → IsEvaluating a operations trees m site nodes (tasks ++ task.Visit h ∷ []) front)
+            → (b : Bool) × (w ≡ stored.Bool b)
+            × (b ≡ true → IsEvaluating a operations trees m site nodes (tasks ++ task.Visit h ∷ []) front)
             × (b ≡ false → IsEvaluating a operations trees m site nodes (tasks ++ task.Visit f ∷ []) front)
         by_job (choose holds fails) (is_h, is_f) rest same below_it =
             let (is, base, kinds_are, typed_h, typed_f, fit_rest) =
             subst (λ (jobs : List Job). JobsFit a operations ev.production jobs ev.kinds) same ev.jobs_fit in
             let stack = stack_push trees front w in
-            let (k, others, same_kinds, fits, front_fit) = subst (λ (l : List t.Value). ValuesFit a.signatures l ev.kinds) stack ev.values_fit in
+            let (k, others, same_kinds, fits, front_fit) =
+            subst (λ (l : List t.Value). ValuesFit a.signatures l ev.kinds) stack ev.values_fit in
             let k_is : k ≡ kd.Bool = let e = sym same_kinds ∙ kinds_are in cc e in
             let base_is : others ≡ base = let e = sym same_kinds ∙ kinds_are in cc e in
             let (b, w_is) = truth_of a.signatures w k fits k_is in
@@ -265,8 +282,10 @@ module _ (a : AttributionParts) (operations : Operations) (trees : List Tree) (m
             let r1 = subst (λ (l : List t.Value). Runs a operations trees m (resume operations q (children_of (tree_in trees ev.id.0))
             (choose holds fails ∷ rest) l)) stack r0 in
             let r2 = subst (λ (v : Value). Runs a operations trees m (branch (value_in trees v)
-            (walk_expression operations q (children_of (tree_in trees ev.id.0)) holds (λ u. resume operations q (children_of (tree_in trees ev.id.0)) rest (u ∷ stack_of trees front)))
-            (walk_expression operations q (children_of (tree_in trees ev.id.0)) fails (λ u. resume operations q (children_of (tree_in trees ev.id.0)) rest (u ∷ stack_of trees front)))))
+            (walk_expression operations q (children_of (tree_in trees ev.id.0)) holds
+            (λ u. resume operations q (children_of (tree_in trees ev.id.0)) rest (u ∷ stack_of trees front)))
+            (walk_expression operations q (children_of (tree_in trees ev.id.0)) fails
+            (λ u. resume operations q (children_of (tree_in trees ev.id.0)) rest (u ∷ stack_of trees front)))))
             w_is r1 in
             let base_fit = subst (ValuesFit a.signatures (stack_of trees front)) base_is front_fit in
             let inside = all_left (IsIn (length trees)) front (w ∷ []) ev.inside in (
@@ -285,8 +304,10 @@ module _ (a : AttributionParts) (operations : Operations) (trees : List Tree) (m
                 values_fit = base_fit;
                 jobs_fit = (is, typed_h, fit_rest);
                 runs = subst (λ (z : Bool). Runs a operations trees m (branch (plain (bool z))
-                    (walk_expression operations q (children_of (tree_in trees ev.id.0)) holds (λ u. resume operations q (children_of (tree_in trees ev.id.0)) rest (u ∷ stack_of trees front)))
-                    (walk_expression operations q (children_of (tree_in trees ev.id.0)) fails (λ u. resume operations q (children_of (tree_in trees ev.id.0)) rest (u ∷ stack_of trees front)))))
+                    (walk_expression operations q (children_of (tree_in trees ev.id.0)) holds
+                    (λ u. resume operations q (children_of (tree_in trees ev.id.0)) rest (u ∷ stack_of trees front)))
+                    (walk_expression operations q (children_of (tree_in trees ev.id.0)) fails
+                    (λ u. resume operations q (children_of (tree_in trees ev.id.0)) rest (u ∷ stack_of trees front)))))
                     yes r2;
               }),
               (λ no_. record {
@@ -302,8 +323,10 @@ module _ (a : AttributionParts) (operations : Operations) (trees : List Tree) (m
                 values_fit = base_fit;
                 jobs_fit = (is, typed_f, fit_rest);
                 runs = subst (λ (z : Bool). Runs a operations trees m (branch (plain (bool z))
-                    (walk_expression operations q (children_of (tree_in trees ev.id.0)) holds (λ u. resume operations q (children_of (tree_in trees ev.id.0)) rest (u ∷ stack_of trees front)))
-                    (walk_expression operations q (children_of (tree_in trees ev.id.0)) fails (λ u. resume operations q (children_of (tree_in trees ev.id.0)) rest (u ∷ stack_of trees front)))))
+                    (walk_expression operations q (children_of (tree_in trees ev.id.0)) holds
+                    (λ u. resume operations q (children_of (tree_in trees ev.id.0)) rest (u ∷ stack_of trees front)))
+                    (walk_expression operations q (children_of (tree_in trees ev.id.0)) fails
+                    (λ u. resume operations q (children_of (tree_in trees ev.id.0)) rest (u ∷ stack_of trees front)))))
                     no_ r2;
               }),
             )
@@ -321,17 +344,20 @@ module _ (a : AttributionParts) (operations : Operations) (trees : List Tree) (m
       (λ e. when_holds (same ∙ e), λ e. when_fails (same ∙ e))
 
   pub only_truth : (h f : ℕ) (front : List Value) (w : Value)
-      → IsEvaluating a operations trees m site nodes (tasks ++ task.Choose h f ∷ []) (front ++ w ∷ []) → ((b : Bool) → w ≡ stored.Bool b → ⊥) → ⊥
+      → IsEvaluating a operations trees m site nodes (tasks ++ task.Choose h f ∷ []) (front ++ w ∷ [])
+      → ((b : Bool) → w ≡ stored.Bool b → ⊥) → ⊥
   only_truth h f front w ev none = let (b, w_is, when_holds, when_fails) = choosing h f front w ev in none b w_is
 
-  pub choice_some : (h f : ℕ) (base : List Value) → IsEvaluating a operations trees m site nodes (tasks ++ task.Choose h f ∷ []) base → base ≡ [] → ⊥
+  pub choice_some : (h f : ℕ) (base : List Value) → IsEvaluating a operations trees m site nodes (tasks ++ task.Choose h f ∷ []) base
+      → base ≡ [] → ⊥
   unfolding resume
   choice_some h f base ev none =
       let (j, rest, is, same, below_it) = unstacked operations.signatures nodes tasks (task.Choose h f) [] ev.jobs ev.stacked in
       by_job j is rest same where
         by_job : (j : Job) → IsJob operations.signatures nodes (task.Choose h f) j → (rest : List Job) → ev.jobs ≡ j ∷ rest → ⊥
         by_job (choose holds fails) is rest same =
-            some_values base _ (subst (λ (jobs : List Job). Runs a operations trees m (resume operations q (children_of (tree_in trees ev.id.0)) jobs
+            some_values base _ (subst (λ (jobs : List Job). Runs a operations trees m
+            (resume operations q (children_of (tree_in trees ev.id.0)) jobs
             (stack_of trees base))) same ev.runs) none
         by_job (visit e) is rest same = absurd is
         by_job (build p k) is rest same = absurd is
@@ -350,14 +376,16 @@ last_split (x ∷ y ∷ xs) some =
       ap (λ (n : ℕ). take n (x ∷ y ∷ xs) ++ w ∷ []) e ∙ ap (λ (l : List Value). x ∷ l) whole,
     )
 
-module _ (a : AttributionParts) (operations : Operations) (trees : List Tree) (m : Machine) (site : ℕ) (nodes : List Node) (tasks : List Task)
+module _ (a : AttributionParts) (operations : Operations) (trees : List Tree) (m : Machine) (site : ℕ) (nodes : List Node)
+    (tasks : List Task)
     (values : List Value) (h f : ℕ) (ev : IsEvaluating a operations trees m site nodes (tasks ++ task.Choose h f ∷ []) values) where
   -- a choice has a truth value on top
   pub choice_ready : (0 < length values) × ((b : Bool) × (slice_get values (length values - 1) ≡ Some (stored.Bool b)))
   choice_ready =
       let (w, at, whole) = last_split values (choice_some a operations trees m site nodes tasks values h f values ev) in
       let ev' = subst (IsEvaluating a operations trees m site nodes (tasks ++ task.Choose h f ∷ [])) (sym whole) ev in
-      let (b, w_is, when_holds, when_fails) = choosing a operations trees m site nodes tasks values h f (take (length values - 1) values) w ev' in
+      let (b, w_is, when_holds, when_fails) = choosing a operations trees m site nodes tasks values h f
+      (take (length values - 1) values) w ev' in
       let within = slice_get_within values (length values - 1) w at in
       (omega (arith, within), (b, at ∙ ap Some w_is))
 

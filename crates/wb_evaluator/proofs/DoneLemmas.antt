@@ -34,7 +34,7 @@ use Rattle.wb_evaluator.proofs.StackLemmas.{size_stands, sizes_stand, left_push,
 use Rattle.wb_evaluator.proofs.VisitLemmas.{IsVisiting, visiting_of, at_once, read_known, read_new, parts_of_build, parts_of_call}
 use Rattle.wb_evaluator.proofs.VisitLemmas.{parts_of_choice, call_known}
 use Rattle.wb_evaluator.proofs.VisitLemmas.{ready, grown}
-use Rattle.wb_evaluator.specs.Inner.Machines.{tree_named, named, IsKey, Runs, IsSame, with_memo}
+use Rattle.wb_evaluator.specs.Inner.Machines.{tree_named, named, IsKey, Runs, IsSame, with_memo, with_frames}
 use Rattle.wb_memo.specs.Memos.{path_in}
 use Rattle.wb_evaluator.specs.Inner.Reached.{IsReady, HasChild}
 use Rattle.wb_memo.specs.Sites.{step_of}
@@ -43,6 +43,7 @@ use Rattle.wb_evaluator.specs.Inner.Jobs.{visiting, stack_of}
 use Rattle.wb_evaluator.specs.Inner.Works.{node_size, size_at, task_size, left_to_do, IsEvaluating, Parks, IsReading}
 use Rattle.wb_evaluator.specs.Inner.Works.{HasChildAt, IsChildPushed, HasLabel, IsLabelVisited, IsPushed, ArePushed, IsLess, IsDone}
 use Rattle.wb_evaluator.specs.Inner.Works.{IsReadBelow, way_to, IsExtended}
+use Rattle.wb_evaluator.specs.declared.frames.Frames.{Frames}
 use Rattle.wb_evaluator.specs.declared.machine.Key.{Key}
 use Rattle.wb_evaluator.specs.declared.machine.Key.TheVariants as key
 use Rattle.wb_evaluator.specs.declared.machine.Machine.{Machine}
@@ -91,6 +92,9 @@ same_memo old new is = record {
   stack = ap (λ (z : Machine). z.stack) is;
   entered = ap (λ (z : Machine). z.entered) is;
 }
+
+pub still_same : (old : Machine) (frames : Frames) (new : Machine) → IsSame (with_frames old frames) new → IsSame old new
+still_same old frames new it = record { root = it.root; attribute = it.attribute; stack = it.stack; entered = it.entered }
 
 pub same_machine : (m : Machine) → IsSame m m
 same_machine m = record { root = refl; attribute = refl; stack = refl; entered = refl }

@@ -1,11 +1,11 @@
 -- One instance whose value is that of another, also through the forwarded tree.
-use Rattle.std.proofs.Common.{◌≡◌, ◌≢◌, ◌∙◌, ◌-◌, ℕ, List, Option, Some, None, length, sym, ap, subst, arith, slice_get, get_or}
+use Rattle.std.proofs.Common.{◌≡◌, ◌≢◌, ◌∙◌, ℕ, List, Option, Some, None, length, sym, ap, subst, arith, slice_get, get_or}
 use Rattle.wb_attributes.specs.Vertices.{made, forward}
 use Rattle.wb_operations.specs.Operations.{Operations}
 use Rattle.wb_resolved.specs.declared.attribution.AttributionParts.{AttributionParts}
 use Rattle.wb_values.specs.declared.value.TreeId.{TreeId}
 use Rattle.wb_values.specs.declared.value.Value.{Value}
-use Rattle.wb_values.specs.Tree.{Tree, tree}
+use Rattle.wb_values.specs.Tree.{Tree}
 use Rattle.wb_values.specs.ValuesIn.{value_in, IsIn}
 use Rattle.wb_evaluation.specs.Instances.{Path, down, synthesized_at}
 use Rattle.wb_evaluation.specs.Walks.{value, read, done, finish, Walk}
@@ -17,23 +17,31 @@ use Rattle.wb_evaluator.specs.Inner.Reached.{IsReached}
 use Rattle.wb_evaluator.specs.Inner.Starts.{IsAlone, IsForwarding}
 use Rattle.wb_evaluator.specs.declared.machine.Key.{Key}
 use Rattle.wb_evaluator.specs.declared.machine.Key.TheVariants as key
+use Rattle.wb_evaluator.specs.Inner.Works.{IsRan, IsRead}
 use Rattle.wb_evaluator.specs.declared.machine.Machine.{Machine}
+use Rattle.wb_evaluator.specs.declared.work.Ran.{Ran}
+use Rattle.wb_evaluator.specs.declared.work.Ran.TheVariants as ran
 use Rattle.wb_memo.specs.declared.sites.Step.TheVariants as step
 use Rattle.wb_evaluator.proofs.HomeLemmas.{tree_known}
 
 module _ {a : AttributionParts} {operations : Operations} {trees : List Tree} {m : Machine} where
   -- one instance alone
-  pub alone_known : (k : Key) (v : Value) → IsAlone a operations trees m k → known m.memo k ≡ Some v
+  alone_known : (k : Key) (v : Value) → IsAlone a operations trees m k → known m.memo k ≡ Some v
       → Runs a operations trees m (done (value (value_in trees v))) × IsIn (length trees) v
   alone_known k v alone is = runs_on a operations trees m k v (finish operations) alone.runs alone.is_key is
 
-  pub alone_wanted : (k : Key) → IsAlone a operations trees m k → known m.memo k ≡ None → Wants a operations trees m k
+  alone_wanted : (k : Key) → IsAlone a operations trees m k → known m.memo k ≡ None → Wants a operations trees m k
   alone_wanted k alone none = record {
     next = finish operations;
     runs = alone.runs;
     is_key = alone.is_key;
     fresh = not_entered a operations trees m k (finish operations) alone.runs alone.is_key none;
   }
+
+  pub alone_ran : (k : Key) → IsAlone a operations trees m k → (r : Ran) → IsRead m.memo k r → IsRan a operations trees m r
+  alone_ran k alone (ran.Value v) is = alone_known k v alone is
+  alone_ran k alone (ran.Fault operation code) never = absurd never
+  alone_ran k alone (ran.Needs other) (same, none) = subst (Wants a operations trees m) (sym same) (alone_wanted k alone none)
 
   -- through the forwarded tree, whose site is there
   module _ (site x : ℕ) (f : IsForwarding a operations trees m site x) (after : Machine) (is : after ≡ with_memo m after.memo) (below : ℕ)
@@ -75,7 +83,8 @@ module _ {a : AttributionParts} {operations : Operations} {trees : List Tree} {m
       runs = forward_runs;
       is_key = tree_is_key;
       fresh =
-          not_entered a operations trees after (key.Tree below) _ forward_runs tree_is_key (ap tree_value (tree_found o found ∙ ap Some none));
+          not_entered a operations trees after (key.Tree below) _ forward_runs tree_is_key
+          (ap tree_value (tree_found o found ∙ ap Some none));
     }
 
     pub forward_alone : (o : Option TreeId) → o ≡ get_or after.memo.trees.items below o → o ≢ None

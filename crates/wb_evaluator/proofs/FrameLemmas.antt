@@ -1,5 +1,6 @@
 -- Frames: expressions that wait, as the memo, the store and the instances that were entered grow, and as one is kept or taken.
-use Rattle.std.proofs.Common.{◌≡◌, ◌≢◌, ◌∙◌, ◌≤◌, ◌<◌, ◌++◌, inl, inr, ℕ, zero, suc, List, [], ◌∷◌, Option, Some, None, All, length, refl, sym}
+use Rattle.std.proofs.Common.{◌≡◌, ◌≢◌, ◌∙◌, ◌≤◌, ◌<◌, ◌++◌, inl, inr, ℕ, zero, suc, List, [], ◌∷◌, Option, Some, None, All, length, refl}
+use Rattle.std.proofs.Common.{sym}
 use Rattle.std.proofs.Common.{ap, subst, arith, slice_get, length-append, take}
 use Rattle.std.specs.List.{slice_set}
 use Rattle.std.proofs.lemmas.Bool.{cases_eq}
@@ -44,7 +45,8 @@ set_there (y ∷ xs) (suc i) zero x d = refl
 set_there (y ∷ xs) (suc i) (suc j) x d = set_there xs i j x (λ e. d (ap suc e))
 
 -- values among more trees
-pub values_more : (trees others : List Tree) (xs : List Value) → All (IsIn (length trees)) xs → values_in (trees ++ others) xs ≡ values_in trees xs
+pub values_more : (trees others : List Tree) (xs : List Value) → All (IsIn (length trees)) xs
+    → values_in (trees ++ others) xs ≡ values_in trees xs
 values_more trees others [] inside = refl
 values_more trees others (x ∷ xs) inside =
     ap (λ (v : t.Value). more v (values_in (trees ++ others) xs)) (value_more_ trees others x (All-head (IsIn (length trees)) x xs inside))
@@ -74,9 +76,11 @@ module _ (a : AttributionParts) (operations : Operations) (trees : List Tree) (t
   moved old new i j site nodes tasks values w same path (id, has, tree_is) grown =
       let le = w.there in
       let stack = stack_of trees values in
-      let one = subst (λ (z : Tree). HasCome a operations top attribute all i (resume operations (path_in old site) (children_of z) w.jobs stack))
+      let one = subst (λ (z : Tree). HasCome a operations top attribute all i
+      (resume operations (path_in old site) (children_of z) w.jobs stack))
       (sym tree_is) w.come in
-      let two = subst (λ (p : Path). HasCome a operations top attribute all i (resume operations p (children_of (tree_in trees id.0)) w.jobs stack))
+      let two = subst (λ (p : Path). HasCome a operations top attribute all i
+      (resume operations p (children_of (tree_in trees id.0)) w.jobs stack))
       (sym path) one in
       record {
         id = id;
@@ -96,7 +100,8 @@ module _ (a : AttributionParts) (operations : Operations) (trees : List Tree) (t
 
   pub frames_moved : (old new : Memo) (keys : List Key) (frames : List (Option Wait)) → Frames old keys frames → count old ≤ count new
       → ((i : ℕ) → i ≤ count old → path_in new i ≡ path_in old i)
-      → ((i : ℕ) (id : TreeId) → i ≤ count old → HasTree old i id → (other : TreeId) × HasTree new i other × (tree_in trees other.0 ≡ tree_in trees id.0))
+      → ((i : ℕ) (id : TreeId) → i ≤ count old → HasTree old i id
+      → (other : TreeId) × HasTree new i other × (tree_in trees other.0 ≡ tree_in trees id.0))
       → ((k : Key) → IsKey old k → IsKey new k) → ((k : Key) → IsKey old k → named new k ≡ named old k) → Frames new keys frames
   frames_moved old new keys frames were grown paths trees_kept keys_kept names = record {
     count = were.count;
@@ -159,7 +164,8 @@ module _ (a : AttributionParts) (operations : Operations) (trees : List Tree) (t
   }
 
   -- a frame is taken, or kept
-  pub frames_set : (m : Memo) (keys : List Key) (frames : List (Option Wait)) (n : ℕ) (x : Option Wait) → Frames m keys frames → n < length keys
+  pub frames_set : (m : Memo) (keys : List Key) (frames : List (Option Wait)) (n : ℕ) (x : Option Wait) → Frames m keys frames
+      → n < length keys
       → ((k : Key) (f : Wait) → slice_get keys n ≡ Some k → x ≡ Some f → IsKey m k
       × IsSuspended a operations trees top attribute all m (named m k) f.site f.nodes f.tasks f.values)
       → Frames m keys (slice_set frames n x)
@@ -181,8 +187,10 @@ module _ (a : AttributionParts) (operations : Operations) (trees : List Tree) (t
         → (w : IsSuspended a operations trees top attribute all m i site nodes tasks values) → w.id.0 < length trees
         → IsSuspended a operations (trees ++ others) top attribute all m i site nodes tasks values
     more_suspended m i site nodes tasks values w within =
-        let tree_is : tree_in (trees ++ others) w.id.0 ≡ tree_in trees w.id.0 = get_or_append_left trees others (node 0 empty) w.id.0 within in
-        let stack_is : stack_of (trees ++ others) values ≡ stack_of trees values = ap (λ us. pushed us []) (values_more trees others values w.inside) in
+        let tree_is : tree_in (trees ++ others) w.id.0 ≡ tree_in trees w.id.0 =
+        get_or_append_left trees others (node 0 empty) w.id.0 within in
+        let stack_is : stack_of (trees ++ others) values ≡ stack_of trees values =
+        ap (λ us. pushed us []) (values_more trees others values w.inside) in
         record {
           id = w.id;
           has = w.has;
@@ -195,7 +203,8 @@ module _ (a : AttributionParts) (operations : Operations) (trees : List Tree) (t
           inside = all_weaker (IsIn (length trees)) (IsIn (length (trees ++ others))) values (λ v. still_inside trees others v) w.inside;
           values_fit = subst (λ l. ValuesFit a.signatures l w.kinds) (sym stack_is) w.values_fit;
           jobs_fit = w.jobs_fit;
-          come = subst (λ l. HasCome a operations top attribute all i (resume operations (path_in m site) (children_of (tree_in (trees ++ others) w.id.0)) w.jobs l))
+          come = subst (λ l. HasCome a operations top attribute all i
+              (resume operations (path_in m site) (children_of (tree_in (trees ++ others) w.id.0)) w.jobs l))
               (sym stack_is) (subst (λ (z : Tree). HasCome a operations top attribute all i
               (resume operations (path_in m site) (children_of z) w.jobs (stack_of trees values))) (sym tree_is) w.come);
         }

@@ -14,7 +14,6 @@ use Rattle.wb_resolved.specs.declared.attribution.AttributionParts.{AttributionP
 use Rattle.wb_resolved.specs.declared.production.Production.{Production}
 use Rattle.wb_resolved.specs.Expression.{Expression, Node}
 use Rattle.wb_values.specs.declared.value.TreeId.{TreeId}
-use Rattle.wb_values.specs.declared.value.Value.{Value}
 use Rattle.wb_values.specs.Tree.{Tree, tree, production_of, children_of}
 use Rattle.wb_values.specs.Tree as t
 use Rattle.wb_values.specs.ValuesIn.{tree_in}
@@ -38,7 +37,6 @@ use Rattle.wb_evaluator.specs.Inner.State.{Passed, at_once}
 use Rattle.wb_evaluator.specs.declared.machine.Key.TheVariants as key
 use Rattle.wb_evaluator.specs.declared.machine.Machine.{Machine}
 use Rattle.wb_memo.specs.declared.sites.Origin.{Origin}
-use Rattle.wb_memo.specs.declared.sites.Step.{Step}
 
 -- a rule of a production, or none
 rule_cases : (o : Option Expression) → (o ≡ None) ⊎ ((e : Expression) × (o ≡ Some e))
@@ -265,6 +263,3 @@ module _ {a : AttributionParts} {operations : Operations} {trees : List Tree} {m
           absurd (comes_to_nothing (comes r.top missing (subst (λ (i : Instance). IsNodeAt a operations r.top (home i) r.top)
           (sym this_root) at_root)
           (ap (λ (i : Instance). walk_of operations a i r.top) this_root)))
-
-    pub tree_there : (site : ℕ) (id : TreeId) → HasTree m.memo site id → site < length m.memo.trees.items
-    tree_there site id has = slice_get_within m.memo.trees.items site (Some id) has

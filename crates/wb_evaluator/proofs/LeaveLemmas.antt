@@ -24,8 +24,10 @@ use Rattle.wb_evaluation.specs.Instances.{Path, down, Instance, synthesized_at, 
 use Rattle.wb_evaluation.specs.Walks.{value, done}
 use Rattle.wb_evaluator.proofs.FrameLemmas.{set_here, set_there, frames_moved, frames_left}
 use Rattle.wb_evaluator.proofs.MachineLemmas.{leaves}
-use Rattle.wb_evaluator.proofs.StepLemmas.{named_less, last_key, this_value, memo_synthesized, memo_inherited, still_recalled, same_key, same_named, paths, counts, tree_new}
-use Rattle.wb_evaluator.specs.Inner.Machines.{HasTree, tree_named, named, IsKey, AreNamed, IsRecalled, IsValueOf, IsNode, IsMachine, IsTree, IsKeptIn, AreSuspended}
+use Rattle.wb_evaluator.proofs.StepLemmas.{named_less, last_key, this_value, memo_synthesized, memo_inherited, still_recalled, same_key}
+use Rattle.wb_evaluator.proofs.StepLemmas.{same_named, paths, counts, tree_new}
+use Rattle.wb_evaluator.specs.Inner.Machines.{HasTree, tree_named, named, IsKey, AreNamed, IsRecalled, IsValueOf, IsNode, IsMachine, IsTree}
+use Rattle.wb_evaluator.specs.Inner.Machines.{IsKeptIn, AreSuspended}
 use Rattle.wb_evaluator.specs.Inner.Machines.{Runs}
 use Rattle.wb_memo.specs.Memos.{count, path_in, numbered, recall, IsWhole}
 use Rattle.wb_memo.specs.Sites.{path_at, paths_of, IsSites}
@@ -52,8 +54,11 @@ module _ (a : AttributionParts) (operations : Operations) (trees : List Tree) (m
 
   names_same : (new : Memo) → IsKept new → (ks : List Key) (base is : List Instance) → AreNamed m.memo ks base is → AreNamed new ks base is
   names_same new kept [] base is h = h
-  names_same new kept (k ∷ ks) base is (is_key, rest) =
-      (kept.keys k is_key, subst (λ (i : Instance). AreNamed new ks (i ∷ base) is) (sym (kept.names k)) (names_same new kept ks (named m.memo k ∷ base) is rest))
+  names_same new kept (k ∷ ks) base is (is_key, rest) = (
+    kept.keys k is_key,
+    subst (λ (i : Instance). AreNamed new ks (i ∷ base) is) (sym (kept.names k))
+        (names_same new kept ks (named m.memo k ∷ base) is rest),
+  )
 
   pub left : (new : Machine) (front : List Key) (k : Key) → m.stack.items ≡ front ++ k ∷ [] → 0 < length front → IsKept new.memo
       → new.root ≡ m.root → new.attribute ≡ m.attribute → new.entered ≡ m.entered → new.stack.items ≡ front
@@ -85,12 +90,16 @@ module _ (a : AttributionParts) (operations : Operations) (trees : List Tree) (m
             ]
             | inr recalled ↦ inr (kept.recalled z recalled)
           ];
-          stack = subst (λ (ks : List Key). AreNamed new.memo ks [] (j ∷ js)) (sym new_stack) (names_same new.memo kept front [] (j ∷ js) below);
-          frames = subst (λ (ks : List Key). AreSuspended a operations trees r.top new.attribute r.all new.memo ks (waits new.frames)) (sym new_stack)
+          stack = subst (λ (ks : List Key). AreNamed new.memo ks [] (j ∷ js)) (sym new_stack)
+              (names_same new.memo kept front [] (j ∷ js) below);
+          frames = subst (λ (ks : List Key). AreSuspended a operations trees r.top new.attribute r.all new.memo ks (waits new.frames))
+              (sym new_stack)
               (subst (λ (y : ℕ). AreSuspended a operations trees r.top y r.all new.memo front (waits new.frames)) (sym attribute)
               (frames_moved a operations trees r.top m.attribute r.all m.memo new.memo front (waits new.frames)
-              (frames_left a operations trees r.top m.attribute r.all m.memo front m.stack.items k (waits m.frames) (waits new.frames) r.frames stack_is new_frames)
-              (let c = kept.counts in omega (arith, c)) (λ n le. kept.paths n) (λ n id le has. kept.trees_kept n id has) kept.keys (λ c is. kept.names c)));
+              (frames_left a operations trees r.top m.attribute r.all m.memo front m.stack.items k (waits m.frames)
+              (waits new.frames) r.frames stack_is new_frames)
+              (let c = kept.counts in omega (arith, c)) (λ n le. kept.paths n) (λ n id le has. kept.trees_kept n id has) kept.keys
+              (λ c is. kept.names c)));
           piled = piled;
         }
 
@@ -193,12 +202,13 @@ module _ (a : AttributionParts) (operations : Operations) (trees : List Tree) (m
           numbers = λ i y n is. subst (λ vs. n < length vs.items) (sym values)
               (r.memo.whole.numbers i y n (sym (ap (λ cs. at cs i y) cells) ∙ is));
         };
-        nodes = λ i other has. subst (λ (p : Path). IsNode a operations trees r.top p other) (sym (same_path i)) (elim (tree_cases i other has) [
-          | inl (e, f) ↦ subst (λ (z : ℕ). IsNode a operations trees r.top (path_in m.memo z) other) (sym e)
-              (subst (λ (p : Path). IsNode a operations trees r.top p other) (sym path)
-              (subst (IsNode a operations trees r.top (down q (made k))) (sym f) here_node))
-          | inr old ↦ r.memo.nodes i other old
-        ]);
+        nodes = λ i other has. subst (λ (p : Path). IsNode a operations trees r.top p other) (sym (same_path i))
+            (elim (tree_cases i other has) [
+              | inl (e, f) ↦ subst (λ (z : ℕ). IsNode a operations trees r.top (path_in m.memo z) other) (sym e)
+                  (subst (λ (p : Path). IsNode a operations trees r.top p other) (sym path)
+                  (subst (IsNode a operations trees r.top (down q (made k))) (sym f) here_node))
+              | inr old ↦ r.memo.nodes i other old
+            ]);
         made_trees = λ i other p c has is. elim (tree_cases i other has) [
           | inl (e, f) ↦
               let h : down q (made k) ≡ down p (made c) = sym path ∙ ap (path_in m.memo) (sym e) ∙ sym (same_path i) ∙ is in
@@ -208,14 +218,17 @@ module _ (a : AttributionParts) (operations : Operations) (trees : List Tree) (m
               (subst (Contains r.all) this_is it.entered))
           | inr old ↦ r.memo.made_trees i other p c old (sym (same_path i) ∙ is)
         ];
-        child_trees = λ i p c le_i is. let (other, has) = r.memo.child_trees i p c (omega (arith, le_i, same_count)) (sym (same_path i) ∙ is) in
+        child_trees = λ i p c le_i is. let (other, has) = r.memo.child_trees i p c (omega (arith, le_i, same_count))
+            (sym (same_path i) ∙ is) in
             tree_still i other has;
         root_tree = let (other, has) = r.memo.root_tree in tree_still 0 other has;
         parents = λ n o is. let (other, has) = r.memo.parents n o (subst (λ s. slice_get s.origins.items n ≡ Some o) sites is) in
             tree_still o.parent other has;
-        synthesized = λ i y w le_i goes has. subst (λ (p : Path). IsValueOf a operations trees r.top r.all (synthesized_at p y) w) (sym (same_path i))
+        synthesized = λ i y w le_i goes has. subst (λ (p : Path). IsValueOf a operations trees r.top r.all (synthesized_at p y) w)
+            (sym (same_path i))
             (r.memo.synthesized i y w (omega (arith, le_i, same_count)) goes (sym (same_recall i y) ∙ has));
-        inherited = λ i y w le_i goes has. subst (λ (p : Path). IsValueOf a operations trees r.top r.all (inherited_at p y) w) (sym (same_path i))
+        inherited = λ i y w le_i goes has. subst (λ (p : Path). IsValueOf a operations trees r.top r.all (inherited_at p y) w)
+            (sym (same_path i))
             (r.memo.inherited i y w (omega (arith, le_i, same_count)) goes (sym (same_recall i y) ∙ has));
       };
       recalled = tree_recalled;
@@ -227,7 +240,8 @@ module _ (a : AttributionParts) (operations : Operations) (trees : List Tree) (m
           id,
           subst (λ (z : ℕ). HasTree new z id) (sym e) tree_here,
           one_node a operations r.top here_node.is_node
-              (subst (λ (p : Path). IsNodeAt a operations r.top p (tree_in trees other.0)) (ap (path_in m.memo) e ∙ path) (r.memo.nodes i other has).is_node),
+              (subst (λ (p : Path). IsNodeAt a operations r.top p (tree_in trees other.0)) (ap (path_in m.memo) e ∙ path)
+              (r.memo.nodes i other has).is_node),
         )
         | inr d ↦ (other, ap (λ ts. slice_get ts i) set ∙ set_there m.memo.trees.items site i (Some id) d ∙ has, refl)
       ];
@@ -235,8 +249,10 @@ module _ (a : AttributionParts) (operations : Operations) (trees : List Tree) (m
       names = tree_names;
     } where
       tree_recalled : (i : Instance) → IsRecalled m.memo i → IsRecalled new i
-      tree_recalled (synthesized_at p y) (j, w, le_j, is, has) = (j, w, omega (arith, le_j, same_count), same_path j ∙ is, same_recall j y ∙ has)
-      tree_recalled (inherited_at p y) (j, w, le_j, is, has) = (j, w, omega (arith, le_j, same_count), same_path j ∙ is, same_recall j y ∙ has)
+      tree_recalled (synthesized_at p y) (j, w, le_j, is, has) =
+          (j, w, omega (arith, le_j, same_count), same_path j ∙ is, same_recall j y ∙ has)
+      tree_recalled (inherited_at p y) (j, w, le_j, is, has) =
+          (j, w, omega (arith, le_j, same_count), same_path j ∙ is, same_recall j y ∙ has)
       tree_recalled (tree_at p c) (j, other, le_j, is, has) =
           let (new_one, there) = tree_still j other has in (j, new_one, omega (arith, le_j, same_count), same_path j ∙ is, there)
 
@@ -251,15 +267,18 @@ module _ (a : AttributionParts) (operations : Operations) (trees : List Tree) (m
       tree_names (key.Tree i) = ap tree_named (same_path i)
 
 -- the last key is that of the instance at work
-pub key_here : (a : AttributionParts) (operations : Operations) (trees : List Tree) (m : Machine) (r : IsMachine a operations trees m) (k : Key)
+pub key_here : (a : AttributionParts) (operations : Operations) (trees : List Tree) (m : Machine) (r : IsMachine a operations trees m)
+    (k : Key)
     → slice_get m.stack.items (length m.stack.items - 1) ≡ Some k → IsKey m.memo k × (r.this ≡ named m.memo k)
 key_here a operations trees m r k at =
     let whole = last_key m.stack.items k at in
     let named_all = subst (λ (ks : List Key). AreNamed m.memo ks [] (r.this ∷ r.waiting)) (sym whole) r.stack in
-    let (is_key, (rest, same, below)) = named_less m.memo (take (length m.stack.items - 1) m.stack.items) k [] (r.this ∷ r.waiting) named_all in
+    let (is_key, (rest, same, below)) = named_less m.memo (take (length m.stack.items - 1) m.stack.items) k []
+    (r.this ∷ r.waiting) named_all in
     (is_key, cc same)
 
-pub tree_key : (a : AttributionParts) (operations : Operations) (trees : List Tree) (m : Machine) (r : IsMachine a operations trees m) (site : ℕ)
+pub tree_key : (a : AttributionParts) (operations : Operations) (trees : List Tree) (m : Machine) (r : IsMachine a operations trees m)
+    (site : ℕ)
     → slice_get m.stack.items (length m.stack.items - 1) ≡ Some (key.Tree site)
     → (site ≤ count m.memo) × ((q : Path) × (k : Made) × (path_in m.memo site ≡ down q (made k)) × (r.this ≡ tree_at q k))
 tree_key a operations trees m r site at =

@@ -17,3 +17,5 @@ pub mod StartLemmas
 pub mod ForwardLemmas
 pub mod PileLemmas
 pub mod ParkLemmas
+pub mod ReachedLemmas
+pub mod BackLemmas

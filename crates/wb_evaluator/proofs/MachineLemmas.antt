@@ -1,11 +1,13 @@
 -- What evaluation with a stack and a memo keeps, and that it counts exactly.
-use Rattle.std.proofs.Common.{◌≡◌, ◌∙◌, ◌⊎◌, ◌<◌, ◌≤◌, ◌++◌, inl, inr, ℕ, zero, suc, List, [], ◌∷◌, length, refl, sym, subst, ap, arith, Contains}
+use Rattle.std.proofs.Common.{◌≡◌, ◌∙◌, ◌⊎◌, ◌<◌, ◌≤◌, ◌++◌, inl, inr, ℕ, zero, suc, List, [], ◌∷◌, length, refl, sym, subst, ap, arith}
+use Rattle.std.proofs.Common.{Contains}
 use Rattle.std.proofs.Common.{slice_get, Some, length-append, get_or}
 use Rattle.std.proofs.lemmas.List.{get_or_default}
 use Rattle.std.proofs.lemmas.Option.{slice_get_within}
 use Rattle.wb_base.specs.Different.{Differ}
 use Rattle.wb_lemmas.proofs.Elements.{all_contained}
-use Rattle.wb_lemmas.proofs.Members.{contains_at, place_of, contains_cases, contains_first, contains_later, contains_push, push_contains, push_contains_last, nothing_in}
+use Rattle.wb_lemmas.proofs.Members.{contains_at, place_of, contains_cases, contains_first, contains_later, contains_push, push_contains}
+use Rattle.wb_lemmas.proofs.Members.{push_contains_last, nothing_in}
 use Rattle.wb_lemmas.proofs.Places.{at_push}
 use Rattle.wb_operations.specs.Operations.{Operations}
 use Rattle.wb_values.specs.Tree.{Tree, Value}
@@ -130,7 +132,8 @@ module _ (a : AttributionParts) (operations : Operations) (top : Tree) (y : ℕ)
       let same : u ≡ v = cc e in
       covered_done p (subst (λ (x : Value). Comes a operations top (k x) (read r rest)) same c)
 
-  covered_fault : {all : List Instance} {u : Walk} {x : Instance} {l : Value → Walk} {operation code : ℕ} {r : Instance} {rest : Value → Walk}
+  covered_fault : {all : List Instance} {u : Walk} {x : Instance} {l : Value → Walk} {operation code : ℕ} {r : Instance}
+      {rest : Value → Walk}
       → Pass all u (read x l) → Contains all x → Is x (fault operation code) → Comes a operations top u (read r rest) → Contains all r
   covered_fault at_once has s here = has
   covered_fault at_once has s (after z c) = let e = one_answer a operations top z s in absurd (cc e)

@@ -1,7 +1,8 @@
 -- An expression that waits is kept with its instance, and taken when that is at work again.
-use Rattle.std.proofs.Common.{◌≡◌, ◌∙◌, ◌<◌, ◌-◌, ℕ, List, Some, None, length, sym, subst, arith, slice_get}
+use Rattle.std.proofs.Common.{◌≡◌, ◌∙◌, ◌<◌, ◌-◌, ℕ, List, Some, None, length, sym, ap, subst, arith, slice_get}
 use Rattle.std.specs.List.{slice_set}
 use Rattle.std.proofs.lemmas.Option.{same_Some}
+use Rattle.wb_lemmas.proofs.Places.{at_within}
 use Rattle.wb_operations.specs.Operations.{Operations}
 use Rattle.wb_resolved.specs.declared.attribution.AttributionParts.{AttributionParts}
 use Rattle.wb_resolved.specs.Expression.{Node}
@@ -57,11 +58,14 @@ module _ {a : AttributionParts} {operations : Operations} {trees : List Tree} {m
 
   module _ (r : IsMachine a operations trees m) (frames : Frames)
       (piled : IsPiled frames)
-      (taken : waits frames ≡ slice_set (waits m.frames) (length m.stack.items - 1) None) where
+      (taken : waits frames ≡ slice_set (waits m.frames) (length m.frames.rows.items - 1) None) where
+    taken_here : waits frames ≡ slice_set (waits m.frames) (length m.stack.items - 1) None
+    taken_here = taken ∙ ap (λ n. slice_set (waits m.frames) (n - 1) None) (rows_count r)
+
     without : AreSuspended a operations trees r.top m.attribute r.all m.memo m.stack.items (waits frames)
     without =
         let some = stack_some r in
-        subst (AreSuspended a operations trees r.top m.attribute r.all m.memo m.stack.items) (sym taken)
+        subst (AreSuspended a operations trees r.top m.attribute r.all m.memo m.stack.items) (sym taken_here)
         (frames_set a operations trees r.top m.attribute r.all m.memo m.stack.items (waits m.frames)
         (length m.stack.items - 1) None r.frames
         (omega (arith, some)) (λ k f at same. absurd (cc same)))
@@ -70,11 +74,13 @@ module _ {a : AttributionParts} {operations : Operations} {trees : List Tree} {m
     pub started : IsMachine a operations trees (with_frames m frames)
     started = framed r frames without piled
 
-    pub resumed : (k : Key) (f : Wait) → slice_get m.stack.items (length m.stack.items - 1) ≡ Some k
-        → slice_get (waits m.frames) (length m.stack.items - 1) ≡ Some (Some f)
+    pub resumed : (f : Wait) → slice_get (waits m.frames) (length m.frames.rows.items - 1) ≡ Some (Some f)
         → IsEvaluating a operations trees (with_frames m frames) f.site f.nodes f.tasks f.values
-    resumed k f at has =
-        let (is_key, w) = r.frames.each (length m.stack.items - 1) k f at has in
+    resumed f has =
+        let some = stack_some r in
+        let (k, at) = at_within m.stack.items (length m.stack.items - 1) (omega (arith, some)) in
+        let here = sym (ap (λ n. slice_get (waits m.frames) (n - 1)) (rows_count r)) ∙ has in
+        let (is_key, w) = r.frames.each (length m.stack.items - 1) k f at here in
         let (its, this_is) = key_here a operations trees m r k at in
         record {
           id = w.id;
@@ -99,14 +105,17 @@ module _ {a : AttributionParts} {operations : Operations} {trees : List Tree} {m
   module _ (site : ℕ) (nodes : List Node) (tasks : List Task) (values : List Value) (key : Key)
       (p : Parks a operations trees m site nodes tasks values key)
       (frames : Frames) (piled : IsPiled frames)
-      (kept : waits frames ≡ slice_set (waits m.frames) (length m.stack.items - 1) (Some (wait site nodes tasks values))) where
+      (kept : waits frames ≡ slice_set (waits m.frames) (length m.frames.rows.items - 1) (Some (wait site nodes tasks values))) where
     abbrev r : IsMachine a operations trees m
     r = p.wants.runs.machine
+
+    kept_here : waits frames ≡ slice_set (waits m.frames) (length m.stack.items - 1) (Some (wait site nodes tasks values))
+    kept_here = kept ∙ ap (λ n. slice_set (waits m.frames) (n - 1) (Some (wait site nodes tasks values))) (rows_count r)
 
     with_it : AreSuspended a operations trees r.top m.attribute r.all m.memo m.stack.items (waits frames)
     with_it =
         let some = stack_some r in
-        subst (AreSuspended a operations trees r.top m.attribute r.all m.memo m.stack.items) (sym kept)
+        subst (AreSuspended a operations trees r.top m.attribute r.all m.memo m.stack.items) (sym kept_here)
         (frames_set a operations trees r.top m.attribute r.all m.memo m.stack.items (waits m.frames) (length m.stack.items - 1)
         (Some (wait site nodes tasks values)) r.frames (omega (arith, some)) (λ k other at same.
         let (is_key, this_is) = key_here a operations trees m r k at in

@@ -1,7 +1,8 @@
 -- A task that was done: a tree was built, an operation called, or a branch chosen.
-use Rattle.std.proofs.Common.{◌≡◌, ◌≤◌, ◌<◌, ◌+◌, ◌-◌, ◌++◌, ◌∷◌, [], ℕ, inl, inr, Bool, true, false, List, Option, Some, None, length}
+use Rattle.std.proofs.Common.{◌≡◌, ◌∙◌, ◌≤◌, ◌<◌, ◌+◌, ◌-◌, ◌++◌, ◌∷◌, [], ℕ, inl, inr, true, false, List, Option, Some, None, length}
 use Rattle.std.proofs.Common.{take, slice_get, All, refl, sym, ap, subst, arith}
-use Rattle.wb_operations.specs.Given.{Given, FitKinds, plains_of}
+use Rattle.std.specs.Prelude.{option_to_list}
+use Rattle.wb_operations.specs.Given.{FitKinds, plains_of}
 use Rattle.wb_operations.specs.Operations.{OperationSignature, Operations}
 use Rattle.wb_resolved.specs.declared.attribution.AttributionParts.{AttributionParts}
 use Rattle.wb_resolved.specs.Expression.{Node}
@@ -15,7 +16,9 @@ use Rattle.wb_evaluator.proofs.CallTaskLemmas.{given_fault}
 use Rattle.wb_evaluator.proofs.TreeTaskLemmas.{build_ready, built}
 use Rattle.wb_evaluator.proofs.DoneLemmas.{visit_within}
 use Rattle.wb_evaluator.specs.Inner.Machines.{Runs}
-use Rattle.wb_evaluator.specs.Inner.Works.{task_size, left_to_do, IsEvaluating, IsOver, IsBuilt, IsChosenBy, IsChosen, IsCalled, HasTruth}
+use Rattle.wb_evaluator.specs.Inner.Works.{task_size, left_to_do, IsEvaluating, IsOver, IsBuilt, IsChosen, IsCalled, HasTruth}
+use Rattle.wb_evaluator.specs.Inner.Works.{Parks, IsAfter, IsLess, IsDone}
+use Rattle.wb_evaluator.specs.declared.machine.Key.{Key}
 use Rattle.wb_evaluator.specs.declared.machine.Machine.{Machine}
 use Rattle.wb_evaluator.specs.declared.work.Ran.{Ran}
 use Rattle.wb_evaluator.specs.declared.work.Ran.TheVariants as ran
@@ -113,3 +116,24 @@ module _ {a : AttributionParts} {operations : Operations} {trees : List Tree} {m
     pub choice_done : (h f : ℕ) → t ≡ task.Choose h f → IsChosen old new h f r → Over trees t
     choice_done h f is it =
         subst (Over trees) (sym is) (choice_over a operations trees m site nodes old new h f (as_form (task.Choose h f) is) r it)
+
+-- a visit that waits is left to do, and one that doesn't is done
+module _ {a : AttributionParts} {operations : Operations} {trees : List Tree} {m after : Machine} {site : ℕ} {nodes : List Node}
+    (old mid : Work) (at : ℕ) (r : Option Key) (it : IsDone a operations trees m after site nodes old mid (task.Visit at) r) where
+  pub visit_waits : (new : Work) (key : Key) → r ≡ Some key → new.tasks.items ≡ mid.tasks.items ++ task.Visit at ∷ []
+      → new.values ≡ mid.values → Parks a operations trees after site nodes new.tasks.items new.values.items key
+  visit_waits new key is tasks values =
+      subst (λ vs. Parks a operations trees after site nodes new.tasks.items vs.items key) (sym values)
+      (subst (λ (ts : List Task). Parks a operations trees after site nodes ts mid.values.items key) (sym tasks)
+      (subst (IsAfter a operations trees after site nodes mid.tasks.items mid.values.items (task.Visit at)) is it.after_it))
+
+  pub visit_goes : r ≡ None → IsEvaluating a operations trees after site nodes mid.tasks.items mid.values.items
+      × (left_to_do nodes mid.tasks.items < left_to_do nodes old.tasks.items + task_size nodes (task.Visit at))
+  visit_goes is = (
+    subst (IsAfter a operations trees after site nodes mid.tasks.items mid.values.items (task.Visit at)) is it.after_it,
+    subst (IsLess (left_to_do nodes mid.tasks.items) (left_to_do nodes old.tasks.items + task_size nodes (task.Visit at))) is it.less,
+  )
+
+-- the task that was taken off
+pub popped_some : (old new : List Task) (o : Option Task) (t : Task) → old ≡ new ++ option_to_list o → o ≡ Some t → old ≡ new ++ t ∷ []
+popped_some old new o t items is = items ∙ ap (λ (x : Option Task). new ++ option_to_list x) is

@@ -1,5 +1,6 @@
 -- How what is left of all expressions lies in two lists, as the last is kept or taken away.
-use Rattle.std.proofs.Common.{◌≡◌, ◌∙◌, ◌≤◌, ◌<◌, ◌+◌, ◌-◌, ◌++◌, ℕ, zero, suc, List, [], ◌∷◌, Option, Some, None, length, refl, sym, ap, subst, arith}
+use Rattle.std.proofs.Common.{◌≡◌, ◌∙◌, ◌≤◌, ◌<◌, ◌+◌, ◌-◌, ◌++◌, ℕ, zero, suc, List, [], ◌∷◌, Option, Some, None, length, refl, sym, ap}
+use Rattle.std.proofs.Common.{subst, arith}
 use Rattle.std.proofs.Common.{slice_get, take, drop, append-nil, append_assoc, reverse}
 use Rattle.std.specs.List.{slice_set}
 use Rattle.std.proofs.lemmas.List.{length-append, length-take-le, length-drop, take-append-drop, take-append-le, drop-append-le}
@@ -58,10 +59,12 @@ no_length : {X : Type 0} (xs : List X) → 0 ≡ length xs → xs ≡ []
 no_length [] is = refl
 no_length (x ∷ xs) is = absurd (cc is)
 
-waits_some : (rows : List (Option Frame)) (f : Frame) (ts p : List Task) (vs q : List Value) → tasks_in rows ≡ length ts → values_in rows ≡ length vs
+waits_some : (rows : List (Option Frame)) (f : Frame) (ts p : List Task) (vs q : List Value) → tasks_in rows ≡ length ts
+    → values_in rows ≡ length vs
     → waits_in (rows ++ Some f ∷ []) (ts ++ p) (vs ++ q) ≡ waits_in rows ts vs ++ Some (wait_of f p q) ∷ []
 waits_some [] f ts p vs q tasks values =
-    ap (λ l. Some (wait_of f (l ++ p) (vs ++ q)) ∷ []) (no_length ts tasks) ∙ ap (λ l. Some (wait_of f p (l ++ q)) ∷ []) (no_length vs values)
+    ap (λ l. Some (wait_of f (l ++ p) (vs ++ q)) ∷ []) (no_length ts tasks)
+    ∙ ap (λ l. Some (wait_of f p (l ++ q)) ∷ []) (no_length vs values)
 waits_some (None ∷ rows) f ts p vs q tasks values = ap (λ (l : List (Option Wait)). None ∷ l) (waits_some rows f ts p vs q tasks values)
 waits_some (Some g ∷ rows) f ts p vs q tasks values =
     let le : g.tasks ≤ length ts = omega (arith, tasks) in
@@ -129,8 +132,10 @@ module _ (old : Frames) (piled : IsPiled old) (f : Frame) (at : slice_get old.ro
   waits_are =
       ap (λ l. waits_in l old.tasks.items old.values.items) (sym whole)
       ∙ ap (λ l. waits_in (front ++ Some f ∷ []) l old.values.items) (sym (take-append-drop n old.tasks.items))
-      ∙ ap (λ l. waits_in (front ++ Some f ∷ []) (take n old.tasks.items ++ drop n old.tasks.items) l) (sym (take-append-drop k old.values.items))
-      ∙ waits_some front f (take n old.tasks.items) (drop n old.tasks.items) (take k old.values.items) (drop k old.values.items) front_tasks front_values
+      ∙ ap (λ l. waits_in (front ++ Some f ∷ []) (take n old.tasks.items ++ drop n old.tasks.items) l)
+      (sym (take-append-drop k old.values.items))
+      ∙ waits_some front f (take n old.tasks.items) (drop n old.tasks.items) (take k old.values.items)
+      (drop k old.values.items) front_tasks front_values
       ∙ ap (λ w. waits_in front (take n old.tasks.items) (take k old.values.items) ++ Some w ∷ []) part
 
   count : length (waits_in front (take n old.tasks.items) (take k old.values.items)) ≡ length old.rows.items - 1
@@ -147,7 +152,8 @@ module _ (old : Frames) (piled : IsPiled old) (f : Frame) (at : slice_get old.ro
       (Some (wait f.site f.nodes.now (reverse (drop n old.tasks.items)) (reverse (drop k old.values.items))))
 
   -- it is taken away
-  module _ (new : Frames) (rows : new.rows.items ≡ slice_set old.rows.items (length old.rows.items - 1) None) (tasks : new.tasks.items ≡ take n old.tasks.items)
+  module _ (new : Frames) (rows : new.rows.items ≡ slice_set old.rows.items (length old.rows.items - 1) None)
+      (tasks : new.tasks.items ≡ take n old.tasks.items)
       (values : new.values.items ≡ take k old.values.items) where
     new_rows : new.rows.items ≡ front ++ None ∷ []
     new_rows =
@@ -196,7 +202,8 @@ module _ (old : Frames) (piled : IsPiled old) (at : slice_get old.rows.items (le
       ap (λ l. slice_set l (length old.rows.items - 1) x) (sym before_all)
       ∙ ap (λ i. slice_set (before ++ None ∷ []) i x) (sym before_length) ∙ set_last before None x
 
-  changed_waits : (w : Option Wait) → slice_set (waits old) (length old.rows.items - 1) w ≡ waits_in before old.tasks.items old.values.items ++ w ∷ []
+  changed_waits : (w : Option Wait)
+      → slice_set (waits old) (length old.rows.items - 1) w ≡ waits_in before old.tasks.items old.values.items ++ w ∷ []
   changed_waits w =
       ap (λ l. slice_set l (length old.rows.items - 1) w) before_waits
       ∙ ap (λ i. slice_set (waits_in before old.tasks.items old.values.items ++ None ∷ []) i w) (sym before_count)
@@ -209,7 +216,8 @@ module _ (old : Frames) (piled : IsPiled old) (at : slice_get old.rows.items (le
   before_values = sym (values_none before) ∙ ap values_in before_all ∙ piled.values
 
   -- it still has none
-  module _ (new : Frames) (rows : new.rows.items ≡ slice_set old.rows.items (length old.rows.items - 1) None) (tasks : new.tasks.items ≡ old.tasks.items)
+  module _ (new : Frames) (rows : new.rows.items ≡ slice_set old.rows.items (length old.rows.items - 1) None)
+      (tasks : new.tasks.items ≡ old.tasks.items)
       (values : new.values.items ≡ old.values.items) where
     same_rows : new.rows.items ≡ old.rows.items
     same_rows = rows ∙ changed None ∙ before_all
@@ -228,8 +236,10 @@ module _ (old : Frames) (piled : IsPiled old) (at : slice_get old.rows.items (le
 
   -- what waits is put there
   module _ (new : Frames) (f : Frame) (p : List Task) (q : List Value)
-      (rows : new.rows.items ≡ slice_set old.rows.items (length old.rows.items - 1) (Some f)) (tasks : new.tasks.items ≡ old.tasks.items ++ reverse p)
-      (values : new.values.items ≡ old.values.items ++ reverse q) (task_count : f.tasks ≡ length p) (value_count : f.values ≡ length q) where
+      (rows : new.rows.items ≡ slice_set old.rows.items (length old.rows.items - 1) (Some f))
+      (tasks : new.tasks.items ≡ old.tasks.items ++ reverse p)
+      (values : new.values.items ≡ old.values.items ++ reverse q) (task_count : f.tasks ≡ length p)
+      (value_count : f.values ≡ length q) where
     pub kept_piled : IsPiled new
     kept_piled = record {
       tasks =
@@ -252,7 +262,8 @@ module _ (old : Frames) (piled : IsPiled old) (at : slice_get old.rows.items (le
     kept_wait =
         let t = length-reverse p in
         let v = length-reverse q in
-        ap (λ l. wait f.site f.nodes.now (reverse l) (reverse (take f.values (reverse q)))) (take_all f.tasks (reverse p) (omega (arith, t, task_count)))
+        ap (λ l. wait f.site f.nodes.now (reverse l) (reverse (take f.values (reverse q))))
+        (take_all f.tasks (reverse p) (omega (arith, t, task_count)))
         ∙ ap (λ l. wait f.site f.nodes.now l (reverse (take f.values (reverse q)))) (reverse-reverse p)
         ∙ ap (λ l. wait f.site f.nodes.now p (reverse l)) (take_all f.values (reverse q) (omega (arith, v, value_count)))
         ∙ ap (λ l. wait f.site f.nodes.now p l) (reverse-reverse q)
@@ -267,7 +278,8 @@ module _ (old : Frames) (piled : IsPiled old) (at : slice_get old.rows.items (le
         ∙ sym (changed_waits (Some (wait f.site f.nodes.now p q)))
 
   -- it is taken away with its instance
-  module _ (new : Frames) (rows : new.rows.items ≡ take (length old.rows.items - 1) old.rows.items) (tasks : new.tasks.items ≡ old.tasks.items)
+  module _ (new : Frames) (rows : new.rows.items ≡ take (length old.rows.items - 1) old.rows.items)
+      (tasks : new.tasks.items ≡ old.tasks.items)
       (values : new.values.items ≡ old.values.items) where
     pub left_piled : IsPiled new
     left_piled = record {
@@ -291,7 +303,8 @@ entered_piled old new piled rows tasks values = (
     values = ap values_in rows ∙ values_none old.rows.items ∙ piled.values ∙ ap length (sym values);
   },
   ap (λ l. waits_in l new.tasks.items new.values.items) rows ∙ waits_none old.rows.items new.tasks.items new.values.items
-      ∙ ap (λ l. waits_in old.rows.items l new.values.items ++ None ∷ []) tasks ∙ ap (λ l. waits_in old.rows.items old.tasks.items l ++ None ∷ []) values,
+      ∙ ap (λ l. waits_in old.rows.items l new.values.items ++ None ∷ []) tasks
+      ∙ ap (λ l. waits_in old.rows.items old.tasks.items l ++ None ∷ []) values,
 )
 
 -- nothing was moved yet
@@ -304,12 +317,14 @@ unmoved start from to le = record {
 }
 
 -- one more was moved
-pub moved_more : {X : Type 0} (start : ℕ) (old_from from next old_to to : List X) (x : X) → IsMoved start old_from from old_to to → start < length from
+pub moved_more : {X : Type 0} (start : ℕ) (old_from from next old_to to : List X) (x : X) → IsMoved start old_from from old_to to
+    → start < length from
     → from ≡ next ++ x ∷ [] → IsMoved start old_from next old_to (to ++ x ∷ [])
 moved_more start old_from from next old_to to x m lt is = record {
   moved = x ∷ m.moved;
   whole = m.whole ∙ ap (λ l. l ++ m.moved) is ∙ append_assoc next (x ∷ []) m.moved;
-  gone = ap (λ l. l ++ x ∷ []) m.gone ∙ append_assoc old_to (reverse m.moved) (x ∷ []) ∙ ap (λ l. old_to ++ l) (sym (reverse-append (x ∷ []) m.moved));
+  gone = ap (λ l. l ++ x ∷ []) m.gone ∙ append_assoc old_to (reverse m.moved) (x ∷ [])
+      ∙ ap (λ l. old_to ++ l) (sym (reverse-append (x ∷ []) m.moved));
   left = (length next - start, let l = ap length is in let a = length-append next (x ∷ []) in omega (arith, l, a, lt));
 }
 
@@ -341,12 +356,14 @@ pub set_twice : (old mid : Frames) → mid.rows.items ≡ slice_set old.rows.ite
     → waits mid ≡ slice_set (waits old) (length old.rows.items - 1) None → (w : Option Wait)
     → slice_set (waits mid) (length mid.rows.items - 1) w ≡ slice_set (waits old) (length old.rows.items - 1) w
 set_twice old mid rows are w =
-    let count : length mid.rows.items ≡ length old.rows.items = ap length rows ∙ length-set old.rows.items (length old.rows.items - 1) None in
+    let count : length mid.rows.items ≡ length old.rows.items =
+    ap length rows ∙ length-set old.rows.items (length old.rows.items - 1) None in
     ap (λ n. slice_set (waits mid) (n - 1) w) count ∙ ap (λ l. slice_set l (length old.rows.items - 1) w) are
     ∙ set_again (waits old) (length old.rows.items - 1) None w
 
 -- a frame was taken, and what waits by it is the work
-module _ (old : Frames) (piled : IsPiled old) (f : Frame) (at : slice_get old.rows.items (length old.rows.items - 1) ≡ Some (Some f)) (new : Frames)
+module _ (old : Frames) (piled : IsPiled old) (f : Frame) (at : slice_get old.rows.items (length old.rows.items - 1) ≡ Some (Some f))
+    (new : Frames)
     (rows : new.rows.items ≡ slice_set old.rows.items (length old.rows.items - 1) None)
     (tasks : new.tasks.items ≡ take (length old.tasks.items - f.tasks) old.tasks.items)
     (values : new.values.items ≡ take (length old.values.items - f.values) old.values.items) where
@@ -359,7 +376,8 @@ module _ (old : Frames) (piled : IsPiled old) (f : Frame) (at : slice_get old.ro
         subst (λ (z : Frame). slice_get (waits old) (length old.rows.items - 1)
         ≡ Some (Some (wait z.site z.nodes.now work.tasks.items work.values.items))) same
         (last_wait old piled f at
-        ∙ ap (λ l. Some (Some (wait f.site f.nodes.now l (reverse (drop (length old.values.items - f.values) old.values.items))))) (sym its_tasks)
+        ∙ ap (λ l. Some (Some (wait f.site f.nodes.now l (reverse (drop (length old.values.items - f.values) old.values.items)))))
+        (sym its_tasks)
         ∙ ap (λ l. Some (Some (wait f.site f.nodes.now work.tasks.items l))) (sym its_values));
   }
 

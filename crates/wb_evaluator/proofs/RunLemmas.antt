@@ -1,5 +1,6 @@
 -- What an evaluation keeps as sites and trees are added, and what its memo says of what is read.
-use Rattle.std.proofs.Common.{◌≡◌, ◌∙◌, ◌≤◌, ◌<◌, ◌++◌, inl, inr, ℕ, zero, suc, List, [], ◌∷◌, Option, Some, None, length, refl, sym, ap, subst, arith}
+use Rattle.std.proofs.Common.{◌≡◌, ◌∙◌, ◌≤◌, ◌<◌, ◌++◌, inl, inr, ℕ, zero, suc, List, [], ◌∷◌, Option, Some, None, length, refl, sym, ap}
+use Rattle.std.proofs.Common.{subst, arith}
 use Rattle.std.proofs.Common.{slice_get, length-append, Contains, get_or}
 use Rattle.std.proofs.lemmas.Bool.{cases_lt}
 use Rattle.std.proofs.lemmas.List.{get_or_append_left}
@@ -54,18 +55,22 @@ module _ (a : AttributionParts) (operations : Operations) (trees : List Tree) wh
 
   -- the tree that a new site is given is the child's, and one that an expression makes has none yet
   pub record IsGiven (top : Tree) (q : Path) (step : Step) (its_tree : Option TreeId) : Type 0 where
-    pub child_node : (id : TreeId) → its_tree ≡ Some id → (k : ℕ) × (step_of step ≡ child k) × IsNode a operations trees top (down q (child k)) id
+    pub child_node : (id : TreeId) → its_tree ≡ Some id → (k : ℕ) × (step_of step ≡ child k)
+        × IsNode a operations trees top (down q (child k)) id
     pub child_has : (k : ℕ) → step_of step ≡ child k → (id : TreeId) × (its_tree ≡ Some id)
 
   module _ (old new : Memo) (parent site : ℕ) (step : Step) (its_tree : Option TreeId) (top : Tree) (all : List Instance)
-      (is : IsMemo a operations trees top all old) (whole : IsWhole new) (grown : IsGrown old new) (below : IsBelow old new parent step its_tree site)
-      (there : parent ≤ count old) (parent_has : (id : TreeId) × HasTree old parent id) (given : IsGiven top (path_in old parent) step its_tree) where
+      (is : IsMemo a operations trees top all old) (whole : IsWhole new) (grown : IsGrown old new)
+      (below : IsBelow old new parent step its_tree site)
+      (there : parent ≤ count old) (parent_has : (id : TreeId) × HasTree old parent id)
+      (given : IsGiven top (path_in old parent) step its_tree) where
     within : (i : ℕ) (id : TreeId) → HasTree new i id → i ≤ count new
     within i id has = let lt = slice_get_within new.trees.items i (Some id) has in let t = whole.trees in omega (arith, lt, t)
 
     -- of an old site, or of a new one
     by_site : (P : ℕ → Type 0) (i : ℕ) → i ≤ count new → (i ≤ count old → P i)
-        → (count old < i → (slice_get new.trees.items i ≡ Some its_tree) → (path_in new i ≡ down (path_in old parent) (step_of step)) → P i) → P i
+        → (count old < i → (slice_get new.trees.items i ≡ Some its_tree) → (path_in new i ≡ down (path_in old parent) (step_of step)) → P i)
+        → P i
     by_site P i le before after = elim (cases_lt (count old) i) [
       | inl lt ↦ let (t, p) = below.fresh i lt le in after lt t p
       | inr ge ↦ before (omega (arith, ge))
@@ -84,8 +89,10 @@ module _ (a : AttributionParts) (operations : Operations) (trees : List Tree) wh
         → (i ≤ count old → recall old i x ≡ Some v → IsValueOf a operations trees top all (instance (path_in old i)) v)
         → IsValueOf a operations trees top all (instance (path_in new i)) v
     grown_value i x v instance le has old_one = by_site (λ i. recall old i x ≡ Some v → (i ≤ count old → recall old i x ≡ Some v
-        → IsValueOf a operations trees top all (instance (path_in old i)) v) → IsValueOf a operations trees top all (instance (path_in new i)) v) i le
-        (λ before got f. subst (λ (q : Path). IsValueOf a operations trees top all (instance q) v) (sym (grown.paths i before)) (f before got))
+        → IsValueOf a operations trees top all (instance (path_in old i)) v)
+        → IsValueOf a operations trees top all (instance (path_in new i)) v) i le
+        (λ before got f. subst (λ (q : Path). IsValueOf a operations trees top all (instance q) v) (sym (grown.paths i before))
+        (f before got))
         (λ after t p got f. absurd (let n = none_past old i x is.whole after in let h = sym n ∙ got in cc h))
         (sym (grown.recalls i x) ∙ has) old_one
 
@@ -99,7 +106,8 @@ module _ (a : AttributionParts) (operations : Operations) (trees : List Tree) wh
           let (k, step_is, is_node) = given.child_node id same in
           subst (λ (q : Path). IsNode a operations trees top q id)
           (ap (down (path_in old parent)) (sym step_is) ∙ sym p) is_node) has;
-      made_trees = λ i id q k has path. by_site (λ i. HasTree new i id → path_in new i ≡ down q (made k) → Contains all (tree_at q k)) i (within i id has)
+      made_trees = λ i id q k has path. by_site (λ i. HasTree new i id → path_in new i ≡ down q (made k) → Contains all (tree_at q k)) i
+          (within i id has)
           (λ le h e. is.made_trees i id q k (old_tree i id le h) (sym (grown.paths i le) ∙ e))
           (λ lt t p h e.
           let same : its_tree ≡ Some id = same_Some its_tree (Some id) (sym t ∙ h) in
@@ -120,7 +128,8 @@ module _ (a : AttributionParts) (operations : Operations) (trees : List Tree) wh
             let e = below.from k o (omega (arith, ge)) at in
             (id, subst (λ (z : ℕ). HasTree new z id) (sym e) (new_tree parent id there has))
       ];
-      synthesized = λ i x v le goes has. grown_value i x v (λ q. synthesized_at q x) le has (λ before got. is.synthesized i x v before goes got);
+      synthesized = λ i x v le goes has. grown_value i x v (λ q. synthesized_at q x) le has
+          (λ before got. is.synthesized i x v before goes got);
       inherited = λ i x v le goes has. grown_value i x v (λ q. inherited_at q x) le has (λ before got. is.inherited i x v before goes got);
     }
 
@@ -144,13 +153,17 @@ module _ (a : AttributionParts) (operations : Operations) (trees : List Tree) wh
 
     pub grown_stack : (ks : List Key) (base is : List Instance) → AreNamed old ks base is → AreNamed new ks base is
     grown_stack [] base is h = h
-    grown_stack (k ∷ ks) base is (key_is, rest) =
-        (grown_key k key_is, subst (λ (i : Instance). AreNamed new ks (i ∷ base) is) (sym (grown_named k key_is)) (grown_stack ks (named old k ∷ base) is rest))
+    grown_stack (k ∷ ks) base is (key_is, rest) = (
+      grown_key k key_is,
+      subst (λ (i : Instance). AreNamed new ks (i ∷ base) is) (sym (grown_named k key_is))
+          (grown_stack ks (named old k ∷ base) is rest),
+    )
 
   -- a machine whose memo has grown
   pub grown_runs : (m : Machine) (w : Walk) (new : Memo) (parent site : ℕ) (step : Step) (its_tree : Option TreeId) (runs : Runs_ m w)
       → IsWhole new → IsGrown m.memo new → IsBelow m.memo new parent step its_tree site → parent ≤ count m.memo
-      → (id : TreeId) × HasTree m.memo parent id → IsGiven runs.machine.top (path_in m.memo parent) step its_tree → Runs_ (with_memo m new) w
+      → (id : TreeId) × HasTree m.memo parent id → IsGiven runs.machine.top (path_in m.memo parent) step its_tree
+      → Runs_ (with_memo m new) w
   grown_runs m w new parent site step its_tree runs whole grown below there has given =
       let r = runs.machine in
       record {
@@ -168,10 +181,13 @@ module _ (a : AttributionParts) (operations : Operations) (trees : List Tree) wh
           memo = grown_memo m.memo new parent site step its_tree r.top r.all r.memo whole grown below there has given;
           complete = λ i contains. elim (r.complete i contains) [
             | inl on_stack ↦ inl on_stack
-            | inr recalled ↦ inr (grown_recalled m.memo new parent site step its_tree r.top r.all r.memo whole grown below there has given i recalled)
+            | inr recalled ↦ inr (grown_recalled m.memo new parent site step its_tree r.top r.all r.memo whole grown below there has given i
+                recalled)
           ];
-          stack = grown_stack m.memo new parent site step its_tree r.top r.all r.memo whole grown below there has given m.stack.items [] _ r.stack;
-          frames = frames_moved a operations trees r.top m.attribute r.all m.memo new m.stack.items (waits m.frames) r.frames grown.more grown.paths
+          stack = grown_stack m.memo new parent site step its_tree r.top r.all r.memo whole grown below there has given m.stack.items [] _
+              r.stack;
+          frames = frames_moved a operations trees r.top m.attribute r.all m.memo new m.stack.items
+              (waits m.frames) r.frames grown.more grown.paths
               (λ i id le had. (id, grown.trees i le ∙ had, refl))
               (grown_key m.memo new parent site step its_tree r.top r.all r.memo whole grown below there has given)
               (grown_named m.memo new parent site step its_tree r.top r.all r.memo whole grown below there has given);
@@ -222,7 +238,11 @@ module _ (a : AttributionParts) (operations : Operations) (trees : List Tree) wh
       let at = subst (λ (z : Path). IsNodeAt a operations r.top z (tree_in trees id.0)) path n.is_node in
       subst (λ (z : Value). IsValueOf a operations trees r.top r.all (tree_named (path_in m.memo i)) z) (sym v_is)
       (subst (λ (z : Path). IsValueOf a operations trees r.top r.all (tree_named z) (stored.Tree id)) (sym path)
-      (record { answers = made_answer r.top q k (tree_in trees id.0) at; inside = n.inside; entered = r.memo.made_trees i id q k has path }))
+      (record {
+        answers = made_answer r.top q k (tree_in trees id.0) at;
+        inside = n.inside;
+        entered = r.memo.made_trees i id q k has path;
+      }))
 
   -- a value that is known is read
   pub runs_on : (m : Machine) (k : Key) (v : Value) (rest : _) → Runs_ m (read (named m.memo k) rest) → IsKey m.memo k
@@ -274,7 +294,8 @@ module _ (a : AttributionParts) (operations : Operations) (trees : List Tree) wh
 
   -- trees are added to the store
   module _ (more : List Tree) where
-    pub more_node : (top : Tree) (q : Path) (id : TreeId) → IsNode a operations trees top q id → IsNode a operations (trees ++ more) top q id
+    pub more_node : (top : Tree) (q : Path) (id : TreeId) → IsNode a operations trees top q id
+        → IsNode a operations (trees ++ more) top q id
     more_node top q id n = record {
       inside = let l = length-append trees more in let i = n.inside in omega (arith, l, i);
       is_node = subst (IsNodeAt a operations top q) (sym (get_or_append_left trees more (node 0 empty) id.0 n.inside)) n.is_node;
@@ -283,7 +304,8 @@ module _ (a : AttributionParts) (operations : Operations) (trees : List Tree) wh
     pub more_value : (top : Tree) (all : List Instance) (i : Instance) (v : Value) → IsValueOf a operations trees top all i v
         → IsValueOf a operations (trees ++ more) top all i v
     more_value top all i v h = record {
-      answers = subst (λ (z : Rattle.wb_values.specs.Tree.Value). HasAnswer a operations top i (value z)) (sym (value_more more v h.inside)) h.answers;
+      answers = subst (λ (z : Rattle.wb_values.specs.Tree.Value). HasAnswer a operations top i (value z))
+          (sym (value_more more v h.inside)) h.answers;
       inside = still_in more v h.inside;
       entered = h.entered;
     }
@@ -307,7 +329,8 @@ module _ (a : AttributionParts) (operations : Operations) (trees : List Tree) wh
         child_trees = r.memo.child_trees;
         root_tree = r.memo.root_tree;
         parents = r.memo.parents;
-        synthesized = λ i x v le goes has. more_value r.top r.all (synthesized_at (path_in m.memo i) x) v (r.memo.synthesized i x v le goes has);
+        synthesized = λ i x v le goes has. more_value r.top r.all (synthesized_at (path_in m.memo i) x) v
+            (r.memo.synthesized i x v le goes has);
         inherited = λ i x v le goes has. more_value r.top r.all (inherited_at (path_in m.memo i) x) v (r.memo.inherited i x v le goes has);
       };
       complete = r.complete;

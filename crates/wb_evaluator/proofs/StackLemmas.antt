@@ -45,7 +45,8 @@ module _ (operations : List OperationSignature) (nodes : List Node) where
   unstacked (v ∷ ts) u base jobs (k, is_k, rest) =
       let (j, others, is, same, below_it) = unstacked ts u (k ∷ base) jobs rest in (j, others, is, same, (k, is_k, below_it))
 
-  pub stacked : (ts : List Task) (u : Task) (j : Job) (base rest : List Job) → Stacked operations nodes ts base rest → IsJob operations nodes u j
+  pub stacked : (ts : List Task) (u : Task) (j : Job) (base rest : List Job) → Stacked operations nodes ts base rest
+      → IsJob operations nodes u j
       → Stacked operations nodes (ts ++ u ∷ []) base (j ∷ rest)
   stacked [] u j base rest same is = (j, is, ap (λ (l : List Job). j ∷ l) same)
   stacked (v ∷ ts) u j base rest (k, is_k, below_it) is = (k, is_k, stacked ts u j (k ∷ base) rest below_it is)
@@ -111,7 +112,8 @@ left_visiting nodes (place ∷ places) =
     omega (arith, h, g)
 
 -- a value on top
-pub stack_push : (trees : List Tree) (values : List Value) (v : Value) → stack_of trees (values ++ v ∷ []) ≡ value_in trees v ∷ stack_of trees values
+pub stack_push : (trees : List Tree) (values : List Value) (v : Value)
+    → stack_of trees (values ++ v ∷ []) ≡ value_in trees v ∷ stack_of trees values
 stack_push trees values v = by_stack values [] where
   by_stack : (values : List Value) (base : List t.Value)
       → pushed (values_in trees (values ++ v ∷ [])) base ≡ value_in trees v ∷ pushed (values_in trees values) base
@@ -153,7 +155,8 @@ module _ (signatures : List Signature) where
       )
 
 -- less is left to do than with a task that was on top
-pub smaller : (nodes : List Node) (after before rest : List Task) (u : Task) → left_to_do nodes after < left_to_do nodes rest + task_size nodes u
+pub smaller : (nodes : List Node) (after before rest : List Task) (u : Task)
+    → left_to_do nodes after < left_to_do nodes rest + task_size nodes u
     → before ≡ rest ++ u ∷ [] → left_to_do nodes after < left_to_do nodes before
 smaller nodes after before rest u less same =
     let l = left_push nodes rest (u ∷ []) in

@@ -9,14 +9,14 @@ use Rattle.wb_resolved.specs.declared.attribution.AttributionParts.{AttributionP
 use Rattle.wb_resolved.specs.declared.production.Production.{Production}
 use Rattle.wb_resolved.specs.Expression.{Node}
 use Rattle.wb_values.specs.declared.value.TreeId.{TreeId}
-use Rattle.wb_values.specs.Tree.{Tree, tree, production_of}
+use Rattle.wb_values.specs.Tree.{Tree, production_of}
 use Rattle.wb_values.specs.ValuesIn.{tree_in}
 use Rattle.wb_evaluation.proofs.LawLemmas.{setting_of}
 use Rattle.wb_evaluation.proofs.ProductionLemmas.{expression_at}
 use Rattle.wb_evaluation.specs.Instances.{Path, down, inherited_at, tree_at}
 use Rattle.std.proofs.lemmas.Option.{slice_get-get_or}
 use Rattle.wb_evaluator.proofs.LeaveLemmas.{named_length, key_here}
-use Rattle.wb_evaluator.specs.Inner.Machines.{tree_named, named, IsMachine, Wants}
+use Rattle.wb_evaluator.specs.Inner.Machines.{tree_named, IsMachine, Wants}
 use Rattle.wb_memo.specs.Memos.{path_in}
 use Rattle.wb_memo.specs.Sites.{step_of}
 use Rattle.wb_evaluator.specs.Inner.Starts.{HasProduction, IsProductionAt, IsAtWork, IsStarting, IsAlone, IsForwarding, made_by}
@@ -30,7 +30,7 @@ use Rattle.wb_memo.specs.declared.sites.Step.{Step}
 use Rattle.wb_memo.specs.declared.sites.Step.TheVariants as step
 use Rattle.wb_evaluator.specs.declared.work.Task.TheVariants as task
 use Rattle.wb_evaluator.proofs.HomeLemmas.{site_some, from_origin, IsFrom, rule_expression, tree_start, tree_none, below_start, below_none}
-use Rattle.wb_evaluator.proofs.HomeLemmas.{tree_known, top_start, top_forward, tree_wanted, inherited_down, tree_there, has_production}
+use Rattle.wb_evaluator.proofs.HomeLemmas.{tree_known, top_start, top_forward, tree_wanted, inherited_down, has_production}
 use Rattle.wb_evaluator.proofs.HomeLemmas.{node_at}
 
 module _ {a : AttributionParts} {operations : Operations} {trees : List Tree} {m : Machine} where
@@ -55,9 +55,6 @@ module _ {a : AttributionParts} {operations : Operations} {trees : List Tree} {m
           let f = from_origin w.machine site q b o path w.is_key inherited_origin in
           w.this_is ∙ ap (λ (z : Path). inherited_at z x) (path ∙ ap (λ (z : Path). down z b) (sym f.up)
           ∙ ap (down (path_in m.memo o.parent)) (sym f.way))
-
-      pub inherited_there : o.parent < length m.memo.trees.items
-      inherited_there = tree_there w.machine o.parent inherited_from.id inherited_from.has
 
       pub inherited_production : HasProduction a trees m o.parent
       inherited_production = has_production w.machine o.parent inherited_from.id inherited_from.has
@@ -107,9 +104,6 @@ module _ {a : AttributionParts} {operations : Operations} {trees : List Tree} {m
             w.this_is ∙ ap tree_named path ∙ ap (λ (z : Path). tree_at z k) (sym f.up),
             record { up = refl; way = refl; id = f.id; has = f.has; there = f.there },
           )
-
-      pub tree_within : o.parent < length m.memo.trees.items
-      tree_within = let f = tree_from.3 in tree_there w.machine o.parent f.id f.has
 
       pub tree_production : HasProduction a trees m o.parent
       tree_production = let f = tree_from.3 in has_production w.machine o.parent f.id f.has

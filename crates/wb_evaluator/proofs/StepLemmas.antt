@@ -57,7 +57,8 @@ last_key (y ∷ z ∷ xs) x at =
 module _ (a : AttributionParts) (operations : Operations) (trees : List Tree) where
   -- another list of entered instances
   module _ (top : Tree) (all : List Instance) (r : Instance) where
-    more_value : (i : Instance) (v : Value) → IsValueOf a operations trees top all i v → IsValueOf a operations trees top (all ++ r ∷ []) i v
+    more_value : (i : Instance) (v : Value) → IsValueOf a operations trees top all i v
+        → IsValueOf a operations trees top (all ++ r ∷ []) i v
     more_value i v h = record { answers = h.answers; inside = h.inside; entered = push_contains all r i h.entered }
 
     more_memo : (m : Memo) → IsMemo a operations trees top all m → IsMemo a operations trees top (all ++ r ∷ []) m
@@ -91,21 +92,26 @@ module _ (a : AttributionParts) (operations : Operations) (trees : List Tree) wh
         state = subst (λ (y : ℕ). IsState a operations r.top y (r.all ++ i ∷ []) i (r.this ∷ r.waiting)) (sym attribute) e;
         counted = let l = length-append r.all (i ∷ []) in let c = r.counted in omega (arith, count_is, l, c);
         memo = subst (IsMemo a operations trees r.top (r.all ++ i ∷ [])) (sym memo) (more_memo r.top r.all i m.memo r.memo);
-        complete = λ z has. subst (λ (mm : Memo). Contains (i ∷ r.this ∷ r.waiting) z ⊎ IsRecalled mm z) (sym memo) (elim (contains_push r.all i z has) [
-          | inl old ↦ elim (r.complete z old) [
-            | inl on_stack ↦ inl (contains_later i z (r.this ∷ r.waiting) on_stack)
-            | inr recalled ↦ inr recalled
-          ]
-          | inr same ↦ inl (subst (Contains (i ∷ r.this ∷ r.waiting)) same (contains_first i (r.this ∷ r.waiting)))
-        ]);
+        complete = λ z has. subst (λ (mm : Memo). Contains (i ∷ r.this ∷ r.waiting) z ⊎ IsRecalled mm z) (sym memo)
+            (elim (contains_push r.all i z has) [
+              | inl old ↦ elim (r.complete z old) [
+                | inl on_stack ↦ inl (contains_later i z (r.this ∷ r.waiting) on_stack)
+                | inr recalled ↦ inr recalled
+              ]
+              | inr same ↦ inl (subst (Contains (i ∷ r.this ∷ r.waiting)) same (contains_first i (r.this ∷ r.waiting)))
+            ]);
         stack = subst (λ (ks : List Key). AreNamed new.memo ks [] (i ∷ r.this ∷ r.waiting)) (sym stack)
             (subst (λ (mm : Memo). AreNamed mm (m.stack.items ++ k ∷ []) [] (i ∷ r.this ∷ r.waiting)) (sym memo)
             (named_more m.memo m.stack.items k [] (r.this ∷ r.waiting) r.stack w.is_key));
-        frames = subst (λ (ks : List Key). AreSuspended a operations trees r.top new.attribute (r.all ++ i ∷ []) new.memo ks (waits new.frames)) (sym stack)
-            (subst (AreSuspended a operations trees r.top new.attribute (r.all ++ i ∷ []) new.memo (m.stack.items ++ k ∷ [])) (sym frames_are)
-            (subst (λ (y : ℕ). AreSuspended a operations trees r.top y (r.all ++ i ∷ []) new.memo (m.stack.items ++ k ∷ []) ((waits m.frames) ++ None ∷ []))
+        frames = subst (λ (ks : List Key). AreSuspended a operations trees r.top new.attribute (r.all ++ i ∷ []) new.memo ks
+            (waits new.frames)) (sym stack)
+            (subst (AreSuspended a operations trees r.top new.attribute (r.all ++ i ∷ []) new.memo (m.stack.items ++ k ∷ []))
+            (sym frames_are)
+            (subst (λ (y : ℕ). AreSuspended a operations trees r.top y (r.all ++ i ∷ []) new.memo (m.stack.items ++ k ∷ [])
+            ((waits m.frames) ++ None ∷ []))
             (sym attribute)
-            (subst (λ (mm : Memo). AreSuspended a operations trees r.top m.attribute (r.all ++ i ∷ []) mm (m.stack.items ++ k ∷ []) ((waits m.frames) ++ None ∷ []))
+            (subst (λ (mm : Memo). AreSuspended a operations trees r.top m.attribute (r.all ++ i ∷ []) mm (m.stack.items ++ k ∷ [])
+            ((waits m.frames) ++ None ∷ []))
             (sym memo) (frames_entered a operations trees r.top m.attribute r.all m.memo m.stack.items (waits m.frames) k i r.frames))));
         piled = piled;
       }
@@ -121,7 +127,8 @@ module _ (a : AttributionParts) (operations : Operations) (trees : List Tree) wh
   one_way x first second = let h = sym first ∙ second in cc h
 
   -- the value of the instance at work is kept
-  module _ (m : Machine) (v : Value) (runs : Runs a operations trees m (done (value (value_in trees v)))) (inside : IsIn (length trees) v) where
+  module _ (m : Machine) (v : Value) (runs : Runs a operations trees m (done (value (value_in trees v))))
+      (inside : IsIn (length trees) v) where
     abbrev r : IsMachine a operations trees m
     r = runs.machine
 
@@ -154,18 +161,23 @@ module _ (a : AttributionParts) (operations : Operations) (trees : List Tree) wh
         | inr d ↦ inr (kept i y (inl d))
       ]
 
-      memo_with : ((w : Value) → Goes a Synthesized x → recall new site x ≡ Some w → IsValueOf a operations trees r.top r.all (synthesized_at (path_in m.memo site) x) w)
-          → ((w : Value) → Goes a Inherited x → recall new site x ≡ Some w → IsValueOf a operations trees r.top r.all (inherited_at (path_in m.memo site) x) w)
+      memo_with : ((w : Value) → Goes a Synthesized x → recall new site x ≡ Some w
+          → IsValueOf a operations trees r.top r.all (synthesized_at (path_in m.memo site) x) w)
+          → ((w : Value) → Goes a Inherited x → recall new site x ≡ Some w
+          → IsValueOf a operations trees r.top r.all (inherited_at (path_in m.memo site) x) w)
           → IsMemo a operations trees r.top r.all new
       memo_with synthesized_one inherited_one = record {
         whole = whole;
-        nodes = λ i id has. subst (λ (q : Path). IsNode a operations trees r.top q id) (sym (paths i)) (r.memo.nodes i id (tree_old i id has));
+        nodes = λ i id has. subst (λ (q : Path). IsNode a operations trees r.top q id) (sym (paths i))
+            (r.memo.nodes i id (tree_old i id has));
         made_trees = λ i id q k has path. r.memo.made_trees i id q k (tree_old i id has) (sym (paths i) ∙ path);
         child_trees = λ i q k le path.
             let (id, has) = r.memo.child_trees i q k (omega (arith, le, counts)) (sym (paths i) ∙ path) in (id, tree_new i id has);
         root_tree = let (id, has) = r.memo.root_tree in (id, tree_new 0 id has);
-        parents = λ k o at. let (id, has) = r.memo.parents k o (subst (λ s. slice_get s.origins.items k ≡ Some o) sites at) in (id, tree_new o.parent id has);
-        synthesized = λ i y w le goes has. subst (λ (q : Path). IsValueOf a operations trees r.top r.all (synthesized_at q y) w) (sym (paths i))
+        parents = λ k o at. let (id, has) = r.memo.parents k o (subst (λ s. slice_get s.origins.items k ≡ Some o) sites at) in
+            (id, tree_new o.parent id has);
+        synthesized = λ i y w le goes has. subst (λ (q : Path). IsValueOf a operations trees r.top r.all (synthesized_at q y) w)
+            (sym (paths i))
             (elim (cell i y) [
               | inl (e, f) ↦
                   let has' : recall new site x ≡ Some w = sym (ap (λ (z : ℕ). recall new z y) e ∙ ap (recall new site) f) ∙ has in

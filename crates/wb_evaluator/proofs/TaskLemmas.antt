@@ -55,7 +55,8 @@ below_all us n values l =
 
 module _ (operations : Operations) (q : Path) (vs : Values) where
   resume_visits : (es : Expressions) (jobs : List Job) (values : List Value)
-      → resume operations q vs (visits es jobs) values ≡ walk_expressions operations q vs es (λ us. resume operations q vs jobs (pushed us values))
+      → resume operations q vs (visits es jobs) values
+      ≡ walk_expressions operations q vs es (λ us. resume operations q vs jobs (pushed us values))
   unfolding resume walk_expressions
   resume_visits x.none jobs values = refl
   resume_visits (x.more e es) jobs values = ap (walk_expression operations q vs e) (fun_ext (λ v. resume_visits es jobs (v ∷ values)))
@@ -65,7 +66,8 @@ module _ (operations : Operations) (q : Path) (vs : Values) where
       → walk_expressions operations q vs es f ≡ walk_expressions operations q vs es h
   unfolding walk_expressions
   same_rest x.none f h s = s empty refl
-  same_rest (x.more e es) f h s = ap (walk_expression operations q vs e) (fun_ext (λ v. same_rest es _ _ (λ us l. s (more v us) (ap suc l))))
+  same_rest (x.more e es) f h s = ap (walk_expression operations q vs e)
+      (fun_ext (λ v. same_rest es _ _ (λ us l. s (more v us) (ap suc l))))
 
   -- a choice visits its condition first
   pub step_choice : (c h f : Expression) (jobs : List Job) (values : List Value)
@@ -81,14 +83,16 @@ module _ (operations : Operations) (q : Path) (vs : Values) where
     at_end : (us : Values) → size us ≡ count es
         → resume operations q vs jobs (tree (node p us) ∷ values) ≡ resume operations q vs (build p (count es) ∷ jobs) (pushed us values)
     at_end us l =
-        sym (ap (λ (ws : Values). resume operations q vs jobs (tree (node p ws) ∷ below (count es) (pushed us values))) (popped_all us (count es) values l)
+        sym (ap (λ (ws : Values). resume operations q vs jobs (tree (node p ws) ∷ below (count es) (pushed us values)))
+        (popped_all us (count es) values l)
         ∙ ap (λ (rest : List Value). resume operations q vs jobs (tree (node p us) ∷ rest)) (below_all us (count es) values l))
 
   abbrev called : List ℕ → List Job → Values → List Value → Walk
   called name jobs ws rest = with_call operations (number_of operations.signatures name) ws (λ v. resume operations q vs jobs (v ∷ rest))
 
   pub step_call : (name : List ℕ) (es : Expressions) (jobs : List Job) (values : List Value)
-      → resume operations q vs (visit (x.Call name es) ∷ jobs) values ≡ resume operations q vs (visits es (call name (count es) ∷ jobs)) values
+      → resume operations q vs (visit (x.Call name es) ∷ jobs) values
+      ≡ resume operations q vs (visits es (call name (count es) ∷ jobs)) values
   unfolding resume walk_expression
   step_call name es jobs values = same_rest es _ _ at_end ∙ sym (resume_visits es (call name (count es) ∷ jobs) values) where
     at_end : (us : Values) → size us ≡ count es

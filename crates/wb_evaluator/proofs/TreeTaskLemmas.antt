@@ -52,7 +52,8 @@ split (suc k) [] = refl
 split zero (x ∷ xs) = refl
 split (suc k) (x ∷ xs) = ap (λ l. x ∷ l) (split k xs)
 
-module _ (a : AttributionParts) (operations : Operations) (trees : List Tree) (m : Machine) (site : ℕ) (nodes : List Node) (tasks : List Task)
+module _ (a : AttributionParts) (operations : Operations) (trees : List Tree) (m : Machine) (site : ℕ) (nodes : List Node)
+    (tasks : List Task)
     (values : List Value) where
   abbrev q : Path
   q = path_in m.memo site
@@ -176,7 +177,8 @@ module _ (a : AttributionParts) (operations : Operations) (trees : List Tree) (m
       let made_is : node p (values_in trees it.args) ≡ made = ap (λ (xs : List Value). node p (values_in trees xs)) it.args_is in
       let trees' = trees ++ made ∷ [] in
       let site_inside = (ev.runs.machine.memo.nodes site ev.id ev.has).inside in
-      let site_is : tree_in trees' ev.id.0 ≡ tree_in trees ev.id.0 = get_or_append_left trees (made ∷ []) (node 0 empty) ev.id.0 site_inside in
+      let site_is : tree_in trees' ev.id.0 ≡ tree_in trees ev.id.0 =
+      get_or_append_left trees (made ∷ []) (node 0 empty) ev.id.0 site_inside in
       let new_is : tree_in trees' id.0 ≡ made =
       ap (tree_in trees') id_is ∙ default_at trees' (length trees) (node 0 empty) made (push_last trees made) in
       let front_is : stack_of trees' it.front ≡ stack_of trees it.front =
@@ -184,12 +186,22 @@ module _ (a : AttributionParts) (operations : Operations) (trees : List Tree) (m
       let stack_is : stack_of trees' (it.front ++ stored.Tree id ∷ []) ≡ t.tree made ∷ stack_of trees it.front =
       stack_push trees' it.front (stored.Tree id) ∙ ap (λ (z : Tree). t.tree z ∷ stack_of trees' it.front) new_is
       ∙ ap (λ (l : List t.Value). t.tree made ∷ l) front_is in
-      let fits : FitsValue a.signatures (t.tree made) (kd.Tree b.s.left) =
-      (b.s.left, refl, (b.s, b.at, refl, subst (λ (xs : List Value). FitAll a.signatures (values_in trees xs) b.s.children) it.args_is it.args_fit)) in
+      let fits : FitsValue a.signatures (t.tree made) (kd.Tree b.s.left) = (
+        b.s.left,
+        refl,
+        (
+          b.s,
+          b.at,
+          refl,
+          subst (λ (xs : List Value). FitAll a.signatures (values_in trees xs) b.s.children) it.args_is
+              it.args_fit,
+        ),
+      ) in
       let runs = more_runs a operations trees (made ∷ []) m _ (subst (λ (z : Tree). Runs a operations trees m
       (resume operations q (children_of (tree_in trees ev.id.0)) b.rest (t.tree z ∷ stack_of trees it.front))) made_is b.runs) in
       let len : length trees' ≡ suc (length trees) = let l = length-append trees (made ∷ []) in omega (arith, l) in
-      subst (IsEvaluating a operations trees' m site nodes tasks) (ap (λ (xs : List Value). xs ++ stored.Tree id ∷ []) it.front_is) (record {
+      subst (IsEvaluating a operations trees' m site nodes tasks) (ap (λ (xs : List Value). xs ++ stored.Tree id ∷ []) it.front_is)
+      (record {
         id = ev.id;
         has = ev.has;
         there = ev.there;
@@ -199,12 +211,15 @@ module _ (a : AttributionParts) (operations : Operations) (trees : List Tree) (m
         stacked = b.stacked_ones;
         kinds = kd.Tree b.s.left ∷ b.base;
         inside = All-push (IsIn (length trees')) it.front (stored.Tree id)
-            (all_weaker (IsIn (length trees)) (IsIn (length trees')) it.front (λ v. still_in a operations trees (made ∷ []) v) it.front_inside)
+            (all_weaker (IsIn (length trees)) (IsIn (length trees')) it.front
+            (λ v. still_in a operations trees (made ∷ []) v) it.front_inside)
             (omega (arith, len, id_is));
         values_fit = subst (λ (l : List t.Value). ValuesFit a.signatures l (kd.Tree b.s.left ∷ b.base)) (sym stack_is)
             (kd.Tree b.s.left, b.base, refl, fits, it.front_fit);
         jobs_fit = b.fit;
-        runs = subst (λ (l : List t.Value). Runs a operations trees' m (resume operations q (children_of (tree_in trees' ev.id.0)) b.rest l)) (sym stack_is)
-            (subst (λ (z : Tree). Runs a operations trees' m (resume operations q (children_of z) b.rest (t.tree made ∷ stack_of trees it.front)))
+        runs = subst (λ (l : List t.Value). Runs a operations trees' m
+            (resume operations q (children_of (tree_in trees' ev.id.0)) b.rest l)) (sym stack_is)
+            (subst (λ (z : Tree). Runs a operations trees' m
+            (resume operations q (children_of z) b.rest (t.tree made ∷ stack_of trees it.front)))
             (sym site_is) runs);
       })

@@ -1,5 +1,6 @@
 -- Visits of nodes: of one without parts, its value is pushed or an instance is read; of another, its parts are visited first.
-use Rattle.std.proofs.Common.{◌≡◌, ◌∙◌, ◌⊎◌, ◌≤◌, ◌++◌, inl, inr, ℕ, suc, List, [], ◌∷◌, Option, Some, None, All, length, refl, sym, ap, subst, arith}
+use Rattle.std.proofs.Common.{◌≡◌, ◌∙◌, ◌⊎◌, ◌≤◌, ◌++◌, inl, inr, ℕ, suc, List, [], ◌∷◌, Option, Some, None, All, length, refl, sym, ap}
+use Rattle.std.proofs.Common.{subst, arith}
 use Rattle.std.proofs.Common.{slice_get}
 use Rattle.std.proofs.lemmas.Option.{same_Some}
 use Rattle.std.proofs.lemmas.List.Elements.{All-push}
@@ -61,7 +62,8 @@ have_length ks x.none k.nothing = refl
 have_length ks (x.more e es) (k.next {ks = rest} first more) = ap suc (have_length rest es more)
 
 -- visits of typed expressions
-visits_fit : (a : AttributionParts) (operations : Operations) (production : Production) (es : Expressions) (ks : List Kind) (jobs : List Job)
+visits_fit : (a : AttributionParts) (operations : Operations) (production : Production) (es : Expressions) (ks : List Kind)
+    (jobs : List Job)
     (base : List Kind) → HaveKinds a operations.signatures production es ks
     → ((part : Node) → IsInOne es part → (owner : ℕ) × IsNamedNode a production owner part)
     → JobsFit a operations production jobs (more_kinds ks base) → JobsFit a operations production (visits es jobs) base
@@ -74,7 +76,8 @@ visits_fit a operations production (x.more e es) ks jobs base (k.next {k = first
 
 module _ (a : AttributionParts) (operations : Operations) (trees : List Tree) where
   -- an expression is visited next
-  pub record IsVisiting (m : Machine) (site : ℕ) (nodes : List Node) (tasks : List Task) (values : List Value) (e : Expression) : Type 0 where
+  pub record IsVisiting (m : Machine) (site : ℕ) (nodes : List Node) (tasks : List Task) (values : List Value)
+      (e : Expression) : Type 0 where
     pub id : TreeId
     pub has : HasTree m.memo site id
     pub there : site ≤ memos.count m.memo
@@ -101,7 +104,8 @@ module _ (a : AttributionParts) (operations : Operations) (trees : List Tree) wh
       let (j, rest, is, same, below) = unstacked operations.signatures nodes tasks (task.Visit place) [] ev.jobs ev.stacked in
       by_job j is rest same below where
         by_job : (j : Job) → IsJob operations.signatures nodes (task.Visit place) j → (rest : List Job) → ev.jobs ≡ j ∷ rest
-            → Stacked operations.signatures nodes tasks [] rest → (e : Expression) × Stands nodes place e × IsVisiting m site nodes tasks values e
+            → Stacked operations.signatures nodes tasks [] rest
+            → (e : Expression) × Stands nodes place e × IsVisiting m site nodes tasks values e
         by_job (visit e) (stands, small) rest same below =
             let fit = subst (λ (jobs : List Job). JobsFit a operations ev.production jobs ev.kinds) same ev.jobs_fit in
             let runs = subst (λ (jobs : List Job). Runs a operations trees m (resume operations (path_in m.memo site)
@@ -156,11 +160,13 @@ module _ (a : AttributionParts) (operations : Operations) (trees : List Tree) wh
     value_fits w goes =
         by_case (through s q above v.production node_here v.is vs (below_fits s above v.production v.is (node_fits s node_here)) e v.kind
         (finish operations) (done (value w)) v.typed.has_kind v.typed.named goes) where
-          by_case : (Inside (IsPart e) q (done (value w)) ⊎ ((u : t.Value) × FitsValue a.signatures u v.kind × Goes (Sound s) (finish operations u) (done (value w))))
+          by_case : (Inside (IsPart e) q (done (value w)) ⊎ ((u : t.Value) × FitsValue a.signatures u v.kind
+              × Goes (Sound s) (finish operations u) (done (value w))))
               → FitsValue a.signatures w v.kind
           by_case (inl (at_read part to rest has reads h)) = absurd (cc h)
           by_case (inl (at_fault operation code h)) = absurd (cc h)
-          by_case (inr z) = let h = goes_done z.2 in let same : z.0 ≡ w = cc h in subst (λ (u : t.Value). FitsValue a.signatures u v.kind) same z.1
+          by_case (inr z) = let h = goes_done z.2 in let same : z.0 ≡ w = cc h in
+              subst (λ (u : t.Value). FitsValue a.signatures u v.kind) same z.1
 
     -- a value is pushed
     value_pushed : (w : Value) → Runs a operations trees m (rest_of (value_in trees w)) → FitsValue a.signatures (value_in trees w) v.kind
@@ -188,11 +194,13 @@ module _ (a : AttributionParts) (operations : Operations) (trees : List Tree) wh
         → IsIn (length trees) w → IsEvaluating a operations trees m site nodes tasks (values ++ w ∷ [])
     at_once w is inside =
         value_pushed w (subst (Runs a operations trees m) (is rest_of) v.runs)
-        (value_fits (value_in trees w) (subst (λ (u : Walk). Goes (Sound s) u (done (value (value_in trees w)))) (sym (is (finish operations))) stay))
+        (value_fits (value_in trees w) (subst (λ (u : Walk). Goes (Sound s) u (done (value (value_in trees w))))
+        (sym (is (finish operations))) stay))
         inside
 
     -- one that reads an instance
-    module _ (key : Key) (is_key : IsKey m.memo key) (is : (rest : t.Value → Walk) → walk_expression operations q vs e rest ≡ read (named m.memo key) rest) where
+    module _ (key : Key) (is_key : IsKey m.memo key)
+        (is : (rest : t.Value → Walk) → walk_expression operations q vs e rest ≡ read (named m.memo key) rest) where
       abbrev reading : Runs a operations trees m (read (named m.memo key) rest_of)
       reading = record {
         machine = v.runs.machine;
@@ -205,7 +213,8 @@ module _ (a : AttributionParts) (operations : Operations) (trees : List Tree) wh
           let it = value_known a operations trees m key w rest_of reading is_key has in
           let goes = go (it.answers, kinded s it.answers) stay in
           value_pushed w runs
-          (value_fits (value_in trees w) (subst (λ (u : Walk). Goes (Sound s) u (done (value (value_in trees w)))) (sym (is (finish operations))) goes))
+          (value_fits (value_in trees w) (subst (λ (u : Walk). Goes (Sound s) u (done (value (value_in trees w))))
+          (sym (is (finish operations))) goes))
           inside
 
       pub read_new : known m.memo key ≡ None → (place : ℕ) → Stands nodes place e
@@ -258,14 +267,22 @@ module _ (a : AttributionParts) (operations : Operations) (trees : List Tree) wh
                 production = v.production;
                 is = v.is;
                 jobs = jobs;
-                stacked = visits_stacked operations.signatures nodes (tasks ++ task.Build p (length places) ∷ []) places es [] (build p (count es) ∷ v.rest)
-                    all (omega (arith, small)) (stacked operations.signatures nodes tasks (task.Build p (length places)) (build p (count es)) [] v.rest
+                stacked = visits_stacked operations.signatures nodes (tasks ++ task.Build p (length places) ∷ []) places es []
+                    (build p (count es) ∷ v.rest)
+                    all (omega (arith, small)) (stacked operations.signatures nodes tasks (task.Build p (length places))
+                    (build p (count es)) [] v.rest
                     v.stacked (refl, n));
                 kinds = v.kinds;
                 inside = v.inside;
                 values_fit = v.values_fit;
-                jobs_fit = visits_fit a operations v.production es o.children (build p (count es) ∷ v.rest) v.kinds have names
-                    (o, v.kinds, at, count_is, refl, subst (λ (z : Kind). JobsFit a operations v.production v.rest (z ∷ v.kinds)) kind_is v.jobs_fit);
+                jobs_fit = visits_fit a operations v.production es o.children (build p (count es) ∷ v.rest) v.kinds have names (
+                  o,
+                  v.kinds,
+                  at,
+                  count_is,
+                  refl,
+                  subst (λ (z : Kind). JobsFit a operations v.production v.rest (z ∷ v.kinds)) kind_is v.jobs_fit,
+                );
                 runs = subst (Runs a operations trees m) (step_build operations q vs p es v.rest (stack_of trees values)) runs;
               }
 
@@ -295,12 +312,21 @@ module _ (a : AttributionParts) (operations : Operations) (trees : List Tree) wh
                 jobs = visits es (call name (count es) ∷ v.rest);
                 stacked = visits_stacked operations.signatures nodes (tasks ++ task.Call number (length places) ∷ []) places es []
                     (call name (count es) ∷ v.rest) all (omega (arith, small))
-                    (stacked operations.signatures nodes tasks (task.Call number (length places)) (call name (count es)) [] v.rest v.stacked (found, n));
+                    (stacked operations.signatures nodes tasks (task.Call number (length places)) (call name (count es)) [] v.rest v.stacked
+                    (found, n));
                 kinds = v.kinds;
                 inside = v.inside;
                 values_fit = v.values_fit;
-                jobs_fit = visits_fit a operations v.production es o.takes (call name (count es) ∷ v.rest) v.kinds have names
-                    (i, o, v.kinds, at, is_named, count_is, refl, subst (λ (z : Kind). JobsFit a operations v.production v.rest (z ∷ v.kinds)) kind_is v.jobs_fit);
+                jobs_fit = visits_fit a operations v.production es o.takes (call name (count es) ∷ v.rest) v.kinds have names (
+                  i,
+                  o,
+                  v.kinds,
+                  at,
+                  is_named,
+                  count_is,
+                  refl,
+                  subst (λ (z : Kind). JobsFit a operations v.production v.rest (z ∷ v.kinds)) kind_is v.jobs_fit,
+                );
                 runs = subst (Runs a operations trees m) (step_call operations q vs name es v.rest (stack_of trees values)) runs;
               }
 
@@ -332,7 +358,8 @@ module _ (a : AttributionParts) (operations : Operations) (trees : List Tree) wh
             production = v.production;
             is = v.is;
             jobs = visit c ∷ choose h f ∷ v.rest;
-            stacked = stacked operations.signatures nodes (tasks ++ task.Choose ph pf ∷ []) (task.Visit pc) (visit c) [] (choose h f ∷ v.rest)
+            stacked = stacked operations.signatures nodes (tasks ++ task.Choose ph pf ∷ []) (task.Visit pc) (visit c) []
+                (choose h f ∷ v.rest)
                 (stacked operations.signatures nodes tasks (task.Choose ph pf) (choose h f) [] v.rest v.stacked
                 ((at_h, omega (arith, small)), (at_f, omega (arith, small)))) (at_c, omega (arith, small));
             kinds = v.kinds;
@@ -354,7 +381,8 @@ module _ (a : AttributionParts) (operations : Operations) (trees : List Tree) wh
           }
 
     -- what is read one step down
-    pub ready : (way : Step) (y : ℕ) → ((rest : t.Value → Walk) → walk_expression operations q vs e rest ≡ read (synthesized_at (down q (step_of way)) y) rest)
+    pub ready : (way : Step) (y : ℕ)
+        → ((rest : t.Value → Walk) → walk_expression operations q vs e rest ≡ read (synthesized_at (down q (step_of way)) y) rest)
         → IsReady trees m.memo site way
     ready (step.Child c) y is =
         let runs = subst (Runs a operations trees m) (is rest_of) v.runs in
@@ -367,7 +395,8 @@ module _ (a : AttributionParts) (operations : Operations) (trees : List Tree) wh
     ready step.Forward y is = tt
 
     -- the memo has grown
-    pub given_of : (t : Step) (tree : Option TreeId) → IsGivenTree trees m.memo site t tree → IsGiven a operations trees v.runs.machine.top q t tree
+    pub given_of : (t : Step) (tree : Option TreeId) → IsGivenTree trees m.memo site t tree
+        → IsGiven a operations trees v.runs.machine.top q t tree
     given_of (step.Child c) tree (id, kid, has, is_kid, tree_is) = record {
       child_node = λ other same.
           let e : kid ≡ other = same_Some kid other (sym tree_is ∙ same) in (
@@ -380,13 +409,17 @@ module _ (a : AttributionParts) (operations : Operations) (trees : List Tree) wh
           );
       child_has = λ k same. (kid, tree_is);
     }
-    given_of (step.Local c) tree none = record { child_node = λ other same. absurd (cc (same, none)); child_has = λ k same. absurd (cc same) }
+    given_of (step.Local c) tree none = record {
+      child_node = λ other same. absurd (cc (same, none));
+      child_has = λ k same. absurd (cc same);
+    }
     given_of step.Forward tree none = record { child_node = λ other same. absurd (cc (same, none)); child_has = λ k same. absurd (cc same) }
 
     pub grown : (new : Memo) (t : Step) (below : ℕ) → IsWhole new → IsGrown m.memo new → IsReached trees m.memo new site t below
         → IsVisiting (with_memo m new) site nodes tasks values e
     grown new t below whole more (tree, given, is_below) =
-        let runs = grown_runs a operations trees m _ new site below t tree v.runs whole more is_below v.there (v.id, v.has) (given_of t tree given) in
+        let runs = grown_runs a operations trees m _ new site below t tree v.runs whole more is_below v.there (v.id, v.has)
+        (given_of t tree given) in
         let path = more.paths site v.there in
         record {
           id = v.id;

@@ -5,26 +5,26 @@
 ghost use Rattle.std.specs.Prelude.{◌<◌, ◌≤◌, length, IfOk};
 ghost use Rattle.wb_attributes.specs.Modular.{EachProduction};
 ghost use Rattle.wb_attributes.specs.WellDefined.{IsWellDefinedProduction};
-ghost use Rattle.wb_evaluation.specs.Evaluable.{IsAsked};
+ghost use Rattle.wb_evaluation.specs.Evaluable.{IsEvaluable, IsAsked};
 ghost use Rattle.wb_evaluator.specs.Evaluates.{HoldsMore, IsValue, IsFault, AsksMore};
-ghost use Rattle.wb_evaluator.specs.Inner.Machines.{IsMachine, Runs, Wants};
-ghost use Rattle.wb_evaluator.specs.Inner.Answering.{IsAnswered, IsTurned, IsLeftWith, IsEnteredWithin};
+ghost use Rattle.wb_evaluator.specs.Inner.Machines.{IsMachine, IsFresh};
+ghost use Rattle.wb_evaluator.specs.Inner.Answering.{IsAnswered, IsTurned, IsLeaving, IsLeftWith, IsEnteredWithin};
+ghost use Rattle.wb_evaluator.specs.Inner.Piles.{IsPiled};
 ghost use Rattle.wb_evaluator.specs.Inner.Works.{IsExtended};
 ghost use Rattle.wb_operations.specs.Kept.{IsKept};
 ghost use Rattle.wb_rules.specs.Indexes.{AreIndexes};
 ghost use Rattle.wb_types.specs.Rules.{KindsOk};
-ghost use Rattle.wb_evaluation.specs.Walks.{done, value};
-ghost use Rattle.wb_values.specs.ValuesIn.{tree_in, value_in, IsIn};
+ghost use Rattle.wb_values.specs.ValuesIn.{tree_in};
 
 use crate::context::Context;
 use crate::evaluated::Evaluated;
 use crate::machine::{Key, Machine};
 use crate::run::run;
-use crate::steps::{begin, leave};
+use crate::steps::leave;
 use crate::work::{Ran, Work};
 use std::alloc::{AllocError, Global};
 use wb_operations::{Meaning, OperationRefusal, OperationTable};
-use wb_resolved::Attribution;
+use wb_resolved::{Attribution, AttributionParts};
 use wb_rules::RuleIndex;
 use wb_values::{TreeId, TreeStore, Value};
 
@@ -72,31 +72,61 @@ pub fn evaluate<M: Meaning>(
         attributes: lists,
         rules: &rules,
         operations,
+        steps,
     };
-    let mut machine = begin(alloc, &context, store, root, attribute)?;
-    take_turns(alloc, &context, &mut machine, store, steps)
+    evaluate_root(alloc, &context, store, root, attribute)
 }
 
-// Works on instances until the answer is known.
-fn take_turns<'a, M: Meaning>(
+// Evaluates an attribute of a root, by rules that were found before.
+fn evaluate_root<M: Meaning>(
     alloc: Global,
-    context: &Context<'a, M>,
-    machine: &mut Machine<'a>,
+    context: &Context<M>,
     store: &mut TreeStore,
-    steps: u64,
+    root: TreeId,
+    attribute: usize,
 ) -> Result<Evaluated, AllocError>
-    requires whole { IsMachine context.now.attributes.now (record { signatures = context.now.operations.now.signatures; meaning = M.meaning }) store.old machine.old }
-    requires within { machine.old.entered ≤ steps }
+    requires evaluable { IsEvaluable context.now.attributes.now (record { signatures = context.now.operations.now.signatures; meaning = M.meaning }) }
+    requires there { root.0 < length store.old }
+    requires asked { IsAsked context.now.attributes.now (tree_in store.old root.0) attribute }
+    requires steps { 0 < context.now.steps }
     requires rules { AreIndexes context.now.attributes.now.productions context.now.rules.now.rows.items }
     requires kept { IsKept context.now.operations.now.signatures context.now.operations.now.built_in context.now.operations.now.runs.items M.meaning
         (λ run vs. ⟦<Box<dyn Fn(&[Value]) -> Result<Value, OperationRefusal>> as Fn(&[Value]) -> Result<Value, OperationRefusal>>⟧.pre run vs)
         (λ run vs r. ⟦<Box<dyn Fn(&[Value]) -> Result<Value, OperationRefusal>> as Fn(&[Value]) -> Result<Value, OperationRefusal>>⟧.post run vs r) }
-    ensures answered { IfOk result (IsAnswered context.now.attributes.now (record { signatures = context.now.operations.now.signatures; meaning = M.meaning }) store.new machine.old steps) }
+    ensures answered { IfOk result (IsAnswered context.now.attributes.now (record { signatures = context.now.operations.now.signatures; meaning = M.meaning }) store.new root attribute context.now.steps) }
     ensures store { IsExtended store.old store.new }
 {
+    let room = room_for(context.attributes);
+    let mut machine = Machine::new(alloc, root, attribute, room)?;
     let mut work = Work::new(alloc);
+    take_turns(context, &mut machine, store, &mut work)
+}
+
+// For how many values of a site there is room at once: for those of all attributes, where there are few.
+fn room_for(attributes: &AttributionParts) -> usize {
+    attributes.attributes.as_slice().len().min(16)
+}
+
+// Enters the attribute that is asked, and works on instances until the answer is known.
+fn take_turns<'a, M: Meaning>(
+    context: &Context<'a, M>,
+    machine: &mut Machine<'a>,
+    store: &mut TreeStore,
+    work: &mut Work,
+) -> Result<Evaluated, AllocError>
+    requires fresh { IsFresh context.now.attributes.now (record { signatures = context.now.operations.now.signatures; meaning = M.meaning }) store.old machine.old }
+    requires steps { 0 < context.now.steps }
+    requires rules { AreIndexes context.now.attributes.now.productions context.now.rules.now.rows.items }
+    requires kept { IsKept context.now.operations.now.signatures context.now.operations.now.built_in context.now.operations.now.runs.items M.meaning
+        (λ run vs. ⟦<Box<dyn Fn(&[Value]) -> Result<Value, OperationRefusal>> as Fn(&[Value]) -> Result<Value, OperationRefusal>>⟧.pre run vs)
+        (λ run vs r. ⟦<Box<dyn Fn(&[Value]) -> Result<Value, OperationRefusal>> as Fn(&[Value]) -> Result<Value, OperationRefusal>>⟧.post run vs r) }
+    ensures answered { IfOk result (IsAnswered context.now.attributes.now (record { signatures = context.now.operations.now.signatures; meaning = M.meaning }) store.new machine.old.root machine.old.attribute context.now.steps) }
+    ensures store { IsExtended store.old store.new }
+{
+    let attribute = machine.attribute;
+    machine.push(Key::Synthesized { site: 0, attribute })?;
     'turns: loop {
-        if let Some(answer) = turn(context, machine, store, &mut work, steps)? {
+        if let Some(answer) = turn(context, machine, store, work)? {
             return Ok(answer);
         }
     }
@@ -108,52 +138,43 @@ fn turn<'a, M: Meaning>(
     machine: &mut Machine<'a>,
     store: &mut TreeStore,
     work: &mut Work,
-    steps: u64,
 ) -> Result<Option<Evaluated>, AllocError>
     requires whole { IsMachine context.now.attributes.now (record { signatures = context.now.operations.now.signatures; meaning = M.meaning }) store.old machine.old }
-    requires within { machine.old.entered ≤ steps }
+    requires within { machine.old.entered ≤ context.now.steps }
     requires rules { AreIndexes context.now.attributes.now.productions context.now.rules.now.rows.items }
     requires kept { IsKept context.now.operations.now.signatures context.now.operations.now.built_in context.now.operations.now.runs.items M.meaning
         (λ run vs. ⟦<Box<dyn Fn(&[Value]) -> Result<Value, OperationRefusal>> as Fn(&[Value]) -> Result<Value, OperationRefusal>>⟧.pre run vs)
         (λ run vs r. ⟦<Box<dyn Fn(&[Value]) -> Result<Value, OperationRefusal>> as Fn(&[Value]) -> Result<Value, OperationRefusal>>⟧.post run vs r) }
-    ensures turned { IfOk result (IsTurned context.now.attributes.now (record { signatures = context.now.operations.now.signatures; meaning = M.meaning }) store.new machine.old machine.new steps) }
+    ensures turned { IfOk result (IsTurned context.now.attributes.now (record { signatures = context.now.operations.now.signatures; meaning = M.meaning }) store.new machine.old machine.new context.now.steps) }
     ensures store { IsExtended store.old store.new }
 {
     match run(context, machine, store, work)? {
-        Ran::Value(answer) => leave_or_answer(context, machine, store, answer),
+        Ran::Value(answer) => leave_or_answer(machine, answer),
         Ran::Fault { operation, code } => Ok(Some(Evaluated::Fault { operation, code })),
-        Ran::Needs(key) => enter_or_stop(context, machine, store, key, steps),
+        Ran::Needs(key) => enter_or_stop(machine, key, context.steps),
     }
 }
 
 // Leaves the last instance, whose value this is: the answer, where none waits for it.
-fn leave_or_answer<M: Meaning>(
-    context: &Context<M>,
-    machine: &mut Machine,
-    store: &TreeStore,
-    answer: Value,
-) -> Result<Option<Evaluated>, AllocError>
-    requires runs { Runs context.now.attributes.now (record { signatures = context.now.operations.now.signatures; meaning = M.meaning }) store.now machine.old (done (value (value_in store.now answer))) }
-    requires inside { IsIn (length store.now) answer }
-    ensures { IfOk result (IsLeftWith context.now.attributes.now (record { signatures = context.now.operations.now.signatures; meaning = M.meaning }) store.now machine.old machine.new answer) }
+fn leave_or_answer(machine: &mut Machine, answer: Value) -> Result<Option<Evaluated>, AllocError>
+    requires { IsLeaving machine.old answer }
+    ensures { IfOk result (IsLeftWith machine.old machine.new answer) }
 {
     if machine.stack.len() == 1 {
         return Ok(Some(Evaluated::Value(answer)));
     }
-    leave(context, machine, store, answer)?;
+    leave(machine, answer)?;
     Ok(None)
 }
 
 // Enters the instance of a key, where there is a step left for it.
-fn enter_or_stop<M: Meaning>(
-    context: &Context<M>,
+fn enter_or_stop(
     machine: &mut Machine,
-    store: &TreeStore,
     key: Key,
     steps: u64,
 ) -> Result<Option<Evaluated>, AllocError>
-    requires { Wants context.now.attributes.now (record { signatures = context.now.operations.now.signatures; meaning = M.meaning }) store.now machine.old key }
-    ensures { IfOk result (IsEnteredWithin context.now.attributes.now (record { signatures = context.now.operations.now.signatures; meaning = M.meaning }) store.now machine.old machine.new steps) }
+    requires { IsPiled machine.old.frames }
+    ensures { IfOk result (IsEnteredWithin machine.old machine.new key steps) }
 {
     if machine.entered >= steps {
         return Ok(Some(Evaluated::MoreSteps));

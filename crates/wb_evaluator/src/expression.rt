@@ -12,10 +12,10 @@ ghost use Rattle.wb_memo.specs.declared.sites.Step.TheVariants.{Local};
 ghost use Rattle.wb_evaluator.specs.Inner.Works.{IsEvaluating, IsAfter, IsReading, HasChildAt, IsChildPushed, IsReadBelow, IsDone, way_to, left_to_do, task_size};
 ghost use Rattle.wb_evaluator.specs.declared.work.Task.TheVariants.{Visit};
 
-use crate::machine::{Key, Machine, child_value};
+use crate::machine::{Key, Machine, child_value, tree_at};
 use crate::work::{Task, Work};
 use std::alloc::AllocError;
-use wb_memo::Step;
+use wb_memo::{Origin, Step};
 use wb_operations::{Meaning, OperationRefusal, OperationTable};
 use wb_resolved::{Node, Place};
 use wb_values::{TreeStore, Value};
@@ -43,18 +43,13 @@ pub(crate) fn visit_child(
     site: usize,
     k: usize,
 ) -> Result<Option<Key>, AllocError>
-    requires there { site < length machine.now.memo.trees.items }
-    requires child { HasChildAt store.now machine.now site k }
+    requires { HasChildAt store.now machine.now site k }
     ensures { IfOk result (IsChildPushed store.now machine.now work.old work.new site k) }
 {
-    match machine.memo.trees[site] {
-        Some(tree) => {
-            let value = child_value(store, tree, k)?;
-            work.push_value(value)?;
-            Ok(None)
-        }
-        None => unreachable!(),
-    }
+    let tree = tree_at(&machine.memo, site);
+    let value = child_value(store, tree, k)?;
+    work.push_value(value)?;
+    Ok(None)
 }
 
 // Reads a synthesized attribute one step down.
@@ -62,16 +57,15 @@ pub(crate) fn read_below(
     machine: &mut Machine,
     store: &TreeStore,
     work: &mut Work,
-    site: usize,
-    step: Step,
+    origin: Origin,
     attribute: usize,
 ) -> Result<Option<Key>, AllocError>
     requires whole { IsWhole machine.old.memo }
-    requires there { site ≤ count machine.old.memo }
-    requires ready { IsReady store.now machine.old.memo site step }
-    ensures { IfOk result (IsReadBelow store.now machine.old machine.new site step (λ below. Synthesized below attribute) work.old work.new) }
+    requires there { origin.parent ≤ count machine.old.memo }
+    requires ready { IsReady store.now machine.old.memo origin.parent origin.step }
+    ensures { IfOk result (IsReadBelow store.now machine.old machine.new origin.parent origin.step (λ below. Synthesized below attribute) work.old work.new) }
 {
-    let below = machine.below(store, site, step)?;
+    let below = machine.below(store, origin.parent, origin.step)?;
     let key = Key::Synthesized {
         site: below,
         attribute,

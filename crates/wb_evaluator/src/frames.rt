@@ -125,8 +125,7 @@ impl<'a> Frames<'a> {
         work.tasks.clear();
         work.values.clear();
         move_end(&mut self.tasks, first_task, &mut work.tasks)?;
-        move_end(&mut self.values, first_value, &mut work.values)?;
-        Ok(())
+        move_end(&mut self.values, first_value, &mut work.values)
     }
 
     // Takes the frame of the last instance away.

@@ -5,10 +5,10 @@
 ghost use Rattle.std.specs.Prelude.{◌≡◌, ◌≤◌, ◌<◌, ◌+◌, ◌^◌, ◌++◌, ◌∷◌, [], Some, length, OnOk, IfOk};
 ghost use Rattle.wb_values.specs.Tree.{children_of, value_at};
 ghost use Rattle.wb_values.specs.ValuesIn.{tree_in, value_in, IsIn};
-ghost use Rattle.wb_evaluator.specs.Inner.Machines.{HasMore, IsKey, known, with_memo};
-ghost use Rattle.wb_evaluator.specs.Inner.Piles.{waits, IsPiled};
+ghost use Rattle.wb_evaluator.specs.Inner.Machines.{HasMore, HasTree, IsBlank, IsKey, IsTreeKnown, known, with_memo};
+ghost use Rattle.wb_evaluator.specs.Inner.Piles.{IsPiled};
 ghost use Rattle.wb_memo.specs.Memos.{count, IsWhole, IsGrown};
-ghost use Rattle.wb_evaluator.specs.Inner.Reached.{HasChild, IsTreeChild, IsChild, IsReady, IsReached};
+ghost use Rattle.wb_evaluator.specs.Inner.Reached.{HasChild, IsTreeChild, IsChild, IsReady, IsGivenTree, IsReached};
 
 use crate::frames::Frames;
 use std::alloc::{AllocError, Global};
@@ -36,24 +36,24 @@ pub(crate) struct Machine<'a> {
 }
 
 impl<'a> Machine<'a> {
-    // An attribute is asked of a root, and no instance was entered.
-    pub(crate) fn new(alloc: Global, memo: Memo, root: TreeId, attribute: usize) -> Machine<'a>
-        ensures memo { result.memo ≡ memo }
-        ensures root { result.root ≡ root }
-        ensures attribute { result.attribute ≡ attribute }
-        ensures stack { result.stack.items ≡ [] }
-        ensures entered { result.entered ≡ 0 }
-        ensures piled { IsPiled result.frames }
-        ensures waits { waits result.frames ≡ [] }
+    // An attribute is asked of a root, and no instance was entered. A site with values has room for so many at least.
+    pub(crate) fn new(
+        alloc: Global,
+        root: TreeId,
+        attribute: usize,
+        room: usize,
+    ) -> Result<Machine<'a>, AllocError>
+        ensures { IfOk result (IsBlank root attribute) }
     {
-        Machine {
+        let memo = Memo::new(alloc, root, room)?;
+        Ok(Machine {
             memo,
             root,
             attribute,
             stack: Vec::new(alloc),
             frames: Frames::new(alloc),
             entered: 0,
-        }
+        })
     }
 
     // Enters the instance of a key, for the one at work to wait for.
@@ -99,14 +99,34 @@ impl<'a> Machine<'a> {
         ensures grown { OnOk result (IsGrown self.old.memo self.new.memo) }
         ensures site { IfOk result (IsReached store.now self.old.memo self.new.memo site step) }
     {
-        let tree = match step {
-            Step::Child(k) => match self.memo.trees[site] {
-                Some(tree) => Some(child_tree(store, tree, k)),
-                None => None,
-            },
-            _ => None,
-        };
+        let tree = self.tree_below(store, site, step);
         self.memo.below(site, step, tree)
+    }
+
+    // The tree of the site one step down, where that is a child.
+    fn tree_below(&self, store: &TreeStore, site: usize, step: Step) -> Option<TreeId>
+        requires { IsReady store.now self.now.memo site step }
+        ensures { IsGivenTree store.now self.now.memo site step result }
+    {
+        match step {
+            Step::Child(k) => {
+                let tree = tree_at(&self.memo, site);
+                Some(child_tree(store, tree, k))
+            }
+            Step::Local(_) => None,
+            Step::Forward => None,
+        }
+    }
+}
+
+// The tree of a site, which is known.
+pub(crate) fn tree_at(memo: &Memo, site: usize) -> TreeId
+    requires { IsTreeKnown memo.now site }
+    ensures { HasTree memo.now site result }
+{
+    match memo.trees[site] {
+        Some(tree) => tree,
+        None => unreachable!(),
     }
 }
 

@@ -4,16 +4,17 @@
 
 ghost use Rattle.std.specs.Prelude.{◌≡◌, ◌≤◌, ◌<◌, length, IfOk, OnOk};
 ghost use Rattle.wb_operations.specs.Kept.{IsKept};
-ghost use Rattle.wb_evaluator.specs.Inner.Machines.{IsMachine, IsSame};
-ghost use Rattle.wb_evaluator.specs.Inner.Starts.{IsStarting, IsAlone, IsForwarding};
-ghost use Rattle.wb_evaluator.specs.Inner.Works.{IsEvaluating, IsExtended, IsRan, Parks};
+ghost use Rattle.wb_evaluator.specs.Inner.Machines.{IsMachine, IsKey, IsSame};
+ghost use Rattle.wb_memo.specs.Memos.{IsWhole};
+ghost use Rattle.wb_evaluator.specs.Inner.Starts.{IsForwarding};
+ghost use Rattle.wb_evaluator.specs.Inner.Works.{IsEvaluating, IsExtended, IsRan, IsRead};
 ghost use Rattle.wb_rules.specs.Indexes.{AreIndexes};
 
 use crate::context::{Context, Expression};
 use crate::machine::{Key, Machine};
 use crate::perform::evaluate_tasks;
 use crate::start::{Start, start_of};
-use crate::work::{Ran, Task, Work};
+use crate::work::{Ran, Work};
 use std::alloc::AllocError;
 use wb_memo::Step;
 use wb_operations::{Meaning, OperationRefusal};
@@ -68,15 +69,17 @@ fn run_from_start<'a, M: Meaning>(
     let at = machine.stack.len() - 1;
     match start_of(context, machine, store, machine.stack[at]) {
         Start::Expression { site, nodes } => {
+            let last = nodes.len() - 1;
+            work.start(last)?;
             let expression = Expression {
                 attributes: context.attributes,
                 operations: context.operations,
                 site,
                 nodes,
             };
-            evaluate_at(&expression, machine, store, work)
+            go_on(&expression, machine, store, work)
         }
-        Start::Read(key) => read_alone(context, machine, store, key),
+        Start::Read(key) => read_alone(machine, key),
         Start::Forward { site, attribute } => {
             run_forward(context, machine, store, site, attribute)
         }
@@ -104,45 +107,19 @@ fn run_forward<M: Meaning>(
         site: below,
         attribute,
     };
-    read_alone(context, machine, store, key)
+    read_alone(machine, key)
 }
 
 // Reads one instance, whose value is the value.
-fn read_alone<M: Meaning>(
-    context: &Context<M>,
-    machine: &Machine,
-    store: &TreeStore,
-    key: Key,
-) -> Result<Ran, AllocError>
-    requires { IsAlone context.now.attributes.now (record { signatures = context.now.operations.now.signatures; meaning = M.meaning }) store.now machine.now key }
-    ensures { IfOk result (IsRan context.now.attributes.now (record { signatures = context.now.operations.now.signatures; meaning = M.meaning }) store.now machine.now) }
+fn read_alone(machine: &Machine, key: Key) -> Result<Ran, AllocError>
+    requires whole { IsWhole machine.now.memo }
+    requires key { IsKey machine.now.memo key }
+    ensures { IfOk result (IsRead machine.now.memo key) }
 {
     match machine.known(key)? {
         Some(value) => Ok(Ran::Value(value)),
         None => Ok(Ran::Needs(key)),
     }
-}
-
-// Evaluates an expression from its start.
-fn evaluate_at<'a, M: Meaning>(
-    expression: &Expression<'a, M>,
-    machine: &mut Machine<'a>,
-    store: &mut TreeStore,
-    work: &mut Work,
-) -> Result<Ran, AllocError>
-    requires starting { IsStarting expression.now.attributes.now (record { signatures = expression.now.operations.now.signatures; meaning = M.meaning }) store.old machine.old expression.now.site expression.now.nodes.now }
-    requires kept { IsKept expression.now.operations.now.signatures expression.now.operations.now.built_in expression.now.operations.now.runs.items M.meaning
-        (λ run vs. ⟦<Box<dyn Fn(&[Value]) -> Result<Value, OperationRefusal>> as Fn(&[Value]) -> Result<Value, OperationRefusal>>⟧.pre run vs)
-        (λ run vs r. ⟦<Box<dyn Fn(&[Value]) -> Result<Value, OperationRefusal>> as Fn(&[Value]) -> Result<Value, OperationRefusal>>⟧.post run vs r) }
-    ensures ran { IfOk result (IsRan expression.now.attributes.now (record { signatures = expression.now.operations.now.signatures; meaning = M.meaning }) store.new machine.new) }
-    ensures same { OnOk result (IsSame machine.old machine.new) }
-    ensures store { IsExtended store.old store.new }
-{
-    work.tasks.clear();
-    work.values.clear();
-    let last = expression.nodes.len() - 1;
-    work.push_task(Task::Visit(last))?;
-    go_on(expression, machine, store, work)
 }
 
 // Evaluates the expression whose work this is, which is kept where it waits.
@@ -161,25 +138,12 @@ fn go_on<'a, M: Meaning>(
     ensures store { IsExtended store.old store.new }
 {
     match evaluate_tasks(expression, machine, store, work)? {
-        Ran::Needs(key) => park(expression, machine, store, work, key),
+        Ran::Needs(key) => {
+            machine
+                .frames
+                .keep(expression.site, expression.nodes, work)?;
+            Ok(Ran::Needs(key))
+        }
         ran => Ok(ran),
     }
-}
-
-// Keeps the work in the frame of the last instance, for the one that it needs.
-fn park<'a, M: Meaning>(
-    expression: &Expression<'a, M>,
-    machine: &mut Machine<'a>,
-    store: &TreeStore,
-    work: &mut Work,
-    key: Key,
-) -> Result<Ran, AllocError>
-    requires parks { Parks expression.now.attributes.now (record { signatures = expression.now.operations.now.signatures; meaning = M.meaning }) store.now machine.old expression.now.site expression.now.nodes.now work.old.tasks.items work.old.values.items key }
-    ensures ran { IfOk result (IsRan expression.now.attributes.now (record { signatures = expression.now.operations.now.signatures; meaning = M.meaning }) store.now machine.new) }
-    ensures same { OnOk result (IsSame machine.old machine.new) }
-{
-    machine
-        .frames
-        .keep(expression.site, expression.nodes, work)?;
-    Ok(Ran::Needs(key))
 }

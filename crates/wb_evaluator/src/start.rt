@@ -11,7 +11,7 @@ ghost use Rattle.wb_rules.specs.Indexes.{AreIndexes, IsIndexOf};
 ghost use Rattle.wb_evaluator.specs.declared.machine.Key.TheVariants.{Synthesized, Inherited, Tree};
 
 use crate::context::Context;
-use crate::machine::{Key, Machine};
+use crate::machine::{Key, Machine, tree_at};
 use wb_memo::Step;
 use wb_operations::Meaning;
 use wb_resolved::{Node, Place, Production, Target};
@@ -142,22 +142,17 @@ fn rules_at<'a, M: Meaning>(
     store: &TreeStore,
     site: usize,
 ) -> Rules<'a>
-    requires there { site < length machine.now.memo.trees.items }
     requires production { HasProduction context.now.attributes.now store.now machine.now site }
     requires rules { AreIndexes context.now.attributes.now.productions context.now.rules.now.rows.items }
     ensures production { IsProductionAt context.now.attributes.now store.now machine.now site result.production.now }
     ensures equations { IsIndexOf result.production.now.equations (length result.production.now.equations) result.equations.now }
 {
-    match machine.memo.trees[site] {
-        Some(tree) => {
-            let number = store.production(tree);
-            let productions = context.attributes.productions.as_slice();
-            Rules {
-                production: &productions[number],
-                equations: &context.rules.rows[number],
-            }
-        }
-        None => unreachable!(),
+    let tree = tree_at(&machine.memo, site);
+    let number = store.production(tree);
+    let productions = context.attributes.productions.as_slice();
+    Rules {
+        production: &productions[number],
+        equations: &context.rules.rows[number],
     }
 }
 

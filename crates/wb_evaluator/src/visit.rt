@@ -14,8 +14,8 @@ use crate::expression::{read, read_below, read_local, step_to, visit_child};
 use crate::machine::{Key, Machine};
 use crate::work::{Task, Work};
 use std::alloc::AllocError;
-use wb_base::Bytes;
-use wb_memo::Step;
+use wb_base::{Bytes, Sequence};
+use wb_memo::{Origin, Step};
 use wb_operations::{Meaning, OperationTable};
 use wb_resolved::{Node, Place};
 use wb_values::{TreeStore, Value};
@@ -39,7 +39,11 @@ pub(crate) fn visit<M: Meaning>(
         Node::Bool(truth) => visit_value(work, Value::Bool(*truth)),
         Node::Label(place) => visit_label(machine, store, work, site, *place),
         Node::Read { label, attribute } => {
-            read_below(machine, store, work, site, step_to(*label), *attribute)
+            let origin = Origin {
+                parent: site,
+                step: step_to(*label),
+            };
+            read_below(machine, store, work, origin, *attribute)
         }
         Node::Lexeme(place) => visit_label(machine, store, work, site, *place),
         Node::Top(attribute) => {
@@ -50,21 +54,20 @@ pub(crate) fn visit<M: Meaning>(
             read(machine, work, key)
         }
         Node::Forward(attribute) => {
-            read_below(machine, store, work, site, Step::Forward, *attribute)
+            let origin = Origin {
+                parent: site,
+                step: Step::Forward,
+            };
+            read_below(machine, store, work, origin, *attribute)
         }
         Node::Build {
             production,
             children,
-        } => visit_build(work, *production, children.as_slice()),
+        } => visit_build(work, *production, children),
         Node::Call {
             operation,
             arguments,
-        } => visit_call(
-            expression.operations,
-            work,
-            operation.as_slice(),
-            arguments.as_slice(),
-        ),
+        } => visit_call(expression.operations, work, operation, arguments),
         Node::If {
             condition,
             holds,
@@ -112,29 +115,29 @@ fn visit_label(
 fn visit_build(
     work: &mut Work,
     production: usize,
-    children: &[usize],
+    children: &Sequence<usize>,
 ) -> Result<Option<Key>, AllocError>
     ensures { IfOk result (ArePushed work.old work.new (Build production (length children.now)) children.now) }
 {
     let count = children.len();
-    visit_parts(work, Task::Build { production, count }, children)
+    visit_parts(work, Task::Build { production, count }, children.as_slice())
 }
 
 // Visits the arguments of a call.
 fn visit_call<M: Meaning>(
     operations: &OperationTable<M>,
     work: &mut Work,
-    operation: &[u8],
-    arguments: &[usize],
+    operation: &Bytes,
+    arguments: &Sequence<usize>,
 ) -> Result<Option<Key>, AllocError>
     requires { HasOperation operations.now.signatures operation.now }
     ensures { IfOk result (λ key. (number : ℕ) × IsOperation operations.now.signatures operation.now number
         × ArePushed work.old work.new (Call number (length arguments.now)) arguments.now key) }
 {
-    match operations.find(operation) {
+    match operations.find(operation.as_slice()) {
         Some(operation) => {
             let count = arguments.len();
-            visit_parts(work, Task::Call { operation, count }, arguments)
+            visit_parts(work, Task::Call { operation, count }, arguments.as_slice())
         }
         None => unreachable!(),
     }

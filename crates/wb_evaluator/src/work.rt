@@ -4,6 +4,7 @@
 
 ghost use Rattle.std.specs.Prelude.{◌≡◌, ◌++◌, ◌∷◌, [], OnOk};
 ghost use Rattle.wb_evaluator.specs.Inner.Jobs.{visiting};
+ghost use Rattle.wb_evaluator.specs.declared.work.Task.TheVariants.{Visit};
 
 use crate::machine::Key;
 use std::alloc::{AllocError, Global};
@@ -35,6 +36,16 @@ impl Work {
             tasks: Vec::new(alloc),
             values: Vec::new(alloc),
         }
+    }
+
+    // Nothing but the visit of a node.
+    pub(crate) fn start(&mut self, at: usize) -> Result<(), AllocError>
+        ensures tasks { OnOk result (self.new.tasks.items ≡ Visit at ∷ []) }
+        ensures values { OnOk result (self.new.values.items ≡ []) }
+    {
+        self.tasks.clear();
+        self.values.clear();
+        self.push_task(Task::Visit(at))
     }
 
     // Adds a value.

@@ -54,7 +54,8 @@ more_kinds (k ∷ ks) kinds = more_kinds ks (k ∷ kinds)
 -- the values are of the kinds, one by one
 abbrev pub ValuesFit : List Signature → List tree.Value → List Kind → Type 0
 ValuesFit signatures [] kinds = kinds ≡ []
-ValuesFit signatures (v ∷ vs) kinds = (k : Kind) × (rest : List Kind) × (kinds ≡ k ∷ rest) × FitsValue signatures v k × ValuesFit signatures vs rest
+ValuesFit signatures (v ∷ vs) kinds = (k : Kind) × (rest : List Kind) × (kinds ≡ k ∷ rest) × FitsValue signatures v k
+    × ValuesFit signatures vs rest
 
 module _ (a : AttributionParts) (operations : Operations) (production : Production) where
   -- an expression of the production of this kind, in which all is named
@@ -71,5 +72,6 @@ module _ (a : AttributionParts) (operations : Operations) (production : Producti
   JobsFit (call name n ∷ jobs) kinds = (number : ℕ) × (s : OperationSignature) × (rest : List Kind)
       × (slice_get operations.signatures number ≡ Some s) × (s.name ≡ name) × (length s.takes ≡ n) × (kinds ≡ more_kinds s.takes rest)
       × JobsFit jobs (s.gives ∷ rest)
-  JobsFit (choose holds fails ∷ jobs) kinds = (is : Kind) × (rest : List Kind) × (kinds ≡ kind.Bool ∷ rest) × IsTyped holds is × IsTyped fails is
+  JobsFit (choose holds fails ∷ jobs) kinds = (is : Kind) × (rest : List Kind) × (kinds ≡ kind.Bool ∷ rest) × IsTyped holds is
+      × IsTyped fails is
       × JobsFit jobs (is ∷ rest)

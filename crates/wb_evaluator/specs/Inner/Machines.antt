@@ -1,5 +1,6 @@
 -- What an evaluation keeps from one instance to the next.
-use Rattle.std.specs.Prelude.{◌≡◌, ◌⊎◌, ◌≤◌, ◌<◌, ◌+◌, ℕ, List, [], ◌∷◌, ◌++◌, Option, Some, None, All, Contains, length, slice_get}
+use Rattle.std.specs.List.{slice_set}
+use Rattle.std.specs.Prelude.{◌≡◌, ◌≢◌, ◌⊎◌, ◌≤◌, ◌<◌, ◌+◌, ℕ, List, [], ◌∷◌, ◌++◌, Option, Some, None, All, Contains, length, slice_get}
 use Rattle.wb_attributes.specs.Modular.{IsProduction}
 use Rattle.wb_attributes.specs.Occurrences.{Goes}
 use Rattle.wb_attributes.specs.Vertices.{Made, child, made}
@@ -34,6 +35,10 @@ use Rattle.wb_evaluator.specs.declared.work.Task.{Task}
 -- the site has this tree
 abbrev pub HasTree : Memo → ℕ → TreeId → Type 0
 HasTree m site id = slice_get m.trees.items site ≡ Some (Some id)
+
+-- its tree is known
+abbrev pub IsTreeKnown : Memo → ℕ → Type 0
+IsTreeKnown m site = (id : TreeId) × HasTree m site id
 
 -- the tree that is at a path, as an instance; only one that an expression makes is one
 abbrev pub tree_named : Path → Instance
@@ -72,6 +77,19 @@ abbrev pub IsRecalled : Memo → Instance → Type 0
 IsRecalled m (synthesized_at q x) = (site : ℕ) × (v : Value) × (site ≤ count m) × (path_in m site ≡ q) × (recall m site x ≡ Some v)
 IsRecalled m (inherited_at q x) = (site : ℕ) × (v : Value) × (site ≤ count m) × (path_in m site ≡ q) × (recall m site x ≡ Some v)
 IsRecalled m (tree_at q k) = (site : ℕ) × (id : TreeId) × (site ≤ count m) × (path_in m site ≡ down q (made k)) × HasTree m site id
+
+-- this attribute is asked of this root, and no instance was entered
+pub record IsBlank (root : TreeId) (attribute : ℕ) (m : Machine) : Type 0 where
+  pub root_is : m.root ≡ root
+  pub attribute_is : m.attribute ≡ attribute
+  pub whole : IsWhole m.memo
+  pub origins : m.memo.sites.origins.items ≡ []
+  pub its_trees : m.memo.trees.items ≡ Some root ∷ []
+  pub values : m.memo.values.items ≡ []
+  pub stack : m.stack.items ≡ []
+  pub frames : waits m.frames ≡ []
+  pub piled : IsPiled m.frames
+  pub entered : m.entered ≡ 0
 
 module _ (a : AttributionParts) (operations : Operations) (trees : List Tree) where
   -- the stored value is what the instance has, and the instance was entered
@@ -117,7 +135,8 @@ module _ (a : AttributionParts) (operations : Operations) (trees : List Tree) wh
         (resume operations (path_in m site) (children_of (tree_in trees id.0)) jobs (stack_of trees values))
 
   -- each key has an expression that waits or none, and it is that of the key's instance
-  pub record AreSuspended (top : Tree) (attribute : ℕ) (all : List Instance) (m : Memo) (keys : List Key) (frames : List (Option Wait)) : Type 0 where
+  pub record AreSuspended (top : Tree) (attribute : ℕ) (all : List Instance) (m : Memo) (keys : List Key)
+      (frames : List (Option Wait)) : Type 0 where
     pub count : length frames ≡ length keys
     pub each : (i : ℕ) (k : Key) (f : Wait) → slice_get keys i ≡ Some k → slice_get frames i ≡ Some (Some f)
         → IsKey m k × IsSuspended top attribute all m (named m k) f.site f.nodes f.tasks f.values
@@ -139,6 +158,13 @@ module _ (a : AttributionParts) (operations : Operations) (trees : List Tree) wh
     pub frames : AreSuspended top m.attribute all m.memo m.stack.items (waits m.frames)
     pub piled : IsPiled m.frames
 
+  -- an attribute can be evaluated, and no instance was entered
+  pub record IsFresh (m : Machine) : Type 0 where
+    pub evaluable : IsEvaluable a operations
+    pub inside : m.root.0 < length trees
+    pub asked : IsAsked a (tree_in trees m.root.0) m.attribute
+    pub blank : IsBlank m.root m.attribute m
+
   -- the walk of the instance at work has come to this
   pub record Runs (m : Machine) (w : Walk) : Type 0 where
     pub machine : IsMachine m
@@ -158,7 +184,8 @@ module _ (a : AttributionParts) (operations : Operations) (trees : List Tree) wh
     pub this_recalled : IsRecalled new r.this
     pub paths : (i : ℕ) → path_in new i ≡ path_in m.memo i
     pub counts : count new ≡ count m.memo
-    pub trees_kept : (i : ℕ) (id : TreeId) → HasTree m.memo i id → (other : TreeId) × HasTree new i other × (tree_in trees other.0 ≡ tree_in trees id.0)
+    pub trees_kept : (i : ℕ) (id : TreeId) → HasTree m.memo i id
+        → (other : TreeId) × HasTree new i other × (tree_in trees other.0 ≡ tree_in trees id.0)
     pub keys : (k : Key) → IsKey m.memo k → IsKey new k
     pub names : (k : Key) → named new k ≡ named m.memo k
 
@@ -168,7 +195,8 @@ with_memo m memo = record { memo = memo; root = m.root; attribute = m.attribute;
 
 -- a machine with other frames
 abbrev pub with_frames : Machine → Frames → Machine
-with_frames m frames = record { memo = m.memo; root = m.root; attribute = m.attribute; stack = m.stack; frames = frames; entered = m.entered }
+with_frames m frames =
+    record { memo = m.memo; root = m.root; attribute = m.attribute; stack = m.stack; frames = frames; entered = m.entered }
 
 -- two machines have the same instances on the stack, and ask the same
 pub record IsSame (old new : Machine) : Type 0 where
@@ -187,6 +215,34 @@ pub record HasMore (old new : Machine) (k : Key) : Type 0 where
   pub frames : waits new.frames ≡ waits old.frames ++ None ∷ []
   pub piled : IsPiled new.frames
 
+-- the value of an attribute at a site is kept, and nothing else has changed
+pub record IsAttributeSet (old new : Memo) (site x : ℕ) (v : Value) : Type 0 where
+  pub whole : IsWhole new
+  pub sites : new.sites ≡ old.sites
+  pub trees : new.trees ≡ old.trees
+  pub set : recall new site x ≡ Some v
+  pub kept : (i other : ℕ) → (i ≢ site) ⊎ (other ≢ x) → recall new i other ≡ recall old i other
+
+-- so is the tree of a site, which the value is
+pub record IsTreeSet (old new : Memo) (site : ℕ) (v : Value) : Type 0 where
+  pub id : TreeId
+  pub is : v ≡ stored.Tree id
+  pub sites : new.sites ≡ old.sites
+  pub cells : new.cells ≡ old.cells
+  pub values : new.values ≡ old.values
+  pub set : new.trees.items ≡ slice_set old.trees.items site (Some id)
+
+-- the value of the instance of a key is kept
+abbrev pub IsSet : Memo → Memo → Key → Value → Type 0
+IsSet old new (key.Synthesized site x) v = IsAttributeSet old new site x v
+IsSet old new (key.Inherited site x) v = IsAttributeSet old new site x v
+IsSet old new (key.Tree site) v = IsTreeSet old new site v
+
 -- the value is a tree
 abbrev pub IsTree : Value → Type 0
 IsTree v = (id : TreeId) × (v ≡ stored.Tree id)
+
+-- it is where the key is that of a tree
+abbrev pub IsFor : Key → Value → Type 0
+IsFor (key.Tree site) v = IsTree v
+IsFor other v = Unit {0}

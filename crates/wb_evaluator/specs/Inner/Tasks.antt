@@ -38,7 +38,8 @@ module _ (operations : Operations) (q : Path) (vs : Values) where
   resume (call name n ∷ jobs) values =
       with_call operations (number_of operations.signatures name) (popped n values empty) (λ v. resume jobs (v ∷ below n values))
   resume (choose holds fails ∷ jobs) values = on_top values (λ c rest. branch c
-      (walk_expression operations q vs holds (λ v. resume jobs (v ∷ rest))) (walk_expression operations q vs fails (λ v. resume jobs (v ∷ rest))))
+      (walk_expression operations q vs holds (λ v. resume jobs (v ∷ rest)))
+      (walk_expression operations q vs fails (λ v. resume jobs (v ∷ rest))))
 
 -- a stack with more values, the last on top
 abbrev pub pushed : Values → List Value → List Value

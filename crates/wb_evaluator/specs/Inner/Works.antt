@@ -1,5 +1,6 @@
 -- What tasks on a stack of values stand for.
-use Rattle.std.specs.Prelude.{◌≡◌, ◌⊎◌, ◌≤◌, ◌<◌, ◌+◌, ◌-◌, ◌*◌, ℕ, zero, suc, pos, Bool, true, false, List, [], ◌∷◌, ◌++◌, Option, Some, None}
+use Rattle.std.specs.Prelude.{◌≡◌, ◌⊎◌, ◌≤◌, ◌<◌, ◌+◌, ◌-◌, ◌*◌, ℕ, zero, suc, pos, Bool, true, false, List, [], ◌∷◌, ◌++◌, Option, Some}
+use Rattle.std.specs.Prelude.{None}
 use Rattle.std.specs.Prelude.{Ok, Err, All, length, take, slice_get, slice_index_or}
 use Rattle.wb_attributes.specs.Modular.{IsProduction}
 use Rattle.wb_base.specs.declared.symbol.Kind.{Kind}
@@ -21,6 +22,7 @@ use Rattle.wb_evaluator.specs.declared.work.Ran.TheVariants as ran
 use Rattle.wb_evaluator.specs.Inner.Machines.{HasTree, known, IsSuspended, Runs, Wants, IsSame, with_memo}
 use Rattle.wb_evaluator.specs.Inner.Reached.{HasChild, IsReached}
 use Rattle.wb_memo.specs.Memos.{count, path_in, IsWhole, IsGrown}
+use Rattle.wb_memo.specs.declared.memo.Memo.{Memo}
 use Rattle.wb_memo.specs.declared.sites.Step.{Step}
 use Rattle.wb_memo.specs.declared.sites.Step.TheVariants as step
 use Rattle.wb_resolved.specs.declared.equation.Place.{Place}
@@ -79,7 +81,8 @@ module _ (a : AttributionParts) (operations : Operations) (trees : List Tree) wh
   -- an instance is read that wasn't entered, and these tasks wait for it
   pub record Parks (m : Machine) (site : ℕ) (nodes : List Node) (tasks : List Task) (values : List Value) (k : Key) : Type 0 where
     pub wants : Wants a operations trees m k
-    pub waits : IsSuspended a operations trees wants.runs.machine.top m.attribute wants.runs.machine.all m.memo wants.runs.machine.this site nodes
+    pub waits : IsSuspended a operations trees wants.runs.machine.top m.attribute wants.runs.machine.all m.memo wants.runs.machine.this site
+        nodes
         tasks values
 
   -- after a task: the others are left, or it waits as before for an instance that wasn't entered
@@ -151,6 +154,12 @@ IsLabelVisited trees old new site (place.Local y) before after result =
 abbrev pub way_to : Place → Step
 way_to (place.Child k) = step.Child k
 way_to (place.Local y) = step.Local y
+
+-- the value of the instance of the key is known, or it is needed
+abbrev pub IsRead : Memo → Key → Ran → Type 0
+IsRead m k (ran.Value v) = known m k ≡ Some v
+IsRead m k (ran.Fault operation code) = ⊥
+IsRead m k (ran.Needs other) = (other ≡ k) × (known m k ≡ None)
 
 -- the store has more trees
 abbrev pub IsExtended : List Tree → List Tree → Type 0

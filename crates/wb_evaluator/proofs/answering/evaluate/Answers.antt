@@ -1,19 +1,28 @@
-use Rattle.std.proofs.Common.{All, sym, subst, arith}
+use Rattle.std.proofs.Common.{All, List, sym, subst, arith}
 use Rattle.std.proofs.lemmas.Result.{IfOk-weaker}
 use Rattle.wb_base.specs.Different.{Differ}
-use Rattle.wb_operations.specs.Operations.{IsPlainSignature, names_of}
+use Rattle.wb_operations.specs.Operations.{Operations, IsPlainSignature, names_of}
 use Rattle.wb_resolved.specs.declared.attribution.AttributionParts.{AttributionParts}
+use Rattle.wb_resolved.specs.declared.production.Production.{Production}
+use Rattle.wb_rules.specs.Indexes.{AreIndexes}
 use Rattle.wb_values.specs.ValuesIn.{tree_in}
-use Rattle.wb_evaluation.specs.Evaluable.{IsEvaluable}
+use Rattle.wb_evaluation.specs.Evaluable.{IsEvaluable, IsAsked}
 use Rattle.wb_evaluation.specs.Needed.{NeedsMoreThan}
 use Rattle.wb_evaluator.proofs.AnsweringLemmas.{answered_at, needs_first}
 use Rattle.wb_evaluator.proofs.DoneLemmas.{same_store}
-use Rattle.wb_evaluator.specs.Inner.Answering.{IsAnswered}
 use Rattle.wb_evaluator.specs.Inner.State.{start}
 use Rattle.wb_evaluator.proofs.answering.evaluate.Goals as goal
 
-pub begin-requires-clause-evaluable : goal.begin-requires-clause-evaluable
-begin-requires-clause-evaluable g c =
+pub returns-then-steps-eq0-clause-more : goal.returns-then-steps-eq0-clause-more
+returns-then-steps-eq0-clause-more g c =
+    let a = c.args.attributes.now in
+    let operations : Operations = record { signatures = c.args.operations.now.signatures; meaning = g.M.Meaning.meaning } in
+    let t = tree_in c.args.store.now c.args.root.0 in
+    subst (NeedsMoreThan a operations t (start a operations t c.args.attribute)) (sym c.if-steps-eq0.true)
+    (needs_first a operations t c.args.attribute)
+
+pub evaluate_root-requires-clause-evaluable : goal.evaluate_root-requires-clause-evaluable
+evaluate_root-requires-clause-evaluable g c =
     subst (λ (a : AttributionParts). IsEvaluable a
     (record { signatures = c.args.operations.now.signatures; meaning = g.M.Meaning.meaning })) (sym c.parts-lists.ensures.parts) (record {
       attribution = c.parts-lists.ensures.whole;
@@ -26,41 +35,50 @@ begin-requires-clause-evaluable g c =
       };
     })
 
-pub returns-then-steps-eq0-clause-more : goal.returns-then-steps-eq0-clause-more
-returns-then-steps-eq0-clause-more g c =
-    let a = c.args.attributes.now in
-    let t = tree_in c.args.store.now c.args.root.0 in
-    subst (NeedsMoreThan a
-    (record { signatures = c.args.operations.now.signatures; meaning = g.M.Meaning.meaning }) t (start a
-    (record { signatures = c.args.operations.now.signatures; meaning = g.M.Meaning.meaning }) t c.args.attribute)) (sym c.if-steps-eq0.true) (needs_first a
-    (record { signatures = c.args.operations.now.signatures; meaning = g.M.Meaning.meaning }) t c.args.attribute)
+pub evaluate_root-requires-clause-there : goal.evaluate_root-requires-clause-there
+evaluate_root-requires-clause-there g c = c.requires.there
 
-pub take_turns-requires-clause-whole : goal.take_turns-requires-clause-whole
-take_turns-requires-clause-whole g c = c.in_ok-machine.ensures.whole
+pub evaluate_root-requires-clause-asked : goal.evaluate_root-requires-clause-asked
+evaluate_root-requires-clause-asked g c =
+    subst (λ (a : AttributionParts). IsAsked a (tree_in c.args.store.now c.args.root.0) c.args.attribute) (sym c.parts-lists.ensures.parts)
+    c.requires.asked
 
-pub take_turns-requires-clause-within : goal.take_turns-requires-clause-within
-take_turns-requires-clause-within g c = let h = c.in_ok-machine.ensures.entered in let n = c.if-steps-eq0.false in omega (arith, h, n)
+pub evaluate_root-requires-clause-steps : goal.evaluate_root-requires-clause-steps
+evaluate_root-requires-clause-steps g c = let some = c.if-steps-eq0.false in omega (arith, some)
+
+pub evaluate_root-requires-clause-kept : goal.evaluate_root-requires-clause-kept
+evaluate_root-requires-clause-kept g c = c.requires.kept
 
 pub returns-clause-value : goal.returns-clause-value
 returns-clause-value g c =
-    IfOk-weaker c.take_turns.result _ _
+    IfOk-weaker c.evaluate_root.result _ _
     (λ e answered. (answered_at c.parts-lists.result.now c.args.attributes.now c.parts-lists.ensures.parts
-    (record { signatures = c.args.operations.now.signatures; meaning = g.M.Meaning.meaning }) c.args.store.now c.take_turns.new.store c.in_ok-machine.machine
-    c.args.root c.args.attribute c.args.steps e c.in_ok-machine.ensures.root c.in_ok-machine.ensures.attribute c.take_turns.ensures.store
-    c.requires.there answered).0) c.take_turns.ensures.answered
+    (record { signatures = c.args.operations.now.signatures; meaning = g.M.Meaning.meaning }) c.args.store.now c.evaluate_root.new.store
+    c.args.root c.args.attribute c.args.steps e c.evaluate_root.ensures.store c.requires.there answered).0) c.evaluate_root.ensures.answered
 
 pub returns-clause-fault : goal.returns-clause-fault
 returns-clause-fault g c =
-    IfOk-weaker c.take_turns.result _ _
+    IfOk-weaker c.evaluate_root.result _ _
     (λ e answered. (answered_at c.parts-lists.result.now c.args.attributes.now c.parts-lists.ensures.parts
-    (record { signatures = c.args.operations.now.signatures; meaning = g.M.Meaning.meaning }) c.args.store.now c.take_turns.new.store c.in_ok-machine.machine
-    c.args.root c.args.attribute c.args.steps e c.in_ok-machine.ensures.root c.in_ok-machine.ensures.attribute c.take_turns.ensures.store
-    c.requires.there answered).1) c.take_turns.ensures.answered
+    (record { signatures = c.args.operations.now.signatures; meaning = g.M.Meaning.meaning }) c.args.store.now c.evaluate_root.new.store
+    c.args.root c.args.attribute c.args.steps e c.evaluate_root.ensures.store c.requires.there answered).1) c.evaluate_root.ensures.answered
 
 pub returns-clause-more : goal.returns-clause-more
 returns-clause-more g c =
-    IfOk-weaker c.take_turns.result _ _
+    IfOk-weaker c.evaluate_root.result _ _
     (λ e answered. (answered_at c.parts-lists.result.now c.args.attributes.now c.parts-lists.ensures.parts
-    (record { signatures = c.args.operations.now.signatures; meaning = g.M.Meaning.meaning }) c.args.store.now c.take_turns.new.store c.in_ok-machine.machine
-    c.args.root c.args.attribute c.args.steps e c.in_ok-machine.ensures.root c.in_ok-machine.ensures.attribute c.take_turns.ensures.store
-    c.requires.there answered).2) c.take_turns.ensures.answered
+    (record { signatures = c.args.operations.now.signatures; meaning = g.M.Meaning.meaning }) c.args.store.now c.evaluate_root.new.store
+    c.args.root c.args.attribute c.args.steps e c.evaluate_root.ensures.store c.requires.there answered).2) c.evaluate_root.ensures.answered
+
+pub returns-clause-store : goal.returns-clause-store
+returns-clause-store g c = c.evaluate_root.ensures.store
+
+pub returns-then-steps-eq0-clause-store : goal.returns-then-steps-eq0-clause-store
+returns-then-steps-eq0-clause-store g c = same_store c.args.store.now
+
+pub returns-in_err-rules-clause-store : goal.returns-in_err-rules-clause-store
+returns-in_err-rules-clause-store g c = same_store c.args.store.now
+
+pub evaluate_root-requires-clause-rules : goal.evaluate_root-requires-clause-rules
+evaluate_root-requires-clause-rules g c =
+    subst (λ (ps : List Production). AreIndexes ps c.in_ok-rules.rules.rows.items) c.as_slice.ensures c.in_ok-rules.ensures

@@ -12,7 +12,8 @@ pub read-requires-clause-whole : goal.read-requires-clause-whole
 read-requires-clause-whole c = c.in_ok-below.ensures.whole
 
 pub read-requires-clause-key : goal.read-requires-clause-key
-read-requires-clause-key c = let e = c.in_ok-below.ensures in (e.site.2.there, (path_in c.args.machine.now.memo c.args.site, local c.args.local, e.site.2.path))
+read-requires-clause-key c =
+    let e = c.in_ok-below.ensures in (e.site.2.there, (path_in c.args.machine.now.memo c.args.site, local c.args.local, e.site.2.path))
 
 pub returns : goal.returns
 returns c =

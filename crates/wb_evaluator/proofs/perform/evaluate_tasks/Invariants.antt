@@ -4,7 +4,8 @@ use Rattle.wb_evaluator.proofs.perform.evaluate_tasks.Given as goal
 
 abbrev pub invariant-tasks : goal.invariant-tasks
 invariant-tasks g l = record {
-  evaluating : IsEvaluating l.expression.attributes.now (record { signatures = l.expression.operations.now.signatures; meaning = g.M.Meaning.meaning })
+  evaluating : IsEvaluating l.expression.attributes.now
+      (record { signatures = l.expression.operations.now.signatures; meaning = g.M.Meaning.meaning })
       l.store l.machine l.expression.site l.expression.nodes.now l.work.tasks.items l.work.values.items;
   same : IsSame l.initial.machine l.machine;
   store : IsExtended l.initial.store l.store;

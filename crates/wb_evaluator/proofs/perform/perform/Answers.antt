@@ -1,6 +1,9 @@
+use Rattle.std.proofs.Common.{◌+◌, sym, subst}
 use Rattle.std.proofs.lemmas.Result.{IfOk-weaker}
 use Rattle.wb_evaluator.proofs.DoneLemmas.{same_machine, same_store}
 use Rattle.wb_evaluator.proofs.PerformLemmas.{visit_here, build_here, call_here, choice_here, build_done, call_done, choice_done}
+use Rattle.wb_evaluator.specs.Inner.Works.{IsOver, left_to_do, task_size}
+use Rattle.wb_evaluator.specs.declared.work.Task.{Task}
 use Rattle.wb_evaluator.proofs.perform.perform.Goals as goal
 
 pub visit_or_wait-requires-clause-there : goal.visit_or_wait-requires-clause-there
@@ -82,3 +85,19 @@ returns-in-Call-clause-store g c =
 pub returns-in-Choose-clause-store : goal.returns-in-Choose-clause-store
 returns-in-Choose-clause-store g c =
     same_store c.args.store.now
+
+pub returns-in-Visit-clause-over : goal.returns-in-Visit-clause-over
+returns-in-Visit-clause-over g c =
+    let expression = c.args.expression.now in
+    IfOk-weaker c.visit_or_wait.result _ _
+    (λ r over. subst (λ (t : Task). IsOver expression.attributes.now
+    (record { signatures = expression.operations.now.signatures; meaning = g.M.Meaning.meaning }) c.args.store.now
+    c.visit_or_wait.new.machine expression.site expression.nodes.now c.visit_or_wait.new.work
+    (left_to_do expression.nodes.now c.args.work.now.tasks.items + task_size expression.nodes.now t) r) (sym c.in-Visit.is) over)
+    c.visit_or_wait.ensures.over
+
+pub returns-in-Visit-clause-same : goal.returns-in-Visit-clause-same
+returns-in-Visit-clause-same g c = c.visit_or_wait.ensures.same
+
+pub returns-in-Build-clause-store : goal.returns-in-Build-clause-store
+returns-in-Build-clause-store g c = c.build_tree.ensures.store

@@ -1,14 +1,14 @@
-use Rattle.std.proofs.Common.{rules, ◌≡◌, Some, None}
-use Rattle.wb_evaluator.specs.Inner.Machines.{known}
-use Rattle.wb_evaluator.proofs.ForwardLemmas.{alone_known, alone_wanted}
+use Rattle.std.proofs.Common.{◌∙◌, refl, sym}
 use Rattle.wb_evaluator.proofs.run.read_alone.Goals as goal
 
+pub known-requires-clause-whole : goal.known-requires-clause-whole
+known-requires-clause-whole c = c.requires.whole
+
+pub known-requires-clause-key : goal.known-requires-clause-key
+known-requires-clause-key c = c.requires.key
+
 pub returns-in-Some : goal.returns-in-Some
-returns-in-Some g c =
-    let is : known c.args.machine.now.memo c.args.key ≡ Some c.in-Some.value = search rules in
-    alone_known c.args.key c.in-Some.value c.requires is
+returns-in-Some c = sym c.in_ok-value.ensures ∙ c.in-Some.is
 
 pub returns-in-None : goal.returns-in-None
-returns-in-None g c =
-    let is : known c.args.machine.now.memo c.args.key ≡ None = search rules in
-    alone_wanted c.args.key c.requires is
+returns-in-None c = (refl, sym c.in_ok-value.ensures ∙ c.in-None.is)

@@ -1,9 +1,7 @@
-use Rattle.std.proofs.Common.{◌∙◌, ◌-◌, None, length, sym, ap, arith, slice_get}
-use Rattle.std.specs.List.{slice_set}
-use Rattle.wb_lemmas.proofs.Places.{at_within}
-use Rattle.wb_evaluator.proofs.ParkLemmas.{rows_count, rows_some, resumed, started}
-use Rattle.wb_evaluator.proofs.StartLemmas.{stack_some}
-use Rattle.wb_evaluator.specs.Inner.Piles.{wait, waits}
+use Rattle.std.proofs.lemmas.Result.{on_ok_weaker}
+use Rattle.wb_evaluator.proofs.DoneLemmas.{same_store, still_same}
+use Rattle.wb_evaluator.proofs.ParkLemmas.{rows_some, resumed, started}
+use Rattle.wb_evaluator.specs.Inner.Piles.{wait}
 use Rattle.wb_evaluator.proofs.run.run.Goals as goal
 
 pub take-requires-clause-some : goal.take-requires-clause-some
@@ -12,23 +10,48 @@ take-requires-clause-some g c =
 
 pub go_on-requires-clause-evaluating : goal.go_on-requires-clause-evaluating
 go_on-requires-clause-evaluating g c =
-    let m = c.args.machine.now in
-    let r = c.requires.whole in
-    let some = stack_some r in
-    let count = rows_count r in
-    let (k, at) = at_within m.stack.items (length m.stack.items - 1) (omega (arith, some)) in
     let e = c.in_ok-frame.ensures in
     let f = c.in-Some.frame in
     let work = c.take.new.work in
-    resumed r c.take.new.self
-    e.piled (e.taken.without ∙ ap (λ n. slice_set (waits m.frames) (n - 1) None) count)
-    k (wait f.site f.nodes.now work.tasks.items work.values.items) at
-    (sym (ap (λ n. slice_get (waits m.frames) (n - 1)) count) ∙ e.taken.its f c.in-Some.is)
+    resumed c.requires.whole c.take.new.self e.piled e.taken.without (wait f.site f.nodes.now work.tasks.items work.values.items)
+    (e.taken.its f c.in-Some.is)
 
 pub run_from_start-requires-clause-whole : goal.run_from_start-requires-clause-whole
 run_from_start-requires-clause-whole g c =
-    let m = c.args.machine.now in
-    let count = rows_count c.requires.whole in
-    let e = c.in_ok-frame.ensures in
-    started c.requires.whole c.take.new.self
-    e.piled (e.taken.without ∙ ap (λ n. slice_set (waits m.frames) (n - 1) None) count)
+    let e = c.in_ok-frame.ensures in started c.requires.whole c.take.new.self e.piled e.taken.without
+
+pub take-requires-clause-piled : goal.take-requires-clause-piled
+take-requires-clause-piled g c = c.requires.whole.piled
+
+pub go_on-requires-clause-kept : goal.go_on-requires-clause-kept
+go_on-requires-clause-kept g c = c.requires.kept
+
+pub run_from_start-requires-clause-rules : goal.run_from_start-requires-clause-rules
+run_from_start-requires-clause-rules g c = c.requires.rules
+
+pub run_from_start-requires-clause-kept : goal.run_from_start-requires-clause-kept
+run_from_start-requires-clause-kept g c = c.requires.kept
+
+pub returns-in-Some-clause-ran : goal.returns-in-Some-clause-ran
+returns-in-Some-clause-ran g c = c.go_on.ensures.ran
+
+pub returns-in-Some-clause-same : goal.returns-in-Some-clause-same
+returns-in-Some-clause-same g c =
+    on_ok_weaker c.go_on.result (still_same c.args.machine.now c.take.new.self c.go_on.new.machine) c.go_on.ensures.same
+
+pub returns-in-Some-clause-store : goal.returns-in-Some-clause-store
+returns-in-Some-clause-store g c = c.go_on.ensures.store
+
+pub returns-in-None-clause-ran : goal.returns-in-None-clause-ran
+returns-in-None-clause-ran g c = c.run_from_start.ensures.ran
+
+pub returns-in-None-clause-same : goal.returns-in-None-clause-same
+returns-in-None-clause-same g c =
+    on_ok_weaker c.run_from_start.result (still_same c.args.machine.now c.take.new.self c.run_from_start.new.machine)
+    c.run_from_start.ensures.same
+
+pub returns-in-None-clause-store : goal.returns-in-None-clause-store
+returns-in-None-clause-store g c = c.run_from_start.ensures.store
+
+pub returns-in_err-frame-clause-store : goal.returns-in_err-frame-clause-store
+returns-in_err-frame-clause-store g c = same_store c.args.store.now

@@ -1,7 +1,7 @@
 use Rattle.std.proofs.Common.{rules, subst}
 use Rattle.wb_attributes.specs.Rules.{IsRule, HasRule}
 use Rattle.wb_attributes.specs.Vertices.{Vertex}
-use Rattle.wb_evaluator.proofs.StartLemmas.{inherited_some, inherited_there, inherited_production, inherited_starting, inherited_alone}
+use Rattle.wb_evaluator.proofs.StartLemmas.{inherited_some, inherited_production, inherited_starting, inherited_alone}
 use Rattle.wb_evaluator.proofs.start.start_of_inherited.Goals as goal
 
 pub overflow_sub-site : goal.overflow_sub-site
@@ -12,10 +12,6 @@ pub index-origin-requires : goal.index-origin-requires
 index-origin-requires g c =
     let within = (inherited_some c.args.site c.args.attribute c.requires.works).1 in
     search rules
-
-pub rules_at-rules-requires-clause-there : goal.rules_at-rules-requires-clause-there
-rules_at-rules-requires-clause-there g c =
-    inherited_there c.args.site c.args.attribute c.requires.works c.index-origin.result.now c.index-origin.ensures
 
 pub rules_at-rules-requires-clause-production : goal.rules_at-rules-requires-clause-production
 rules_at-rules-requires-clause-production g c =

@@ -1,5 +1,5 @@
 use Rattle.std.proofs.Common.{rules}
-use Rattle.wb_evaluator.proofs.StartLemmas.{tree_some, tree_within, tree_production, tree_starts, tree_stops}
+use Rattle.wb_evaluator.proofs.StartLemmas.{tree_some, tree_production, tree_starts, tree_stops}
 use Rattle.wb_evaluator.proofs.start.start_of_tree.Goals as goal
 
 pub overflow_sub-site : goal.overflow_sub-site
@@ -10,10 +10,6 @@ pub index-origin-requires : goal.index-origin-requires
 index-origin-requires g c =
     let within = (tree_some c.args.site c.requires.works).1 in
     search rules
-
-pub rules_at-rules-requires-clause-there : goal.rules_at-rules-requires-clause-there
-rules_at-rules-requires-clause-there g c =
-    tree_within c.args.site c.requires.works c.index-origin.result.now c.index-origin.ensures
 
 pub rules_at-rules-requires-clause-production : goal.rules_at-rules-requires-clause-production
 rules_at-rules-requires-clause-production g c =

@@ -1,69 +1,64 @@
-use Rattle.std.proofs.Common.{rules, ◌≡◌, ◌∙◌, ◌<◌, ◌-◌, Some, length, slice_get, refl, ap, arith}
-use Rattle.wb_evaluator.proofs.LeaveLemmas.{key_here, tree_key, kept_synthesized, kept_inherited, kept_tree, is_tree}
-use Rattle.wb_evaluator.specs.declared.machine.Key.TheVariants as key
+use Rattle.std.proofs.Common.{Some, refl, sym, subst, arith}
+use Rattle.std.specs.Vec.{with_item}
+use Rattle.std.proofs.lemmas.Result.{on_ok_weaker}
+use Rattle.wb_evaluator.proofs.BackLemmas.{attribute_set}
+use Rattle.wb_evaluator.specs.Inner.Machines.{IsKey, IsSet, IsFor}
+use Rattle.wb_evaluator.specs.declared.machine.Key.{Key}
+use Rattle.wb_memo.specs.declared.memo.Memo.{Memo}
 use Rattle.wb_evaluator.proofs.steps.keep.Goals as goal
 
+pub set_attribute-requires-clause-whole : goal.set_attribute-requires-clause-whole
+set_attribute-requires-clause-whole c = c.requires.whole
+
 pub set_attribute-requires-clause-there : goal.set_attribute-requires-clause-there
-set_attribute-requires-clause-there g c =
-    let at : slice_get c.args.machine.now.stack.items (length c.args.machine.now.stack.items - 1) ≡ Some (key.Synthesized c.in-Synthesized.site c.in-Synthesized.attribute) =
-    c.requires.last ∙ ap Some c.in-Synthesized.is in
-    (key_here c.args.context.now.attributes.now
-    (record { signatures = c.args.context.now.operations.now.signatures; meaning = g.M.Meaning.meaning }) c.args.store.now c.args.machine.now c.requires.runs.machine (key.Synthesized c.in-Synthesized.site c.in-Synthesized.attribute) at).0
+set_attribute-requires-clause-there c = subst (IsKey c.args.memo.now) c.in-Synthesized.is c.requires.there
+
+pub set_attribute-requires-in-Inherited-clause-whole : goal.set_attribute-requires-in-Inherited-clause-whole
+set_attribute-requires-in-Inherited-clause-whole c = c.requires.whole
 
 pub set_attribute-requires-in-Inherited-clause-there : goal.set_attribute-requires-in-Inherited-clause-there
-set_attribute-requires-in-Inherited-clause-there g c =
-    let at : slice_get c.args.machine.now.stack.items (length c.args.machine.now.stack.items - 1) ≡ Some (key.Inherited c.in-Inherited.site c.in-Inherited.attribute) =
-    c.requires.last ∙ ap Some c.in-Inherited.is in
-    (key_here c.args.context.now.attributes.now
-    (record { signatures = c.args.context.now.operations.now.signatures; meaning = g.M.Meaning.meaning }) c.args.store.now c.args.machine.now c.requires.runs.machine (key.Inherited c.in-Inherited.site c.in-Inherited.attribute) at).0
+set_attribute-requires-in-Inherited-clause-there c = subst (IsKey c.args.memo.now) c.in-Inherited.is c.requires.there
 
 pub tree_of-tree-requires : goal.tree_of-tree-requires
-tree_of-tree-requires g c =
-    let at : slice_get c.args.machine.now.stack.items (length c.args.machine.now.stack.items - 1) ≡ Some (key.Tree c.in-Tree.site) =
-    c.requires.last ∙ ap Some c.in-Tree.is in
-    let (le, (q, k, path, this_is)) = tree_key c.args.context.now.attributes.now
-    (record { signatures = c.args.context.now.operations.now.signatures; meaning = g.M.Meaning.meaning }) c.args.store.now c.args.machine.now c.requires.runs.machine c.in-Tree.site at in
-    is_tree c.args.context.now.attributes.now
-    (record { signatures = c.args.context.now.operations.now.signatures; meaning = g.M.Meaning.meaning }) c.args.store.now c.args.machine.now c.args.answer c.requires.runs c.requires.inside q k this_is
+tree_of-tree-requires c = subst (λ (k : Key). IsFor k c.args.answer) c.in-Tree.is c.requires.tree
 
 pub index_mut-requires : goal.index_mut-requires
-index_mut-requires g c =
-    let at : slice_get c.args.machine.now.stack.items (length c.args.machine.now.stack.items - 1) ≡ Some (key.Tree c.in-Tree.site) =
-    c.requires.last ∙ ap Some c.in-Tree.is in
-    let (le, rest) = tree_key c.args.context.now.attributes.now
-    (record { signatures = c.args.context.now.operations.now.signatures; meaning = g.M.Meaning.meaning }) c.args.store.now c.args.machine.now c.requires.runs.machine c.in-Tree.site at in
-    let count = c.requires.runs.machine.memo.whole.trees in
-    let within : c.in-Tree.site < length c.args.machine.now.memo.trees.items = omega (arith, le, count) in
-    search rules
+index_mut-requires c =
+    let there = (subst (IsKey c.args.memo.now) c.in-Tree.is c.requires.there).0 in
+    let count = c.requires.whole.trees in
+    let is = c.args.memo.now.trees.ok.0 in
+    omega (arith, there, count, is)
 
-pub returns-in_ok-set_attribute-in-Synthesized-clause-kept : goal.returns-in_ok-set_attribute-in-Synthesized-clause-kept
-returns-in_ok-set_attribute-in-Synthesized-clause-kept g c runs =
-    let at : slice_get c.args.machine.now.stack.items (length c.args.machine.now.stack.items - 1) ≡ Some (key.Synthesized c.in-Synthesized.site c.in-Synthesized.attribute) =
-    c.requires.last ∙ ap Some c.in-Synthesized.is in
-    let e = c.in_ok-set_attribute-in-Synthesized.ensures in
-    let (le, this_is) = key_here c.args.context.now.attributes.now
-    (record { signatures = c.args.context.now.operations.now.signatures; meaning = g.M.Meaning.meaning }) c.args.store.now c.args.machine.now runs.machine (key.Synthesized c.in-Synthesized.site c.in-Synthesized.attribute) at in
-    kept_synthesized c.args.context.now.attributes.now
-    (record { signatures = c.args.context.now.operations.now.signatures; meaning = g.M.Meaning.meaning }) c.args.store.now c.args.machine.now c.args.answer runs c.requires.inside c.set_attribute.new.self c.in-Synthesized.site c.in-Synthesized.attribute
-    e.whole e.sites e.trees e.set e.kept le this_is
+pub returns-in-Synthesized : goal.returns-in-Synthesized
+returns-in-Synthesized c =
+    let e = c.set_attribute.ensures in
+    on_ok_weaker c.set_attribute.result
+    (subst (λ (k : Key). IsSet c.args.memo.now c.set_attribute.new.self k c.args.answer) (sym c.in-Synthesized.is))
+    (attribute_set c.set_attribute.result c.args.memo.now c.set_attribute.new.self c.in-Synthesized.site c.in-Synthesized.attribute
+    c.args.answer e.whole e.sites e.trees e.set e.kept)
 
-pub returns-in_ok-set_attribute-in-Inherited-clause-kept : goal.returns-in_ok-set_attribute-in-Inherited-clause-kept
-returns-in_ok-set_attribute-in-Inherited-clause-kept g c runs =
-    let at : slice_get c.args.machine.now.stack.items (length c.args.machine.now.stack.items - 1) ≡ Some (key.Inherited c.in-Inherited.site c.in-Inherited.attribute) =
-    c.requires.last ∙ ap Some c.in-Inherited.is in
-    let e = c.in_ok-set_attribute-in-Inherited.ensures in
-    let (le, this_is) = key_here c.args.context.now.attributes.now
-    (record { signatures = c.args.context.now.operations.now.signatures; meaning = g.M.Meaning.meaning }) c.args.store.now c.args.machine.now runs.machine (key.Inherited c.in-Inherited.site c.in-Inherited.attribute) at in
-    kept_inherited c.args.context.now.attributes.now
-    (record { signatures = c.args.context.now.operations.now.signatures; meaning = g.M.Meaning.meaning }) c.args.store.now c.args.machine.now c.args.answer runs c.requires.inside c.set_attribute-in-Inherited.new.self c.in-Inherited.site c.in-Inherited.attribute
-    e.whole e.sites e.trees e.set e.kept le this_is
+pub returns-in-Inherited : goal.returns-in-Inherited
+returns-in-Inherited c =
+    let e = c.set_attribute-in-Inherited.ensures in
+    on_ok_weaker c.set_attribute-in-Inherited.result
+    (subst (λ (k : Key). IsSet c.args.memo.now c.set_attribute-in-Inherited.new.self k c.args.answer) (sym c.in-Inherited.is))
+    (attribute_set c.set_attribute-in-Inherited.result c.args.memo.now c.set_attribute-in-Inherited.new.self c.in-Inherited.site
+    c.in-Inherited.attribute c.args.answer e.whole e.sites e.trees e.set e.kept)
 
-pub returns-in-Tree-clause-kept : goal.returns-in-Tree-clause-kept
-returns-in-Tree-clause-kept g c runs =
-    let at : slice_get c.args.machine.now.stack.items (length c.args.machine.now.stack.items - 1) ≡ Some (key.Tree c.in-Tree.site) =
-    c.requires.last ∙ ap Some c.in-Tree.is in
-    let (le, (q, k, path, this_is)) = tree_key c.args.context.now.attributes.now
-    (record { signatures = c.args.context.now.operations.now.signatures; meaning = g.M.Meaning.meaning }) c.args.store.now c.args.machine.now runs.machine c.in-Tree.site at in
-    kept_tree c.args.context.now.attributes.now
-    (record { signatures = c.args.context.now.operations.now.signatures; meaning = g.M.Meaning.meaning }) c.args.store.now c.args.machine.now c.args.answer runs c.requires.inside _ c.in-Tree.site c.tree_of-tree.result q k refl refl refl refl le path this_is
-    c.tree_of-tree.ensures
+pub returns-in-Tree : goal.returns-in-Tree
+returns-in-Tree c =
+    let old = c.args.memo.now in
+    let new : Memo = record {
+      sites = old.sites;
+      trees = with_item old.trees c.in-Tree.site (Some c.tree_of-tree.result);
+      cells = old.cells;
+      values = old.values;
+    } in
+    subst (λ (k : Key). IsSet old new k c.args.answer) (sym c.in-Tree.is) (record {
+      id = c.tree_of-tree.result;
+      is = c.tree_of-tree.ensures;
+      sites = refl;
+      cells = refl;
+      values = refl;
+      set = refl;
+    })

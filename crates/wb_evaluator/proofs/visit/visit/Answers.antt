@@ -1,16 +1,12 @@
 use Rattle.std.proofs.lemmas.Int.{to_z-of_z}
-use Rattle.std.proofs.Common.{rules, FitsSigned, w64, ℕ, List, Option, length, sym, ap, subst}
-use Rattle.std.specs.Prelude.{IfOk}
+use Rattle.std.proofs.Common.{rules, FitsSigned, w64, sym, subst}
 use Rattle.std.proofs.lemmas.Result.{IfOk-weaker}
 use Rattle.wb_evaluator.proofs.DoneLemmas.{node_here, int_visited, text_visited, truth_visited, label_label, label_visited, lexeme_label}
 use Rattle.wb_evaluator.proofs.DoneLemmas.{lexeme_visited}
 use Rattle.wb_evaluator.proofs.DoneLemmas.{top_done, read_ready, read_below_done, forward_done, build_visited, call_visited, choice_visited}
 use Rattle.wb_evaluator.proofs.DoneLemmas.{call_there}
 use Rattle.wb_evaluator.specs.Inner.Reached.{IsReady}
-use Rattle.wb_evaluator.specs.Inner.Works.{IsPushed, ArePushed, IsReadBelow}
-use Rattle.wb_evaluator.specs.declared.machine.Key.{Key}
-use Rattle.wb_evaluator.specs.declared.work.Task.TheVariants as task
-use Rattle.wb_operations.specs.Operations.{HasOperation, IsOperation}
+use Rattle.wb_evaluator.specs.Inner.Works.{IsPushed, IsReadBelow}
 use Rattle.wb_evaluator.specs.declared.machine.Key.TheVariants as key
 use Rattle.wb_memo.specs.declared.sites.Step.{Step}
 use Rattle.wb_values.specs.declared.value.Value.TheVariants as stored
@@ -79,8 +75,7 @@ pub visit_call-requires : goal.visit_call-requires
 visit_call-requires g c =
     let has = node_here c.args.expression.now.nodes.now c.args.at c.index-expression-at.result c.requires.there
     c.index-expression-at.is c.in-Call.is in
-    subst (HasOperation c.args.expression.now.operations.now.signatures) (sym c.as_slice-in-Call.ensures)
-    (call_there c.args.work.now c.args.work.now c.args.at c.requires.evaluating c.in-Call.operation c.in-Call.arguments has)
+    call_there c.args.work.now c.args.work.now c.args.at c.requires.evaluating c.in-Call.operation c.in-Call.arguments has
 
 pub returns-in-Int : goal.returns-in-Int
 returns-in-Int g c =
@@ -156,9 +151,7 @@ returns-in-Build g c =
     c.index-expression-at.is c.in-Build.is in
     IfOk-weaker c.visit_build.result _ _
     (λ r it. build_visited c.args.work.now c.visit_build.new.work c.args.at c.requires.evaluating c.in-Build.production c.in-Build.children
-    has r it)
-    (subst (λ (xs : List ℕ). IfOk c.visit_build.result (ArePushed c.args.work.now c.visit_build.new.work
-    (task.Build c.in-Build.production (length xs)) xs)) c.as_slice.ensures c.visit_build.ensures)
+    has r it) c.visit_build.ensures
 
 pub returns-in-Call : goal.returns-in-Call
 returns-in-Call g c =
@@ -166,14 +159,7 @@ returns-in-Call g c =
     c.index-expression-at.is c.in-Call.is in
     IfOk-weaker c.visit_call.result _ _
     (λ r it. call_visited c.args.work.now c.visit_call.new.work c.args.at c.requires.evaluating c.in-Call.operation c.in-Call.arguments has
-    r it)
-    (subst (λ (name : List ℕ). IfOk c.visit_call.result (λ r. (number : ℕ) × IsOperation c.args.expression.now.operations.now.signatures
-    name number
-    × ArePushed c.args.work.now c.visit_call.new.work (task.Call number (length c.in-Call.arguments)) c.in-Call.arguments r))
-    c.as_slice-in-Call.ensures
-    (subst (λ (xs : List ℕ). IfOk c.visit_call.result (λ r. (number : ℕ) × IsOperation c.args.expression.now.operations.now.signatures
-    c.as_slice-in-Call.result.now number × ArePushed c.args.work.now c.visit_call.new.work (task.Call number (length xs)) xs r))
-    c.as_slice-in-Call-2.ensures c.visit_call.ensures))
+    r it) c.visit_call.ensures
 
 pub returns-in-If : goal.returns-in-If
 returns-in-If g c =

@@ -26,7 +26,12 @@ returns-clause-waits c =
     let at = cleared_last rows mid.rows.items c.requires.some c.clear_last.ensures.rows in
     let frame : Frame = record { site = c.args.site; nodes = c.args.nodes; tasks = c.len-tasks.result; values = c.len-values.result } in
     let last : c.len-at.result - 1 ≡ length mid.rows.items - 1 = search rules in
-    let new : Frames = record { rows = with_item mid.rows (c.len-at.result - 1) (Some frame); tasks = c.move_end.new.to; values = c.move_end-2.new.to } in
+    let new : Frames = record {
+      rows = with_item mid.rows (c.len-at.result - 1) (Some frame);
+      tasks = c.move_end.new.to;
+      values = c.move_end-2.new.to;
+    } in
     kept_waits mid c.clear_last.ensures.piled at new frame work.tasks.items work.values.items
     (ap (λ n. slice_set mid.rows.items n (Some frame)) last) (search rules) (search rules) (search rules) (search rules)
-    ∙ set_twice c.args.self.now mid c.clear_last.ensures.rows c.clear_last.ensures.waits (Some (wait c.args.site c.args.nodes.now work.tasks.items work.values.items))
+    ∙ set_twice c.args.self.now mid c.clear_last.ensures.rows c.clear_last.ensures.waits
+    (Some (wait c.args.site c.args.nodes.now work.tasks.items work.values.items))

@@ -1,0 +1,52 @@
+-- Children of the tree of a site.
+use Rattle.std.proofs.Common.{◌≡◌, ◌∙◌, ◌<◌, ℕ, List, length, slice_get, ap, subst}
+use Rattle.std.proofs.lemmas.Option.{slice_get_within}
+use Rattle.wb_attributes.specs.Modular.{IsProduction}
+use Rattle.wb_resolved.specs.declared.attribution.AttributionParts.{AttributionParts}
+use Rattle.wb_resolved.specs.declared.production.Production.{Production}
+use Rattle.wb_values.specs.declared.value.TreeId.{TreeId}
+use Rattle.wb_values.specs.Tree.{Tree, production_of}
+use Rattle.wb_values.specs.ValuesIn.{tree_in}
+use Rattle.wb_evaluator.specs.Inner.Machines.{HasTree}
+use Rattle.wb_evaluator.specs.Inner.Reached.{HasChild, IsTreeChild, IsReady}
+use Rattle.wb_evaluator.specs.Inner.Starts.{HasProduction}
+use Rattle.wb_evaluator.specs.Inner.Works.{HasChildAt}
+use Rattle.wb_evaluator.specs.declared.machine.Machine.{Machine}
+use Rattle.wb_memo.specs.declared.memo.Memo.{Memo}
+use Rattle.wb_memo.specs.declared.sites.Step.TheVariants as step
+
+-- a site has one tree
+pub one_tree : (m : Memo) (site : ℕ) (id other : TreeId) → HasTree m site id → HasTree m site other → id ≡ other
+one_tree m site id other first second = cc (first, second)
+
+-- the tree that was found has the child
+pub child_here : (trees : List Tree) (m : Machine) (site k : ℕ) → HasChildAt trees m site k → (found : TreeId) → HasTree m.memo site found
+    → (found.0 < length trees) × HasChild trees found k
+child_here trees m site k (id, has, inside, child) found has_found =
+    let same = one_tree m.memo site id found has has_found in
+    (subst (λ (i : TreeId). i.0 < length trees) same inside, subst (λ (i : TreeId). HasChild trees i k) same child)
+
+-- it has the tree to which a step is
+pub ready_child : (trees : List Tree) (m : Memo) (site k : ℕ) → IsReady trees m site (step.Child k) → (found : TreeId)
+    → HasTree m site found
+    → (found.0 < length trees) × IsTreeChild trees found k
+ready_child trees m site k (id, has, inside, child) found has_found =
+    let same = one_tree m site id found has has_found in
+    (subst (λ (i : TreeId). i.0 < length trees) same inside, subst (λ (i : TreeId). IsTreeChild trees i k) same child)
+
+-- it is of a production
+pub production_here : (a : AttributionParts) (trees : List Tree) (m : Machine) (site : ℕ) → HasProduction a trees m site
+    → (found : TreeId) → HasTree m.memo site found
+    → (found.0 < length trees) × ((p : Production) × IsProduction a (production_of (tree_in trees found.0)) p)
+production_here a trees m site (id, has, inside, (p, is)) found has_found =
+    let same = one_tree m.memo site id found has has_found in (
+      subst (λ (i : TreeId). i.0 < length trees) same inside,
+      (p, subst (λ (i : TreeId). IsProduction a (production_of (tree_in trees i.0)) p) same is),
+    )
+
+-- whose number is within
+pub number_within : (a : AttributionParts) (trees : List Tree) (m : Machine) (site : ℕ) → HasProduction a trees m site
+    → (found : TreeId) → HasTree m.memo site found → (n : ℕ) → n ≡ production_of (tree_in trees found.0) → n < length a.productions
+number_within a trees m site has found has_found n is =
+    let (p, at) = (production_here a trees m site has found has_found).1 in
+    slice_get_within a.productions n p (ap (slice_get a.productions) is ∙ at)
