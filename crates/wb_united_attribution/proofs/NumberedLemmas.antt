@@ -2,7 +2,7 @@
 use Rattle.std.proofs.Common.{◌≡◌, ◌∙◌, ◌+◌, ◌<◌, ◌++◌, ◌∷◌, [], ℕ, zero, suc, List, Some, length, map, take}
 use Rattle.std.proofs.Common.{slice_get, get_or, refl, sym, ap, subst}
 use Rattle.std.proofs.Common.{arith}
-use Rattle.std.proofs.lemmas.List.{length-take-le, map-append, take_more}
+use Rattle.std.proofs.lemmas.List.{append-nil, flat_map_more, length-take-le, map-append, take_more}
 use Rattle.std.proofs.lemmas.Option.{get_or_from_slice_get, slice_get_within}
 use Rattle.std.specs.List.{flat_map}
 use Rattle.wb_numbered_unions.proofs.JoinedLemmas.{append_assoc}
@@ -74,6 +74,20 @@ numbered_next f xs i x old new at was step =
     step ∙ (ap (λ zs. zs ++ f i x ∷ []) was ∙ (ap (λ k. numbered f 0 (take i xs) ++ f k x ∷ [])
     (let e : i ≡ 0 + length (take i xs) = omega (arith, len) in e) ∙ (sym (numbered_more f 0 (take i xs) x) ∙
     ap (numbered f 0) (sym more))))
+
+-- what is gathered of elements with their numbers, and one element more
+pub flat_numbered_next : {X Y Z : Type 0} (f : Y → List Z) (g : ℕ → X → Y) (xs : List X) (i : ℕ) (x : X) (start old new : List Z) →
+    slice_get xs i ≡ Some x → old ≡ start ++ flat_map f (numbered g 0 (take i xs)) → new ≡ old ++ f (g i x) →
+    new ≡ start ++ flat_map f (numbered g 0 (take (i + 1) xs))
+flat_numbered_next f g xs i x start old new at was step =
+    let mine = numbered g 0 (take i xs) in
+    step ∙ (ap (λ zs. zs ++ f (g i x)) was ∙ (flat_map_more f start mine (g i x) ∙
+    ap (λ zs. start ++ flat_map f zs) (numbered_next g xs i x mine (mine ++ g i x ∷ []) at refl refl)))
+
+-- nothing is gathered of no elements
+pub flat_none : {X Y : Type 0} (f : X → List Y) (xs : List X) (ys : List Y) → ys ≡ ys ++ flat_map f (take 0 xs)
+flat_none f [] ys = sym (append-nil ys)
+flat_none f (x ∷ xs) ys = sym (append-nil ys)
 
 -- a list with numbers after another, and one element more
 pub numbered_after : {X Y : Type 0} (f : ℕ → X → Y) (first : ℕ) (xs : List X) (i : ℕ) (x : X) (start old new : List Y) →

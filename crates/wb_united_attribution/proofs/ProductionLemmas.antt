@@ -23,11 +23,10 @@ use Rattle.wb_united_attributes.specs.Rows.{new_child, new_equation, new_forward
 use Rattle.wb_united_attribution.specs.declared.addition.Addition.{Addition}
 use Rattle.wb_united_attribution.specs.declared.addition.Rows.{Rows}
 use Rattle.wb_united_attribution.specs.declared.placed.Placed.{Placed}
-use Rattle.wb_united_attribution.specs.declared.written.Written.{Written}
 use Rattle.wb_united_attribution.specs.Inner.Counted.{counts_in, numbers_at, placed_at}
 use Rattle.wb_united_attribution.specs.Inner.Gathered.{abstract_productions_in, gathered_productions, host_productions, productions_in}
 use Rattle.wb_united_attribution.specs.Inner.Written.{equations_by, host_production_by, locals_by, locals_size, production_by, with_locals}
-use Rattle.wb_united_attribution.specs.Inner.Written.{written_at, written_equations, written_locals}
+use Rattle.wb_united_attribution.specs.Inner.Written.{Written, written_at, written_equations, written_locals}
 use Rattle.wb_united_attribution.specs.Lent.{addition_in, equations_after, host_row, locals_after, rows_in, written_in}
 use Rattle.wb_united_attribution.proofs.NumberedLemmas.{count_take, flat_numbered, map_map, map_numbered, map_take, numbered_map}
 use Rattle.wb_united_attribution.proofs.NumberedLemmas.{numbered_numbered, numbered_plain, numbered_same, numbered_where}

@@ -6,6 +6,7 @@ use Rattle.wb_numbered_unions.specs.Joined as joined
 use Rattle.wb_numbered_unions.specs.Joined.{numbered}
 use Rattle.wb_numbered_unions.specs.Numbers.{block_of, numbers_of}
 use Rattle.wb_numbered_unions.specs.United.{host_numbers, united_attributes, united_nonterminals, united_occurrences}
+use Rattle.wb_renumbered.specs.declared.numbers.Block.{Block}
 use Rattle.wb_renumbered.specs.declared.numbers.Numbers.{Numbers}
 use Rattle.wb_renumbered.specs.NewNumbers.{map_of, place_in}
 use Rattle.wb_unions.specs.Blocks.{spread}
@@ -16,13 +17,22 @@ use Rattle.wb_united_attribution.specs.declared.addition.Addition.{Addition}
 use Rattle.wb_united_attribution.specs.declared.addition.Rows.{Rows}
 use Rattle.wb_united_attribution.specs.declared.placed.Counts.{Counts}
 use Rattle.wb_united_attribution.specs.declared.placed.Placed.{Placed}
-use Rattle.wb_united_attribution.specs.declared.placed.Sort.{Sort}
-use Rattle.wb_united_attribution.specs.declared.placed.Sort.TheVariants as s
-use Rattle.wb_united_attribution.specs.Inner.Counted.{block_at, counts_in, no_counts, numbers_at, pick_in, placed_at, size_by}
+use Rattle.wb_united_attribution.specs.Inner.Counted as s
+use Rattle.wb_united_attribution.specs.Inner.Counted.{counts_in, no_counts, numbers_at, numbers_by, pick_in, placed_at, placed_by, size_by}
+use Rattle.wb_united_attribution.specs.Inner.Counted.{Sort, total_by, totals_in}
 use Rattle.wb_united_attribution.specs.Inner.Gathered.{abstract_nonterminals_in, attributes_in, gathered_attributes, gathered_nonterminals}
 use Rattle.wb_united_attribution.specs.Inner.Gathered.{gathered_occurrences, nonterminals_in, occurrences_in}
 use Rattle.wb_united_attribution.specs.Lent.{addition_in, all_in, rows_in}
 use Rattle.wb_united_attribution.proofs.NumberedLemmas.{count_take, flat_numbered, map_take, numbered_map, numbered_same}
+
+-- the block of a sort, where the host has so many, these extensions come before, and these are there
+abbrev block_at : ℕ → (size : Counts) → (before all : List Addition) → Sort → Block
+block_at own size before all sort = record {
+  own = own;
+  before = total_by sort before;
+  size = pick_in size sort;
+  total = total_by sort all;
+}
 
 -- where no locals move
 abbrev pub unmoved : NumberMap → NumberMap
@@ -185,10 +195,12 @@ module _ (host : Rows) (adds : List Addition) where
           (λ k x. ap (λ t. map (new_occurrence t (suc k)) x.rows.occurrences.now) (numbers_are k x))
 
   -- what is gathered by equal numbers
-  pub same_gathered : {Y : Type 0} (G : Numbers → Rows → List Placed → Y) (counts : Counts) (n : Numbers) (mine items : List Placed) →
-      counts ≡ counts_in host → n ≡ numbers_at counts 0 no_counts [] adds → mine ≡ items → items ≡ numbered (placed_at counts adds) 0 adds →
+  pub same_gathered : {Y : Type 0} (G : Numbers → Rows → List Placed → Y) (counts all_counts : Counts) (n : Numbers)
+      (mine items : List Placed) →
+      counts ≡ counts_in host → all_counts ≡ totals_in adds → n ≡ numbers_by counts 0 no_counts no_counts all_counts →
+      mine ≡ items → items ≡ numbered (placed_by n adds) 0 adds →
       G n host mine ≡ G own_numbers host placed
-  same_gathered G counts n mine items counted numbers same are =
-      let n_is : n ≡ own_numbers = numbers ∙ ap (λ z. numbers_at z 0 no_counts [] adds) counted in
-      let placed_is : mine ≡ placed = same ∙ (are ∙ ap (λ z. numbered (placed_at z adds) 0 adds) counted) in
+  same_gathered G counts all_counts n mine items counted totals numbers same are =
+      let n_is : n ≡ own_numbers = numbers ∙ (λ j. numbers_by (counted j) 0 no_counts no_counts (totals j)) in
+      let placed_is : mine ≡ placed = same ∙ (are ∙ ap (λ z. numbered (placed_by z adds) 0 adds) n_is) in
       λ j. G (n_is j) host (placed_is j)

@@ -4,11 +4,11 @@
 #![tactic(auto)]
 
 mod addition;
-mod attributes;
-mod nonterminals;
+mod lists;
 mod placed;
 mod production;
 mod productions;
+mod rows;
 pub mod slices;
 mod union;
 mod written;

@@ -2,10 +2,10 @@
 //!
 //! Each sort of rows has a block for the host and one for each extension, in order.
 
-ghost use Rattle.std.specs.Prelude.{◌≡◌, ◌+◌, ◌<◌, IfOk, IfSome, length, map, slice_get};
+ghost use Rattle.std.specs.Prelude.{◌≡◌, ◌+◌, ◌<◌, IfOk, IfSome, length, slice_get};
 ghost use Rattle.wb_numbered_unions.specs.Joined.{numbered};
-ghost use Rattle.wb_united.specs.Places.{total_of};
-ghost use Rattle.wb_united_attribution.specs.Inner.Counted.{block_at, counts_in, grouped_at, numbers_at, pick_in, placed_at, size_by};
+ghost use Rattle.wb_united_attribution.specs.Inner.Counted.{counts_in, no_counts, numbers_by, placed_by, sums_in, totals_in};
+ghost use Rattle.wb_united_attribution.specs.Inner.Counted as spec;
 
 use crate::{Addition, Rows};
 use std::alloc::{AllocError, Global};
@@ -19,17 +19,6 @@ pub(crate) struct Placed<'a> {
     pub(crate) addition: Addition<'a>,
 }
 
-// A sort of rows.
-#[derive(Clone, Copy)]
-pub(crate) enum Sort {
-    Terminals,
-    Nonterminals,
-    AbstractNonterminals,
-    Attributes,
-    Productions,
-    AbstractProductions,
-}
-
 // How many rows there are of each sort.
 #[derive(Clone, Copy)]
 pub(crate) struct Counts {
@@ -41,22 +30,58 @@ pub(crate) struct Counts {
     pub(crate) abstract_productions: usize,
 }
 
-// Whose numbers are wanted: how many rows are its own, which extensions come before, and which there are.
-#[derive(Clone, Copy)]
-pub(crate) struct Spot<'a> {
-    pub(crate) owner: usize,
-    pub(crate) size: Counts,
-    pub(crate) before: &'a [Addition<'a>],
-    pub(crate) all: &'a [Addition<'a>],
+// The host's new numbers, where extensions have so many rows together, and no locals move.
+pub(crate) fn host_numbers(host: &Counts, all: &Counts) -> Result<Numbers, AllocError>
+    ensures { IfOk result (λ made. made ≡ numbers_by host.now 0 no_counts no_counts all.now) }
+{
+    let nonterminals = following(
+        host.nonterminals,
+        all.nonterminals,
+        host.abstract_nonterminals,
+    )?;
+    let productions = following(host.productions, all.productions, host.abstract_productions)?;
+    Ok(Numbers {
+        terminal: host_block(host.terminals, all.terminals),
+        nonterminal: Grouped {
+            lead: host_block(host.nonterminals, all.nonterminals),
+            follow: host_block(nonterminals, all.abstract_nonterminals),
+        },
+        attribute: host_block(host.attributes, all.attributes),
+        production: Grouped {
+            lead: host_block(host.productions, all.productions),
+            follow: host_block(productions, all.abstract_productions),
+        },
+        local: host_block(0, 0),
+        owner: 0,
+    })
 }
 
-// The extensions with their new numbers, in order.
+// How much is before the extensions' own that follows: all that leads, and what of the host follows.
+fn following(lead: usize, total: usize, follow: usize) -> Result<usize, AllocError>
+    ensures { IfOk result (λ made. made ≡ lead + total + follow) }
+{
+    sum(sum(lead, total)?, follow)
+}
+
+// A block of the host's, where extensions have so many together.
+fn host_block(own: usize, total: usize) -> Block
+    ensures { result ≡ record { own = own; before = 0; size = 0; total = total } }
+{
+    Block {
+        own,
+        before: 0,
+        size: 0,
+        total,
+    }
+}
+
+// The extensions with their new numbers, in order, where the host has these.
 pub(crate) fn placed_of<'a>(
     alloc: Global,
-    host: &Counts,
-    additions: &'a [Addition<'a>],
+    host: &Numbers,
+    additions: &[Addition<'a>],
 ) -> Result<Vec<Placed<'a>>, AllocError>
-    ensures { IfOk result (λ placed. placed.items ≡ numbered (placed_at host.now additions.now) 0 additions.now) }
+    ensures { IfOk result (λ placed. placed.items ≡ numbered (placed_by host.now additions.now) 0 additions.now) }
 {
     let mut placed = Vec::new(alloc);
     'additions: for number in 0..additions.len() {
@@ -68,92 +93,99 @@ pub(crate) fn placed_of<'a>(
 
 // That of one extension.
 fn placed_one<'a>(
-    host: &Counts,
-    additions: &'a [Addition<'a>],
+    host: &Numbers,
+    additions: &[Addition<'a>],
     number: usize,
 ) -> Result<Placed<'a>, AllocError>
     requires { number < length additions.now }
-    ensures { IfOk result (λ made. IfSome (slice_get additions.now number) (λ x. made ≡ placed_at host.now additions.now number x)) }
+    ensures { IfOk result (λ made. IfSome (slice_get additions.now number) (λ x. made ≡ placed_by host.now additions.now number x)) }
 {
+    let before = totals_of(&additions[..number])?;
     let addition = additions[number];
-    let spot = Spot {
-        owner: number + 1,
-        size: counts_of(&addition.rows),
-        before: &additions[..number],
-        all: additions,
-    };
-    let numbers = numbers_of(host, &spot)?;
+    let size = counts_of(&addition.rows);
+    let numbers = numbers_after(host, number + 1, &size, &before);
     Ok(Placed { numbers, addition })
 }
 
-// The new numbers there, where no locals move.
-pub(crate) fn numbers_of(host: &Counts, spot: &Spot) -> Result<Numbers, AllocError>
-    ensures { IfOk result (λ made. made ≡ numbers_at host.now spot.now.owner spot.now.size spot.now.before.now spot.now.all.now) }
+// The numbers of an owner beside the host's, with so many rows of its own, and so many of others before them.
+fn numbers_after(host: &Numbers, owner: usize, size: &Counts, before: &Counts) -> Numbers
+    ensures { result ≡ spec.numbers_after host.now owner size.now before.now }
 {
-    let nonterminal = grouped_of(host, spot, Sort::Nonterminals, Sort::AbstractNonterminals)?;
-    let production = grouped_of(host, spot, Sort::Productions, Sort::AbstractProductions)?;
-    Ok(Numbers {
-        terminal: block_of(host.terminals, spot, Sort::Terminals)?,
-        nonterminal,
-        attribute: block_of(host.attributes, spot, Sort::Attributes)?,
-        production,
-        local: Block {
-            own: 0,
-            before: 0,
-            size: 0,
-            total: 0,
+    Numbers {
+        terminal: Block {
+            before: before.terminals,
+            size: size.terminals,
+            ..host.terminal
         },
-        owner: spot.owner,
-    })
-}
-
-// Two sorts, of which one leads.
-fn grouped_of(host: &Counts, spot: &Spot, lead: Sort, follow: Sort) -> Result<Grouped, AllocError>
-    ensures { IfOk result (λ made. made ≡ grouped_at host.now spot.now.size spot.now.before.now spot.now.all.now lead follow) }
-{
-    let lead_block = block_of(pick(host, lead), spot, lead)?;
-    let leading = sum(pick(host, lead), lead_block.total)?;
-    let own = sum(leading, pick(host, follow))?;
-    Ok(Grouped {
-        lead: lead_block,
-        follow: block_of(own, spot, follow)?,
-    })
-}
-
-fn block_of(own: usize, spot: &Spot, sort: Sort) -> Result<Block, AllocError>
-    ensures { IfOk result (λ made. made ≡ block_at own spot.now.size spot.now.before.now spot.now.all.now sort) }
-{
-    let before = total(spot.before, sort)?;
-    let total = total(spot.all, sort)?;
-    Ok(Block {
-        own,
-        before,
-        size: pick(&spot.size, sort),
-        total,
-    })
-}
-
-// How many rows of a sort extensions have together.
-fn total(additions: &[Addition], sort: Sort) -> Result<usize, AllocError>
-    ensures { IfOk result (λ total. total ≡ total_of (map (size_by sort) additions.now)) }
-{
-    let mut total = 0;
-    'additions: for addition in additions {
-        total = sum(total, pick(&counts_of(&addition.rows), sort))?;
+        nonterminal: Grouped {
+            lead: Block {
+                before: before.nonterminals,
+                size: size.nonterminals,
+                ..host.nonterminal.lead
+            },
+            follow: Block {
+                before: before.abstract_nonterminals,
+                size: size.abstract_nonterminals,
+                ..host.nonterminal.follow
+            },
+        },
+        attribute: Block {
+            before: before.attributes,
+            size: size.attributes,
+            ..host.attribute
+        },
+        production: Grouped {
+            lead: Block {
+                before: before.productions,
+                size: size.productions,
+                ..host.production.lead
+            },
+            follow: Block {
+                before: before.abstract_productions,
+                size: size.abstract_productions,
+                ..host.production.follow
+            },
+        },
+        local: host.local,
+        owner,
     }
-    Ok(total)
 }
 
-fn pick(counts: &Counts, sort: Sort) -> usize
-    ensures { result ≡ pick_in counts.now sort }
+// How many rows extensions have together.
+pub(crate) fn totals_of(additions: &[Addition]) -> Result<Counts, AllocError>
+    ensures { IfOk result (λ counts. counts ≡ totals_in additions.now) }
 {
-    match sort {
-        Sort::Terminals => counts.terminals,
-        Sort::Nonterminals => counts.nonterminals,
-        Sort::AbstractNonterminals => counts.abstract_nonterminals,
-        Sort::Attributes => counts.attributes,
-        Sort::Productions => counts.productions,
-        Sort::AbstractProductions => counts.abstract_productions,
+    let mut totals = no_rows();
+    'additions: for addition in additions {
+        totals = sums(&totals, &counts_of(&addition.rows))?;
+    }
+    Ok(totals)
+}
+
+// How many there are of both.
+fn sums(one: &Counts, other: &Counts) -> Result<Counts, AllocError>
+    ensures { IfOk result (λ made. made ≡ sums_in one.now other.now) }
+{
+    Ok(Counts {
+        terminals: sum(one.terminals, other.terminals)?,
+        nonterminals: sum(one.nonterminals, other.nonterminals)?,
+        abstract_nonterminals: sum(one.abstract_nonterminals, other.abstract_nonterminals)?,
+        attributes: sum(one.attributes, other.attributes)?,
+        productions: sum(one.productions, other.productions)?,
+        abstract_productions: sum(one.abstract_productions, other.abstract_productions)?,
+    })
+}
+
+fn no_rows() -> Counts
+    ensures { result ≡ no_counts }
+{
+    Counts {
+        terminals: 0,
+        nonterminals: 0,
+        abstract_nonterminals: 0,
+        attributes: 0,
+        productions: 0,
+        abstract_productions: 0,
     }
 }
 

@@ -1,13 +1,13 @@
 //! What is a production in new numbers, with what is written on it besides?
 
-ghost use Rattle.std.specs.Prelude.{◌≡◌, ◌++◌, [], IfOk, OnOk, map, option_map};
-ghost use Rattle.std.specs.List.{flat_map};
+ghost use Rattle.std.specs.Prelude.{◌≡◌, ◌+◌, ◌++◌, [], IfOk, OnOk, map, option_map};
 ghost use Rattle.wb_united_attributes.specs.Rows as rows;
 ghost use Rattle.wb_renumbered.specs.NewNumbers.{map_of};
-ghost use Rattle.wb_united_attribution.specs.Inner.Filled.{with_rules};
-ghost use Rattle.wb_united_attribution.specs.Inner.Written.{equations_by, locals_by, production_by, written_equations, written_locals};
+ghost use Rattle.wb_united_attribution.specs.Inner.Filled.{AreAdded, AreNone, AreRules, IsWritten, with_rules};
+ghost use Rattle.wb_united_attribution.specs.Inner.Written.{equations_by, locals_by, production_by, size_on, written, written_after};
 
-use crate::written::{Written, equations_behind, locals_behind};
+use crate::placed::{Placed, sum};
+use crate::written::{Writers, Writing, block_on, with_locals, writing_on};
 use std::alloc::{AllocError, Global};
 use wb_base::{Bytes, Sequence, push};
 use wb_renumbered::{
@@ -19,18 +19,17 @@ use wb_resolved::{Child, Equation, Forward, Local, Production};
 pub(crate) fn new_production(
     alloc: Global,
     numbers: &Numbers,
-    row: &Production,
-    written: &[Written],
+    writers: &Writers,
 ) -> Result<Production, AllocError>
-    ensures { IfOk result (λ made. made ≡ production_by numbers.now row.now written.now) }
+    ensures { IfOk result (λ made. made ≡ production_by numbers.now writers.now.on.row.now (written writers.now)) }
 {
     let mut rules = Rules {
         locals: Vec::new(alloc),
         forward: None,
         equations: Vec::new(alloc),
     };
-    add_rules(alloc, &mut rules, numbers, row, written)?;
-    production_of(alloc, numbers, row, rules)
+    add_rules(alloc, &mut rules, numbers, writers)?;
+    production_of(alloc, numbers, writers.on.row, rules)
 }
 
 // Its locals, what it forwards to, and its equations. They are made in place, so that a failure has one thing to drop.
@@ -41,61 +40,40 @@ struct Rules {
     equations: Vec<Equation>,
 }
 
+// Adds its own, and then those that are written on it.
 fn add_rules(
     alloc: Global,
     rules: &mut Rules,
     numbers: &Numbers,
-    row: &Production,
-    written: &[Written],
+    writers: &Writers,
 ) -> Result<(), AllocError>
-    requires locals { rules.old.locals.items ≡ [] }
-    requires equations { rules.old.equations.items ≡ [] }
-    ensures locals { OnOk result (rules.new.locals.items ≡ locals_by numbers.now row.now.locals ++ flat_map written_locals written.now) }
-    ensures forward { OnOk result (rules.new.forward ≡ option_map (rows.new_forward (map_of numbers.now) 0) row.now.forward) }
-    ensures equations { OnOk result (rules.new.equations.items ≡ equations_by numbers.now row.now.equations ++ flat_map written_equations written.now) }
+    requires { AreNone rules.old }
+    ensures { OnOk result (AreRules numbers.now writers.now.on.row.now (written writers.now) rules.new) }
 {
-    rules.forward = forward_of(alloc, numbers, &row.forward)?;
-    add_all_locals(alloc, &mut rules.locals, numbers, row, written)?;
-    add_all_equations(alloc, &mut rules.equations, numbers, row, written)
+    add_own(alloc, rules, numbers, writers.on.row)?;
+    let mut before = 0;
+    'placed: for extension in writers.placed {
+        before = add_written(alloc, rules, writers, extension, before)?;
+    }
+    Ok(())
 }
 
-// The production with these rules.
-fn production_of(
+fn add_own(
     alloc: Global,
+    rules: &mut Rules,
     numbers: &Numbers,
     row: &Production,
-    rules: Rules,
-) -> Result<Production, AllocError>
-    ensures { IfOk result (λ made. made ≡ with_rules (production_by numbers.now row.now []) rules.locals.items rules.forward rules.equations.items) }
+) -> Result<(), AllocError>
+    requires { AreNone rules.old }
+    ensures { OnOk result (AreRules numbers.now row.now [] rules.new) }
 {
-    let left = new_left(numbers, row.left)?;
-    let head = head_of(alloc, numbers, row)?;
-    Ok(Production {
-        name: head.name,
-        owner: new_owner(numbers, row.owner),
-        role: row.role,
-        left,
-        children: head.children,
-        locals: Sequence::from_vec(rules.locals),
-        forward: rules.forward,
-        equations: Sequence::from_vec(rules.equations),
-    })
-}
-
-// Its name and its children.
-#[derive(Drop)]
-struct Head {
-    name: Bytes,
-    children: Sequence<Child>,
-}
-
-fn head_of(alloc: Global, numbers: &Numbers, row: &Production) -> Result<Head, AllocError>
-    ensures name { IfOk result (λ head. head.name ≡ row.now.name) }
-    ensures children { IfOk result (λ head. head.children ≡ map (rows.new_child (map_of numbers.now)) row.now.children) }
-{
-    let name = row.name.copy()?;
-    let children = new_children(alloc, numbers, row.children.as_slice())?;
-    Ok(Head { name, children })
+    rules.forward = forward_of(alloc, numbers, &row.forward)?;
+    let own = Writing {
+        locals: row.locals.as_slice(),
+        equations: row.equations.as_slice(),
+    };
+    add_parts(alloc, rules, numbers, &own)?;
+    Ok(())
 }
 
 fn forward_of(
@@ -111,22 +89,36 @@ fn forward_of(
     }
 }
 
-// Its own locals, and then those that are written on it.
-fn add_all_locals(
+// Adds what an extension writes, where those before it write so many locals. Returns how many come before the next one's.
+fn add_written(
     alloc: Global,
-    made: &mut Vec<Local>,
-    numbers: &Numbers,
-    row: &Production,
-    written: &[Written],
-) -> Result<(), AllocError>
-    requires { made.old.items ≡ [] }
-    ensures { OnOk result (made.new.items ≡ locals_by numbers.now row.now.locals ++ flat_map written_locals written.now) }
+    rules: &mut Rules,
+    writers: &Writers,
+    extension: &Placed,
+    before: usize,
+) -> Result<usize, AllocError>
+    ensures rules { OnOk result (IsWritten (written_after writers.now before extension.now) rules.old rules.new) }
+    ensures next { IfOk result (λ next. next ≡ before + size_on writers.now extension.now) }
 {
-    add_locals(alloc, made, numbers, row.locals.as_slice())?;
-    'written: for other in written {
-        let locals = locals_behind(other.rows, other.at, other.own_locals);
-        add_locals(alloc, made, &other.numbers, locals)?;
-    }
+    let writing = writing_on(&writers.on, &extension.addition);
+    let next = sum(before, writing.locals.len())?;
+    let local = block_on(writers, before, writing.locals.len());
+    let numbers = with_locals(&extension.numbers, local);
+    add_parts(alloc, rules, &numbers, &writing)?;
+    Ok(next)
+}
+
+// Adds locals and equations in new numbers.
+fn add_parts(
+    alloc: Global,
+    rules: &mut Rules,
+    numbers: &Numbers,
+    parts: &Writing,
+) -> Result<(), AllocError>
+    ensures { OnOk result (AreAdded numbers.now parts.now rules.old rules.new) }
+{
+    add_locals(alloc, &mut rules.locals, numbers, parts.locals)?;
+    add_equations(alloc, &mut rules.equations, numbers, parts.equations)?;
     Ok(())
 }
 
@@ -145,25 +137,6 @@ fn add_locals(
     Ok(())
 }
 
-// Its own equations, and then those that are written on it.
-fn add_all_equations(
-    alloc: Global,
-    made: &mut Vec<Equation>,
-    numbers: &Numbers,
-    row: &Production,
-    written: &[Written],
-) -> Result<(), AllocError>
-    requires { made.old.items ≡ [] }
-    ensures { OnOk result (made.new.items ≡ equations_by numbers.now row.now.equations ++ flat_map written_equations written.now) }
-{
-    add_equations(alloc, made, numbers, row.equations.as_slice())?;
-    'written: for other in written {
-        let equations = equations_behind(other.rows, other.at, other.own_equations);
-        add_equations(alloc, made, &other.numbers, equations)?;
-    }
-    Ok(())
-}
-
 fn add_equations(
     alloc: Global,
     made: &mut Vec<Equation>,
@@ -177,4 +150,49 @@ fn add_equations(
         push(made, next)?;
     }
     Ok(())
+}
+
+// The production with these rules.
+fn production_of(
+    alloc: Global,
+    numbers: &Numbers,
+    row: &Production,
+    rules: Rules,
+) -> Result<Production, AllocError>
+    ensures { IfOk result (λ made. made ≡ with_rules (production_by numbers.now row.now []) rules.locals.items rules.forward rules.equations.items) }
+{
+    let head = head_of(alloc, numbers, row)?;
+    Ok(Production {
+        name: head.name,
+        owner: new_owner(numbers, row.owner),
+        role: row.role,
+        left: head.left,
+        children: head.children,
+        locals: Sequence::from_vec(rules.locals),
+        forward: rules.forward,
+        equations: Sequence::from_vec(rules.equations),
+    })
+}
+
+// Its left side, its name and its children.
+#[derive(Drop)]
+struct Head {
+    left: usize,
+    name: Bytes,
+    children: Sequence<Child>,
+}
+
+fn head_of(alloc: Global, numbers: &Numbers, row: &Production) -> Result<Head, AllocError>
+    ensures left { IfOk result (λ head. head.left ≡ (map_of numbers.now).nonterminal row.now.left) }
+    ensures name { IfOk result (λ head. head.name ≡ row.now.name) }
+    ensures children { IfOk result (λ head. head.children ≡ map (rows.new_child (map_of numbers.now)) row.now.children) }
+{
+    let left = new_left(numbers, row.left)?;
+    let name = row.name.copy()?;
+    let children = new_children(alloc, numbers, row.children.as_slice())?;
+    Ok(Head {
+        left,
+        name,
+        children,
+    })
 }

@@ -1,59 +1,35 @@
-//! Which productions has the union?
+//! What are productions in new numbers, with what extensions write on those of the host?
 
-ghost use Rattle.std.specs.Prelude.{◌≡◌, ◌++◌, [], IfOk, OnOk};
-ghost use Rattle.std.specs.List.{flat_map};
-ghost use Rattle.wb_united_attribution.specs.Inner.Gathered.{abstract_productions_in, gathered_productions, host_productions, own_productions, productions_in};
-ghost use Rattle.wb_united_attribution.specs.Inner.Written.{host_production_by};
+ghost use Rattle.std.specs.Prelude.{◌≡◌, ◌++◌, [], IfOk, OnOk, length};
+ghost use Rattle.wb_united_attribution.specs.Inner.Gathered.{host_productions, own_productions};
+ghost use Rattle.wb_united_attribution.specs.Inner.Written.{host_production_by, production_by};
 
 use crate::Rows;
 use crate::placed::{Placed, sum};
 use crate::production::new_production;
-use crate::written::{HostRow, total_on, written_on};
+use crate::written::{HostRow, Writers, total_on, with_locals};
 use std::alloc::{AllocError, Global};
 use wb_base::push;
 use wb_renumbered::{Block, Numbers};
 use wb_resolved::Production;
 
-// A host: its new numbers, how many of its productions lead, and its extensions.
+// A host: its new numbers, its rows, and its extensions.
 #[derive(Clone, Copy)]
-struct Host<'a> {
-    numbers: Numbers,
-    leading: usize,
-    placed: &'a [Placed<'a>],
-}
-
-// Those of the grammar, the host's first, and then those that are abstract.
-pub(crate) fn add_united_productions(
-    alloc: Global,
-    made: &mut Vec<Production>,
-    numbers: &Numbers,
-    rows: &Rows,
-    placed: &[Placed],
-) -> Result<(), AllocError>
-    requires { made.old.items ≡ [] }
-    ensures { OnOk result (made.new.items ≡ gathered_productions numbers.now rows.now placed.now) }
-{
-    let leading = rows.productions.len();
-    let host = Host {
-        numbers: *numbers,
-        leading,
-        placed,
-    };
-    add_host(alloc, made, &host, 0, rows.productions)?;
-    add_each(alloc, made, placed)?;
-    add_host(alloc, made, &host, leading, rows.abstract_productions)?;
-    add_each_abstract(alloc, made, placed)
+pub(crate) struct Host<'a> {
+    pub(crate) numbers: &'a Numbers,
+    pub(crate) rows: &'a Rows<'a>,
+    pub(crate) placed: &'a [Placed<'a>],
 }
 
 // Adds productions of the host, of which the first has this number there.
-fn add_host(
+pub(crate) fn add_host(
     alloc: Global,
     made: &mut Vec<Production>,
     host: &Host,
     first: usize,
     rows: &[Production],
 ) -> Result<(), AllocError>
-    ensures { OnOk result (made.new.items ≡ made.old.items ++ host_productions host.now.numbers host.now.leading host.now.placed.now first rows.now) }
+    ensures { OnOk result (made.new.items ≡ made.old.items ++ host_productions host.now.numbers.now (length host.now.rows.now.productions.now) host.now.placed.now first rows.now) }
 {
     'rows: for place in 0..rows.len() {
         let number = sum(first, place)?;
@@ -70,62 +46,31 @@ fn host_production(
     number: usize,
     row: &Production,
 ) -> Result<Production, AllocError>
-    ensures { IfOk result (λ made. made ≡ host_production_by host.now.leading number row.now host.now.numbers host.now.placed.now) }
+    ensures { IfOk result (λ made. made ≡ host_production_by (length host.now.rows.now.productions.now) number row.now host.now.numbers.now host.now.placed.now) }
 {
-    let at = HostRow {
-        leading: host.leading,
+    let on = HostRow {
+        leading: host.rows.productions.len(),
         number,
         row,
     };
-    let total = total_on(&at, host.placed)?;
+    let total = total_on(&on, host.placed)?;
     let local = Block {
         own: row.locals.len(),
         before: 0,
         size: 0,
         total,
     };
-    let numbers = Numbers {
-        local,
-        ..host.numbers
+    let numbers = with_locals(host.numbers, local);
+    let writers = Writers {
+        on,
+        placed: host.placed,
+        total,
     };
-    let written = written_on(alloc, &at, host.placed, total)?;
-    new_production(alloc, &numbers, row, &written)
-}
-
-fn add_each(alloc: Global, made: &mut Vec<Production>, placed: &[Placed]) -> Result<(), AllocError>
-    ensures { OnOk result (made.new.items ≡ made.old.items ++ flat_map productions_in placed.now) }
-{
-    'placed: for extension in placed {
-        add_own(
-            alloc,
-            made,
-            &extension.numbers,
-            extension.addition.rows.productions,
-        )?;
-    }
-    Ok(())
-}
-
-fn add_each_abstract(
-    alloc: Global,
-    made: &mut Vec<Production>,
-    placed: &[Placed],
-) -> Result<(), AllocError>
-    ensures { OnOk result (made.new.items ≡ made.old.items ++ flat_map abstract_productions_in placed.now) }
-{
-    'placed: for extension in placed {
-        add_own(
-            alloc,
-            made,
-            &extension.numbers,
-            extension.addition.rows.abstract_productions,
-        )?;
-    }
-    Ok(())
+    new_production(alloc, &numbers, &writers)
 }
 
 // Adds productions on which no other writes.
-fn add_own(
+pub(crate) fn add_own(
     alloc: Global,
     made: &mut Vec<Production>,
     numbers: &Numbers,
@@ -134,8 +79,29 @@ fn add_own(
     ensures { OnOk result (made.new.items ≡ made.old.items ++ own_productions numbers.now rows.now) }
 {
     'rows: for row in rows {
-        let next = new_production(alloc, numbers, row, &[])?;
+        let next = own_production(alloc, numbers, row)?;
         push(made, next)?;
     }
     Ok(())
+}
+
+// One of them.
+fn own_production(
+    alloc: Global,
+    numbers: &Numbers,
+    row: &Production,
+) -> Result<Production, AllocError>
+    ensures { IfOk result (λ made. made ≡ production_by numbers.now row.now []) }
+{
+    let on = HostRow {
+        leading: 0,
+        number: 0,
+        row,
+    };
+    let writers = Writers {
+        on,
+        placed: &[],
+        total: 0,
+    };
+    new_production(alloc, numbers, &writers)
 }

@@ -3,18 +3,16 @@
 //! Its locals and equations there come after the host's own.
 
 ghost use Rattle.std.specs.Prelude.{◌≡◌, IfOk, drop, length, map, slice_get};
-ghost use Rattle.wb_numbered_unions.specs.Joined.{numbered};
 ghost use Rattle.wb_numbered_unions.specs.Numbers.{locals_in};
 ghost use Rattle.wb_united.specs.Places.{total_of};
-ghost use Rattle.wb_unions.specs.Blocks.{lift};
 ghost use Rattle.wb_united_attribution.specs.Lent.{equations_in};
-ghost use Rattle.wb_united_attribution.specs.Inner.Written.{locals_size, written_at, written_by};
+ghost use Rattle.wb_united_attribution.specs.Inner.Written.{locals_size};
+ghost use Rattle.wb_united_attribution.specs.Inner.Written as spec;
 
 use crate::Addition;
 use crate::placed::{Placed, sum};
 use crate::slices::behind;
-use std::alloc::{AllocError, Global};
-use wb_base::push;
+use std::alloc::AllocError;
 use wb_renumbered::{Block, Numbers};
 use wb_resolved::{Equation, Local, Production};
 
@@ -26,111 +24,85 @@ pub(crate) struct HostRow<'a> {
     pub(crate) row: &'a Production,
 }
 
-// What an extension writes on one, with new numbers: of the row of this number among its own with the host what comes after so many.
+// One, and the extensions that write on it, so many locals together.
 #[derive(Clone, Copy)]
-pub(crate) struct Written<'a> {
-    pub(crate) numbers: Numbers,
-    pub(crate) rows: &'a [Production],
-    pub(crate) at: usize,
-    pub(crate) own_locals: usize,
-    pub(crate) own_equations: usize,
+pub(crate) struct Writers<'a> {
+    pub(crate) on: HostRow<'a>,
+    pub(crate) placed: &'a [Placed<'a>],
+    pub(crate) total: usize,
 }
 
-// What each writes, where all together write so many locals.
-pub(crate) fn written_on<'a>(
-    alloc: Global,
-    host: &HostRow,
-    placed: &[Placed<'a>],
-    total: usize,
-) -> Result<Vec<Written<'a>>, AllocError>
-    ensures { IfOk result (λ written. written.items ≡ numbered (written_at host.now.leading host.now.number host.now.row.now total placed.now) 0 placed.now) }
-{
-    let mut before = 0;
-    let mut written = Vec::new(alloc);
-    'placed: for extension in placed {
-        let next = written_one(host, extension, before, total)?;
-        before = sum(before, next.numbers.local.size)?;
-        push(&mut written, next)?;
-    }
-    Ok(written)
+// What an extension writes on one: locals and equations.
+#[derive(Clone, Copy)]
+pub(crate) struct Writing<'a> {
+    pub(crate) locals: &'a [Local],
+    pub(crate) equations: &'a [Equation],
 }
 
-// What one writes, where those before it write so many locals.
-fn written_one<'a>(
-    host: &HostRow,
-    extension: &Placed<'a>,
-    before: usize,
-    total: usize,
-) -> Result<Written<'a>, AllocError>
-    ensures { IfOk result (λ written. written ≡ written_by host.now.leading host.now.number host.now.row.now total before extension.now) }
+// The block of locals that one writes, which are so many.
+pub(crate) fn block_on(writers: &Writers, before: usize, size: usize) -> Block
+    ensures { result ≡ record { own = length writers.now.on.row.now.locals; before = before; size = size; total = writers.now.total } }
 {
-    let own = host.row.locals.len();
-    let local = Block {
-        own,
+    Block {
+        own: writers.on.row.locals.len(),
         before,
-        size: count_on(host, &extension.addition)?,
-        total,
-    };
-    Ok(Written {
-        numbers: Numbers {
-            local,
-            ..extension.numbers
-        },
-        rows: extension.addition.written,
-        at: lifted(host, &extension.addition)?,
-        own_locals: own,
-        own_equations: host.row.equations.len(),
-    })
+        size,
+        total: writers.total,
+    }
+}
+
+// The same numbers, with these of locals.
+pub(crate) fn with_locals(numbers: &Numbers, local: Block) -> Numbers
+    ensures { result ≡ spec.with_locals local numbers.now }
+{
+    Numbers { local, ..*numbers }
 }
 
 // How many locals all write together.
-pub(crate) fn total_on(host: &HostRow, placed: &[Placed]) -> Result<usize, AllocError>
-    ensures { IfOk result (λ total. total ≡ total_of (map (locals_size host.now.leading host.now.number host.now.row.now) placed.now)) }
+pub(crate) fn total_on(on: &HostRow, placed: &[Placed]) -> Result<usize, AllocError>
+    ensures { IfOk result (λ total. total ≡ total_of (map (locals_size on.now.leading on.now.number on.now.row.now) placed.now)) }
 {
     let mut total = 0;
     'placed: for extension in placed {
-        total = sum(total, count_on(host, &extension.addition)?)?;
+        total = sum(total, writing_on(on, &extension.addition).locals.len())?;
     }
     Ok(total)
 }
 
-// How many one writes.
-fn count_on(host: &HostRow, addition: &Addition) -> Result<usize, AllocError>
-    ensures { IfOk result (λ count. count ≡ length (drop (length host.now.row.now.locals) (locals_in (slice_get addition.now.written.now (lift host.now.leading (length addition.now.rows.productions.now) host.now.number))))) }
+// What an extension writes on it.
+pub(crate) fn writing_on<'a>(on: &HostRow, addition: &Addition<'a>) -> Writing<'a>
+    ensures locals { result.locals.now ≡ drop (length on.now.row.now.locals) (locals_in (spec.row_on on.now addition.now)) }
+    ensures equations { result.equations.now ≡ drop (length on.now.row.now.equations) (equations_in (spec.row_on on.now addition.now)) }
 {
-    let at = lifted(host, addition)?;
-    Ok(locals_behind(addition.written, at, host.row.locals.len()).len())
-}
-
-// The number of the production in the host with the extension.
-fn lifted(host: &HostRow, addition: &Addition) -> Result<usize, AllocError>
-    ensures { IfOk result (λ made. made ≡ lift host.now.leading (length addition.now.rows.productions.now) host.now.number) }
-{
-    if host.number < host.leading {
-        Ok(host.number)
+    let rows = rows_on(on, addition);
+    if on.number < rows.len() {
+        writing_behind(on.row, &rows[on.number])
     } else {
-        sum(host.number, addition.rows.productions.len())
+        Writing {
+            locals: &[],
+            equations: &[],
+        }
     }
 }
 
-// The locals after so many, on what may be the production of this number.
-pub(crate) fn locals_behind(rows: &[Production], number: usize, own: usize) -> &[Local]
-    ensures { result.now ≡ drop own (locals_in (slice_get rows.now number)) }
+// What comes after a row's own on the same production elsewhere.
+fn writing_behind<'a>(own: &Production, row: &'a Production) -> Writing<'a>
+    ensures locals { result.locals.now ≡ drop (length own.now.locals) row.now.locals }
+    ensures equations { result.equations.now ≡ drop (length own.now.equations) row.now.equations }
 {
-    if number < rows.len() {
-        behind(rows[number].locals.as_slice(), own)
-    } else {
-        &[]
+    Writing {
+        locals: behind(row.locals.as_slice(), own.locals.len()),
+        equations: behind(row.equations.as_slice(), own.equations.len()),
     }
 }
 
-// The equations after so many.
-pub(crate) fn equations_behind(rows: &[Production], number: usize, own: usize) -> &[Equation]
-    ensures { result.now ≡ drop own (equations_in (slice_get rows.now number)) }
+// Productions of the host with an extension, so that the one of the host's number there has the same number.
+fn rows_on<'a>(on: &HostRow, addition: &Addition<'a>) -> &'a [Production]
+    ensures { slice_get result.now on.now.number ≡ spec.row_on on.now addition.now }
 {
-    if number < rows.len() {
-        behind(rows[number].equations.as_slice(), own)
+    if on.number < on.leading {
+        addition.written
     } else {
-        &[]
+        behind(addition.written, addition.rows.productions.len())
     }
 }

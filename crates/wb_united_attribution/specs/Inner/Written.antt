@@ -1,5 +1,5 @@
 -- What each extension writes on a production of the host, in new numbers.
-use Rattle.std.specs.Prelude.{◌++◌, ℕ, List, drop, length, map, option_map, slice_get, take}
+use Rattle.std.specs.Prelude.{◌++◌, ℕ, List, Option, drop, length, map, option_map, slice_get, take}
 use Rattle.std.specs.List.{flat_map}
 use Rattle.wb_numbered_unions.specs.Joined.{numbered}
 use Rattle.wb_numbered_unions.specs.Numbers.{locals_in}
@@ -14,7 +14,9 @@ use Rattle.wb_unions.specs.Blocks.{lift}
 use Rattle.wb_united_attributes.specs.Rows.{new_child, new_equation, new_forward, new_local, new_owner}
 use Rattle.wb_united_attribution.specs.Lent.{equations_in}
 use Rattle.wb_united_attribution.specs.declared.placed.Placed.{Placed}
-use Rattle.wb_united_attribution.specs.declared.written.Written.{Written}
+use Rattle.wb_united_attribution.specs.declared.addition.Addition.{Addition}
+use Rattle.wb_united_attribution.specs.declared.written.HostRow.{HostRow}
+use Rattle.wb_united_attribution.specs.declared.written.Writers.{Writers}
 
 -- the same numbers, with these of locals
 abbrev pub with_locals : Block → Numbers → Numbers
@@ -27,12 +29,20 @@ locals_by n rows = map (new_local (map_of n) 0 n.owner) rows
 abbrev pub equations_by : Numbers → List Equation → List Equation
 equations_by n rows = map (new_equation (map_of n) 0 n.owner) rows
 
--- those that an extension writes
+-- what an extension writes on a production of the host, with its new numbers: of the row of this number what comes after so many
+pub record Written : Type 0 where
+  pub numbers : Numbers
+  pub rows : List Production
+  pub at : ℕ
+  pub own_locals : ℕ
+  pub own_equations : ℕ
+
+-- its locals and equations
 abbrev pub written_locals : Written → List Local
-written_locals w = locals_by w.numbers (drop w.own_locals (locals_in (slice_get w.rows.now w.at)))
+written_locals w = locals_by w.numbers (drop w.own_locals (locals_in (slice_get w.rows w.at)))
 
 abbrev pub written_equations : Written → List Equation
-written_equations w = equations_by w.numbers (drop w.own_equations (equations_in (slice_get w.rows.now w.at)))
+written_equations w = equations_by w.numbers (drop w.own_equations (equations_in (slice_get w.rows w.at)))
 
 -- a production with what is written on it besides
 abbrev pub production_by : Numbers → Production → List Written → Production
@@ -61,7 +71,7 @@ module _ (leading p : ℕ) (row : Production) where
   abbrev pub written_by : (total before : ℕ) → Placed → Written
   written_by total before y = record {
     numbers = with_locals (record { own = length row.locals; before = before; size = locals_size y; total = total }) y.numbers;
-    rows = y.addition.written;
+    rows = y.addition.written.now;
     at = number_at y;
     own_locals = length row.locals;
     own_equations = length row.equations;
@@ -76,3 +86,21 @@ module _ (leading p : ℕ) (row : Production) where
   host_production_by n placed = production_by
       (with_locals (record { own = length row.locals; before = 0; size = 0; total = total_of (map locals_size placed) }) n) row
       (numbered (written_at (total_of (map locals_size placed)) placed) 0 placed)
+
+-- what may be the production of the host's number, with an extension
+abbrev pub row_on : HostRow → Addition → Option Production
+row_on on x = slice_get x.written.now (lift on.leading (length x.rows.productions.now) on.number)
+
+-- how many locals an extension writes on it, and all that it writes where those before it write so many locals
+abbrev pub size_on : Writers → Placed → ℕ
+size_on w y = locals_size w.on.leading w.on.number w.on.row.now y
+
+abbrev pub written_after : Writers → (before : ℕ) → Placed → Written
+written_after w before y = written_by w.on.leading w.on.number w.on.row.now w.total before y
+
+-- what each writes
+abbrev pub each_written : Writers → ℕ → Placed → Written
+each_written w k y = written_at w.on.leading w.on.number w.on.row.now w.total w.placed.now k y
+
+abbrev pub written : Writers → List Written
+written w = numbered (each_written w) 0 w.placed.now
