@@ -8,6 +8,7 @@ use Rattle.wb_extensions.specs.Extensions.{AreExtensionParts}
 use Rattle.wb_extensions.specs.declared.parts.ExtensionParts.{ExtensionParts}
 use Rattle.wb_names.specs.Resolving.{ResolvesExtension}
 use Rattle.wb_operations.specs.Operations.{OperationSignature}
+use Rattle.wb_resolved.specs.Resolved.{IsResolved}
 use Rattle.wb_resolved.specs.declared.resolved.ResolvedParts.{ResolvedParts}
 use Rattle.wb_syntax.specs.SpecText.{SpecView}
 use Rattle.wb_beside.specs.Extensions.{IsCertifiedBeside}
@@ -40,3 +41,13 @@ pub record IsKept (e : ExtensionView) : Type 0 where
   pub extends : Extends e.host e.resolved
   pub certified : IsCertifiedBeside e.host e.resolved e.operations
   pub parts : AreKeptParts e.host e.resolved e.parts
+
+-- both are resolved and have these grammars; the host is certified, and r is the host with some extension, which is certified beside it
+pub record AreCertifiedBoth (host r : ResolvedParts) (host_grammar grammar : GrammarView) (operations : List OperationSignature) : Type 0 where
+  pub host_resolved : IsResolved host
+  pub resolved : IsResolved r
+  pub host_start : host.grammar ≡ Some host_grammar
+  pub start : r.grammar ≡ Some grammar
+  pub host_certified : IsCertifiedValue host operations
+  pub extends : Extends host r
+  pub certified : IsCertifiedBeside host r operations

@@ -81,4 +81,21 @@ impl CertifiedExtension {
     {
         &self.operations
     }
+
+    /// Lets go of the extension. A crate that calls this proves no drop of what it holds.
+    pub fn release(self) {
+        let CertifiedExtension {
+            host,
+            resolved,
+            parts,
+            operations,
+        } = self;
+        host.release();
+        resolved.release();
+        parts.release();
+        operations.release();
+    }
 }
+
+/// Lets go of extensions, as [`CertifiedExtension::release`] does of one.
+pub fn release_extensions(_: Vec<CertifiedExtension>) {}

@@ -39,7 +39,9 @@ pub fn certify_extension<M: Meaning>(
     ensures refused { IfErr result (IsExtensionCertifyRefusal host.now.resolved spec.now host.now.operations) }
 {
     let resolved = resolved_extension(alloc, host, spec)?;
-    certify_beside(alloc, host, &resolved, operations)
+    let answer = certify_beside(alloc, host, &resolved, operations);
+    resolved.release();
+    answer
 }
 
 // The numbered value of a host with an extension whose names are right.

@@ -5,6 +5,7 @@
 #![tactic(auto)]
 
 mod attributes;
+mod both;
 mod certified;
 mod determinism;
 mod extension;
@@ -12,7 +13,8 @@ mod laws;
 mod marks;
 mod value;
 
-pub use certified::CertifiedExtension;
+pub use both::certified_both;
+pub use certified::{CertifiedExtension, release_extensions};
 pub use extension::certify_extension;
 pub use laws::{names_law, one_answer_law};
 pub use value::certify_beside;

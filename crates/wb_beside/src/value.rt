@@ -43,15 +43,33 @@ pub fn certify_beside<M: Meaning>(
     ensures refused { IfErr result (IsBesideRefusal host.now.resolved resolved.now host.now.operations) }
 {
     let base = host.resolved().copy()?;
-    let kept = host.operations().copy()?;
-    let copied = resolved.copy()?;
-    let parts = parts_beside(alloc, host, resolved, operations)?;
+    let signatures = host.operations().copy()?;
+    let (copied, parts) = kept_beside(alloc, host, resolved, operations)?;
     Ok(CertifiedExtension {
         host: base,
         resolved: copied,
         parts,
-        operations: kept,
+        operations: signatures,
     })
+}
+
+// A copy of what is certified beside the host, and what is made of it.
+fn kept_beside<M: Meaning>(
+    alloc: Global,
+    host: &CertifiedHost,
+    resolved: &Resolved,
+    operations: &OperationTable<M>,
+) -> Result<(Resolved, ExtensionParts), CertifyRefusal>
+    requires { IsTested host.now resolved.now }
+    ensures resolved { IfOk result (λ kept. kept.0 ≡ resolved.now) }
+    ensures parts { IfOk result (λ kept. ArePartsBeside resolved.now host.now.parts kept.1) }
+    ensures kept { IfOk result (λ kept. AreKeptParts host.now.resolved resolved.now kept.1) }
+    ensures certified { IfOk result (λ kept. IsCertifiedBeside host.now.resolved resolved.now operations.now.signatures) }
+    ensures refused { IfErr result (IsBesideRefusal host.now.resolved resolved.now operations.now.signatures) }
+{
+    let copied = resolved.copy()?;
+    let parts = parts_beside(alloc, host, resolved, operations)?;
+    Ok((copied, parts))
 }
 
 // What is made of a host with an extension that is certified.
@@ -69,8 +87,13 @@ fn parts_beside<M: Meaning>(
 {
     check_kinds(alloc, resolved, operations)?;
     let parts = determinism_of(alloc, host, resolved)?;
-    check_attributes(alloc, host, resolved)?;
-    Ok(parts)
+    match check_attributes(alloc, host, resolved) {
+        Ok(()) => Ok(parts),
+        Err(refusal) => {
+            parts.release();
+            Err(refusal)
+        }
+    }
 }
 
 // Whether each expression is of its kind.

@@ -20,7 +20,8 @@ use Rattle.wb_certified_unions.specs.Attributes as cut
 use Rattle.wb_certified_unions.specs.Attributes.{added_rows, addition_of, equations_after, locals_after, written_with}
 use Rattle.wb_joined.proofs.InRange.{grammar_of}
 use Rattle.wb_joined.proofs.KeptLemmas.{grammar_row, productions_len}
-use Rattle.wb_joined.specs.Joined.{AreCertifiedBoth, Extended}
+use Rattle.wb_beside.specs.Kept.{AreCertifiedBoth}
+use Rattle.wb_joined.specs.Joined.{Extended}
 use Rattle.wb_joined.specs.Written.{name_in}
 use Rattle.wb_naming.specs.Declarations.{attributes, occurrences}
 use Rattle.wb_numbered_unions.proofs.PlacedLemmas.{alone, alone_below, alone_between}

@@ -8,7 +8,8 @@ use Rattle.wb_additions.specs.Hosts.{rows_of}
 use Rattle.wb_base.specs.declared.symbol.Symbol.{Symbol}
 use Rattle.wb_base.specs.declared.symbol.Symbol.TheVariants as symbol
 use Rattle.wb_base.specs.Grammar.{GrammarView}
-use Rattle.wb_joined.specs.Joined.{AreCertifiedApart, AreCertifiedBoth, Extended}
+use Rattle.wb_beside.specs.Kept.{AreCertifiedBoth}
+use Rattle.wb_joined.specs.Joined.{AreCertifiedApart, Extended}
 use Rattle.wb_joined.specs.Written.{written_in}
 use Rattle.wb_joined.proofs.InRange.{child_terminal, child_tree, grammar_of, in_range}
 use Rattle.wb_joined.proofs.JoinedLemmas.{is_piece}

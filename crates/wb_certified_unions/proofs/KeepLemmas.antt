@@ -8,7 +8,7 @@ use Rattle.wb_base.specs.Grammar.{GrammarView}
 use Rattle.wb_joined.proofs.JoinedLemmas.{numbers_kept}
 use Rattle.wb_joined.proofs.KeptLemmas.{grammar_row}
 use Rattle.wb_joined.proofs.RowLemmas.{map_at}
-use Rattle.wb_joined.specs.Joined.{AreCertifiedBoth}
+use Rattle.wb_beside.specs.Kept.{AreCertifiedBoth}
 use Rattle.wb_joined.specs.Numbers.{KeepsNumbers}
 use Rattle.wb_lemmas.proofs.Places.{append_keeps, nothing_at}
 use Rattle.wb_lemmas.proofs.Zips.{zip_at}

@@ -11,7 +11,8 @@ use Rattle.wb_base.specs.Grammar.{GrammarView}
 use Rattle.wb_certified_unions.proofs.UnionLemmas.{union_is}
 use Rattle.wb_certified_unions.specs.Attributes.{attributes_of}
 use Rattle.wb_certified_unions.specs.Laws.{AreComposable, AreUnitedAttributes, NeedsNothing, all_rooted, host_rooted, with_host}
-use Rattle.wb_joined.specs.Joined.{AreCertifiedApart, AreCertifiedBoth, Extended}
+use Rattle.wb_beside.specs.Kept.{AreCertifiedBoth}
+use Rattle.wb_joined.specs.Joined.{AreCertifiedApart, Extended}
 use Rattle.wb_joined.specs.Written.{name_in}
 use Rattle.wb_joined.proofs.InRange.{with_some}
 use Rattle.wb_lemmas.proofs.Elements.{all_contained, all_weaker}

@@ -13,7 +13,8 @@ use Rattle.wb_certified_unions.specs.Attributes.{addition_of, additions_of}
 use Rattle.wb_certified_unions.specs.Laws.{all_rooted, host_rooted, with_host}
 use Rattle.wb_joined.proofs.InRange.{grammar_of, in_range}
 use Rattle.wb_joined.proofs.KeptLemmas.{start_same}
-use Rattle.wb_joined.specs.Joined.{AreCertifiedApart, AreCertifiedBoth, Extended}
+use Rattle.wb_beside.specs.Kept.{AreCertifiedBoth}
+use Rattle.wb_joined.specs.Joined.{AreCertifiedApart, Extended}
 use Rattle.wb_joined.specs.Written.{name_in}
 use Rattle.wb_lemmas.proofs.Elements.{all_weaker}
 use Rattle.wb_numbered_unions.proofs.PlacedLemmas.{after_below}

@@ -65,4 +65,16 @@ impl CertifiedHost {
     {
         &self.operations
     }
+
+    /// Lets go of the host. A crate that calls this proves no drop of what it holds.
+    pub fn release(self) {
+        let CertifiedHost {
+            resolved,
+            parts,
+            operations,
+        } = self;
+        resolved.release();
+        parts.release();
+        operations.release();
+    }
 }

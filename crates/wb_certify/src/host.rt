@@ -31,7 +31,9 @@ pub fn certify_host<M: Meaning>(
     ensures refused { IfErr result (IsHostCertifyRefusal spec.now operations.now.signatures) }
 {
     let resolved = resolved_host(alloc, spec, operations)?;
-    certify_resolved(alloc, &resolved, operations)
+    let answer = certify_resolved(alloc, &resolved, operations);
+    resolved.release();
+    answer
 }
 
 // The numbered value of a host whose names are right.

@@ -35,3 +35,16 @@ impl From<AllocError> for CertifyRefusal {
         CertifyRefusal::NoMemory(error)
     }
 }
+
+impl CertifyRefusal {
+    /// Lets go of the refusal. A crate that calls this proves no drop of what it holds.
+    pub fn release(self) {
+        match self {
+            CertifyRefusal::Names(refusal) => refusal.release(),
+            CertifyRefusal::Types(refusal) => refusal.release(),
+            CertifyRefusal::Determinism(refusal) => refusal.release(),
+            CertifyRefusal::Attributes(refusal) => refusal.release(),
+            CertifyRefusal::NoStart | CertifyRefusal::NoMemory(_) => {}
+        }
+    }
+}

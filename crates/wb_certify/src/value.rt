@@ -18,7 +18,7 @@ use wb_complete::check_complete;
 use wb_determinism::{DeterminismRefusal, HostParts, host_determinism, pairs_of};
 use wb_flow::{AttributeRefusal, check_flow};
 use wb_lexical::preference_cycle;
-use wb_operations::{Meaning, OperationTable};
+use wb_operations::{Meaning, OperationSignatures, OperationTable};
 use wb_resolved::Resolved;
 use wb_types::{TypeRefusal, check_types};
 
@@ -37,14 +37,40 @@ pub fn certify_resolved<M: Meaning>(
     ensures certified { IfOk result (λ host. IsCertifiedValue resolved.now operations.now.signatures) }
     ensures refused { IfErr result (IsValueRefusal resolved.now operations.now.signatures) }
 {
-    let kept = operations.signatures().copy()?;
     let copied = resolved.copy()?;
-    let parts = certified_parts(alloc, resolved, operations)?;
-    Ok(CertifiedHost {
-        resolved: copied,
-        parts,
-        operations: kept,
-    })
+    match kept_parts(alloc, resolved, operations) {
+        Ok((parts, operations)) => Ok(CertifiedHost {
+            resolved: copied,
+            parts,
+            operations,
+        }),
+        Err(refusal) => {
+            copied.release();
+            Err(refusal)
+        }
+    }
+}
+
+// What is made of a resolved host that is certified, with the signatures over which it is.
+fn kept_parts<M: Meaning>(
+    alloc: Global,
+    resolved: &Resolved,
+    operations: &OperationTable<M>,
+) -> Result<(HostParts, OperationSignatures), CertifyRefusal>
+    requires { resolved.now.attributes.extensions ≡ [] }
+    ensures operations { IfOk result (λ kept. kept.1 ≡ operations.now.signatures) }
+    ensures certified { IfOk result (λ kept. IsCertifiedValue resolved.now operations.now.signatures) }
+    ensures parts { IfOk result (λ kept. (g : GrammarView) → resolved.now.grammar ≡ Some g → AreHostParts resolved.now g kept.0) }
+    ensures refused { IfErr result (IsValueRefusal resolved.now operations.now.signatures) }
+{
+    let signatures = operations.signatures().copy()?;
+    match certified_parts(alloc, resolved, operations) {
+        Ok(parts) => Ok((parts, signatures)),
+        Err(refusal) => {
+            signatures.release();
+            Err(refusal)
+        }
+    }
 }
 
 // What is made of a resolved host that is certified.
@@ -60,8 +86,13 @@ fn certified_parts<M: Meaning>(
 {
     check_kinds(alloc, resolved, operations)?;
     let parts = determinism_of(alloc, resolved, operations)?;
-    check_attributes(alloc, resolved, operations)?;
-    Ok(parts)
+    match check_attributes(alloc, resolved, operations) {
+        Ok(()) => Ok(parts),
+        Err(refusal) => {
+            parts.release();
+            Err(refusal)
+        }
+    }
 }
 
 // Whether each expression is of its kind.

@@ -4,7 +4,7 @@ use Rattle.std.specs.List.{AllZip}
 use Rattle.std.proofs.lemmas.List.Elements.{All-cons, All-head, All-nil, All-tail}
 use Rattle.wb_base.specs.Different.{Differ}
 use Rattle.wb_base.specs.Grammar.{GrammarView}
-use Rattle.wb_beside.specs.Kept.{ExtensionView}
+use Rattle.wb_beside.specs.Kept.{AreCertifiedBoth, ExtensionView}
 use Rattle.wb_certified_unions.proofs.AgreementLemmas.{agrees}
 use Rattle.wb_certified_unions.proofs.LawLemmas.{are_united}
 use Rattle.wb_certified_unions.specs.Agreement.{united_grammar}
@@ -13,7 +13,7 @@ use Rattle.wb_certified_unions.specs.Laws.{AreUnitedAttributes}
 use Rattle.wb_certified_unions.specs.United.{IsOfUnion}
 use Rattle.wb_certify.specs.Hosts.{CertifiedView, IsCertifiedValue}
 use Rattle.wb_composition.specs.Composed.{IsWith, name_of}
-use Rattle.wb_joined.specs.Joined.{AreCertifiedApart, AreCertifiedBoth, Extended}
+use Rattle.wb_joined.specs.Joined.{AreCertifiedApart, Extended}
 use Rattle.wb_joined.specs.Written.{name_in}
 use Rattle.wb_languages.specs.Shown.{AgreesWith}
 use Rattle.wb_numbered_unions.specs.United.{united_attribution}

@@ -7,8 +7,7 @@ ghost use Rattle.wb_composed_attributes.specs.Inner.Cuts.{IsCut};
 use crate::rows::{Lent, added_rows, lent_of};
 use std::alloc::{AllocError, Global};
 use wb_base::push;
-use wb_beside::CertifiedExtension;
-use wb_joined::certified_both;
+use wb_beside::{CertifiedExtension, certified_both};
 use wb_united_attribution::Addition;
 
 // What each adds, in order.

@@ -4,11 +4,11 @@ use Rattle.std.specs.List.{AllZip}
 use Rattle.std.proofs.lemmas.List.Elements.{All-cons, All-head, All-nil, All-tail}
 use Rattle.wb_base.specs.Different.{Differ}
 use Rattle.wb_base.specs.Grammar.{GrammarView}
-use Rattle.wb_beside.specs.Kept.{ExtensionView}
+use Rattle.wb_beside.specs.Kept.{AreCertifiedBoth, ExtensionView}
 use Rattle.wb_certify.specs.Hosts.{CertifiedView, IsCertifiedValue}
 use Rattle.wb_contexts.specs.Considered.{LexiconView}
 use Rattle.wb_determinism.specs.Lexicons.{lexicon_of}
-use Rattle.wb_joined.specs.Joined.{AreCertifiedApart, AreCertifiedBoth, Extended}
+use Rattle.wb_joined.specs.Joined.{AreCertifiedApart, Extended}
 use Rattle.wb_joined.specs.Written.{name_in, written_in}
 use Rattle.wb_joined.proofs.JoinedLemmas.{markers_are}
 use Rattle.wb_joined.proofs.WrittenApart.{all_apart, all_certified}

@@ -6,8 +6,7 @@ ghost use Rattle.wb_composition.specs.Inner.Lending.{IsLent};
 
 use std::alloc::{AllocError, Global};
 use wb_base::push;
-use wb_beside::CertifiedExtension;
-use wb_joined::certified_both;
+use wb_beside::{CertifiedExtension, certified_both};
 use wb_uniting::Addition;
 
 // What is lent of each extension, in order.

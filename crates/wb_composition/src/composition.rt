@@ -36,6 +36,11 @@ impl Composed {
     {
         &self.withdrawn
     }
+
+    /// Lets go of what was composed. A crate that calls this proves no drop of what it holds.
+    pub fn release(self) {
+        self.language.release();
+    }
 }
 
 /// The language of a host and of extensions, each certified with this host over the same operations. The only error is want of memory.

@@ -7,10 +7,10 @@ use Rattle.std.proofs.lemmas.List.{length-drop, length-map, length-take-le}
 use Rattle.std.proofs.lemmas.List.Elements.{All-head, All-tail}
 use Rattle.std.proofs.lemmas.Option.{slice_get_within}
 use Rattle.wb_base.specs.Grammar.{GrammarView}
-use Rattle.wb_beside.specs.Kept.{ExtensionView}
+use Rattle.wb_beside.specs.Kept.{AreCertifiedBoth, ExtensionView}
 use Rattle.wb_certify.specs.Hosts.{CertifiedView}
 use Rattle.wb_composition.specs.Composed.{IsComposed, IsExtended}
-use Rattle.wb_joined.specs.Joined.{AreCertifiedApart, AreCertifiedBoth, Extended}
+use Rattle.wb_joined.specs.Joined.{AreCertifiedApart, Extended}
 use Rattle.wb_joined.specs.Written.{written_in}
 use Rattle.wb_languages.specs.Languages.{LanguageView}
 use Rattle.wb_operations.specs.Operations.{OperationSignature}

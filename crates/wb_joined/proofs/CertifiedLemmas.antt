@@ -28,7 +28,8 @@ use Rattle.wb_united.specs.Pieces.{IsPiece, Piece}
 use Rattle.wb_united.proofs.TogetherLemmas.{has_together}
 use Rattle.wb_united.proofs.CertificateLemmas.{certified_by}
 use Rattle.wb_united.proofs.UnitedLemmas.{is_united, keeps_host}
-use Rattle.wb_joined.specs.Joined.{AreCertifiedApart, AreCertifiedBoth, Extended, is_marker_in, piece_in, pieces_in}
+use Rattle.wb_beside.specs.Kept.{AreCertifiedBoth}
+use Rattle.wb_joined.specs.Joined.{AreCertifiedApart, Extended, is_marker_in, piece_in, pieces_in}
 use Rattle.wb_joined.proofs.InRange.{grammar_of, in_range}
 use Rattle.wb_joined.proofs.JoinedLemmas.{deterministic, extensible_is, host_deterministic, is_piece, markers_are, pieces_are}
 use Rattle.wb_joined.proofs.NumberLemmas.{images_agree, productions_agree, terminals_agree}

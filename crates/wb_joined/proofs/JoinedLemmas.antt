@@ -15,7 +15,8 @@ use Rattle.wb_united.specs.Pieces.{ArePieces, IsPiece}
 use Rattle.wb_united.proofs.PieceLemmas.{piece_is}
 use Rattle.wb_united.proofs.UnitedLemmas.{same_kernels}
 use Rattle.wb_joined.specs.Numbers.{KeepsNumbers}
-use Rattle.wb_joined.specs.Joined.{AreCertifiedBoth, is_marker_in, piece_in}
+use Rattle.wb_beside.specs.Kept.{AreCertifiedBoth}
+use Rattle.wb_joined.specs.Joined.{is_marker_in, piece_in}
 use Rattle.wb_joined.proofs.GrammarKept.{extends}
 use Rattle.wb_joined.proofs.InRange.{grammar_of, in_range}
 use Rattle.wb_joined.proofs.KeptLemmas.{extensible_same}

@@ -14,7 +14,8 @@ use Rattle.wb_resolved.specs.declared.resolved.ResolvedParts.{ResolvedParts}
 use Rattle.wb_united.specs.Certificates.{AreCertified}
 use Rattle.wb_united_forms.specs.Apart.{AreWrittenApart, IsPieceApart, IsWrittenApart}
 use Rattle.wb_united_forms.specs.Written.{WrittenPiece, pieces_of}
-use Rattle.wb_joined.specs.Joined.{AreCertifiedApart, AreCertifiedBoth, Extended, pieces_in}
+use Rattle.wb_beside.specs.Kept.{AreCertifiedBoth}
+use Rattle.wb_joined.specs.Joined.{AreCertifiedApart, Extended, pieces_in}
 use Rattle.wb_joined.specs.Written.{name_in, written_in, written_with}
 use Rattle.wb_joined.proofs.ApartLemmas.{piece_apart}
 use Rattle.wb_joined.proofs.CertifiedLemmas.{certified_apart, host_is}

@@ -1,8 +1,7 @@
 -- A certified host and an extension that is certified with it, as what unions are made of.
 use Rattle.std.specs.Prelude.{◌≡◌, ℕ, Bool, List, Some, All, map, slice_get}
 use Rattle.wb_base.specs.Grammar.{GrammarView}
-use Rattle.wb_beside.specs.Extensions.{IsCertifiedBeside}
-use Rattle.wb_beside.specs.Kept.{Extends}
+use Rattle.wb_beside.specs.Kept.{AreCertifiedBoth}
 use Rattle.wb_certify.specs.Hosts.{IsCertifiedValue}
 use Rattle.wb_extensions.specs.Images.{is_marker_row}
 use Rattle.wb_operations.specs.Operations.{OperationSignature}
@@ -10,17 +9,6 @@ use Rattle.wb_resolved.specs.declared.resolved.ResolvedParts.{ResolvedParts}
 use Rattle.wb_resolved.specs.Resolved.{IsResolved}
 use Rattle.wb_united.specs.Bridges.{piece_of}
 use Rattle.wb_united.specs.Pieces.{Piece}
-
--- both are resolved and have these grammars; the host is certified, and r is the host with some extension, which is certified beside it
-pub record AreCertifiedBoth (host r : ResolvedParts) (host_grammar grammar : GrammarView) (operations : List OperationSignature) : Type 0
-  where
-    pub host_resolved : IsResolved host
-    pub resolved : IsResolved r
-    pub host_start : host.grammar ≡ Some host_grammar
-    pub start : r.grammar ≡ Some grammar
-    pub host_certified : IsCertifiedValue host operations
-    pub extends : Extends host r
-    pub certified : IsCertifiedBeside host r operations
 
 -- which terminals are markers
 abbrev pub is_marker_in : ResolvedParts → ℕ → Bool

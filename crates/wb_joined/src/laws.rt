@@ -11,7 +11,8 @@ ghost use Rattle.wb_united.specs.Laws.{HasSameKernels, HasTogether, IsUnited, Ke
 ghost use Rattle.wb_united.specs.Pieces.{ArePieces};
 ghost use Rattle.wb_united_forms.specs.Apart.{AreWrittenApart};
 ghost use Rattle.wb_united_forms.specs.Written.{pieces_of};
-ghost use Rattle.wb_joined.specs.Joined.{AreCertifiedApart, AreCertifiedBoth, Extended, piece_in, pieces_in};
+ghost use Rattle.wb_beside.specs.Kept.{AreCertifiedBoth};
+ghost use Rattle.wb_joined.specs.Joined.{AreCertifiedApart, Extended, piece_in, pieces_in};
 ghost use Rattle.wb_joined.specs.Numbers.{KeepsNumbers};
 ghost use Rattle.wb_joined.specs.Written.{name_in, written_in};
 

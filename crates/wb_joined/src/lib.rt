@@ -3,7 +3,4 @@
 //! The definitions are in `specs/`. Each function of `laws` is a law, whose body is empty.
 #![tactic(auto)]
 
-mod extension;
 pub mod laws;
-
-pub use extension::certified_both;

@@ -11,7 +11,8 @@ use Rattle.wb_certified_unions.proofs.AdditionLemmas.{is_addition_of}
 use Rattle.wb_certified_unions.proofs.LawLemmas.{is_attribution}
 use Rattle.wb_certified_unions.specs.Attributes.{addition_of, additions_of, attributes_of}
 use Rattle.wb_grammars.specs.Trees.{IsDerived}
-use Rattle.wb_joined.specs.Joined.{AreCertifiedApart, AreCertifiedBoth, Extended}
+use Rattle.wb_beside.specs.Kept.{AreCertifiedBoth}
+use Rattle.wb_joined.specs.Joined.{AreCertifiedApart, Extended}
 use Rattle.wb_joined.specs.Written.{name_in}
 use Rattle.wb_joined.proofs.InRange.{grammar_of, in_range}
 use Rattle.wb_languages.specs.declared.stop_kind.StopKind.{StopKind}

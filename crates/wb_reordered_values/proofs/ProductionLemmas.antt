@@ -7,7 +7,8 @@ use Rattle.wb_base.specs.Grammar.{GrammarView}
 use Rattle.wb_certified_unions.specs.Attributes.{addition_of, additions_of}
 use Rattle.wb_grammars.specs.Trees.{Forest, IsDerived, leaf, node, nothing, symbols}
 use Rattle.wb_grammars.proofs.ProductionLemmas.{production_within}
-use Rattle.wb_joined.specs.Joined.{AreCertifiedBoth, Extended}
+use Rattle.wb_beside.specs.Kept.{AreCertifiedBoth}
+use Rattle.wb_joined.specs.Joined.{Extended}
 use Rattle.wb_joined.specs.Written.{written_in}
 use Rattle.wb_joined.proofs.InRange.{grammar_of}
 use Rattle.wb_languages.specs.Shown.{Shows, values_of}

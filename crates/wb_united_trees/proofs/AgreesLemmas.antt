@@ -7,7 +7,8 @@ use Rattle.std.proofs.lemmas.Option.{same_Some, slice_get_within}
 use Rattle.wb_base.specs.declared.symbol.Symbol.{Symbol}
 use Rattle.wb_base.specs.declared.symbol.Symbol.TheVariants as symbol
 use Rattle.wb_base.specs.Grammar.{GrammarView, Production}
-use Rattle.wb_joined.specs.Joined.{AreCertifiedBoth, Extended}
+use Rattle.wb_beside.specs.Kept.{AreCertifiedBoth}
+use Rattle.wb_joined.specs.Joined.{Extended}
 use Rattle.wb_joined.specs.Written.{written_in}
 use Rattle.wb_joined.proofs.InRange.{child_terminal, child_tree, row_of_plain}
 use Rattle.wb_languages.specs.Shown.{AgreesWith, kind_of}

@@ -3,7 +3,8 @@ use Rattle.std.proofs.Common.{◌≡◌, ◌≤◌, ◌∙◌, ℕ, List, Some, 
 use Rattle.std.proofs.lemmas.Option.{same_Some}
 use Rattle.wb_base.specs.Grammar.{GrammarView}
 use Rattle.wb_determinism.specs.Lexicons.{lexicon_of}
-use Rattle.wb_joined.specs.Joined.{AreCertifiedApart, AreCertifiedBoth, Extended}
+use Rattle.wb_beside.specs.Kept.{AreCertifiedBoth}
+use Rattle.wb_joined.specs.Joined.{AreCertifiedApart, Extended}
 use Rattle.wb_joined.specs.Written.{written_in, written_with}
 use Rattle.wb_joined.proofs.WrittenApart.{all_certified}
 use Rattle.wb_languages.specs.Facts.{IsLanguage}

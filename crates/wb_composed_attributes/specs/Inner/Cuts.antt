@@ -1,8 +1,7 @@
 -- What is cut out of the attributes of a host, and of the host with an extension.
 use Rattle.std.specs.Prelude.{◌≡◌, ◌+◌, ◌-◌, Some, drop, length, take}
 use Rattle.wb_base.specs.Grammar.{GrammarView}
-use Rattle.wb_beside.specs.Kept.{ExtensionView}
-use Rattle.wb_joined.specs.Joined.{AreCertifiedBoth}
+use Rattle.wb_beside.specs.Kept.{AreCertifiedBoth, ExtensionView}
 use Rattle.wb_joined.specs.Written.{name_in}
 use Rattle.wb_numbered_unions.specs.Additions.{Rows}
 use Rattle.wb_resolved.specs.declared.attribution.AttributionParts.{AttributionParts}

@@ -1,8 +1,7 @@
 -- What is lent of a host and of extensions to their union.
 use Rattle.std.specs.Prelude.{◌≡◌, List, Some}
 use Rattle.wb_base.specs.Grammar.{GrammarView}
-use Rattle.wb_beside.specs.Kept.{ExtensionView}
-use Rattle.wb_joined.specs.Joined.{AreCertifiedBoth}
+use Rattle.wb_beside.specs.Kept.{AreCertifiedBoth, ExtensionView}
 use Rattle.wb_joined.specs.Written.{name_in}
 use Rattle.wb_resolved.specs.declared.resolved.ResolvedParts.{ResolvedParts}
 use Rattle.wb_uniting.specs.declared.addition.Addition.{Addition}

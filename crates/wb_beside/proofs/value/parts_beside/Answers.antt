@@ -20,15 +20,10 @@ returns-in_err-parts-clause-refused g c =
     c.from_residual-in_err-parts.ensures.1 (λ refusal reason. reason operations c.in_ok-check_kinds.ensures.ok)
     c.in_err-parts.ensures.refused
 
-pub returns-in_err-check_attributes-clause-refused : goal.returns-in_err-check_attributes-clause-refused
-returns-in_err-check_attributes-clause-refused g c =
-    let operations = c.args.operations.now.signatures in
-    handed_on (IsLaterRefusal c.args.host.now.resolved c.args.resolved.now)
-    (IsBesideRefusal c.args.host.now.resolved c.args.resolved.now operations) c.from_residual-in_err-check_attributes.result
-    c.in_err-check_attributes.field-0.0 c.from_residual-in_err-check_attributes.ensures.1
-    (λ refusal reason. reason operations c.in_ok-check_kinds.ensures.ok) c.in_err-check_attributes.ensures.refused
+pub returns-in-Err-clause-refused : goal.returns-in-Err-clause-refused
+returns-in-Err-clause-refused g c = c.in-Err.ensures.refused c.args.operations.now.signatures c.in_ok-check_kinds.ensures.ok
 
-pub returns-clause-certified : goal.returns-clause-certified
-returns-clause-certified g c =
+pub returns-in-Ok-clause-certified : goal.returns-in-Ok-clause-certified
+returns-in-Ok-clause-certified g c =
     certified c.args.host.now.resolved c.args.resolved.now c.args.operations.now.signatures c.requires.extends
-    c.in_ok-check_kinds.ensures.ok c.in_ok-parts.ensures.ok c.in_ok-check_attributes.ensures.ok
+    c.in_ok-check_kinds.ensures.ok c.in_ok-parts.ensures.ok c.in-Ok.ensures.ok

@@ -1,6 +1,6 @@
 use Rattle.std.proofs.Common.{subst}
 use Rattle.wb_resolved.specs.Resolved.{IsResolved}
-use Rattle.wb_joined.proofs.extension.certified_both.Goals as goal
+use Rattle.wb_beside.proofs.both.certified_both.Goals as goal
 
 pub returns : goal.returns
 returns c = λ h g host_start start. record {

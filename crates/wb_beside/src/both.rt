@@ -2,9 +2,9 @@
 
 ghost use Rattle.std.specs.Prelude.{◌≡◌, Some};
 ghost use Rattle.wb_base.specs.Grammar.{GrammarView};
-ghost use Rattle.wb_joined.specs.Joined.{AreCertifiedBoth};
+ghost use Rattle.wb_beside.specs.Kept.{AreCertifiedBoth};
 
-use wb_beside::CertifiedExtension;
+use crate::CertifiedExtension;
 
 /// A certified extension and its host are certified both, with their grammars. Takes no memory.
 pub fn certified_both(extension: &CertifiedExtension)
