@@ -4,7 +4,7 @@
 //! as a report shows it.
 
 ghost use Rattle.std.specs.Prelude.{◌≡◌, ◌≢◌, IfErr, IfOk, List, None};
-ghost use Rattle.wb_beside.specs.Kept.{ArePartsBeside};
+ghost use Rattle.wb_beside.specs.Kept.{ArePartsBeside, Extends};
 ghost use Rattle.wb_beside.specs.Refusals.{IsBesideRefusal};
 ghost use Rattle.wb_certify.specs.Refusals.{IsNameMemory};
 ghost use Rattle.wb_names.specs.Resolving.{IsExtensionNameRefusal};
@@ -48,7 +48,9 @@ pub fn extension_of<M: Meaning>(
     ensures refused { IfErr result (IsExtensionRefusal host.now.resolved host.now.operations contents.now) }
 {
     let spec = extension_spec(alloc, host, contents)?;
-    extension_of_spec(alloc, host, &spec, operations)
+    let answer = extension_of_spec(alloc, host, &spec, operations);
+    spec.release();
+    answer
 }
 
 /// The certified extension of a certified host that a specification is, or why it is none.
@@ -68,10 +70,34 @@ pub fn extension_of_spec<M: Meaning>(
     ensures refused { IfErr result (IsSpecRefusal host.now.resolved host.now.operations spec.now) }
 {
     let resolved = value_of(alloc, host, spec)?;
-    match certify_beside(alloc, host, &resolved, operations) {
+    let answer = certified(alloc, host, &resolved, operations);
+    resolved.release();
+    answer
+}
+
+// The certified extension that a value is.
+fn certified<M: Meaning>(
+    alloc: Global,
+    host: &CertifiedHost,
+    resolved: &Resolved,
+    operations: &OperationTable<M>,
+) -> Result<CertifiedExtension, FileRefusal>
+    requires operations { operations.now.signatures ≡ host.now.operations }
+    requires extends { Extends host.now.resolved resolved.now }
+    ensures host { IfOk result (λ extension. extension.host ≡ host.now.resolved) }
+    ensures extension { (spec : SpecView) → IsNumbered host.now.resolved spec resolved.now → IfOk result (λ extension. IsExtensionSpec host.now.resolved host.now.operations spec extension.resolved) }
+    ensures operations { IfOk result (λ extension. extension.operations ≡ host.now.operations) }
+    ensures parts { IfOk result (λ extension. ArePartsBeside extension.resolved host.now.parts extension.parts) }
+    ensures refused { (spec : SpecView) → IsNumbered host.now.resolved spec resolved.now → IfErr result (IsSpecRefusal host.now.resolved host.now.operations spec) }
+{
+    match certify_beside(alloc, host, resolved, operations) {
         Ok(extension) => Ok(extension),
         Err(CertifyRefusal::NoMemory(error)) => Err(FileRefusal::NoMemory(error)),
-        Err(refusal) => Err(bad_value(alloc, &resolved, &refusal)),
+        Err(refusal) => {
+            let shown = bad_value(alloc, resolved, &refusal);
+            refusal.release();
+            Err(shown)
+        }
     }
 }
 
@@ -84,17 +110,19 @@ fn value_of(alloc: Global, host: &CertifiedHost, spec: &Spec) -> Result<Resolved
         Ok(resolved) => Ok(resolved),
         Err(NameRefusal::NoMemory(error)) => Err(FileRefusal::NoMemory(error)),
         Err(NameRefusal::WrongHost(name)) => Err(FileRefusal::WrongHost(name)),
-        Err(refusal) => Err(bad_names(&refusal)),
+        Err(refusal) => Err(bad_names(refusal)),
     }
 }
 
 // What is shown of a specification whose names aren't right.
-fn bad_names(refusal: &NameRefusal) -> FileRefusal
-    requires host { ¬ IsOtherHost refusal.now }
-    requires memory { ¬ IsNameMemory refusal.now }
-    ensures { (host : ResolvedParts) (operations : List OperationSignature) (spec : SpecView) → IsExtensionNameRefusal host spec refusal.now → IsSpecRefusal host operations spec result }
+fn bad_names(refusal: NameRefusal) -> FileRefusal
+    requires host { ¬ IsOtherHost refusal }
+    requires memory { ¬ IsNameMemory refusal }
+    ensures { (host : ResolvedParts) (operations : List OperationSignature) (spec : SpecView) → IsExtensionNameRefusal host spec refusal → IsSpecRefusal host operations spec result }
 {
-    match name_rule(refusal) {
+    let rule = name_rule(&refusal);
+    refusal.release();
+    match rule {
         Ok(reason) => match of_spec(reason) {
             Some(shown) => FileRefusal::Specification(shown),
             None => unreachable!(),

@@ -31,8 +31,13 @@ pub fn extension_spec(
     ensures refused { IfErr result (IsHeaderRefusal host.now.resolved contents.now) }
 {
     let spec = spec_of(alloc, contents)?;
-    check_header(alloc, host, &spec)?;
-    Ok(spec)
+    match check_header(alloc, host, &spec) {
+        Ok(()) => Ok(spec),
+        Err(refusal) => {
+            spec.release();
+            Err(refusal)
+        }
+    }
 }
 
 // Whether a specification is an extension of this host.
@@ -85,16 +90,18 @@ fn spec_of(alloc: Global, contents: &[u8]) -> Result<Spec, FileRefusal>
     match read_spec(alloc, contents) {
         Ok(spec) => Ok(spec),
         Err(SpecRefusal::NoMemory(error)) => Err(FileRefusal::NoMemory(error)),
-        Err(refusal) => Err(bad_text(&refusal)),
+        Err(refusal) => Err(bad_text(refusal)),
     }
 }
 
 // What is shown of contents that are no specification.
-fn bad_text(refusal: &SpecRefusal) -> FileRefusal
-    requires { ¬ IsNoMemory refusal.now }
-    ensures { (host : ResolvedParts) (contents : List ℕ) → HasCause contents refusal.now → IsHeaderRefusal host contents result }
+fn bad_text(refusal: SpecRefusal) -> FileRefusal
+    requires { ¬ IsNoMemory refusal }
+    ensures { (host : ResolvedParts) (contents : List ℕ) → HasCause contents refusal → IsHeaderRefusal host contents result }
 {
-    match written_rule(refusal) {
+    let rule = written_rule(&refusal);
+    refusal.release();
+    match rule {
         Ok(reason) => match of_spec(reason) {
             Some(shown) => FileRefusal::Specification(shown),
             None => unreachable!(),

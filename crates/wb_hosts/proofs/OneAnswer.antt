@@ -1,5 +1,5 @@
 -- Contents are one certified host at most, and a refusal of no host is true of one.
-use Rattle.std.proofs.Common.{◌≡◌, ◌≤◌, ◌⊎◌, inl, inr, [], ℕ, List, Some, None, All, Contains, length, refl, sym, subst, ap, ◌∙◌, arith}
+use Rattle.std.proofs.Common.{◌≡◌, ◌≤◌, inl, inr, [], ℕ, List, Some, None, length, refl, sym, subst, ap, ◌∙◌, arith}
 use Rattle.std.specs.Prelude.{Option, option_map}
 use Rattle.wb_lemmas.proofs.Elements.{all_from_contained, all_contained}
 use Rattle.wb_attributes.specs.Modular.{AreWellDefinedAttributes}
@@ -11,15 +11,11 @@ use Rattle.wb_certify.specs.declared.refusal.CertifyRefusal.TheVariants as c
 use Rattle.wb_complete.proofs.AnswerLemmas.{one_answer as one_completeness}
 use Rattle.wb_complete.specs.Refusals.{CompleteOk, IsTrueCompletenessRefusal}
 use Rattle.wb_determinism.proofs.RefusalLemmas.{excluded}
-use Rattle.wb_determinism.specs.Hosts.{IsDeterministicHost}
-use Rattle.wb_determinism.specs.Refusals.{IsHostRefusal, IsNoMemory as IsDeterminismMemory}
-use Rattle.wb_determinism.specs.declared.refusal.DeterminismRefusal.{DeterminismRefusal}
 use Rattle.wb_flow.proofs.CheckLemmas.{flows_one_answer}
 use Rattle.wb_flow.specs.Refusals.{FlowsOk, IsTrueFlowRefusal}
 use Rattle.wb_flow.specs.declared.refusal.AttributeRefusal.{AttributeRefusal}
 use Rattle.wb_flow.specs.declared.refusal.AttributeRefusal.TheVariants as a
-use Rattle.wb_names.specs.Resolving.{ResolvesHost, IsHostNameRefusal, host_file, file_scope}
-use Rattle.wb_naming.specs.NamesOk.{NamesOk}
+use Rattle.wb_names.specs.Resolving.{ResolvesHost, IsHostNameRefusal, host_file}
 use Rattle.wb_naming.specs.declared.refusal.NameRefusal.{NameRefusal}
 use Rattle.wb_naming.specs.declared.refusal.NameRefusal.TheVariants as n
 use Rattle.wb_numbering.proofs.OneValue.{only_value}

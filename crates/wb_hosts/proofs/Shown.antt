@@ -1,5 +1,5 @@
 -- Each refusal that can be true of a host has a line.
-use Rattle.std.proofs.Common.{◌≡◌, ◌≢◌, inl, inr, ℕ, List, Some, None, refl, sym, ◌∙◌}
+use Rattle.std.proofs.Common.{◌≡◌, ◌≢◌, inl, inr, ℕ, List, Some, None, sym}
 use Rattle.std.specs.Prelude.{Option}
 use Rattle.wb_attributes.specs.Vertices as g
 use Rattle.wb_base.specs.Grammar.{GrammarView}
@@ -10,7 +10,7 @@ use Rattle.wb_complete.specs.Refusals.{LacksInherited}
 use Rattle.wb_determinism.specs.Refusals.{IsNoMemory}
 use Rattle.wb_determinism.specs.declared.refusal.DeterminismRefusal.{DeterminismRefusal}
 use Rattle.wb_determinism.specs.declared.refusal.DeterminismRefusal.TheVariants as d
-use Rattle.wb_flow.specs.Vertices.{top_vertex, vertex_below, direction_of, vertex_of}
+use Rattle.wb_flow.specs.Vertices.{top_vertex, vertex_below, direction_of}
 use Rattle.wb_flow.specs.declared.refusal.AttributeRefusal.{AttributeRefusal}
 use Rattle.wb_flow.specs.declared.refusal.AttributeRefusal.TheVariants as a
 use Rattle.wb_flow.specs.declared.vertex.Vertex.{Vertex}
@@ -26,7 +26,7 @@ use Rattle.wb_resolved.specs.declared.attributes.Direction.{Direction}
 use Rattle.wb_resolved.specs.declared.attributes.Direction.TheVariants.{Synthesized, Inherited}
 use Rattle.wb_resolved.specs.declared.resolved.ResolvedParts.{ResolvedParts}
 use Rattle.wb_shown.specs.Shows.{written_reason, name_reason, of_spec, of_grammar, of_attributes, grammar_reason, attribute_reason}
-use Rattle.wb_shown.specs.Shows.{inherited_reason, refusal_shown}
+use Rattle.wb_shown.specs.Shows.{refusal_shown}
 use Rattle.wb_syntax.specs.SpecText.{SpecView}
 use Rattle.wb_types.specs.declared.refusal.TypeRefusal.TheVariants as k
 use Rattle.wb_certify.specs.WellDefined.{IsWellDefinedRefusal}

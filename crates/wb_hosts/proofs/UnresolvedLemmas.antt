@@ -1,5 +1,5 @@
 -- Contents that stand for no value are no host.
-use Rattle.std.proofs.Common.{◌⊎◌, inl, inr, List, ℕ}
+use Rattle.std.proofs.Common.{inl, inr, List, ℕ}
 use Rattle.wb_operations.specs.Operations.{OperationSignature}
 use Rattle.wb_hosts.specs.Contents.{IsHostRefusal}
 use Rattle.wb_hosts.specs.WellDefined.{IsWellDefinedTextRefusal}

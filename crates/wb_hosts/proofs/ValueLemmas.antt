@@ -1,5 +1,5 @@
 -- A refusal of a value is one of the contents that stand for it.
-use Rattle.std.proofs.Common.{◌≡◌, inl, inr, List, ℕ, Some, sym, subst}
+use Rattle.std.proofs.Common.{◌≡◌, inr, List, ℕ, Some, sym, subst}
 use Rattle.wb_certify.specs.Refusals.{IsValueRefusal}
 use Rattle.wb_certify.specs.WellDefined.{IsWellDefinedRefusal}
 use Rattle.wb_certify.specs.declared.refusal.CertifyRefusal.{CertifyRefusal}
@@ -9,7 +9,7 @@ use Rattle.wb_report.specs.declared.refusal.Refusal.{Refusal}
 use Rattle.wb_resolved.specs.declared.resolved.ResolvedParts.{ResolvedParts}
 use Rattle.wb_shown.specs.Shows.{refusal_shown}
 use Rattle.wb_hosts.specs.Contents.{StandsFor, IsOfKinds, IsRefusedValue, IsHostRefusal}
-use Rattle.wb_hosts.specs.WellDefined.{IsIllDefined, IsWellDefinedTextRefusal}
+use Rattle.wb_hosts.specs.WellDefined.{IsWellDefinedTextRefusal}
 use Rattle.wb_hosts.specs.declared.refusal.HostRefusal.{HostRefusal}
 use Rattle.wb_hosts.specs.declared.refusal.HostRefusal.TheVariants as h
 use Rattle.wb_hosts.specs.Inner.Refused.{IsSort}

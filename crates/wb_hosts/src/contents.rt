@@ -2,7 +2,7 @@
 //!
 //! They are read, names get their numbers, and the value that they stand for is certified; each refusal is handed on as a report shows it.
 
-ghost use Rattle.std.specs.Prelude.{◌≡◌, IfErr, IfOk, List, ℕ};
+ghost use Rattle.std.specs.Prelude.{◌≡◌, [], IfErr, IfOk, List, ℕ};
 ghost use Rattle.wb_certify.specs.Refusals.{IsNameMemory, IsValueRefusal};
 ghost use Rattle.wb_names.specs.Resolving.{IsHostNameRefusal};
 ghost use Rattle.wb_reader.specs.OneAnswer.{IsNoMemory};
@@ -36,10 +36,30 @@ pub fn host_of<M: Meaning>(
     ensures refused { IfErr result (IsHostRefusal operations.now.signatures contents.now) }
 {
     let resolved = value_of(alloc, contents)?;
-    match certify_resolved(alloc, &resolved, operations) {
+    let answer = certified(alloc, &resolved, operations);
+    resolved.release();
+    answer
+}
+
+// The certified host that a value is.
+fn certified<M: Meaning>(
+    alloc: Global,
+    resolved: &Resolved,
+    operations: &OperationTable<M>,
+) -> Result<CertifiedHost, HostRefusal>
+    requires { resolved.now.attributes.extensions ≡ [] }
+    ensures host { (contents : List ℕ) → StandsFor contents resolved.now → IfOk result (λ host. IsHostText operations.now.signatures contents host.resolved) }
+    ensures operations { IfOk result (λ host. host.operations ≡ operations.now.signatures) }
+    ensures refused { (contents : List ℕ) → StandsFor contents resolved.now → IfErr result (IsHostRefusal operations.now.signatures contents) }
+{
+    match certify_resolved(alloc, resolved, operations) {
         Ok(host) => Ok(host),
         Err(CertifyRefusal::NoMemory(error)) => Err(HostRefusal::NoMemory(error)),
-        Err(refusal) => Err(bad_value(alloc, &resolved, operations, &refusal)),
+        Err(refusal) => {
+            let shown = bad_value(alloc, resolved, operations, &refusal);
+            refusal.release();
+            Err(shown)
+        }
     }
 }
 
@@ -49,10 +69,20 @@ pub(crate) fn value_of(alloc: Global, contents: &[u8]) -> Result<Resolved, HostR
     ensures refused { IfErr result (IsUnresolved contents.now) }
 {
     let spec = spec_of(alloc, contents)?;
-    match resolve_host(alloc, &spec) {
+    let answer = resolved_of(alloc, &spec);
+    spec.release();
+    answer
+}
+
+// The numbered value of a specification.
+fn resolved_of(alloc: Global, spec: &Spec) -> Result<Resolved, HostRefusal>
+    ensures ok { (contents : List ℕ) → IsAcceptedText contents spec.now → IfOk result (StandsFor contents) }
+    ensures refused { (contents : List ℕ) → IsAcceptedText contents spec.now → IfErr result (IsUnresolved contents) }
+{
+    match resolve_host(alloc, spec) {
         Ok(resolved) => Ok(resolved),
         Err(NameRefusal::NoMemory(error)) => Err(HostRefusal::NoMemory(error)),
-        Err(refusal) => Err(bad_names(&spec, &refusal)),
+        Err(refusal) => Err(bad_names(spec, refusal)),
     }
 }
 
@@ -64,16 +94,18 @@ fn spec_of(alloc: Global, contents: &[u8]) -> Result<Spec, HostRefusal>
     match read_spec(alloc, contents) {
         Ok(spec) => Ok(spec),
         Err(SpecRefusal::NoMemory(error)) => Err(HostRefusal::NoMemory(error)),
-        Err(refusal) => Err(bad_text(&refusal)),
+        Err(refusal) => Err(bad_text(refusal)),
     }
 }
 
 // What is shown of contents that are no specification.
-fn bad_text(refusal: &SpecRefusal) -> HostRefusal
-    requires { ¬ IsNoMemory refusal.now }
-    ensures { (contents : List ℕ) → HasCause contents refusal.now → IsUnresolved contents result }
+fn bad_text(refusal: SpecRefusal) -> HostRefusal
+    requires { ¬ IsNoMemory refusal }
+    ensures { (contents : List ℕ) → HasCause contents refusal → IsUnresolved contents result }
 {
-    match written_rule(refusal) {
+    let rule = written_rule(&refusal);
+    refusal.release();
+    match rule {
         Ok(reason) => match of_spec(reason) {
             Some(shown) => HostRefusal::Specification(shown),
             None => unreachable!(),
@@ -83,12 +115,14 @@ fn bad_text(refusal: &SpecRefusal) -> HostRefusal
 }
 
 // What is shown of a specification whose names aren't right.
-fn bad_names(spec: &Spec, refusal: &NameRefusal) -> HostRefusal
-    requires names { IsHostNameRefusal spec.now refusal.now }
-    requires memory { ¬ IsNameMemory refusal.now }
+fn bad_names(spec: &Spec, refusal: NameRefusal) -> HostRefusal
+    requires names { IsHostNameRefusal spec.now refusal }
+    requires memory { ¬ IsNameMemory refusal }
     ensures { (contents : List ℕ) → IsAcceptedText contents spec.now → IsUnresolved contents result }
 {
-    match name_rule(refusal) {
+    let rule = name_rule(&refusal);
+    refusal.release();
+    match rule {
         Ok(reason) => match of_spec(reason) {
             Some(shown) => HostRefusal::Specification(shown),
             None => unreachable!(),

@@ -1,7 +1,7 @@
 //! Which host with well-defined attributes are the contents of a file? Nothing is asked of its grammar.
 
-ghost use Rattle.std.specs.Prelude.{◌≡◌, IfErr, IfOk, List, ℕ};
-ghost use Rattle.wb_certify.specs.WellDefined.{IsWellDefinedRefusal};
+ghost use Rattle.std.specs.Prelude.{◌≡◌, [], IfErr, IfOk, List, ℕ};
+ghost use Rattle.wb_certify.specs.WellDefined.{HasWellDefinedAttributes, IsWellDefinedRefusal};
 ghost use Rattle.wb_hosts.specs.Contents.{StandsFor};
 ghost use Rattle.wb_hosts.specs.WellDefined.{IsWellDefinedText, IsWellDefinedTextRefusal};
 ghost use Rattle.wb_hosts.specs.Inner.Refused.{IsCertifyMemory};
@@ -27,10 +27,33 @@ pub fn well_defined_host_of<M: Meaning>(
     ensures refused { IfErr result (IsWellDefinedTextRefusal operations.now.signatures contents.now) }
 {
     let resolved = value_of(alloc, contents)?;
-    match check_well_defined(alloc, &resolved, operations) {
+    match check_attributes(alloc, &resolved, operations) {
         Ok(()) => Ok(resolved),
+        Err(refusal) => {
+            resolved.release();
+            Err(refusal)
+        }
+    }
+}
+
+// Whether the attributes of a value are well defined.
+fn check_attributes<M: Meaning>(
+    alloc: Global,
+    resolved: &Resolved,
+    operations: &OperationTable<M>,
+) -> Result<(), HostRefusal>
+    requires { resolved.now.attributes.extensions ≡ [] }
+    ensures ok { IfOk result (λ done. HasWellDefinedAttributes resolved.now operations.now.signatures) }
+    ensures refused { (contents : List ℕ) → StandsFor contents resolved.now → IfErr result (IsWellDefinedTextRefusal operations.now.signatures contents) }
+{
+    match check_well_defined(alloc, resolved, operations) {
+        Ok(()) => Ok(()),
         Err(CertifyRefusal::NoMemory(error)) => Err(HostRefusal::NoMemory(error)),
-        Err(refusal) => Err(ill_defined(alloc, &resolved, operations, &refusal)),
+        Err(refusal) => {
+            let shown = ill_defined(alloc, resolved, operations, &refusal);
+            refusal.release();
+            Err(shown)
+        }
     }
 }
 

@@ -1,17 +1,16 @@
 -- A text has one answer at most in the language of a host.
-use Rattle.std.proofs.Common.{◌≡◌, ◌≤◌, ◌<◌, ℕ, List, length, ap, sym, refl, subst, ◌∙◌, arith}
+use Rattle.std.proofs.Common.{◌≡◌, ◌≤◌, ℕ, List, length, ap, sym, refl, subst, ◌∙◌, arith}
 use Rattle.wb_base.specs.Grammar.{GrammarView}
 use Rattle.wb_compose.specs.HostLanguage.{host_language}
 use Rattle.wb_grammars.specs.Trees.{Forest}
-use Rattle.wb_languages.specs.Shown.{Shows, values_of}
+use Rattle.wb_languages.specs.Shown.{Shows}
 use Rattle.wb_languages.proofs.TextLemmas.{one_tree, one_stop, not_both}
 use Rattle.wb_report.specs.declared.shown.ShownStop.{ShownStop}
 use Rattle.wb_resolved.specs.declared.resolved.ResolvedParts.{ResolvedParts}
 use Rattle.wb_terms.specs.Printed.{printed_tree}
-use Rattle.wb_values.specs.Tree.{Tree, Values, more, tree, empty}
-use Rattle.wb_trees.specs.declared.answer.TextAnswer.{TextAnswer}
+use Rattle.wb_values.specs.Tree.{Tree, more, tree, empty}
 use Rattle.wb_trees.specs.declared.answer.TextAnswer.TheVariants as a
-use Rattle.wb_trees.specs.Answers.{HasPrintedTree, StopsShown, HasOneAnswer, IsTextAnswer, stop_shown}
+use Rattle.wb_trees.specs.Answers.{HasPrintedTree, StopsShown, HasOneAnswer, stop_shown}
 
 -- one root stands for one tree
 one_value : (x y : Tree) (root : Forest) → Shows x root → Shows y root → x ≡ y

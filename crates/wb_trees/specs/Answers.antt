@@ -1,5 +1,5 @@
 -- What a text is in the language of a host: a printed tree, or its stop.
-use Rattle.std.specs.Prelude.{◌≡◌, ◌<◌, ◌≤◌, ℕ, List, Some, length, slice_get}
+use Rattle.std.specs.Prelude.{◌≡◌, ◌<◌, ◌≤◌, ℕ, List, length, slice_get}
 use Rattle.wb_base.specs.Grammar.{GrammarView}
 use Rattle.wb_compose.specs.HostLanguage.{host_language}
 use Rattle.wb_grammars.specs.Trees.{Forest}

@@ -35,9 +35,24 @@ pub fn text_answer(
     ensures { IfOk result (λ answer. (g : GrammarView) → host.now.resolved.grammar ≡ Some g → IsTextAnswer host.now.resolved g text.now answer) }
 {
     let language = language_of(alloc, host)?;
+    let answer = answer_in(alloc, host.resolved(), &language, text);
+    language.release();
+    answer
+}
+
+// The answer in the language of a host.
+fn answer_in(
+    alloc: Global,
+    resolved: &Resolved,
+    language: &Language,
+    text: &[u8],
+) -> Result<TextAnswer, AllocError>
+    ensures { (g : GrammarView) → resolved.now.grammar ≡ Some g → language.now.language ≡ view resolved.now g → IfOk result (IsTextAnswer resolved.now g text.now) }
+{
+    let _grammar = language.grammar();
     let mut store = TreeStore::new(alloc);
-    let parsed = parse(alloc, &language, text, &mut store)?;
-    answer_of(alloc, host.resolved(), &store, parsed)
+    let parsed = parse(alloc, language, text, &mut store)?;
+    answer_of(alloc, resolved, &store, parsed)
 }
 
 // The language of a host.

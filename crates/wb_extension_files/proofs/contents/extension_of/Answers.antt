@@ -19,6 +19,6 @@ returns-clause-extension g c =
     let host = c.args.host.now.resolved in
     let operations = c.args.host.now.operations in
     let contents = c.args.contents.now in
-    IfOk-weaker c.extension_of_spec.result (λ (e : ExtensionView). IsExtensionSpec host operations c.in_ok-spec.spec e.resolved)
+    IfOk-weaker c.extension_of_spec-answer.result (λ (e : ExtensionView). IsExtensionSpec host operations c.in_ok-spec.spec e.resolved)
     (λ (e : ExtensionView). IsExtensionText host operations contents e.resolved)
-    (λ e is. is contents c.in_ok-spec.ensures.spec.accepted) c.extension_of_spec.ensures.extension
+    (λ e is. is contents c.in_ok-spec.ensures.spec.accepted) c.extension_of_spec-answer.ensures.extension

@@ -7,5 +7,8 @@ returns-in_err-spec-clause-refused c =
     let R = IsUnresolved c.args.contents.now in
     handed_on R R c.from_residual.result c.in_err-spec.field-0.0 c.from_residual.ensures.1 (λ f p. p) c.in_err-spec.ensures.refused
 
-pub returns : goal.returns
-returns c = record { ok = tt; refused = c.bad_names.ensures c.args.contents.now c.in_ok-spec.ensures.ok }
+pub returns-clause-ok : goal.returns-clause-ok
+returns-clause-ok c = c.resolved_of-answer.ensures.ok c.args.contents.now c.in_ok-spec.ensures.ok
+
+pub returns-clause-refused : goal.returns-clause-refused
+returns-clause-refused c = c.resolved_of-answer.ensures.refused c.args.contents.now c.in_ok-spec.ensures.ok

@@ -10,3 +10,6 @@ returns-in_err-resolved-clause-refused g c =
     handed_on (IsUnresolved c.args.contents.now) (IsWellDefinedTextRefusal operations c.args.contents.now) c.from_residual.result
     c.in_err-resolved.field-0.0 c.from_residual.ensures.1 (well_defined_unresolved operations c.args.contents.now)
     c.in_err-resolved.ensures.refused
+
+pub returns-in-Err-clause-refused : goal.returns-in-Err-clause-refused
+returns-in-Err-clause-refused g c = c.in-Err.ensures.refused c.args.contents.now c.in_ok-resolved.ensures.ok
