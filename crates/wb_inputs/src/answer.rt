@@ -21,9 +21,9 @@ pub fn reported(alloc: Global, status: Status, outcome: Outcome) -> Result<Answe
     ensures status { IfOk result (λ answer. answer.status ≡ status) }
     ensures report { IfOk result (λ answer. answer.report.items ≡ report_of outcome) }
 {
-    // An array lets go of what it holds by a call, so that the drop of an outcome is proved once and part by part.
-    let held = [outcome];
-    with_report(alloc, status, &held[0])
+    let answer = with_report(alloc, status, &outcome);
+    outcome.release();
+    answer
 }
 
 // The answer with the report of an outcome that is lent.

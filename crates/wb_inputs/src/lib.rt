@@ -6,16 +6,11 @@
 mod answer;
 mod hosts;
 mod reading;
-mod released;
 mod several;
 mod status;
 
 pub use answer::{Answer, reported};
 pub use hosts::{certified_of, refused_host, well_defined_of};
 pub use reading::{Contents, ReadFailure, read_file};
-pub use released::{
-    release_attributes, release_extension, release_extensions, release_host, release_resolved,
-    release_spec,
-};
 pub use several::{MOST_EXTENSIONS, read_extensions, refused_extension};
 pub use status::Status;

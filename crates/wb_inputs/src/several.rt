@@ -2,7 +2,7 @@
 //!
 //! A file is read by what is written and by its first line, then its name is compared with those before it, and then it is certified.
 
-ghost use Rattle.std.specs.Prelude.{◌≡◌, ◌↔◌, IfOk, IfErr, IsTrue, Contains, ℕ, List, []};
+ghost use Rattle.std.specs.Prelude.{◌≡◌, ◌↔◌, ◌++◌, ◌∷◌, IfOk, IfErr, OnOk, IsTrue, Contains, ℕ, List, []};
 ghost use Rattle.wb_extension_files.specs.Specifications.{IsSpecFor};
 ghost use Rattle.wb_united_trees.specs.Unions.{all_resolved};
 ghost use Rattle.wb_words.specs.Words.{texts};
@@ -17,8 +17,8 @@ use crate::answer::{Answer, reported};
 use crate::reading::{Contents, ReadFailure, read_file};
 use crate::status::Status;
 use std::alloc::{AllocError, Global};
-use wb_base::{Bytes, FILE_LIMIT, push};
-use wb_beside::CertifiedExtension;
+use wb_base::{Bytes, FILE_LIMIT};
+use wb_beside::{CertifiedExtension, release_extensions};
 use wb_certify::CertifiedHost;
 use wb_extension_files::{FileRefusal, extension_of_spec, extension_spec};
 use wb_operations::{Meaning, OperationTable};
@@ -59,22 +59,74 @@ pub fn read_extensions<S: Shelf, M: Meaning>(
         (outside (S.files shelf.new) (S.absences shelf.new) (S.faults shelf.new)) }
 {
     let mut extensions = Vec::new(alloc);
+    match read_into(alloc, shelf, host, files, &mut extensions, operations) {
+        Ok(Ok(())) => Ok(Ok(extensions)),
+        Ok(Err(answer)) => {
+            release_extensions(extensions);
+            Ok(Err(answer))
+        }
+        Err(failure) => {
+            release_extensions(extensions);
+            Err(failure)
+        }
+    }
+}
+
+// Adds the extensions of files to a list without any, in their order, or finds the answer where one is refused.
+fn read_into<S: Shelf, M: Meaning>(
+    alloc: Global,
+    shelf: &mut S,
+    host: &CertifiedHost,
+    files: &[String],
+    extensions: &mut Vec<CertifiedExtension>,
+    operations: &OperationTable<M>,
+) -> Result<Result<(), Answer>, ReadFailure>
+    requires operations { host.now.operations ≡ operations.now.signatures }
+    requires none { extensions.old.items ≡ [] }
+    ensures apart { IfOk result (λ read. IfOk read (λ done. AreApart host.now extensions.new.items)) }
+    ensures ok { IfOk result (λ read. IfOk read (λ done. AreEach operations.now.signatures (S.files shelf.old) host.now.resolved (texts files.now) [] (all_resolved extensions.new.items))) }
+    ensures refused { IfOk result (λ read. IfErr read (λ answer. RefusesEach operations.now.signatures (S.files shelf.old) host.now.resolved (texts files.now) [] answer.status answer.report.items)) }
+    ensures stopped { IfErr result (Stopped (outside (S.files shelf.old) (S.absences shelf.old) (S.faults shelf.old))
+        (outside (S.files shelf.new) (S.absences shelf.new) (S.faults shelf.new))
+        (λ P. StopsEach operations.now.signatures (S.files shelf.old) host.now.resolved P (texts files.now) [])) }
+    ensures goes_on { GoesOn (outside (S.files shelf.old) (S.absences shelf.old) (S.faults shelf.old))
+        (outside (S.files shelf.new) (S.absences shelf.new) (S.faults shelf.new)) }
+{
     let mut at = 0;
     'files: while at < files.len() {
         match next_extension(
             alloc,
             shelf,
             host,
-            &extensions,
+            extensions,
             files[at].as_str(),
             operations,
         )? {
-            Ok(extension) => push(&mut extensions, extension)?,
+            Ok(extension) => add(extensions, extension)?,
             Err(answer) => return Ok(Err(answer)),
         }
         at += 1;
     }
-    Ok(Ok(extensions))
+    Ok(Ok(()))
+}
+
+// Adds an extension after the others. The only error is want of memory.
+fn add(
+    extensions: &mut Vec<CertifiedExtension>,
+    extension: CertifiedExtension,
+) -> Result<(), AllocError>
+    ensures { OnOk result (extensions.new.items ≡ extensions.old.items ++ extension ∷ []) }
+{
+    match extensions.reserve(1) {
+        Ok(()) => {
+            extensions.push_reserved(extension);
+            Ok(())
+        }
+        Err(error) => {
+            extension.release();
+            Err(error)
+        }
+    }
 }
 
 /// The answer for a file that is no certified extension.
@@ -164,7 +216,11 @@ fn next_of<M: Meaning>(
     ensures refused { IfErr result (λ refusal. IsNextRefusal operations.now.signatures host.now.resolved (all_resolved before.now) contents.now refusal) }
 {
     match extension_spec(alloc, host, contents) {
-        Ok(spec) => next_with(alloc, host, before, &spec, operations),
+        Ok(spec) => {
+            let answer = next_with(alloc, host, before, &spec, operations);
+            spec.release();
+            answer
+        }
         Err(refusal) => Err(NextRefusal::Header(refusal)),
     }
 }

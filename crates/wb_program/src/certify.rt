@@ -23,7 +23,7 @@ use wb_certify::CertifiedHost;
 use wb_extension_files::{FileRefusal, extension_of};
 use wb_inputs::{
     Answer, Contents, MOST_EXTENSIONS, ReadFailure, Status, certified_of, read_file,
-    refused_extension, refused_host, release_extension, release_host, reported,
+    refused_extension, refused_host, reported,
 };
 use wb_operations::{Meaning, OperationTable};
 use wb_report::{Done, Outcome, Refusal, SpecReason};
@@ -51,7 +51,7 @@ pub(crate) fn answer_certify<S: Shelf, M: Meaning>(
     match certified_of(alloc, shelf, host, operations)? {
         Ok(certified) => {
             let answer = answer_extensions(alloc, shelf, &certified, extensions, operations);
-            release_host(certified);
+            certified.release();
             answer
         }
         Err(refusal) => Ok(refused_host(alloc, file, refusal)?),
@@ -164,7 +164,7 @@ fn extension_name(alloc: Global, extension: CertifiedExtension) -> Result<Bytes,
     ensures { IfOk result (IsOneExtension extension.resolved) }
 {
     let name = Bytes::from_slice(alloc, extension.name());
-    release_extension(extension);
+    extension.release();
     name
 }
 

@@ -11,7 +11,7 @@ ghost use Rattle.wb_program.specs.CheckReport.{CheckReport};
 use std::alloc::{AllocError, Global};
 use wb_base::{Bytes, Sequence};
 use wb_certify::CertifiedHost;
-use wb_inputs::{Answer, ReadFailure, Status, certified_of, refused_host, release_host, reported};
+use wb_inputs::{Answer, ReadFailure, Status, certified_of, refused_host, reported};
 use wb_operations::{Meaning, OperationTable};
 use wb_report::{Done, Outcome};
 use wb_world::Shelf;
@@ -42,7 +42,7 @@ fn certified_answer(alloc: Global, host: CertifiedHost) -> Result<Answer, AllocE
     ensures report { IfOk result (λ answer. answer.report.items ≡ report_of (Outcome.Done (Done.Certified host.resolved.host []))) }
 {
     let answer = name_answer(alloc, host.name());
-    release_host(host);
+    host.release();
     answer
 }
 

@@ -17,16 +17,15 @@ ghost use Rattle.wb_program.specs.ComposeReport.{ComposeReport, ComposedLines};
 
 use std::alloc::{AllocError, Global};
 use wb_base::Bytes;
-use wb_beside::CertifiedExtension;
+use wb_beside::{CertifiedExtension, release_extensions};
 use wb_certify::CertifiedHost;
 use wb_composition::{Composed, compose};
 use wb_inputs::{
     Answer, MOST_EXTENSIONS, ReadFailure, Status, certified_of, read_extensions, refused_host,
-    release_extensions, release_host, reported,
+    reported,
 };
 use wb_operations::{Meaning, OperationTable};
 use wb_report::{Done, Outcome};
-use wb_runs::release_composed;
 use wb_united_trees::withdrawn_names;
 use wb_world::Shelf;
 
@@ -51,7 +50,7 @@ pub(crate) fn answer_compose<S: Shelf, M: Meaning>(
     match certified_of(alloc, shelf, host, operations)? {
         Ok(certified) => {
             let answer = compose_files(alloc, shelf, &certified, extensions, operations);
-            release_host(certified);
+            certified.release();
             answer
         }
         Err(refusal) => Ok(refused_host(alloc, file, refusal)?),
@@ -95,7 +94,7 @@ fn answer_composed(
 {
     let composed = compose(alloc, host, extensions)?;
     let answer = composed_lines(alloc, host, extensions, &composed);
-    release_composed(composed);
+    composed.release();
     answer
 }
 

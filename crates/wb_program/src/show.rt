@@ -13,7 +13,7 @@ ghost use Rattle.wb_program.specs.Inner.Shown.{ContentsShow, ShowsRefusal};
 
 use std::alloc::{AllocError, Global};
 use wb_base::{Bytes, FILE_LIMIT};
-use wb_inputs::{Answer, Contents, ReadFailure, Status, read_file, release_spec, reported};
+use wb_inputs::{Answer, Contents, ReadFailure, Status, read_file, reported};
 use wb_printer::print_spec;
 use wb_reader::{SpecRefusal, read_spec};
 use wb_report::{Outcome, Refusal};
@@ -44,7 +44,7 @@ fn answer_contents(alloc: Global, file: &str, contents: Contents) -> Result<Answ
         Contents::Whole(bytes) => match read_spec(alloc, &bytes) {
             Ok(spec) => {
                 let report = print_spec(alloc, &spec);
-                release_spec(spec);
+                spec.release();
                 Ok(Answer {
                     status: Status::Done,
                     report: report?,

@@ -14,8 +14,7 @@ use std::alloc::{AllocError, Global};
 use wb_base::{Bytes, FILE_LIMIT, Sequence};
 use wb_certify::CertifiedHost;
 use wb_inputs::{
-    Answer, Contents, ReadFailure, Status, certified_of, read_file, refused_host, release_host,
-    reported,
+    Answer, Contents, ReadFailure, Status, certified_of, read_file, refused_host, reported,
 };
 use wb_operations::{Meaning, OperationTable};
 use wb_report::{Done, Outcome};
@@ -41,7 +40,7 @@ pub(crate) fn answer_tree<S: Shelf, M: Meaning>(
     match certified_of(alloc, shelf, host, operations)? {
         Ok(certified) => {
             let answer = answer_text(alloc, shelf, text, &certified);
-            release_host(certified);
+            certified.release();
             answer
         }
         Err(refusal) => Ok(refused_host(alloc, file, refusal)?),

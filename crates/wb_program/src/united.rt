@@ -18,16 +18,15 @@ ghost use Rattle.wb_program.specs.ComposeReport.{UnitedReport, UnitedTreeReport}
 use crate::tree::shown_text;
 use std::alloc::{AllocError, Global};
 use wb_base::{Bytes, FILE_LIMIT};
-use wb_beside::CertifiedExtension;
+use wb_beside::{CertifiedExtension, release_extensions};
 use wb_certify::CertifiedHost;
 use wb_composition::{Composed, compose};
 use wb_inputs::{
     Answer, Contents, MOST_EXTENSIONS, ReadFailure, Status, certified_of, read_extensions,
-    read_file, refused_host, release_extensions, release_host, reported,
+    read_file, refused_host, reported,
 };
 use wb_operations::{Meaning, OperationTable};
 use wb_report::Outcome;
-use wb_runs::release_composed;
 use wb_united_trees::united_text_answer;
 use wb_world::Shelf;
 
@@ -53,7 +52,7 @@ pub(crate) fn answer_united<S: Shelf, M: Meaning>(
     match certified_of(alloc, shelf, host, operations)? {
         Ok(certified) => {
             let answer = united_files(alloc, shelf, text, &certified, extensions, operations);
-            release_host(certified);
+            certified.release();
             answer
         }
         Err(refusal) => Ok(refused_host(alloc, file, refusal)?),
@@ -136,7 +135,7 @@ fn united_answer(
 {
     let composed = compose(alloc, host, extensions)?;
     let answer = composed_answer(alloc, host, extensions, &composed, text);
-    release_composed(composed);
+    composed.release();
     answer
 }
 

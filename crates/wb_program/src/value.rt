@@ -16,8 +16,7 @@ ghost use Rattle.wb_program.specs.ValueReport.{RootReport, TermReport, ValueRepo
 use std::alloc::{AllocError, Global};
 use wb_base::{Bytes, FILE_LIMIT, Sequence};
 use wb_inputs::{
-    Answer, Contents, ReadFailure, Status, read_file, refused_host, release_resolved, reported,
-    well_defined_of,
+    Answer, Contents, ReadFailure, Status, read_file, refused_host, reported, well_defined_of,
 };
 use wb_operations::{Meaning, OperationRefusal, OperationTable};
 use wb_report::{Done, Outcome, Refusal, TermReason};
@@ -59,7 +58,7 @@ pub(crate) fn answer_value<S: Shelf, M: Meaning>(
                 attribute,
                 operations,
             );
-            release_resolved(resolved);
+            resolved.release();
             answer
         }
         Err(refusal) => Ok(refused_host(alloc, file, refusal)?),

@@ -9,4 +9,3 @@ mod shown;
 mod source;
 
 pub use commands::{answer_generate, answer_run};
-pub use source::release_composed;

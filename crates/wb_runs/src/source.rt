@@ -19,13 +19,13 @@ ghost use Rattle.wb_runs.specs.Inner.Sources.{HasFewLeaves, IsAsked, SourceCheck
 use crate::asked::{Asked, file_answer, made_answer};
 use std::alloc::{AllocError, Global};
 use wb_base::Bytes;
-use wb_beside::CertifiedExtension;
+use wb_beside::{CertifiedExtension, release_extensions};
 use wb_certify::CertifiedHost;
 use wb_composed_attributes::composed_attributes;
 use wb_composition::{Composed, compose};
 use wb_inputs::{
     Answer, MOST_EXTENSIONS, ReadFailure, Status, certified_of, read_extensions, refused_host,
-    release_attributes, release_extensions, release_host, reported,
+    reported,
 };
 use wb_operations::{Meaning, OperationRefusal, OperationTable};
 use wb_report::Outcome;
@@ -33,9 +33,6 @@ use wb_resolved::Attribution;
 use wb_united_values::root_attribute;
 use wb_values::Value;
 use wb_world::Shelf;
-
-/// Lets go of what was composed. As for `wb_inputs::release_host`, no crate above drops it.
-pub fn release_composed(_: Composed) {}
 
 // Where a text comes from.
 #[derive(Clone, Copy)]
@@ -76,7 +73,7 @@ pub(crate) fn answer_source<S: Shelf, M: Meaning>(
             let answer = files_answer(
                 alloc, shelf, source, attribute, &certified, extensions, operations,
             );
-            release_host(certified);
+            certified.release();
             answer
         }
         Err(refusal) => Ok(refused_host(alloc, file, refusal)?),
@@ -158,7 +155,7 @@ fn union_answer<S: Shelf, M: Meaning>(
         &attributes,
         operations,
     );
-    release_attributes(attributes);
+    attributes.release();
     answer
 }
 
@@ -236,7 +233,7 @@ fn source_answer<S: Shelf, M: Meaning>(
 {
     let composed = compose(alloc, asked.host, asked.extensions)?;
     let answer = composed_answer(alloc, shelf, source, asked, &composed, operations);
-    release_composed(composed);
+    composed.release();
     answer
 }
 

@@ -10,6 +10,6 @@ returns-in-Ok-clause-ok g c =
     let operations = c.args.operations.now.signatures in
     let host = c.args.host.now.resolved in
     let before = all_resolved c.args.before.now in
-    on_ok c.next_with.result (λ extension. IsNextSpec operations host before c.in-Ok.spec extension.resolved)
+    on_ok c.next_with-answer.result (λ extension. IsNextSpec operations host before c.in-Ok.spec extension.resolved)
     (λ extension. IsNextText operations host before c.args.contents.now extension.resolved)
-    (λ extension is. is c.args.contents.now c.in-Ok.ensures.spec) c.next_with.ensures.ok
+    (λ extension is. is c.args.contents.now c.in-Ok.ensures.spec) c.next_with-answer.ensures.ok

@@ -5,7 +5,7 @@ use Rattle.wb_words.specs.Words.{texts}
 use Rattle.wb_inputs.specs.ExtensionChecks.{AreApart}
 use Rattle.wb_inputs.specs.Inner.Several.{IsReached}
 use Rattle.wb_inputs.specs.Stopped.{outside, GoesOn}
-use Rattle.wb_inputs.proofs.several.read_extensions.Given as goal
+use Rattle.wb_inputs.proofs.several.read_into.Given as goal
 
 abbrev pub invariant-files : goal.invariant-files
 invariant-files g l = record {

@@ -14,7 +14,7 @@ use Rattle.wb_inputs.specs.Stopped.{outside, Stopped}
 use Rattle.wb_inputs.proofs.CauseLemmas.{err_of, goes_on_twice, ok_of, on_err, stops_since}
 use Rattle.wb_inputs.proofs.WordLemmas.{texts_from}
 use Rattle.wb_inputs.proofs.SeveralLemmas.{apart_more, reached_on, refused_here, stopped_here, values_more}
-use Rattle.wb_inputs.proofs.several.read_extensions.Goals as goal
+use Rattle.wb_inputs.proofs.several.read_into.Goals as goal
 
 pub returns-in_err-extension-clause-stopped : goal.returns-in_err-extension-clause-stopped
 returns-in_err-extension-clause-stopped g c =
@@ -37,8 +37,8 @@ returns-in_err-extension-clause-stopped g c =
     (stops_since before between now file failure c.files.invariant.goes_on at) c.files.invariant.reached)
     stopped
 
-pub returns-in_err-push-in-Ok-clause-goes_on : goal.returns-in_err-push-in-Ok-clause-goes_on
-returns-in_err-push-in-Ok-clause-goes_on g c =
+pub returns-in_err-add-in-Ok-clause-goes_on : goal.returns-in_err-add-in-Ok-clause-goes_on
+returns-in_err-add-in-Ok-clause-goes_on g c =
     goes_on_twice (outside (g.S.Shelf.files c.args.shelf.now) (g.S.Shelf.absences c.args.shelf.now) (g.S.Shelf.faults c.args.shelf.now))
     (outside (g.S.Shelf.files c.files.shelf) (g.S.Shelf.absences c.files.shelf) (g.S.Shelf.faults c.files.shelf))
     (outside (g.S.Shelf.files c.next_extension.new.shelf) (g.S.Shelf.absences c.next_extension.new.shelf)
@@ -110,9 +110,9 @@ files-preserved g c =
     record {
       within = omega (arith, within);
       goes_on = goes_on_twice before between now c.files.invariant.goes_on c.next_extension.ensures.goes_on;
-      apart = subst (λ (list : List ExtensionView). AreApart host list) (sym c.in_ok-push-in-Ok.ensures.ok) apart;
+      apart = subst (λ (list : List ExtensionView). AreApart host list) (sym c.in_ok-add-in-Ok.ensures) apart;
       reached = subst (λ (list : List ExtensionView). IsReached operations before host.resolved files (c.files.at + 1) (all_resolved list))
-          (sym c.in_ok-push-in-Ok.ensures.ok) reached_all;
+          (sym c.in_ok-add-in-Ok.ensures) reached_all;
     }
 
 pub returns-in_err-extension-clause-goes_on : goal.returns-in_err-extension-clause-goes_on
