@@ -21,7 +21,13 @@ pub(crate) type Row = (&'static str, Answer);
 
 // The specification of a text.
 pub(crate) fn spec_of(alloc: Global, text: &str) -> Option<Spec> {
-    read_spec(alloc, text.as_bytes()).ok()
+    match read_spec(alloc, text.as_bytes()) {
+        Ok(spec) => Some(spec),
+        Err(refusal) => {
+            refusal.release();
+            None
+        }
+    }
 }
 
 // Whether a refusal of a file with this text, whose names are right, is the answer.

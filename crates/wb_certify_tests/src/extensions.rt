@@ -3,13 +3,13 @@
 //! Each row has an extension and its answer. Expected answers follow from the rules; where more than one example is true, what they differ in
 //! is left empty.
 
-ghost use Rattle.std.specs.Prelude.{◌≡◌, IfOk};
+ghost use Rattle.std.specs.Prelude.{◌≡◌};
 
 use crate::answers::{Answer, Row, shows, shows_name, spec_of};
 use crate::files::{STATEMENTS, SUMS};
 use std::alloc::Global;
 use std::process::Abort;
-use wb_beside::{CertifiedExtension, certify_extension};
+use wb_beside::certify_extension;
 use wb_certify::{CertifiedHost, CertifyRefusal, certify_host};
 use wb_names::resolve_extension;
 use wb_operations::{OperationTable, Standard, standard_table};
@@ -36,29 +36,27 @@ fn all_over(
     rows: &[Row],
 ) -> bool {
     match spec_of(alloc, host) {
-        Some(spec) => all_of(alloc, operations, &spec, rows),
+        Some(spec) => {
+            let are = all_of(alloc, operations, &spec, rows);
+            spec.release();
+            are
+        }
         None => false,
     }
 }
 
 // The same of the host of this specification.
 fn all_of(alloc: Global, operations: &OperationTable<Standard>, spec: &Spec, rows: &[Row]) -> bool {
-    let held = [certify_host(alloc, spec, operations)];
-    all_with(alloc, operations, &held[0], rows)
-}
-
-// The same of a host that is certified.
-fn all_with(
-    alloc: Global,
-    operations: &OperationTable<Standard>,
-    given: &Result<CertifiedHost, CertifyRefusal>,
-    rows: &[Row],
-) -> bool
-    requires { IfOk given.now (λ host. host.operations ≡ operations.now.signatures) }
-{
-    match given {
-        Ok(host) => all_get(alloc, host, operations, rows),
-        Err(_) => false,
+    match certify_host(alloc, spec, operations) {
+        Ok(host) => {
+            let are = all_get(alloc, &host, operations, rows);
+            host.release();
+            are
+        }
+        Err(refusal) => {
+            refusal.release();
+            false
+        }
     }
 }
 
@@ -90,7 +88,11 @@ fn text_gets(
     requires { operations.now.signatures ≡ host.now.operations }
 {
     match spec_of(alloc, text) {
-        Some(spec) => spec_gets(alloc, host, operations, (text, &spec), answer),
+        Some(spec) => {
+            let is = spec_gets(alloc, host, operations, (text, &spec), answer);
+            spec.release();
+            is
+        }
         None => false,
     }
 }
@@ -105,22 +107,31 @@ fn spec_gets(
 ) -> bool
     requires { operations.now.signatures ≡ host.now.operations }
 {
-    let held = [certify_extension(alloc, host, file.1, operations)];
-    is_answer(alloc, host, file, &held[0], answer)
+    match certify_extension(alloc, host, file.1, operations) {
+        // The code `ok` is that of a certified extension.
+        Ok(extension) => {
+            extension.release();
+            answer.0 == "ok"
+        }
+        Err(refusal) => {
+            let is = is_answer(alloc, host, file, &refusal, answer);
+            refusal.release();
+            is
+        }
+    }
 }
 
-// Whether it is the answer; the code `ok` is that of a certified extension.
+// Whether a refusal is the answer.
 fn is_answer(
     alloc: Global,
     host: &CertifiedHost,
     file: (&str, &Spec),
-    given: &Result<CertifiedExtension, CertifyRefusal>,
+    refusal: &CertifyRefusal,
     answer: &Answer,
 ) -> bool {
-    match given {
-        Ok(_) => answer.0 == "ok",
-        Err(CertifyRefusal::Names(refusal)) => shows_name(refusal, answer),
-        Err(refusal) => is_refused(alloc, host, file, refusal, answer),
+    match refusal {
+        CertifyRefusal::Names(refusal) => shows_name(refusal, answer),
+        _ => is_refused(alloc, host, file, refusal, answer),
     }
 }
 
@@ -133,8 +144,15 @@ fn is_refused(
     answer: &Answer,
 ) -> bool {
     match resolve_extension(alloc, host.resolved(), file.1) {
-        Ok(resolved) => shows(&resolved, file.0, refusal, answer),
-        Err(_) => false,
+        Ok(resolved) => {
+            let is = shows(&resolved, file.0, refusal, answer);
+            resolved.release();
+            is
+        }
+        Err(refusal) => {
+            refusal.release();
+            false
+        }
     }
 }
 

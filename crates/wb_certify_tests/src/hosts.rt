@@ -6,7 +6,7 @@
 use crate::answers::{Answer, Row, shows, shows_name, spec_of};
 use std::alloc::Global;
 use std::process::Abort;
-use wb_certify::{CertifiedHost, CertifyRefusal, certify_host};
+use wb_certify::{CertifyRefusal, certify_host};
 use wb_names::resolve_host;
 use wb_operations::{OperationTable, Standard, standard_table};
 use wb_syntax::Spec;
@@ -42,7 +42,11 @@ fn text_gets(
     answer: &Answer,
 ) -> bool {
     match spec_of(alloc, text) {
-        Some(spec) => spec_gets(alloc, operations, (text, &spec), answer),
+        Some(spec) => {
+            let is = spec_gets(alloc, operations, (text, &spec), answer);
+            spec.release();
+            is
+        }
         None => false,
     }
 }
@@ -54,21 +58,30 @@ fn spec_gets(
     file: (&str, &Spec),
     answer: &Answer,
 ) -> bool {
-    let held = [certify_host(alloc, file.1, operations)];
-    is_answer(alloc, file, &held[0], answer)
+    match certify_host(alloc, file.1, operations) {
+        // The code `ok` is that of a certified host.
+        Ok(host) => {
+            host.release();
+            answer.0 == "ok"
+        }
+        Err(refusal) => {
+            let is = is_answer(alloc, file, &refusal, answer);
+            refusal.release();
+            is
+        }
+    }
 }
 
-// Whether it is the answer; the code `ok` is that of a certified host.
+// Whether a refusal is the answer.
 fn is_answer(
     alloc: Global,
     file: (&str, &Spec),
-    given: &Result<CertifiedHost, CertifyRefusal>,
+    refusal: &CertifyRefusal,
     answer: &Answer,
 ) -> bool {
-    match given {
-        Ok(_) => answer.0 == "ok",
-        Err(CertifyRefusal::Names(refusal)) => shows_name(refusal, answer),
-        Err(refusal) => is_refused(alloc, file, refusal, answer),
+    match refusal {
+        CertifyRefusal::Names(refusal) => shows_name(refusal, answer),
+        _ => is_refused(alloc, file, refusal, answer),
     }
 }
 
@@ -80,8 +93,15 @@ fn is_refused(
     answer: &Answer,
 ) -> bool {
     match resolve_host(alloc, file.1) {
-        Ok(resolved) => shows(&resolved, file.0, refusal, answer),
-        Err(_) => false,
+        Ok(resolved) => {
+            let is = shows(&resolved, file.0, refusal, answer);
+            resolved.release();
+            is
+        }
+        Err(refusal) => {
+            refusal.release();
+            false
+        }
     }
 }
 

@@ -61,8 +61,15 @@ fn table_answers<M: Meaning>(
         (λ run vs r. ⟦<Box<dyn Fn(&[Value]) -> Result<Value, OperationRefusal>> as Fn(&[Value]) -> Result<Value, OperationRefusal>>⟧.post run vs r) }
 {
     match read_spec(alloc, text.as_bytes()) {
-        Ok(spec) => spec_answers(alloc, &spec, operations, rows),
-        Err(_) => false,
+        Ok(spec) => {
+            let answer = spec_answers(alloc, &spec, operations, rows);
+            spec.release();
+            answer
+        }
+        Err(refusal) => {
+            refusal.release();
+            false
+        }
     }
 }
 
@@ -78,8 +85,15 @@ fn spec_answers<M: Meaning>(
         (λ run vs r. ⟦<Box<dyn Fn(&[Value]) -> Result<Value, OperationRefusal>> as Fn(&[Value]) -> Result<Value, OperationRefusal>>⟧.post run vs r) }
 {
     match certify_host(alloc, spec, operations) {
-        Ok(host) => host_answers(alloc, &host, operations, rows),
-        Err(_) => false,
+        Ok(host) => {
+            let answer = host_answers(alloc, &host, operations, rows);
+            host.release();
+            answer
+        }
+        Err(refusal) => {
+            refusal.release();
+            false
+        }
     }
 }
 

@@ -91,11 +91,13 @@ fn gives_in(alloc: Global, language: &Language, row: &Row) -> bool {
 }
 
 fn gives(alloc: Global, row: &Row) -> bool {
-    // An array lets go of what it holds by a call, so that the drop of a language is proved once.
-    let held = [language(alloc, row.0)];
-    match &held[0] {
-        Ok(language) => gives_in(alloc, language, row),
-        Err(refusal) => is_refusal(refusal, row.2),
+    match language(alloc, row.0) {
+        Ok(language) => {
+            let gives = gives_in(alloc, &language, row);
+            language.release();
+            gives
+        }
+        Err(refusal) => is_refusal(&refusal, row.2),
     }
 }
 

@@ -38,10 +38,12 @@ fn is_next_in(language: &Language, row: &Row) -> bool {
 }
 
 fn is_next(alloc: Global, row: &Row) -> bool {
-    // An array lets go of what it holds by a call, so that the drop of a language is proved once.
-    let held = [language(alloc, row.0)];
-    match &held[0] {
-        Ok(language) => is_next_in(language, row),
+    match language(alloc, row.0) {
+        Ok(language) => {
+            let is = is_next_in(&language, row);
+            language.release();
+            is
+        }
         Err(_) => false,
     }
 }

@@ -5,7 +5,7 @@
 use crate::written::{Asked, Row, Tested, hosts_get};
 use std::alloc::{AllocError, Global};
 use wb_complete::check_complete;
-use wb_flow::{FlowGraph, Vertex, check_flow, production_graph};
+use wb_flow::{AttributeRefusal, FlowGraph, Vertex, check_flow, production_graph};
 use wb_resolved::{Attribution, Resolved};
 
 static ATTRIBUTES: Asked = Asked {
@@ -29,8 +29,18 @@ pub(crate) fn append_attributes(
 
 // Whether both tests pass.
 fn are_well_defined(alloc: Global, attributes: &Attribution) -> bool {
-    check_complete(alloc, attributes, Some(0), None).is_ok()
-        && check_flow(alloc, attributes).is_ok()
+    passes(check_complete(alloc, attributes, Some(0), None))
+        && passes(check_flow(alloc, attributes))
+}
+
+fn passes(tested: Result<(), AttributeRefusal>) -> bool {
+    match tested {
+        Ok(()) => true,
+        Err(refusal) => {
+            refusal.release();
+            false
+        }
+    }
 }
 
 // Whether the graph of the production has the one attribute of its top, and no edge.

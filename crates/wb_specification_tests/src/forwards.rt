@@ -28,7 +28,11 @@ pub(crate) fn append_forwards(
     let parts = extension.parts();
     match check_forward(alloc, &parts.attributes, 1) {
         Ok(()) => out.extend_from_slice(b"ok"),
-        Err(refusal) => append_refusal(parts, &refusal, out),
+        Err(refusal) => {
+            let answer = append_refusal(parts, &refusal, out);
+            refusal.release();
+            answer
+        }
     }
 }
 

@@ -56,9 +56,9 @@ pub(crate) fn are_reported(alloc: Global, reported: Reported, rows: &[&str]) -> 
 
 // Whether the outcome is reported so.
 fn is_reported(alloc: Global, outcome: Outcome, lines: &str) -> bool {
-    // An array lets go of what it holds by a call, so that the drop of an outcome is proved once and part by part.
-    let held = [outcome];
-    are_lines(alloc, &held[0], lines)
+    let are = are_lines(alloc, &outcome, lines);
+    outcome.release();
+    are
 }
 
 // Whether these are the lines of the outcome.

@@ -79,8 +79,16 @@ fn append_host(
     out: &mut Vec<u8>,
 ) -> Result<(), AllocError> {
     match resolve_host(alloc, spec) {
-        Ok(host) => append_tested(alloc, tested, &host, out),
-        Err(refusal) => append_refusal(&refusal, out),
+        Ok(host) => {
+            let answer = append_tested(alloc, tested, &host, out);
+            host.release();
+            answer
+        }
+        Err(refusal) => {
+            let answer = append_refusal(&refusal, out);
+            refusal.release();
+            answer
+        }
     }
 }
 
@@ -91,8 +99,15 @@ fn is_answer_to_host(alloc: Global, tested: Tested, spec: &Spec, answer: &str) -
 
 fn host_text_gets(alloc: Global, tested: Tested, text: &[u8], answer: &str) -> bool {
     match read_spec(alloc, text) {
-        Ok(spec) => is_answer_to_host(alloc, tested, &spec, answer),
-        Err(_) => false,
+        Ok(spec) => {
+            let answer = is_answer_to_host(alloc, tested, &spec, answer);
+            spec.release();
+            answer
+        }
+        Err(refusal) => {
+            refusal.release();
+            false
+        }
     }
 }
 
@@ -122,8 +137,16 @@ fn append_extension(
     requires { host.now.attributes.extensions ≡ [] }
 {
     match resolve_extension(alloc, host, spec) {
-        Ok(extension) => append_tested(alloc, tested, &extension, out),
-        Err(refusal) => append_refusal(&refusal, out),
+        Ok(extension) => {
+            let answer = append_tested(alloc, tested, &extension, out);
+            extension.release();
+            answer
+        }
+        Err(refusal) => {
+            let answer = append_refusal(&refusal, out);
+            refusal.release();
+            answer
+        }
     }
 }
 
@@ -151,8 +174,15 @@ fn extension_text_gets(
     requires { host.now.attributes.extensions ≡ [] }
 {
     match read_spec(alloc, text) {
-        Ok(spec) => is_answer_to_extension(alloc, tested, host, &spec, answer),
-        Err(_) => false,
+        Ok(spec) => {
+            let answer = is_answer_to_extension(alloc, tested, host, &spec, answer);
+            spec.release();
+            answer
+        }
+        Err(refusal) => {
+            refusal.release();
+            false
+        }
     }
 }
 
@@ -177,15 +207,29 @@ fn all_get(alloc: Global, asked: &Asked, host: &Resolved, rows: &[Row]) -> bool
 
 fn all_get_with(alloc: Global, asked: &Asked, spec: &Spec, rows: &[Row]) -> bool {
     match resolve_host(alloc, spec) {
-        Ok(host) => all_get(alloc, asked, &host, rows),
-        Err(_) => false,
+        Ok(host) => {
+            let answer = all_get(alloc, asked, &host, rows);
+            host.release();
+            answer
+        }
+        Err(refusal) => {
+            refusal.release();
+            false
+        }
     }
 }
 
 // Whether each extension of the host gets its answer.
 pub(crate) fn extensions_get(alloc: Global, asked: &Asked, host: &str, rows: &[Row]) -> bool {
     match read_spec(alloc, host.as_bytes()) {
-        Ok(spec) => all_get_with(alloc, asked, &spec, rows),
-        Err(_) => false,
+        Ok(spec) => {
+            let answer = all_get_with(alloc, asked, &spec, rows);
+            spec.release();
+            answer
+        }
+        Err(refusal) => {
+            refusal.release();
+            false
+        }
     }
 }

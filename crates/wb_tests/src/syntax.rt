@@ -14,7 +14,9 @@ fn is_printed(alloc: Global, spec: &Spec, text: &[u8]) -> Result<bool, AllocErro
 // Whether it is that of a copy.
 fn is_copy_printed(alloc: Global, spec: &Spec, text: &[u8]) -> Result<bool, AllocError> {
     let copy = spec.copy()?;
-    is_printed(alloc, &copy, text)
+    let is = is_printed(alloc, &copy, text);
+    copy.release();
+    is
 }
 
 // Whether a specification and its copy have one canonical text.
@@ -26,8 +28,15 @@ fn is_copied(alloc: Global, spec: &Spec) -> Result<bool, AllocError> {
 // Whether the specification of a text and its copy have one.
 fn is_text_copied(alloc: Global, text: &str) -> bool {
     match read_spec(alloc, text.as_bytes()) {
-        Ok(spec) => matches!(is_copied(alloc, &spec), Ok(true)),
-        Err(_) => false,
+        Ok(spec) => {
+            let is = matches!(is_copied(alloc, &spec), Ok(true));
+            spec.release();
+            is
+        }
+        Err(refusal) => {
+            refusal.release();
+            false
+        }
     }
 }
 
