@@ -1,15 +1,14 @@
 -- The report of extensions comes after the checks of their host, and a run that stops at one of them, or at a text after them, has its cause.
 use Rattle.std.proofs.Common.{◌≡◌, ◌≤◌, ◌++◌, inl, inr, ℕ, List, [], ◌∷◌, Option, length, subst}
 use Rattle.wb_hosts.specs.Contents.{IsHostText, IsHostRefusal}
-use Rattle.wb_hosts.specs.declared.refusal.HostRefusal.{HostRefusal}
 use Rattle.wb_operations.specs.Operations.{OperationSignature}
 use Rattle.wb_resolved.specs.declared.resolved.ResolvedParts.{ResolvedParts}
 use Rattle.wb_world.specs.Shelf.{Files}
 use Rattle.wb_inputs.specs.Checks.{Report}
-use Rattle.wb_inputs.specs.Files.{KnownFile, KnownAbsent}
+use Rattle.wb_inputs.specs.Files.{KnownAbsent}
 use Rattle.wb_inputs.specs.Reads.{IsMissing, IsFaulty, StopsComposed, StopsEach, StopsThen}
 use Rattle.wb_inputs.specs.SeveralChecks.{AreEach, EachChecks, IsNext, SeveralChecks}
-use Rattle.wb_inputs.specs.HostChecks.{IsHostFile, RefusedHost}
+use Rattle.wb_inputs.specs.HostChecks.{IsHostFile, RefusesHost}
 use Rattle.wb_inputs.specs.Stopped.{Outside, Stopped, GoesOn}
 use Rattle.wb_inputs.specs.declared.reading.ReadFailure.{ReadFailure}
 use Rattle.wb_inputs.specs.declared.reading.ReadFailure.TheVariants.{Absent, ReadFault, NoMemory}
@@ -26,14 +25,13 @@ several_certified operations known host all rest r status bytes few is report = 
 
 -- another file has that of its refusal
 pub several_refused : (operations : List OperationSignature) (known : Option Files) (host : List ℕ) (all : List (List ℕ))
-    (rest : ResolvedParts → List ResolvedParts → Report) (refusal : HostRefusal) (status : Status) (bytes : List ℕ) → length all ≤ 64
-    → KnownFile known host (λ contents. IsHostRefusal operations contents refusal) → RefusedHost host refusal status bytes
-    → SeveralChecks operations known host all rest status bytes
-several_refused operations known host all rest refusal status bytes few cause shown =
+    (rest : ResolvedParts → List ResolvedParts → Report) (status : Status) (bytes : List ℕ) → length all ≤ 64
+    → RefusesHost (IsHostRefusal operations) known host status bytes → SeveralChecks operations known host all rest status bytes
+several_refused operations known host all rest status bytes few refused =
     inr (
       few,
       refused_checks (IsHostText operations) (IsHostRefusal operations) known host
-          (λ r. EachChecks operations known r all (rest r)) refusal status bytes cause shown,
+          (λ r. EachChecks operations known r all (rest r)) status bytes refused,
     )
 
 -- a run that stops later for a reason stops for it since it began

@@ -11,7 +11,7 @@ use Rattle.wb_report.specs.declared.spec_reason.SpecReason.TheVariants as t
 use Rattle.wb_resolved.specs.declared.resolved.ResolvedParts.{ResolvedParts}
 use Rattle.wb_world.specs.Shelf.{Files}
 use Rattle.wb_inputs.specs.Checks.{Report, Check}
-use Rattle.wb_inputs.specs.HostChecks.{HostChecks, RefusedHost}
+use Rattle.wb_inputs.specs.HostChecks.{HostChecks, RefusedHost, RefusesHost}
 use Rattle.wb_inputs.specs.Files.{FileIs, KnownFile}
 use Rattle.wb_inputs.specs.Texts.{IsText, IsTooLongText, ReadText}
 use Rattle.wb_inputs.specs.Contents.{ContentsAre, KnownIs, ReadIs}
@@ -51,16 +51,22 @@ pub too_long_ill_defined : (operations : List OperationSignature) (contents : Li
     → IsWellDefinedTextRefusal operations contents (h.Specification (r.Specification t.TooLong))
 too_long_ill_defined operations contents long = inl (record { refusal = s.TooLong; cause = long; shows = refl })
 
--- a refused host has the report of its refusal
-pub refused_checks : (IsHost : List ℕ → ResolvedParts → Type 0) (IsRefused : List ℕ → HostRefusal → Type 0) (known : Option Files)
-    (file : List ℕ) (rest : ResolvedParts → Report) (refusal : HostRefusal) (status : Status) (bytes : List ℕ)
-    → KnownFile known file (λ contents. IsRefused contents refusal) → RefusedHost file refusal status bytes
-    → HostChecks IsHost IsRefused known file rest status bytes
-refused_checks IsHost IsRefused known file rest (h.Specification shown) status bytes cause (ends, line) =
+-- a refused host ends the run by its refusal
+pub refuses_host : (IsRefused : List ℕ → HostRefusal → Type 0) (known : Option Files) (file : List ℕ) (refusal : HostRefusal)
+    (status : Status) (bytes : List ℕ) → KnownFile known file (λ contents. IsRefused contents refusal)
+    → RefusedHost file refusal status bytes → RefusesHost IsRefused known file status bytes
+refuses_host IsRefused known file (h.Specification shown) status bytes cause (ends, line) =
     inl (ends, record { shown = shown; cause = cause; line = line })
-refused_checks IsHost IsRefused known file rest (h.Certification shown) status bytes cause (ends, line) =
-    inr (inl (ends, record { shown = shown; cause = cause; line = line }))
-refused_checks IsHost IsRefused known file rest (h.NoMemory error) status bytes cause none_shown = absurd none_shown
+refuses_host IsRefused known file (h.Certification shown) status bytes cause (ends, line) =
+    inr (ends, record { shown = shown; cause = cause; line = line })
+refuses_host IsRefused known file (h.NoMemory error) status bytes cause none_shown = absurd none_shown
+
+-- and that is its report
+pub refused_checks : (IsHost : List ℕ → ResolvedParts → Type 0) (IsRefused : List ℕ → HostRefusal → Type 0) (known : Option Files)
+    (file : List ℕ) (rest : ResolvedParts → Report) (status : Status) (bytes : List ℕ) → RefusesHost IsRefused known file status bytes
+    → HostChecks IsHost IsRefused known file rest status bytes
+refused_checks IsHost IsRefused known file rest status bytes (inl is) = inl is
+refused_checks IsHost IsRefused known file rest status bytes (inr is) = inr (inl is)
 
 -- the report of what was read is that of the file
 pub text_checks : (known : Option Files) (file : List ℕ) (rest : List ℕ → Report) (contents : Contents) (status : Status) (bytes : List ℕ)

@@ -23,6 +23,12 @@ pub record RefusesContents (IsRefused : List ℕ → HostRefusal → Type 0) (kn
   pub cause : KnownFile known file (λ contents. IsRefused contents (Sort shown))
   pub line : bytes ≡ report_of (o.Refused file shown)
 
+-- the file is no such host: the status of the sort of its refusal, and the line that says why
+abbrev pub RefusesHost : (List ℕ → HostRefusal → Type 0) → Option Files → List ℕ → Report
+RefusesHost IsRefused known file status bytes =
+    Ends SpecRefused (RefusesContents IsRefused known file h.Specification) status bytes
+    ⊎ Ends NotCertified (RefusesContents IsRefused known file h.Certification) status bytes
+
 -- the host, by which contents are one and why they aren't: a rule of specifications fails, or one of certification, or it is one and the
 -- rest speaks of its value
 abbrev pub HostChecks : (List ℕ → ResolvedParts → Type 0) → (List ℕ → HostRefusal → Type 0) → Option Files → List ℕ

@@ -9,7 +9,7 @@ ghost use Rattle.wb_hosts.specs.Contents.{IsHostText, IsHostRefusal};
 ghost use Rattle.wb_hosts.specs.WellDefined.{IsWellDefinedText, IsWellDefinedTextRefusal};
 ghost use Rattle.wb_inputs.specs.Contents.{ReadIs};
 ghost use Rattle.wb_inputs.specs.Files.{KnownFile};
-ghost use Rattle.wb_inputs.specs.HostChecks.{IsHostFile, IsWellDefinedFile, RefusedHost};
+ghost use Rattle.wb_inputs.specs.HostChecks.{IsHostFile, IsWellDefinedFile, RefusedHost, RefusesHost};
 ghost use Rattle.wb_inputs.specs.Stopped.{outside, Stopped, GoesOn};
 
 use crate::answer::{Answer, reported};
@@ -24,8 +24,51 @@ use wb_report::{Outcome, Refusal, SpecReason};
 use wb_resolved::Resolved;
 use wb_world::Shelf;
 
-/// Reads and certifies the host of a file.
-pub fn certified_of<S: Shelf, M: Meaning>(
+/// The certified host of a file, or the answer where the file is none.
+pub fn read_host<S: Shelf, M: Meaning>(
+    alloc: Global,
+    shelf: &mut S,
+    file: &str,
+    operations: &OperationTable<M>,
+) -> Result<Result<CertifiedHost, Answer>, ReadFailure>
+    ensures ok { IfOk result (λ read. IfOk read (λ host. IsHostFile operations.now.signatures (S.files shelf.old) file.now host.resolved)) }
+    ensures operations { IfOk result (λ read. IfOk read (λ host. host.operations ≡ operations.now.signatures)) }
+    ensures refused { IfOk result (λ read. IfErr read (λ answer. RefusesHost (IsHostRefusal operations.now.signatures) (S.files shelf.old) file.now answer.status answer.report.items)) }
+    ensures stopped { IfErr result (Stopped (outside (S.files shelf.old) (S.absences shelf.old) (S.faults shelf.old))
+        (outside (S.files shelf.new) (S.absences shelf.new) (S.faults shelf.new)) (λ P. P file.now)) }
+    ensures goes_on { GoesOn (outside (S.files shelf.old) (S.absences shelf.old) (S.faults shelf.old))
+        (outside (S.files shelf.new) (S.absences shelf.new) (S.faults shelf.new)) }
+{
+    let word = Bytes::from_slice(alloc, file.as_bytes())?;
+    match certified_of(alloc, shelf, file, operations)? {
+        Ok(host) => Ok(Ok(host)),
+        Err(refusal) => Ok(Err(refused_host(alloc, word, refusal)?)),
+    }
+}
+
+/// The host of a file, whose attributes are well defined, or the answer where the file is none.
+pub fn read_well_defined<S: Shelf, M: Meaning>(
+    alloc: Global,
+    shelf: &mut S,
+    file: &str,
+    operations: &OperationTable<M>,
+) -> Result<Result<Resolved, Answer>, ReadFailure>
+    ensures ok { IfOk result (λ read. IfOk read (IsWellDefinedFile operations.now.signatures (S.files shelf.old) file.now)) }
+    ensures refused { IfOk result (λ read. IfErr read (λ answer. RefusesHost (IsWellDefinedTextRefusal operations.now.signatures) (S.files shelf.old) file.now answer.status answer.report.items)) }
+    ensures stopped { IfErr result (Stopped (outside (S.files shelf.old) (S.absences shelf.old) (S.faults shelf.old))
+        (outside (S.files shelf.new) (S.absences shelf.new) (S.faults shelf.new)) (λ P. P file.now)) }
+    ensures goes_on { GoesOn (outside (S.files shelf.old) (S.absences shelf.old) (S.faults shelf.old))
+        (outside (S.files shelf.new) (S.absences shelf.new) (S.faults shelf.new)) }
+{
+    let word = Bytes::from_slice(alloc, file.as_bytes())?;
+    match well_defined_of(alloc, shelf, file, operations)? {
+        Ok(host) => Ok(Ok(host)),
+        Err(refusal) => Ok(Err(refused_host(alloc, word, refusal)?)),
+    }
+}
+
+// Reads and certifies the host of a file.
+fn certified_of<S: Shelf, M: Meaning>(
     alloc: Global,
     shelf: &mut S,
     file: &str,
@@ -62,8 +105,8 @@ fn host_in<M: Meaning>(
     }
 }
 
-/// Reads the host of a file, whose attributes are well defined.
-pub fn well_defined_of<S: Shelf, M: Meaning>(
+// Reads the host of a file, whose attributes are well defined.
+fn well_defined_of<S: Shelf, M: Meaning>(
     alloc: Global,
     shelf: &mut S,
     file: &str,
@@ -98,8 +141,8 @@ fn well_defined_in<M: Meaning>(
     }
 }
 
-/// The answer for a file that is no such host.
-pub fn refused_host(alloc: Global, file: Bytes, refusal: HostRefusal) -> Result<Answer, AllocError>
+// The answer for a file that is no such host.
+fn refused_host(alloc: Global, file: Bytes, refusal: HostRefusal) -> Result<Answer, AllocError>
     ensures { IfOk result (λ answer. RefusedHost file refusal answer.status answer.report.items) }
 {
     match refusal {

@@ -10,7 +10,7 @@ mod several;
 mod status;
 
 pub use answer::{Answer, reported};
-pub use hosts::{certified_of, refused_host, well_defined_of};
+pub use hosts::{read_host, read_well_defined};
 pub use reading::{Contents, ReadFailure, read_file};
 pub use several::{MOST_EXTENSIONS, read_extensions, refused_extension};
 pub use status::Status;

@@ -4,7 +4,6 @@ use Rattle.wb_extension_files.specs.Contents.{IsExtensionText, IsExtensionRefusa
 use Rattle.wb_extension_files.specs.declared.refusal.FileRefusal.{FileRefusal}
 use Rattle.wb_extension_files.specs.declared.refusal.FileRefusal.TheVariants as f
 use Rattle.wb_hosts.specs.Contents.{IsHostText, IsHostRefusal}
-use Rattle.wb_hosts.specs.declared.refusal.HostRefusal.{HostRefusal}
 use Rattle.wb_beside.specs.Extensions.{IsOneExtension}
 use Rattle.wb_operations.specs.Operations.{OperationSignature}
 use Rattle.wb_reader.specs.declared.refusal.SpecRefusal.TheVariants as s
@@ -19,7 +18,7 @@ use Rattle.wb_words.specs.Asked as a
 use Rattle.wb_inputs.specs.Reads.{Read, file_of, certified_host, certified_extension, Passes, StopsAt, IsMissing, IsFaulty}
 use Rattle.wb_inputs.specs.Files.{KnownFile}
 use Rattle.wb_inputs.specs.ExtensionChecks.{RefusedExtension}
-use Rattle.wb_inputs.specs.HostChecks.{IsHostFile, RefusedHost}
+use Rattle.wb_inputs.specs.HostChecks.{IsHostFile, RefusesHost}
 use Rattle.wb_inputs.specs.Stopped.{Outside, Stopped, GoesOn}
 use Rattle.wb_inputs.specs.declared.reading.ReadFailure.{ReadFailure}
 use Rattle.wb_inputs.specs.declared.reading.ReadFailure.TheVariants.{Absent, ReadFault, NoMemory}
@@ -177,14 +176,13 @@ certify_reads_to operations before now host extensions failure =
 
 -- `certify` of a file that is no certified host
 pub certify_refused : (operations : List OperationSignature) (known : Option Files) (host : List ℕ) (extensions : List (List ℕ))
-    (refusal : HostRefusal) (status : Status) (bytes : List ℕ) → length extensions ≤ 64
-    → KnownFile known host (λ contents. IsHostRefusal operations contents refusal) → RefusedHost host refusal status bytes
+    (status : Status) (bytes : List ℕ) → length extensions ≤ 64 → RefusesHost (IsHostRefusal operations) known host status bytes
     → CertifyReport operations known host extensions status bytes
-certify_refused operations known host extensions refusal status bytes few cause shown =
+certify_refused operations known host extensions status bytes few refused =
     inr (
       few,
       refused_checks (IsHostText operations) (IsHostRefusal operations) known host
-          (λ r. ExtensionsReport operations known r extensions []) refusal status bytes cause shown,
+          (λ r. ExtensionsReport operations known r extensions []) status bytes refused,
     )
 
 -- `certify` of a certified host

@@ -3,7 +3,6 @@ use Rattle.std.proofs.Common.{◌≡◌, inl, inr, ℕ, List, [], Option, Some}
 use Rattle.wb_base.specs.Grammar.{GrammarView}
 use Rattle.wb_hosts.specs.Contents.{IsHostText, IsHostRefusal}
 use Rattle.wb_hosts.specs.WellDefined.{IsWellDefinedText, IsWellDefinedTextRefusal}
-use Rattle.wb_hosts.specs.declared.refusal.HostRefusal.{HostRefusal}
 use Rattle.wb_operations.specs.Operations.{OperationSignature, Operations}
 use Rattle.wb_report.specs.Lines.{report_of}
 use Rattle.wb_report.specs.declared.done.Done.TheVariants as done
@@ -14,9 +13,8 @@ use Rattle.wb_trees.specs.declared.answer.TextAnswer.{TextAnswer}
 use Rattle.wb_trees.specs.declared.answer.TextAnswer.TheVariants as a
 use Rattle.wb_world.specs.Shelf.{Files}
 use Rattle.wb_inputs.specs.Checks.{Ends, Check}
-use Rattle.wb_inputs.specs.Files.{KnownFile}
 use Rattle.wb_inputs.specs.Texts.{IsText, IsTooLongText}
-use Rattle.wb_inputs.specs.HostChecks.{IsHostFile, IsWellDefinedFile, RefusedHost}
+use Rattle.wb_inputs.specs.HostChecks.{IsHostFile, IsWellDefinedFile, RefusesHost}
 use Rattle.wb_inputs.specs.declared.status.Status.{Status}
 use Rattle.wb_inputs.specs.declared.status.Status.TheVariants.{Done, TextTooLong}
 use Rattle.wb_program.specs.CheckReport.{CheckReport}
@@ -41,13 +39,11 @@ pub check_done : (operations : List OperationSignature) (known : Option Files) (
 check_done operations known file r status bytes is ends line = inr (inr (r, is.contents, (ends, line)))
 
 -- `check` of another file
-pub check_refused : (operations : List OperationSignature) (known : Option Files) (file : List ℕ) (refusal : HostRefusal) (status : Status)
-    (bytes : List ℕ) → KnownFile known file (λ contents. IsHostRefusal operations contents refusal) → RefusedHost file refusal status bytes
-    → CheckReport operations known file status bytes
-check_refused operations known file refusal status bytes cause shown =
+pub check_refused : (operations : List OperationSignature) (known : Option Files) (file : List ℕ) (status : Status) (bytes : List ℕ)
+    → RefusesHost (IsHostRefusal operations) known file status bytes → CheckReport operations known file status bytes
+check_refused operations known file status bytes refused =
     refused_checks (IsHostText operations) (IsHostRefusal operations) known file
-    (λ r. Ends Done (λ line. line ≡ report_of (o.Done (done.Certified r.host [])))) refusal status bytes
-    cause shown
+    (λ r. Ends Done (λ line. line ≡ report_of (o.Done (done.Certified r.host [])))) status bytes refused
 
 -- `tree` in the language of a certified host
 pub tree_certified : (operations : List OperationSignature) (known : Option Files) (text host : List ℕ) (r : ResolvedParts)
@@ -57,13 +53,12 @@ pub tree_certified : (operations : List OperationSignature) (known : Option File
 tree_certified operations known text host r status bytes is report = inr (inr (r, is.contents, report))
 
 -- `tree` of another file
-pub tree_refused : (operations : List OperationSignature) (known : Option Files) (text host : List ℕ) (refusal : HostRefusal)
-    (status : Status) (bytes : List ℕ) → KnownFile known host (λ contents. IsHostRefusal operations contents refusal)
-    → RefusedHost host refusal status bytes → TreeReport operations known text host status bytes
-tree_refused operations known text host refusal status bytes cause shown =
+pub tree_refused : (operations : List OperationSignature) (known : Option Files) (text host : List ℕ) (status : Status)
+    (bytes : List ℕ) → RefusesHost (IsHostRefusal operations) known host status bytes → TreeReport operations known text host status bytes
+tree_refused operations known text host status bytes refused =
     refused_checks (IsHostText operations) (IsHostRefusal operations) known host
-    (λ r. Check TextTooLong (IsTooLongText known text) (IsText known text) (λ (contents : List ℕ). TextReport r contents)) refusal status
-    bytes cause shown
+    (λ r. Check TextTooLong (IsTooLongText known text) (IsText known text) (λ (contents : List ℕ). TextReport r contents)) status bytes
+    refused
 
 -- `value` in a host whose attributes are well defined
 pub value_well_defined : (operations : Operations) (known : Option Files) (host file attribute : List ℕ) (r : ResolvedParts)
@@ -74,11 +69,10 @@ pub value_well_defined : (operations : Operations) (known : Option Files) (host 
 value_well_defined operations known host file attribute r status bytes is report = inr (inr (r, is.contents, report))
 
 -- `value` of another file
-pub value_refused : (operations : Operations) (known : Option Files) (host file attribute : List ℕ) (refusal : HostRefusal)
-    (status : Status) (bytes : List ℕ)
-    → KnownFile known host (λ contents. IsWellDefinedTextRefusal operations.signatures contents refusal)
-    → RefusedHost host refusal status bytes → ValueReport operations known host file attribute status bytes
-value_refused operations known host file attribute refusal status bytes cause shown =
+pub value_refused : (operations : Operations) (known : Option Files) (host file attribute : List ℕ) (status : Status) (bytes : List ℕ)
+    → RefusesHost (IsWellDefinedTextRefusal operations.signatures) known host status bytes
+    → ValueReport operations known host file attribute status bytes
+value_refused operations known host file attribute status bytes refused =
     refused_checks (IsWellDefinedText operations.signatures) (IsWellDefinedTextRefusal operations.signatures) known host
     (λ r. Check TextTooLong (IsTooLongText known file) (IsText known file)
-    (λ (text : List ℕ). TermReport operations r.attributes file attribute text)) refusal status bytes cause shown
+    (λ (text : List ℕ). TermReport operations r.attributes file attribute text)) status bytes refused

@@ -22,8 +22,8 @@ use wb_beside::CertifiedExtension;
 use wb_certify::CertifiedHost;
 use wb_extension_files::{FileRefusal, extension_of};
 use wb_inputs::{
-    Answer, Contents, MOST_EXTENSIONS, ReadFailure, Status, certified_of, read_file,
-    refused_extension, refused_host, reported,
+    Answer, Contents, MOST_EXTENSIONS, ReadFailure, Status, read_file, read_host,
+    refused_extension, reported,
 };
 use wb_operations::{Meaning, OperationTable};
 use wb_report::{Done, Outcome, Refusal, SpecReason};
@@ -47,14 +47,13 @@ pub(crate) fn answer_certify<S: Shelf, M: Meaning>(
     if extensions.len() > MOST_EXTENSIONS {
         return Ok(reported(alloc, Status::TooManyExtensions, Outcome::TooManyExtensions)?);
     }
-    let file = Bytes::from_slice(alloc, host.as_bytes())?;
-    match certified_of(alloc, shelf, host, operations)? {
+    match read_host(alloc, shelf, host, operations)? {
         Ok(certified) => {
             let answer = answer_extensions(alloc, shelf, &certified, extensions, operations);
             certified.release();
             answer
         }
-        Err(refusal) => Ok(refused_host(alloc, file, refusal)?),
+        Err(answer) => Ok(answer),
     }
 }
 

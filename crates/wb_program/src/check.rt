@@ -11,7 +11,7 @@ ghost use Rattle.wb_program.specs.CheckReport.{CheckReport};
 use std::alloc::{AllocError, Global};
 use wb_base::{Bytes, Sequence};
 use wb_certify::CertifiedHost;
-use wb_inputs::{Answer, ReadFailure, Status, certified_of, refused_host, reported};
+use wb_inputs::{Answer, ReadFailure, Status, read_host, reported};
 use wb_operations::{Meaning, OperationTable};
 use wb_report::{Done, Outcome};
 use wb_world::Shelf;
@@ -29,10 +29,9 @@ pub(crate) fn answer_check<S: Shelf, M: Meaning>(
     ensures goes_on { GoesOn (outside (S.files shelf.old) (S.absences shelf.old) (S.faults shelf.old))
         (outside (S.files shelf.new) (S.absences shelf.new) (S.faults shelf.new)) }
 {
-    let file = Bytes::from_slice(alloc, host.as_bytes())?;
-    match certified_of(alloc, shelf, host, operations)? {
+    match read_host(alloc, shelf, host, operations)? {
         Ok(certified) => Ok(certified_answer(alloc, certified)?),
-        Err(refusal) => Ok(refused_host(alloc, file, refusal)?),
+        Err(answer) => Ok(answer),
     }
 }
 

@@ -21,8 +21,7 @@ use wb_beside::{CertifiedExtension, release_extensions};
 use wb_certify::CertifiedHost;
 use wb_composition::{Composed, compose};
 use wb_inputs::{
-    Answer, MOST_EXTENSIONS, ReadFailure, Status, certified_of, read_extensions, refused_host,
-    reported,
+    Answer, MOST_EXTENSIONS, ReadFailure, Status, read_extensions, read_host, reported,
 };
 use wb_operations::{Meaning, OperationTable};
 use wb_report::{Done, Outcome};
@@ -46,14 +45,13 @@ pub(crate) fn answer_compose<S: Shelf, M: Meaning>(
     if extensions.len() > MOST_EXTENSIONS {
         return Ok(reported(alloc, Status::TooManyExtensions, Outcome::TooManyExtensions)?);
     }
-    let file = Bytes::from_slice(alloc, host.as_bytes())?;
-    match certified_of(alloc, shelf, host, operations)? {
+    match read_host(alloc, shelf, host, operations)? {
         Ok(certified) => {
             let answer = compose_files(alloc, shelf, &certified, extensions, operations);
             certified.release();
             answer
         }
-        Err(refusal) => Ok(refused_host(alloc, file, refusal)?),
+        Err(answer) => Ok(answer),
     }
 }
 

@@ -13,9 +13,7 @@ ghost use Rattle.wb_program.specs.TreeReport.{ShownText, TextReport, TreeReport}
 use std::alloc::{AllocError, Global};
 use wb_base::{Bytes, FILE_LIMIT, Sequence};
 use wb_certify::CertifiedHost;
-use wb_inputs::{
-    Answer, Contents, ReadFailure, Status, certified_of, read_file, refused_host, reported,
-};
+use wb_inputs::{Answer, Contents, ReadFailure, Status, read_file, read_host, reported};
 use wb_operations::{Meaning, OperationTable};
 use wb_report::{Done, Outcome};
 use wb_trees::{TextAnswer, text_answer};
@@ -36,14 +34,13 @@ pub(crate) fn answer_tree<S: Shelf, M: Meaning>(
     ensures goes_on { GoesOn (outside (S.files shelf.old) (S.absences shelf.old) (S.faults shelf.old))
         (outside (S.files shelf.new) (S.absences shelf.new) (S.faults shelf.new)) }
 {
-    let file = Bytes::from_slice(alloc, host.as_bytes())?;
-    match certified_of(alloc, shelf, host, operations)? {
+    match read_host(alloc, shelf, host, operations)? {
         Ok(certified) => {
             let answer = answer_text(alloc, shelf, text, &certified);
             certified.release();
             answer
         }
-        Err(refusal) => Ok(refused_host(alloc, file, refusal)?),
+        Err(answer) => Ok(answer),
     }
 }
 

@@ -17,13 +17,13 @@ ghost use Rattle.wb_program.specs.ComposeReport.{UnitedReport, UnitedTreeReport}
 
 use crate::tree::shown_text;
 use std::alloc::{AllocError, Global};
-use wb_base::{Bytes, FILE_LIMIT};
+use wb_base::FILE_LIMIT;
 use wb_beside::{CertifiedExtension, release_extensions};
 use wb_certify::CertifiedHost;
 use wb_composition::{Composed, compose};
 use wb_inputs::{
-    Answer, Contents, MOST_EXTENSIONS, ReadFailure, Status, certified_of, read_extensions,
-    read_file, refused_host, reported,
+    Answer, Contents, MOST_EXTENSIONS, ReadFailure, Status, read_extensions, read_file, read_host,
+    reported,
 };
 use wb_operations::{Meaning, OperationTable};
 use wb_report::Outcome;
@@ -48,14 +48,13 @@ pub(crate) fn answer_united<S: Shelf, M: Meaning>(
     if extensions.len() > MOST_EXTENSIONS {
         return Ok(reported(alloc, Status::TooManyExtensions, Outcome::TooManyExtensions)?);
     }
-    let file = Bytes::from_slice(alloc, host.as_bytes())?;
-    match certified_of(alloc, shelf, host, operations)? {
+    match read_host(alloc, shelf, host, operations)? {
         Ok(certified) => {
             let answer = united_files(alloc, shelf, text, &certified, extensions, operations);
             certified.release();
             answer
         }
-        Err(refusal) => Ok(refused_host(alloc, file, refusal)?),
+        Err(answer) => Ok(answer),
     }
 }
 

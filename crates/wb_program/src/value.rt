@@ -15,9 +15,7 @@ ghost use Rattle.wb_program.specs.ValueReport.{RootReport, TermReport, ValueRepo
 
 use std::alloc::{AllocError, Global};
 use wb_base::{Bytes, FILE_LIMIT, Sequence};
-use wb_inputs::{
-    Answer, Contents, ReadFailure, Status, read_file, refused_host, reported, well_defined_of,
-};
+use wb_inputs::{Answer, Contents, ReadFailure, Status, read_file, read_well_defined, reported};
 use wb_operations::{Meaning, OperationRefusal, OperationTable};
 use wb_report::{Done, Outcome, Refusal, TermReason};
 use wb_resolved::Attribution;
@@ -47,8 +45,7 @@ pub(crate) fn answer_value<S: Shelf, M: Meaning>(
     ensures goes_on { GoesOn (outside (S.files shelf.old) (S.absences shelf.old) (S.faults shelf.old))
         (outside (S.files shelf.new) (S.absences shelf.new) (S.faults shelf.new)) }
 {
-    let file = Bytes::from_slice(alloc, host.as_bytes())?;
-    match well_defined_of(alloc, shelf, host, operations)? {
+    match read_well_defined(alloc, shelf, host, operations)? {
         Ok(resolved) => {
             let answer = answer_term(
                 alloc,
@@ -61,7 +58,7 @@ pub(crate) fn answer_value<S: Shelf, M: Meaning>(
             resolved.release();
             answer
         }
-        Err(refusal) => Ok(refused_host(alloc, file, refusal)?),
+        Err(answer) => Ok(answer),
     }
 }
 

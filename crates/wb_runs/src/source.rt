@@ -24,8 +24,7 @@ use wb_certify::CertifiedHost;
 use wb_composed_attributes::composed_attributes;
 use wb_composition::{Composed, compose};
 use wb_inputs::{
-    Answer, MOST_EXTENSIONS, ReadFailure, Status, certified_of, read_extensions, refused_host,
-    reported,
+    Answer, MOST_EXTENSIONS, ReadFailure, Status, read_extensions, read_host, reported,
 };
 use wb_operations::{Meaning, OperationRefusal, OperationTable};
 use wb_report::Outcome;
@@ -67,8 +66,7 @@ pub(crate) fn answer_source<S: Shelf, M: Meaning>(
     if extensions.len() > MOST_EXTENSIONS {
         return Ok(reported(alloc, Status::TooManyExtensions, Outcome::TooManyExtensions)?);
     }
-    let file = Bytes::from_slice(alloc, host.as_bytes())?;
-    match certified_of(alloc, shelf, host, operations)? {
+    match read_host(alloc, shelf, host, operations)? {
         Ok(certified) => {
             let answer = files_answer(
                 alloc, shelf, source, attribute, &certified, extensions, operations,
@@ -76,7 +74,7 @@ pub(crate) fn answer_source<S: Shelf, M: Meaning>(
             certified.release();
             answer
         }
-        Err(refusal) => Ok(refused_host(alloc, file, refusal)?),
+        Err(answer) => Ok(answer),
     }
 }
 

@@ -1,14 +1,14 @@
 -- Extensions are read after their host, and their report comes after that host's checks.
-use Rattle.std.proofs.Common.{rules, ◌≡◌, ◌≤◌, ◌∙◌, sym, ℕ, List, [], Option, IfOk, length, map, subst, arith}
+use Rattle.std.proofs.Common.{rules, ◌≤◌, sym, [], Option, IfOk, length, map, subst, arith}
 use Rattle.wb_hosts.specs.Contents.{IsHostText, IsHostRefusal}
 use Rattle.wb_world.specs.Shelf.{Files}
 use Rattle.wb_words.specs.Words.{texts}
 use Rattle.wb_inputs.specs.Reads.{certified_extension, StopsAt}
 use Rattle.wb_inputs.specs.Files.{KnownFile}
-use Rattle.wb_inputs.specs.HostChecks.{IsHostFile, RefusedHost}
+use Rattle.wb_inputs.specs.HostChecks.{IsHostFile, RefusesHost}
 use Rattle.wb_inputs.specs.Stopped.{outside, Stopped}
 use Rattle.wb_inputs.specs.declared.answer.Answer.{Answer}
-use Rattle.wb_inputs.proofs.CauseLemmas.{goes_on_here, goes_on_twice, on_err, on_ok, some_certified}
+use Rattle.wb_inputs.proofs.CauseLemmas.{err_of, goes_on_twice, on_err, on_ok, some_certified}
 use Rattle.wb_inputs.proofs.WordLemmas.{few_texts}
 use Rattle.wb_program.specs.CertifyReport.{CertifyReport, ExtensionsReport}
 use Rattle.wb_program.specs.Inner.Extensions.{CertifyStops}
@@ -26,7 +26,7 @@ returns-in-Ok-clause-ok g c =
     let IsAnswered : Option Files → Answer → Type 0 = λ known answer.
     ExtensionsReport operations known r extensions [] answer.status answer.report.items in
     let report : IfOk c.answer_extensions-answer.result (IsAnswered files) =
-    subst (λ (known : Option Files). IfOk c.answer_extensions-answer.result (IsAnswered known)) c.certified_of.ensures.goes_on.files
+    subst (λ (known : Option Files). IfOk c.answer_extensions-answer.result (IsAnswered known)) c.read_host.ensures.goes_on.files
     c.answer_extensions-answer.ensures.ok in
     on_ok c.answer_extensions-answer.result (IsAnswered files)
     (λ answer. CertifyReport operations files c.args.host.now extensions answer.status answer.report.items)
@@ -40,8 +40,8 @@ returns-in-Ok-clause-stopped g c =
     let host = c.args.host.now in
     let extensions = texts c.args.extensions.now in
     let before = outside files (g.S.Shelf.absences c.args.shelf.now) (g.S.Shelf.faults c.args.shelf.now) in
-    let between = outside (g.S.Shelf.files c.certified_of.new.shelf) (g.S.Shelf.absences c.certified_of.new.shelf)
-    (g.S.Shelf.faults c.certified_of.new.shelf) in
+    let between = outside (g.S.Shelf.files c.read_host.new.shelf) (g.S.Shelf.absences c.read_host.new.shelf)
+    (g.S.Shelf.faults c.read_host.new.shelf) in
     let now = outside (g.S.Shelf.files c.answer_extensions-answer.new.shelf) (g.S.Shelf.absences c.answer_extensions-answer.new.shelf)
     (g.S.Shelf.faults c.answer_extensions-answer.new.shelf) in
     let few : length extensions ≤ 64 = few_texts c.args.extensions.now 64 (omega arith) in
@@ -51,34 +51,28 @@ returns-in-Ok-clause-stopped g c =
     (Stopped before now (CertifyStops operations files host extensions))
     (λ failure stopped. certify_stops_later operations before now host extensions failure few
     (some_certified operations files host c.in-Ok.certified.resolved is.contents)
-    (stops_before operations before between now (map (certified_extension host) extensions) failure c.certified_of.ensures.goes_on stopped))
+    (stops_before operations before between now (map (certified_extension host) extensions) failure c.read_host.ensures.goes_on stopped))
     (c.answer_extensions-answer.ensures.stopped host
     (subst (λ (known : Option Files). KnownFile known host (λ contents. IsHostText operations contents c.in-Ok.certified.resolved))
-    (sym c.certified_of.ensures.goes_on.files) is.contents))
+    (sym c.read_host.ensures.goes_on.files) is.contents))
 
-pub returns-in_ok-refused_host-in-Err-clause-ok : goal.returns-in_ok-refused_host-in-Err-clause-ok
-returns-in_ok-refused_host-in-Err-clause-ok g c =
+pub returns-in-Err-clause-ok : goal.returns-in-Err-clause-ok
+returns-in-Err-clause-ok g c =
     let known = g.S.Shelf.files c.args.shelf.now in
     let operations = c.args.operations.now.signatures in
     let extensions = texts c.args.extensions.now in
-    let answer = c.in_ok-refused_host-in-Err.field-0 in
     let few : length extensions ≤ 64 = few_texts c.args.extensions.now 64 (omega arith) in
-    let cause : KnownFile known c.args.host.now (λ contents. IsHostRefusal operations contents c.in-Err.refusal) = search rules in
-    let word : c.in_ok-file.file ≡ c.args.host.now = c.in_ok-file.ensures.ok ∙ c.as_bytes.ensures.value in
-    let shown : RefusedHost c.args.host.now c.in-Err.refusal answer.status answer.report.items =
-    subst (λ (file : List ℕ). RefusedHost file c.in-Err.refusal answer.status answer.report.items) word
-    c.in_ok-refused_host-in-Err.ensures in
-    certify_refused operations known c.args.host.now extensions c.in-Err.refusal answer.status answer.report.items few cause shown
-
-pub returns-in_err-file-clause-goes_on : goal.returns-in_err-file-clause-goes_on
-returns-in_err-file-clause-goes_on g c =
-    goes_on_here (outside (g.S.Shelf.files c.args.shelf.now) (g.S.Shelf.absences c.args.shelf.now) (g.S.Shelf.faults c.args.shelf.now))
+    let answer = c.in-Err.answer in
+    let refused : RefusesHost (IsHostRefusal operations) known c.args.host.now answer.status answer.report.items =
+    err_of c.in_ok-certified.field-0 answer (λ made. RefusesHost (IsHostRefusal operations) known c.args.host.now made.status made.report.items)
+    c.in-Err.is c.in_ok-certified.ensures.refused in
+    certify_refused operations known c.args.host.now extensions answer.status answer.report.items few refused
 
 pub returns-in-Ok-clause-goes_on : goal.returns-in-Ok-clause-goes_on
 returns-in-Ok-clause-goes_on g c =
     goes_on_twice (outside (g.S.Shelf.files c.args.shelf.now) (g.S.Shelf.absences c.args.shelf.now) (g.S.Shelf.faults c.args.shelf.now))
-    (outside (g.S.Shelf.files c.certified_of.new.shelf) (g.S.Shelf.absences c.certified_of.new.shelf)
-    (g.S.Shelf.faults c.certified_of.new.shelf))
+    (outside (g.S.Shelf.files c.read_host.new.shelf) (g.S.Shelf.absences c.read_host.new.shelf)
+    (g.S.Shelf.faults c.read_host.new.shelf))
     (outside (g.S.Shelf.files c.answer_extensions-answer.new.shelf) (g.S.Shelf.absences c.answer_extensions-answer.new.shelf)
     (g.S.Shelf.faults c.answer_extensions-answer.new.shelf))
-    c.certified_of.ensures.goes_on c.answer_extensions-answer.ensures.goes_on
+    c.read_host.ensures.goes_on c.answer_extensions-answer.ensures.goes_on

@@ -1,5 +1,5 @@
 -- Extensions are read after their host, and their report comes after that host's checks.
-use Rattle.std.proofs.Common.{rules, ◌≡◌, ◌≤◌, ◌∙◌, ℕ, List, Option, IfOk, length, subst, arith, IfErr}
+use Rattle.std.proofs.Common.{rules, ◌≤◌, ℕ, List, Option, IfOk, length, subst, arith, IfErr}
 use Rattle.wb_hosts.specs.Contents.{IsHostRefusal}
 use Rattle.wb_resolved.specs.declared.resolved.ResolvedParts.{ResolvedParts}
 use Rattle.wb_words.specs.Words.{texts}
@@ -8,13 +8,12 @@ use Rattle.wb_inputs.specs.Checks.{Report, Check}
 use Rattle.wb_inputs.specs.Reads.{StopsComposed, StopsThen}
 use Rattle.wb_inputs.specs.Texts.{IsText, IsTooLongText}
 use Rattle.wb_inputs.specs.declared.status.Status.TheVariants.{TextTooLong}
-use Rattle.wb_inputs.specs.Files.{KnownFile}
 use Rattle.wb_inputs.specs.SeveralChecks.{EachChecks, SeveralChecks}
-use Rattle.wb_inputs.specs.HostChecks.{IsHostFile, RefusedHost}
+use Rattle.wb_inputs.specs.HostChecks.{IsHostFile, RefusesHost}
 use Rattle.wb_inputs.specs.Stopped.{outside, Stopped}
 use Rattle.wb_inputs.specs.declared.answer.Answer.{Answer}
 use Rattle.wb_inputs.proofs.ComposeLemmas.{several_certified, several_refused, composed_later, composed_first}
-use Rattle.wb_inputs.proofs.CauseLemmas.{goes_on_here, goes_on_twice, on_err, on_ok}
+use Rattle.wb_inputs.proofs.CauseLemmas.{err_of, goes_on_twice, on_err, on_ok}
 use Rattle.wb_inputs.proofs.WordLemmas.{few_texts}
 use Rattle.wb_program.specs.ComposeReport.{UnitedReport}
 use Rattle.wb_program.proofs.united.answer_united.Goals as goal
@@ -22,7 +21,7 @@ use Rattle.wb_program.proofs.united.answer_united.Goals as goal
 pub returns-in-Ok-clause-ok : goal.returns-in-Ok-clause-ok
 returns-in-Ok-clause-ok g c =
     let files = g.S.Shelf.files c.args.shelf.now in
-    let between = g.S.Shelf.files c.certified_of.new.shelf in
+    let between = g.S.Shelf.files c.read_host.new.shelf in
     let operations = c.args.operations.now.signatures in
     let r = c.in-Ok.certified.resolved in
     let extensions = texts c.args.extensions.now in
@@ -34,7 +33,7 @@ returns-in-Ok-clause-ok g c =
     let IsAnswered : Option Files → Answer → Type 0 = λ known answer.
     EachChecks operations known r extensions (rest known r) answer.status answer.report.items in
     let report : IfOk c.united_files-answer.result (IsAnswered files) =
-    subst (λ (known : Option Files). IfOk c.united_files-answer.result (IsAnswered known)) c.certified_of.ensures.goes_on.files
+    subst (λ (known : Option Files). IfOk c.united_files-answer.result (IsAnswered known)) c.read_host.ensures.goes_on.files
     c.united_files-answer.ensures.ok in
     on_ok c.united_files-answer.result (IsAnswered files)
     (λ answer. SeveralChecks operations files c.args.host.now extensions (rest files) answer.status answer.report.items)
@@ -50,8 +49,8 @@ returns-in-Ok-clause-stopped g c =
     let r = c.in-Ok.certified.resolved in
     let extensions = texts c.args.extensions.now in
     let before = outside files (g.S.Shelf.absences c.args.shelf.now) (g.S.Shelf.faults c.args.shelf.now) in
-    let between = outside (g.S.Shelf.files c.certified_of.new.shelf) (g.S.Shelf.absences c.certified_of.new.shelf)
-    (g.S.Shelf.faults c.certified_of.new.shelf) in
+    let between = outside (g.S.Shelf.files c.read_host.new.shelf) (g.S.Shelf.absences c.read_host.new.shelf)
+    (g.S.Shelf.faults c.read_host.new.shelf) in
     let now = outside (g.S.Shelf.files c.united_files-answer.new.shelf) (g.S.Shelf.absences c.united_files-answer.new.shelf)
     (g.S.Shelf.faults c.united_files-answer.new.shelf) in
     let few : length extensions ≤ 64 = few_texts c.args.extensions.now 64 (omega arith) in
@@ -61,44 +60,38 @@ returns-in-Ok-clause-stopped g c =
     (Stopped before now (λ P. StopsComposed operations files host extensions P (λ s values. P c.args.text.now)))
     (λ failure stopped. composed_later operations before between now host extensions r (λ P s values. P c.args.text.now) failure
     (λ P Q weaker values. weaker c.args.text.now) few is
-    c.certified_of.ensures.goes_on stopped)
+    c.read_host.ensures.goes_on stopped)
     c.united_files-answer.ensures.stopped
 
-pub returns-in_ok-refused_host-in-Err-clause-ok : goal.returns-in_ok-refused_host-in-Err-clause-ok
-returns-in_ok-refused_host-in-Err-clause-ok g c =
+pub returns-in-Err-clause-ok : goal.returns-in-Err-clause-ok
+returns-in-Err-clause-ok g c =
     let known = g.S.Shelf.files c.args.shelf.now in
     let operations = c.args.operations.now.signatures in
     let extensions = texts c.args.extensions.now in
-    let answer = c.in_ok-refused_host-in-Err.field-0 in
     let few : length extensions ≤ 64 = few_texts c.args.extensions.now 64 (omega arith) in
-    let cause : KnownFile known c.args.host.now (λ contents. IsHostRefusal operations contents c.in-Err.refusal) = search rules in
-    let word : c.in_ok-file.file ≡ c.args.host.now = c.in_ok-file.ensures.ok ∙ c.as_bytes.ensures.value in
-    let shown : RefusedHost c.args.host.now c.in-Err.refusal answer.status answer.report.items =
-    subst (λ (file : List ℕ). RefusedHost file c.in-Err.refusal answer.status answer.report.items) word
-    c.in_ok-refused_host-in-Err.ensures in
+    let answer = c.in-Err.answer in
+    let refused : RefusesHost (IsHostRefusal operations) known c.args.host.now answer.status answer.report.items =
+    err_of c.in_ok-certified.field-0 answer (λ made. RefusesHost (IsHostRefusal operations) known c.args.host.now made.status made.report.items)
+    c.in-Err.is c.in_ok-certified.ensures.refused in
     several_refused operations known c.args.host.now extensions
     (λ r values.
     Check TextTooLong (IsTooLongText known c.args.text.now) (IsText known c.args.text.now)
-    (λ (text : List ℕ). UnitedReport operations r values text)) c.in-Err.refusal answer.status answer.report.items few cause shown
-
-pub returns-in_err-file-clause-goes_on : goal.returns-in_err-file-clause-goes_on
-returns-in_err-file-clause-goes_on g c =
-    goes_on_here (outside (g.S.Shelf.files c.args.shelf.now) (g.S.Shelf.absences c.args.shelf.now) (g.S.Shelf.faults c.args.shelf.now))
+    (λ (text : List ℕ). UnitedReport operations r values text)) answer.status answer.report.items few refused
 
 pub returns-in-Ok-clause-goes_on : goal.returns-in-Ok-clause-goes_on
 returns-in-Ok-clause-goes_on g c =
     goes_on_twice (outside (g.S.Shelf.files c.args.shelf.now) (g.S.Shelf.absences c.args.shelf.now) (g.S.Shelf.faults c.args.shelf.now))
-    (outside (g.S.Shelf.files c.certified_of.new.shelf) (g.S.Shelf.absences c.certified_of.new.shelf)
-    (g.S.Shelf.faults c.certified_of.new.shelf))
+    (outside (g.S.Shelf.files c.read_host.new.shelf) (g.S.Shelf.absences c.read_host.new.shelf)
+    (g.S.Shelf.faults c.read_host.new.shelf))
     (outside (g.S.Shelf.files c.united_files-answer.new.shelf) (g.S.Shelf.absences c.united_files-answer.new.shelf)
     (g.S.Shelf.faults c.united_files-answer.new.shelf))
-    c.certified_of.ensures.goes_on c.united_files-answer.ensures.goes_on
+    c.read_host.ensures.goes_on c.united_files-answer.ensures.goes_on
 
 pub returns-in_err-certified-clause-stopped : goal.returns-in_err-certified-clause-stopped
 returns-in_err-certified-clause-stopped g c =
     let before = outside (g.S.Shelf.files c.args.shelf.now) (g.S.Shelf.absences c.args.shelf.now) (g.S.Shelf.faults c.args.shelf.now) in
-    let now = outside (g.S.Shelf.files c.certified_of.new.shelf) (g.S.Shelf.absences c.certified_of.new.shelf)
-    (g.S.Shelf.faults c.certified_of.new.shelf) in
+    let now = outside (g.S.Shelf.files c.read_host.new.shelf) (g.S.Shelf.absences c.read_host.new.shelf)
+    (g.S.Shelf.faults c.read_host.new.shelf) in
     let operations = c.args.operations.now.signatures in
     let host = c.args.host.now in
     let extensions = texts c.args.extensions.now in

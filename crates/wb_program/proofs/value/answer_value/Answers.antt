@@ -1,5 +1,5 @@
 -- A term is read after its host, and its report comes after that host's checks.
-use Rattle.std.proofs.Common.{rules, ℕ, List, [], ◌∷◌, Option, IfOk, sym, subst, ◌≡◌, ◌∙◌}
+use Rattle.std.proofs.Common.{rules, ℕ, List, [], ◌∷◌, Option, IfOk, sym, subst}
 use Rattle.wb_attributes.specs.Modular.{EachProduction}
 use Rattle.wb_attributes.specs.WellDefined.{IsWellDefinedProduction}
 use Rattle.wb_operations.specs.Operations.{Operations}
@@ -8,16 +8,15 @@ use Rattle.wb_world.specs.Shelf.{Files}
 use Rattle.wb_inputs.specs.Reads.{well_defined_host, written_term, StopsAt}
 use Rattle.wb_inputs.specs.Checks.{Check}
 use Rattle.wb_inputs.specs.Texts.{IsText, IsTooLongText}
-use Rattle.wb_inputs.specs.HostChecks.{IsWellDefinedFile, RefusedHost}
+use Rattle.wb_inputs.specs.HostChecks.{IsWellDefinedFile, RefusesHost}
 use Rattle.wb_inputs.specs.Stopped.{outside, Stopped}
 use Rattle.wb_inputs.specs.declared.answer.Answer.{Answer}
 use Rattle.wb_inputs.specs.declared.status.Status.TheVariants.{TextTooLong}
-use Rattle.wb_inputs.proofs.CauseLemmas.{goes_on_here, goes_on_twice, on_err, on_ok, err_of}
+use Rattle.wb_inputs.proofs.CauseLemmas.{err_of, goes_on_twice, on_err, on_ok}
 use Rattle.wb_program.specs.ValueReport.{TermReport, ValueReport}
 use Rattle.wb_program.proofs.CauseLemmas.{stops_at_term}
 use Rattle.wb_program.proofs.HostLemmas.{value_well_defined, value_refused}
 use Rattle.wb_hosts.specs.WellDefined.{IsWellDefinedTextRefusal}
-use Rattle.wb_inputs.specs.Files.{KnownFile}
 use Rattle.wb_program.proofs.value.answer_value.Goals as goal
 
 pub answer_term-answer-requires-clause-productions : goal.answer_term-answer-requires-clause-productions
@@ -35,7 +34,7 @@ returns-in-Ok-clause-ok g c =
     let attribute = c.args.attribute.now in
     let operations : Operations = record { signatures = c.args.operations.now.signatures; meaning = g.M.Meaning.meaning } in
     let is : IsWellDefinedFile operations.signatures files c.args.host.now r = search rules in
-    let between = g.S.Shelf.files c.well_defined_of.new.shelf in
+    let between = g.S.Shelf.files c.read_well_defined.new.shelf in
     let IsAnswered : ResolvedParts → Option Files → Answer → Type 0 = λ q known answer.
     Check TextTooLong (IsTooLongText known file) (IsText known file)
     (λ (text : List ℕ). TermReport operations q.attributes file attribute text) answer.status answer.report.items in
@@ -43,7 +42,7 @@ returns-in-Ok-clause-ok g c =
     subst (λ (q : ResolvedParts). IfOk c.answer_term-answer.result
     (IsAnswered q between)) c.parts.ensures.parts c.answer_term-answer.ensures.ok in
     let report : IfOk c.answer_term-answer.result (IsAnswered r files) =
-    subst (λ (known : Option Files). IfOk c.answer_term-answer.result (IsAnswered r known)) c.well_defined_of.ensures.goes_on.files said in
+    subst (λ (known : Option Files). IfOk c.answer_term-answer.result (IsAnswered r known)) c.read_well_defined.ensures.goes_on.files said in
     on_ok c.answer_term-answer.result (IsAnswered r files)
     (λ answer. ValueReport operations files c.args.host.now file attribute answer.status answer.report.items)
     (λ answer shown. value_well_defined operations files c.args.host.now file attribute r answer.status answer.report.items is shown)
@@ -54,41 +53,33 @@ returns-in-Ok-clause-stopped g c =
     let files = g.S.Shelf.files c.args.shelf.now in
     let signatures = c.args.operations.now.signatures in
     let before = outside files (g.S.Shelf.absences c.args.shelf.now) (g.S.Shelf.faults c.args.shelf.now) in
-    let between = outside (g.S.Shelf.files c.well_defined_of.new.shelf) (g.S.Shelf.absences c.well_defined_of.new.shelf)
-    (g.S.Shelf.faults c.well_defined_of.new.shelf) in
+    let between = outside (g.S.Shelf.files c.read_well_defined.new.shelf) (g.S.Shelf.absences c.read_well_defined.new.shelf)
+    (g.S.Shelf.faults c.read_well_defined.new.shelf) in
     let now = outside (g.S.Shelf.files c.answer_term-answer.new.shelf) (g.S.Shelf.absences c.answer_term-answer.new.shelf)
     (g.S.Shelf.faults c.answer_term-answer.new.shelf) in
     let is : IsWellDefinedFile signatures files c.args.host.now c.in-Ok.resolved = search rules in
     on_err c.answer_term-answer.result (Stopped between now (λ P. P c.args.term.now))
     (Stopped before now (λ P. StopsAt signatures files P (well_defined_host c.args.host.now ∷ written_term c.args.term.now ∷ [])))
     (λ failure stopped. stops_at_term signatures before between now c.args.host.now c.args.term.now c.in-Ok.resolved failure is.contents
-    c.well_defined_of.ensures.goes_on stopped)
+    c.read_well_defined.ensures.goes_on stopped)
     c.answer_term-answer.ensures.stopped
 
 pub returns-in-Ok-clause-goes_on : goal.returns-in-Ok-clause-goes_on
 returns-in-Ok-clause-goes_on g c =
     goes_on_twice (outside (g.S.Shelf.files c.args.shelf.now) (g.S.Shelf.absences c.args.shelf.now) (g.S.Shelf.faults c.args.shelf.now))
-    (outside (g.S.Shelf.files c.well_defined_of.new.shelf) (g.S.Shelf.absences c.well_defined_of.new.shelf)
-    (g.S.Shelf.faults c.well_defined_of.new.shelf))
+    (outside (g.S.Shelf.files c.read_well_defined.new.shelf) (g.S.Shelf.absences c.read_well_defined.new.shelf)
+    (g.S.Shelf.faults c.read_well_defined.new.shelf))
     (outside (g.S.Shelf.files c.answer_term-answer.new.shelf) (g.S.Shelf.absences c.answer_term-answer.new.shelf)
     (g.S.Shelf.faults c.answer_term-answer.new.shelf))
-    c.well_defined_of.ensures.goes_on c.answer_term-answer.ensures.goes_on
+    c.read_well_defined.ensures.goes_on c.answer_term-answer.ensures.goes_on
 
-pub returns-in_err-file-clause-goes_on : goal.returns-in_err-file-clause-goes_on
-returns-in_err-file-clause-goes_on g c =
-    goes_on_here (outside (g.S.Shelf.files c.args.shelf.now) (g.S.Shelf.absences c.args.shelf.now) (g.S.Shelf.faults c.args.shelf.now))
-
-pub returns-in_ok-refused_host-in-Err-clause-ok : goal.returns-in_ok-refused_host-in-Err-clause-ok
-returns-in_ok-refused_host-in-Err-clause-ok g c =
+pub returns-in-Err-clause-ok : goal.returns-in-Err-clause-ok
+returns-in-Err-clause-ok g c =
     let known = g.S.Shelf.files c.args.shelf.now in
     let operations : Operations = record { signatures = c.args.operations.now.signatures; meaning = g.M.Meaning.meaning } in
     let host = c.args.host.now in
-    let answer = c.in_ok-refused_host-in-Err.field-0 in
-    let cause : KnownFile known host (λ contents. IsWellDefinedTextRefusal operations.signatures contents c.in-Err.refusal) =
-    err_of c.in_ok-resolved.field-0 c.in-Err.refusal (λ refusal. KnownFile known host (λ contents. IsWellDefinedTextRefusal operations.signatures contents refusal))
+    let answer = c.in-Err.answer in
+    let refused : RefusesHost (IsWellDefinedTextRefusal operations.signatures) known host answer.status answer.report.items =
+    err_of c.in_ok-resolved.field-0 answer (λ made. RefusesHost (IsWellDefinedTextRefusal operations.signatures) known host made.status made.report.items)
     c.in-Err.is c.in_ok-resolved.ensures.refused in
-    let word : c.in_ok-file.file ≡ host = c.in_ok-file.ensures.ok ∙ c.as_bytes.ensures.value in
-    let shown : RefusedHost host c.in-Err.refusal answer.status answer.report.items =
-    subst (λ (file : List ℕ). RefusedHost file c.in-Err.refusal answer.status answer.report.items) word
-    c.in_ok-refused_host-in-Err.ensures in
-    value_refused operations known host c.args.term.now c.args.attribute.now c.in-Err.refusal answer.status answer.report.items cause shown
+    value_refused operations known host c.args.term.now c.args.attribute.now answer.status answer.report.items refused

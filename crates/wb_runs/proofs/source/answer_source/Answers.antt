@@ -1,16 +1,15 @@
 -- Extensions are read after their host, and their report comes after that host's checks.
-use Rattle.std.proofs.Common.{rules, ◌≡◌, ◌≤◌, ◌∙◌, ℕ, List, Option, IfOk, length, subst, arith}
+use Rattle.std.proofs.Common.{rules, ◌≤◌, Option, IfOk, length, subst, arith}
 use Rattle.wb_hosts.specs.Contents.{IsHostRefusal}
 use Rattle.wb_operations.specs.Operations.{Operations}
 use Rattle.wb_words.specs.Words.{texts}
 use Rattle.wb_world.specs.Shelf.{Files}
-use Rattle.wb_inputs.specs.Files.{KnownFile}
-use Rattle.wb_inputs.specs.HostChecks.{IsHostFile, RefusedHost}
+use Rattle.wb_inputs.specs.HostChecks.{IsHostFile, RefusesHost}
 use Rattle.wb_inputs.specs.Reads.{StopsComposed, StopsThen}
 use Rattle.wb_inputs.specs.SeveralChecks.{EachChecks, SeveralChecks}
 use Rattle.wb_inputs.specs.Stopped.{outside, Stopped}
 use Rattle.wb_inputs.specs.declared.answer.Answer.{Answer}
-use Rattle.wb_inputs.proofs.CauseLemmas.{goes_on_here, goes_on_twice, on_err, on_ok}
+use Rattle.wb_inputs.proofs.CauseLemmas.{err_of, goes_on_twice, on_err, on_ok}
 use Rattle.wb_inputs.proofs.ComposeLemmas.{several_certified, several_refused, composed_later}
 use Rattle.wb_inputs.proofs.WordLemmas.{few_texts}
 use Rattle.wb_runs.specs.Inner.Sources.{SourceChecks, SourceEnd}
@@ -30,7 +29,7 @@ returns-in-Ok-clause-ok g c =
     EachChecks operations.signatures known r extensions (SourceChecks operations known name c.args.source r) answer.status
     answer.report.items in
     let report : IfOk c.files_answer-answer.result (IsAnswered files) =
-    subst (λ (known : Option Files). IfOk c.files_answer-answer.result (IsAnswered known)) c.certified_of.ensures.goes_on.files
+    subst (λ (known : Option Files). IfOk c.files_answer-answer.result (IsAnswered known)) c.read_host.ensures.goes_on.files
     c.files_answer-answer.ensures.ok in
     on_ok c.files_answer-answer.result (IsAnswered files)
     (λ answer. SeveralChecks operations.signatures files c.args.host.now extensions
@@ -51,8 +50,8 @@ returns-in-Ok-clause-stopped g c =
     let r = c.in-Ok.certified.resolved in
     let extensions = texts c.args.extensions.now in
     let before = outside files (g.S.Shelf.absences c.args.shelf.now) (g.S.Shelf.faults c.args.shelf.now) in
-    let between = outside (g.S.Shelf.files c.certified_of.new.shelf) (g.S.Shelf.absences c.certified_of.new.shelf)
-    (g.S.Shelf.faults c.certified_of.new.shelf) in
+    let between = outside (g.S.Shelf.files c.read_host.new.shelf) (g.S.Shelf.absences c.read_host.new.shelf)
+    (g.S.Shelf.faults c.read_host.new.shelf) in
     let now = outside (g.S.Shelf.files c.files_answer-answer.new.shelf) (g.S.Shelf.absences c.files_answer-answer.new.shelf)
     (g.S.Shelf.faults c.files_answer-answer.new.shelf) in
     let few : length extensions ≤ 64 = few_texts c.args.extensions.now 64 (omega arith) in
@@ -61,34 +60,27 @@ returns-in-Ok-clause-stopped g c =
     (Stopped between now (λ P. StopsThen operations between.files r P extensions (SourceEnd operations name source P r)))
     (Stopped before now (λ P. StopsComposed operations files host extensions P (SourceEnd operations name source P)))
     (λ failure stopped. composed_later operations before between now host extensions r (λ P. SourceEnd operations name source P) failure
-    (λ P Q weaker values. end_weaker operations name source P Q r values weaker) few is c.certified_of.ensures.goes_on stopped)
+    (λ P Q weaker values. end_weaker operations name source P Q r values weaker) few is c.read_host.ensures.goes_on stopped)
     c.files_answer-answer.ensures.stopped
 
-pub returns-in_ok-refused_host-in-Err-clause-ok : goal.returns-in_ok-refused_host-in-Err-clause-ok
-returns-in_ok-refused_host-in-Err-clause-ok g c =
+pub returns-in-Err-clause-ok : goal.returns-in-Err-clause-ok
+returns-in-Err-clause-ok g c =
     let known = g.S.Shelf.files c.args.shelf.now in
     let operations : Operations = record { signatures = c.args.operations.now.signatures; meaning = g.M.Meaning.meaning } in
     let extensions = texts c.args.extensions.now in
-    let answer = c.in_ok-refused_host-in-Err.field-0 in
     let few : length extensions ≤ 64 = few_texts c.args.extensions.now 64 (omega arith) in
-    let cause : KnownFile known c.args.host.now (λ contents. IsHostRefusal operations.signatures contents c.in-Err.refusal) =
-    search rules in
-    let word : c.in_ok-file.file ≡ c.args.host.now = c.in_ok-file.ensures.ok ∙ c.as_bytes.ensures.value in
-    let shown : RefusedHost c.args.host.now c.in-Err.refusal answer.status answer.report.items =
-    subst (λ (file : List ℕ). RefusedHost file c.in-Err.refusal answer.status answer.report.items) word
-    c.in_ok-refused_host-in-Err.ensures in
+    let answer = c.in-Err.answer in
+    let refused : RefusesHost (IsHostRefusal operations.signatures) known c.args.host.now answer.status answer.report.items =
+    err_of c.in_ok-certified.field-0 answer (λ made. RefusesHost (IsHostRefusal operations.signatures) known c.args.host.now made.status made.report.items)
+    c.in-Err.is c.in_ok-certified.ensures.refused in
     several_refused operations.signatures known c.args.host.now extensions
-    (SourceChecks operations known c.args.attribute.now c.args.source) c.in-Err.refusal answer.status answer.report.items few cause shown
-
-pub returns-in_err-file-clause-goes_on : goal.returns-in_err-file-clause-goes_on
-returns-in_err-file-clause-goes_on g c =
-    goes_on_here (outside (g.S.Shelf.files c.args.shelf.now) (g.S.Shelf.absences c.args.shelf.now) (g.S.Shelf.faults c.args.shelf.now))
+    (SourceChecks operations known c.args.attribute.now c.args.source) answer.status answer.report.items few refused
 
 pub returns-in-Ok-clause-goes_on : goal.returns-in-Ok-clause-goes_on
 returns-in-Ok-clause-goes_on g c =
     goes_on_twice (outside (g.S.Shelf.files c.args.shelf.now) (g.S.Shelf.absences c.args.shelf.now) (g.S.Shelf.faults c.args.shelf.now))
-    (outside (g.S.Shelf.files c.certified_of.new.shelf) (g.S.Shelf.absences c.certified_of.new.shelf)
-    (g.S.Shelf.faults c.certified_of.new.shelf))
+    (outside (g.S.Shelf.files c.read_host.new.shelf) (g.S.Shelf.absences c.read_host.new.shelf)
+    (g.S.Shelf.faults c.read_host.new.shelf))
     (outside (g.S.Shelf.files c.files_answer-answer.new.shelf) (g.S.Shelf.absences c.files_answer-answer.new.shelf)
     (g.S.Shelf.faults c.files_answer-answer.new.shelf))
-    c.certified_of.ensures.goes_on c.files_answer-answer.ensures.goes_on
+    c.read_host.ensures.goes_on c.files_answer-answer.ensures.goes_on
