@@ -11,7 +11,8 @@ use Rattle.wb_report.specs.declared.spec_reason.SpecReason.TheVariants as t
 use Rattle.wb_resolved.specs.declared.resolved.ResolvedParts.{ResolvedParts}
 use Rattle.wb_world.specs.Shelf.{Files}
 use Rattle.wb_inputs.specs.Checks.{Report, Check}
-use Rattle.wb_inputs.specs.HostChecks.{HostChecks, RefusedHost, RefusesHost}
+use Rattle.wb_inputs.specs.HostChecks.{HostChecks, RefusesHost}
+use Rattle.wb_inputs.specs.Inner.Hosts.{RefusedHost}
 use Rattle.wb_inputs.specs.Files.{FileIs, KnownFile}
 use Rattle.wb_inputs.specs.Texts.{IsText, IsTooLongText, ReadText}
 use Rattle.wb_inputs.specs.Contents.{ContentsAre, KnownIs, ReadIs}

@@ -56,9 +56,3 @@ pub record IsWellDefinedFile (operations : List OperationSignature) (known : Opt
     : Type 0 where
   pub well_defined : HasWellDefinedAttributes r operations
   pub contents : KnownFile known file (λ contents. IsWellDefinedText operations contents r)
-
--- a refused host: the status of its sort, and the line that says why; want of memory has no line
-abbrev pub RefusedHost : List ℕ → HostRefusal → Report
-RefusedHost file (h.Specification shown) = Ends SpecRefused (λ bytes. bytes ≡ report_of (o.Refused file shown))
-RefusedHost file (h.Certification shown) = Ends NotCertified (λ bytes. bytes ≡ report_of (o.Refused file shown))
-RefusedHost file (h.NoMemory error) = λ status bytes. ⊥

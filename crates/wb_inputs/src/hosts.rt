@@ -9,7 +9,8 @@ ghost use Rattle.wb_hosts.specs.Contents.{IsHostText, IsHostRefusal};
 ghost use Rattle.wb_hosts.specs.WellDefined.{IsWellDefinedText, IsWellDefinedTextRefusal};
 ghost use Rattle.wb_inputs.specs.Contents.{ReadIs};
 ghost use Rattle.wb_inputs.specs.Files.{KnownFile};
-ghost use Rattle.wb_inputs.specs.HostChecks.{IsHostFile, IsWellDefinedFile, RefusedHost, RefusesHost};
+ghost use Rattle.wb_inputs.specs.HostChecks.{IsHostFile, IsWellDefinedFile, RefusesHost};
+ghost use Rattle.wb_inputs.specs.Inner.Hosts.{RefusedHost};
 ghost use Rattle.wb_inputs.specs.Stopped.{outside, Stopped, GoesOn};
 
 use crate::answer::{Answer, reported};
