@@ -1,6 +1,7 @@
 //! What does a base declare?
 //!
-//! Its numbers are turned into names again, so that rules compare what is there with what a file writes. What items declare is in `items`.
+//! Its numbers are turned into names again, so that rules compare what is there with what a file writes: those that name nothing into the
+//! empty name, which is made once and lent. What items declare is in `items`.
 
 ghost use Rattle.std.specs.Prelude.{◌≡◌, ◌++◌, ◌∷◌, [], OnOk, IfOk, map, flat_map};
 ghost use Rattle.wb_resolved.specs.declared.attributes.Attribute.{Attribute};
@@ -15,7 +16,7 @@ ghost use Rattle.wb_naming.specs.declared.declaration.Labelled.TheVariants as la
 ghost use Rattle.wb_naming.specs.declared.declaration.Sort.TheVariants as sort;
 ghost use Rattle.wb_naming.specs.Declares as spec;
 
-use crate::items::{add_attribute, add_equation, add_label, add_left, add_symbol};
+use crate::items::{add_attribute, add_equation, add_label, add_left, add_occurrence, add_symbol};
 use std::alloc::AllocError;
 use wb_base::{Bytes, Kind, push};
 use wb_naming::{Declaration, Labelled, Site, Sort};
@@ -31,20 +32,28 @@ pub fn add_base_declarations(
 ) -> Result<(), AllocError>
     ensures { OnOk result (out.new.items ≡ out.old.items ++ spec.base_declarations base.now) }
 {
-    add_names(base, out)?;
-    let attributes = base.attributes.parts();
-    add_occurrences(base, attributes.occurrences.as_slice(), out)?;
-    add_productions(base, attributes.productions.as_slice(), out)
-}
-
-// Adds the names beside its productions.
-fn add_names(base: &ResolvedParts, out: &mut Vec<Declaration>) -> Result<(), AllocError>
-    ensures { OnOk result (out.new.items ≡ out.old.items ++ spec.base_names base.now) }
-{
     let attributes = base.attributes.parts();
     add_terminals(base.terminals.as_slice(), out)?;
     add_nonterminals(attributes.nonterminals.as_slice(), out)?;
-    add_attributes(attributes.attributes.as_slice(), out)
+    add_attributes(attributes.attributes.as_slice(), out)?;
+    let unnamed = Bytes::empty();
+    let answer = add_numbered(base, &unnamed, out);
+    drop(unnamed);
+    answer
+}
+
+// Adds what is declared by numbers: the occurrences, and what productions declare.
+fn add_numbered(
+    base: &ResolvedParts,
+    unnamed: &Bytes,
+    out: &mut Vec<Declaration>,
+) -> Result<(), AllocError>
+    requires { unnamed.now ≡ [] }
+    ensures { OnOk result (out.new.items ≡ out.old.items ++ (map (λ (x : Occurrence). d.Occurrence (spec.attribute_name base.now x.attribute) (spec.nonterminal_name base.now x.nonterminal)) base.now.attributes.occurrences ++ flat_map (spec.production_declarations base.now) base.now.attributes.productions)) }
+{
+    let attributes = base.attributes.parts();
+    add_occurrences(base, unnamed, attributes.occurrences.as_slice(), out)?;
+    add_productions(base, unnamed, attributes.productions.as_slice(), out)
 }
 
 // Adds the terminals, layout and markers.
@@ -94,76 +103,66 @@ fn add_attributes(attributes: &[Attribute], out: &mut Vec<Declaration>) -> Resul
 // Adds the occurrences.
 fn add_occurrences(
     base: &ResolvedParts,
+    unnamed: &Bytes,
     occurrences: &[Occurrence],
     out: &mut Vec<Declaration>,
 ) -> Result<(), AllocError>
+    requires { unnamed.now ≡ [] }
     ensures { OnOk result (out.new.items ≡ out.old.items ++ map (λ (x : Occurrence). d.Occurrence (spec.attribute_name base.now x.attribute) (spec.nonterminal_name base.now x.nonterminal)) occurrences.now) }
 {
     'occurrences: for occurrence in occurrences {
-        add_occurrence(base, occurrence, out)?;
+        let attribute = attribute_name(base, unnamed, occurrence.attribute);
+        let nonterminal = nonterminal_name(base, unnamed, occurrence.nonterminal);
+        add_occurrence(attribute, nonterminal, out)?;
     }
     Ok(())
 }
 
-// Adds what an occurrence declares.
-fn add_occurrence(
-    base: &ResolvedParts,
-    occurrence: &Occurrence,
-    out: &mut Vec<Declaration>,
-) -> Result<(), AllocError>
-    ensures { OnOk result (out.new.items ≡ out.old.items ++ d.Occurrence (spec.attribute_name base.now occurrence.now.attribute) (spec.nonterminal_name base.now occurrence.now.nonterminal) ∷ []) }
-{
-    let attribute = attribute_name(base, occurrence.attribute)?;
-    let nonterminal = nonterminal_name(base, occurrence.nonterminal)?;
-    push(
-        out,
-        Declaration::Occurrence {
-            attribute,
-            nonterminal,
-        },
-    )
-}
-
 // The name of the terminal of a number; none has the empty name.
-fn terminal_name(base: &ResolvedParts, number: usize) -> Result<Bytes, AllocError>
-    ensures { IfOk result (λ name. name ≡ spec.terminal_name base.now number) }
+fn terminal_name<'a>(base: &'a ResolvedParts, unnamed: &'a Bytes, number: usize) -> &'a Bytes
+    requires { unnamed.now ≡ [] }
+    ensures { result.now ≡ spec.terminal_name base.now number }
 {
     match base.terminals.as_slice().get(number) {
-        Some(terminal) => terminal.name.copy(),
-        None => Ok(Bytes::empty()),
+        Some(terminal) => &terminal.name,
+        None => unnamed,
     }
 }
 
 // The name of the nonterminal of a number.
-fn nonterminal_name(base: &ResolvedParts, number: usize) -> Result<Bytes, AllocError>
-    ensures { IfOk result (λ name. name ≡ spec.nonterminal_name base.now number) }
+fn nonterminal_name<'a>(base: &'a ResolvedParts, unnamed: &'a Bytes, number: usize) -> &'a Bytes
+    requires { unnamed.now ≡ [] }
+    ensures { result.now ≡ spec.nonterminal_name base.now number }
 {
     match base.attributes.parts().nonterminals.as_slice().get(number) {
-        Some(nonterminal) => nonterminal.name.copy(),
-        None => Ok(Bytes::empty()),
+        Some(nonterminal) => &nonterminal.name,
+        None => unnamed,
     }
 }
 
 // The name of the attribute of a number.
-fn attribute_name(base: &ResolvedParts, number: usize) -> Result<Bytes, AllocError>
-    ensures { IfOk result (λ name. name ≡ spec.attribute_name base.now number) }
+fn attribute_name<'a>(base: &'a ResolvedParts, unnamed: &'a Bytes, number: usize) -> &'a Bytes
+    requires { unnamed.now ≡ [] }
+    ensures { result.now ≡ spec.attribute_name base.now number }
 {
     match base.attributes.parts().attributes.as_slice().get(number) {
-        Some(attribute) => attribute.name.copy(),
-        None => Ok(Bytes::empty()),
+        Some(attribute) => &attribute.name,
+        None => unnamed,
     }
 }
 
 // Adds what productions declare.
 fn add_productions(
     base: &ResolvedParts,
+    unnamed: &Bytes,
     productions: &[Production],
     out: &mut Vec<Declaration>,
 ) -> Result<(), AllocError>
+    requires { unnamed.now ≡ [] }
     ensures { OnOk result (out.new.items ≡ out.old.items ++ flat_map (spec.production_declarations base.now) productions.now) }
 {
     'productions: for production in productions {
-        add_production(base, production, out)?;
+        add_production(base, unnamed, production, out)?;
     }
     Ok(())
 }
@@ -171,66 +170,72 @@ fn add_productions(
 // Adds what a production declares.
 fn add_production(
     base: &ResolvedParts,
+    unnamed: &Bytes,
     production: &Production,
     out: &mut Vec<Declaration>,
 ) -> Result<(), AllocError>
+    requires { unnamed.now ≡ [] }
     ensures { OnOk result (out.new.items ≡ out.old.items ++ spec.production_declarations base.now production.now) }
 {
     add_symbol(&production.name, Sort::Production, out)?;
-    add_left_name(base, production, out)?;
-    add_labels(base, production, out)?;
+    add_left(
+        &production.name,
+        nonterminal_name(base, unnamed, production.left),
+        out,
+    )?;
+    add_children(
+        base,
+        unnamed,
+        &production.name,
+        production.children.as_slice(),
+        out,
+    )?;
+    add_locals(
+        base,
+        unnamed,
+        &production.name,
+        production.locals.as_slice(),
+        out,
+    )?;
     add_forward(production, out)?;
-    add_equations(base, production, production.equations.as_slice(), out)
-}
-
-// Adds which nonterminal is on its left.
-fn add_left_name(
-    base: &ResolvedParts,
-    production: &Production,
-    out: &mut Vec<Declaration>,
-) -> Result<(), AllocError>
-    ensures { OnOk result (out.new.items ≡ out.old.items ++ d.Left production.now.name (spec.nonterminal_name base.now production.now.left) ∷ []) }
-{
-    let nonterminal = nonterminal_name(base, production.left)?;
-    add_left(&production.name, &nonterminal, out)
-}
-
-// Adds what its children and then its locals declare.
-fn add_labels(
-    base: &ResolvedParts,
-    production: &Production,
-    out: &mut Vec<Declaration>,
-) -> Result<(), AllocError>
-    ensures { OnOk result (out.new.items ≡ out.old.items ++ (map (λ (c : Child). d.Label production.now.name c.label (spec.base_labelled base.now c.kind)) production.now.children ++ map (λ (l : Local). d.Label production.now.name l.label (label.Local (spec.nonterminal_name base.now l.nonterminal))) production.now.locals)) }
-{
-    add_children(base, &production.name, production.children.as_slice(), out)?;
-    add_locals(base, &production.name, production.locals.as_slice(), out)
+    add_equations(
+        base,
+        unnamed,
+        production,
+        production.equations.as_slice(),
+        out,
+    )
 }
 
 // Adds what its children declare.
 fn add_children(
     base: &ResolvedParts,
+    unnamed: &Bytes,
     production: &Bytes,
     children: &[Child],
     out: &mut Vec<Declaration>,
 ) -> Result<(), AllocError>
+    requires { unnamed.now ≡ [] }
     ensures { OnOk result (out.new.items ≡ out.old.items ++ map (λ (c : Child). d.Label production.now c.label (spec.base_labelled base.now c.kind)) children.now) }
 {
     'children: for child in children {
-        let is = labelled(base, child.kind)?;
+        let is = labelled(base, unnamed, child.kind)?;
         add_label(production, &child.label, is, out)?;
     }
     Ok(())
 }
 
 // What a child is.
-fn labelled(base: &ResolvedParts, kind: ChildKind) -> Result<Labelled, AllocError>
+fn labelled(base: &ResolvedParts, unnamed: &Bytes, kind: ChildKind) -> Result<Labelled, AllocError>
+    requires { unnamed.now ≡ [] }
     ensures { IfOk result (λ made. made ≡ spec.base_labelled base.now kind) }
 {
     match kind {
-        ChildKind::Terminal(number) => Ok(Labelled::Child(terminal_name(base, number)?)),
+        ChildKind::Terminal(number) => Ok(Labelled::Child(terminal_name(
+            base, unnamed, number,
+        ).copy()?)),
         ChildKind::Value(Kind::Tree(number)) => {
-            Ok(Labelled::Child(nonterminal_name(base, number)?))
+            Ok(Labelled::Child(nonterminal_name(base, unnamed, number).copy()?))
         }
         ChildKind::Value(_) => Ok(Labelled::Plain),
     }
@@ -239,14 +244,16 @@ fn labelled(base: &ResolvedParts, kind: ChildKind) -> Result<Labelled, AllocErro
 // Adds what its locals declare.
 fn add_locals(
     base: &ResolvedParts,
+    unnamed: &Bytes,
     production: &Bytes,
     locals: &[Local],
     out: &mut Vec<Declaration>,
 ) -> Result<(), AllocError>
+    requires { unnamed.now ≡ [] }
     ensures { OnOk result (out.new.items ≡ out.old.items ++ map (λ (l : Local). d.Label production.now l.label (label.Local (spec.nonterminal_name base.now l.nonterminal))) locals.now) }
 {
     'locals: for local in locals {
-        let nonterminal = nonterminal_name(base, local.nonterminal)?;
+        let nonterminal = nonterminal_name(base, unnamed, local.nonterminal).copy()?;
         add_label(production, &local.label, Labelled::Local(nonterminal), out)?;
     }
     Ok(())
@@ -265,14 +272,16 @@ fn add_forward(production: &Production, out: &mut Vec<Declaration>) -> Result<()
 // Adds what its equations declare.
 fn add_equations(
     base: &ResolvedParts,
+    unnamed: &Bytes,
     production: &Production,
     equations: &[Equation],
     out: &mut Vec<Declaration>,
 ) -> Result<(), AllocError>
+    requires { unnamed.now ≡ [] }
     ensures { OnOk result (out.new.items ≡ out.old.items ++ map (λ (e : Equation). d.Equation production.now.name (spec.target_attribute base.now e.target) (spec.target_site production.now e.target)) equations.now) }
 {
     'equations: for equation in equations {
-        add_target(base, production, equation.target, out)?;
+        add_target(base, unnamed, production, equation.target, out)?;
     }
     Ok(())
 }
@@ -280,49 +289,57 @@ fn add_equations(
 // Adds what an equation declares, by what it is for.
 fn add_target(
     base: &ResolvedParts,
+    unnamed: &Bytes,
     production: &Production,
     target: Target,
     out: &mut Vec<Declaration>,
 ) -> Result<(), AllocError>
+    requires { unnamed.now ≡ [] }
     ensures { OnOk result (out.new.items ≡ out.old.items ++ d.Equation production.now.name (spec.target_attribute base.now target) (spec.target_site production.now target) ∷ []) }
 {
     let name = &production.name;
     match target {
-        Target::Top(attribute) => add_given(base, name, attribute, Site::Top, out),
-        Target::Place { place, attribute } => {
-            let label = label_at(production, place)?;
-            add_given(base, name, attribute, Site::Label(label), out)
+        Target::Top(attribute) => {
+            add_equation(
+                name,
+                attribute_name(base, unnamed, attribute),
+                Site::Top,
+                out,
+            )
         }
-        Target::Forward(attribute) => add_given(base, name, attribute, Site::Forward, out),
+        Target::Place { place, attribute } => {
+            let label = label_at(production, unnamed, place).copy()?;
+            add_equation(
+                name,
+                attribute_name(base, unnamed, attribute),
+                Site::Label(label),
+                out,
+            )
+        }
+        Target::Forward(attribute) => {
+            add_equation(
+                name,
+                attribute_name(base, unnamed, attribute),
+                Site::Forward,
+                out,
+            )
+        }
     }
 }
 
-// Adds that an equation of a production gives the attribute of a number.
-fn add_given(
-    base: &ResolvedParts,
-    production: &Bytes,
-    attribute: usize,
-    site: Site,
-    out: &mut Vec<Declaration>,
-) -> Result<(), AllocError>
-    ensures { OnOk result (out.new.items ≡ out.old.items ++ d.Equation production.now (spec.attribute_name base.now attribute) site ∷ []) }
-{
-    let attribute = attribute_name(base, attribute)?;
-    add_equation(production, &attribute, site, out)
-}
-
 // The label of a place of a production; none has the empty label.
-fn label_at(production: &Production, place: Place) -> Result<Bytes, AllocError>
-    ensures { IfOk result (λ made. made ≡ spec.label_at production.now place) }
+fn label_at<'a>(production: &'a Production, unnamed: &'a Bytes, place: Place) -> &'a Bytes
+    requires { unnamed.now ≡ [] }
+    ensures { result.now ≡ spec.label_at production.now place }
 {
     match place {
         Place::Child(number) => match production.children.as_slice().get(number) {
-            Some(child) => child.label.copy(),
-            None => Ok(Bytes::empty()),
+            Some(child) => &child.label,
+            None => unnamed,
         },
         Place::Local(number) => match production.locals.as_slice().get(number) {
-            Some(local) => local.label.copy(),
-            None => Ok(Bytes::empty()),
+            Some(local) => &local.label,
+            None => unnamed,
         },
     }
 }

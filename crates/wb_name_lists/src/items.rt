@@ -99,7 +99,7 @@ pub(crate) fn add_attribute(
 }
 
 // Adds that an attribute occurs on a nonterminal.
-fn add_occurrence(
+pub(crate) fn add_occurrence(
     attribute: &Bytes,
     nonterminal: &Bytes,
     out: &mut Vec<Declaration>,

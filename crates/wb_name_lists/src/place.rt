@@ -33,27 +33,17 @@ fn add_form(owner: usize, form: &ItemForm<Pattern>, out: &mut Vec<Bytes>) -> Res
     ensures { OnOk result (out.new.items ≡ out.old.items ++ spec.form_misplaced owner form.now) }
 {
     match form {
-        ItemForm::Lexical { role, name, .. } => add_marker(owner, *role, name, out),
+        ItemForm::Lexical {
+            role: Role::Marking,
+            name,
+            ..
+        } if owner == 0 => push(out, name.copy()?),
+        ItemForm::Lexical { .. } => Ok(()),
         ItemForm::Plain(_) => Ok(()),
         ItemForm::Production { role, production } => {
             add_children(*role, production.children.as_slice(), out)
         }
         ItemForm::Aspect { name, equations } => add_forwards(name, equations.as_slice(), out),
-    }
-}
-
-// Adds a marker of a host.
-fn add_marker(
-    owner: usize,
-    role: Role,
-    name: &Bytes,
-    out: &mut Vec<Bytes>,
-) -> Result<(), AllocError>
-    ensures { OnOk result (out.new.items ≡ out.old.items ++ spec.misplaced_marker owner role name.now) }
-{
-    match role {
-        Role::Marking if owner == 0 => push(out, name.copy()?),
-        _ => Ok(()),
     }
 }
 

@@ -13,7 +13,7 @@ locals-preserved c =
     c.locals.invariant c.locals-test.true c.local-item.is
     (c.in_ok-add_label.ensures
     ∙ ap (λ z. c.locals.out.items ++ d.Label c.args.production.now c.local-item.result.label (label.Local z) ∷ [])
-    c.in_ok-nonterminal.ensures)
+    (c.in_ok-nonterminal.ensures.ok ∙ c.nonterminal_name.ensures))
 
 pub returns : goal.returns
 returns c =

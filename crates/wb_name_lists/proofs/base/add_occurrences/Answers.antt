@@ -1,3 +1,4 @@
+use Rattle.std.proofs.Common.{◌++◌, ◌∷◌, [], ap, ◌∙◌}
 use Rattle.wb_resolved.specs.declared.attributes.Occurrence.{Occurrence}
 use Rattle.wb_naming.specs.declared.declaration.Declaration.TheVariants as d
 use Rattle.wb_naming.specs.Declares.{attribute_name, nonterminal_name}
@@ -10,7 +11,12 @@ occurrences-preserved c =
     (nonterminal_name c.args.base.now x.nonterminal))
     c.args.occurrences.now c.occurrences.occurrence-index c.occurrence-item.result c.args.out.now.items c.occurrences.out.items
     c.add_occurrence.new.out.items
-    c.occurrences.invariant c.occurrences-test.true c.occurrence-item.is c.in_ok-add_occurrence.ensures
+    c.occurrences.invariant c.occurrences-test.true c.occurrence-item.is
+    (c.in_ok-add_occurrence.ensures
+    ∙ (ap (λ z. c.occurrences.out.items ++ d.Occurrence z c.nonterminal_name-nonterminal.result.now ∷ [])
+    c.attribute_name-attribute.ensures
+    ∙ ap (λ z. c.occurrences.out.items ++ d.Occurrence (attribute_name c.args.base.now c.occurrence-item.result.attribute) z ∷ [])
+    c.nonterminal_name-nonterminal.ensures))
 
 pub returns : goal.returns
 returns c =

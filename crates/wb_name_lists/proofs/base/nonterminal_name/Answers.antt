@@ -1,5 +1,4 @@
-use Rattle.std.proofs.Common.{◌≡◌, List, ap, subst, slice_get, ◌∙◌}
-use Rattle.std.specs.Result.{IfOk}
+use Rattle.std.proofs.Common.{List, ap, slice_get, ◌∙◌}
 use Rattle.wb_resolved.specs.declared.attributes.Nonterminal.{Nonterminal}
 use Rattle.wb_resolved.specs.declared.attribution.AttributionParts.{AttributionParts}
 use Rattle.wb_naming.specs.Declares.{name_in}
@@ -9,13 +8,11 @@ use Rattle.wb_name_lists.proofs.base.nonterminal_name.Goals as goal
 pub returns-in-Some : goal.returns-in-Some
 returns-in-Some c =
     let same = c.as_slice.ensures ∙ ap (λ (z : AttributionParts). z.nonterminals) c.parts.ensures.parts in
-    let named = name_at (λ (x : Nonterminal). x.name) c.as_slice.result.now c.args.number c.in-Some.nonterminal.now
-    c.in-Some.ensures.lookup.0 c.in-Some.ensures.lookup.1
-    ∙ ap (λ (z : List Nonterminal). name_in (λ (x : Nonterminal). x.name) (slice_get z c.args.number)) same in
-    subst (λ z. IfOk c.copy.result (λ made. made ≡ z)) named c.copy.ensures.ok
+    name_at (λ (x : Nonterminal). x.name) c.as_slice.result.now c.args.number c.in-Some.nonterminal.now c.in-Some.ensures.lookup.0
+    c.in-Some.ensures.lookup.1 ∙ ap (λ (z : List Nonterminal). name_in (λ (x : Nonterminal). x.name) (slice_get z c.args.number)) same
 
 pub returns-in-None : goal.returns-in-None
 returns-in-None c =
     let same = c.as_slice.ensures ∙ ap (λ (z : AttributionParts). z.nonterminals) c.parts.ensures.parts in
-    c.empty.ensures ∙ (no_name_past (λ (x : Nonterminal). x.name) c.as_slice.result.now c.args.number c.in-None.ensures.lookup.0
+    c.requires ∙ (no_name_past (λ (x : Nonterminal). x.name) c.as_slice.result.now c.args.number c.in-None.ensures.lookup.0
     ∙ ap (λ (z : List Nonterminal). name_in (λ (x : Nonterminal). x.name) (slice_get z c.args.number)) same)

@@ -1,5 +1,4 @@
-use Rattle.std.proofs.Common.{◌≡◌, List, ap, subst, slice_get, ◌∙◌}
-use Rattle.std.specs.Result.{IfOk}
+use Rattle.std.proofs.Common.{List, ap, slice_get, ◌∙◌}
 use Rattle.wb_resolved.specs.declared.terminal.Terminal.{Terminal}
 use Rattle.wb_naming.specs.Declares.{name_in}
 use Rattle.wb_name_lists.proofs.ListLemmas.{name_at, no_name_past}
@@ -7,12 +6,11 @@ use Rattle.wb_name_lists.proofs.base.terminal_name.Goals as goal
 
 pub returns-in-Some : goal.returns-in-Some
 returns-in-Some c =
-    let named = name_at (λ (x : Terminal). x.name) c.as_slice.result.now c.args.number c.in-Some.terminal.now c.in-Some.ensures.lookup.0
+    name_at (λ (x : Terminal). x.name) c.as_slice.result.now c.args.number c.in-Some.terminal.now c.in-Some.ensures.lookup.0
     c.in-Some.ensures.lookup.1
-    ∙ ap (λ (z : List Terminal). name_in (λ (x : Terminal). x.name) (slice_get z c.args.number)) c.as_slice.ensures in
-    subst (λ z. IfOk c.copy.result (λ made. made ≡ z)) named c.copy.ensures.ok
+    ∙ ap (λ (z : List Terminal). name_in (λ (x : Terminal). x.name) (slice_get z c.args.number)) c.as_slice.ensures
 
 pub returns-in-None : goal.returns-in-None
 returns-in-None c =
-    c.empty.ensures ∙ (no_name_past (λ (x : Terminal). x.name) c.as_slice.result.now c.args.number c.in-None.ensures.lookup.0
+    c.requires ∙ (no_name_past (λ (x : Terminal). x.name) c.as_slice.result.now c.args.number c.in-None.ensures.lookup.0
     ∙ ap (λ (z : List Terminal). name_in (λ (x : Terminal). x.name) (slice_get z c.args.number)) c.as_slice.ensures)
