@@ -12,5 +12,11 @@ pub(crate) fn copies(first: &Bytes, second: &Bytes) -> Result<(Bytes, Bytes), Al
     ensures { IfOk result (λ made. made ≡ (first.now, second.now)) }
 {
     let first = first.copy()?;
-    Ok((first, second.copy()?))
+    match second.copy() {
+        Ok(second) => Ok((first, second)),
+        Err(error) => {
+            drop(first);
+            Err(error)
+        }
+    }
 }

@@ -190,15 +190,20 @@ pub(crate) fn add_label(
 ) -> Result<(), AllocError>
     ensures { OnOk result (out.new.items ≡ out.old.items ++ d.Label production.now label.now is ∷ []) }
 {
-    let (production, label) = copies(production, label)?;
-    push(
-        out,
-        Declaration::Label {
-            production,
-            label,
-            is,
-        },
-    )
+    match copies(production, label) {
+        Ok((production, label)) => push(
+            out,
+            Declaration::Label {
+                production,
+                label,
+                is,
+            },
+        ),
+        Err(error) => {
+            drop(is);
+            Err(error)
+        }
+    }
 }
 
 // Adds what equations on a production declare.
@@ -247,13 +252,18 @@ pub(crate) fn add_equation(
 ) -> Result<(), AllocError>
     ensures { OnOk result (out.new.items ≡ out.old.items ++ d.Equation production.now attribute.now site ∷ []) }
 {
-    let (production, attribute) = copies(production, attribute)?;
-    push(
-        out,
-        Declaration::Equation {
-            production,
-            attribute,
-            site,
-        },
-    )
+    match copies(production, attribute) {
+        Ok((production, attribute)) => push(
+            out,
+            Declaration::Equation {
+                production,
+                attribute,
+                site,
+            },
+        ),
+        Err(error) => {
+            drop(site);
+            Err(error)
+        }
+    }
 }

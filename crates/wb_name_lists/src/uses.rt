@@ -242,15 +242,20 @@ fn add_attribute(
 ) -> Result<(), AllocError>
     ensures { OnOk result (out.new.items ≡ out.old.items ++ u.Attribute production.now attribute.now site ∷ []) }
 {
-    let (production, attribute) = copies(production, attribute)?;
-    push(
-        out,
-        Usage::Attribute {
-            production,
-            attribute,
-            site,
-        },
-    )
+    match copies(production, attribute) {
+        Ok((production, attribute)) => push(
+            out,
+            Usage::Attribute {
+                production,
+                attribute,
+                site,
+            },
+        ),
+        Err(error) => {
+            drop(site);
+            Err(error)
+        }
+    }
 }
 
 // Adds the name of an attribute in its place, and then a label and the attribute of its tree.
