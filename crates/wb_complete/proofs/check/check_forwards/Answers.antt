@@ -1,0 +1,31 @@
+use Rattle.std.proofs.Common.{◌≡◌, List, Some, false, is_some, refl, slice_get, subst}
+use Rattle.wb_flow.proofs.AddingLemmas.{read_item}
+use Rattle.wb_flow.proofs.EachLemmas.{each_more, each_in}
+use Rattle.wb_complete.specs.Inner.Tests.{ForwardsWhereBridging}
+use Rattle.wb_resolved.specs.declared.production.Production.{Production}
+use Rattle.wb_complete.proofs.check.check_forwards.Goals as goal
+use Rattle.wb_complete.proofs.check.check_forwards.Goals.{else-is_none-via-then-is_none+else-is_bridging, else-is_none-via-else-is_none}
+
+pub productions-preserved : goal.productions-preserved
+productions-preserved c =
+    let items = c.as_slice-productions.result.now in
+    let p = c.index-productions-number.result in
+    each_more items (ForwardsWhereBridging c.args.scope.now.attributes.now c.args.extension) c.productions.number p
+    (read_item items c.productions.number p c.productions-test.true c.index-productions-number.is) c.productions.invariant
+    (λ bridging. elim c.else-is_none.branch [
+      | else-is_none-via-then-is_none+else-is_bridging w ↦ absurd (let bad = w.if-is_bridging.ensures.1 bridging in cc)
+      | else-is_none-via-else-is_none w ↦ w.if-is_none.ensures
+    ])
+
+pub returns-clause-ok : goal.returns-clause-ok
+returns-clause-ok c =
+    each_in c.as_slice-productions.result.now (ForwardsWhereBridging c.args.scope.now.attributes.now c.args.extension)
+    c.args.scope.now.attributes.now.productions c.as_slice-productions.ensures c.productions.number c.productions-test.false
+    c.productions.invariant
+
+pub returns-then-is_bridging-clause-refused : goal.returns-then-is_bridging-clause-refused
+returns-then-is_bridging-clause-refused c =
+    let p = c.index-productions-number.result in
+    let there = subst (λ (z : List Production). slice_get z c.productions.number ≡ Some p) c.as_slice-productions.ensures
+    (read_item c.as_slice-productions.result.now c.productions.number p c.productions-test.true c.index-productions-number.is) in
+    (p, there, c.if-is_bridging.ensures.0 refl, (λ forwards. let bad : is_some p.forward ≡ false = c.if-is_none.ensures in cc))
