@@ -1,5 +1,5 @@
 -- The tests of completeness have at most one answer, and refusals of the tests are true.
-use Rattle.std.proofs.Common.{◌≡◌, inl, inr, ℕ, Option, Some, IfSome, refl, sym, subst}
+use Rattle.std.proofs.Common.{◌≡◌, inl, inr, ℕ, Option, None, Some, IfSome, refl, sym, subst}
 use Rattle.wb_attributes.specs.WellDefined.{DefinesTop, DefinesBelow}
 use Rattle.wb_attributes.specs.Modular.{IsProduction, EachProduction, InheritsNothing, ForwardsAsExtension}
 use Rattle.wb_flow.specs.declared.refusal.AttributeRefusal.{AttributeRefusal}
@@ -14,6 +14,13 @@ use Rattle.wb_resolved.specs.declared.attribution.AttributionParts.{AttributionP
 -- what holds of some value holds of the one that it is
 of_some : {X : Type 0} (P : X → Type 0) (o : Option X) (x : X) → o ≡ Some x → IfSome o P → P x
 of_some P o x is holds = subst (λ z. IfSome z P) is holds
+
+-- what holds of the value that there is, and where there is none
+pub if_some : {X : Type 0} (P : X → Type 0) (o : Option X) (x : X) → o ≡ Some x → P x → IfSome o P
+if_some P o x is holds = subst (λ z. IfSome z P) (sym is) holds
+
+pub if_none : {X : Type 0} (P : X → Type 0) (o : Option X) → o ≡ None → IfSome o P
+if_none P o is = subst (λ z. IfSome z P) (sym is) tt
 
 module _ (a : AttributionParts) (start extension : Option ℕ) where
   start_excludes : IfSome start (InheritsNothing a) → (x : ℕ) → ¬ StartHas a start x

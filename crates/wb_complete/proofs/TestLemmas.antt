@@ -1,6 +1,8 @@
 -- What the tests of a production find is what the rules say.
 use Rattle.std.proofs.Common.{◌≡◌, ◌≢◌, ◌∙◌, ◌⊎◌, inl, inr, ℕ, List, None, Some, refl, sym, ap, subst, Contains, slice_get, get_or, [], false, is_some}
-use Rattle.std.proofs.lemmas.Option.{same_Some}
+use Rattle.std.proofs.Common.{◌<◌, ◌≤◌, length, option_map}
+use Rattle.std.proofs.lemmas.Option.{same_Some, slice_get_past}
+use Rattle.wb_base.specs.declared.symbol.Kind.TheVariants as kind
 use Rattle.wb_expressions.specs.declared.node.Node.TheVariants as n
 use Rattle.wb_lemmas.proofs.Members.{place_of, contains_at}
 use Rattle.wb_lemmas.proofs.Places.{at_once}
@@ -19,6 +21,7 @@ use Rattle.wb_flow.specs.declared.vertex.Vertex.TheVariants as code
 use Rattle.wb_flow.specs.Occurrences.{IsIndexOf}
 use Rattle.wb_flow.specs.Rules.{attribute_at, IsDefined}
 use Rattle.wb_flow.specs.Vertices.{vertex_of}
+use Rattle.wb_flow.proofs.AddingLemmas.{read_item}
 use Rattle.wb_flow.proofs.ArrowLemmas.{defined_rule, top_rule, below_rule, place_vertex}
 use Rattle.wb_complete.specs.Inner.Tests.{DefinesAttribute, DefinesRead, DefinesReads, LacksRead, RefusesRead, RefusesReads, RefusesBelow, RefusesNeeds}
 use Rattle.wb_complete.specs.Refusals.{LacksTop, LacksBelow}
@@ -28,11 +31,14 @@ use Rattle.wb_resolved.specs.declared.attribution.AttributionParts.{AttributionP
 use Rattle.wb_resolved.specs.declared.equation.Equation.{Equation}
 use Rattle.wb_resolved.specs.declared.equation.Place.{Place}
 use Rattle.wb_resolved.specs.declared.equation.Place.TheVariants as place
+use Rattle.wb_resolved.specs.declared.production.Child.{Child}
+use Rattle.wb_resolved.specs.declared.production.ChildKind.TheVariants as kinds
 use Rattle.wb_resolved.specs.declared.production.Forward.{Forward}
 use Rattle.wb_resolved.specs.declared.production.Local.{Local}
 use Rattle.wb_resolved.specs.declared.production.Production.{Production}
 use Rattle.wb_resolved.specs.Attribution.{IsAttribution}
 use Rattle.wb_resolved.specs.Expression.{Node}
+use Rattle.wb_resolved.specs.Visible.{kind_at}
 
 -- an equation for an attribute of a child or local is its rule
 place_rule : (production : Production) (at : Place) (i : ℕ) → IsDefined production (attribute_at at i)
@@ -237,3 +243,28 @@ inherits_nothing a rows index m row same each i occurs =
 -- a production without a forward doesn't forward
 pub none_forwards : (production : Production) → production.forward ≡ None → ¬ Forwards production
 none_forwards production none forwards = let bad : is_some production.forward ≡ false = ap is_some none in cc
+
+-- what is at a child or local that is there, and that there is nothing at another
+pub child_kind_at : (production : Production) (children : List Child) (n : ℕ) (c : Child) → children ≡ production.children
+    → n < length children → c ≡ get_or children n c → kind_at production (place.Child n) ≡ Some c.kind
+child_kind_at production children n c same within is =
+    ap (option_map (λ (x : Child). x.kind)) (subst (λ (z : List Child). slice_get z n ≡ Some c) same (read_item children n c within is))
+
+pub local_kind_at : (production : Production) (locals : List Local) (n : ℕ) (l : Local) → locals ≡ production.locals
+    → n < length locals → l ≡ get_or locals n l → kind_at production (place.Local n) ≡ Some (kinds.Value (kind.Tree l.nonterminal))
+local_kind_at production locals n l same within is =
+    ap (option_map (λ (x : Local). kinds.Value (kind.Tree x.nonterminal)))
+    (subst (λ (z : List Local). slice_get z n ≡ Some l) same (read_item locals n l within is))
+
+pub no_child_at : (production : Production) (children : List Child) (n m : ℕ) → children ≡ production.children → length children ≤ n
+    → ¬ IsTreeAt production (place.Child n) m
+no_child_at production children n m same past tree =
+    let none = ap (option_map (λ (x : Child). x.kind)) (subst (λ (z : List Child). slice_get z n ≡ None) same (slice_get_past children n past)) in
+    let bad = sym none ∙ tree in cc
+
+pub no_local_at : (production : Production) (locals : List Local) (n m : ℕ) → locals ≡ production.locals → length locals ≤ n
+    → ¬ IsTreeAt production (place.Local n) m
+no_local_at production locals n m same past tree =
+    let none = ap (option_map (λ (x : Local). kinds.Value (kind.Tree x.nonterminal)))
+    (subst (λ (z : List Local). slice_get z n ≡ None) same (slice_get_past locals n past)) in
+    let bad = sym none ∙ tree in cc

@@ -40,14 +40,22 @@ pub(crate) fn check_below(
     ensures ok { IfOk result (λ done. DefinesBelow scope.now.attributes.now production.now) }
     ensures refused { IfErr result (RefusesBelow scope.now.attributes.now number production.now) }
 {
-    let tested = Tested {
+    check_expressions(&Tested {
         scope,
         number,
         production,
-    };
-    check_equations(&tested)?;
-    check_locals(&tested)?;
-    check_forward(&tested)
+    })
+}
+
+// Whether what its expressions read is defined.
+fn check_expressions(tested: &Tested) -> Result<(), AttributeRefusal>
+    requires { IsTested tested.now }
+    ensures ok { IfOk result (λ done. DefinesBelow tested.now.scope.now.attributes.now tested.now.production.now) }
+    ensures refused { IfErr result (RefusesBelow tested.now.scope.now.attributes.now tested.now.number tested.now.production.now) }
+{
+    check_equations(tested)?;
+    check_locals(tested)?;
+    check_forward(tested)
 }
 
 // Whether what its equations read is defined.

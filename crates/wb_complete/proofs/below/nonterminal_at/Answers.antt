@@ -1,0 +1,31 @@
+use Rattle.std.proofs.Common.{◌∙◌, Some, ap, subst}
+use Rattle.std.proofs.lemmas.Option.{IfSome_then}
+use Rattle.wb_attributes.specs.Rules.{IsTreeAt}
+use Rattle.wb_complete.proofs.TestLemmas.{child_kind_at, local_kind_at, no_child_at, no_local_at}
+use Rattle.wb_resolved.specs.declared.production.Local.{Local}
+use Rattle.wb_resolved.specs.Visible.{kind_at}
+use Rattle.wb_complete.proofs.below.nonterminal_at.Goals as goal
+
+pub returns-then-number-children-clause-some : goal.returns-then-number-children-clause-some
+returns-then-number-children-clause-some c =
+    let child = c.index-children-number.result in
+    IfSome_then c.tree_kind.result c.tree_kind.ensures.some (λ m is. ap (kind_at c.args.production.now) c.in-Child.is
+    ∙ (child_kind_at c.args.production.now c.as_slice-children.result.now c.in-Child.number child c.as_slice-children.ensures
+    c.if-number-children.true c.index-children-number.is ∙ ap Some (ap (λ z. z.kind) c.index-children-number.is ∙ is)))
+
+pub returns-else-number-children-clause-none : goal.returns-else-number-children-clause-none
+returns-else-number-children-clause-none c m tree =
+    no_child_at c.args.production.now c.as_slice-children.result.now c.in-Child.number m c.as_slice-children.ensures
+    c.if-number-children.false (subst (λ z. IsTreeAt c.args.production.now z m) c.in-Child.is tree)
+
+pub returns-then-number-locals-clause-some : goal.returns-then-number-locals-clause-some
+returns-then-number-locals-clause-some c =
+    let l = c.index-locals-number.result in
+    subst (λ (z : Local). IsTreeAt c.args.production.now c.args.at z.nonterminal) c.index-locals-number.is
+    (ap (kind_at c.args.production.now) c.in-Local.is ∙ local_kind_at c.args.production.now c.as_slice-locals.result.now c.in-Local.number l
+    c.as_slice-locals.ensures c.if-number-locals.true c.index-locals-number.is)
+
+pub returns-else-number-locals-clause-none : goal.returns-else-number-locals-clause-none
+returns-else-number-locals-clause-none c m tree =
+    no_local_at c.args.production.now c.as_slice-locals.result.now c.in-Local.number m c.as_slice-locals.ensures
+    c.if-number-locals.false (subst (λ z. IsTreeAt c.args.production.now z m) c.in-Local.is tree)
