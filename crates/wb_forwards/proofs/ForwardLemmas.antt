@@ -1,6 +1,7 @@
 -- What the equations for a forwarded tree reach is what the test finds.
 use Rattle.std.proofs.Common.{◌≡◌, ◌∙◌, ◌∷◌, [], ◌⊎◌, inl, inr, ℕ, Bool, true, false, List, Some, length, refl, sym, ap, subst}
-use Rattle.std.proofs.Common.{slice_get, Contains}
+use Rattle.std.proofs.Common.{slice_get, Contains, Option, None, is_some}
+use Rattle.std.specs.Option.{IfNone}
 use Rattle.std.specs.Prelude.{◌↔◌, option_map, slice_index_or}
 use Rattle.wb_lemmas.proofs.Elements.{all_contained}
 use Rattle.wb_lemmas.proofs.Members.{contains_first, contains_one}
@@ -33,6 +34,15 @@ use Rattle.wb_resolved.specs.declared.equation.Target.TheVariants as target
 use Rattle.wb_resolved.specs.declared.production.Production.{Production}
 use Rattle.wb_resolved.specs.Attribution.{IsAttribution}
 use Rattle.wb_resolved.specs.Named.{IsNamedProduction, IsNamedEquation, IsNamedTarget}
+
+-- what holds where there is no value, and nothing is asked where there is one
+pub where_none : {X P : Type 0} (o : Option X) → false ≡ is_some o → IfNone o P → P
+where_none None is holds = holds
+where_none (Some x) is holds = absurd (cc)
+
+pub where_some : {X : Type 0} (P : Type 0) (o : Option X) → true ≡ is_some o → IfNone o P
+where_some P None is = absurd (cc)
+where_some P (Some x) is = tt
 
 -- an attribute of the forwarded tree
 abbrev at_forward : ℕ → w.Vertex
