@@ -1,10 +1,28 @@
-use Rattle.std.proofs.Common.{◌∷◌, [], length, get_or, refl, subst}
+use Rattle.std.proofs.Common.{◌≡◌, ◌∙◌, ◌∷◌, [], length, get_or, refl, sym, subst}
 use Rattle.wb_lemmas.proofs.Places.{at_once}
+use Rattle.wb_lemmas.proofs.Refusals.{handed_on}
+use Rattle.wb_attributes.specs.Vertices.{made, forward}
+use Rattle.wb_flow.specs.declared.refusal.AttributeRefusal.TheVariants.{NoMemory}
 use Rattle.wb_flow.specs.declared.vertex.Vertex.TheVariants.{Top}
+use Rattle.wb_flow.proofs.ArrowLemmas.{below_rule}
 use Rattle.wb_flow.proofs.ReadLemmas.{known_production, reached_in, read_vertex_at}
-use Rattle.wb_forwards.specs.Inner.Tests.{KeepsFrom}
+use Rattle.wb_forwards.specs.Inner.Tests.{KeepsFrom, RefusesProduction}
 use Rattle.wb_forwards.proofs.ForwardLemmas.{defined_goes, keeps_from, reads_outside}
 use Rattle.wb_forwards.proofs.equations.check_from.Goals as goal
+
+pub returns-in_err-reached-clause-refused : goal.returns-in_err-reached-clause-refused
+returns-in_err-reached-clause-refused c =
+    let t = c.args.tested.now in
+    let refuses = RefusesProduction t.scope.now.attributes.now t.number t.production.now in
+    handed_on (λ f. f ≡ NoMemory c.in_err-reached.field-0.0) refuses c.from_residual.result (NoMemory c.in_err-reached.field-0.0)
+    c.from_residual.ensures.1 (λ f same. subst refuses (sym same) tt) refl
+
+pub returns-in_default-clause-ok : goal.returns-in_default-clause-ok
+returns-in_default-clause-ok c vertex at attribute is inherited_one rule reaches =
+    let t = c.args.tested.now in
+    let there = read_vertex_at c.as_slice.result.now t.graph.now.vertices c.as_slice.ensures c.args.start (Top 0) c.requires.start in
+    let same = at_once t.graph.now.vertices c.args.start (get_or c.as_slice.result.now c.args.start (Top 0)) vertex there at in
+    absurd (c.in_default.ensures.none attribute (same ∙ is) (below_rule t.production.now (made forward) attribute rule))
 
 pub returns-in_default-first_outside-clause-ok : goal.returns-in_default-first_outside-clause-ok
 returns-in_default-first_outside-clause-ok c vertex at =
