@@ -64,13 +64,18 @@ fn with_grammar(alloc: Global, host: &Host) -> Result<HostParts, DeterminismRefu
     ensures refused { IfErr result (IsHostRefusal host.now.resolved.now host.now.grammar.now) }
 {
     let lists = lists_of(alloc, host)?;
-    let lexicon = Lexicon {
-        expressions: &lists.expressions,
-        scanned: host.grammar.terminals(),
-        layout: &lists.layout,
-        preferences: &lists.pairs,
-    };
-    with_lexicon(alloc, host, &lexicon)
+    let answer = with_lexicon(
+        alloc,
+        host,
+        &Lexicon {
+            expressions: &lists.expressions,
+            scanned: host.grammar.terminals(),
+            layout: &lists.layout,
+            preferences: &lists.pairs,
+        },
+    );
+    drop(lists);
+    answer
 }
 
 // What is scanned of the host, as lists.
@@ -103,13 +108,18 @@ fn with_lexicon(
     test_preferences(alloc, host, lexicon)?;
     test_reduced(alloc, host)?;
     let holes = with_holes(alloc, host.resolved)?;
-    let parts = parts_with_holes(alloc, host, lexicon, &holes)?;
-    Ok(HostParts {
-        grammar: holes,
-        kernels: parts.kernels,
-        lookaheads: parts.lookaheads,
-        tables: parts.tables,
-    })
+    match parts_with_holes(alloc, host, lexicon, &holes) {
+        Ok(parts) => Ok(HostParts {
+            grammar: holes,
+            kernels: parts.kernels,
+            lookaheads: parts.lookaheads,
+            tables: parts.tables,
+        }),
+        Err(refusal) => {
+            drop(holes);
+            Err(refusal)
+        }
+    }
 }
 
 // Whether preferences are acyclic.
@@ -132,10 +142,19 @@ fn test_reduced(alloc: Global, host: &Host) -> Result<(), DeterminismRefusal>
     ensures refused { IfErr result (IsHostRefusal host.now.resolved.now host.now.grammar.now) }
 {
     match analyse(alloc, host.grammar) {
-        Ok(_) => Ok(()),
+        Ok(facts) => {
+            drop(facts);
+            Ok(())
+        }
         Err(GrammarRefusal::NotReduced(reason)) => Err(DeterminismRefusal::NotReduced(reason)),
-        Err(GrammarRefusal::UnitCycle(_)) => Ok(()),
-        Err(GrammarRefusal::HiddenLeftRecursion(_)) => Ok(()),
+        Err(GrammarRefusal::UnitCycle(cycle)) => {
+            drop(cycle);
+            Ok(())
+        }
+        Err(GrammarRefusal::HiddenLeftRecursion(cycle)) => {
+            drop(cycle);
+            Ok(())
+        }
         Err(GrammarRefusal::NoMemory(error)) => Err(DeterminismRefusal::NoMemory(error)),
     }
 }
@@ -155,9 +174,16 @@ fn parts_with_holes(
     ensures refused { IfErr result (IsHostRefusal host.now.resolved.now host.now.grammar.now) }
 {
     let facts = facts_with_holes(alloc, host, holes)?;
-    let parts = parts_by(alloc, host, holes, &facts)?;
-    test_clashes(alloc, host, lexicon, &parts)?;
-    Ok(parts)
+    let made = parts_by(alloc, host, holes, &facts);
+    drop(facts);
+    let parts = made?;
+    match test_clashes(alloc, host, lexicon, &parts) {
+        Ok(()) => Ok(parts),
+        Err(refusal) => {
+            drop(parts);
+            Err(refusal)
+        }
+    }
 }
 
 // The facts of the grammar with holes.
