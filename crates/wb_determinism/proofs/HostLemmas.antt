@@ -34,6 +34,11 @@ fit_of r g holes facts sound is are = record {
     here : AreFacts (with_holes_of g r.extensible) facts
     here = subst (λ (h : GrammarView). AreFacts h facts) is are
 
+-- the grammar with holes is that of the host's grammar
+pub holes_are : (r : ResolvedParts) (g holes : GrammarView) → HasGrammar r g → IfSome r.grammar (λ h. holes ≡ with_holes_of h r.extensible)
+    → holes ≡ with_holes_of g r.extensible
+holes_are r g holes has made = subst (λ o. IfSome o (λ h. holes ≡ with_holes_of h r.extensible)) has.grammar made
+
 -- a host that passes all tests is deterministic
 pub deterministic : (r : ResolvedParts) (g holes : GrammarView) (parts : Parts) → IsFitForParsing r g → holes ≡ with_holes_of g r.extensible
     → ArePartsOf holes parts → HasNoClashAt (with_holes_of g r.extensible) (lexicon_of r g) → IsDeterministicHost r g
