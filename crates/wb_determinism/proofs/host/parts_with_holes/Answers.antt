@@ -10,6 +10,6 @@ pub returns-in-Ok-clause-ok : goal.returns-in-Ok-clause-ok
 returns-in-Ok-clause-ok c = (
   c.in_ok-parts.ensures.ok,
   deterministic c.args.host.now.resolved.now c.args.host.now.grammar.now c.args.holes.now c.in_ok-parts.parts
-      (fit_of c.args.host.now.resolved.now c.args.host.now.grammar.now c.args.holes.now c.in_ok-facts.facts c.requires.sound c.requires.holes
-      c.in_ok-facts.ensures.ok) c.requires.holes c.in_ok-parts.ensures.ok c.in-Ok.ensures.ok,
+      (fit_of c.args.host.now.resolved.now c.args.host.now.grammar.now c.args.holes.now c.in_ok-facts.facts c.requires.sound
+      c.requires.holes c.in_ok-facts.ensures.ok) c.requires.holes c.in_ok-parts.ensures.ok c.in-Ok.ensures.ok,
 )
