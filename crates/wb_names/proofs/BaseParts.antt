@@ -25,7 +25,7 @@ use Rattle.wb_rows.specs.declared.moves.Moves.{Moves}
 use Rattle.wb_rows.specs.declared.scope.Scope.{Scope}
 use Rattle.wb_rows.specs.Moves.{ChildKindIsWithin, EquationIsWithin, LocalIsWithin, NodeIsWithin}
 use Rattle.wb_rows.proofs.BaseWithin.{node_within, nonterminal_within, kind_within}
-use Rattle.wb_names.specs.Inner.Ground.{AreTables}
+use Rattle.wb_symbols.specs.Symbols.{AreTables}
 
 module _ (file : File) (s : Scope) (m : Moves) (tables : AreTables file s m) (base : IsResolved file.base) (p : Production)
     (has : Contains file.base.attributes.productions p) where

@@ -34,7 +34,7 @@ use Rattle.wb_rows.proofs.BaseWithin.{attribute_in}
 use Rattle.wb_rows.proofs.MovedLemmas.{AreMoves}
 use Rattle.wb_rows.proofs.PlainsFound.{found_attribute, found_occurrence, found_preference}
 use Rattle.wb_rows.proofs.ScopeLemmas.{is_number}
-use Rattle.wb_names.specs.Inner.Now.{IsTerminalNow, IsNonterminalNow}
+use Rattle.wb_symbols.specs.Rows.{IsTerminalNow, IsNonterminalNow}
 use Rattle.wb_names.specs.Inner.Rest.{IsNumberNow}
 
 -- a terminal's row, whatever the numbers are

@@ -9,17 +9,17 @@ use Rattle.wb_naming.specs.Hold.{NamesHold}
 use Rattle.wb_numbering.specs.Files.{File}
 use Rattle.wb_numbering.specs.Given.{IsFile}
 use Rattle.wb_numbering.specs.Resolves.{Resolves}
+use Rattle.wb_symbols.specs.declared.symbols.Symbols.{Symbols}
+use Rattle.wb_symbols.specs.Symbols.{AreSymbols}
+use Rattle.wb_symbols.specs.declared.symbols.Counts.{Counts}
 use Rattle.wb_names.specs.Resolving.{file_scope}
-use Rattle.wb_names.specs.declared.ground.Ground.{Ground}
-use Rattle.wb_names.specs.Inner.Ground.{IsGround}
-use Rattle.wb_names.specs.declared.ground.Counts.{Counts}
 use Rattle.wb_names.specs.declared.rows.Rows.{Rows}
 use Rattle.wb_names.specs.declared.rows.Written.{Written}
 use Rattle.wb_names.specs.Inner.Joined.{rows_with}
 use Rattle.wb_names.specs.Inner.Value.{AreRows, AreWritten, IsGrammarFor, made_value, value_of}
 use Rattle.wb_names.proofs.RowsResolve.{rows_resolve}
 
-pub rows_are : (file : File) (g : Ground) (counts : Counts) (written : Written) (rows : Rows) → IsGround file counts g
+pub rows_are : (file : File) (g : Symbols) (counts : Counts) (written : Written) (rows : Rows) → AreSymbols file counts g
     → AreWritten file g.scope g.moves written → rows ≡ rows_with g counts written → AreRows file rows
 rows_are file g counts written rows is are same = subst (AreRows file) (sym same) (record {
   scope = g.scope;

@@ -49,10 +49,11 @@ use Rattle.wb_rows.specs.Base.{IsAttributeNow}
 use Rattle.wb_rows.specs.Plains.{IsFoundAttribute}
 use Rattle.wb_rows.proofs.BaseMoved.{Stays}
 use Rattle.wb_rows.proofs.MovedLemmas.{AreMoves}
+use Rattle.wb_symbols.specs.Symbols.{IsTable}
+use Rattle.wb_symbols.specs.Rows.{IsTerminalNow, IsNonterminalNow}
 use Rattle.wb_names.specs.Resolving.{file_scope}
 use Rattle.wb_names.specs.declared.rows.Rows.{Rows}
-use Rattle.wb_names.specs.Inner.Ground.{IsTable}
-use Rattle.wb_names.specs.Inner.Now.{IsTerminalNow, IsNonterminalNow, IsProductionNow}
+use Rattle.wb_names.specs.Inner.Now.{IsProductionNow}
 use Rattle.wb_names.specs.Inner.Value.{AreRows}
 use Rattle.wb_names.proofs.ListLemmas.{before_at, image_at}
 use Rattle.wb_names.proofs.ScopeRows.{production_names_are, rows_numbering}

@@ -43,7 +43,7 @@ use Rattle.wb_rows.proofs.BaseWithin.{node_in, target_in}
 use Rattle.wb_rows.proofs.FoundLemmas.{found_equation, found_local, found_forward}
 use Rattle.wb_rows.proofs.MovedLemmas.{AreMoves, moved_child}
 use Rattle.wb_rows.proofs.ScopeLemmas.{is_number}
-use Rattle.wb_names.specs.Inner.Ground.{AreNumbers}
+use Rattle.wb_symbols.specs.Symbols.{AreNumbers}
 use Rattle.wb_names.specs.Inner.Now.{AreLabelsOf, IsExtendedNow, IsDeclaredNow, IsProductionNow}
 
 -- another relation holds, where it follows for each element

@@ -38,8 +38,8 @@ use Rattle.wb_rows.proofs.BaseWithin.{kind_within, nonterminal_within}
 use Rattle.wb_rows.proofs.GroupLemmas.{zip_sources}
 use Rattle.wb_rows.proofs.UsesThere.{form_there}
 use Rattle.wb_rows.proofs.ZipLemmas.{zip_append}
+use Rattle.wb_symbols.specs.Symbols.{AreNumbers}
 use Rattle.wb_names.specs.Resolving.{file_scope}
-use Rattle.wb_names.specs.Inner.Ground.{AreNumbers}
 use Rattle.wb_names.specs.Inner.Rest.{AddsBase, AreBasePlains, ArePlains, HasTables}
 
 -- what is added to nothing, and what is added after rows of a base

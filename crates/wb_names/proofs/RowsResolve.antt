@@ -22,9 +22,10 @@ use Rattle.wb_rows.specs.Plains.{IsFoundAttribute, IsFoundOccurrence, IsFoundPre
 use Rattle.wb_rows.specs.Scope.{IsScope}
 use Rattle.wb_rows.proofs.BaseMoved.{Stays}
 use Rattle.wb_rows.proofs.MovedLemmas.{AreMoves}
+use Rattle.wb_symbols.specs.Rows.{IsTerminalNow, IsNonterminalNow}
 use Rattle.wb_names.specs.Resolving.{file_scope}
 use Rattle.wb_names.specs.declared.rows.Rows.{Rows}
-use Rattle.wb_names.specs.Inner.Now.{IsTerminalNow, IsNonterminalNow, IsProductionNow}
+use Rattle.wb_names.specs.Inner.Now.{IsProductionNow}
 use Rattle.wb_names.specs.Inner.Rest.{IsNumberNow}
 use Rattle.wb_names.specs.Inner.Value.{AreRows, IsGrammarFor, value_of}
 use Rattle.wb_names.proofs.Bridges.{is_terminal, is_nonterminal, is_attribute, is_occurrence, is_preference, is_nonterminal_number}

@@ -22,9 +22,10 @@ use Rattle.wb_rows.specs.declared.scope.Scope.{Scope}
 use Rattle.wb_rows.specs.Base.{IsAttributeNow}
 use Rattle.wb_rows.specs.Plains.{IsFoundAttribute}
 use Rattle.wb_rows.specs.Scope.{AreNames, IsScope}
+use Rattle.wb_symbols.specs.Symbols.{IsNameOf}
+use Rattle.wb_symbols.specs.Rows.{IsTerminalNow, IsNonterminalNow}
 use Rattle.wb_names.specs.declared.rows.Rows.{Rows}
-use Rattle.wb_names.specs.Inner.Ground.{IsNameOf}
-use Rattle.wb_names.specs.Inner.Now.{IsTerminalNow, IsNonterminalNow, IsProductionNow}
+use Rattle.wb_names.specs.Inner.Now.{IsProductionNow}
 use Rattle.wb_names.specs.Inner.Value.{AreRows}
 use Rattle.wb_names.proofs.ListLemmas.{map_fuse, map_sources, same_grouped}
 

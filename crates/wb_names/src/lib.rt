@@ -5,20 +5,12 @@
 #![tactic(auto)]
 
 mod empty;
-mod forwards;
-mod ground;
-mod joined;
-mod lent;
-mod named;
-mod nonterminals;
 mod numbered;
 mod production;
 mod productions;
 mod resolve;
 mod rest;
 mod rows;
-mod symbols;
-mod tables;
 mod writers;
 
 pub use resolve::{resolve_extension, resolve_host};

@@ -4,29 +4,24 @@
 
 ghost use Rattle.std.specs.Prelude.{◌≡◌, IfOk, IfSome, Some};
 ghost use Rattle.wb_resolved.specs.Resolved.{IsResolved};
-ghost use Rattle.wb_naming.specs.Hold.{NamesHold};
-ghost use Rattle.wb_numbering.specs.Given.{IsFile};
 ghost use Rattle.wb_numbering.specs.Resolves.{Resolves};
-ghost use Rattle.wb_names.specs.Resolving.{file_scope};
-ghost use Rattle.wb_names.specs.Inner.Lent.{lent_file};
-ghost use Rattle.wb_names.specs.Inner.Rest.{BeginsAlone};
+ghost use Rattle.wb_symbols.specs.Lent.{lent_file};
 ghost use Rattle.wb_names.specs.Inner.Copies.{AreCopies, AreTitles, value_with};
+ghost use Rattle.wb_names.specs.Inner.Rest.{IsReady};
 ghost use Rattle.wb_names.specs.Inner.Value.{AreRows, HasGrammar, IsGrammarFor, made_value};
 
-use crate::lent::Lent;
 use crate::rows::{Rows, rows_of};
 use std::alloc::{AllocError, Global};
 use wb_base::{Bytes, Grammar, Sequence};
 use wb_resolved::{Attribution, AttributionParts, Preference, Resolved, ResolvedParts, Terminal};
 use wb_rows::grammar::grammar_of;
 use wb_rows::signatures::signatures_of;
+use wb_symbols::lent::Lent;
 use wb_values::Signatures;
 
 // The numbered value. The only error is want of memory.
 pub(crate) fn numbered(alloc: Global, file: &Lent) -> Result<Resolved, AllocError>
-    requires file { IsFile (lent_file file.now) }
-    requires hold { NamesHold (file_scope (lent_file file.now)) }
-    requires alone { BeginsAlone (lent_file file.now) }
+    requires { IsReady (lent_file file.now) }
     ensures { IfOk result (Resolves (lent_file file.now)) }
 {
     let rows = rows_of(alloc, file)?;

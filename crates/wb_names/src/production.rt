@@ -13,9 +13,7 @@ ghost use Rattle.wb_names.specs.Inner.Bodies.{IsContext, IsDeclaredBody, IsExten
 ghost use Rattle.wb_names.specs.Inner.Now.{IsDeclaredNow, IsExtendedNow};
 ghost use Rattle.wb_names.specs.Inner.Rows.{AddsProductions, declares_concrete, has_concrete};
 
-use crate::lent::Lent;
 use crate::productions::{Productions, add};
-use crate::symbols::numbered_role;
 use crate::writers::Writers;
 use std::alloc::{AllocError, Global};
 use wb_base::{Bytes, Sequence};
@@ -24,6 +22,8 @@ use wb_rows::body::{Body, add_all, labels_of};
 use wb_rows::child::written_children;
 use wb_rows::moves::{Moves, moved_children, moved_equations, moved_forward, moved_locals};
 use wb_rows::scope::{Scope, number_of};
+use wb_symbols::lent::Lent;
+use wb_symbols::names::numbered_role;
 
 // A file with what its names stand for, and with the items that write on each production.
 #[derive(Clone, Copy)]

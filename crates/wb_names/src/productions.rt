@@ -4,18 +4,14 @@
 
 ghost use Rattle.std.specs.Prelude.{◌≡◌, [], Contains, IfOk, OnOk, option_to_list};
 ghost use Rattle.wb_naming.specs.Declarations.{production_of, productions};
-ghost use Rattle.wb_naming.specs.Hold.{NamesHold};
-ghost use Rattle.wb_numbering.specs.Given.{IsFile};
-ghost use Rattle.wb_names.specs.Resolving.{file_scope};
+ghost use Rattle.wb_symbols.specs.Lent.{lent_file};
+ghost use Rattle.wb_symbols.specs.Right.{IsRight};
+ghost use Rattle.wb_symbols.specs.Symbols.{AreNumbers};
 ghost use Rattle.wb_names.specs.Inner.Bodies.{IsContext, file_of};
-ghost use Rattle.wb_names.specs.Inner.Ground.{AreNumbers};
-ghost use Rattle.wb_names.specs.Inner.Lent.{lent_file};
 ghost use Rattle.wb_names.specs.Inner.Now.{IsDeclaredNow, IsExtendedNow};
 ghost use Rattle.wb_names.specs.Inner.Productions.{AreProductions};
 ghost use Rattle.wb_names.specs.Inner.Rows.{AddsProductions, AddsRow, declares_concrete, has_concrete};
 
-use crate::joined::join;
-use crate::lent::Lent;
 use crate::production::{Context, add_extended, add_own};
 use crate::writers::writers_of;
 use std::alloc::{AllocError, Global};
@@ -23,6 +19,8 @@ use wb_base::push;
 use wb_resolved::{Production, ProductionRole};
 use wb_rows::moves::Moves;
 use wb_rows::scope::Scope;
+use wb_symbols::joined::join;
+use wb_symbols::lent::Lent;
 use wb_syntax::{Item, ItemForm, Pattern};
 
 // The concrete ones, and the others.
@@ -41,8 +39,7 @@ pub(crate) fn add_productions(
     moves: &Moves,
     made: &mut Productions,
 ) -> Result<usize, AllocError>
-    requires file { IsFile (lent_file file.now) }
-    requires hold { NamesHold (file_scope (lent_file file.now)) }
+    requires right { IsRight (lent_file file.now) }
     requires numbers { AreNumbers (lent_file file.now) scope.now moves.now }
     requires concrete { made.old.concrete.items ≡ [] }
     requires others { made.old.others.items ≡ [] }

@@ -5,14 +5,13 @@
 ghost use Rattle.std.specs.Prelude.{◌≡◌, [], IfErr, IfOk};
 ghost use Rattle.wb_naming.specs.Refusals.{IsTrueRefusal};
 ghost use Rattle.wb_numbering.specs.Given.{IsFile};
+ghost use Rattle.wb_symbols.specs.Lent.{lent_file};
 ghost use Rattle.wb_names.specs.Resolving.{IsExtensionNameRefusal, IsHostNameRefusal, ResolvesExtension, ResolvesHost, file_scope};
-ghost use Rattle.wb_names.specs.Inner.Lent.{lent_file};
 ghost use Rattle.wb_names.specs.Inner.Rest.{BeginsAlone};
 ghost use Rattle.wb_names.specs.Inner.Value.{IsValueOf};
 ghost use Rattle.wb_names.specs.Inner.Wrong.{IsWrongHost, IsWrongSort};
 
 use crate::empty::nothing_before;
-use crate::lent::Lent;
 use crate::numbered::numbered;
 use std::alloc::Global;
 use std::slice::from_ref;
@@ -20,6 +19,7 @@ use wb_base::Bytes;
 use wb_name_rules::check_names;
 use wb_naming::NameRefusal;
 use wb_resolved::Resolved;
+use wb_symbols::lent::Lent;
 use wb_syntax::{Header, Spec};
 
 /// The numbered value of a host, or the first name rule that fails.

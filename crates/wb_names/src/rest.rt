@@ -7,20 +7,17 @@ ghost use Rattle.std.specs.List.{AllZip};
 ghost use Rattle.wb_base.specs.Grammar.{GrammarView};
 ghost use Rattle.wb_resolved.specs.Resolved.{IsResolved};
 ghost use Rattle.wb_naming.specs.Declarations.{extensibles, starts};
-ghost use Rattle.wb_naming.specs.Hold.{NamesHold};
-ghost use Rattle.wb_numbering.specs.Given.{IsFile};
 ghost use Rattle.wb_numbering.specs.Resolves.{starts_of};
 ghost use Rattle.wb_numbering.specs.Sources.{sources};
 ghost use Rattle.wb_rows.specs.GrammarNames.{form_extensibles, form_starts};
 ghost use Rattle.wb_rows.specs.Moves.{IsNow};
 ghost use Rattle.wb_rows.specs.Nodes.{IsAt};
 ghost use Rattle.wb_rows.specs.Plains.{AddsEach};
-ghost use Rattle.wb_names.specs.Resolving.{file_scope};
-ghost use Rattle.wb_names.specs.Inner.Ground.{AreNumbers};
-ghost use Rattle.wb_names.specs.Inner.Lent.{lent_file};
-ghost use Rattle.wb_names.specs.Inner.Rest.{AddsBase, AreRest, BeginsAlone, HasTables, IsBegun, IsNumberNow};
+ghost use Rattle.wb_symbols.specs.Lent.{lent_file};
+ghost use Rattle.wb_symbols.specs.Right.{IsRight};
+ghost use Rattle.wb_symbols.specs.Symbols.{AreNumbers};
+ghost use Rattle.wb_names.specs.Inner.Rest.{AddsBase, AreRest, HasTables, IsBegun, IsNumberNow, IsReady};
 
-use crate::lent::Lent;
 use std::alloc::{AllocError, Global};
 use wb_base::push;
 use wb_resolved::ResolvedParts;
@@ -28,6 +25,7 @@ use wb_rows::base::{add_attributes, add_occurrences, add_preferences};
 use wb_rows::moves::Moves;
 use wb_rows::plains::{Plains, add_plains};
 use wb_rows::scope::{Scope, number_of};
+use wb_symbols::lent::Lent;
 use wb_syntax::{Item, ItemForm, Pattern, PlainForm};
 
 // Rows of attributes, occurrences and preferences, numbers of extensible nonterminals, and that of the start.
@@ -45,10 +43,8 @@ pub(crate) fn rest_of(
     scope: &Scope,
     moves: &Moves,
 ) -> Result<Rest, AllocError>
-    requires file { IsFile (lent_file file.now) }
-    requires hold { NamesHold (file_scope (lent_file file.now)) }
+    requires ready { IsReady (lent_file file.now) }
     requires numbers { AreNumbers (lent_file file.now) scope.now moves.now }
-    requires alone { BeginsAlone (lent_file file.now) }
     ensures { IfOk result (AreRest (lent_file file.now) scope.now moves.now) }
 {
     let mut rest = Rest {
@@ -77,8 +73,7 @@ fn add_rest(
     moves: &Moves,
     rest: &mut Rest,
 ) -> Result<(), AllocError>
-    requires file { IsFile (lent_file file.now) }
-    requires hold { NamesHold (file_scope (lent_file file.now)) }
+    requires right { IsRight (lent_file file.now) }
     requires numbers { AreNumbers (lent_file file.now) scope.now moves.now }
     requires begun { IsBegun (lent_file file.now) scope.now moves.now rest.old }
     ensures { OnOk result (AreRest (lent_file file.now) scope.now moves.now rest.new) }
@@ -168,10 +163,8 @@ fn add_form(
 
 // The number of the start, where there is one.
 fn start_of(file: &Lent, scope: &Scope, moves: &Moves) -> Option<usize>
-    requires file { IsFile (lent_file file.now) }
-    requires hold { NamesHold (file_scope (lent_file file.now)) }
+    requires ready { IsReady (lent_file file.now) }
     requires numbers { AreNumbers (lent_file file.now) scope.now moves.now }
-    requires alone { BeginsAlone (lent_file file.now) }
     ensures { AllZip (IsNumberNow scope.now moves.now) (sources (starts_of file.now.base.now) (starts file.now.items.now)) (option_to_list result) }
 {
     match &file.base.grammar {

@@ -4,18 +4,13 @@
 //! since its parts then stand in one proof.
 
 ghost use Rattle.std.specs.Prelude.{◌≡◌, IfOk};
-ghost use Rattle.wb_naming.specs.Hold.{NamesHold};
-ghost use Rattle.wb_numbering.specs.Given.{IsFile};
-ghost use Rattle.wb_names.specs.Resolving.{file_scope};
-ghost use Rattle.wb_names.specs.Inner.Ground.{AreNumbers};
+ghost use Rattle.wb_symbols.specs.Empty.{IsEmpty};
+ghost use Rattle.wb_symbols.specs.Lent.{lent_file};
+ghost use Rattle.wb_symbols.specs.Symbols.{AreNumbers};
 ghost use Rattle.wb_names.specs.Inner.Joined.{rows_with};
-ghost use Rattle.wb_names.specs.Inner.Lent.{lent_file};
-ghost use Rattle.wb_names.specs.Inner.Rest.{BeginsAlone};
-ghost use Rattle.wb_names.specs.Inner.Tables.{IsEmpty};
+ghost use Rattle.wb_names.specs.Inner.Rest.{IsReady};
 ghost use Rattle.wb_names.specs.Inner.Value.{AreRows, AreWritten};
 
-use crate::ground::{Counts, Ground, fill, no_ground};
-use crate::lent::Lent;
 use crate::productions::{Productions, add_productions};
 use crate::rest::{Rest, rest_of};
 use std::alloc::{AllocError, Global};
@@ -23,6 +18,8 @@ use std::mem::replace;
 use wb_resolved::{Nonterminal, Production, Terminal};
 use wb_rows::moves::Moves;
 use wb_rows::scope::Scope;
+use wb_symbols::lent::Lent;
+use wb_symbols::symbols::{Counts, Symbols, fill, no_symbols};
 
 // Productions, of which so many are concrete, and what else is written.
 #[derive(Drop)]
@@ -44,39 +41,35 @@ pub(crate) struct Rows {
 
 // The rows of a file. The only error is want of memory.
 pub(crate) fn rows_of(alloc: Global, file: &Lent) -> Result<Rows, AllocError>
-    requires file { IsFile (lent_file file.now) }
-    requires hold { NamesHold (file_scope (lent_file file.now)) }
-    requires alone { BeginsAlone (lent_file file.now) }
+    requires { IsReady (lent_file file.now) }
     ensures { IfOk result (AreRows (lent_file file.now)) }
 {
-    let mut ground = no_ground(alloc, file.owner);
-    let rows = rows_on(alloc, file, &mut ground);
-    drop(ground);
+    let mut symbols = no_symbols(alloc, file.owner);
+    let rows = rows_on(alloc, file, &mut symbols);
+    symbols.release();
     rows
 }
 
-// The rows, where ground is to be filled.
-fn rows_on(alloc: Global, file: &Lent, ground: &mut Ground) -> Result<Rows, AllocError>
-    requires file { IsFile (lent_file file.now) }
-    requires hold { NamesHold (file_scope (lent_file file.now)) }
-    requires alone { BeginsAlone (lent_file file.now) }
-    requires nothing { IsEmpty file.now.owner ground.old }
+// The rows, where the symbols are to be filled.
+fn rows_on(alloc: Global, file: &Lent, symbols: &mut Symbols) -> Result<Rows, AllocError>
+    requires ready { IsReady (lent_file file.now) }
+    requires nothing { IsEmpty file.now.owner symbols.old }
     ensures { IfOk result (AreRows (lent_file file.now)) }
 {
-    let counts = fill(alloc, file, ground)?;
-    let written = written_of(alloc, file, &ground.scope, &ground.moves)?;
-    Ok(joined_rows(alloc, ground, counts, written))
+    let counts = fill(alloc, file, symbols)?;
+    let written = written_of(alloc, file, &symbols.scope, &symbols.moves)?;
+    Ok(joined_rows(alloc, symbols, counts, written))
 }
 
-// The rows of ground, and what is written. The lists are taken out of it.
-fn joined_rows(alloc: Global, ground: &mut Ground, counts: Counts, written: Written) -> Rows
-    ensures { result ≡ rows_with ground.old counts written }
+// The rows of the symbols, and what is written. The lists are taken out of them.
+fn joined_rows(alloc: Global, symbols: &mut Symbols, counts: Counts, written: Written) -> Rows
+    ensures { result ≡ rows_with symbols.old counts written }
 {
     Rows {
         scanned: counts.scanned,
-        terminals: replace(&mut ground.terminals.scanned, Vec::new(alloc)),
+        terminals: replace(&mut symbols.terminals.scanned, Vec::new(alloc)),
         of_grammar: counts.of_grammar,
-        nonterminals: replace(&mut ground.nonterminals.of_grammar, Vec::new(alloc)),
+        nonterminals: replace(&mut symbols.nonterminals.of_grammar, Vec::new(alloc)),
         written,
     }
 }
@@ -88,10 +81,8 @@ fn written_of(
     scope: &Scope,
     moves: &Moves,
 ) -> Result<Written, AllocError>
-    requires file { IsFile (lent_file file.now) }
-    requires hold { NamesHold (file_scope (lent_file file.now)) }
+    requires ready { IsReady (lent_file file.now) }
     requires numbers { AreNumbers (lent_file file.now) scope.now moves.now }
-    requires alone { BeginsAlone (lent_file file.now) }
     ensures { IfOk result (AreWritten (lent_file file.now) scope.now moves.now) }
 {
     let rest = rest_of(alloc, file, scope, moves)?;

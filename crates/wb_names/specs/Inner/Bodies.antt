@@ -8,10 +8,8 @@ use Rattle.wb_syntax.specs.declared.expression.Equation as written
 use Rattle.wb_syntax.specs.declared.production.Production as written_production
 use Rattle.wb_naming.specs.declared.declaration.Labelled.{Labelled}
 use Rattle.wb_naming.specs.Declares.{declarations}
-use Rattle.wb_naming.specs.Hold.{NamesHold}
 use Rattle.wb_naming.specs.Meaning.{HasLabel}
 use Rattle.wb_numbering.specs.Files.{File, equations_on}
-use Rattle.wb_numbering.specs.Given.{IsFile}
 use Rattle.wb_numbering.specs.Numbering.{Numbering}
 use Rattle.wb_numbering.specs.Written.{local_equations}
 use Rattle.wb_numbering.proofs.OneProduction.{local_label}
@@ -22,13 +20,13 @@ use Rattle.wb_rows.specs.declared.scope.ProductionLabels.{ProductionLabels}
 use Rattle.wb_rows.specs.Blocks.{AddsBody}
 use Rattle.wb_rows.specs.Moves.{IsChildNow, IsLocalNow, IsForwardNow, IsEquationNow}
 use Rattle.wb_rows.specs.Scope.{IsFoundChild}
+use Rattle.wb_symbols.specs.Symbols.{AreNumbers}
+use Rattle.wb_symbols.specs.Lent.{lent_file}
+use Rattle.wb_symbols.specs.Right.{IsRight}
 use Rattle.wb_names.specs.declared.production.Context.{Context}
 use Rattle.wb_names.specs.declared.production.Head.{Head}
 use Rattle.wb_names.specs.declared.production.Own.{Own}
-use Rattle.wb_names.specs.Inner.Ground.{AreNumbers}
-use Rattle.wb_names.specs.Inner.Lent.{lent_file}
 use Rattle.wb_names.specs.Inner.Writers.{AreWriters}
-use Rattle.wb_names.specs.Resolving.{file_scope}
 
 -- the file of a context
 abbrev pub file_of : Context → File
@@ -36,8 +34,7 @@ file_of context = lent_file context.file
 
 -- the file's names are right, its numbers are those of its names, and the writers are those of its items
 pub record IsContext (c : Context) : Type 0 where
-  pub file : IsFile (file_of c)
-  pub hold : NamesHold (file_scope (file_of c))
+  pub right : IsRight (file_of c)
   pub numbers : AreNumbers (file_of c) c.scope.now c.moves.now
   pub writers : AreWriters c.file.items.now c.file.items.now c.writers.now
 

@@ -1,16 +1,14 @@
--- Rows as they are made before all have numbers: names are those of a scope, and a base's numbers are looked up in tables.
-use Rattle.std.specs.Prelude.{◌≡◌, ◌⊎◌, ◌++◌, ℕ, List, length, map, option_to_list}
+-- Rows of productions as they are made before all have numbers: names are those of a scope, and a base's numbers are looked up in tables.
+use Rattle.std.specs.Prelude.{◌≡◌, ◌⊎◌, ◌++◌, length, map, option_to_list}
 use Rattle.std.specs.List.{AllZip}
-use Rattle.wb_resolved.specs.declared.attributes.Nonterminal.{Nonterminal}
 use Rattle.wb_resolved.specs.declared.production.Child.{Child}
 use Rattle.wb_resolved.specs.declared.production.Local.{Local}
 use Rattle.wb_resolved.specs.declared.production.Production.{Production}
-use Rattle.wb_resolved.specs.declared.terminal.Terminal.{Terminal}
-use Rattle.wb_naming.specs.Declarations.{LexicalDeclaration, ProductionDeclaration}
-use Rattle.wb_numbering.specs.Files.{File, equations_on, forward_needs_of}
+use Rattle.wb_naming.specs.Declarations.{ProductionDeclaration}
+use Rattle.wb_numbering.specs.Files.{File, equations_on}
 use Rattle.wb_numbering.specs.Numbering.{Numbering}
 use Rattle.wb_numbering.specs.Rows.{production_role}
-use Rattle.wb_numbering.specs.Sources.{sources, IsFrom, AreGrouped}
+use Rattle.wb_numbering.specs.Sources.{sources, IsFrom}
 use Rattle.wb_numbering.specs.Written.{local_equations, forward_equations, attribute_equations}
 use Rattle.wb_rows.specs.declared.moves.Moves.{Moves}
 use Rattle.wb_rows.specs.declared.scope.Scope.{Scope}
@@ -18,25 +16,6 @@ use Rattle.wb_rows.specs.declared.scope.ProductionLabels.{ProductionLabels}
 use Rattle.wb_rows.specs.Moves.{IsNow, IsChildNow, IsLocalNow, IsForwardNow, IsEquationNow}
 use Rattle.wb_rows.specs.Nodes.{IsAt, IsFoundLocal, IsFoundForward, IsFoundEquation}
 use Rattle.wb_rows.specs.Scope.{IsFoundChild}
-use Rattle.wb_rows.specs.Terminals.{IsCopy, IsFoundTerminal}
-
--- grouped rows, of which so many lead
-abbrev pub AreGroupedBy : ℕ → {X Y : Type 0} → (X → Type 0) → (X → Y → Type 0) → List X → List Y → Type 0
-AreGroupedBy count IsLeading IsRow xs rows = (g : AreGrouped IsLeading IsRow xs rows) × (length g.leading ≡ count)
-
--- a terminal's row: one of the base as it was, or one that is declared
-abbrev pub IsTerminalNow : File → Terminal ⊎ LexicalDeclaration → Terminal → Type 0
-IsTerminalNow file = IsFrom IsCopy (IsFoundTerminal file.owner)
-
--- the row of a nonterminal that is declared
-pub record IsFoundNonterminal (file : File) (s : Scope) (name : List ℕ) (row : Nonterminal) : Type 0 where
-  pub name_is : row.name ≡ name
-  pub owner_is : row.owner ≡ file.owner
-  pub needs : AllZip (IsAt s.attributes) (forward_needs_of name file.items) row.forward_needs
-
--- a nonterminal's row: one of the base as it was, since attributes keep their numbers, or one that is declared
-abbrev pub IsNonterminalNow : File → Scope → Nonterminal ⊎ List ℕ → Nonterminal → Type 0
-IsNonterminalNow file s = IsFrom (λ (x row : Nonterminal). row ≡ x) (IsFoundNonterminal file s)
 
 -- the labels of a row
 pub record AreLabelsOf (labels : ProductionLabels) (row : Production) : Type 0 where

@@ -7,7 +7,8 @@ use Rattle.wb_numbering.specs.Resolves.{IsConcrete}
 use Rattle.wb_numbering.specs.Sources.{sources}
 use Rattle.wb_rows.specs.declared.moves.Moves.{Moves}
 use Rattle.wb_rows.specs.declared.scope.Scope.{Scope}
-use Rattle.wb_names.specs.Inner.Now.{AreGroupedBy, IsProductionNow}
+use Rattle.wb_symbols.specs.Rows.{AreGroupedBy}
+use Rattle.wb_names.specs.Inner.Now.{IsProductionNow}
 
 -- in one list, of which so many are concrete
 abbrev pub AreProductions : File → Scope → Moves → ℕ → List Production → Type 0

@@ -13,11 +13,17 @@ use Rattle.wb_rows.specs.Base.{IsAttributeNow, IsOccurrenceNow, IsPreferenceNow}
 use Rattle.wb_rows.specs.Moves.{IsNow}
 use Rattle.wb_rows.specs.Nodes.{IsAt}
 use Rattle.wb_rows.specs.Plains.{AddsEach, IsFoundAttribute, IsFoundOccurrence, IsFoundPreference}
+use Rattle.wb_symbols.specs.Right.{IsRight}
 use Rattle.wb_names.specs.declared.rest.Rest.{Rest}
 
 -- a host's own file comes on top of no grammar, and so of no start
 abbrev pub BeginsAlone : File → Type 0
 BeginsAlone file = file.owner ≡ 0 → file.base.grammar ≡ None
+
+-- the file's names are right, and it comes on top of what it can
+pub record IsReady (file : File) : Type 0 where
+  pub right : IsRight file
+  pub alone : BeginsAlone file
 
 -- the tables have a number for each of a base's names
 pub record HasTables (base : ResolvedParts) (m : Moves) : Type 0 where

@@ -16,10 +16,11 @@ use Rattle.wb_numbering.specs.Sources.{sources, AreGrouped}
 use Rattle.wb_rows.specs.declared.moves.Moves.{Moves}
 use Rattle.wb_rows.specs.declared.scope.Scope.{Scope}
 use Rattle.wb_rows.specs.Grammars.{IsGrammarLike}
+use Rattle.wb_symbols.specs.Symbols.{AreNumbers, IsNameOf}
+use Rattle.wb_symbols.specs.Rows.{AreGroupedBy, IsTerminalNow, IsNonterminalNow}
 use Rattle.wb_names.specs.declared.rows.Rows.{Rows}
 use Rattle.wb_names.specs.declared.rows.Written.{Written}
-use Rattle.wb_names.specs.Inner.Ground.{AreNumbers, IsNameOf}
-use Rattle.wb_names.specs.Inner.Now.{AreGroupedBy, IsTerminalNow, IsNonterminalNow, IsProductionNow}
+use Rattle.wb_names.specs.Inner.Now.{IsProductionNow}
 use Rattle.wb_names.specs.Inner.Rest.{AreRest}
 use Rattle.wb_names.specs.Resolving.{file_scope}
 

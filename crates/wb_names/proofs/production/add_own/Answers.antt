@@ -16,7 +16,7 @@ pub own_parts-requires : goal.own_parts-requires
 own_parts-requires c =
     let context = c.args.context.now in
     let x : ProductionDeclaration = record { role = c.args.role; production = c.args.production.now } in
-    children_there (file_of context) context.scope.now c.requires.context.numbers.there c.requires.context.hold.meant x c.requires.there
+    children_there (file_of context) context.scope.now c.requires.context.numbers.there c.requires.context.right.hold.meant x c.requires.there
 
 pub declared_body-requires-clause-labels : goal.declared_body-requires-clause-labels
 declared_body-requires-clause-labels c =
@@ -27,7 +27,7 @@ declared_body-requires-clause-labels c =
     λ name children. KnowsLabels file name (labels_with children [] (equations_on name file.items)) in
     subst (λ (z : List ℕ). P z c.as_slice-2.result.now) (sym c.as_slice.ensures)
     (subst (λ (z : List Child). P x.production.name z) (sym c.as_slice-2.ensures)
-    (own_known file c.requires.context.hold.once x c.in_ok-own.own.children c.requires.there
+    (own_known file c.requires.context.right.hold.once x c.in_ok-own.own.children c.requires.there
     (found_labels context.scope.now x.production.children c.in_ok-own.own.children c.in_ok-own.ensures.children)))
 
 pub declared_row-requires-clause-body : goal.declared_row-requires-clause-body

@@ -21,7 +21,7 @@ add_all-added-requires c =
     let at = c.places_of-places.ensures items c.requires.context.writers in
     let names = labels_by_places items name places c.args.children.now c.deref.result.now c.args.body.now.locals.items
     c.in_ok-labels.labels.names c.in_ok-labels.ensures.names c.deref.ensures.value at in
-    all_there (file_of context) context.scope.now c.requires.context.numbers.there c.requires.context.hold.meant c.in_ok-labels.labels name
+    all_there (file_of context) context.scope.now c.requires.context.numbers.there c.requires.context.right.hold.meant c.in_ok-labels.labels name
     (subst (KnowsLabels (file_of context) name) (sym names) c.requires.labels) places at
 
 pub returns : goal.returns

@@ -11,7 +11,7 @@ number_of-requires c =
     let context = c.args.context.now in
     let x : ProductionDeclaration = record { role = c.args.role; production = c.args.production.now } in
     subst (Contains context.scope.now.nonterminals) (sym c.as_slice.ensures)
-    (left_there (file_of context) context.scope.now c.requires.context.numbers.there c.requires.context.hold.meant x c.requires.there)
+    (left_there (file_of context) context.scope.now c.requires.context.numbers.there c.requires.context.right.hold.meant x c.requires.there)
 
 pub returns : goal.returns
 returns c =
@@ -42,4 +42,4 @@ returns c =
       locals = c.from_vec.ensures;
       equations = c.from_vec-2.ensures;
     } in
-    declared_now file s context.moves.now c.requires.context.hold.once x row c.args.body parts c.requires.body
+    declared_now file s context.moves.now c.requires.context.right.hold.once x row c.args.body parts c.requires.body

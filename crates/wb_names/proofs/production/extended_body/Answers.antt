@@ -14,14 +14,14 @@ pub moved_locals-requires : goal.moved_locals-requires
 moved_locals-requires c =
     let context = c.args.context.now in
     subst (All (LocalIsWithin context.moves.now)) (sym c.as_slice.ensures)
-    (locals_within (file_of context) context.scope.now context.moves.now c.requires.context.numbers.tables c.requires.context.file.base
+    (locals_within (file_of context) context.scope.now context.moves.now c.requires.context.numbers.tables c.requires.context.right.is_file.base
     c.args.production.now c.requires.there)
 
 pub moved_equations-requires : goal.moved_equations-requires
 moved_equations-requires c =
     let context = c.args.context.now in
     subst (All (EquationIsWithin context.moves.now)) (sym c.as_slice-2.ensures)
-    (equations_within (file_of context) context.scope.now context.moves.now c.requires.context.numbers.tables c.requires.context.file.base
+    (equations_within (file_of context) context.scope.now context.moves.now c.requires.context.numbers.tables c.requires.context.right.is_file.base
     c.args.production.now c.requires.there)
 
 pub add_written-requires-clause-labels : goal.add_written-requires-clause-labels
@@ -34,7 +34,7 @@ add_written-requires-clause-labels c =
     c.in_ok-locals.ensures in
     subst (λ (z : List ℕ). KnowsLabels file z (labels_with c.args.children.now c.in_ok-locals.locals.items (equations_on z file.items)))
     (sym c.as_slice-3.ensures)
-    (base_known file c.requires.context.hold.once context.moves.now p c.args.children.now c.in_ok-locals.locals.items c.requires.there
+    (base_known file c.requires.context.right.hold.once context.moves.now p c.args.children.now c.in_ok-locals.locals.items c.requires.there
     c.requires.children locals)
 
 pub returns-in-Ok-add_written : goal.returns-in-Ok-add_written

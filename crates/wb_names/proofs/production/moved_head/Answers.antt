@@ -9,14 +9,14 @@ use Rattle.wb_names.proofs.production.moved_head.Goals as goal
 pub moved_forwards-requires : goal.moved_forwards-requires
 moved_forwards-requires c =
     let context = c.args.context.now in
-    forward_within (file_of context) context.scope.now context.moves.now c.requires.context.numbers.tables c.requires.context.file.base
+    forward_within (file_of context) context.scope.now context.moves.now c.requires.context.numbers.tables c.requires.context.right.is_file.base
     c.args.production.now c.requires.there
 
 pub moved_children-requires : goal.moved_children-requires
 moved_children-requires c =
     let context = c.args.context.now in
     subst (All (λ (z : Child). ChildKindIsWithin context.moves.now z.kind)) (sym c.as_slice.ensures)
-    (children_within (file_of context) context.scope.now context.moves.now c.requires.context.numbers.tables c.requires.context.file.base
+    (children_within (file_of context) context.scope.now context.moves.now c.requires.context.numbers.tables c.requires.context.right.is_file.base
     c.args.production.now c.requires.there)
 
 pub returns-in-Ok-moved_children : goal.returns-in-Ok-moved_children

@@ -2,10 +2,10 @@ use Rattle.std.proofs.Common.{◌≡◌, ◌++◌, ℕ, length}
 use Rattle.wb_naming.specs.Declarations.{productions}
 use Rattle.wb_numbering.specs.Resolves.{IsConcrete}
 use Rattle.wb_numbering.specs.Sources.{sources}
+use Rattle.wb_symbols.proofs.JoinedLemmas.{joined, ok_both}
 use Rattle.wb_names.specs.Inner.Bodies.{file_of}
 use Rattle.wb_names.specs.Inner.Now.{IsProductionNow}
 use Rattle.wb_names.specs.Inner.Productions.{AreProductions}
-use Rattle.wb_names.proofs.JoinedLemmas.{joined, ok_both}
 use Rattle.wb_names.proofs.ProductionsGrouped.{all_grouped}
 use Rattle.wb_names.proofs.productions.add_all.Goals as goal
 

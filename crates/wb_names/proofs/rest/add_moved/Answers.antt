@@ -3,7 +3,7 @@ use Rattle.std.proofs.lemmas.Option.{get_or_from_slice_get, slice_get-get_or}
 use Rattle.wb_rows.specs.Moves.{IsNow}
 use Rattle.wb_rows.specs.Plains.{AddsEach}
 use Rattle.wb_rows.proofs.PlainLemmas.{each_more, each_nothing}
-use Rattle.wb_names.proofs.Gathered.{each_all}
+use Rattle.wb_symbols.proofs.Gathered.{each_all}
 use Rattle.wb_names.proofs.rest.add_moved.Goals as goal
 
 pub numbers-preserved : goal.numbers-preserved

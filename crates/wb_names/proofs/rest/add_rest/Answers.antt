@@ -4,7 +4,7 @@ use Rattle.std.proofs.lemmas.Result.{on_ok_weaker}
 use Rattle.wb_naming.specs.Declarations.{extensibles}
 use Rattle.wb_rows.specs.Moves.{IsNow}
 use Rattle.wb_rows.specs.Nodes.{IsAt}
-use Rattle.wb_names.specs.Inner.Lent.{lent_file}
+use Rattle.wb_symbols.specs.Lent.{lent_file}
 use Rattle.wb_names.proofs.RestLemmas.{base_alone, each_after, each_fresh, extensible_within, items_there, plains_after, tables_of}
 use Rattle.wb_names.proofs.StartLemmas.{extensibles_there}
 use Rattle.wb_names.proofs.rest.add_rest.Goals as goal
@@ -14,16 +14,16 @@ add_moved-requires c =
     let file = lent_file c.args.file.now in
     let m = c.args.moves.now in
     subst (All (λ (k : ℕ). k < length m.nonterminals.items)) (sym c.as_slice.ensures)
-    (extensible_within file.base m c.requires.file.base (tables_of file c.args.scope.now m c.requires.numbers))
+    (extensible_within file.base m c.requires.right.is_file.base (tables_of file c.args.scope.now m c.requires.numbers))
 
 pub add_extensible-requires : goal.add_extensible-requires
-add_extensible-requires c = extensibles_there (lent_file c.args.file.now) c.requires.hold c.args.scope.now c.requires.numbers.there
+add_extensible-requires c = extensibles_there (lent_file c.args.file.now) c.requires.right.hold c.args.scope.now c.requires.numbers.there
 
 pub add_base-requires-clause-tables : goal.add_base-requires-clause-tables
 add_base-requires-clause-tables c = tables_of (lent_file c.args.file.now) c.args.scope.now c.args.moves.now c.requires.numbers
 
 pub add_plains-requires : goal.add_plains-requires
-add_plains-requires c = items_there (lent_file c.args.file.now) c.args.scope.now c.requires.hold c.requires.numbers.there
+add_plains-requires c = items_there (lent_file c.args.file.now) c.args.scope.now c.requires.right.hold c.requires.numbers.there
 
 pub returns : goal.returns
 returns c =

@@ -1,4 +1,4 @@
-use Rattle.wb_names.specs.Inner.Lent.{lent_file}
+use Rattle.wb_symbols.specs.Lent.{lent_file}
 use Rattle.wb_names.proofs.MadeRows.{rows_are}
 use Rattle.wb_names.proofs.rows.rows_on.Goals as goal
 
@@ -7,5 +7,5 @@ written_of-requires-clause-numbers c = c.in_ok-counts.ensures.numbers
 
 pub returns : goal.returns
 returns c =
-    rows_are (lent_file c.args.file.now) c.fill.new.ground c.in_ok-counts.counts c.in_ok-written.written c.joined_rows.result
+    rows_are (lent_file c.args.file.now) c.fill.new.symbols c.in_ok-counts.counts c.in_ok-written.written c.joined_rows.result
     c.in_ok-counts.ensures c.in_ok-written.ensures c.joined_rows.ensures

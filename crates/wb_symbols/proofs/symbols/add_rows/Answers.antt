@@ -1,0 +1,28 @@
+use Rattle.std.proofs.Common.{◌∙◌, ap, sym}
+use Rattle.wb_rows.specs.declared.scope.Scope.{Scope}
+use Rattle.wb_symbols.specs.Lent.{lent_file}
+use Rattle.wb_symbols.proofs.RowsNamed.{nonterminals_joined}
+use Rattle.wb_symbols.proofs.symbols.add_rows.Goals as goal
+
+pub add_attribute_names-requires : goal.add_attribute_names-requires
+add_attribute_names-requires c = ap (λ (z : Scope). z.attributes) c.requires.scope
+
+pub add_nonterminals-requires-clause-owner : goal.add_nonterminals-requires-clause-owner
+add_nonterminals-requires-clause-owner c = ap (λ (z : Scope). z.owner) c.requires.scope
+
+pub returns : goal.returns
+returns c =
+    let is = c.requires.scope in
+    record {
+      scope = λ j. record {
+        owner = (is j).owner;
+        terminals = (is j).terminals;
+        nonterminals = (is j).nonterminals;
+        attributes = c.in_ok-add_attribute_names.ensures j;
+        productions = (is j).productions;
+      };
+      terminals = c.in_ok-scanned.ensures;
+      nonterminals = λ s are. nonterminals_joined (lent_file c.args.file.now) c.requires.right.hold.once s c.add_attribute_names.new.names
+          c.in_ok-of_grammar.of_grammar c.args.nonterminals.now c.add_nonterminals.new.made c.requires.of_grammar c.requires.others
+          c.in_ok-of_grammar.ensures (are ∙ sym c.in_ok-add_attribute_names.ensures);
+    }

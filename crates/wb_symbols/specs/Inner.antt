@@ -1,0 +1,6 @@
+-- what each row or item adds to the names of a sort
+pub mod Names
+-- rows of nonterminals, those of the grammar apart from the others
+pub mod Nonterminals
+-- the numbers of a base's names, and the names of rows
+pub mod Tables
