@@ -21,7 +21,7 @@ use Rattle.wb_numbering.proofs.AllResolved.{gives_resolved}
 use Rattle.wb_numbering.proofs.RowLemmas.{map_contains}
 use Rattle.wb_rows.specs.Grammars.{IsGrammarLike, IsSymbolChild}
 use Rattle.wb_names.specs.Resolving.{file_scope}
-use Rattle.wb_names.specs.declared.rows.Rows.{Rows}
+use Rattle.wb_names.specs.Inner.Joined.{Rows}
 use Rattle.wb_names.specs.Inner.Now.{IsProductionNow}
 use Rattle.wb_names.specs.Inner.Value.{AreRows, HasGrammar, value_of}
 use Rattle.wb_names.proofs.GrammarRows.{IsConcreteRow, IsSymbol, concrete_row, plain_for, plain_grammar}
@@ -40,20 +40,20 @@ symbol_child t u c (child.Value kind.Bool) e some a b = absurd (cc some)
 symbol_child t u c (child.Value kind.Text) e some a b = absurd (cc some)
 
 module _ (file : File) (given : IsFile file) (hold : NamesHold (file_scope file)) (rows : Rows) (are : AreRows file rows) where
-  symbols : All (λ (p : Production). All IsSymbol p.children) (take rows.written.concrete rows.written.productions.items)
-  symbols = all_from_places (λ (p : Production). All IsSymbol p.children) (take rows.written.concrete rows.written.productions.items)
+  symbols : All (λ (p : Production). All IsSymbol p.children) (take rows.concrete rows.productions)
+  symbols = all_from_places (λ (p : Production). All IsSymbol p.children) (take rows.concrete rows.productions)
       (λ i p at. (concrete_row file given hold rows are i p at).symbols)
 
   abbrev r : ResolvedParts
-  r = value_of file rows (option_map (plain_grammar rows) rows.written.rest.start)
+  r = value_of file rows (option_map (plain_grammar rows) rows.rest.start)
 
   -- with this grammar the value is resolved
   pub plain_resolved : IsResolved r
   plain_resolved =
       gives_resolved file r given hold
-      (rows_resolve file given hold rows are (option_map (plain_grammar rows) rows.written.rest.start) (plain_for rows symbols))
+      (rows_resolve file given hold rows are (option_map (plain_grammar rows) rows.rest.start) (plain_for rows symbols))
 
-  module _ (start : ℕ) (begins : rows.written.rest.start ≡ Some start) where
+  module _ (start : ℕ) (begins : rows.rest.start ≡ Some start) where
     abbrev g : GrammarView
     g = plain_grammar rows start
 
@@ -87,23 +87,23 @@ module _ (file : File) (given : IsFile file) (hold : NamesHold (file_scope file)
           (map_contains (λ (x : Child). x.kind) p.children c has)))));
     }
 
-    concrete_fits : rows.written.concrete ≤ length rows.written.productions.items
+    concrete_fits : rows.concrete ≤ length rows.productions
     concrete_fits =
         let grouped = are.written.productions.0 in
         let a = AllZip-long (IsProductionNow file are.scope are.moves) (grouped.leading ++ grouped.following)
-        rows.written.productions.items grouped.are_rows in
+        rows.productions grouped.are_rows in
         let b = length-append grouped.leading grouped.following in
         omega (arith, a, b, are.written.productions.1)
 
-    has_grammar : HasGrammar rows start
+    has_grammar : HasGrammar rows.scanned rows.of_grammar rows.concrete rows.productions start
     has_grammar = record {
       begins = (of.nonterminals start).1 (inl (ap (option_map (λ (x : GrammarView). x.start)) grammar_is));
       concrete = concrete_fits;
-      productions = all_from_places (IsGrammarLike rows.scanned rows.of_grammar) (take rows.written.concrete rows.written.productions.items)
+      productions = all_from_places (IsGrammarLike rows.scanned rows.of_grammar) (take rows.concrete rows.productions)
           (λ i p at. like p (concrete_row file given hold rows are i p at));
     }
 
   -- where there is a start
-  pub grammar_ready : (o : Option ℕ) → rows.written.rest.start ≡ o → IfSome o (HasGrammar rows)
+  pub grammar_ready : (o : Option ℕ) → rows.rest.start ≡ o → IfSome o (HasGrammar rows.scanned rows.of_grammar rows.concrete rows.productions)
   grammar_ready None e = tt
   grammar_ready (Some start) e = has_grammar start e

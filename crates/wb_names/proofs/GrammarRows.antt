@@ -44,7 +44,7 @@ use Rattle.wb_rows.specs.declared.scope.Scope.{Scope}
 use Rattle.wb_rows.specs.Moves.{IsChildNow, IsChildKindNow, IsKindNow}
 use Rattle.wb_rows.specs.Scope.{IsFoundChild}
 use Rattle.wb_names.specs.Resolving.{file_scope}
-use Rattle.wb_names.specs.declared.rows.Rows.{Rows}
+use Rattle.wb_names.specs.Inner.Joined.{Rows}
 use Rattle.wb_names.specs.Inner.Now.{IsProductionNow}
 use Rattle.wb_names.specs.Inner.Value.{AreRows, IsGrammarFor}
 use Rattle.wb_names.proofs.ListLemmas.{all_some, leading_source, nothing_of, zip_facts, zip_images}
@@ -138,19 +138,19 @@ module _ (file : File) (given : IsFile file) (hold : NamesHold (file_scope file)
 
   -- each of the first rows is concrete, and its children are symbols
   pub record IsConcreteRow (row : Production) : Type 0 where
-    pub listed : Contains rows.written.productions.items row
+    pub listed : Contains rows.productions row
     pub role : row.role ≡ Concrete
     pub symbols : All IsSymbol row.children
 
-  pub concrete_row : (i : ℕ) (row : Production) → slice_get (take rows.written.concrete rows.written.productions.items) i ≡ Some row
+  pub concrete_row : (i : ℕ) (row : Production) → slice_get (take rows.concrete rows.productions) i ≡ Some row
       → IsConcreteRow row
   concrete_row i row at =
-      let (within, there) = at_take rows.written.productions.items rows.written.concrete i row at in
+      let (within, there) = at_take rows.productions rows.concrete i row at in
       let x = leading_source IsConcrete (IsProductionNow file s m) (sources b.productions (productions file.items))
-      rows.written.productions.items are.written.productions.0 i row
+      rows.productions are.written.productions.0 i row
       (subst (λ (z : ℕ). i < z) (sym are.written.productions.1) within) there in
       record {
-        listed = contains_at rows.written.productions.items row i there;
+        listed = contains_at rows.productions row i there;
         role = row_role x.source row x.leads x.is_row;
         symbols = row_symbols x.source row x.listed x.leads x.is_row;
       }
@@ -164,14 +164,14 @@ plain_grammar rows start = record {
   terminals = rows.scanned;
   nonterminals = rows.of_grammar;
   start = start;
-  productions = map plain_row (take rows.written.concrete rows.written.productions.items);
+  productions = map plain_row (take rows.concrete rows.productions);
 }
 
 plain_production : (p : Production) → All IsSymbol p.children → IsGrammarProduction p (plain_row p)
 plain_production p all = record { left = refl; right = all_some (λ (c : Child). symbol_of c.kind) p.children all }
 
-module _ (rows : Rows) (symbols : All (λ (p : Production). All IsSymbol p.children) (take rows.written.concrete
-    rows.written.productions.items))
+module _ (rows : Rows) (symbols : All (λ (p : Production). All IsSymbol p.children) (take rows.concrete
+    rows.productions))
   where
     start_is : (o : Option ℕ) → option_to_list (option_map (λ (g : GrammarView). g.start) (option_map (plain_grammar rows) o)) ≡
         option_to_list o
@@ -179,14 +179,14 @@ module _ (rows : Rows) (symbols : All (λ (p : Production). All IsSymbol p.child
     start_is (Some start) = refl
 
     made_is : (o : Option ℕ) → IfSome (option_map (plain_grammar rows) o)
-        (IsGrammarRow rows.scanned rows.of_grammar rows.written.concrete rows.written.productions.items)
+        (IsGrammarRow rows.scanned rows.of_grammar rows.concrete rows.productions)
     made_is None = tt
     made_is (Some start) = record {
       terminals_are = refl;
       nonterminals_are = refl;
       productions_are = zip_images (λ (p : Production). All IsSymbol p.children) IsGrammarProduction plain_row plain_production
-          (take rows.written.concrete rows.written.productions.items) symbols;
+          (take rows.concrete rows.productions) symbols;
     }
 
-    pub plain_for : IsGrammarFor rows (option_map (plain_grammar rows) rows.written.rest.start)
-    plain_for = record { start = start_is rows.written.rest.start; made = made_is rows.written.rest.start }
+    pub plain_for : IsGrammarFor rows.scanned rows.of_grammar rows.concrete rows.productions rows.rest.start (option_map (plain_grammar rows) rows.rest.start)
+    plain_for = record { start = start_is rows.rest.start; made = made_is rows.rest.start }

@@ -52,7 +52,7 @@ use Rattle.wb_rows.proofs.MovedLemmas.{AreMoves}
 use Rattle.wb_symbols.specs.Symbols.{IsTable}
 use Rattle.wb_symbols.specs.Rows.{IsTerminalNow, IsNonterminalNow}
 use Rattle.wb_names.specs.Resolving.{file_scope}
-use Rattle.wb_names.specs.declared.rows.Rows.{Rows}
+use Rattle.wb_names.specs.Inner.Joined.{Rows}
 use Rattle.wb_names.specs.Inner.Now.{IsProductionNow}
 use Rattle.wb_names.specs.Inner.Value.{AreRows}
 use Rattle.wb_names.proofs.ListLemmas.{before_at, image_at}
@@ -196,11 +196,11 @@ module _ (file : File) (given : IsFile file) (hold : NamesHold (file_scope file)
       (subst (λ (z : List ℕ). AreSame (d.Symbol name is) (d.Symbol z other)) (sym e) symbol)
 
   -- rows of a base's names are the base's
-  terminal_owner : (x row : Terminal) → Contains file.base.terminals x → Contains rows.terminals.items row → row.name ≡ x.name
+  terminal_owner : (x row : Terminal) → Contains file.base.terminals x → Contains rows.terminals row → row.name ≡ x.name
       → row.owner ≡ x.owner
   terminal_owner x row has listed e =
-      let (k, at) = place_of rows.terminals.items row listed in
-      let z = source_of IsScanned (IsTerminalNow file) (sources file.base.terminals (lexicals file.items)) rows.terminals.items
+      let (k, at) = place_of rows.terminals row listed in
+      let z = source_of IsScanned (IsTerminalNow file) (sources file.base.terminals (lexicals file.items)) rows.terminals
       are.terminals.0
       k row at in
       from z.source z.listed z.is_row where
@@ -212,12 +212,12 @@ module _ (file : File) (given : IsFile file) (hold : NamesHold (file_scope file)
         from (inr l) there is = absurd (apart x.name l.name (terminal_sort x.kind) (role_sort l.role) (terminal_declared file.base x has)
             (lexical_declares file.items l (source_declared file.base.terminals (lexicals file.items) l there)) (sym is.name ∙ e))
 
-  nonterminal_owner : (x row : Nonterminal) → Contains file.base.attributes.nonterminals x → Contains rows.nonterminals.items row
+  nonterminal_owner : (x row : Nonterminal) → Contains file.base.attributes.nonterminals x → Contains rows.nonterminals row
       → row.name ≡ x.name → row.owner ≡ x.owner
   nonterminal_owner x row has listed e =
-      let (k, at) = place_of rows.nonterminals.items row listed in
+      let (k, at) = place_of rows.nonterminals row listed in
       let z = source_of (IsInGrammarOf file) (IsNonterminalNow file s) (sources file.base.attributes.nonterminals (nonterminals file.items))
-      rows.nonterminals.items are.nonterminals.0 k row at in
+      rows.nonterminals are.nonterminals.0 k row at in
       from z.source z.listed z.is_row where
         from : (y : Nonterminal ⊎ List ℕ) → Contains (sources file.base.attributes.nonterminals (nonterminals file.items)) y
             → IsNonterminalNow file s y row → row.owner ≡ x.owner
@@ -229,12 +229,12 @@ module _ (file : File) (given : IsFile file) (hold : NamesHold (file_scope file)
             (nonterminal_declares file.items own (source_declared file.base.attributes.nonterminals (nonterminals file.items) own there))
             (sym is.name_is ∙ e))
 
-  production_owner : (x row : Production) → Contains file.base.attributes.productions x → Contains rows.written.productions.items row
+  production_owner : (x row : Production) → Contains file.base.attributes.productions x → Contains rows.productions row
       → row.name ≡ x.name → row.owner ≡ x.owner
   production_owner x row has listed e =
-      let (k, at) = place_of rows.written.productions.items row listed in
+      let (k, at) = place_of rows.productions row listed in
       let z = source_of IsConcrete (IsProductionNow file s m) (sources file.base.attributes.productions (productions file.items))
-      rows.written.productions.items are.written.productions.0 k row at in
+      rows.productions are.written.productions.0 k row at in
       from z.source z.listed z.is_row where
         from : (y : Production ⊎ ProductionDeclaration) → Contains (sources file.base.attributes.productions (productions file.items)) y
             → IsProductionNow file s m y row → row.owner ≡ x.owner
@@ -248,25 +248,25 @@ module _ (file : File) (given : IsFile file) (hold : NamesHold (file_scope file)
 
   pub are_moves : AreMoves m (move_of file (rows_numbering rows))
   are_moves = record {
-    nonterminals = moved_by (λ (x : Nonterminal). (x.owner, x.name)) file.base.attributes.nonterminals rows.nonterminals.items
+    nonterminals = moved_by (λ (x : Nonterminal). (x.owner, x.name)) file.base.attributes.nonterminals rows.nonterminals
         s.nonterminals
         m.nonterminals.items are.nonterminal_names are.numbers.tables.nonterminals nonterminal_owner;
-    terminals = moved_by (λ (t : Terminal). (t.owner, t.name)) file.base.terminals rows.terminals.items s.terminals m.terminals.items
+    terminals = moved_by (λ (t : Terminal). (t.owner, t.name)) file.base.terminals rows.terminals s.terminals m.terminals.items
         are.terminal_names are.numbers.tables.terminals terminal_owner;
-    productions = moved_by (λ (p : Production). (p.owner, p.name)) file.base.attributes.productions rows.written.productions.items
+    productions = moved_by (λ (p : Production). (p.owner, p.name)) file.base.attributes.productions rows.productions
         s.productions m.productions.items (production_names_are file given rows are) are.numbers.tables.productions production_owner;
   }
 
   -- attributes of the base are the first rows
   attribute_stays : (k : ℕ) → k < length (map attribute_entry file.base.attributes.attributes)
       → IsMovedNumber (λ (o : ℕ). o) (map attribute_entry file.base.attributes.attributes)
-      (map attribute_entry rows.written.rest.plains.attributes.items) k k
+      (map attribute_entry rows.rest.plains.attributes.items) k k
   attribute_stays k within =
       let below : k < length file.base.attributes.attributes =
       subst (λ (z : ℕ). k < z) (length-map file.base.attributes.attributes attribute_entry) within in
       let (x, at) = at_within file.base.attributes.attributes k below in
       let row = zip_at (IsFrom (IsAttributeNow m) (IsFoundAttribute s)) (sources file.base.attributes.attributes (attributes file.items))
-      rows.written.rest.plains.attributes.items k (inl x) are.written.rest.plains.attributes
+      rows.rest.plains.attributes.items k (inl x) are.written.rest.plains.attributes
       (before_at file.base.attributes.attributes (attributes file.items) k x at) in
       let is : IsAttributeNow m x row.other = row.related in
       let same_entry : attribute_entry row.other ≡ attribute_entry x = λ t. (is.owner t, is.name t) in
@@ -274,7 +274,7 @@ module _ (file : File) (given : IsFile file) (hold : NamesHold (file_scope file)
         owner = x.owner;
         name = x.name;
         before = name_at attribute_entry file.base.attributes.attributes k x at;
-        after = name_at attribute_entry rows.written.rest.plains.attributes.items k row.other row.there
+        after = name_at attribute_entry rows.rest.plains.attributes.items k row.other row.there
             ∙ ap (λ (z : Entry). Some z) same_entry;
       }
 

@@ -24,7 +24,7 @@ use Rattle.wb_rows.proofs.BaseMoved.{Stays}
 use Rattle.wb_rows.proofs.MovedLemmas.{AreMoves}
 use Rattle.wb_symbols.specs.Rows.{IsTerminalNow, IsNonterminalNow}
 use Rattle.wb_names.specs.Resolving.{file_scope}
-use Rattle.wb_names.specs.declared.rows.Rows.{Rows}
+use Rattle.wb_names.specs.Inner.Joined.{Rows}
 use Rattle.wb_names.specs.Inner.Now.{IsProductionNow}
 use Rattle.wb_names.specs.Inner.Rest.{IsNumberNow}
 use Rattle.wb_names.specs.Inner.Value.{AreRows, IsGrammarFor, value_of}
@@ -63,42 +63,42 @@ module _ (file : File) (given : IsFile file) (hold : NamesHold (file_scope file)
 
   -- the grammar of so many terminals, nonterminals and productions
   grammar_row : (g : Option GrammarView) (t u p v w q : ℕ) → t ≡ v → u ≡ w → p ≡ q
-      → IfSome g (IsGrammarRow v w q rows.written.productions.items) → IfSome g (IsGrammarRow t u p rows.written.productions.items)
+      → IfSome g (IsGrammarRow v w q rows.productions) → IfSome g (IsGrammarRow t u p rows.productions)
   grammar_row g t u p v w q a b c is =
-      subst (λ z. IfSome g (IsGrammarRow z u p rows.written.productions.items)) (sym a)
-      (subst (λ z. IfSome g (IsGrammarRow v z p rows.written.productions.items)) (sym b)
-      (subst (λ z. IfSome g (IsGrammarRow v w z rows.written.productions.items)) (sym c) is))
+      subst (λ z. IfSome g (IsGrammarRow z u p rows.productions)) (sym a)
+      (subst (λ z. IfSome g (IsGrammarRow v z p rows.productions)) (sym b)
+      (subst (λ z. IfSome g (IsGrammarRow v w z rows.productions)) (sym c) is))
 
-  pub rows_resolve : (g : Option GrammarView) → IsGrammarFor rows g → Resolves file (value_of file rows g)
+  pub rows_resolve : (g : Option GrammarView) → IsGrammarFor rows.scanned rows.of_grammar rows.concrete rows.productions rows.rest.start g → Resolves file (value_of file rows g)
   rows_resolve g is = record {
     host = refl;
     extensions = refl;
     terminals = grouped_listed IsScanned (IsTerminalNow file) (IsTerminal file n) (sources file.base.terminals (lexicals file.items))
-        rows.terminals.items (λ x row has e. is_terminal file n x row e) are.terminals.0;
+        rows.terminals (λ x row has e. is_terminal file n x row e) are.terminals.0;
     nonterminals = grouped_listed (IsInGrammarOf file) (IsNonterminalNow file s) (IsNonterminal file n)
-        (sources file.base.attributes.nonterminals (nonterminals file.items)) rows.nonterminals.items
+        (sources file.base.attributes.nonterminals (nonterminals file.items)) rows.nonterminals
         (is_nonterminal file given.base s m n are.numbers.owner scope moves stays) are.nonterminals.0;
     productions = grouped_listed IsConcrete (IsProductionNow file s m) (IsProduction file n)
-        (sources file.base.attributes.productions (productions file.items)) rows.written.productions.items production_is
+        (sources file.base.attributes.productions (productions file.items)) rows.productions production_is
         are.written.productions.0;
     attributes = zip_weaker (IsFrom (IsAttributeNow m) (IsFoundAttribute s)) (IsAttribute file n)
         (is_attribute file given.base s m n are.numbers.owner scope moves stays)
-        (sources file.base.attributes.attributes (attributes file.items)) rows.written.rest.plains.attributes.items
+        (sources file.base.attributes.attributes (attributes file.items)) rows.rest.plains.attributes.items
         are.written.rest.plains.attributes;
     occurrences = zip_listed (IsFrom (IsOccurrenceNow m) (IsFoundOccurrence s)) (IsOccurrence file n)
-        (sources file.base.attributes.occurrences (occurrences file.items)) rows.written.rest.plains.occurrences.items
+        (sources file.base.attributes.occurrences (occurrences file.items)) rows.rest.plains.occurrences.items
         (is_occurrence file given.base s m n are.numbers.owner scope moves stays) are.written.rest.plains.occurrences;
     preferences = zip_weaker (IsFrom (IsPreferenceNow m) (IsFoundPreference s)) (IsPreference file n)
         (is_preference file given.base s m n are.numbers.owner scope moves stays)
-        (sources file.base.preferences (preferences file.items)) rows.written.rest.plains.preferences.items
+        (sources file.base.preferences (preferences file.items)) rows.rest.plains.preferences.items
         are.written.rest.plains.preferences;
     extensible = zip_weaker (IsNumberNow s m) (IsNonterminalNumber file n) number_is (sources file.base.extensible (extensibles file.items))
-        rows.written.rest.extensible.items are.written.rest.extensible;
+        rows.rest.extensible.items are.written.rest.extensible;
     start = subst (AllZip (IsNonterminalNumber file n) (sources (starts_of file.base) (starts file.items))) (sym is.start)
         (zip_weaker (IsNumberNow s m) (IsNonterminalNumber file n) number_is (sources (starts_of file.base) (starts file.items))
-        (option_to_list rows.written.rest.start) are.written.rest.start);
+        (option_to_list rows.rest.start) are.written.rest.start);
     grammar = grammar_row g (length are.terminals.0.leading) (length are.nonterminals.0.leading)
-        (length are.written.productions.0.leading) rows.scanned rows.of_grammar rows.written.concrete are.terminals.1 are.nonterminals.1
+        (length are.written.productions.0.leading) rows.scanned rows.of_grammar rows.concrete are.terminals.1 are.nonterminals.1
         are.written.productions.1 is.made;
     signatures = refl;
   }

@@ -24,7 +24,7 @@ use Rattle.wb_rows.specs.Plains.{IsFoundAttribute}
 use Rattle.wb_rows.specs.Scope.{AreNames, IsScope}
 use Rattle.wb_symbols.specs.Symbols.{IsNameOf}
 use Rattle.wb_symbols.specs.Rows.{IsTerminalNow, IsNonterminalNow}
-use Rattle.wb_names.specs.declared.rows.Rows.{Rows}
+use Rattle.wb_names.specs.Inner.Joined.{Rows}
 use Rattle.wb_names.specs.Inner.Now.{IsProductionNow}
 use Rattle.wb_names.specs.Inner.Value.{AreRows}
 use Rattle.wb_names.proofs.ListLemmas.{map_fuse, map_sources, same_grouped}
@@ -32,10 +32,10 @@ use Rattle.wb_names.proofs.ListLemmas.{map_fuse, map_sources, same_grouped}
 -- the numbering of rows
 abbrev pub rows_numbering : Rows → Numbering
 rows_numbering rows = record {
-  terminals = map (λ (t : Terminal). (t.owner, t.name)) rows.terminals.items;
-  nonterminals = map (λ (n : Nonterminal). (n.owner, n.name)) rows.nonterminals.items;
-  attributes = map (λ (a : Attribute). (a.owner, a.name)) rows.written.rest.plains.attributes.items;
-  productions = map (λ (p : Production). (p.owner, p.name)) rows.written.productions.items;
+  terminals = map (λ (t : Terminal). (t.owner, t.name)) rows.terminals;
+  nonterminals = map (λ (n : Nonterminal). (n.owner, n.name)) rows.nonterminals;
+  attributes = map (λ (a : Attribute). (a.owner, a.name)) rows.rest.plains.attributes.items;
+  productions = map (λ (p : Production). (p.owner, p.name)) rows.productions;
 }
 
 -- names of rows whose owners are seen
@@ -102,61 +102,61 @@ module _ (file : File) (given : IsFile file) (rows : Rows) (are : AreRows file r
   production_named (inl t) name row a b = a ∙ sym b.name
   production_named (inr d) name row a b = a ∙ sym b.name
 
-  pub attribute_names_are : s.attributes ≡ map (λ (a : Attribute). a.name) rows.written.rest.plains.attributes.items
+  pub attribute_names_are : s.attributes ≡ map (λ (a : Attribute). a.name) rows.rest.plains.attributes.items
   attribute_names_are =
       are.attribute_names ∙ sym (zip_map (IsFrom (IsAttributeNow m) (IsFoundAttribute s)) attribute_name (λ (a : Attribute). a.name)
-      attribute_named (sources file.base.attributes.attributes (attributes file.items)) rows.written.rest.plains.attributes.items
+      attribute_named (sources file.base.attributes.attributes (attributes file.items)) rows.rest.plains.attributes.items
       are.written.rest.plains.attributes
       ∙ map_sources attribute_name file.base.attributes.attributes (attributes file.items))
 
-  pub production_names_are : s.productions ≡ map (λ (p : Production). p.name) rows.written.productions.items
+  pub production_names_are : s.productions ≡ map (λ (p : Production). p.name) rows.productions
   production_names_are =
       same_grouped IsConcrete IsNameOf (IsProductionNow file s m) (λ (p : Production). p.name) production_named
-      (sources file.base.attributes.productions (productions file.items)) s.productions rows.written.productions.items
+      (sources file.base.attributes.productions (productions file.items)) s.productions rows.productions
       are.production_names are.written.productions.0
 
   -- the scope is that of the rows
   seen_as : (o : ℕ) → Sees file.owner o → Sees s.owner o
   seen_as o = subst (λ (z : ℕ). Sees z o) (sym are.numbers.owner)
 
-  terminals_seen : (row : Terminal) → Contains rows.terminals.items row → Sees s.owner row.owner
+  terminals_seen : (row : Terminal) → Contains rows.terminals row → Sees s.owner row.owner
   terminals_seen row has =
-      let (k, at) = place_of rows.terminals.items row has in
-      let z = source_of IsScanned (IsTerminalNow file) (sources file.base.terminals (lexicals file.items)) rows.terminals.items
+      let (k, at) = place_of rows.terminals row has in
+      let z = source_of IsScanned (IsTerminalNow file) (sources file.base.terminals (lexicals file.items)) rows.terminals
       are.terminals.0
       k row at in
       seen_as row.owner (terminal_seen z.source row z.listed z.is_row)
 
-  nonterminals_seen : (row : Nonterminal) → Contains rows.nonterminals.items row → Sees s.owner row.owner
+  nonterminals_seen : (row : Nonterminal) → Contains rows.nonterminals row → Sees s.owner row.owner
   nonterminals_seen row has =
-      let (k, at) = place_of rows.nonterminals.items row has in
+      let (k, at) = place_of rows.nonterminals row has in
       let z = source_of (IsInGrammarOf file) (IsNonterminalNow file s) (sources file.base.attributes.nonterminals (nonterminals file.items))
-      rows.nonterminals.items are.nonterminals.0 k row at in
+      rows.nonterminals are.nonterminals.0 k row at in
       seen_as row.owner (nonterminal_seen z.source row z.listed z.is_row)
 
-  productions_seen : (row : Production) → Contains rows.written.productions.items row → Sees s.owner row.owner
+  productions_seen : (row : Production) → Contains rows.productions row → Sees s.owner row.owner
   productions_seen row has =
-      let (k, at) = place_of rows.written.productions.items row has in
+      let (k, at) = place_of rows.productions row has in
       let z = source_of IsConcrete (IsProductionNow file s m) (sources file.base.attributes.productions (productions file.items))
-      rows.written.productions.items are.written.productions.0 k row at in
+      rows.productions are.written.productions.0 k row at in
       seen_as row.owner (production_seen z.source row z.listed z.is_row)
 
-  attributes_seen : (row : Attribute) → Contains rows.written.rest.plains.attributes.items row → Sees s.owner row.owner
+  attributes_seen : (row : Attribute) → Contains rows.rest.plains.attributes.items row → Sees s.owner row.owner
   attributes_seen row has =
-      let (k, at) = place_of rows.written.rest.plains.attributes.items row has in
+      let (k, at) = place_of rows.rest.plains.attributes.items row has in
       let z = source_of_zip (IsFrom (IsAttributeNow m) (IsFoundAttribute s))
-      (sources file.base.attributes.attributes (attributes file.items)) rows.written.rest.plains.attributes.items
+      (sources file.base.attributes.attributes (attributes file.items)) rows.rest.plains.attributes.items
       are.written.rest.plains.attributes k row at in
       seen_as row.owner (attribute_seen z.source row z.listed z.is_row)
 
   pub is_scope : IsScope s (rows_numbering rows)
   is_scope = record {
-    terminals = are_names (λ (t : Terminal). (t.owner, t.name)) rows.terminals.items s.terminals s.owner are.terminal_names terminals_seen;
-    nonterminals = are_names (λ (n : Nonterminal). (n.owner, n.name)) rows.nonterminals.items s.nonterminals s.owner are.nonterminal_names
+    terminals = are_names (λ (t : Terminal). (t.owner, t.name)) rows.terminals s.terminals s.owner are.terminal_names terminals_seen;
+    nonterminals = are_names (λ (n : Nonterminal). (n.owner, n.name)) rows.nonterminals s.nonterminals s.owner are.nonterminal_names
         nonterminals_seen;
-    attributes = are_names (λ (a : Attribute). (a.owner, a.name)) rows.written.rest.plains.attributes.items s.attributes s.owner
+    attributes = are_names (λ (a : Attribute). (a.owner, a.name)) rows.rest.plains.attributes.items s.attributes s.owner
         attribute_names_are attributes_seen;
-    productions = are_names (λ (p : Production). (p.owner, p.name)) rows.written.productions.items s.productions s.owner
+    productions = are_names (λ (p : Production). (p.owner, p.name)) rows.productions s.productions s.owner
         production_names_are
         productions_seen;
   }

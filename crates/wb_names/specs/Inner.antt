@@ -4,6 +4,7 @@ pub mod Productions
 pub mod Wrong
 pub mod Rest
 pub mod Value
+pub mod Unwritten
 pub mod Joined
 pub mod Copies
 pub mod Writers

@@ -1,22 +1,27 @@
 //! Which numbered value does a file stand for on its base, where each of its names is right?
 //!
-//! All rows are there; what is left are the grammar, and what repeats the file or its rows.
+//! All rows are made empty, filled and lent; then the grammar is made of them, and what repeats the file or its rows is copied.
 
-ghost use Rattle.std.specs.Prelude.{◌≡◌, IfOk, IfSome, Some};
+ghost use Rattle.std.specs.Prelude.{◌≡◌, IfOk, IfSome};
 ghost use Rattle.wb_resolved.specs.Resolved.{IsResolved};
 ghost use Rattle.wb_numbering.specs.Resolves.{Resolves};
+ghost use Rattle.wb_symbols.specs.Empty.{IsEmpty};
 ghost use Rattle.wb_symbols.specs.Lent.{lent_file};
-ghost use Rattle.wb_names.specs.Inner.Copies.{AreCopies, AreTitles, value_with};
+ghost use Rattle.wb_symbols.specs.Symbols.{AreSymbols};
+ghost use Rattle.wb_names.specs.Inner.Copies.{AreCopies, value_with};
 ghost use Rattle.wb_names.specs.Inner.Rest.{IsReady};
-ghost use Rattle.wb_names.specs.Inner.Value.{AreRows, HasGrammar, IsGrammarFor, made_value};
+ghost use Rattle.wb_names.specs.Inner.Unwritten.{IsUnwritten};
+ghost use Rattle.wb_names.specs.Inner.Value.{HasGrammar, IsGrammarFor};
 
-use crate::rows::{Rows, rows_of};
+use crate::rows::{Written, nothing_written, write};
 use std::alloc::{AllocError, Global};
+use std::mem::replace;
 use wb_base::{Bytes, Grammar, Sequence};
-use wb_resolved::{Attribution, AttributionParts, Preference, Resolved, ResolvedParts, Terminal};
+use wb_resolved::{Attribution, AttributionParts, Resolved, ResolvedParts};
 use wb_rows::grammar::grammar_of;
 use wb_rows::signatures::signatures_of;
 use wb_symbols::lent::Lent;
+use wb_symbols::symbols::{Counts, Symbols, fill, no_symbols};
 use wb_values::Signatures;
 
 // The numbered value. The only error is want of memory.
@@ -24,14 +29,41 @@ pub(crate) fn numbered(alloc: Global, file: &Lent) -> Result<Resolved, AllocErro
     requires { IsReady (lent_file file.now) }
     ensures { IfOk result (Resolves (lent_file file.now)) }
 {
-    let rows = rows_of(alloc, file)?;
-    match copies_of(alloc, file, &rows) {
-        Ok(copies) => value(alloc, rows, copies),
-        Err(error) => {
-            drop(rows);
-            Err(error)
-        }
-    }
+    let mut symbols = no_symbols(alloc, file.owner);
+    let made = numbered_on(alloc, file, &mut symbols);
+    symbols.release();
+    made
+}
+
+// The same, where the symbols are to be filled.
+fn numbered_on(alloc: Global, file: &Lent, symbols: &mut Symbols) -> Result<Resolved, AllocError>
+    requires ready { IsReady (lent_file file.now) }
+    requires nothing { IsEmpty file.now.owner symbols.old }
+    ensures { IfOk result (Resolves (lent_file file.now)) }
+{
+    let counts = fill(alloc, file, symbols)?;
+    let mut written = nothing_written(alloc);
+    let made = numbered_with(alloc, file, counts, symbols, &mut written);
+    drop(written);
+    made
+}
+
+// The same, where the symbols are there, of which so many lead, and the rest is to be written.
+fn numbered_with(
+    alloc: Global,
+    file: &Lent,
+    counts: Counts,
+    symbols: &mut Symbols,
+    written: &mut Written,
+) -> Result<Resolved, AllocError>
+    requires ready { IsReady (lent_file file.now) }
+    requires symbols { AreSymbols (lent_file file.now) counts symbols.old }
+    requires nothing { IsUnwritten written.old }
+    ensures { IfOk result (Resolves (lent_file file.now)) }
+{
+    write(alloc, file, symbols, written)?;
+    let copies = copies_of(alloc, file, counts, written)?;
+    value(alloc, symbols, written, copies)
 }
 
 // The grammar of rows, and copies of what the file and its rows have.
@@ -44,142 +76,112 @@ struct Copies {
 }
 
 // Those of a file and its rows. The only error is want of memory.
-fn copies_of(alloc: Global, file: &Lent, rows: &Rows) -> Result<Copies, AllocError>
-    requires grammar { IfSome rows.now.written.rest.start (HasGrammar rows.now) }
-    ensures { IfOk result (AreCopies (lent_file file.now) rows.now) }
+fn copies_of(
+    alloc: Global,
+    file: &Lent,
+    counts: Counts,
+    written: &Written,
+) -> Result<Copies, AllocError>
+    requires { IfSome written.now.rest.start (HasGrammar counts.scanned counts.of_grammar written.now.concrete written.now.productions.concrete.items) }
+    ensures { IfOk result (AreCopies (lent_file file.now) counts written.now) }
 {
-    let titles = titles_of(alloc, file)?;
-    let grammar = match grammar_for(alloc, rows) {
-        Ok(grammar) => grammar,
+    let host = file.base.host.copy()?;
+    let extensions = match Vec::from_clones(alloc, file.extensions) {
+        Ok(extensions) => extensions,
         Err(error) => {
-            drop(titles);
+            drop(host);
             return Err(error);
         }
     };
-    match signatures_of(alloc, file.extensions, &rows.written.productions) {
+    let grammar = match grammar_for(alloc, counts, written) {
+        Ok(grammar) => grammar,
+        Err(error) => {
+            drop(host);
+            drop(extensions);
+            return Err(error);
+        }
+    };
+    match signatures_of(alloc, file.extensions, &written.productions.concrete) {
         Ok(signatures) => Ok(Copies {
             grammar,
-            host: titles.host,
-            extensions: titles.extensions,
+            host,
+            extensions: Sequence::from_vec(extensions),
             signatures,
         }),
         Err(error) => {
-            drop(titles);
+            drop(host);
+            drop(extensions);
             drop(grammar);
             Err(error)
         }
     }
 }
 
-// The names of a host and of its extensions.
-#[derive(Drop)]
-struct Titles {
-    host: Bytes,
-    extensions: Sequence<Bytes>,
-}
-
-// Those of a file.
-fn titles_of(alloc: Global, file: &Lent) -> Result<Titles, AllocError>
-    ensures { IfOk result (AreTitles (lent_file file.now)) }
-{
-    let host = file.base.host.copy()?;
-    match Vec::from_clones(alloc, file.extensions) {
-        Ok(extensions) => Ok(Titles {
-            host,
-            extensions: Sequence::from_vec(extensions),
-        }),
-        Err(error) => {
-            drop(host);
-            Err(error)
-        }
-    }
-}
-
 // The grammar, where there is a start.
-fn grammar_for(alloc: Global, rows: &Rows) -> Result<Option<Grammar>, AllocError>
-    requires { IfSome rows.now.written.rest.start (HasGrammar rows.now) }
-    ensures { IfOk result (IsGrammarFor rows.now) }
+fn grammar_for(
+    alloc: Global,
+    counts: Counts,
+    written: &Written,
+) -> Result<Option<Grammar>, AllocError>
+    requires { IfSome written.now.rest.start (HasGrammar counts.scanned counts.of_grammar written.now.concrete written.now.productions.concrete.items) }
+    ensures { IfOk result (IsGrammarFor counts.scanned counts.of_grammar written.now.concrete written.now.productions.concrete.items written.now.rest.start) }
 {
-    match rows.written.rest.start {
+    match written.rest.start {
         None => Ok(None),
         Some(start) => Ok(Some(grammar_of(
             alloc,
-            rows.scanned,
-            rows.of_grammar,
+            counts.scanned,
+            counts.of_grammar,
             start,
-            &rows.written.productions[..rows.written.concrete],
+            &written.productions.concrete[..written.concrete],
         )?)),
     }
 }
 
-// The value of the rows.
-fn value(alloc: Global, rows: Rows, copies: Copies) -> Result<Resolved, AllocError>
-    requires { IsResolved (made_value rows copies.host copies.extensions copies.signatures copies.grammar) }
-    ensures { IfOk result (λ r. r ≡ made_value rows copies.host copies.extensions copies.signatures copies.grammar) }
+// The value of the rows, whose lists are taken out of them.
+fn value(
+    alloc: Global,
+    symbols: &mut Symbols,
+    written: &mut Written,
+    copies: Copies,
+) -> Result<Resolved, AllocError>
+    requires { IsResolved (value_with symbols.old written.old copies) }
+    ensures { IfOk result (λ r. r ≡ value_with symbols.old written.old copies) }
 {
-    let halves = halves_of(rows, copies);
-    match Attribution::new(alloc, halves.attribution) {
-        Ok(attributes) => Resolved::new(alloc, whole(halves.others, attributes)),
+    let attributes = Attribution::new(
+        alloc,
+        AttributionParts {
+            extensions: copies.extensions,
+            nonterminals: taken(alloc, &mut symbols.nonterminals.of_grammar),
+            attributes: taken(alloc, &mut written.rest.plains.attributes),
+            occurrences: taken(alloc, &mut written.rest.plains.occurrences),
+            productions: taken(alloc, &mut written.productions.concrete),
+            signatures: copies.signatures,
+        },
+    );
+    match attributes {
+        Ok(attributes) => Resolved::new(
+            alloc,
+            ResolvedParts {
+                host: copies.host,
+                grammar: copies.grammar,
+                terminals: taken(alloc, &mut symbols.terminals.scanned),
+                preferences: taken(alloc, &mut written.rest.plains.preferences),
+                extensible: taken(alloc, &mut written.rest.extensible),
+                attributes,
+            },
+        ),
         Err(error) => {
-            drop(halves.others);
+            drop(copies.host);
+            drop(copies.grammar);
             Err(error)
         }
     }
 }
 
-// The parts of a value's attribution, and the others.
-#[derive(Drop)]
-struct Halves {
-    attribution: AttributionParts,
-    others: Others,
-}
-
-// What a value has beside its attribution.
-#[derive(Drop)]
-struct Others {
-    host: Bytes,
-    grammar: Option<Grammar>,
-    terminals: Sequence<Terminal>,
-    preferences: Sequence<Preference>,
-    extensible: Sequence<usize>,
-}
-
-// Both halves of the rows' value.
-fn halves_of(rows: Rows, copies: Copies) -> Halves
-    ensures { value_with result.others result.attribution ≡ made_value rows copies.host copies.extensions copies.signatures copies.grammar }
+// What a list has; nothing is left in it.
+fn taken<T>(alloc: Global, list: &mut Vec<T>) -> Sequence<T>
+    ensures { result ≡ list.old.items }
 {
-    let written = rows.written;
-    let rest = written.rest;
-    let plains = rest.plains;
-    Halves {
-        attribution: AttributionParts {
-            extensions: copies.extensions,
-            nonterminals: Sequence::from_vec(rows.nonterminals),
-            attributes: Sequence::from_vec(plains.attributes),
-            occurrences: Sequence::from_vec(plains.occurrences),
-            productions: Sequence::from_vec(written.productions),
-            signatures: copies.signatures,
-        },
-        others: Others {
-            host: copies.host,
-            grammar: copies.grammar,
-            terminals: Sequence::from_vec(rows.terminals),
-            preferences: Sequence::from_vec(plains.preferences),
-            extensible: Sequence::from_vec(rest.extensible),
-        },
-    }
-}
-
-// The value that has these attributes.
-fn whole(others: Others, attributes: Attribution) -> ResolvedParts
-    ensures { result ≡ value_with others attributes }
-{
-    ResolvedParts {
-        host: others.host,
-        grammar: others.grammar,
-        terminals: others.terminals,
-        preferences: others.preferences,
-        extensible: others.extensible,
-        attributes,
-    }
+    Sequence::from_vec(replace(list, Vec::new(alloc)))
 }

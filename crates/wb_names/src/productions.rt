@@ -4,23 +4,16 @@
 
 ghost use Rattle.std.specs.Prelude.{◌≡◌, [], Contains, IfOk, OnOk, option_to_list};
 ghost use Rattle.wb_naming.specs.Declarations.{production_of, productions};
-ghost use Rattle.wb_symbols.specs.Lent.{lent_file};
-ghost use Rattle.wb_symbols.specs.Right.{IsRight};
-ghost use Rattle.wb_symbols.specs.Symbols.{AreNumbers};
 ghost use Rattle.wb_names.specs.Inner.Bodies.{IsContext, file_of};
 ghost use Rattle.wb_names.specs.Inner.Now.{IsDeclaredNow, IsExtendedNow};
 ghost use Rattle.wb_names.specs.Inner.Productions.{AreProductions};
 ghost use Rattle.wb_names.specs.Inner.Rows.{AddsProductions, AddsRow, declares_concrete, has_concrete};
 
 use crate::production::{Context, add_extended, add_own};
-use crate::writers::writers_of;
 use std::alloc::{AllocError, Global};
 use wb_base::push;
 use wb_resolved::{Production, ProductionRole};
-use wb_rows::moves::Moves;
-use wb_rows::scope::Scope;
 use wb_symbols::joined::join;
-use wb_symbols::lent::Lent;
 use wb_syntax::{Item, ItemForm, Pattern};
 
 // The concrete ones, and the others.
@@ -34,31 +27,9 @@ pub(crate) struct Productions {
 // memory.
 pub(crate) fn add_productions(
     alloc: Global,
-    file: &Lent,
-    scope: &Scope,
-    moves: &Moves,
+    context: &Context,
     made: &mut Productions,
 ) -> Result<usize, AllocError>
-    requires right { IsRight (lent_file file.now) }
-    requires numbers { AreNumbers (lent_file file.now) scope.now moves.now }
-    requires concrete { made.old.concrete.items ≡ [] }
-    requires others { made.old.others.items ≡ [] }
-    ensures { IfOk result (λ count. AreProductions (lent_file file.now) scope.now moves.now count made.new.concrete.items) }
-{
-    let writers = writers_of(alloc, file.items)?;
-    let context = Context {
-        file: *file,
-        scope,
-        moves,
-        writers: &writers,
-    };
-    let count = add_all(alloc, &context, made);
-    drop(writers);
-    count
-}
-
-// Adds the rows, in a context.
-fn add_all(alloc: Global, context: &Context, made: &mut Productions) -> Result<usize, AllocError>
     requires context { IsContext context.now }
     requires concrete { made.old.concrete.items ≡ [] }
     requires others { made.old.others.items ≡ [] }

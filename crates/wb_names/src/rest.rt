@@ -14,9 +14,8 @@ ghost use Rattle.wb_rows.specs.Moves.{IsNow};
 ghost use Rattle.wb_rows.specs.Nodes.{IsAt};
 ghost use Rattle.wb_rows.specs.Plains.{AddsEach};
 ghost use Rattle.wb_symbols.specs.Lent.{lent_file};
-ghost use Rattle.wb_symbols.specs.Right.{IsRight};
 ghost use Rattle.wb_symbols.specs.Symbols.{AreNumbers};
-ghost use Rattle.wb_names.specs.Inner.Rest.{AddsBase, AreRest, HasTables, IsBegun, IsNumberNow, IsReady};
+ghost use Rattle.wb_names.specs.Inner.Rest.{AddsBase, AreRest, HasTables, IsBare, IsNumberNow, IsReady};
 
 use std::alloc::{AllocError, Global};
 use wb_base::push;
@@ -36,48 +35,20 @@ pub(crate) struct Rest {
     pub(crate) start: Option<usize>,
 }
 
-// Those of a base and a file. The only error is want of memory.
-pub(crate) fn rest_of(
-    alloc: Global,
-    file: &Lent,
-    scope: &Scope,
-    moves: &Moves,
-) -> Result<Rest, AllocError>
-    requires ready { IsReady (lent_file file.now) }
-    requires numbers { AreNumbers (lent_file file.now) scope.now moves.now }
-    ensures { IfOk result (AreRest (lent_file file.now) scope.now moves.now) }
-{
-    let mut rest = Rest {
-        plains: Plains {
-            attributes: Vec::new(alloc),
-            occurrences: Vec::new(alloc),
-            preferences: Vec::new(alloc),
-        },
-        extensible: Vec::new(alloc),
-        start: start_of(file, scope, moves),
-    };
-    match add_rest(alloc, file, scope, moves, &mut rest) {
-        Ok(()) => Ok(rest),
-        Err(error) => {
-            drop(rest);
-            Err(error)
-        }
-    }
-}
-
-// Adds the rows and numbers to none.
-fn add_rest(
+// Adds those of a base and a file to none. The only error is want of memory.
+pub(crate) fn add_rest(
     alloc: Global,
     file: &Lent,
     scope: &Scope,
     moves: &Moves,
     rest: &mut Rest,
 ) -> Result<(), AllocError>
-    requires right { IsRight (lent_file file.now) }
+    requires ready { IsReady (lent_file file.now) }
     requires numbers { AreNumbers (lent_file file.now) scope.now moves.now }
-    requires begun { IsBegun (lent_file file.now) scope.now moves.now rest.old }
+    requires nothing { IsBare rest.old }
     ensures { OnOk result (AreRest (lent_file file.now) scope.now moves.now rest.new) }
 {
+    rest.start = start_of(file, scope, moves);
     let extensible = &mut rest.extensible;
     add_moved(moves, file.base.extensible.as_slice(), extensible)?;
     add_extensible(scope, file.items, extensible)?;

@@ -14,8 +14,8 @@ use wb_syntax::{Item, ItemForm, Pattern};
 // Names of productions on which items write, and for each the places of these items.
 #[derive(Drop)]
 pub(crate) struct Writers {
-    names: Names,
-    places: Vec<Vec<usize>>,
+    pub(crate) names: Names,
+    pub(crate) places: Vec<Vec<usize>>,
 }
 
 impl Writers {
@@ -31,25 +31,12 @@ impl Writers {
     }
 }
 
-// The places of those of these items that write on productions. The only error is want of memory.
-pub(crate) fn writers_of(alloc: Global, items: &[Item<Pattern>]) -> Result<Writers, AllocError>
-    ensures { IfOk result (AreWriters items.now items.now) }
-{
-    let mut made = Writers {
-        names: Names::new(alloc),
-        places: Vec::new(alloc),
-    };
-    match add_items(alloc, items, &mut made) {
-        Ok(()) => Ok(made),
-        Err(error) => {
-            drop(made);
-            Err(error)
-        }
-    }
-}
-
-// Adds the places of these items to none.
-fn add_items(alloc: Global, items: &[Item<Pattern>], made: &mut Writers) -> Result<(), AllocError>
+// Adds the places of those of these items that write on productions to none. The only error is want of memory.
+pub(crate) fn add_items(
+    alloc: Global,
+    items: &[Item<Pattern>],
+    made: &mut Writers,
+) -> Result<(), AllocError>
     requires { AreWriters items.now [] made.old }
     ensures { OnOk result (AreWriters items.now items.now made.new) }
 {

@@ -47,6 +47,13 @@ pub record AreBasePlains (base : ResolvedParts) (m : Moves) (plains : Plains) : 
   pub occurrences : AllZip (IsOccurrenceNow m) base.attributes.occurrences plains.occurrences.items
   pub preferences : AllZip (IsPreferenceNow m) base.preferences plains.preferences.items
 
+-- no rows and numbers
+pub record IsBare (rest : Rest) : Type 0 where
+  pub attributes : rest.plains.attributes.items ≡ []
+  pub occurrences : rest.plains.occurrences.items ≡ []
+  pub preferences : rest.plains.preferences.items ≡ []
+  pub extensible : rest.extensible.items ≡ []
+
 module _ (file : File) (s : Scope) (m : Moves) where
   -- the rows of the base, and those of what the file declares
   pub record ArePlains (plains : Plains) : Type 0 where
@@ -57,14 +64,6 @@ module _ (file : File) (s : Scope) (m : Moves) where
         (sources file.base.attributes.occurrences (occurrences file.items)) plains.occurrences.items
     pub preferences : AllZip (IsFrom (IsPreferenceNow m) (IsFoundPreference s)) (sources file.base.preferences (preferences file.items))
         plains.preferences.items
-
-  -- no rows and numbers but that of the start
-  pub record IsBegun (rest : Rest) : Type 0 where
-    pub attributes : rest.plains.attributes.items ≡ []
-    pub occurrences : rest.plains.occurrences.items ≡ []
-    pub preferences : rest.plains.preferences.items ≡ []
-    pub extensible : rest.extensible.items ≡ []
-    pub start : AllZip (IsNumberNow s m) (sources (starts_of file.base) (starts file.items)) (option_to_list rest.start)
 
   -- rows and numbers of the base, and of what the file declares
   pub record AreRest (rest : Rest) : Type 0 where

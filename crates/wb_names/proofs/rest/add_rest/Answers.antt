@@ -14,34 +14,34 @@ add_moved-requires c =
     let file = lent_file c.args.file.now in
     let m = c.args.moves.now in
     subst (All (λ (k : ℕ). k < length m.nonterminals.items)) (sym c.as_slice.ensures)
-    (extensible_within file.base m c.requires.right.is_file.base (tables_of file c.args.scope.now m c.requires.numbers))
+    (extensible_within file.base m c.requires.ready.right.is_file.base (tables_of file c.args.scope.now m c.requires.numbers))
 
 pub add_extensible-requires : goal.add_extensible-requires
-add_extensible-requires c = extensibles_there (lent_file c.args.file.now) c.requires.right.hold c.args.scope.now c.requires.numbers.there
+add_extensible-requires c = extensibles_there (lent_file c.args.file.now) c.requires.ready.right.hold c.args.scope.now c.requires.numbers.there
 
 pub add_base-requires-clause-tables : goal.add_base-requires-clause-tables
 add_base-requires-clause-tables c = tables_of (lent_file c.args.file.now) c.args.scope.now c.args.moves.now c.requires.numbers
 
 pub add_plains-requires : goal.add_plains-requires
-add_plains-requires c = items_there (lent_file c.args.file.now) c.args.scope.now c.requires.right.hold c.requires.numbers.there
+add_plains-requires c = items_there (lent_file c.args.file.now) c.args.scope.now c.requires.ready.right.hold c.requires.numbers.there
 
 pub returns : goal.returns
 returns c =
     let file = lent_file c.args.file.now in
     let s = c.args.scope.now in
     let m = c.args.moves.now in
-    let begun = c.requires.begun in
+    let nothing = c.requires.nothing in
     let now = IsNow m.nonterminals.items in
-    let base = base_alone file.base m c.args.rest.now.plains c.add_base.new.made begun.attributes begun.occurrences begun.preferences
+    let base = base_alone file.base m c.args.rest.now.plains c.add_base.new.made nothing.attributes nothing.occurrences nothing.preferences
     c.in_ok-add_base.ensures in
     let moved = subst (λ (z : List ℕ). AllZip now z c.add_moved.new.made.items) c.as_slice.ensures
-    (each_fresh now c.as_slice.result.now c.args.rest.now.extensible.items c.add_moved.new.made.items begun.extensible
+    (each_fresh now c.as_slice.result.now c.args.rest.now.extensible.items c.add_moved.new.made.items nothing.extensible
     c.in_ok-add_moved.ensures) in
     on_ok_weaker c.add_plains.result
     (λ added. record {
       plains = plains_after file s m c.add_base.new.made c.add_plains.new.made base added;
       extensible = each_after now (IsAt s.nonterminals) file.base.extensible (extensibles file.items) c.add_moved.new.made.items
           c.add_extensible.new.made.items moved c.in_ok-add_extensible.ensures;
-      start = begun.start;
+      start = c.start_of-rest.ensures;
     })
     c.add_plains.ensures

@@ -7,7 +7,7 @@ use Rattle.wb_names.specs.Inner.Bodies.{file_of}
 use Rattle.wb_names.specs.Inner.Now.{IsProductionNow}
 use Rattle.wb_names.specs.Inner.Productions.{AreProductions}
 use Rattle.wb_names.proofs.ProductionsGrouped.{all_grouped}
-use Rattle.wb_names.proofs.productions.add_all.Goals as goal
+use Rattle.wb_names.proofs.productions.add_productions.Goals as goal
 
 pub returns : goal.returns
 returns c =
