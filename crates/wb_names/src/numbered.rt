@@ -7,7 +7,6 @@ ghost use Rattle.wb_resolved.specs.Resolved.{IsResolved};
 ghost use Rattle.wb_numbering.specs.Resolves.{Resolves};
 ghost use Rattle.wb_symbols.specs.Empty.{IsEmpty};
 ghost use Rattle.wb_symbols.specs.Lent.{lent_file};
-ghost use Rattle.wb_symbols.specs.Symbols.{AreSymbols};
 ghost use Rattle.wb_names.specs.Inner.Copies.{AreCopies, value_with};
 ghost use Rattle.wb_names.specs.Inner.Rest.{IsReady};
 ghost use Rattle.wb_names.specs.Inner.Unwritten.{IsUnwritten};
@@ -30,37 +29,26 @@ pub(crate) fn numbered(alloc: Global, file: &Lent) -> Result<Resolved, AllocErro
     ensures { IfOk result (Resolves (lent_file file.now)) }
 {
     let mut symbols = no_symbols(alloc, file.owner);
-    let made = numbered_on(alloc, file, &mut symbols);
-    symbols.release();
-    made
-}
-
-// The same, where the symbols are to be filled.
-fn numbered_on(alloc: Global, file: &Lent, symbols: &mut Symbols) -> Result<Resolved, AllocError>
-    requires ready { IsReady (lent_file file.now) }
-    requires nothing { IsEmpty file.now.owner symbols.old }
-    ensures { IfOk result (Resolves (lent_file file.now)) }
-{
-    let counts = fill(alloc, file, symbols)?;
     let mut written = nothing_written(alloc);
-    let made = numbered_with(alloc, file, counts, symbols, &mut written);
+    let made = numbered_in(alloc, file, &mut symbols, &mut written);
+    symbols.release();
     drop(written);
     made
 }
 
-// The same, where the symbols are there, of which so many lead, and the rest is to be written.
-fn numbered_with(
+// The same, where all rows are to be filled.
+fn numbered_in(
     alloc: Global,
     file: &Lent,
-    counts: Counts,
     symbols: &mut Symbols,
     written: &mut Written,
 ) -> Result<Resolved, AllocError>
     requires ready { IsReady (lent_file file.now) }
-    requires symbols { AreSymbols (lent_file file.now) counts symbols.old }
+    requires empty { IsEmpty file.now.owner symbols.old }
     requires nothing { IsUnwritten written.old }
     ensures { IfOk result (Resolves (lent_file file.now)) }
 {
+    let counts = fill(alloc, file, symbols)?;
     write(alloc, file, symbols, written)?;
     let copies = copies_of(alloc, file, counts, written)?;
     value(alloc, symbols, written, copies)

@@ -71,26 +71,13 @@ pub fn resolve_extension(
 {
     match spec.header() {
         Header::Host => Err(wrong_kind(alloc, spec.name())),
-        Header::Extension { host: other } => extension_of(alloc, host, spec, other),
-    }
-}
-
-// The same where the extension is for this host.
-fn extension_of(
-    alloc: Global,
-    host: &Resolved,
-    spec: &Spec,
-    other: &Bytes,
-) -> Result<Resolved, NameRefusal>
-    requires alone { host.now.attributes.extensions ≡ [] }
-    requires header { spec.now.header ≡ Header.Extension other.now }
-    ensures ok { IfOk result (ResolvesExtension host.now spec.now) }
-    ensures refused { IfErr result (IsExtensionNameRefusal host.now spec.now) }
-{
-    if other.as_slice() == host.parts().host.as_slice() {
-        extended_host(alloc, host, spec)
-    } else {
-        Err(wrong_host(alloc, other.as_slice()))
+        Header::Extension { host: other } => {
+            if other.as_slice() == host.parts().host.as_slice() {
+                extended_host(alloc, host, spec)
+            } else {
+                Err(wrong_host(alloc, other.as_slice()))
+            }
+        }
     }
 }
 
