@@ -12,7 +12,7 @@ ghost use Rattle.wb_names.specs.Inner.Rest.{IsReady};
 ghost use Rattle.wb_names.specs.Inner.Unwritten.{IsUnwritten};
 ghost use Rattle.wb_names.specs.Inner.Value.{HasGrammar, IsGrammarFor};
 
-use crate::rows::{Written, nothing_written, write};
+use crate::rows::{Written, add_rows, nothing_written};
 use std::alloc::{AllocError, Global};
 use std::mem::replace;
 use wb_base::{Bytes, Grammar, Sequence};
@@ -49,7 +49,7 @@ fn numbered_in(
     ensures { IfOk result (Resolves (lent_file file.now)) }
 {
     let counts = fill(alloc, file, symbols)?;
-    write(alloc, file, symbols, written)?;
+    add_rows(alloc, file, symbols, written)?;
     let copies = copies_of(alloc, file, counts, written)?;
     value(alloc, symbols, written, copies)
 }

@@ -198,16 +198,29 @@ pub(crate) fn add_own(
     requires there { Contains (productions context.now.file.items.now) (record { role = role; production = production.now }) }
     ensures { OnOk result (AddsProductions declares_concrete (IsDeclaredNow (file_of context.now) context.now.scope.now context.now.moves.now) (record { role = role; production = production.now } ∷ []) made.old made.new) }
 {
-    let own = own_parts(alloc, context.scope, production)?;
-    match declared_body(
-        alloc,
-        context,
-        production.name.as_slice(),
-        own.children.as_slice(),
-    ) {
-        Ok(body) => add(declared_row(context, role, production, own, body), made),
+    let name = production.name.copy()?;
+    let children = match written_children(alloc, context.scope, production.children.as_slice()) {
+        Ok(children) => children,
         Err(error) => {
-            drop(own);
+            drop(name);
+            return Err(error);
+        }
+    };
+    let mut body = Body {
+        locals: Vec::new(alloc),
+        forwards: Vec::new(alloc),
+        equations: Vec::new(alloc),
+    };
+    let own = production.name.as_slice();
+    match add_written(alloc, context, own, children.as_slice(), &mut body) {
+        Ok(()) => {
+            let own = Own { name, children };
+            add(declared_row(context, role, production, own, body), made)
+        }
+        Err(error) => {
+            drop(name);
+            drop(children);
+            drop(body);
             Err(error)
         }
     }
@@ -218,25 +231,6 @@ pub(crate) fn add_own(
 struct Own {
     name: Bytes,
     children: Sequence<Child>,
-}
-
-// Those of a production that the file declares.
-fn own_parts(
-    alloc: Global,
-    scope: &Scope,
-    production: &wb_syntax::Production,
-) -> Result<Own, AllocError>
-    requires { All (λ c. KindIsThere scope.now c.kind) production.now.children }
-    ensures { IfOk result (IsOwn scope.now production.now) }
-{
-    let name = production.name.copy()?;
-    match written_children(alloc, scope, production.children.as_slice()) {
-        Ok(children) => Ok(Own { name, children }),
-        Err(error) => {
-            drop(name);
-            Err(error)
-        }
-    }
 }
 
 // The row of these parts.
@@ -264,30 +258,5 @@ fn declared_row(
         locals: Sequence::from_vec(body.locals),
         forward,
         equations: Sequence::from_vec(body.equations),
-    }
-}
-
-// What the file writes on the production of its own of this name.
-fn declared_body(
-    alloc: Global,
-    context: &Context,
-    name: &[u8],
-    children: &[Child],
-) -> Result<Body, AllocError>
-    requires context { IsContext context.now }
-    requires labels { KnowsLabels (file_of context.now) name.now (labels_with children.now [] (equations_on name.now context.now.file.items.now)) }
-    ensures { IfOk result (IsDeclaredBody (file_of context.now) context.now.scope.now name.now children.now) }
-{
-    let mut body = Body {
-        locals: Vec::new(alloc),
-        forwards: Vec::new(alloc),
-        equations: Vec::new(alloc),
-    };
-    match add_written(alloc, context, name, children, &mut body) {
-        Ok(()) => Ok(body),
-        Err(error) => {
-            drop(body);
-            Err(error)
-        }
     }
 }

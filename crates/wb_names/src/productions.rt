@@ -2,8 +2,8 @@
 //!
 //! Concrete ones are kept apart, since they are numbered first. The row of one production is made in `production`.
 
-ghost use Rattle.std.specs.Prelude.{◌≡◌, [], Contains, IfOk, OnOk, option_to_list};
-ghost use Rattle.wb_naming.specs.Declarations.{production_of, productions};
+ghost use Rattle.std.specs.Prelude.{◌≡◌, [], IfOk, OnOk};
+ghost use Rattle.wb_naming.specs.Declarations.{productions};
 ghost use Rattle.wb_names.specs.Inner.Bodies.{IsContext, file_of};
 ghost use Rattle.wb_names.specs.Inner.Now.{IsDeclaredNow, IsExtendedNow};
 ghost use Rattle.wb_names.specs.Inner.Productions.{AreProductions};
@@ -14,7 +14,7 @@ use std::alloc::{AllocError, Global};
 use wb_base::push;
 use wb_resolved::{Production, ProductionRole};
 use wb_symbols::joined::join;
-use wb_syntax::{Item, ItemForm, Pattern};
+use wb_syntax::ItemForm;
 
 // The concrete ones, and the others.
 #[derive(Drop)]
@@ -58,26 +58,12 @@ fn add_declared(alloc: Global, context: &Context, made: &mut Productions) -> Res
     ensures { OnOk result (AddsProductions declares_concrete (IsDeclaredNow (file_of context.now) context.now.scope.now context.now.moves.now) (productions context.now.file.items.now) made.old made.new) }
 {
     for item in context.file.items {
-        add_item(alloc, context, item, made)?;
+        let ItemForm::Production { role, production } = &item.form else {
+            continue;
+        };
+        add_own(alloc, context, *role, production, made)?;
     }
     Ok(())
-}
-
-// Adds the one that an item declares, where it declares one.
-fn add_item(
-    alloc: Global,
-    context: &Context,
-    item: &Item<Pattern>,
-    made: &mut Productions,
-) -> Result<(), AllocError>
-    requires context { IsContext context.now }
-    requires there { Contains context.now.file.items.now item.now }
-    ensures { OnOk result (AddsProductions declares_concrete (IsDeclaredNow (file_of context.now) context.now.scope.now context.now.moves.now) (option_to_list (production_of item.now.form)) made.old made.new) }
-{
-    let ItemForm::Production { role, production } = &item.form else {
-        return Ok(());
-    };
-    add_own(alloc, context, *role, production, made)
 }
 
 // Adds one.

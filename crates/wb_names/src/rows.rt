@@ -55,8 +55,8 @@ pub(crate) fn nothing_written(alloc: Global) -> Written
     }
 }
 
-// Makes the rows, where names have their numbers. The only error is want of memory.
-pub(crate) fn write(
+// Adds the rows to none, where names have their numbers. The only error is want of memory.
+pub(crate) fn add_rows(
     alloc: Global,
     file: &Lent,
     symbols: &Symbols,

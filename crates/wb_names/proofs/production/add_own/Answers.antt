@@ -1,9 +1,15 @@
-use Rattle.std.proofs.Common.{[], ℕ, List, ap, sym, subst}
+use Rattle.std.proofs.Common.{[], ℕ, List, All, ap, sym, subst}
+use Rattle.std.specs.List.{AllZip}
 use Rattle.std.proofs.lemmas.Result.{on_ok_weaker}
 use Rattle.wb_resolved.specs.declared.production.Child.{Child}
+use Rattle.wb_resolved.specs.declared.production.Local.{Local}
+use Rattle.wb_syntax.specs.declared.production.Child as written
 use Rattle.wb_naming.specs.Declarations.{ProductionDeclaration}
 use Rattle.wb_numbering.specs.Files.{equations_on}
-use Rattle.wb_names.specs.Inner.Bodies.{IsDeclaredBody, KnowsLabels, file_of, labels_with}
+use Rattle.wb_numbering.specs.Numbering.{Numbering}
+use Rattle.wb_rows.specs.declared.body.Body.{Body}
+use Rattle.wb_rows.specs.Scope.{IsFoundChild, KindIsThere}
+use Rattle.wb_names.specs.Inner.Bodies.{IsWritten, KnowsLabels, file_of, labels_with}
 use Rattle.wb_names.specs.Inner.Now.{IsDeclaredNow}
 use Rattle.wb_names.specs.Inner.Rows.{declares_concrete, is_concrete}
 use Rattle.wb_names.proofs.EquationsThere.{children_there}
@@ -12,33 +18,55 @@ use Rattle.wb_names.proofs.ProductionsGrouped.{row_added}
 use Rattle.wb_names.proofs.ScopeNumbering.{found_labels}
 use Rattle.wb_names.proofs.production.add_own.Goals as goal
 
-pub own_parts-requires : goal.own_parts-requires
-own_parts-requires c =
+pub written_children-requires : goal.written_children-requires
+written_children-requires c =
     let context = c.args.context.now in
     let x : ProductionDeclaration = record { role = c.args.role; production = c.args.production.now } in
-    children_there (file_of context) context.scope.now c.requires.context.numbers.there c.requires.context.right.hold.meant x c.requires.there
+    subst (All (λ (z : written.Child). KindIsThere context.scope.now z.kind)) (sym c.as_slice.ensures)
+    (children_there (file_of context) context.scope.now c.requires.context.numbers.there c.requires.context.right.hold.meant x
+    c.requires.there)
 
-pub declared_body-requires-clause-labels : goal.declared_body-requires-clause-labels
-declared_body-requires-clause-labels c =
+pub add_written-requires-clause-labels : goal.add_written-requires-clause-labels
+add_written-requires-clause-labels c =
     let context = c.args.context.now in
     let file = file_of context in
     let x : ProductionDeclaration = record { role = c.args.role; production = c.args.production.now } in
-    let P : List ℕ → List Child → Type 0 =
-    λ name children. KnowsLabels file name (labels_with children [] (equations_on name file.items)) in
-    subst (λ (z : List ℕ). P z c.as_slice-2.result.now) (sym c.as_slice.ensures)
-    (subst (λ (z : List Child). P x.production.name z) (sym c.as_slice-2.ensures)
-    (own_known file c.requires.context.right.hold.once x c.in_ok-own.own.children c.requires.there
-    (found_labels context.scope.now x.production.children c.in_ok-own.own.children c.in_ok-own.ensures.children)))
+    let P : List ℕ → List Child → List Local → Type 0 =
+    λ name children locals. KnowsLabels file name (labels_with children locals (equations_on name file.items)) in
+    let found : (n : Numbering) → AllZip (IsFoundChild context.scope.now n) x.production.children c.in-Ok.children =
+    λ n. subst (λ (z : List written.Child). AllZip (IsFoundChild context.scope.now n) z c.in-Ok.children) c.as_slice.ensures
+    (c.in-Ok.ensures n) in
+    subst (λ (z : List Local). P c.as_slice-own.result.now c.as_slice-2.result.now z) (sym c.new.ensures.items)
+    (subst (λ (z : List ℕ). P z c.as_slice-2.result.now []) (sym c.as_slice-own.ensures)
+    (subst (λ (z : List Child). P x.production.name z []) (sym c.as_slice-2.ensures)
+    (own_known file c.requires.context.right.hold.once x c.in-Ok.children c.requires.there
+    (found_labels context.scope.now x.production.children c.in-Ok.children found))))
+
+pub declared_row-requires-clause-own : goal.declared_row-requires-clause-own
+declared_row-requires-clause-own c = record {
+  name = c.in_ok-name.ensures.ok;
+  children = λ n. subst (λ (z : List written.Child). AllZip (IsFoundChild c.args.context.now.scope.now n) z c.in-Ok.children)
+      c.as_slice.ensures (c.in-Ok.ensures n);
+}
 
 pub declared_row-requires-clause-body : goal.declared_row-requires-clause-body
 declared_row-requires-clause-body c =
-    let file = file_of c.args.context.now in
     let s = c.args.context.now.scope.now in
-    subst (λ (z : List ℕ). IsDeclaredBody file s z c.in_ok-own.own.children c.in-Ok.body) c.as_slice.ensures
-    (subst (λ (z : List Child). IsDeclaredBody file s c.as_slice.result.now z c.in-Ok.body) c.as_slice-2.ensures c.in-Ok.ensures)
+    let items = c.args.context.now.file.items.now in
+    let empty : Body = record { locals = c.new.result; forwards = c.new-2.result; equations = c.new-3.result } in
+    record {
+      empty = empty;
+      no_locals = c.new.ensures.items;
+      no_forwards = c.new-2.ensures.items;
+      no_equations = c.new-3.ensures.items;
+      written = subst (λ (z : List Child). IsWritten s z (equations_on c.args.production.now.name items) empty c.add_written.new.body)
+          c.as_slice-2.ensures
+          (subst (λ (z : List ℕ). IsWritten s c.as_slice-2.result.now (equations_on z items) empty c.add_written.new.body)
+          c.as_slice-own.ensures c.in-Ok-add_written.ensures);
+    }
 
-pub returns-in-Ok : goal.returns-in-Ok
-returns-in-Ok c =
+pub returns-in-Ok-add_written : goal.returns-in-Ok-add_written
+returns-in-Ok-add_written c =
     let context = c.args.context.now in
     let x : ProductionDeclaration = record { role = c.args.role; production = c.args.production.now } in
     let holds = c.declared_row.ensures in
