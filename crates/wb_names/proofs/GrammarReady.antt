@@ -104,6 +104,7 @@ module _ (file : File) (given : IsFile file) (hold : NamesHold (file_scope file)
     }
 
   -- where there is a start
-  pub grammar_ready : (o : Option ℕ) → rows.rest.start ≡ o → IfSome o (HasGrammar rows.scanned rows.of_grammar rows.concrete rows.productions)
+  pub grammar_ready : (o : Option ℕ) → rows.rest.start ≡ o
+      → IfSome o (HasGrammar rows.scanned rows.of_grammar rows.concrete rows.productions)
   grammar_ready None e = tt
   grammar_ready (Some start) e = has_grammar start e

@@ -188,5 +188,6 @@ module _ (rows : Rows) (symbols : All (λ (p : Production). All IsSymbol p.child
           (take rows.concrete rows.productions) symbols;
     }
 
-    pub plain_for : IsGrammarFor rows.scanned rows.of_grammar rows.concrete rows.productions rows.rest.start (option_map (plain_grammar rows) rows.rest.start)
+    pub plain_for : IsGrammarFor rows.scanned rows.of_grammar rows.concrete rows.productions rows.rest.start
+        (option_map (plain_grammar rows) rows.rest.start)
     plain_for = record { start = start_is rows.rest.start; made = made_is rows.rest.start }

@@ -69,7 +69,8 @@ module _ (file : File) (given : IsFile file) (hold : NamesHold (file_scope file)
       (subst (λ z. IfSome g (IsGrammarRow v z p rows.productions)) (sym b)
       (subst (λ z. IfSome g (IsGrammarRow v w z rows.productions)) (sym c) is))
 
-  pub rows_resolve : (g : Option GrammarView) → IsGrammarFor rows.scanned rows.of_grammar rows.concrete rows.productions rows.rest.start g → Resolves file (value_of file rows g)
+  pub rows_resolve : (g : Option GrammarView) → IsGrammarFor rows.scanned rows.of_grammar rows.concrete rows.productions rows.rest.start g
+      → Resolves file (value_of file rows g)
   rows_resolve g is = record {
     host = refl;
     extensions = refl;

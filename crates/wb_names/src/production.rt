@@ -3,12 +3,11 @@
 //! Its children and its locals give it labels, and then all that the file writes on it is numbered. Which items write on it is in
 //! `writers`.
 
-ghost use Rattle.std.specs.Prelude.{◌≡◌, ◌∷◌, [], All, Contains, IfOk, OnOk, option_to_list};
+ghost use Rattle.std.specs.Prelude.{◌∷◌, [], All, Contains, IfOk, OnOk, option_to_list};
 ghost use Rattle.std.specs.List.{AllZip};
 ghost use Rattle.wb_naming.specs.Declarations.{productions};
 ghost use Rattle.wb_numbering.specs.Files.{equations_on};
 ghost use Rattle.wb_rows.specs.Moves.{IsChildNow, IsForwardNow, NodeIsWithin};
-ghost use Rattle.wb_rows.specs.Scope.{KindIsThere};
 ghost use Rattle.wb_names.specs.Inner.Bodies.{IsContext, IsDeclaredBody, IsExtendedBody, IsMovedHead, IsOwn, IsWritten, KnowsLabels, file_of, labels_with};
 ghost use Rattle.wb_names.specs.Inner.Now.{IsDeclaredNow, IsExtendedNow};
 ghost use Rattle.wb_names.specs.Inner.Rows.{AddsProductions, declares_concrete, has_concrete};

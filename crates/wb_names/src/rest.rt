@@ -2,9 +2,8 @@
 //!
 //! A base's come first, in new numbers, and then what a file declares.
 
-ghost use Rattle.std.specs.Prelude.{◌≡◌, ◌≤◌, ◌<◌, All, Contains, IfOk, IfSome, OnOk, length, option_to_list};
+ghost use Rattle.std.specs.Prelude.{◌≤◌, ◌<◌, All, Contains, OnOk, length, option_to_list};
 ghost use Rattle.std.specs.List.{AllZip};
-ghost use Rattle.wb_base.specs.Grammar.{GrammarView};
 ghost use Rattle.wb_resolved.specs.Resolved.{IsResolved};
 ghost use Rattle.wb_naming.specs.Declarations.{extensibles, starts};
 ghost use Rattle.wb_numbering.specs.Resolves.{starts_of};

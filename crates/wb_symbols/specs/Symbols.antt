@@ -50,4 +50,5 @@ pub record AreSymbols (file : File) (counts : Counts) (g : Symbols) : Type 0 whe
   pub nonterminal_names : g.scope.nonterminals ≡ map (λ (x : Nonterminal). x.name) g.nonterminals.of_grammar.items
   pub attribute_names : g.scope.attributes ≡ map (λ (a : Attribute). a.name) file.base.attributes.attributes
       ++ map (λ (d : AttributeDeclaration). d.name) (attributes file.items)
-  pub production_names : AreGrouped IsConcrete IsNameOf (sources file.base.attributes.productions (productions file.items)) g.scope.productions
+  pub production_names : AreGrouped IsConcrete IsNameOf (sources file.base.attributes.productions (productions file.items))
+      g.scope.productions

@@ -2,9 +2,9 @@
 //!
 //! Those of the grammar are kept apart, since they are numbered first. A base's rows stay, as its attributes keep their numbers.
 
-ghost use Rattle.std.specs.Prelude.{◌≡◌, ◌↔◌, ◌⊎◌, ◌<◌, true, Contains, IfOk, OnOk, length, option_to_list};
+ghost use Rattle.std.specs.Prelude.{◌≡◌, ◌↔◌, ◌⊎◌, ◌<◌, true, Contains, IfOk, OnOk, length};
 ghost use Rattle.wb_syntax.specs.Names.{FormHasNames};
-ghost use Rattle.wb_naming.specs.Declarations.{nonterminal_of, nonterminals, plain_of};
+ghost use Rattle.wb_naming.specs.Declarations.{nonterminals};
 ghost use Rattle.wb_numbering.specs.Files.{IsInGrammar, grammar_names};
 ghost use Rattle.wb_rows.specs.Marks.{IsMarked};
 ghost use Rattle.wb_symbols.specs.Lent.{lent_file};
@@ -16,7 +16,7 @@ use crate::joined::join;
 use crate::lent::Lent;
 use std::alloc::{AllocError, Global};
 use wb_base::{Bytes, Sequence, push};
-use wb_resolved::{Nonterminal, ResolvedParts};
+use wb_resolved::Nonterminal;
 use wb_rows::grammar_names::grammar_names_of;
 use wb_rows::in_grammar::base_flags;
 use wb_rows::index::Index;

@@ -16,7 +16,8 @@ use Rattle.wb_names.proofs.numbered.value.Goals as goal
 -- lists that are those of an attribution, and of a value
 attribution_is : (v : AttributionParts) (n : List Nonterminal) (a : List Attribute) (o : List Occurrence) (p : List Production)
     → n ≡ v.nonterminals → a ≡ v.attributes → o ≡ v.occurrences → p ≡ v.productions
-    → record { extensions = v.extensions; nonterminals = n; attributes = a; occurrences = o; productions = p; signatures = v.signatures } ≡ v
+    → record { extensions = v.extensions; nonterminals = n; attributes = a; occurrences = o; productions = p; signatures = v.signatures }
+    ≡ v
 attribution_is v n a o p n_is a_is o_is p_is = λ j. record {
   extensions = v.extensions;
   nonterminals = n_is j;

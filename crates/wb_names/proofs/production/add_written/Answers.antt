@@ -21,7 +21,8 @@ add_all-added-requires c =
     let at = c.places_of-places.ensures items c.requires.context.writers in
     let names = labels_by_places items name places c.args.children.now c.deref.result.now c.args.body.now.locals.items
     c.in_ok-labels.labels.names c.in_ok-labels.ensures.names c.deref.ensures.value at in
-    all_there (file_of context) context.scope.now c.requires.context.numbers.there c.requires.context.right.hold.meant c.in_ok-labels.labels name
+    all_there (file_of context) context.scope.now c.requires.context.numbers.there c.requires.context.right.hold.meant
+    c.in_ok-labels.labels name
     (subst (KnowsLabels (file_of context) name) (sym names) c.requires.labels) places at
 
 pub returns : goal.returns
@@ -34,5 +35,6 @@ returns c =
     let names = labels_by_places items name places c.args.children.now c.deref.result.now c.args.body.now.locals.items
     c.in_ok-labels.labels.names c.in_ok-labels.ensures.names c.deref.ensures.value at in
     on_ok_weaker c.add_all-added.result (λ adds.
-    written_body context.scope.now c.args.children.now items name places c.args.body.now c.add_all-added.new.body c.in_ok-labels.labels names
+    written_body context.scope.now c.args.children.now items name places c.args.body.now c.add_all-added.new.body c.in_ok-labels.labels
+    names
     c.in_ok-labels.ensures.count at adds) c.add_all-added.ensures

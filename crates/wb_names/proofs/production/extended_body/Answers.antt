@@ -14,14 +14,16 @@ pub moved_locals-requires : goal.moved_locals-requires
 moved_locals-requires c =
     let context = c.args.context.now in
     subst (All (LocalIsWithin context.moves.now)) (sym c.as_slice.ensures)
-    (locals_within (file_of context) context.scope.now context.moves.now c.requires.context.numbers.tables c.requires.context.right.is_file.base
+    (locals_within (file_of context) context.scope.now context.moves.now c.requires.context.numbers.tables
+    c.requires.context.right.is_file.base
     c.args.production.now c.requires.there)
 
 pub moved_equations-requires : goal.moved_equations-requires
 moved_equations-requires c =
     let context = c.args.context.now in
     subst (All (EquationIsWithin context.moves.now)) (sym c.as_slice-2.ensures)
-    (equations_within (file_of context) context.scope.now context.moves.now c.requires.context.numbers.tables c.requires.context.right.is_file.base
+    (equations_within (file_of context) context.scope.now context.moves.now c.requires.context.numbers.tables
+    c.requires.context.right.is_file.base
     c.args.production.now c.requires.there)
 
 pub add_written-requires-clause-labels : goal.add_written-requires-clause-labels

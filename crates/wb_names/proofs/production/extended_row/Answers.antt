@@ -11,7 +11,8 @@ index-requires c =
     let context = c.args.context.now in
     let p = c.args.production.now in
     subst (λ (z : ℕ). p.left < z) (sym context.moves.now.nonterminals.ok.0)
-    (left_within (file_of context) context.scope.now context.moves.now c.requires.context.numbers.tables c.requires.context.right.is_file.base p
+    (left_within (file_of context) context.scope.now context.moves.now c.requires.context.numbers.tables
+    c.requires.context.right.is_file.base p
     c.requires.there)
 
 pub returns : goal.returns
@@ -21,7 +22,8 @@ returns c =
     let m = context.moves.now in
     let p = c.args.production.now in
     let head = c.args.head in
-    let within = left_within file context.scope.now m c.requires.context.numbers.tables c.requires.context.right.is_file.base p c.requires.there in
+    let within =
+    left_within file context.scope.now m c.requires.context.numbers.tables c.requires.context.right.is_file.base p c.requires.there in
     let row : Production = record {
       name = head.name;
       owner = p.owner;

@@ -9,14 +9,16 @@ use Rattle.wb_names.proofs.production.moved_head.Goals as goal
 pub moved_forwards-requires : goal.moved_forwards-requires
 moved_forwards-requires c =
     let context = c.args.context.now in
-    forward_within (file_of context) context.scope.now context.moves.now c.requires.context.numbers.tables c.requires.context.right.is_file.base
+    forward_within (file_of context) context.scope.now context.moves.now c.requires.context.numbers.tables
+    c.requires.context.right.is_file.base
     c.args.production.now c.requires.there
 
 pub moved_children-requires : goal.moved_children-requires
 moved_children-requires c =
     let context = c.args.context.now in
     subst (All (λ (z : Child). ChildKindIsWithin context.moves.now z.kind)) (sym c.as_slice.ensures)
-    (children_within (file_of context) context.scope.now context.moves.now c.requires.context.numbers.tables c.requires.context.right.is_file.base
+    (children_within (file_of context) context.scope.now context.moves.now c.requires.context.numbers.tables
+    c.requires.context.right.is_file.base
     c.args.production.now c.requires.there)
 
 pub returns-in-Ok-moved_children : goal.returns-in-Ok-moved_children
@@ -24,6 +26,7 @@ returns-in-Ok-moved_children c =
     let m = c.args.context.now.moves.now in
     record {
       name = c.in_ok-name.ensures.ok;
-      children = subst (λ (z : List Child). AllZip (IsChildNow m) z c.in-Ok-moved_children.children) c.as_slice.ensures c.in-Ok-moved_children.ensures;
+      children = subst (λ (z : List Child). AllZip (IsChildNow m) z c.in-Ok-moved_children.children) c.as_slice.ensures
+          c.in-Ok-moved_children.ensures;
       forward = c.in-Ok.ensures;
     }

@@ -17,7 +17,8 @@ add_moved-requires c =
     (extensible_within file.base m c.requires.ready.right.is_file.base (tables_of file c.args.scope.now m c.requires.numbers))
 
 pub add_extensible-requires : goal.add_extensible-requires
-add_extensible-requires c = extensibles_there (lent_file c.args.file.now) c.requires.ready.right.hold c.args.scope.now c.requires.numbers.there
+add_extensible-requires c =
+    extensibles_there (lent_file c.args.file.now) c.requires.ready.right.hold c.args.scope.now c.requires.numbers.there
 
 pub add_base-requires-clause-tables : goal.add_base-requires-clause-tables
 add_base-requires-clause-tables c = tables_of (lent_file c.args.file.now) c.args.scope.now c.args.moves.now c.requires.numbers

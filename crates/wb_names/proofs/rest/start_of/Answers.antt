@@ -16,7 +16,8 @@ written_start-requires-clause-few c = starts_few (lent_file c.args.file.now) c.r
 
 pub returns-in-Some : goal.returns-in-Some
 returns-in-Some c =
-    start_before (lent_file c.args.file.now) c.args.scope.now c.args.moves.now c.requires.ready.right.hold c.requires.ready.alone c.in-Some.grammar
+    start_before (lent_file c.args.file.now) c.args.scope.now c.args.moves.now c.requires.ready.right.hold c.requires.ready.alone
+    c.in-Some.grammar
     c.in-Some.is
     c.moved_number.result
     (subst (λ (z : ℕ). IsNow c.args.moves.now.nonterminals.items z c.moved_number.result) c.start.ensures.start c.moved_number.ensures)
@@ -31,4 +32,5 @@ moved_number-requires c =
     let file = lent_file c.args.file.now in
     let m = c.args.moves.now in
     subst (λ (z : ℕ). z < length m.nonterminals.items) (sym c.start.ensures.start)
-    (start_within file.base m c.requires.ready.right.is_file.base (tables_of file c.args.scope.now m c.requires.numbers) c.in-Some.grammar c.in-Some.is)
+    (start_within file.base m c.requires.ready.right.is_file.base (tables_of file c.args.scope.now m c.requires.numbers)
+    c.in-Some.grammar c.in-Some.is)

@@ -6,4 +6,5 @@ use Rattle.wb_symbols.proofs.nonterminals.add_base.Goals as goal
 pub add_rows-added-requires-clause-flags : goal.add_rows-added-requires-clause-flags
 add_rows-added-requires-clause-flags c =
     subst (AreFlags c.args.file.now.base.now) (sym c.deref.ensures.value)
-    (flags_agree c.args.file.now.base.now c.requires.right.is_file.base c.requires.right.is_file.alone c.in_ok-flags.flags.items c.in_ok-flags.ensures.exact)
+    (flags_agree c.args.file.now.base.now c.requires.right.is_file.base c.requires.right.is_file.alone c.in_ok-flags.flags.items
+    c.in_ok-flags.ensures.exact)
