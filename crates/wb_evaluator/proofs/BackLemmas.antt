@@ -10,12 +10,12 @@ use Rattle.wb_values.specs.Tree.{Tree}
 use Rattle.wb_values.specs.ValuesIn.{value_in, IsIn}
 use Rattle.wb_evaluation.specs.Walks.{done, value}
 use Rattle.wb_evaluator.proofs.LeaveLemmas.{left, key_here, tree_key, kept_synthesized, kept_inherited, kept_tree, is_tree}
-use Rattle.wb_evaluator.proofs.ParkLemmas.{rows_count, rows_some}
+use Rattle.wb_evaluator.proofs.ParkLemmas.{rows_count}
 use Rattle.wb_evaluator.proofs.StartLemmas.{stack_some}
 use Rattle.wb_evaluator.proofs.StepLemmas.{last_key}
 use Rattle.wb_evaluator.specs.Inner.Answering.{IsLeaving, IsPopped, IsBack}
 use Rattle.wb_evaluator.specs.Inner.Machines.{IsKeptIn, Runs, IsAttributeSet, IsSet, IsFor}
-use Rattle.wb_evaluator.specs.Inner.Piles.{waits}
+use Rattle.wb_evaluator.specs.Inner.Piles.{waits, HasNoFrame}
 use Rattle.wb_evaluator.specs.declared.machine.Key.{Key}
 use Rattle.wb_evaluator.specs.declared.machine.Key.TheVariants as key
 use Rattle.wb_evaluator.specs.declared.machine.Machine.{Machine}
@@ -40,8 +40,8 @@ module _ (a : AttributionParts) (operations : Operations) (trees : List Tree) (m
       let (le, (q, made, path, this_is)) = tree_key a operations trees m runs.machine site at in
       is_tree a operations trees m v runs inside q made this_is
 
-  pub leaving : IsLeaving m v
-  leaving =
+  pub leaving : HasNoFrame m.frames → IsLeaving m v
+  leaving none =
       let some = stack_some runs.machine in
       let (k, at) = at_within m.stack.items (length m.stack.items - 1) (omega (arith, some)) in
       record {
@@ -51,8 +51,9 @@ module _ (a : AttributionParts) (operations : Operations) (trees : List Tree) (m
         is_key = (key_here a operations trees m runs.machine k at).0;
         is_for = its_kind k at;
         some = some;
-        frames = rows_some runs.machine;
+        frames = rows_count runs.machine;
         piled = runs.machine.piled;
+        none = none;
       }
 
   kept_in : (new : Memo) (k : Key) → slice_get m.stack.items (length m.stack.items - 1) ≡ Some k → IsSet m.memo new k v

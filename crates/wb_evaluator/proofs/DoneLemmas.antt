@@ -34,7 +34,7 @@ use Rattle.wb_evaluator.proofs.StackLemmas.{size_stands, sizes_stand, left_push,
 use Rattle.wb_evaluator.proofs.VisitLemmas.{IsVisiting, visiting_of, at_once, read_known, read_new, parts_of_build, parts_of_call}
 use Rattle.wb_evaluator.proofs.VisitLemmas.{parts_of_choice, call_known}
 use Rattle.wb_evaluator.proofs.VisitLemmas.{ready, grown}
-use Rattle.wb_evaluator.specs.Inner.Machines.{tree_named, named, IsKey, Runs, IsSame, with_memo, with_frames}
+use Rattle.wb_evaluator.specs.Inner.Machines.{tree_named, named, IsKey, Runs, IsSame, IsSteady, with_memo, with_frames}
 use Rattle.wb_memo.specs.Memos.{path_in}
 use Rattle.wb_evaluator.specs.Inner.Reached.{IsReady, HasChild}
 use Rattle.wb_memo.specs.Sites.{step_of}
@@ -85,19 +85,22 @@ pub node_here : (nodes : List Node) (at : ℕ) (node : Node) {form : Node} → a
     → get_or nodes at node ≡ form → HasNode nodes at form
 node_here nodes at node h is form_is = subst (HasNode nodes at) (is ∙ form_is) (has_node nodes at node h is)
 
-pub same_memo : (old new : Machine) → new ≡ with_memo old new.memo → IsSame old new
+pub same_memo : (old new : Machine) → new ≡ with_memo old new.memo → IsSteady old new
 same_memo old new is = record {
-  root = ap (λ (z : Machine). z.root) is;
-  attribute = ap (λ (z : Machine). z.attribute) is;
-  stack = ap (λ (z : Machine). z.stack) is;
-  entered = ap (λ (z : Machine). z.entered) is;
+  same = record {
+    root = ap (λ (z : Machine). z.root) is;
+    attribute = ap (λ (z : Machine). z.attribute) is;
+    stack = ap (λ (z : Machine). z.stack) is;
+    entered = ap (λ (z : Machine). z.entered) is;
+  };
+  frames = ap (λ (z : Machine). z.frames) is;
 }
 
 pub still_same : (old : Machine) (frames : Frames) (new : Machine) → IsSame (with_frames old frames) new → IsSame old new
 still_same old frames new it = record { root = it.root; attribute = it.attribute; stack = it.stack; entered = it.entered }
 
-pub same_machine : (m : Machine) → IsSame m m
-same_machine m = record { root = refl; attribute = refl; stack = refl; entered = refl }
+pub same_machine : (m : Machine) → IsSteady m m
+same_machine m = record { same = record { root = refl; attribute = refl; stack = refl; entered = refl }; frames = refl }
 
 module _ {a : AttributionParts} {operations : Operations} {trees : List Tree} {m : Machine} {site : ℕ} {nodes : List Node} (old new : Work)
     (at : ℕ) (ev : IsEvaluating a operations trees m site nodes (old.tasks.items ++ task.Visit at ∷ []) old.values.items) where
@@ -128,7 +131,7 @@ module _ {a : AttributionParts} {operations : Operations} {trees : List Tree} {m
   -- a value was pushed
   pushed_done : (after : Machine) (w : Value) (e : Expression)
       → IsEvaluating a operations trees after site nodes old.tasks.items (old.values.items ++ w ∷ [])
-      → new.tasks ≡ old.tasks → new.values.items ≡ old.values.items ++ w ∷ [] → IsSame m after → Done after None
+      → new.tasks ≡ old.tasks → new.values.items ≡ old.values.items ++ w ∷ [] → IsSteady m after → Done after None
   pushed_done after w e it tasks values same = record {
     after_it = subst (λ (vs : List Value). IsEvaluating a operations trees after site nodes new.tasks.items vs) (sym values)
         (subst (λ ts. IsEvaluating a operations trees after site nodes ts.items (old.values.items ++ w ∷ [])) (sym tasks) it);
@@ -257,7 +260,7 @@ module _ {a : AttributionParts} {operations : Operations} {trees : List Tree} {m
       → IsKey after.memo k
       → ((rest : t.Value → Walk) → walk_expression operations (path_in after.memo site) (children_of (tree_in trees v.id.0)) e rest ≡ read
       (named after.memo k) rest)
-      → Stands nodes at e → (result : Option Key) → IsReading after old new k result → IsSame m after → Done after result
+      → Stands nodes at e → (result : Option Key) → IsReading after old new k result → IsSteady m after → Done after result
   read_done after e v k is_key is stands None (w, has, tasks, values) same =
       pushed_done after w e (read_known a operations trees after site nodes old.tasks.items old.values.items e v k is_key is w has) tasks
       values same
@@ -479,12 +482,15 @@ pub extended_twice : (first second third : List Tree) → IsExtended first secon
 extended_twice first second third (more, is) (others, are) =
     (more ++ others, are ∙ ap (λ (l : List Tree). l ++ others) is ∙ append_assoc first more others)
 
-pub same_twice : (first second third : Machine) → IsSame first second → IsSame second third → IsSame first third
+pub same_twice : (first second third : Machine) → IsSteady first second → IsSteady second third → IsSteady first third
 same_twice first second third p r = record {
-  root = r.root ∙ p.root;
-  attribute = r.attribute ∙ p.attribute;
-  stack = r.stack ∙ p.stack;
-  entered = r.entered ∙ p.entered;
+  same = record {
+    root = r.same.root ∙ p.same.root;
+    attribute = r.same.attribute ∙ p.same.attribute;
+    stack = r.same.stack ∙ p.same.stack;
+    entered = r.same.entered ∙ p.same.entered;
+  };
+  frames = r.frames ∙ p.frames;
 }
 
 pub same_store : (trees : List Tree) → IsExtended trees trees

@@ -17,6 +17,7 @@ use Rattle.wb_evaluator.specs.Inner.Reached.{IsReached}
 use Rattle.wb_evaluator.specs.Inner.Starts.{IsAlone, IsForwarding}
 use Rattle.wb_evaluator.specs.declared.machine.Key.{Key}
 use Rattle.wb_evaluator.specs.declared.machine.Key.TheVariants as key
+use Rattle.wb_evaluator.specs.Inner.Piles.{HasNoFrame}
 use Rattle.wb_evaluator.specs.Inner.Works.{IsRan, IsRead}
 use Rattle.wb_evaluator.specs.declared.machine.Machine.{Machine}
 use Rattle.wb_evaluator.specs.declared.work.Ran.{Ran}
@@ -38,10 +39,11 @@ module _ {a : AttributionParts} {operations : Operations} {trees : List Tree} {m
     fresh = not_entered a operations trees m k (finish operations) alone.runs alone.is_key none;
   }
 
-  pub alone_ran : (k : Key) → IsAlone a operations trees m k → (r : Ran) → IsRead m.memo k r → IsRan a operations trees m r
-  alone_ran k alone (ran.Value v) is = alone_known k v alone is
-  alone_ran k alone (ran.Fault operation code) never = absurd never
-  alone_ran k alone (ran.Needs other) (same, none) = subst (Wants a operations trees m) (sym same) (alone_wanted k alone none)
+  pub alone_ran : (k : Key) → IsAlone a operations trees m k → HasNoFrame m.frames → (r : Ran) → IsRead m.memo k r
+      → IsRan a operations trees m r
+  alone_ran k alone free (ran.Value v) is = let (runs, inside) = alone_known k v alone is in (runs, inside, free)
+  alone_ran k alone free (ran.Fault operation code) never = absurd never
+  alone_ran k alone free (ran.Needs other) (same, none) = subst (Wants a operations trees m) (sym same) (alone_wanted k alone none)
 
   -- through the forwarded tree, whose site is there
   module _ (site x : ℕ) (f : IsForwarding a operations trees m site x) (after : Machine) (is : after ≡ with_memo m after.memo) (below : ℕ)

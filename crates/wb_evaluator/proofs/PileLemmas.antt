@@ -338,6 +338,10 @@ moved_all start old_from from old_to to m le =
       m.gone ∙ ap (λ l. old_to ++ reverse l) (sym (drop_at from m.moved start same) ∙ ap (drop start) (sym m.whole)),
     )
 
+some_before : (rows : List (Option Frame)) (x : Option Frame) → slice_get rows (length rows - 1) ≡ Some x → 0 < length rows
+some_before [] x at = absurd (cc at)
+some_before (y ∷ rows) x at = omega arith
+
 -- the last has no frame after it was taken away
 pub cleared_last : (rows new : List (Option Frame)) → 0 < length rows → new ≡ slice_set rows (length rows - 1) None
     → slice_get new (length new - 1) ≡ Some None
@@ -345,21 +349,6 @@ cleared_last rows new some is =
     let count : length new ≡ length rows = ap length is ∙ length-set rows (length rows - 1) None in
     ap (λ n. slice_get new (n - 1)) count ∙ ap (λ l. slice_get l (length rows - 1)) is
     ∙ set_here rows (length rows - 1) None (omega (arith, some))
-
--- what is put in its place is put in the first's
-set_again : {X : Type 0} (xs : List X) (i : ℕ) (x y : X) → slice_set (slice_set xs i x) i y ≡ slice_set xs i y
-set_again [] i x y = refl
-set_again (z ∷ xs) zero x y = refl
-set_again (z ∷ xs) (suc i) x y = ap (λ l. z ∷ l) (set_again xs i x y)
-
-pub set_twice : (old mid : Frames) → mid.rows.items ≡ slice_set old.rows.items (length old.rows.items - 1) None
-    → waits mid ≡ slice_set (waits old) (length old.rows.items - 1) None → (w : Option Wait)
-    → slice_set (waits mid) (length mid.rows.items - 1) w ≡ slice_set (waits old) (length old.rows.items - 1) w
-set_twice old mid rows are w =
-    let count : length mid.rows.items ≡ length old.rows.items =
-    ap length rows ∙ length-set old.rows.items (length old.rows.items - 1) None in
-    ap (λ n. slice_set (waits mid) (n - 1) w) count ∙ ap (λ l. slice_set l (length old.rows.items - 1) w) are
-    ∙ set_again (waits old) (length old.rows.items - 1) None w
 
 -- a frame was taken, and what waits by it is the work
 module _ (old : Frames) (piled : IsPiled old) (f : Frame) (at : slice_get old.rows.items (length old.rows.items - 1) ≡ Some (Some f))
@@ -379,6 +368,7 @@ module _ (old : Frames) (piled : IsPiled old) (f : Frame) (at : slice_get old.ro
         ∙ ap (λ l. Some (Some (wait f.site f.nodes.now l (reverse (drop (length old.values.items - f.values) old.values.items)))))
         (sym its_tasks)
         ∙ ap (λ l. Some (Some (wait f.site f.nodes.now work.tasks.items l))) (sym its_values));
+    none = cleared_last old.rows.items new.rows.items (some_before old.rows.items (Some f) at) rows;
   }
 
 pub taken_none : (old : Frames) → IsPiled old → slice_get old.rows.items (length old.rows.items - 1) ≡ Some None → (new : Frames)
@@ -387,4 +377,5 @@ pub taken_none : (old : Frames) → IsPiled old → slice_get old.rows.items (le
 taken_none old piled at new rows tasks values work = record {
   without = still_waits old piled at new rows tasks values;
   its = λ g is. absurd (cc is);
+  none = cleared_last old.rows.items new.rows.items (some_before old.rows.items None at) rows;
 }

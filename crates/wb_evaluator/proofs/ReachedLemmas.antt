@@ -1,14 +1,15 @@
 -- Children of the tree of a site.
-use Rattle.std.proofs.Common.{◌≡◌, ◌∙◌, ◌<◌, ℕ, List, length, slice_get, ap, subst}
+use Rattle.std.proofs.Common.{◌≡◌, ◌≢◌, ◌∙◌, ◌<◌, ℕ, List, Option, Some, None, length, slice_get, refl, ap, subst, arith}
+use Rattle.std.specs.Prelude.{IfSome, IfNone}
 use Rattle.std.proofs.lemmas.Option.{slice_get_within}
 use Rattle.wb_attributes.specs.Modular.{IsProduction}
 use Rattle.wb_resolved.specs.declared.attribution.AttributionParts.{AttributionParts}
 use Rattle.wb_resolved.specs.declared.production.Production.{Production}
 use Rattle.wb_values.specs.declared.value.TreeId.{TreeId}
-use Rattle.wb_values.specs.Tree.{Tree, production_of}
+use Rattle.wb_values.specs.Tree.{Tree, tree, production_of, children_of, value_at}
 use Rattle.wb_values.specs.ValuesIn.{tree_in}
 use Rattle.wb_evaluator.specs.Inner.Machines.{HasTree}
-use Rattle.wb_evaluator.specs.Inner.Reached.{HasChild, IsTreeChild, IsReady}
+use Rattle.wb_evaluator.specs.Inner.Reached.{HasChild, IsTreeChild, IsReady, IsGivenTree}
 use Rattle.wb_evaluator.specs.Inner.Starts.{HasProduction}
 use Rattle.wb_evaluator.specs.Inner.Works.{HasChildAt}
 use Rattle.wb_evaluator.specs.declared.machine.Machine.{Machine}
@@ -33,6 +34,17 @@ pub ready_child : (trees : List Tree) (m : Memo) (site k : ℕ) → IsReady tree
 ready_child trees m site k (id, has, inside, child) found has_found =
     let same = one_tree m site id found has has_found in
     (subst (λ (i : TreeId). i.0 < length trees) same inside, subst (λ (i : TreeId). IsTreeChild trees i k) same child)
+
+-- which is given to the site
+pub child_given : (trees : List Tree) (m : Memo) (site k : ℕ) (id : TreeId) → HasTree m site id → id.0 < length trees
+    → IsTreeChild trees id k → (r : Option TreeId)
+    → IfSome r (λ (child : TreeId). value_at (children_of (tree_in trees id.0)) k ≡ Some (tree (tree_in trees child.0)))
+    → IfSome r (λ (child : TreeId). child.0 < id.0)
+    → IfNone r ((u : Tree) → value_at (children_of (tree_in trees id.0)) k ≢ Some (tree u))
+    → IsGivenTree trees m site (step.Child k) r
+child_given trees m site k id has inside child (Some found) is below none =
+    (id, found, has, record { inside = omega (arith, inside, below); is = is }, refl)
+child_given trees m site k id has inside (u, is) None some below none = absurd (none u is)
 
 -- it is of a production
 pub production_here : (a : AttributionParts) (trees : List Tree) (m : Machine) (site : ℕ) → HasProduction a trees m site

@@ -24,7 +24,7 @@ use crate::steps::leave;
 use crate::work::{Ran, Work};
 use std::alloc::{AllocError, Global};
 use wb_operations::{Meaning, OperationRefusal, OperationTable};
-use wb_resolved::{Attribution, AttributionParts};
+use wb_resolved::Attribution;
 use wb_rules::RuleIndex;
 use wb_values::{TreeId, TreeStore, Value};
 
@@ -74,7 +74,10 @@ pub fn evaluate<M: Meaning>(
         operations,
         steps,
     };
-    evaluate_root(alloc, &context, store, root, attribute)
+    let answer = evaluate_root(alloc, &context, store, root, attribute);
+    drop(context);
+    drop(rules);
+    answer
 }
 
 // Evaluates an attribute of a root, by rules that were found before.
@@ -96,15 +99,14 @@ fn evaluate_root<M: Meaning>(
     ensures answered { IfOk result (IsAnswered context.now.attributes.now (record { signatures = context.now.operations.now.signatures; meaning = M.meaning }) store.new root attribute context.now.steps) }
     ensures store { IsExtended store.old store.new }
 {
-    let room = room_for(context.attributes);
+    // A site has room for the values of all attributes at once, where there are few.
+    let room = context.attributes.attributes.as_slice().len().min(16);
     let mut machine = Machine::new(alloc, root, attribute, room)?;
     let mut work = Work::new(alloc);
-    take_turns(context, &mut machine, store, &mut work)
-}
-
-// For how many values of a site there is room at once: for those of all attributes, where there are few.
-fn room_for(attributes: &AttributionParts) -> usize {
-    attributes.attributes.as_slice().len().min(16)
+    let answer = take_turns(context, &mut machine, store, &mut work);
+    drop(work);
+    drop(machine);
+    answer
 }
 
 // Enters the attribute that is asked, and works on instances until the answer is known.

@@ -12,7 +12,7 @@ ghost use Rattle.wb_memo.specs.declared.sites.Step.TheVariants.{Local};
 ghost use Rattle.wb_evaluator.specs.Inner.Works.{IsEvaluating, IsAfter, IsReading, HasChildAt, IsChildPushed, IsReadBelow, IsDone, way_to, left_to_do, task_size};
 ghost use Rattle.wb_evaluator.specs.declared.work.Task.TheVariants.{Visit};
 
-use crate::machine::{Key, Machine, child_value, tree_at};
+use crate::machine::{Key, Machine, tree_at};
 use crate::work::{Task, Work};
 use std::alloc::AllocError;
 use wb_memo::{Origin, Step};
@@ -47,7 +47,7 @@ pub(crate) fn visit_child(
     ensures { IfOk result (IsChildPushed store.now machine.now work.old work.new site k) }
 {
     let tree = tree_at(&machine.memo, site);
-    let value = child_value(store, tree, k)?;
+    let value = store.child(tree, k)?;
     work.push_value(value)?;
     Ok(None)
 }

@@ -2,9 +2,9 @@
 //!
 //! What is left of all lies in two lists, one part after another, so that one that waits takes no memory of its own.
 
-ghost use Rattle.std.specs.Prelude.{◌≡◌, ◌≤◌, ◌<◌, ◌-◌, ◌++◌, ◌∷◌, [], None, Some, length, take, drop, reverse, OnOk, IfOk};
+ghost use Rattle.std.specs.Prelude.{◌≡◌, ◌≤◌, ◌<◌, ◌-◌, ◌++◌, ◌∷◌, [], Some, length, take, drop, reverse, OnOk, IfOk};
 ghost use Rattle.std.specs.List.{slice_set};
-ghost use Rattle.wb_evaluator.specs.Inner.Piles.{wait, waits, IsPiled, IsTaken};
+ghost use Rattle.wb_evaluator.specs.Inner.Piles.{wait, waits, IsPiled, HasNoFrame, IsTaken};
 
 use crate::work::{Task, Work};
 use std::alloc::{AllocError, Global};
@@ -42,30 +42,7 @@ impl<'a> Frames<'a> {
         }
     }
 
-    // Adds an instance after the others, without a frame.
-    pub(crate) fn enter(&mut self) -> Result<(), AllocError>
-        requires piled { IsPiled self.old }
-        ensures piled { OnOk result (IsPiled self.new) }
-        ensures waits { OnOk result (waits self.new ≡ waits self.old ++ None ∷ []) }
-    {
-        self.rows.reserve(1)?;
-        self.rows.push_reserved(None);
-        Ok(())
-    }
-
-    // Takes the last instance away, with its frame.
-    pub(crate) fn leave(&mut self)
-        requires piled { IsPiled self.old }
-        requires some { 0 < length self.old.rows.items }
-        ensures piled { IsPiled self.new }
-        ensures waits { waits self.new ≡ take (length self.old.rows.items - 1) (waits self.old) }
-    {
-        self.clear_last();
-        let at = self.rows.len() - 1;
-        self.rows.truncate(at);
-    }
-
-    // Keeps what is left of an expression in the frame of the last instance.
+    // Keeps what is left of an expression in the frame of the last instance, which has none.
     pub(crate) fn keep(
         &mut self,
         site: usize,
@@ -74,11 +51,11 @@ impl<'a> Frames<'a> {
     ) -> Result<(), AllocError>
         requires piled { IsPiled self.old }
         requires some { 0 < length self.old.rows.items }
+        requires none { HasNoFrame self.old }
         ensures piled { OnOk result (IsPiled self.new) }
         ensures waits { OnOk result (waits self.new ≡ slice_set (waits self.old) (length self.old.rows.items - 1)
             (Some (wait site nodes.now work.old.tasks.items work.old.values.items))) }
     {
-        self.clear_last();
         let tasks = work.tasks.len();
         let values = work.values.len();
         move_end(&mut work.tasks, 0, &mut self.tasks)?;
@@ -126,23 +103,6 @@ impl<'a> Frames<'a> {
         work.values.clear();
         move_end(&mut self.tasks, first_task, &mut work.tasks)?;
         move_end(&mut self.values, first_value, &mut work.values)
-    }
-
-    // Takes the frame of the last instance away.
-    fn clear_last(&mut self)
-        requires piled { IsPiled self.old }
-        requires some { 0 < length self.old.rows.items }
-        ensures piled { IsPiled self.new }
-        ensures rows { self.new.rows.items ≡ slice_set self.old.rows.items (length self.old.rows.items - 1) None }
-        ensures waits { waits self.new ≡ slice_set (waits self.old) (length self.old.rows.items - 1) None }
-    {
-        let at = self.rows.len() - 1;
-        if let Some(frame) = replace(&mut self.rows[at], None) {
-            let tasks = self.tasks.len() - frame.tasks;
-            let values = self.values.len() - frame.values;
-            self.tasks.truncate(tasks);
-            self.values.truncate(values);
-        }
     }
 }
 

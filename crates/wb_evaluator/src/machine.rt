@@ -2,13 +2,11 @@
 //!
 //! The memo, and the instances that wait, each for the one above it. How one is worked on is in `run`.
 
-ghost use Rattle.std.specs.Prelude.{◌≡◌, ◌≤◌, ◌<◌, ◌+◌, ◌^◌, ◌++◌, ◌∷◌, [], Some, length, OnOk, IfOk};
-ghost use Rattle.wb_values.specs.Tree.{children_of, value_at};
-ghost use Rattle.wb_values.specs.ValuesIn.{tree_in, value_in, IsIn};
+ghost use Rattle.std.specs.Prelude.{◌≡◌, ◌≤◌, ◌<◌, ◌+◌, ◌^◌, OnOk, IfOk};
 ghost use Rattle.wb_evaluator.specs.Inner.Machines.{HasMore, HasTree, IsBlank, IsKey, IsTreeKnown, known, with_memo};
 ghost use Rattle.wb_evaluator.specs.Inner.Piles.{IsPiled};
 ghost use Rattle.wb_memo.specs.Memos.{count, IsWhole, IsGrown};
-ghost use Rattle.wb_evaluator.specs.Inner.Reached.{HasChild, IsTreeChild, IsChild, IsReady, IsGivenTree, IsReached};
+ghost use Rattle.wb_evaluator.specs.Inner.Reached.{IsReady, IsGivenTree, IsReached};
 
 use crate::frames::Frames;
 use std::alloc::{AllocError, Global};
@@ -62,8 +60,10 @@ impl<'a> Machine<'a> {
         requires room { self.old.entered + 1 < 2 ^ 64 }
         ensures { OnOk result (HasMore self.old self.new key) }
     {
-        self.frames.enter()?;
-        push_key(&mut self.stack, key)?;
+        self.frames.rows.reserve(1)?;
+        self.stack.reserve(1)?;
+        self.frames.rows.push_reserved(None);
+        self.stack.push_reserved(key);
         self.entered += 1;
         Ok(())
     }
@@ -111,7 +111,7 @@ impl<'a> Machine<'a> {
         match step {
             Step::Child(k) => {
                 let tree = tree_at(&self.memo, site);
-                Some(child_tree(store, tree, k))
+                store.child_tree(tree, k)
             }
             Step::Local(_) => None,
             Step::Forward => None,
@@ -128,35 +128,4 @@ pub(crate) fn tree_at(memo: &Memo, site: usize) -> TreeId
         Some(tree) => tree,
         None => unreachable!(),
     }
-}
-
-// Adds a key after others.
-fn push_key(stack: &mut Vec<Key>, key: Key) -> Result<(), AllocError>
-    ensures { OnOk result (stack.new.items ≡ stack.old.items ++ key ∷ []) }
-{
-    stack.reserve(1)?;
-    stack.push_reserved(key);
-    Ok(())
-}
-
-// The child of a tree, which is a tree.
-fn child_tree(store: &TreeStore, tree: TreeId, k: usize) -> TreeId
-    requires there { tree.0 < length store.now }
-    requires child { IsTreeChild store.now tree k }
-    ensures { IsChild store.now tree k result }
-{
-    match store.child_tree(tree, k) {
-        Some(child) => child,
-        None => unreachable!(),
-    }
-}
-
-// The value of a child of a tree.
-pub(crate) fn child_value(store: &TreeStore, tree: TreeId, k: usize) -> Result<Value, AllocError>
-    requires there { tree.0 < length store.now }
-    requires child { HasChild store.now tree k }
-    ensures value { IfOk result (λ made. value_at (children_of (tree_in store.now tree.0)) k ≡ Some (value_in store.now made)) }
-    ensures inside { IfOk result (IsIn (length store.now)) }
-{
-    store.child(tree, k)
 }

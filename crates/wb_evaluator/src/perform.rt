@@ -5,7 +5,7 @@
 ghost use Rattle.std.specs.Prelude.{◌≡◌, ◌≤◌, ◌<◌, ◌+◌, ◌-◌, ◌++◌, ◌∷◌, [], All, Some, length, slice_get, IfOk, OnOk};
 ghost use Rattle.wb_operations.specs.Given.{FitKinds, plains_of};
 ghost use Rattle.wb_operations.specs.Kept.{IsKept};
-ghost use Rattle.wb_evaluator.specs.Inner.Machines.{IsSame};
+ghost use Rattle.wb_evaluator.specs.Inner.Machines.{IsSteady};
 ghost use Rattle.wb_evaluator.specs.Inner.Works.{IsEvaluating, IsExtended, IsRanAt, IsOver, IsBuilt, IsChosen, IsCalled, HasTruth, left_to_do, task_size};
 ghost use Rattle.wb_values.specs.ValuesIn.{IsIn, last};
 ghost use Rattle.wb_values.specs.declared.value.Value.TheVariants.{Bool};
@@ -31,7 +31,7 @@ pub(crate) fn evaluate_tasks<M: Meaning>(
         (λ run vs. ⟦<Box<dyn Fn(&[Value]) -> Result<Value, OperationRefusal>> as Fn(&[Value]) -> Result<Value, OperationRefusal>>⟧.pre run vs)
         (λ run vs r. ⟦<Box<dyn Fn(&[Value]) -> Result<Value, OperationRefusal>> as Fn(&[Value]) -> Result<Value, OperationRefusal>>⟧.post run vs r) }
     ensures ran { IfOk result (IsRanAt expression.now.attributes.now (record { signatures = expression.now.operations.now.signatures; meaning = M.meaning }) store.new machine.new expression.now.site expression.now.nodes.now work.new) }
-    ensures same { OnOk result (IsSame machine.old machine.new) }
+    ensures same { OnOk result (IsSteady machine.old machine.new) }
     ensures store { IsExtended store.old store.new }
 {
     'tasks: while let Some(task) = work.tasks.pop() {
@@ -55,7 +55,7 @@ fn perform<M: Meaning>(
         (λ run vs. ⟦<Box<dyn Fn(&[Value]) -> Result<Value, OperationRefusal>> as Fn(&[Value]) -> Result<Value, OperationRefusal>>⟧.pre run vs)
         (λ run vs r. ⟦<Box<dyn Fn(&[Value]) -> Result<Value, OperationRefusal>> as Fn(&[Value]) -> Result<Value, OperationRefusal>>⟧.post run vs r) }
     ensures over { IfOk result (IsOver expression.now.attributes.now (record { signatures = expression.now.operations.now.signatures; meaning = M.meaning }) store.new machine.new expression.now.site expression.now.nodes.now work.new (left_to_do expression.now.nodes.now work.old.tasks.items + task_size expression.now.nodes.now task)) }
-    ensures same { OnOk result (IsSame machine.old machine.new) }
+    ensures same { OnOk result (IsSteady machine.old machine.new) }
     ensures store { IsExtended store.old store.new }
 {
     match task {
@@ -77,7 +77,7 @@ fn visit_or_wait<M: Meaning>(
     requires there { at < length expression.now.nodes.now }
     requires evaluating { IsEvaluating expression.now.attributes.now (record { signatures = expression.now.operations.now.signatures; meaning = M.meaning }) store.now machine.old expression.now.site expression.now.nodes.now (work.old.tasks.items ++ Visit at ∷ []) work.old.values.items }
     ensures over { IfOk result (IsOver expression.now.attributes.now (record { signatures = expression.now.operations.now.signatures; meaning = M.meaning }) store.now machine.new expression.now.site expression.now.nodes.now work.new (left_to_do expression.now.nodes.now work.old.tasks.items + task_size expression.now.nodes.now (Visit at))) }
-    ensures same { OnOk result (IsSame machine.old machine.new) }
+    ensures same { OnOk result (IsSteady machine.old machine.new) }
 {
     match visit(expression, machine, store, work, at)? {
         Some(key) => {

@@ -6,6 +6,7 @@ ghost use Rattle.std.specs.Prelude.{◌≡◌, ◌≤◌, ◌<◌, length, IfOk,
 ghost use Rattle.wb_operations.specs.Kept.{IsKept};
 ghost use Rattle.wb_evaluator.specs.Inner.Machines.{IsMachine, IsKey, IsSame};
 ghost use Rattle.wb_memo.specs.Memos.{IsWhole};
+ghost use Rattle.wb_evaluator.specs.Inner.Piles.{HasNoFrame};
 ghost use Rattle.wb_evaluator.specs.Inner.Starts.{IsForwarding};
 ghost use Rattle.wb_evaluator.specs.Inner.Works.{IsEvaluating, IsExtended, IsRan, IsRead};
 ghost use Rattle.wb_rules.specs.Indexes.{AreIndexes};
@@ -58,6 +59,7 @@ fn run_from_start<'a, M: Meaning>(
     work: &mut Work,
 ) -> Result<Ran, AllocError>
     requires whole { IsMachine context.now.attributes.now (record { signatures = context.now.operations.now.signatures; meaning = M.meaning }) store.old machine.old }
+    requires none { HasNoFrame machine.old.frames }
     requires rules { AreIndexes context.now.attributes.now.productions context.now.rules.now.rows.items }
     requires kept { IsKept context.now.operations.now.signatures context.now.operations.now.built_in context.now.operations.now.runs.items M.meaning
         (λ run vs. ⟦<Box<dyn Fn(&[Value]) -> Result<Value, OperationRefusal>> as Fn(&[Value]) -> Result<Value, OperationRefusal>>⟧.pre run vs)
@@ -95,7 +97,8 @@ fn run_forward<M: Meaning>(
     site: usize,
     attribute: usize,
 ) -> Result<Ran, AllocError>
-    requires { IsForwarding context.now.attributes.now (record { signatures = context.now.operations.now.signatures; meaning = M.meaning }) store.now machine.old site attribute }
+    requires forwarding { IsForwarding context.now.attributes.now (record { signatures = context.now.operations.now.signatures; meaning = M.meaning }) store.now machine.old site attribute }
+    requires none { HasNoFrame machine.old.frames }
     ensures ran { IfOk result (IsRan context.now.attributes.now (record { signatures = context.now.operations.now.signatures; meaning = M.meaning }) store.now machine.new) }
     ensures same { OnOk result (IsSame machine.old machine.new) }
 {
@@ -130,6 +133,7 @@ fn go_on<'a, M: Meaning>(
     work: &mut Work,
 ) -> Result<Ran, AllocError>
     requires evaluating { IsEvaluating expression.now.attributes.now (record { signatures = expression.now.operations.now.signatures; meaning = M.meaning }) store.old machine.old expression.now.site expression.now.nodes.now work.old.tasks.items work.old.values.items }
+    requires none { HasNoFrame machine.old.frames }
     requires kept { IsKept expression.now.operations.now.signatures expression.now.operations.now.built_in expression.now.operations.now.runs.items M.meaning
         (λ run vs. ⟦<Box<dyn Fn(&[Value]) -> Result<Value, OperationRefusal>> as Fn(&[Value]) -> Result<Value, OperationRefusal>>⟧.pre run vs)
         (λ run vs r. ⟦<Box<dyn Fn(&[Value]) -> Result<Value, OperationRefusal>> as Fn(&[Value]) -> Result<Value, OperationRefusal>>⟧.post run vs r) }

@@ -22,7 +22,7 @@ pub(crate) fn leave(machine: &mut Machine, answer: Value) -> Result<(), AllocErr
     let key = machine.stack[at];
     keep(&mut machine.memo, key, answer)?;
     machine.stack.truncate(at);
-    machine.frames.leave();
+    machine.frames.rows.truncate(at);
     Ok(())
 }
 

@@ -12,7 +12,7 @@ use Rattle.wb_evaluator.specs.declared.machine.Key.{Key}
 use Rattle.wb_evaluator.specs.declared.machine.Machine.{Machine}
 use Rattle.wb_evaluator.specs.Evaluates.{IsValue, IsFault, AsksMore}
 use Rattle.wb_evaluator.specs.Inner.Machines.{IsKey, IsMachine, IsFor, IsSet, HasMore}
-use Rattle.wb_evaluator.specs.Inner.Piles.{waits, IsPiled}
+use Rattle.wb_evaluator.specs.Inner.Piles.{waits, IsPiled, HasNoFrame}
 use Rattle.wb_memo.specs.Memos.{IsWhole}
 
 -- how much is left to do: an instance is entered and left
@@ -63,8 +63,9 @@ pub record IsLeaving (m : Machine) (v : Value) : Type 0 where
   pub is_key : IsKey m.memo key
   pub is_for : IsFor key v
   pub some : 0 < length m.stack.items
-  pub frames : 0 < length m.frames.rows.items
+  pub frames : length m.frames.rows.items ≡ length m.stack.items
   pub piled : IsPiled m.frames
+  pub none : HasNoFrame m.frames
 
 -- it was left, and its value is kept
 pub record IsPopped (old new : Machine) (v : Value) : Type 0 where

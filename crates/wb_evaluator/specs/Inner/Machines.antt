@@ -205,6 +205,11 @@ pub record IsSame (old new : Machine) : Type 0 where
   pub stack : new.stack ≡ old.stack
   pub entered : new.entered ≡ old.entered
 
+-- so they do, and the same expressions wait
+pub record IsSteady (old new : Machine) : Type 0 where
+  pub same : IsSame old new
+  pub frames : new.frames ≡ old.frames
+
 -- the instance of a key was entered above those on the stack, and has no expression that waits
 pub record HasMore (old new : Machine) (k : Key) : Type 0 where
   pub memo : new.memo ≡ old.memo

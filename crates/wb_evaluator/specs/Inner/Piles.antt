@@ -47,11 +47,16 @@ pub record IsPiled (f : Frames) : Type 0 where
   pub tasks : tasks_in f.rows.items ≡ length f.tasks.items
   pub values : values_in f.rows.items ≡ length f.values.items
 
+-- the last instance has no frame
+abbrev pub HasNoFrame : Frames → Type 0
+HasNoFrame f = slice_get f.rows.items (length f.rows.items - 1) ≡ Some None
+
 -- the last frame was taken away, and what waited by it is the work; or there was none
 pub record IsTaken (old new : Frames) (work : Work) (result : Option Frame) : Type 0 where
   pub without : waits new ≡ slice_set (waits old) (length old.rows.items - 1) None
   pub its : (f : Frame) → result ≡ Some f → slice_get (waits old) (length old.rows.items - 1)
       ≡ Some (Some (wait f.site f.nodes.now work.tasks.items work.values.items))
+  pub none : HasNoFrame new
 
 -- some of a list was moved from its end to that of another, and a place is still before what is left
 pub record IsMoved {X : Type 0} (start : ℕ) (old_from from old_to to : List X) : Type 0 where

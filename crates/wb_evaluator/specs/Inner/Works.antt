@@ -19,7 +19,8 @@ use Rattle.wb_values.specs.ValuesIn.{tree_in, value_in, values_in, last, IsIn}
 use Rattle.wb_evaluation.specs.Walks.{value, fault, done}
 use Rattle.wb_evaluator.specs.declared.work.Ran.{Ran}
 use Rattle.wb_evaluator.specs.declared.work.Ran.TheVariants as ran
-use Rattle.wb_evaluator.specs.Inner.Machines.{HasTree, known, IsSuspended, Runs, Wants, IsSame, with_memo}
+use Rattle.wb_evaluator.specs.Inner.Machines.{HasTree, known, IsSuspended, Runs, Wants, IsSteady, with_memo}
+use Rattle.wb_evaluator.specs.Inner.Piles.{HasNoFrame}
 use Rattle.wb_evaluator.specs.Inner.Reached.{HasChild, IsReached}
 use Rattle.wb_memo.specs.Memos.{count, path_in, IsWhole, IsGrown}
 use Rattle.wb_memo.specs.declared.memo.Memo.{Memo}
@@ -131,7 +132,7 @@ module _ (a : AttributionParts) (operations : Operations) (trees : List Tree) wh
   -- a task is done, which was on top of the tasks
   pub record IsDone (old new : Machine) (site : ℕ) (nodes : List Node) (before after : Work) (t : Task) (result : Option Key) : Type 0 where
     pub after_it : IsAfter a operations trees new site nodes after.tasks.items after.values.items t result
-    pub same : IsSame old new
+    pub same : IsSteady old new
     pub less : IsLess (left_to_do nodes after.tasks.items) (left_to_do nodes before.tasks.items + task_size nodes t) result
 
 -- the site one step down is there, and the instance of its key was read
@@ -166,15 +167,15 @@ abbrev pub IsExtended : List Tree → List Tree → Type 0
 IsExtended old new = (more : List Tree) × (new ≡ old ++ more)
 
 module _ (a : AttributionParts) (operations : Operations) (trees : List Tree) where
-  -- the instance at work has the outcome, or it reads one that wasn't entered
+  -- the instance at work has the outcome, and no frame where that is a value; or it reads one that wasn't entered
   abbrev pub IsRan : Machine → Ran → Type 0
-  IsRan m (ran.Value v) = Runs a operations trees m (done (value (value_in trees v))) × IsIn (length trees) v
+  IsRan m (ran.Value v) = Runs a operations trees m (done (value (value_in trees v))) × IsIn (length trees) v × HasNoFrame m.frames
   IsRan m (ran.Fault operation code) = Runs a operations trees m (done (fault operation code))
   IsRan m (ran.Needs key) = Wants a operations trees m key
 
   -- the evaluation of an expression is over, or its tasks wait for an instance that wasn't entered
   abbrev pub IsRanAt : Machine → ℕ → List Node → Work → Ran → Type 0
-  IsRanAt m site nodes work (ran.Value v) = IsRan m (ran.Value v)
+  IsRanAt m site nodes work (ran.Value v) = Runs a operations trees m (done (value (value_in trees v))) × IsIn (length trees) v
   IsRanAt m site nodes work (ran.Fault operation code) = IsRan m (ran.Fault operation code)
   IsRanAt m site nodes work (ran.Needs key) = Parks a operations trees m site nodes work.tasks.items work.values.items key
 

@@ -20,7 +20,7 @@ leave_or_answer-requires g c =
     let context = c.args.context.now in
     let operations : Operations = record { signatures = context.operations.now.signatures; meaning = g.M.Meaning.meaning } in
     let ran = subst (IsRan context.attributes.now operations c.run.new.store c.run.new.machine) c.in-Value.is c.in_ok-answer.ensures.ran in
-    leaving context.attributes.now operations c.run.new.store c.run.new.machine c.in-Value.answer ran.0 ran.1
+    leaving context.attributes.now operations c.run.new.store c.run.new.machine c.in-Value.answer ran.0 ran.1 ran.2
 
 pub enter_or_stop-requires : goal.enter_or_stop-requires
 enter_or_stop-requires g c =

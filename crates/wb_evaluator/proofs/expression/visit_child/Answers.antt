@@ -1,19 +1,34 @@
+use Rattle.std.proofs.Common.{length, arith}
 use Rattle.wb_evaluator.proofs.ReachedLemmas.{child_here}
+use Rattle.wb_values.proofs.CallerLemmas.{value_at-within, is_in_more}
+use Rattle.wb_values.specs.Tree.{children_of}
+use Rattle.wb_values.specs.ValuesIn.{tree_in}
 use Rattle.wb_evaluator.proofs.expression.visit_child.Goals as goal
 
 pub tree_at-tree-requires : goal.tree_at-tree-requires
 tree_at-tree-requires c = (c.requires.0, c.requires.1)
 
-pub child_value-requires-clause-there : goal.child_value-requires-clause-there
-child_value-requires-clause-there c =
+pub child-requires-clause-there : goal.child-requires-clause-there
+child-requires-clause-there c =
     (child_here c.args.store.now c.args.machine.now c.args.site c.args.k c.requires c.tree_at-tree.result c.tree_at-tree.ensures).0
 
-pub child_value-requires-clause-child : goal.child_value-requires-clause-child
-child_value-requires-clause-child c =
-    (child_here c.args.store.now c.args.machine.now c.args.site c.args.k c.requires c.tree_at-tree.result c.tree_at-tree.ensures).1
+pub child-requires-clause-place : goal.child-requires-clause-place
+child-requires-clause-place c =
+    let (inside, child) =
+    child_here c.args.store.now c.args.machine.now c.args.site c.args.k c.requires c.tree_at-tree.result c.tree_at-tree.ensures in
+    value_at-within (children_of (tree_in c.args.store.now c.tree_at-tree.result.0)) c.args.k _ child.1
 
 pub returns : goal.returns
 returns c =
+    let inside =
+    (child_here c.args.store.now c.args.machine.now c.args.site c.args.k c.requires c.tree_at-tree.result c.tree_at-tree.ensures).0 in
     let value = c.in_ok-value.ensures in
-    let pushed = c.in_ok-push_value.ensures in
-    (c.tree_at-tree.result, c.in_ok-value.value, c.tree_at-tree.ensures, value.value, value.inside, pushed.tasks, pushed.values)
+    let pushed = c.in_ok-push_value.ensures in (
+      c.tree_at-tree.result,
+      c.in_ok-value.value,
+      c.tree_at-tree.ensures,
+      value.value,
+      is_in_more c.tree_at-tree.result.0 (length c.args.store.now) c.in_ok-value.value (omega (arith, inside)) value.below,
+      pushed.tasks,
+      pushed.values,
+    )

@@ -1,4 +1,4 @@
-use Rattle.wb_evaluator.specs.Inner.Machines.{IsSame}
+use Rattle.wb_evaluator.specs.Inner.Machines.{IsSteady}
 use Rattle.wb_evaluator.specs.Inner.Works.{IsEvaluating, IsExtended, left_to_do}
 use Rattle.wb_evaluator.proofs.perform.evaluate_tasks.Given as goal
 
@@ -7,7 +7,7 @@ invariant-tasks g l = record {
   evaluating : IsEvaluating l.expression.attributes.now
       (record { signatures = l.expression.operations.now.signatures; meaning = g.M.Meaning.meaning })
       l.store l.machine l.expression.site l.expression.nodes.now l.work.tasks.items l.work.values.items;
-  same : IsSame l.initial.machine l.machine;
+  same : IsSteady l.initial.machine l.machine;
   store : IsExtended l.initial.store l.store;
 }
 

@@ -17,8 +17,8 @@ returns-in-None-clause-same g c = c.in_ok-key.ensures.same
 pub returns-in_ok-push_task-in-Some-clause-over : goal.returns-in_ok-push_task-in-Some-clause-over
 returns-in_ok-push_task-in-Some-clause-over g c =
     let pushed = c.in_ok-push_task-in-Some.ensures in
-    visit_waits c.args.work.now c.visit.new.work c.args.at _ c.in_ok-key.ensures c.push_task.new.self c.in-Some.key c.in-Some.is pushed.tasks
-    pushed.values
+    visit_waits c.args.work.now c.visit.new.work c.args.at _ c.in_ok-key.ensures c.push_task.new.self c.in-Some.key c.in-Some.is
+    pushed.tasks pushed.values
 
 pub returns-in_ok-push_task-in-Some-clause-same : goal.returns-in_ok-push_task-in-Some-clause-same
 returns-in_ok-push_task-in-Some-clause-same g c = c.in_ok-key.ensures.same

@@ -1,5 +1,6 @@
-use Rattle.std.proofs.Common.{subst}
-use Rattle.wb_evaluator.proofs.ParkLemmas.{parked, rows_some}
+use Rattle.std.proofs.Common.{sym, subst}
+use Rattle.wb_evaluator.proofs.ParkLemmas.{parked, rows_some, settled}
+use Rattle.wb_evaluator.specs.Inner.Piles.{HasNoFrame}
 use Rattle.wb_evaluator.specs.Inner.Works.{IsRanAt}
 use Rattle.wb_evaluator.proofs.run.go_on.Goals as goal
 
@@ -16,6 +17,22 @@ keep-requires-clause-piled g c =
     (record { signatures = expression.operations.now.signatures; meaning = g.M.Meaning.meaning }) c.evaluate_tasks.new.store
     c.evaluate_tasks.new.machine expression.site expression.nodes.now c.evaluate_tasks.new.work) c.in-Needs.is c.in_ok-ran.ensures.ran in
     parks.wants.runs.machine.piled
+
+pub keep-requires-clause-none : goal.keep-requires-clause-none
+keep-requires-clause-none g c = subst HasNoFrame (sym c.in_ok-ran.ensures.same.frames) c.requires.none
+
+pub returns-in_default-clause-ran : goal.returns-in_default-clause-ran
+returns-in_default-clause-ran g c =
+    let expression = c.args.expression.now in
+    settled expression.attributes.now (record { signatures = expression.operations.now.signatures; meaning = g.M.Meaning.meaning })
+    c.evaluate_tasks.new.store c.evaluate_tasks.new.machine expression.site expression.nodes.now c.evaluate_tasks.new.work c.in_ok-ran.ran
+    c.in_default.not-Needs c.in_ok-ran.ensures.ran (subst HasNoFrame (sym c.in_ok-ran.ensures.same.frames) c.requires.none)
+
+pub returns-in_default-clause-same : goal.returns-in_default-clause-same
+returns-in_default-clause-same g c = c.in_ok-ran.ensures.same.same
+
+pub returns-in_default-clause-store : goal.returns-in_default-clause-store
+returns-in_default-clause-store g c = c.evaluate_tasks.ensures.store
 
 pub keep-requires-clause-some : goal.keep-requires-clause-some
 keep-requires-clause-some g c =
@@ -37,7 +54,7 @@ returns-in_ok-keep-in-Needs-clause-ran g c =
 
 pub returns-in_ok-keep-in-Needs-clause-same : goal.returns-in_ok-keep-in-Needs-clause-same
 returns-in_ok-keep-in-Needs-clause-same g c =
-    let same = c.in_ok-ran.ensures.same in
+    let same = c.in_ok-ran.ensures.same.same in
     record { root = same.root; attribute = same.attribute; stack = same.stack; entered = same.entered }
 
 pub returns-in_ok-keep-in-Needs-clause-store : goal.returns-in_ok-keep-in-Needs-clause-store

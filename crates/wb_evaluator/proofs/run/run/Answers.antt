@@ -20,6 +20,12 @@ pub run_from_start-requires-clause-whole : goal.run_from_start-requires-clause-w
 run_from_start-requires-clause-whole g c =
     let e = c.in_ok-frame.ensures in started c.requires.whole c.take.new.self e.piled e.taken.without
 
+pub go_on-requires-clause-none : goal.go_on-requires-clause-none
+go_on-requires-clause-none g c = c.in_ok-frame.ensures.taken.none
+
+pub run_from_start-requires-clause-none : goal.run_from_start-requires-clause-none
+run_from_start-requires-clause-none g c = c.in_ok-frame.ensures.taken.none
+
 pub take-requires-clause-piled : goal.take-requires-clause-piled
 take-requires-clause-piled g c = c.requires.whole.piled
 

@@ -61,8 +61,14 @@ read_alone-requires-clause-key g c =
     c.args.machine.now) c.in-Read.is c.start_of.ensures in
     alone.is_key
 
-pub run_forward-requires : goal.run_forward-requires
-run_forward-requires g c =
+pub run_forward-requires-clause-none : goal.run_forward-requires-clause-none
+run_forward-requires-clause-none g c = c.requires.none
+
+pub go_on-requires-clause-none : goal.go_on-requires-clause-none
+go_on-requires-clause-none g c = c.requires.none
+
+pub run_forward-requires-clause-forwarding : goal.run_forward-requires-clause-forwarding
+run_forward-requires-clause-forwarding g c =
     subst (IsStart c.args.context.now.attributes.now
     (record { signatures = c.args.context.now.operations.now.signatures; meaning = g.M.Meaning.meaning }) c.args.store.now
     c.args.machine.now) c.in-Forward.is c.start_of.ensures
@@ -93,11 +99,11 @@ returns-in-Read-clause-ran g c =
     let alone = subst (IsStart c.args.context.now.attributes.now
     (record { signatures = c.args.context.now.operations.now.signatures; meaning = g.M.Meaning.meaning }) c.args.store.now
     c.args.machine.now) c.in-Read.is c.start_of.ensures in
-    IfOk-weaker c.read_alone.result _ _ (alone_ran c.in-Read.key alone) c.read_alone.ensures
+    IfOk-weaker c.read_alone.result _ _ (alone_ran c.in-Read.key alone c.requires.none) c.read_alone.ensures
 
 pub returns-in-Read-clause-same : goal.returns-in-Read-clause-same
 returns-in-Read-clause-same g c =
-    IfOk-weaker c.read_alone.result _ _ (λ ran is. same_machine c.args.machine.now) c.read_alone.ensures
+    IfOk-weaker c.read_alone.result _ _ (λ ran is. (same_machine c.args.machine.now).same) c.read_alone.ensures
 
 pub returns-in-Read-clause-store : goal.returns-in-Read-clause-store
 returns-in-Read-clause-store g c = same_store c.args.store.now
@@ -112,7 +118,7 @@ pub returns-in-Forward-clause-store : goal.returns-in-Forward-clause-store
 returns-in-Forward-clause-store g c = same_store c.args.store.now
 
 pub returns-in-Needs-clause-same : goal.returns-in-Needs-clause-same
-returns-in-Needs-clause-same g c = same_machine c.args.machine.now
+returns-in-Needs-clause-same g c = (same_machine c.args.machine.now).same
 
 pub returns-in-Needs-clause-store : goal.returns-in-Needs-clause-store
 returns-in-Needs-clause-store g c = same_store c.args.store.now

@@ -1,6 +1,8 @@
 use Rattle.std.proofs.Common.{◌≡◌, ◌∙◌, ◌-◌, Some, length, slice_get, take, refl, sym, ap, subst, arith}
 use Rattle.wb_lemmas.proofs.Places.{at_once, read_at}
+use Rattle.wb_evaluator.proofs.PileLemmas.{left_piled, left_waits}
 use Rattle.wb_evaluator.specs.Inner.Machines.{IsKey, IsFor}
+use Rattle.wb_evaluator.specs.declared.frames.Frames.{Frames}
 use Rattle.wb_evaluator.specs.declared.machine.Key.{Key}
 use Rattle.wb_evaluator.proofs.steps.leave.Goals as goal
 
@@ -40,12 +42,6 @@ keep-requires-clause-tree c =
     ∙ read_at keys keys (c.len-at.result - 1) c.index-key.result.now refl (omega (arith, some, is)) c.index-key.ensures in
     subst (λ (k : Key). IsFor k c.args.answer) (at_once keys (length keys - 1) _ _ c.requires.last at) c.requires.is_for
 
-pub leave-requires-clause-piled : goal.leave-requires-clause-piled
-leave-requires-clause-piled c = c.requires.piled
-
-pub leave-requires-clause-some : goal.leave-requires-clause-some
-leave-requires-clause-some c = c.requires.frames
-
 pub returns : goal.returns
 returns c =
     let keys = c.args.machine.now.stack.items in
@@ -54,6 +50,9 @@ returns c =
     let at : slice_get keys (length keys - 1) ≡ Some c.index-key.result.now =
     ap (λ n. slice_get keys (n - 1)) (sym is)
     ∙ read_at keys keys (c.len-at.result - 1) c.index-key.result.now refl (omega (arith, some, is)) c.index-key.ensures in
+    let frames = c.args.machine.now.frames in
+    let shorter : Frames = record { rows = c.truncate-2.new.self; tasks = frames.tasks; values = frames.values } in
+    let rows = c.truncate-2.ensures.items ∙ ap (λ n. take (n - 1) frames.rows.items) (is ∙ sym c.requires.frames) in
     record {
       key = c.index-key.result.now;
       last = at;
@@ -62,6 +61,6 @@ returns c =
       attribute = refl;
       entered = refl;
       stack = c.truncate.ensures.items ∙ ap (λ n. take (n - 1) keys) is;
-      frames = c.leave.ensures.waits;
-      piled = c.leave.ensures.piled;
+      frames = left_waits frames c.requires.piled c.requires.none shorter rows refl refl;
+      piled = left_piled frames c.requires.piled c.requires.none shorter rows refl refl;
     }

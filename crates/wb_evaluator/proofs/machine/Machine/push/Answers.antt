@@ -1,13 +1,19 @@
-use Rattle.std.proofs.Common.{refl}
+use Rattle.std.proofs.Common.{rules, refl}
+use Rattle.wb_evaluator.proofs.PileLemmas.{entered_piled}
+use Rattle.wb_evaluator.specs.declared.frames.Frames.{Frames}
 use Rattle.wb_evaluator.proofs.machine.Machine.push.Goals as goal
 
 pub returns : goal.returns
-returns c = record {
-  memo = refl;
-  root = refl;
-  attribute = refl;
-  stack = c.in_ok-push_key.ensures;
-  entered = refl;
-  frames = c.in_ok-enter.ensures.waits;
-  piled = c.in_ok-enter.ensures.piled;
-}
+returns c =
+    let old = c.args.self.now.frames in
+    let new : Frames = record { rows = c.push_reserved.new.self; tasks = old.tasks; values = old.values } in
+    let entered = entered_piled old new c.requires.piled (search rules) refl refl in
+    record {
+      memo = refl;
+      root = refl;
+      attribute = refl;
+      stack = search rules;
+      entered = refl;
+      frames = entered.1;
+      piled = entered.0;
+    }
