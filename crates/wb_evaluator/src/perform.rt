@@ -79,12 +79,13 @@ fn visit_or_wait<M: Meaning>(
     ensures over { IfOk result (IsOver expression.now.attributes.now (record { signatures = expression.now.operations.now.signatures; meaning = M.meaning }) store.now machine.new expression.now.site expression.now.nodes.now work.new (left_to_do expression.now.nodes.now work.old.tasks.items + task_size expression.now.nodes.now (Visit at))) }
     ensures same { OnOk result (IsSteady machine.old machine.new) }
 {
-    match visit(expression, machine, store, work, at)? {
-        Some(key) => {
+    match visit(expression, machine, store, work, at) {
+        Ok(Some(key)) => {
             work.push_task(Task::Visit(at))?;
             Ok(Some(Ran::Needs(key)))
         }
-        None => Ok(None),
+        Ok(None) => Ok(None),
+        Err(error) => Err(error),
     }
 }
 

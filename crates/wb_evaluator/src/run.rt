@@ -37,8 +37,8 @@ pub(crate) fn run<'a, M: Meaning>(
     ensures same { OnOk result (IsSame machine.old machine.new) }
     ensures store { IsExtended store.old store.new }
 {
-    match machine.frames.take(work)? {
-        Some(frame) => {
+    match machine.frames.take(work) {
+        Ok(Some(frame)) => {
             let expression = Expression {
                 attributes: context.attributes,
                 operations: context.operations,
@@ -47,7 +47,8 @@ pub(crate) fn run<'a, M: Meaning>(
             };
             go_on(&expression, machine, store, work)
         }
-        None => run_from_start(context, machine, store, work),
+        Ok(None) => run_from_start(context, machine, store, work),
+        Err(error) => Err(error),
     }
 }
 
