@@ -14,8 +14,8 @@ use crate::context::Context;
 use crate::machine::{Key, Machine, tree_at};
 use wb_memo::Step;
 use wb_operations::Meaning;
-use wb_resolved::{Node, Place, Production, Target};
-use wb_rules::{Rules, equation_for, forward_nodes, local_nodes};
+use wb_resolved::{AttributionParts, Node, Place, Production, Target};
+use wb_rules::{RuleIndex, Rules, equation_for, forward_nodes, local_nodes};
 use wb_values::TreeStore;
 
 // By what an instance is worked on.
@@ -65,7 +65,13 @@ fn start_of_tree<'a, M: Meaning>(
     ensures { IsStart context.now.attributes.now (record { signatures = context.now.operations.now.signatures; meaning = M.meaning }) store.now machine.now result }
 {
     let origin = machine.memo.sites.origins[site - 1];
-    let rules = rules_at(context, machine, store, origin.parent);
+    let rules = rules_at(
+        context.attributes,
+        context.rules,
+        machine,
+        store,
+        origin.parent,
+    );
     match tree_nodes(rules.production, origin.step) {
         Some(nodes) => Start::Expression {
             site: origin.parent,
@@ -100,7 +106,13 @@ fn start_of_inherited<'a, M: Meaning>(
     ensures { IsStart context.now.attributes.now (record { signatures = context.now.operations.now.signatures; meaning = M.meaning }) store.now machine.now result }
 {
     let origin = machine.memo.sites.origins[site - 1];
-    let rules = rules_at(context, machine, store, origin.parent);
+    let rules = rules_at(
+        context.attributes,
+        context.rules,
+        machine,
+        store,
+        origin.parent,
+    );
     match equation_for(&rules, target_below(origin.step, attribute)) {
         Some(nodes) => Start::Expression {
             site: origin.parent,
@@ -128,7 +140,7 @@ fn start_of_synthesized<'a, M: Meaning>(
     if machine.memo.trees[site].is_none() {
         return Start::Needs(Key::Tree { site });
     }
-    let rules = rules_at(context, machine, store, site);
+    let rules = rules_at(context.attributes, context.rules, machine, store, site);
     match equation_for(&rules, Target::Top(attribute)) {
         Some(nodes) => Start::Expression { site, nodes },
         None => Start::Forward { site, attribute },
@@ -136,23 +148,24 @@ fn start_of_synthesized<'a, M: Meaning>(
 }
 
 // The rules of the production at a site whose tree is known.
-fn rules_at<'a, M: Meaning>(
-    context: &Context<'a, M>,
+fn rules_at<'a>(
+    attributes: &'a AttributionParts,
+    index: &'a RuleIndex,
     machine: &Machine,
     store: &TreeStore,
     site: usize,
 ) -> Rules<'a>
-    requires production { HasProduction context.now.attributes.now store.now machine.now site }
-    requires rules { AreIndexes context.now.attributes.now.productions context.now.rules.now.rows.items }
-    ensures production { IsProductionAt context.now.attributes.now store.now machine.now site result.production.now }
+    requires production { HasProduction attributes.now store.now machine.now site }
+    requires rules { AreIndexes attributes.now.productions index.now.rows.items }
+    ensures production { IsProductionAt attributes.now store.now machine.now site result.production.now }
     ensures equations { IsIndexOf result.production.now.equations (length result.production.now.equations) result.equations.now }
 {
     let tree = tree_at(&machine.memo, site);
     let number = store.production(tree);
-    let productions = context.attributes.productions.as_slice();
+    let productions = attributes.productions.as_slice();
     Rules {
         production: &productions[number],
-        equations: &context.rules.rows[number],
+        equations: &index.rows[number],
     }
 }
 
