@@ -215,25 +215,6 @@ module _ (old : Frames) (piled : IsPiled old) (at : slice_get old.rows.items (le
   before_values : values_in before ≡ length old.values.items
   before_values = sym (values_none before) ∙ ap values_in before_all ∙ piled.values
 
-  -- it still has none
-  module _ (new : Frames) (rows : new.rows.items ≡ slice_set old.rows.items (length old.rows.items - 1) None)
-      (tasks : new.tasks.items ≡ old.tasks.items)
-      (values : new.values.items ≡ old.values.items) where
-    same_rows : new.rows.items ≡ old.rows.items
-    same_rows = rows ∙ changed None ∙ before_all
-
-    pub still_piled : IsPiled new
-    still_piled = record {
-      tasks = ap tasks_in same_rows ∙ piled.tasks ∙ ap length (sym tasks);
-      values = ap values_in same_rows ∙ piled.values ∙ ap length (sym values);
-    }
-
-    pub still_waits : waits new ≡ slice_set (waits old) (length old.rows.items - 1) None
-    still_waits =
-        ap (λ l. waits_in l new.tasks.items new.values.items) same_rows
-        ∙ ap (λ l. waits_in old.rows.items l new.values.items) tasks ∙ ap (waits_in old.rows.items old.tasks.items) values
-        ∙ before_waits ∙ sym (changed_waits None)
-
   -- what waits is put there
   module _ (new : Frames) (f : Frame) (p : List Task) (q : List Value)
       (rows : new.rows.items ≡ slice_set old.rows.items (length old.rows.items - 1) (Some f))
@@ -371,11 +352,10 @@ module _ (old : Frames) (piled : IsPiled old) (f : Frame) (at : slice_get old.ro
     none = cleared_last old.rows.items new.rows.items (some_before old.rows.items (Some f) at) rows;
   }
 
-pub taken_none : (old : Frames) → IsPiled old → slice_get old.rows.items (length old.rows.items - 1) ≡ Some None → (new : Frames)
-    → new.rows.items ≡ slice_set old.rows.items (length old.rows.items - 1) None → new.tasks.items ≡ old.tasks.items
-    → new.values.items ≡ old.values.items → (work : Work) → IsTaken old new work None
-taken_none old piled at new rows tasks values work = record {
-  without = still_waits old piled at new rows tasks values;
+pub taken_none : (old : Frames) → IsPiled old → slice_get old.rows.items (length old.rows.items - 1) ≡ Some None → (work : Work)
+    → IsTaken old old work None
+taken_none old piled at work = record {
+  without = before_waits old piled at ∙ sym (changed_waits old piled at None);
   its = λ g is. absurd (cc is);
-  none = cleared_last old.rows.items new.rows.items (some_before old.rows.items None at) rows;
+  none = at;
 }

@@ -8,7 +8,6 @@ ghost use Rattle.wb_evaluator.specs.Inner.Piles.{wait, waits, IsPiled, HasNoFram
 
 use crate::work::{Task, Work};
 use std::alloc::{AllocError, Global};
-use std::mem::replace;
 use wb_resolved::Node;
 use wb_values::Value;
 
@@ -78,8 +77,9 @@ impl<'a> Frames<'a> {
         ensures taken { IfOk result (IsTaken self.old self.new work.new) }
     {
         let at = self.rows.len() - 1;
-        match replace(&mut self.rows[at], None) {
+        match self.rows[at] {
             Some(frame) => {
+                self.rows[at] = None;
                 self.take_parts(frame.tasks, frame.values, work)?;
                 Ok(Some(frame))
             }
