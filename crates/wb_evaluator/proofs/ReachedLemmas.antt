@@ -7,12 +7,15 @@ use Rattle.wb_resolved.specs.declared.attribution.AttributionParts.{AttributionP
 use Rattle.wb_resolved.specs.declared.production.Production.{Production}
 use Rattle.wb_values.specs.declared.value.TreeId.{TreeId}
 use Rattle.wb_values.specs.Tree.{Tree, tree, production_of, children_of, value_at}
-use Rattle.wb_values.specs.ValuesIn.{tree_in}
-use Rattle.wb_evaluator.specs.Inner.Machines.{HasTree}
+use Rattle.wb_values.specs.declared.value.Value.{Value}
+use Rattle.wb_values.specs.ValuesIn.{tree_in, value_in, IsIn}
+use Rattle.wb_evaluator.specs.Inner.Machines.{HasTree, known}
 use Rattle.wb_evaluator.specs.Inner.Reached.{HasChild, IsTreeChild, IsReady, IsGivenTree}
 use Rattle.wb_evaluator.specs.Inner.Starts.{HasProduction}
-use Rattle.wb_evaluator.specs.Inner.Works.{HasChildAt}
+use Rattle.wb_evaluator.specs.Inner.Works.{HasChildAt, IsChildPushed, IsPushed, IsReading}
+use Rattle.wb_evaluator.specs.declared.machine.Key.{Key}
 use Rattle.wb_evaluator.specs.declared.machine.Machine.{Machine}
+use Rattle.wb_evaluator.specs.declared.work.Work.{Work}
 use Rattle.wb_memo.specs.declared.memo.Memo.{Memo}
 use Rattle.wb_memo.specs.declared.sites.Step.TheVariants as step
 
@@ -62,3 +65,15 @@ pub number_within : (a : AttributionParts) (trees : List Tree) (m : Machine) (si
 number_within a trees m site has found has_found n is =
     let (p, at) = (production_here a trees m site has found has_found).1 in
     slice_get_within a.productions n p (ap (slice_get a.productions) is ∙ at)
+
+-- a value that was pushed is what was read, or that of a child
+pub read_pushed : (m : Machine) (old new : Work) (k : Key) (w : Value) → known m.memo k ≡ Some w → (r : Option Key)
+    → IsPushed old new w r → IsReading m old new k r
+read_pushed m old new k w is None (tasks, values) = (w, is, tasks, values)
+read_pushed m old new k w is (Some other) pushed = absurd pushed
+
+pub child_pushed : (trees : List Tree) (m : Machine) (old new : Work) (site k : ℕ) (id : TreeId) (w : Value) → HasTree m.memo site id
+    → value_at (children_of (tree_in trees id.0)) k ≡ Some (value_in trees w) → IsIn (length trees) w → (r : Option Key)
+    → IsPushed old new w r → IsChildPushed trees m old new site k r
+child_pushed trees m old new site k id w has is inside None (tasks, values) = (id, w, has, is, inside, tasks, values)
+child_pushed trees m old new site k id w has is inside (Some other) pushed = absurd pushed

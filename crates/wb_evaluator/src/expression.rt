@@ -9,7 +9,7 @@ ghost use Rattle.wb_memo.specs.Memos.{count, IsWhole};
 ghost use Rattle.wb_evaluator.specs.Inner.Reached.{IsReady};
 ghost use Rattle.wb_evaluator.specs.declared.machine.Key.TheVariants.{Synthesized, Tree};
 ghost use Rattle.wb_memo.specs.declared.sites.Step.TheVariants.{Local};
-ghost use Rattle.wb_evaluator.specs.Inner.Works.{IsEvaluating, IsAfter, IsReading, HasChildAt, IsChildPushed, IsReadBelow, IsDone, way_to, left_to_do, task_size};
+ghost use Rattle.wb_evaluator.specs.Inner.Works.{IsEvaluating, IsAfter, IsReading, HasChildAt, IsChildPushed, IsPushed, IsReadBelow, IsDone, way_to, left_to_do, task_size};
 ghost use Rattle.wb_evaluator.specs.declared.work.Task.TheVariants.{Visit};
 
 use crate::machine::{Key, Machine, tree_at};
@@ -27,10 +27,7 @@ pub(crate) fn read(machine: &Machine, work: &mut Work, key: Key) -> Result<Optio
     ensures { IfOk result (IsReading machine.now work.old work.new key) }
 {
     match machine.known(key)? {
-        Some(value) => {
-            work.push_value(value)?;
-            Ok(None)
-        }
+        Some(value) => visit_value(work, value),
         None => Ok(Some(key)),
     }
 }
@@ -48,6 +45,13 @@ pub(crate) fn visit_child(
 {
     let tree = tree_at(&machine.memo, site);
     let value = store.child(tree, k)?;
+    visit_value(work, value)
+}
+
+// Pushes a value, and waits for nothing.
+pub(crate) fn visit_value(work: &mut Work, value: Value) -> Result<Option<Key>, AllocError>
+    ensures { IfOk result (IsPushed work.old work.new value) }
+{
     work.push_value(value)?;
     Ok(None)
 }

@@ -10,7 +10,7 @@ ghost use Rattle.wb_memo.specs.Memos.{count, IsWhole};
 ghost use Rattle.wb_operations.specs.Operations.{HasOperation, IsOperation};
 
 use crate::context::Expression;
-use crate::expression::{read, read_below, read_local, step_to, visit_child};
+use crate::expression::{read, read_below, read_local, step_to, visit_child, visit_value};
 use crate::machine::{Key, Machine};
 use crate::work::{Task, Work};
 use std::alloc::AllocError;
@@ -74,14 +74,6 @@ pub(crate) fn visit<M: Meaning>(
             fails,
         } => visit_branches(work, *condition, *holds, *fails),
     }
-}
-
-// Pushes a value.
-fn visit_value(work: &mut Work, value: Value) -> Result<Option<Key>, AllocError>
-    ensures { IfOk result (IsPushed work.old work.new value) }
-{
-    work.push_value(value)?;
-    Ok(None)
 }
 
 // Pushes a text.

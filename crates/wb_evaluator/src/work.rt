@@ -53,7 +53,10 @@ impl Work {
         ensures tasks { OnOk result (self.new.tasks ≡ self.old.tasks) }
         ensures values { OnOk result (self.new.values.items ≡ self.old.values.items ++ value ∷ []) }
     {
-        self.values.reserve(1)?;
+        if let Err(error) = self.values.reserve(1) {
+            drop(value);
+            return Err(error);
+        }
         self.values.push_reserved(value);
         Ok(())
     }

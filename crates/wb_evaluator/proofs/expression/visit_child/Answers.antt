@@ -1,5 +1,6 @@
 use Rattle.std.proofs.Common.{length, arith}
-use Rattle.wb_evaluator.proofs.ReachedLemmas.{child_here}
+use Rattle.std.proofs.lemmas.Result.{IfOk-weaker}
+use Rattle.wb_evaluator.proofs.ReachedLemmas.{child_here, child_pushed}
 use Rattle.wb_values.proofs.CallerLemmas.{value_at-within, is_in_more}
 use Rattle.wb_values.specs.Tree.{children_of}
 use Rattle.wb_values.specs.ValuesIn.{tree_in}
@@ -23,12 +24,8 @@ returns c =
     let inside =
     (child_here c.args.store.now c.args.machine.now c.args.site c.args.k c.requires c.tree_at-tree.result c.tree_at-tree.ensures).0 in
     let value = c.in_ok-value.ensures in
-    let pushed = c.in_ok-push_value.ensures in (
-      c.tree_at-tree.result,
-      c.in_ok-value.value,
-      c.tree_at-tree.ensures,
-      value.value,
-      is_in_more c.tree_at-tree.result.0 (length c.args.store.now) c.in_ok-value.value (omega (arith, inside)) value.below,
-      pushed.tasks,
-      pushed.values,
-    )
+    IfOk-weaker c.visit_value.result _ _
+    (child_pushed c.args.store.now c.args.machine.now c.args.work.now c.visit_value.new.work c.args.site c.args.k c.tree_at-tree.result
+    c.in_ok-value.value c.tree_at-tree.ensures value.value
+    (is_in_more c.tree_at-tree.result.0 (length c.args.store.now) c.in_ok-value.value (omega (arith, inside)) value.below))
+    c.visit_value.ensures
