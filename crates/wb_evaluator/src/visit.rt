@@ -144,9 +144,7 @@ fn visit_branches(
 ) -> Result<Option<Key>, AllocError>
     ensures { IfOk result (ArePushed work.old work.new (Choose holds fails) (condition ∷ [])) }
 {
-    work.push_task(Task::Choose { holds, fails })?;
-    work.push_task(Task::Visit(condition))?;
-    Ok(None)
+    visit_parts(work, Task::Choose { holds, fails }, &[condition])
 }
 
 // Visits the parts that a task works on.
