@@ -2,18 +2,18 @@
 
 ghost use Rattle.std.specs.Prelude.{◌≡◌, ◌++◌, ◌∷◌, [], Option, Some, IfOk, map, option_map, slice_get};
 ghost use Rattle.wb_report.specs.declared.attribute_reason.AttributeReason.TheVariants as shown;
-ghost use Rattle.wb_report.specs.declared.shown.ShownVertex.TheVariants as shown_vertex;
 ghost use Rattle.wb_naming.specs.Declares.{name_in};
 ghost use Rattle.wb_resolved.specs.declared.production.Child.{Child as Part};
 ghost use Rattle.wb_resolved.specs.declared.production.Local.{Local as Made};
 ghost use Rattle.wb_shown.specs.Names as names;
 ghost use Rattle.wb_shown.specs.Shows as spec;
 
+use crate::both::both;
 use crate::names::{attribute_name, named, nonterminal_name, production_name};
 use std::alloc::{AllocError, Global};
 use wb_base::{Bytes, Sequence, push};
 use wb_flow::{AttributeRefusal, Vertex};
-use wb_report::{AttributeReason, ShownVertex};
+use wb_report::{AttributeReason, Refusal, ShownVertex};
 use wb_resolved::{Child, Local, Resolved};
 
 // A rule of attributes; none for want of memory.
@@ -21,24 +21,24 @@ pub(crate) fn attribute_rule(
     alloc: Global,
     resolved: &Resolved,
     refusal: &AttributeRefusal,
-) -> Result<Option<AttributeReason>, AllocError>
-    ensures { IfOk result (λ shown. shown ≡ spec.attribute_reason resolved.now refusal.now) }
+) -> Result<Option<Refusal>, AllocError>
+    ensures { IfOk result (λ shown. shown ≡ spec.of_attributes (spec.attribute_reason resolved.now refusal.now)) }
 {
-    match refusal {
-        AttributeRefusal::StartInherits(attribute) => {
-            let attribute = attribute_name(alloc, resolved, *attribute)?;
-            Ok(Some(AttributeReason::StartInherits(attribute)))
-        }
-        AttributeRefusal::NoForward(production) => {
-            let production = production_name(alloc, resolved, *production)?;
-            Ok(Some(AttributeReason::NoForward(production)))
-        }
+    let reason = match refusal {
+        AttributeRefusal::StartInherits(attribute) => Ok(AttributeReason::StartInherits(
+            attribute_name(alloc, resolved, *attribute)?,
+        )),
+        AttributeRefusal::NoForward(production) => Ok(AttributeReason::NoForward(production_name(
+            alloc,
+            resolved,
+            *production,
+        )?)),
         AttributeRefusal::NoEquation {
             production,
             attribute,
         } => no_equation(alloc, resolved, *production, *attribute),
         AttributeRefusal::NoInherited { production, vertex } => {
-            no_inherited(alloc, resolved, *production, *vertex)
+            return no_inherited(alloc, resolved, *production, *vertex);
         }
         AttributeRefusal::LacksForward {
             nonterminal,
@@ -59,8 +59,9 @@ pub(crate) fn attribute_rule(
             attribute,
             inherited,
         } => forward_reads(alloc, resolved, *production, *attribute, *inherited),
-        AttributeRefusal::NoMemory(_) => Ok(None),
-    }
+        AttributeRefusal::NoMemory(_) => return Ok(None),
+    };
+    Ok(Some(Refusal::Attributes(reason?)))
 }
 
 // A production without an equation for an attribute.
@@ -69,68 +70,46 @@ fn no_equation(
     resolved: &Resolved,
     production: usize,
     attribute: usize,
-) -> Result<Option<AttributeReason>, AllocError>
-    ensures { IfOk result (λ made. made ≡ Some (shown.NoEquation (names.production_shown resolved.now production) (names.attribute_shown resolved.now attribute))) }
+) -> Result<AttributeReason, AllocError>
+    ensures { IfOk result (λ made. made ≡ shown.NoEquation (names.production_shown resolved.now production) (names.attribute_shown resolved.now attribute)) }
 {
-    let (production, attribute) = lacking(alloc, resolved, production, attribute)?;
-    Ok(Some(AttributeReason::NoEquation {
+    let (production, attribute) = both(
+        production_name(alloc, resolved, production),
+        attribute_name(alloc, resolved, attribute),
+    )?;
+    Ok(AttributeReason::NoEquation {
         production,
         attribute,
-    }))
+    })
 }
 
-// The names of a production and of the attribute that it has no equation for.
-fn lacking(
-    alloc: Global,
-    resolved: &Resolved,
-    production: usize,
-    attribute: usize,
-) -> Result<(Bytes, Bytes), AllocError>
-    ensures { IfOk result (λ made. (made.0 ≡ names.production_shown resolved.now production) × (made.1 ≡ names.attribute_shown resolved.now attribute)) }
-{
-    let production = production_name(alloc, resolved, production)?;
-    let attribute = attribute_name(alloc, resolved, attribute)?;
-    Ok((production, attribute))
-}
-
-// A production without an equation for an attribute of a child or local.
+// A production without an equation for an attribute of a child or local; none for another vertex.
 fn no_inherited(
     alloc: Global,
     resolved: &Resolved,
     number: usize,
     vertex: Vertex,
-) -> Result<Option<AttributeReason>, AllocError>
-    ensures { IfOk result (λ shown. shown ≡ spec.inherited_reason resolved.now number (slice_get resolved.now.attributes.productions number) vertex) }
+) -> Result<Option<Refusal>, AllocError>
+    ensures { IfOk result (λ shown. shown ≡ spec.of_attributes (spec.inherited_reason resolved.now number (slice_get resolved.now.attributes.productions number) vertex)) }
 {
-    match vertex {
-        Vertex::Child(place, attribute) => {
-            let label = child_label(resolved, number, place)?;
-            no_inherited_at(alloc, resolved, number, label, attribute)
+    let (production, shown) = both(
+        production_name(alloc, resolved, number),
+        vertex_of(alloc, resolved, number, vertex),
+    )?;
+    match shown {
+        ShownVertex::Label { label, attribute } => {
+            Ok(Some(Refusal::Attributes(AttributeReason::NoInherited {
+                production,
+                label,
+                attribute,
+            })))
         }
-        Vertex::Local(place, attribute) => {
-            let label = local_label(alloc, resolved, number, place)?;
-            no_inherited_at(alloc, resolved, number, label, attribute)
+        other => {
+            drop(production);
+            drop(other);
+            Ok(None)
         }
-        _ => Ok(None),
     }
-}
-
-// A production without an equation for an attribute of this label.
-fn no_inherited_at(
-    alloc: Global,
-    resolved: &Resolved,
-    number: usize,
-    label: Bytes,
-    attribute: usize,
-) -> Result<Option<AttributeReason>, AllocError>
-    ensures { IfOk result (λ made. made ≡ Some (shown.NoInherited (names.production_shown resolved.now number) label (names.attribute_shown resolved.now attribute))) }
-{
-    let (production, attribute) = lacking(alloc, resolved, number, attribute)?;
-    Ok(Some(AttributeReason::NoInherited {
-        production,
-        label,
-        attribute,
-    }))
 }
 
 // An attribute whose flow type lacks what a forward's has.
@@ -140,30 +119,21 @@ fn lacks_forward(
     nonterminal: usize,
     attribute: usize,
     inherited: usize,
-) -> Result<Option<AttributeReason>, AllocError>
-    ensures { IfOk result (λ made. made ≡ Some (shown.LacksForward (names.nonterminal_shown resolved.now nonterminal) (names.attribute_shown resolved.now attribute) (names.attribute_shown resolved.now inherited))) }
+) -> Result<AttributeReason, AllocError>
+    ensures { IfOk result (λ made. made ≡ shown.LacksForward (names.nonterminal_shown resolved.now nonterminal) (names.attribute_shown resolved.now attribute) (names.attribute_shown resolved.now inherited)) }
 {
-    let nonterminal = nonterminal_name(alloc, resolved, nonterminal)?;
-    let (attribute, inherited) = attribute_pair(alloc, resolved, attribute, inherited)?;
-    Ok(Some(AttributeReason::LacksForward {
+    let (nonterminal, (attribute, inherited)) = both(
+        nonterminal_name(alloc, resolved, nonterminal),
+        both(
+            attribute_name(alloc, resolved, attribute),
+            attribute_name(alloc, resolved, inherited),
+        ),
+    )?;
+    Ok(AttributeReason::LacksForward {
         nonterminal,
         attribute,
         inherited,
-    }))
-}
-
-// The names of an attribute and of one that it needs.
-fn attribute_pair(
-    alloc: Global,
-    resolved: &Resolved,
-    attribute: usize,
-    inherited: usize,
-) -> Result<(Bytes, Bytes), AllocError>
-    ensures { IfOk result (λ made. (made.0 ≡ names.attribute_shown resolved.now attribute) × (made.1 ≡ names.attribute_shown resolved.now inherited)) }
-{
-    let attribute = attribute_name(alloc, resolved, attribute)?;
-    let inherited = attribute_name(alloc, resolved, inherited)?;
-    Ok((attribute, inherited))
+    })
 }
 
 // An attribute, or the forwarded tree, that needs what isn't in its flow type.
@@ -173,16 +143,21 @@ fn reads(
     production: usize,
     attribute: Option<usize>,
     inherited: usize,
-) -> Result<Option<AttributeReason>, AllocError>
-    ensures { IfOk result (λ made. made ≡ Some (shown.Reads (names.production_shown resolved.now production) (option_map (names.attribute_shown resolved.now) attribute) (names.attribute_shown resolved.now inherited))) }
+) -> Result<AttributeReason, AllocError>
+    ensures { IfOk result (λ made. made ≡ shown.Reads (names.production_shown resolved.now production) (option_map (names.attribute_shown resolved.now) attribute) (names.attribute_shown resolved.now inherited)) }
 {
-    let attribute = reader_name(alloc, resolved, attribute)?;
-    let (production, inherited) = lacking(alloc, resolved, production, inherited)?;
-    Ok(Some(AttributeReason::Reads {
+    let (production, (attribute, inherited)) = both(
+        production_name(alloc, resolved, production),
+        both(
+            reader_name(alloc, resolved, attribute),
+            attribute_name(alloc, resolved, inherited),
+        ),
+    )?;
+    Ok(AttributeReason::Reads {
         production,
         attribute,
         inherited,
-    }))
+    })
 }
 
 // The name of an attribute, where it is one.
@@ -205,15 +180,17 @@ fn cycle(
     resolved: &Resolved,
     number: usize,
     vertices: &[Vertex],
-) -> Result<Option<AttributeReason>, AllocError>
-    ensures { IfOk result (λ made. made ≡ Some (shown.Cycle (names.production_shown resolved.now number) (map (spec.vertex_shown resolved.now (slice_get resolved.now.attributes.productions number)) vertices.now))) }
+) -> Result<AttributeReason, AllocError>
+    ensures { IfOk result (λ made. made ≡ shown.Cycle (names.production_shown resolved.now number) (map (spec.vertex_shown resolved.now (slice_get resolved.now.attributes.productions number)) vertices.now)) }
 {
-    let vertices = vertices_of(alloc, resolved, number, vertices)?;
-    let production = production_name(alloc, resolved, number)?;
-    Ok(Some(AttributeReason::Cycle {
+    let (production, vertices) = both(
+        production_name(alloc, resolved, number),
+        vertices_of(alloc, resolved, number, vertices),
+    )?;
+    Ok(AttributeReason::Cycle {
         production,
         vertices,
-    }))
+    })
 }
 
 // The equation for an attribute of the forwarded tree that needs too much.
@@ -223,16 +200,21 @@ fn forward_reads(
     production: usize,
     attribute: usize,
     inherited: usize,
-) -> Result<Option<AttributeReason>, AllocError>
-    ensures { IfOk result (λ made. made ≡ Some (shown.ForwardReads (names.production_shown resolved.now production) (names.attribute_shown resolved.now attribute) (names.attribute_shown resolved.now inherited))) }
+) -> Result<AttributeReason, AllocError>
+    ensures { IfOk result (λ made. made ≡ shown.ForwardReads (names.production_shown resolved.now production) (names.attribute_shown resolved.now attribute) (names.attribute_shown resolved.now inherited)) }
 {
-    let production = production_name(alloc, resolved, production)?;
-    let (attribute, inherited) = attribute_pair(alloc, resolved, attribute, inherited)?;
-    Ok(Some(AttributeReason::ForwardReads {
+    let (production, (attribute, inherited)) = both(
+        production_name(alloc, resolved, production),
+        both(
+            attribute_name(alloc, resolved, attribute),
+            attribute_name(alloc, resolved, inherited),
+        ),
+    )?;
+    Ok(AttributeReason::ForwardReads {
         production,
         attribute,
         inherited,
-    }))
+    })
 }
 
 // Vertices of a production.
@@ -264,12 +246,18 @@ fn vertex_of(
     match vertex {
         Vertex::Top(attribute) => Ok(ShownVertex::Top(attribute_name(alloc, resolved, attribute)?)),
         Vertex::Child(place, attribute) => {
-            let label = child_label(resolved, number, place)?;
-            attribute_at(alloc, resolved, label, attribute)
+            let (label, attribute) = both(
+                child_label(resolved, number, place),
+                attribute_name(alloc, resolved, attribute),
+            )?;
+            Ok(ShownVertex::Label { label, attribute })
         }
         Vertex::Local(place, attribute) => {
-            let label = local_label(alloc, resolved, number, place)?;
-            attribute_at(alloc, resolved, label, attribute)
+            let (label, attribute) = both(
+                local_label(alloc, resolved, number, place),
+                attribute_name(alloc, resolved, attribute),
+            )?;
+            Ok(ShownVertex::Label { label, attribute })
         }
         Vertex::Forward(attribute) => {
             Ok(ShownVertex::Forward(attribute_name(alloc, resolved, attribute)?))
@@ -279,19 +267,6 @@ fn vertex_of(
         }
         Vertex::ForwardTree => Ok(ShownVertex::ForwardTree),
     }
-}
-
-// An attribute of what has this label.
-fn attribute_at(
-    alloc: Global,
-    resolved: &Resolved,
-    label: Bytes,
-    attribute: usize,
-) -> Result<ShownVertex, AllocError>
-    ensures { IfOk result (λ made. made ≡ shown_vertex.Label label (names.attribute_shown resolved.now attribute)) }
-{
-    let attribute = attribute_name(alloc, resolved, attribute)?;
-    Ok(ShownVertex::Label { label, attribute })
 }
 
 // The label of a child of a production, as its file writes it.

@@ -5,6 +5,7 @@ ghost use Rattle.wb_report.specs.declared.grammar_reason.GrammarReason.TheVarian
 ghost use Rattle.wb_shown.specs.Names as names;
 ghost use Rattle.wb_shown.specs.Shows as spec;
 
+use crate::both::both;
 use crate::holes::{lookahead_name, reduction_name, symbol_name};
 use crate::names::{nonterminal_name, terminal_name};
 use std::alloc::{AllocError, Global};
@@ -12,7 +13,7 @@ use wb_base::{Bytes, Sequence, Symbol, push};
 use wb_determinism::DeterminismRefusal;
 use wb_grammar::Reason;
 use wb_lookahead::Action;
-use wb_report::{GrammarReason, ShownAction, ShownConflict};
+use wb_report::{GrammarReason, Refusal, ShownAction, ShownConflict};
 use wb_resolved::Resolved;
 
 // A rule of grammars and scanners; none for the rules on what extensions add, and for want of memory.
@@ -20,31 +21,33 @@ pub(crate) fn grammar_rule(
     alloc: Global,
     resolved: &Resolved,
     refusal: &DeterminismRefusal,
-) -> Result<Option<GrammarReason>, AllocError>
-    ensures { IfOk result (λ shown. shown ≡ spec.grammar_reason resolved.now refusal.now) }
+) -> Result<Option<Refusal>, AllocError>
+    ensures { IfOk result (λ shown. shown ≡ spec.of_grammar (spec.grammar_reason resolved.now refusal.now)) }
 {
-    match refusal {
-        DeterminismRefusal::PreferenceCycle(terminals) => {
-            let names = terminal_names(alloc, resolved, terminals.as_slice())?;
-            Ok(Some(GrammarReason::PreferenceCycle(names)))
-        }
+    let reason = match refusal {
+        DeterminismRefusal::PreferenceCycle(terminals) => Ok(GrammarReason::PreferenceCycle(
+            terminal_names(alloc, resolved, terminals.as_slice())?,
+        )),
         DeterminismRefusal::NotReduced(reason) => reduced_rule(alloc, resolved, reason),
-        DeterminismRefusal::UnitCycle(cycle) => {
-            let names = nonterminal_names(alloc, resolved, cycle.as_slice())?;
-            Ok(Some(GrammarReason::UnitCycle(names)))
-        }
-        DeterminismRefusal::HiddenLeftRecursion(cycle) => {
-            let names = nonterminal_names(alloc, resolved, cycle.as_slice())?;
-            Ok(Some(GrammarReason::HiddenLeftRecursion(names)))
-        }
+        DeterminismRefusal::UnitCycle(cycle) => Ok(GrammarReason::UnitCycle(nonterminal_names(
+            alloc,
+            resolved,
+            cycle.as_slice(),
+        )?)),
+        DeterminismRefusal::HiddenLeftRecursion(cycle) => Ok(GrammarReason::HiddenLeftRecursion(
+            nonterminal_names(alloc, resolved, cycle.as_slice())?,
+        )),
         DeterminismRefusal::Conflict {
             prefix,
             terminal,
             first,
             second,
         } => {
-            let conflict = conflict_of(alloc, resolved, *terminal, *first, *second)?;
-            conflict_after(alloc, resolved, prefix, conflict)
+            let (prefix, conflict) = both(
+                symbol_names(alloc, resolved, prefix.as_slice()),
+                conflict_of(alloc, resolved, *terminal, *first, *second),
+            )?;
+            Ok(GrammarReason::Conflict { prefix, conflict })
         }
         DeterminismRefusal::Clash {
             prefix,
@@ -52,15 +55,20 @@ pub(crate) fn grammar_rule(
             right,
             text,
         } => {
-            let pair = Pair {
-                left: *left,
-                right: *right,
-                text,
-            };
-            clash_after(alloc, resolved, prefix, &pair)
+            let (prefix, pair) = both(
+                symbol_names(alloc, resolved, prefix.as_slice()),
+                pair_of(alloc, resolved, *left, *right, text),
+            )?;
+            Ok(GrammarReason::Clash {
+                prefix,
+                left: pair.left,
+                right: pair.right,
+                text: pair.text,
+            })
         }
-        _ => Ok(None),
-    }
+        _ => return Ok(None),
+    };
+    Ok(Some(Refusal::Grammar(reason?)))
 }
 
 // Why a grammar isn't reduced.
@@ -68,18 +76,16 @@ fn reduced_rule(
     alloc: Global,
     resolved: &Resolved,
     reason: &Reason,
-) -> Result<Option<GrammarReason>, AllocError>
-    ensures { IfOk result (λ shown. shown ≡ Some (spec.reduced_reason resolved.now reason.now)) }
+) -> Result<GrammarReason, AllocError>
+    ensures { IfOk result (λ shown. shown ≡ spec.reduced_reason resolved.now reason.now) }
 {
     match reason {
-        Reason::Unreachable(number) => {
-            let name = nonterminal_name(alloc, resolved, *number)?;
-            Ok(Some(GrammarReason::Unreachable(name)))
-        }
-        Reason::Unproductive(number) => {
-            let name = nonterminal_name(alloc, resolved, *number)?;
-            Ok(Some(GrammarReason::Unproductive(name)))
-        }
+        Reason::Unreachable(number) => Ok(GrammarReason::Unreachable(nonterminal_name(
+            alloc, resolved, *number,
+        )?)),
+        Reason::Unproductive(number) => Ok(GrammarReason::Unproductive(nonterminal_name(
+            alloc, resolved, *number,
+        )?)),
     }
 }
 
@@ -93,27 +99,18 @@ pub(crate) fn conflict_of(
 ) -> Result<ShownConflict, AllocError>
     ensures { IfOk result (λ shown. shown ≡ record { terminal = names.lookahead_shown resolved.now terminal; first = spec.action_shown resolved.now first; second = spec.action_shown resolved.now second }) }
 {
-    let terminal = lookahead_name(alloc, resolved, terminal)?;
-    let (first, second) = actions_of(alloc, resolved, first, second)?;
+    let (terminal, (first, second)) = both(
+        lookahead_name(alloc, resolved, terminal),
+        both(
+            action_of(alloc, resolved, first),
+            action_of(alloc, resolved, second),
+        ),
+    )?;
     Ok(ShownConflict {
         terminal,
         first,
         second,
     })
-}
-
-// Both actions.
-fn actions_of(
-    alloc: Global,
-    resolved: &Resolved,
-    first: Action,
-    second: Action,
-) -> Result<(ShownAction, ShownAction), AllocError>
-    ensures { IfOk result (λ made. (made.0 ≡ spec.action_shown resolved.now first) × (made.1 ≡ spec.action_shown resolved.now second)) }
-{
-    let first = action_of(alloc, resolved, first)?;
-    let second = action_of(alloc, resolved, second)?;
-    Ok((first, second))
 }
 
 // An action.
@@ -130,47 +127,7 @@ fn action_of(alloc: Global, resolved: &Resolved, action: Action) -> Result<Shown
     }
 }
 
-// The rule of conflicts, for this one after a prefix.
-fn conflict_after(
-    alloc: Global,
-    resolved: &Resolved,
-    prefix: &Sequence<Symbol>,
-    conflict: ShownConflict,
-) -> Result<Option<GrammarReason>, AllocError>
-    ensures { IfOk result (λ made. made ≡ Some (shown.Conflict (map (names.symbol_shown resolved.now) prefix.now) conflict)) }
-{
-    let prefix = symbol_names(alloc, resolved, prefix.as_slice())?;
-    Ok(Some(GrammarReason::Conflict { prefix, conflict }))
-}
-
-// Two terminals that match a text.
-#[derive(Clone, Copy)]
-pub(crate) struct Pair<'a> {
-    pub(crate) left: usize,
-    pub(crate) right: usize,
-    pub(crate) text: &'a Bytes,
-}
-
-// The rule of clashes, for this one after a prefix.
-fn clash_after(
-    alloc: Global,
-    resolved: &Resolved,
-    prefix: &Sequence<Symbol>,
-    pair: &Pair,
-) -> Result<Option<GrammarReason>, AllocError>
-    ensures { IfOk result (λ made. made ≡ Some (shown.Clash (map (names.symbol_shown resolved.now) prefix.now) (names.terminal_shown resolved.now pair.now.left) (names.terminal_shown resolved.now pair.now.right) pair.now.text.now)) }
-{
-    let shown = shown_pair(alloc, resolved, pair)?;
-    let prefix = symbol_names(alloc, resolved, prefix.as_slice())?;
-    Ok(Some(GrammarReason::Clash {
-        prefix,
-        left: shown.left,
-        right: shown.right,
-        text: shown.text,
-    }))
-}
-
-// The names of two terminals, and the text that both match.
+// The names of two terminals, and a text that both match.
 #[derive(Drop)]
 pub(crate) struct ShownPair {
     pub(crate) left: Bytes,
@@ -178,30 +135,24 @@ pub(crate) struct ShownPair {
     pub(crate) text: Bytes,
 }
 
-// Two terminals that match a text, by names.
-pub(crate) fn shown_pair(
+// Two terminals that match a text.
+pub(crate) fn pair_of(
     alloc: Global,
     resolved: &Resolved,
-    pair: &Pair,
+    left: usize,
+    right: usize,
+    text: &Bytes,
 ) -> Result<ShownPair, AllocError>
-    ensures { IfOk result (λ made. made ≡ record { left = names.terminal_shown resolved.now pair.now.left; right = names.terminal_shown resolved.now pair.now.right; text = pair.now.text.now }) }
+    ensures { IfOk result (λ made. made ≡ record { left = names.terminal_shown resolved.now left; right = names.terminal_shown resolved.now right; text = text.now }) }
 {
-    let text = pair.text.copy()?;
-    let (left, right) = terminal_pair(alloc, resolved, pair)?;
+    let (text, (left, right)) = both(
+        text.copy(),
+        both(
+            terminal_name(alloc, resolved, left),
+            terminal_name(alloc, resolved, right),
+        ),
+    )?;
     Ok(ShownPair { left, right, text })
-}
-
-// The names of both.
-fn terminal_pair(
-    alloc: Global,
-    resolved: &Resolved,
-    pair: &Pair,
-) -> Result<(Bytes, Bytes), AllocError>
-    ensures { IfOk result (λ made. (made.0 ≡ names.terminal_shown resolved.now pair.now.left) × (made.1 ≡ names.terminal_shown resolved.now pair.now.right)) }
-{
-    let left = terminal_name(alloc, resolved, pair.left)?;
-    let right = terminal_name(alloc, resolved, pair.right)?;
-    Ok((left, right))
 }
 
 // The names of terminals.

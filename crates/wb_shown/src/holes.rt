@@ -34,12 +34,13 @@ pub(crate) fn lookahead_name(
 ) -> Result<Bytes, AllocError>
     ensures { IfOk result (λ name. name ≡ spec.lookahead_shown resolved.now number) }
 {
-    let terminals = terminals_in(&resolved.parts().grammar);
+    let parts = resolved.parts();
+    let terminals = terminals_in(&parts.grammar);
     if number < terminals {
         return terminal_name(alloc, resolved, number);
     }
-    match hole_at(resolved, number - terminals) {
-        Some(nonterminal) => hole_name(alloc, resolved, nonterminal),
+    match parts.extensible.as_slice().get(number - terminals) {
+        Some(nonterminal) => hole_name(alloc, resolved, *nonterminal),
         None => Bytes::from_slice(alloc, b"end"),
     }
 }
@@ -52,25 +53,14 @@ pub(crate) fn reduction_name(
 ) -> Result<Bytes, AllocError>
     ensures { IfOk result (λ name. name ≡ spec.reduction_shown resolved.now number) }
 {
-    let productions = productions_in(&resolved.parts().grammar);
+    let parts = resolved.parts();
+    let productions = productions_in(&parts.grammar);
     if number < productions {
         return production_name(alloc, resolved, number);
     }
-    match hole_at(resolved, number - productions) {
-        Some(nonterminal) => hole_name(alloc, resolved, nonterminal),
+    match parts.extensible.as_slice().get(number - productions) {
+        Some(nonterminal) => hole_name(alloc, resolved, *nonterminal),
         None => Ok(Bytes::empty()),
-    }
-}
-
-// The extensible nonterminal at this place, which has a hole.
-fn hole_at(resolved: &Resolved, place: usize) -> Option<usize>
-    ensures { result ≡ slice_get resolved.now.extensible place }
-{
-    let extensible = resolved.parts().extensible.as_slice();
-    if place < extensible.len() {
-        Some(extensible[place])
-    } else {
-        None
     }
 }
 
@@ -79,7 +69,9 @@ fn hole_name(alloc: Global, resolved: &Resolved, nonterminal: usize) -> Result<B
     ensures { IfOk result (λ name. name ≡ spec.hole_name resolved.now nonterminal) }
 {
     let name = nonterminal_name(alloc, resolved, nonterminal)?;
-    prefixed(alloc, name.as_slice())
+    let text = prefixed(alloc, name.as_slice());
+    drop(name);
+    text
 }
 
 // A name with `hole:` before it.

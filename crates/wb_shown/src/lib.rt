@@ -4,6 +4,7 @@
 #![tactic(auto)]
 
 mod attributes;
+mod both;
 mod extension;
 mod grammar;
 mod holes;

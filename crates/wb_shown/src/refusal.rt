@@ -11,7 +11,7 @@ use crate::specification::{name_rule, type_rule};
 use std::alloc::{AllocError, Global};
 use wb_certify::CertifyRefusal;
 use wb_determinism::DeterminismRefusal;
-use wb_report::{AttributeReason, ExtensionReason, GrammarReason, Refusal, SpecReason};
+use wb_report::{GrammarReason, Refusal, SpecReason};
 use wb_resolved::Resolved;
 
 /// Why a resolved host isn't certified, by names; none for want of memory, and for rules on what extensions add. The only error is want
@@ -27,12 +27,8 @@ pub fn shown_refusal(
         CertifyRefusal::Names(refusal) => Ok(of_spec(name_rule(refusal)?)),
         CertifyRefusal::Types(refusal) => Ok(of_spec(type_rule(refusal)?)),
         CertifyRefusal::NoStart => Ok(Some(Refusal::Grammar(GrammarReason::NoStart))),
-        CertifyRefusal::Determinism(refusal) => {
-            Ok(of_grammar(grammar_rule(alloc, resolved, refusal)?))
-        }
-        CertifyRefusal::Attributes(refusal) => {
-            Ok(of_attributes(attribute_rule(alloc, resolved, refusal)?))
-        }
+        CertifyRefusal::Determinism(refusal) => grammar_rule(alloc, resolved, refusal),
+        CertifyRefusal::Attributes(refusal) => attribute_rule(alloc, resolved, refusal),
         CertifyRefusal::NoMemory(_) => Ok(None),
     }
 }
@@ -61,8 +57,8 @@ fn determinism_rule(
     ensures { IfOk result (λ shown. shown ≡ extensions.determinism_shown resolved.now refusal.now) }
 {
     match grammar_rule(alloc, resolved, refusal)? {
-        Some(reason) => Ok(Some(Refusal::Grammar(reason))),
-        None => Ok(of_extension(extension_rule(alloc, resolved, refusal)?)),
+        Some(shown) => Ok(Some(shown)),
+        None => extension_rule(alloc, resolved, refusal),
     }
 }
 
@@ -72,36 +68,6 @@ pub fn of_spec(reason: Option<SpecReason>) -> Option<Refusal>
 {
     match reason {
         Some(reason) => Some(Refusal::Specification(reason)),
-        None => None,
-    }
-}
-
-// A rule of grammars and scanners as a refusal.
-fn of_grammar(reason: Option<GrammarReason>) -> Option<Refusal>
-    ensures { result ≡ spec.of_grammar reason }
-{
-    match reason {
-        Some(reason) => Some(Refusal::Grammar(reason)),
-        None => None,
-    }
-}
-
-// A rule of attributes as a refusal.
-fn of_attributes(reason: Option<AttributeReason>) -> Option<Refusal>
-    ensures { result ≡ spec.of_attributes reason }
-{
-    match reason {
-        Some(reason) => Some(Refusal::Attributes(reason)),
-        None => None,
-    }
-}
-
-// A rule on what an extension adds as a refusal.
-fn of_extension(reason: Option<ExtensionReason>) -> Option<Refusal>
-    ensures { result ≡ extensions.of_extension reason }
-{
-    match reason {
-        Some(reason) => Some(Refusal::Extension(reason)),
         None => None,
     }
 }
