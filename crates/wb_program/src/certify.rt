@@ -112,7 +112,10 @@ fn name_of<S: Shelf, M: Meaning>(
 {
     let word = Bytes::from_slice(alloc, file.as_bytes())?;
     match certified_beside(alloc, shelf, host, file, operations)? {
-        Ok(extension) => Ok(Ok(extension_name(alloc, extension)?)),
+        Ok(extension) => {
+            drop(word);
+            Ok(Ok(extension_name(alloc, extension)?))
+        }
         Err(refusal) => Ok(Err(refused_extension(alloc, word, refusal)?)),
     }
 }
@@ -176,11 +179,18 @@ fn all_certified(
     ensures status { IfOk result (λ answer. answer.status ≡ Status.Done) }
     ensures report { IfOk result (λ answer. answer.report.items ≡ report_of (Outcome.Done (Done.Certified host.now.resolved.host names.items))) }
 {
-    let host = Bytes::from_slice(alloc, host.name())?;
-    let extensions = Sequence::from_vec(names);
-    reported(
-        alloc,
-        Status::Done,
-        Outcome::Done(Done::Certified { host, extensions }),
-    )
+    match Bytes::from_slice(alloc, host.name()) {
+        Ok(host) => {
+            let extensions = Sequence::from_vec(names);
+            reported(
+                alloc,
+                Status::Done,
+                Outcome::Done(Done::Certified { host, extensions }),
+            )
+        }
+        Err(error) => {
+            drop(names);
+            Err(error)
+        }
+    }
 }

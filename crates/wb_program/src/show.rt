@@ -43,6 +43,7 @@ fn answer_contents(alloc: Global, file: &str, contents: Contents) -> Result<Answ
     match contents {
         Contents::Whole(bytes) => match read_spec(alloc, &bytes) {
             Ok(spec) => {
+                drop(bytes);
                 let report = print_spec(alloc, &spec);
                 spec.release();
                 Ok(Answer {
@@ -50,8 +51,16 @@ fn answer_contents(alloc: Global, file: &str, contents: Contents) -> Result<Answ
                     report: report?,
                 })
             }
-            Err(SpecRefusal::NoMemory(error)) => Err(error),
-            Err(refusal) => refused(alloc, file, &refusal),
+            Err(SpecRefusal::NoMemory(error)) => {
+                drop(bytes);
+                Err(error)
+            }
+            Err(refusal) => {
+                drop(bytes);
+                let answer = refused(alloc, file, &refusal);
+                refusal.release();
+                answer
+            }
         },
         Contents::TooLong => refused(alloc, file, &SpecRefusal::TooLong),
     }

@@ -71,7 +71,11 @@ fn answer_contents(
     ensures { (g : GrammarView) → host.now.resolved.grammar ≡ Some g → IfOk result (λ answer. ReadText (TextReport host.now.resolved) contents answer.status answer.report.items) }
 {
     match contents {
-        Contents::Whole(bytes) => shown_text(alloc, text_answer(alloc, host, &bytes)?),
+        Contents::Whole(bytes) => {
+            let answer = text_answer(alloc, host, &bytes);
+            drop(bytes);
+            shown_text(alloc, answer?)
+        }
         Contents::TooLong => reported(alloc, Status::TextTooLong, Outcome::TextTooLong),
     }
 }

@@ -8,7 +8,7 @@ use Rattle.wb_inputs.specs.Files.{KnownFile}
 use Rattle.wb_inputs.specs.HostChecks.{IsHostFile, RefusesHost}
 use Rattle.wb_inputs.specs.Stopped.{outside, Stopped}
 use Rattle.wb_inputs.specs.declared.answer.Answer.{Answer}
-use Rattle.wb_inputs.proofs.CauseLemmas.{err_of, goes_on_twice, on_err, on_ok, some_certified}
+use Rattle.wb_inputs.proofs.CauseLemmas.{err_of, goes_on_twice, on_err, on_ok, some_certified, goes_on_here}
 use Rattle.wb_inputs.proofs.WordLemmas.{few_texts}
 use Rattle.wb_program.specs.CertifyReport.{CertifyReport, ExtensionsReport}
 use Rattle.wb_program.specs.Inner.Extensions.{CertifyStops}
@@ -76,3 +76,21 @@ returns-in-Ok-clause-goes_on g c =
     (outside (g.S.Shelf.files c.answer_extensions-answer.new.shelf) (g.S.Shelf.absences c.answer_extensions-answer.new.shelf)
     (g.S.Shelf.faults c.answer_extensions-answer.new.shelf))
     c.read_host.ensures.goes_on c.answer_extensions-answer.ensures.goes_on
+
+pub returns-in-Err-clause-goes_on : goal.returns-in-Err-clause-goes_on
+returns-in-Err-clause-goes_on g c = c.read_host.ensures.goes_on
+
+pub returns-in-Err-clause-stopped : goal.returns-in-Err-clause-stopped
+returns-in-Err-clause-stopped g c = tt
+
+pub returns-in_err-certified-clause-goes_on : goal.returns-in_err-certified-clause-goes_on
+returns-in_err-certified-clause-goes_on g c = c.read_host.ensures.goes_on
+
+pub returns-in_err-reported-clause-goes_on : goal.returns-in_err-reported-clause-goes_on
+returns-in_err-reported-clause-goes_on g c = goes_on_here (outside (g.S.Shelf.files c.args.shelf.now) (g.S.Shelf.absences c.args.shelf.now) (g.S.Shelf.faults c.args.shelf.now))
+
+pub returns-then-extensions-gt-MOST_EXTENSIONS-clause-goes_on : goal.returns-then-extensions-gt-MOST_EXTENSIONS-clause-goes_on
+returns-then-extensions-gt-MOST_EXTENSIONS-clause-goes_on g c = goes_on_here (outside (g.S.Shelf.files c.args.shelf.now) (g.S.Shelf.absences c.args.shelf.now) (g.S.Shelf.faults c.args.shelf.now))
+
+pub returns-then-extensions-gt-MOST_EXTENSIONS-clause-stopped : goal.returns-then-extensions-gt-MOST_EXTENSIONS-clause-stopped
+returns-then-extensions-gt-MOST_EXTENSIONS-clause-stopped g c = tt

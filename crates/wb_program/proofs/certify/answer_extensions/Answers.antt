@@ -81,3 +81,36 @@ files-preserved g c =
           (sym c.in_ok-push_name-in-Ok.ensures) leads;
       stops = stops_on operations before host files c.files.at file c.in-Ok.name here named c.files.invariant.stops;
     }
+
+pub returns-clause-goes_on : goal.returns-clause-goes_on
+returns-clause-goes_on g c = c.files.invariant.goes_on
+
+pub returns-in_err-all_certified-clause-goes_on : goal.returns-in_err-all_certified-clause-goes_on
+returns-in_err-all_certified-clause-goes_on g c = c.files.invariant.goes_on
+
+pub returns-in-Err-clause-goes_on : goal.returns-in-Err-clause-goes_on
+returns-in-Err-clause-goes_on g c =
+    goes_on_twice (outside (g.S.Shelf.files c.args.shelf.now) (g.S.Shelf.absences c.args.shelf.now) (g.S.Shelf.faults c.args.shelf.now))
+    (outside (g.S.Shelf.files c.files.shelf) (g.S.Shelf.absences c.files.shelf) (g.S.Shelf.faults c.files.shelf))
+    (outside (g.S.Shelf.files c.name_of.new.shelf) (g.S.Shelf.absences c.name_of.new.shelf) (g.S.Shelf.faults c.name_of.new.shelf))
+    c.files.invariant.goes_on c.name_of.ensures.goes_on
+
+pub returns-in_err-name-clause-goes_on : goal.returns-in_err-name-clause-goes_on
+returns-in_err-name-clause-goes_on g c =
+    goes_on_twice (outside (g.S.Shelf.files c.args.shelf.now) (g.S.Shelf.absences c.args.shelf.now) (g.S.Shelf.faults c.args.shelf.now))
+    (outside (g.S.Shelf.files c.files.shelf) (g.S.Shelf.absences c.files.shelf) (g.S.Shelf.faults c.files.shelf))
+    (outside (g.S.Shelf.files c.name_of.new.shelf) (g.S.Shelf.absences c.name_of.new.shelf) (g.S.Shelf.faults c.name_of.new.shelf))
+    c.files.invariant.goes_on c.name_of.ensures.goes_on
+
+pub returns-in_err-push_name-in-Ok-clause-goes_on : goal.returns-in_err-push_name-in-Ok-clause-goes_on
+returns-in_err-push_name-in-Ok-clause-goes_on g c =
+    goes_on_twice (outside (g.S.Shelf.files c.args.shelf.now) (g.S.Shelf.absences c.args.shelf.now) (g.S.Shelf.faults c.args.shelf.now))
+    (outside (g.S.Shelf.files c.files.shelf) (g.S.Shelf.absences c.files.shelf) (g.S.Shelf.faults c.files.shelf))
+    (outside (g.S.Shelf.files c.name_of.new.shelf) (g.S.Shelf.absences c.name_of.new.shelf) (g.S.Shelf.faults c.name_of.new.shelf))
+    c.files.invariant.goes_on c.name_of.ensures.goes_on
+
+pub returns-clause-stopped : goal.returns-clause-stopped
+returns-clause-stopped g c = λ place is. tt
+
+pub returns-in-Err-clause-stopped : goal.returns-in-Err-clause-stopped
+returns-in-Err-clause-stopped g c = λ place is. tt

@@ -27,3 +27,12 @@ returns-clause-refused g c =
     (λ refusal. KnownFile known c.args.file.now (λ contents. IsExtensionRefusal host operations contents refusal))
     (λ refusal. read_is known c.args.file.now read (λ bytes. IsExtensionRefusal host operations bytes refusal)
     c.in_ok-contents.ensures.ok) c.extension_in.ensures.refused
+
+pub returns-clause-goes_on : goal.returns-clause-goes_on
+returns-clause-goes_on g c = c.read_file.ensures.goes_on
+
+pub returns-clause-stopped : goal.returns-clause-stopped
+returns-clause-stopped g c = tt
+
+pub returns-in_err-contents-clause-goes_on : goal.returns-in_err-contents-clause-goes_on
+returns-in_err-contents-clause-goes_on g c = c.read_file.ensures.goes_on

@@ -34,3 +34,30 @@ returns-in_ok-refused_extension-in-Err-clause-refused g c =
 pub returns-in_err-word-clause-goes_on : goal.returns-in_err-word-clause-goes_on
 returns-in_err-word-clause-goes_on g c =
     goes_on_here (outside (g.S.Shelf.files c.args.shelf.now) (g.S.Shelf.absences c.args.shelf.now) (g.S.Shelf.faults c.args.shelf.now))
+
+pub returns-in_ok-extension_name-in-Ok-clause-goes_on : goal.returns-in_ok-extension_name-in-Ok-clause-goes_on
+returns-in_ok-extension_name-in-Ok-clause-goes_on g c = c.certified_beside.ensures.goes_on
+
+pub returns-in_ok-refused_extension-in-Err-clause-goes_on : goal.returns-in_ok-refused_extension-in-Err-clause-goes_on
+returns-in_ok-refused_extension-in-Err-clause-goes_on g c = c.certified_beside.ensures.goes_on
+
+pub returns-in_err-extension-clause-goes_on : goal.returns-in_err-extension-clause-goes_on
+returns-in_err-extension-clause-goes_on g c = c.certified_beside.ensures.goes_on
+
+pub returns-in_err-extension_name-in-Ok-clause-goes_on : goal.returns-in_err-extension_name-in-Ok-clause-goes_on
+returns-in_err-extension_name-in-Ok-clause-goes_on g c = c.certified_beside.ensures.goes_on
+
+pub returns-in_err-refused_extension-in-Err-clause-goes_on : goal.returns-in_err-refused_extension-in-Err-clause-goes_on
+returns-in_err-refused_extension-in-Err-clause-goes_on g c = c.certified_beside.ensures.goes_on
+
+pub returns-in_ok-extension_name-in-Ok-clause-stopped : goal.returns-in_ok-extension_name-in-Ok-clause-stopped
+returns-in_ok-extension_name-in-Ok-clause-stopped g c = tt
+
+pub returns-in_ok-refused_extension-in-Err-clause-stopped : goal.returns-in_ok-refused_extension-in-Err-clause-stopped
+returns-in_ok-refused_extension-in-Err-clause-stopped g c = tt
+
+pub returns-in_ok-extension_name-in-Ok-clause-refused : goal.returns-in_ok-extension_name-in-Ok-clause-refused
+returns-in_ok-extension_name-in-Ok-clause-refused g c = tt
+
+pub returns-in_ok-refused_extension-in-Err-clause-ok : goal.returns-in_ok-refused_extension-in-Err-clause-ok
+returns-in_ok-refused_extension-in-Err-clause-ok g c = tt

@@ -25,3 +25,21 @@ returns-in-Err-clause-ok g c =
     err_of c.in_ok-certified.field-0 answer (λ made. RefusesHost (IsHostRefusal operations) known host made.status made.report.items)
     c.in-Err.is c.in_ok-certified.ensures.refused in
     check_refused operations known host answer.status answer.report.items refused
+
+pub returns-in-Err-clause-goes_on : goal.returns-in-Err-clause-goes_on
+returns-in-Err-clause-goes_on g c = c.read_host.ensures.goes_on
+
+pub returns-in-Err-clause-stopped : goal.returns-in-Err-clause-stopped
+returns-in-Err-clause-stopped g c = tt
+
+pub returns-in_err-certified-clause-goes_on : goal.returns-in_err-certified-clause-goes_on
+returns-in_err-certified-clause-goes_on g c = c.read_host.ensures.goes_on
+
+pub returns-in_err-certified_answer-in-Ok-clause-goes_on : goal.returns-in_err-certified_answer-in-Ok-clause-goes_on
+returns-in_err-certified_answer-in-Ok-clause-goes_on g c = c.read_host.ensures.goes_on
+
+pub returns-in_ok-certified_answer-in-Ok-clause-goes_on : goal.returns-in_ok-certified_answer-in-Ok-clause-goes_on
+returns-in_ok-certified_answer-in-Ok-clause-goes_on g c = c.read_host.ensures.goes_on
+
+pub returns-in_ok-certified_answer-in-Ok-clause-stopped : goal.returns-in_ok-certified_answer-in-Ok-clause-stopped
+returns-in_ok-certified_answer-in-Ok-clause-stopped g c = tt

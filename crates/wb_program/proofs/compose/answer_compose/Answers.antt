@@ -12,7 +12,7 @@ use Rattle.wb_inputs.specs.HostChecks.{IsHostFile, RefusesHost}
 use Rattle.wb_inputs.specs.Stopped.{outside, Stopped}
 use Rattle.wb_inputs.specs.declared.answer.Answer.{Answer}
 use Rattle.wb_inputs.proofs.ComposeLemmas.{several_certified, several_refused, composed_later, then_first, composed_first}
-use Rattle.wb_inputs.proofs.CauseLemmas.{err_of, goes_on_twice, on_err, on_ok}
+use Rattle.wb_inputs.proofs.CauseLemmas.{err_of, goes_on_twice, on_err, on_ok, goes_on_here}
 use Rattle.wb_inputs.proofs.WordLemmas.{few_texts}
 use Rattle.wb_program.specs.ComposeReport.{ComposedLines}
 use Rattle.wb_program.proofs.compose.answer_compose.Goals as goal
@@ -94,3 +94,21 @@ returns-in_err-certified-clause-stopped g c =
     let stopped : IfErr c.from_residual-in_err-certified.result (Stopped before now (λ P. P host)) = search rules in
     on_err c.from_residual-in_err-certified.result (Stopped before now (λ P. P host)) (Stopped before now (λ P. StopsComposed operations before.files host extensions P (λ r values. ⊥)))
     (λ failure. composed_first operations before now host extensions (λ P r values. ⊥) failure few) stopped
+
+pub returns-in-Err-clause-goes_on : goal.returns-in-Err-clause-goes_on
+returns-in-Err-clause-goes_on g c = c.read_host.ensures.goes_on
+
+pub returns-in-Err-clause-stopped : goal.returns-in-Err-clause-stopped
+returns-in-Err-clause-stopped g c = tt
+
+pub returns-in_err-certified-clause-goes_on : goal.returns-in_err-certified-clause-goes_on
+returns-in_err-certified-clause-goes_on g c = c.read_host.ensures.goes_on
+
+pub returns-in_err-reported-clause-goes_on : goal.returns-in_err-reported-clause-goes_on
+returns-in_err-reported-clause-goes_on g c = goes_on_here (outside (g.S.Shelf.files c.args.shelf.now) (g.S.Shelf.absences c.args.shelf.now) (g.S.Shelf.faults c.args.shelf.now))
+
+pub returns-then-extensions-gt-MOST_EXTENSIONS-clause-goes_on : goal.returns-then-extensions-gt-MOST_EXTENSIONS-clause-goes_on
+returns-then-extensions-gt-MOST_EXTENSIONS-clause-goes_on g c = goes_on_here (outside (g.S.Shelf.files c.args.shelf.now) (g.S.Shelf.absences c.args.shelf.now) (g.S.Shelf.faults c.args.shelf.now))
+
+pub returns-then-extensions-gt-MOST_EXTENSIONS-clause-stopped : goal.returns-then-extensions-gt-MOST_EXTENSIONS-clause-stopped
+returns-then-extensions-gt-MOST_EXTENSIONS-clause-stopped g c = tt

@@ -276,3 +276,31 @@ returns-in-Generate-clause-stopped g c =
     (Stopped before now (ReadsTo signatures files (a.generate c.in-Generate.number c.in-Generate.size c.in-Generate.attribute.now c.in-Generate.host.now extensions)))
     (λ failure. weaker_stop before now (λ P. StopsComposed signatures files c.in-Generate.host.now extensions P (λ s values. ⊥))
     (ReadsTo signatures files (a.generate c.in-Generate.number c.in-Generate.size c.in-Generate.attribute.now c.in-Generate.host.now extensions)) failure (λ P stops. inr stops)) c.answer_generate.ensures.stopped)
+
+-- what the shelf keeps
+pub returns-in-Value-clause-goes_on : goal.returns-in-Value-clause-goes_on
+returns-in-Value-clause-goes_on g c = c.answer_value.ensures.goes_on
+
+pub returns-in-Show-clause-goes_on : goal.returns-in-Show-clause-goes_on
+returns-in-Show-clause-goes_on g c = c.answer_show.ensures.goes_on
+
+pub returns-in-Check-clause-goes_on : goal.returns-in-Check-clause-goes_on
+returns-in-Check-clause-goes_on g c = c.answer_check.ensures.goes_on
+
+pub returns-in-Certify-clause-goes_on : goal.returns-in-Certify-clause-goes_on
+returns-in-Certify-clause-goes_on g c = c.answer_certify.ensures.goes_on
+
+pub returns-then-is_empty-clause-goes_on : goal.returns-then-is_empty-clause-goes_on
+returns-then-is_empty-clause-goes_on g c = c.answer_tree.ensures.goes_on
+
+pub returns-else-is_empty-clause-goes_on : goal.returns-else-is_empty-clause-goes_on
+returns-else-is_empty-clause-goes_on g c = c.answer_united.ensures.goes_on
+
+pub returns-in-Compose-clause-goes_on : goal.returns-in-Compose-clause-goes_on
+returns-in-Compose-clause-goes_on g c = c.answer_compose.ensures.goes_on
+
+pub returns-in-Run-clause-goes_on : goal.returns-in-Run-clause-goes_on
+returns-in-Run-clause-goes_on g c = c.answer_run.ensures.goes_on
+
+pub returns-in-Generate-clause-goes_on : goal.returns-in-Generate-clause-goes_on
+returns-in-Generate-clause-goes_on g c = c.answer_generate.ensures.goes_on

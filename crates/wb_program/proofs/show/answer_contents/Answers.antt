@@ -10,8 +10,8 @@ use Rattle.wb_program.specs.Inner.Shown.{ContentsShow, ShowsRefusal}
 use Rattle.wb_program.proofs.ShowLemmas.{refuses_read}
 use Rattle.wb_program.proofs.show.answer_contents.Goals as goal
 
-pub returns-in-Whole : goal.returns-in-Whole
-returns-in-Whole c =
+pub returns-in-Err : goal.returns-in-Err
+returns-in-Err c =
     let contents = c.args.contents in
     let file = c.args.file.now in
     let refusal = c.in-Err.refusal in
@@ -19,6 +19,6 @@ returns-in-Whole c =
     subst (λ (text : List ℕ). HasCause text refusal) c.deref.ensures.value c.in-Err.ensures.refused in
     let read : ReadIs contents (λ text. HasCause text refusal) =
     subst (λ (x : Contents). ReadIs x (λ text. HasCause text refusal)) (sym c.in-Whole.is) cause in
-    on_ok c.refused.result (λ answer. Ends SpecRefused (ShowsRefusal refusal file) answer.status answer.report.items)
+    on_ok c.refused-answer.result (λ answer. Ends SpecRefused (ShowsRefusal refusal file) answer.status answer.report.items)
     (λ answer. ContentsShow contents answer.status answer.report.items file)
-    (λ answer ends. inl (ends.0, refuses_read contents refusal file answer.report.items read ends.1)) c.refused.ensures
+    (λ answer ends. inl (ends.0, refuses_read contents refusal file answer.report.items read ends.1)) c.refused-answer.ensures

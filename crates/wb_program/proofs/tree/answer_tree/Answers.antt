@@ -68,3 +68,12 @@ returns-in-Err-clause-ok g c =
     err_of c.in_ok-certified.field-0 answer (λ made. RefusesHost (IsHostRefusal operations) known host made.status made.report.items)
     c.in-Err.is c.in_ok-certified.ensures.refused in
     tree_refused operations known c.args.text.now host answer.status answer.report.items refused
+
+pub returns-in-Err-clause-goes_on : goal.returns-in-Err-clause-goes_on
+returns-in-Err-clause-goes_on g c = c.read_host.ensures.goes_on
+
+pub returns-in-Err-clause-stopped : goal.returns-in-Err-clause-stopped
+returns-in-Err-clause-stopped g c = tt
+
+pub returns-in_err-certified-clause-goes_on : goal.returns-in_err-certified-clause-goes_on
+returns-in_err-certified-clause-goes_on g c = c.read_host.ensures.goes_on

@@ -1,5 +1,5 @@
 -- A text is read after the extensions, and its report comes after theirs.
-use Rattle.std.proofs.Common.{ℕ, List, [], Option, IfOk, inr, subst}
+use Rattle.std.proofs.Common.{ℕ, List, [], Option, IfOk, inl, inr, subst}
 use Rattle.wb_beside.specs.Kept.{ExtensionView}
 use Rattle.wb_operations.specs.Operations.{OperationSignature}
 use Rattle.wb_resolved.specs.declared.resolved.ResolvedParts.{ResolvedParts}
@@ -7,12 +7,14 @@ use Rattle.wb_united_trees.specs.Unions.{all_resolved}
 use Rattle.wb_words.specs.Words.{texts}
 use Rattle.wb_world.specs.Shelf.{Files}
 use Rattle.wb_inputs.specs.Checks.{Check}
-use Rattle.wb_inputs.specs.SeveralChecks.{AreEach, EachChecks}
+use Rattle.wb_inputs.specs.Reads.{StopsThen}
+use Rattle.wb_inputs.specs.SeveralChecks.{AreEach, EachChecks, RefusesEach}
 use Rattle.wb_inputs.specs.Texts.{IsText, IsTooLongText}
 use Rattle.wb_inputs.specs.declared.answer.Answer.{Answer}
 use Rattle.wb_inputs.specs.declared.status.Status.TheVariants.{TextTooLong}
-use Rattle.wb_inputs.specs.Stopped.{outside}
-use Rattle.wb_inputs.proofs.CauseLemmas.{goes_on_twice, ok_of, on_ok}
+use Rattle.wb_inputs.specs.Stopped.{outside, Stopped}
+use Rattle.wb_inputs.proofs.CauseLemmas.{err_of, goes_on_twice, ok_of, on_err, on_ok}
+use Rattle.wb_inputs.proofs.ComposeLemmas.{reason_since}
 use Rattle.wb_program.specs.ComposeReport.{UnitedReport}
 use Rattle.wb_program.proofs.united.united_files.Goals as goal
 
@@ -54,3 +56,44 @@ returns-in-Ok-clause-goes_on g c =
     (outside (g.S.Shelf.files c.united_text-answer.new.shelf) (g.S.Shelf.absences c.united_text-answer.new.shelf)
     (g.S.Shelf.faults c.united_text-answer.new.shelf))
     c.read_extensions.ensures.goes_on c.united_text-answer.ensures.goes_on
+
+pub returns-in-Ok-clause-stopped : goal.returns-in-Ok-clause-stopped
+returns-in-Ok-clause-stopped g c =
+    let before = outside (g.S.Shelf.files c.args.shelf.now) (g.S.Shelf.absences c.args.shelf.now) (g.S.Shelf.faults c.args.shelf.now) in
+    let between = outside (g.S.Shelf.files c.read_extensions.new.shelf) (g.S.Shelf.absences c.read_extensions.new.shelf)
+    (g.S.Shelf.faults c.read_extensions.new.shelf) in
+    let now = outside (g.S.Shelf.files c.united_text-answer.new.shelf) (g.S.Shelf.absences c.united_text-answer.new.shelf)
+    (g.S.Shelf.faults c.united_text-answer.new.shelf) in
+    let signatures = c.args.operations.now.signatures in
+    let host = c.args.host.now in
+    let files = texts c.args.files.now in
+    let text = c.args.text.now in
+    let es = c.in-Ok.extensions.items in
+    let each : AreEach signatures before.files host.resolved files [] (all_resolved es) =
+    ok_of c.in_ok-extensions.field-0 c.in-Ok.extensions
+    (λ list. AreEach signatures before.files host.resolved files [] (all_resolved list.items)) c.in-Ok.is c.in_ok-extensions.ensures.ok in
+    on_err c.united_text-answer.result (Stopped between now (λ P. P text))
+    (Stopped before now (λ P. StopsThen signatures before.files host.resolved P files (λ values. P text)))
+    (λ failure. reason_since before between now (λ P. P text)
+    (λ P. StopsThen signatures before.files host.resolved P files (λ values. P text)) failure c.read_extensions.ensures.goes_on
+    (λ P Q weaker is. inr (all_resolved es, each, weaker text is))) c.united_text-answer.ensures.stopped
+
+pub returns-in-Err-clause-ok : goal.returns-in-Err-clause-ok
+returns-in-Err-clause-ok g c =
+    let known = g.S.Shelf.files c.args.shelf.now in
+    let signatures = c.args.operations.now.signatures in
+    let host = c.args.host.now in
+    let files = texts c.args.files.now in
+    let answer = c.in-Err.answer in
+    inl (err_of c.in_ok-extensions.field-0 answer
+    (λ made. RefusesEach signatures known host.resolved files [] made.status made.report.items) c.in-Err.is
+    c.in_ok-extensions.ensures.refused)
+
+pub returns-in-Err-clause-goes_on : goal.returns-in-Err-clause-goes_on
+returns-in-Err-clause-goes_on g c = c.read_extensions.ensures.goes_on
+
+pub returns-in_err-extensions-clause-goes_on : goal.returns-in_err-extensions-clause-goes_on
+returns-in_err-extensions-clause-goes_on g c = c.read_extensions.ensures.goes_on
+
+pub returns-in-Err-clause-stopped : goal.returns-in-Err-clause-stopped
+returns-in-Err-clause-stopped g c = tt

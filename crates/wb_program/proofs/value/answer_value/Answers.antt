@@ -83,3 +83,12 @@ returns-in-Err-clause-ok g c =
     err_of c.in_ok-resolved.field-0 answer (λ made. RefusesHost (IsWellDefinedTextRefusal operations.signatures) known host made.status made.report.items)
     c.in-Err.is c.in_ok-resolved.ensures.refused in
     value_refused operations known host c.args.term.now c.args.attribute.now answer.status answer.report.items refused
+
+pub returns-in-Err-clause-goes_on : goal.returns-in-Err-clause-goes_on
+returns-in-Err-clause-goes_on g c = c.read_well_defined.ensures.goes_on
+
+pub returns-in-Err-clause-stopped : goal.returns-in-Err-clause-stopped
+returns-in-Err-clause-stopped g c = tt
+
+pub returns-in_err-resolved-clause-goes_on : goal.returns-in_err-resolved-clause-goes_on
+returns-in_err-resolved-clause-goes_on g c = c.read_well_defined.ensures.goes_on
