@@ -1,6 +1,6 @@
 //! Which rule of attributes does a report show, by names?
 
-ghost use Rattle.std.specs.Prelude.{◌≡◌, ◌++◌, ◌∷◌, [], Option, Some, IfOk, map, option_map, slice_get};
+ghost use Rattle.std.specs.Prelude.{◌≡◌, IfOk, map, option_map, slice_get};
 ghost use Rattle.wb_report.specs.declared.attribute_reason.AttributeReason.TheVariants as shown;
 ghost use Rattle.wb_naming.specs.Declares.{name_in};
 ghost use Rattle.wb_resolved.specs.declared.production.Child.{Child as Part};

@@ -2,8 +2,7 @@
 //!
 //! Numbers are those of the host with the extension; in prefixes, items, conflicts and lookaheads those of its grammar with holes.
 
-ghost use Rattle.std.specs.Prelude.{◌≡◌, ◌++◌, ◌∷◌, [], IfOk, map, Some, None};
-ghost use Rattle.wb_report.specs.declared.extension_reason.ExtensionReason.TheVariants as shown;
+ghost use Rattle.std.specs.Prelude.{◌≡◌, IfOk, map};
 ghost use Rattle.wb_shown.specs.Extensions as spec;
 ghost use Rattle.wb_shown.specs.Names as names;
 

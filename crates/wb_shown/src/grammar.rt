@@ -1,7 +1,6 @@
 //! Which rule of grammars and scanners does a report show, by names?
 
-ghost use Rattle.std.specs.Prelude.{◌≡◌, ◌++◌, ◌∷◌, [], IfOk, OnOk, map, Some, None};
-ghost use Rattle.wb_report.specs.declared.grammar_reason.GrammarReason.TheVariants as shown;
+ghost use Rattle.std.specs.Prelude.{◌≡◌, IfOk, map};
 ghost use Rattle.wb_shown.specs.Names as names;
 ghost use Rattle.wb_shown.specs.Shows as spec;
 

@@ -2,9 +2,8 @@
 //!
 //! Those of the grammar come first, and then one for each extensible nonterminal.
 
-ghost use Rattle.std.specs.Prelude.{◌≡◌, ◌≤◌, ◌-◌, ◌++◌, ◌∷◌, [], IfOk, length, map, slice_get};
+ghost use Rattle.std.specs.Prelude.{◌≡◌, ◌++◌, IfOk};
 ghost use lib.Chars.{codes};
-ghost use Rattle.wb_naming.specs.Declares.{name_in};
 ghost use Rattle.wb_shown.specs.Names as spec;
 
 use crate::names::{nonterminal_name, production_name, terminal_name};
