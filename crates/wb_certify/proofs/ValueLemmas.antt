@@ -19,7 +19,7 @@ use Rattle.wb_determinism.specs.declared.parts.HostParts.{HostParts}
 use Rattle.wb_certify.specs.Hosts.{IsCertified, IsCertifiedValue}
 use Rattle.wb_certify.specs.Refusals.{IsAttributeRefusal, IsDeterministic, start_of}
 use Rattle.wb_certify.specs.WellDefined.{HasWellDefinedAttributes}
-use Rattle.wb_certify.specs.Inner.Complete.{AreComplete}
+use Rattle.wb_certify.specs.Inner.Tests.{AreComplete}
 
 -- pairs that were listed are the preferences
 pub pairs_are : (r parts : ResolvedParts) (preferences : List Preference) (items edges : List (ℕ × ℕ)) → parts ≡ r

@@ -13,7 +13,6 @@ use std::alloc::Global;
 use wb_names::resolve_host;
 use wb_naming::NameRefusal;
 use wb_operations::{Meaning, OperationTable};
-use wb_resolved::Resolved;
 use wb_syntax::Spec;
 
 /// A specification as a certified host over a table of operations, or the first rule that fails.
@@ -30,23 +29,12 @@ pub fn certify_host<M: Meaning>(
     ensures certified { IfOk result (λ host. IsCertifiedHost spec.now operations.now.signatures) }
     ensures refused { IfErr result (IsHostCertifyRefusal spec.now operations.now.signatures) }
 {
-    let resolved = resolved_host(alloc, spec, operations)?;
-    let answer = certify_resolved(alloc, &resolved, operations);
-    resolved.release();
-    answer
-}
-
-// The numbered value of a host whose names are right.
-fn resolved_host<M: Meaning>(
-    alloc: Global,
-    spec: &Spec,
-    _operations: &OperationTable<M>,
-) -> Result<Resolved, CertifyRefusal>
-    ensures ok { IfOk result (ResolvesHost spec.now) }
-    ensures refused { IfErr result (IsHostCertifyRefusal spec.now _operations.now.signatures) }
-{
     match resolve_host(alloc, spec) {
-        Ok(resolved) => Ok(resolved),
+        Ok(resolved) => {
+            let answer = certify_resolved(alloc, &resolved, operations);
+            resolved.release();
+            answer
+        }
         Err(NameRefusal::NoMemory(error)) => Err(CertifyRefusal::NoMemory(error)),
         Err(refusal) => Err(CertifyRefusal::Names(refusal)),
     }

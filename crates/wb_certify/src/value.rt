@@ -1,24 +1,22 @@
 //! Is a resolved host certified? Each test after names, in the order in which refusals are reported.
 
-ghost use Rattle.std.specs.Prelude.{◌≡◌, [], IfErr, IfOk, IfSome, IsNone, None, Some};
+ghost use Rattle.std.specs.Prelude.{◌≡◌, [], IfErr, IfOk, None, Some};
 ghost use Rattle.wb_base.specs.Grammar.{GrammarView};
-ghost use Rattle.wb_determinism.specs.Hosts.{AreAcyclic, AreHostParts};
-ghost use Rattle.wb_determinism.specs.Lexicons.{preference_pairs};
+ghost use Rattle.wb_determinism.specs.Hosts.{AreHostParts};
 ghost use Rattle.wb_flow.specs.Refusals.{FlowsOk};
-ghost use Rattle.wb_graph.specs.Orders.{IsSimpleCycle};
 ghost use Rattle.wb_types.specs.Rules.{KindsOk};
 ghost use Rattle.wb_certify.specs.Hosts.{IsCertifiedValue};
 ghost use Rattle.wb_certify.specs.Refusals.{IsAttributeRefusal, IsDeterministic, IsValueRefusal, start_of};
-ghost use Rattle.wb_certify.specs.Inner.Complete.{AreComplete};
+ghost use Rattle.wb_certify.specs.Inner.Tests.{AreComplete, IsAttributesRefusal, IsKindRefusal};
 
 use crate::{CertifiedHost, CertifyRefusal};
-use std::alloc::{AllocError, Global};
+use std::alloc::Global;
 use wb_base::Sequence;
 use wb_complete::check_complete;
 use wb_determinism::{DeterminismRefusal, HostParts, host_determinism, pairs_of};
 use wb_flow::{AttributeRefusal, check_flow};
 use wb_lexical::preference_cycle;
-use wb_operations::{Meaning, OperationSignatures, OperationTable};
+use wb_operations::{Meaning, OperationTable};
 use wb_resolved::Resolved;
 use wb_types::{TypeRefusal, check_types};
 
@@ -38,35 +36,21 @@ pub fn certify_resolved<M: Meaning>(
     ensures refused { IfErr result (IsValueRefusal resolved.now operations.now.signatures) }
 {
     let copied = resolved.copy()?;
-    match kept_parts(alloc, resolved, operations) {
-        Ok((parts, operations)) => Ok(CertifiedHost {
+    let signatures = match operations.signatures().copy() {
+        Ok(signatures) => signatures,
+        Err(error) => {
+            copied.release();
+            return Err(CertifyRefusal::NoMemory(error));
+        }
+    };
+    match certified_parts(alloc, resolved, operations) {
+        Ok(parts) => Ok(CertifiedHost {
             resolved: copied,
             parts,
-            operations,
+            operations: signatures,
         }),
         Err(refusal) => {
             copied.release();
-            Err(refusal)
-        }
-    }
-}
-
-// What is made of a resolved host that is certified, with the signatures over which it is.
-fn kept_parts<M: Meaning>(
-    alloc: Global,
-    resolved: &Resolved,
-    operations: &OperationTable<M>,
-) -> Result<(HostParts, OperationSignatures), CertifyRefusal>
-    requires { resolved.now.attributes.extensions ≡ [] }
-    ensures operations { IfOk result (λ kept. kept.1 ≡ operations.now.signatures) }
-    ensures certified { IfOk result (λ kept. IsCertifiedValue resolved.now operations.now.signatures) }
-    ensures parts { IfOk result (λ kept. (g : GrammarView) → resolved.now.grammar ≡ Some g → AreHostParts resolved.now g kept.0) }
-    ensures refused { IfErr result (IsValueRefusal resolved.now operations.now.signatures) }
-{
-    let signatures = operations.signatures().copy()?;
-    match certified_parts(alloc, resolved, operations) {
-        Ok(parts) => Ok((parts, signatures)),
-        Err(refusal) => {
             signatures.release();
             Err(refusal)
         }
@@ -86,7 +70,7 @@ fn certified_parts<M: Meaning>(
 {
     check_kinds(alloc, resolved, operations)?;
     let parts = determinism_of(alloc, resolved, operations)?;
-    match check_attributes(alloc, resolved, operations) {
+    match check_attributes(alloc, resolved) {
         Ok(()) => Ok(parts),
         Err(refusal) => {
             parts.release();
@@ -96,13 +80,13 @@ fn certified_parts<M: Meaning>(
 }
 
 // Whether each expression is of its kind.
-fn check_kinds<M: Meaning>(
+pub(crate) fn check_kinds<M: Meaning>(
     alloc: Global,
     resolved: &Resolved,
     operations: &OperationTable<M>,
 ) -> Result<(), CertifyRefusal>
     ensures ok { IfOk result (λ done. KindsOk resolved.now.attributes operations.now.signatures) }
-    ensures refused { IfErr result (IsValueRefusal resolved.now operations.now.signatures) }
+    ensures refused { IfErr result (IsKindRefusal resolved.now operations.now.signatures) }
 {
     match check_types(alloc, resolved, operations) {
         Ok(()) => Ok(()),
@@ -142,38 +126,26 @@ fn without_start<M: Meaning>(
     requires none { resolved.now.grammar ≡ None }
     ensures { IsValueRefusal resolved.now operations.now.signatures result }
 {
-    match cycle_of(alloc, resolved) {
-        Ok(Some(cycle)) => {
-            CertifyRefusal::Determinism(DeterminismRefusal::PreferenceCycle(cycle))
-        }
+    let parts = resolved.parts();
+    let pairs = match pairs_of(alloc, parts.preferences.as_slice()) {
+        Ok(pairs) => pairs,
+        Err(error) => return CertifyRefusal::NoMemory(error),
+    };
+    let found = preference_cycle(alloc, parts.terminals.len(), &pairs);
+    drop(pairs);
+    match found {
+        Ok(Some(cycle)) => CertifyRefusal::Determinism(DeterminismRefusal::PreferenceCycle(
+            Sequence::from_vec(cycle),
+        )),
         Ok(None) => CertifyRefusal::NoStart,
         Err(error) => CertifyRefusal::NoMemory(error),
     }
 }
 
-// A cycle of preferences.
-fn cycle_of(alloc: Global, resolved: &Resolved) -> Result<Option<Sequence<usize>>, AllocError>
-    ensures some { IfOk result (λ found. IfSome found (IsSimpleCycle (preference_pairs resolved.now))) }
-    ensures none { IfOk result (λ found. IsNone found → AreAcyclic resolved.now) }
-{
-    let parts = resolved.parts();
-    let pairs = pairs_of(alloc, parts.preferences.as_slice())?;
-    match preference_cycle(alloc, parts.terminals.len(), &pairs)? {
-        Some(cycle) => Ok(Some(Sequence::from_vec(cycle))),
-        None => Ok(None),
-    }
-}
-
-// Whether attributes are well defined.
-fn check_attributes<M: Meaning>(
-    alloc: Global,
-    resolved: &Resolved,
-    operations: &OperationTable<M>,
-) -> Result<(), CertifyRefusal>
-    requires kinds { KindsOk resolved.now.attributes operations.now.signatures }
-    requires deterministic { IsDeterministic resolved.now }
+// Whether attributes are complete and keep to their flow types.
+pub(crate) fn check_attributes(alloc: Global, resolved: &Resolved) -> Result<(), CertifyRefusal>
     ensures ok { IfOk result (λ done. AreComplete resolved.now × FlowsOk resolved.now.attributes) }
-    ensures refused { IfErr result (IsValueRefusal resolved.now operations.now.signatures) }
+    ensures refused { IfErr result (IsAttributesRefusal resolved.now) }
 {
     match attribute_refusal(alloc, resolved) {
         Ok(()) => Ok(()),
@@ -182,8 +154,8 @@ fn check_attributes<M: Meaning>(
     }
 }
 
-// Whether attributes are complete and keep to their flow types.
-pub(crate) fn attribute_refusal(alloc: Global, resolved: &Resolved) -> Result<(), AttributeRefusal>
+// The rule of attributes that fails first.
+fn attribute_refusal(alloc: Global, resolved: &Resolved) -> Result<(), AttributeRefusal>
     ensures ok { IfOk result (λ done. AreComplete resolved.now × FlowsOk resolved.now.attributes) }
     ensures refused { IfErr result (λ refusal. IsAttributeRefusal resolved.now (start_of resolved.now) refusal) }
 {
