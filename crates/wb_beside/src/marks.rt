@@ -2,13 +2,11 @@
 //!
 //! Each test in the order in which refusals are shown: bridges, preferences, and then clashes of markers.
 
-ghost use Rattle.std.specs.Prelude.{◌≡◌, IfErr, IfOk, IfSome, IsNone, IsSome};
+ghost use Rattle.std.specs.Prelude.{◌≡◌, IfErr, IfOk, IsSome};
 ghost use Rattle.wb_determinism.specs.Hosts.{AreAcyclic};
-ghost use Rattle.wb_determinism.specs.Lexicons.{preference_pairs};
-ghost use Rattle.wb_graph.specs.Orders.{IsSimpleCycle};
 ghost use Rattle.wb_beside.specs.Inner.Tests.{HaveBridges, IsMarkReason, KeepMarkers, reason_of};
 
-use std::alloc::{AllocError, Global};
+use std::alloc::Global;
 use wb_base::Sequence;
 use wb_determinism::{DeterminismRefusal, pairs_of};
 use wb_lexical::preference_cycle;
@@ -44,22 +42,14 @@ fn test_preferences(alloc: Global, resolved: &Resolved) -> Result<(), Determinis
     ensures ok { IfOk result (λ done. AreAcyclic resolved.now) }
     ensures refused { IfErr result (IsMarkReason resolved.now) }
 {
-    match cycle_of(alloc, resolved)? {
-        Some(cycle) => Err(DeterminismRefusal::PreferenceCycle(cycle)),
-        None => Ok(()),
-    }
-}
-
-// A cycle of preferences.
-fn cycle_of(alloc: Global, resolved: &Resolved) -> Result<Option<Sequence<usize>>, AllocError>
-    ensures some { IfOk result (λ found. IfSome found (IsSimpleCycle (preference_pairs resolved.now))) }
-    ensures none { IfOk result (λ found. IsNone found → AreAcyclic resolved.now) }
-{
     let parts = resolved.parts();
     let pairs = pairs_of(alloc, parts.preferences.as_slice())?;
-    match preference_cycle(alloc, parts.terminals.len(), &pairs)? {
-        Some(cycle) => Ok(Some(Sequence::from_vec(cycle))),
-        None => Ok(None),
+    let found = preference_cycle(alloc, parts.terminals.len(), &pairs);
+    drop(pairs);
+    match found {
+        Ok(Some(cycle)) => Err(DeterminismRefusal::PreferenceCycle(Sequence::from_vec(cycle))),
+        Ok(None) => Ok(()),
+        Err(error) => Err(DeterminismRefusal::NoMemory(error)),
     }
 }
 

@@ -2,8 +2,10 @@
 //! reported.
 
 ghost use Rattle.std.specs.Prelude.{◌≡◌, IfErr, IfOk};
+ghost use Rattle.wb_resolved.specs.Resolved.{IsResolved};
 ghost use Rattle.wb_resolved.specs.declared.resolved.ResolvedParts.{ResolvedParts as View};
 ghost use Rattle.wb_types.specs.Rules.{KindsOk};
+ghost use Rattle.wb_certify.specs.Hosts.{IsCertifiedValue};
 ghost use Rattle.wb_certify.specs.Refusals.{start_of};
 ghost use Rattle.wb_beside.specs.Extensions.{IsCertifiedBeside};
 ghost use Rattle.wb_beside.specs.Kept.{AreKeptParts, ArePartsBeside, Extends};
@@ -13,12 +15,12 @@ ghost use Rattle.wb_beside.specs.Inner.Tests.{AttributesOk, IsFound, IsLaterRefu
 use crate::CertifiedExtension;
 use crate::attributes::test_attributes;
 use crate::determinism::determinism_beside;
-use std::alloc::Global;
+use std::alloc::{AllocError, Global};
 use wb_certify::{CertifiedHost, CertifyRefusal};
 use wb_determinism::DeterminismRefusal;
 use wb_extensions::ExtensionParts;
 use wb_flow::AttributeRefusal;
-use wb_operations::{Meaning, OperationTable};
+use wb_operations::{Meaning, OperationSignatures, OperationTable};
 use wb_resolved::Resolved;
 use wb_types::{TypeRefusal, check_types};
 
@@ -42,34 +44,53 @@ pub fn certify_beside<M: Meaning>(
     ensures certified { IfOk result (λ extension. IsCertifiedBeside host.now.resolved resolved.now host.now.operations) }
     ensures refused { IfErr result (IsBesideRefusal host.now.resolved resolved.now host.now.operations) }
 {
-    let base = host.resolved().copy()?;
-    let signatures = host.operations().copy()?;
-    let (copied, parts) = kept_beside(alloc, host, resolved, operations)?;
-    Ok(CertifiedExtension {
-        host: base,
-        resolved: copied,
-        parts,
-        operations: signatures,
-    })
+    let (base, copied, signatures) = copies_of(host, resolved)?;
+    match parts_beside(alloc, host, resolved, operations) {
+        Ok(parts) => Ok(CertifiedExtension {
+            host: base,
+            resolved: copied,
+            parts,
+            operations: signatures,
+        }),
+        Err(refusal) => {
+            base.release();
+            copied.release();
+            signatures.release();
+            Err(refusal)
+        }
+    }
 }
 
-// A copy of what is certified beside the host, and what is made of it.
-fn kept_beside<M: Meaning>(
-    alloc: Global,
+// Copies of the host by numbers, of the host with the extension, and of the signatures of operations.
+fn copies_of(
     host: &CertifiedHost,
     resolved: &Resolved,
-    operations: &OperationTable<M>,
-) -> Result<(Resolved, ExtensionParts), CertifyRefusal>
-    requires { IsTested host.now resolved.now }
-    ensures resolved { IfOk result (λ kept. kept.0 ≡ resolved.now) }
-    ensures parts { IfOk result (λ kept. ArePartsBeside resolved.now host.now.parts kept.1) }
-    ensures kept { IfOk result (λ kept. AreKeptParts host.now.resolved resolved.now kept.1) }
-    ensures certified { IfOk result (λ kept. IsCertifiedBeside host.now.resolved resolved.now operations.now.signatures) }
-    ensures refused { IfErr result (IsBesideRefusal host.now.resolved resolved.now operations.now.signatures) }
+) -> Result<(Resolved, Resolved, OperationSignatures), AllocError>
+    ensures host { IfOk result (λ made. made.0 ≡ host.now.resolved) }
+    ensures resolved { IfOk result (λ made. made.1 ≡ resolved.now) }
+    ensures operations { IfOk result (λ made. made.2 ≡ host.now.operations) }
+    ensures whole { IfOk result (λ made. IsResolved host.now.resolved) }
+    ensures certified { IfOk result (λ made. IsCertifiedValue host.now.resolved host.now.operations) }
 {
-    let copied = resolved.copy()?;
-    let parts = parts_beside(alloc, host, resolved, operations)?;
-    Ok((copied, parts))
+    let own = host.resolved();
+    // That the host is resolved is known where its parts are seen.
+    own.parts();
+    let base = own.copy()?;
+    let copied = match resolved.copy() {
+        Ok(copied) => copied,
+        Err(error) => {
+            base.release();
+            return Err(error);
+        }
+    };
+    match host.operations().copy() {
+        Ok(signatures) => Ok((base, copied, signatures)),
+        Err(error) => {
+            base.release();
+            copied.release();
+            Err(error)
+        }
+    }
 }
 
 // What is made of a host with an extension that is certified.
