@@ -1,5 +1,6 @@
 -- What is made of the file of a host, and of a text, is the report of their checks.
-use Rattle.std.proofs.Common.{◌≡◌, ◌<◌, inl, inr, ℕ, List, Option, Some, None, length, subst, sym, refl}
+use Rattle.std.proofs.Common.{◌≡◌, ◌<◌, inl, inr, ℕ, List, Option, Some, None, Result, Ok, Err, IfOk, IfErr, length, subst, sym, refl}
+use Rattle.std.specs.Result.{IsErrAnd}
 use Rattle.wb_hosts.specs.Contents.{IsHostRefusal}
 use Rattle.wb_hosts.specs.WellDefined.{IsWellDefinedTextRefusal}
 use Rattle.wb_hosts.specs.declared.refusal.HostRefusal.{HostRefusal}
@@ -16,6 +17,7 @@ use Rattle.wb_inputs.specs.Inner.Hosts.{RefusedHost}
 use Rattle.wb_inputs.specs.Files.{FileIs, KnownFile}
 use Rattle.wb_inputs.specs.Texts.{IsText, IsTooLongText, ReadText}
 use Rattle.wb_inputs.specs.Contents.{ContentsAre, KnownIs, ReadIs}
+use Rattle.wb_inputs.specs.declared.answer.Answer.{Answer}
 use Rattle.wb_inputs.specs.declared.reading.Contents.{Contents}
 use Rattle.wb_inputs.specs.declared.reading.Contents.TheVariants.{Whole, TooLong}
 use Rattle.wb_inputs.specs.declared.status.Status.{Status}
@@ -61,6 +63,23 @@ refuses_host IsRefused known file (h.Specification shown) status bytes cause (en
 refuses_host IsRefused known file (h.Certification shown) status bytes cause (ends, line) =
     inr (ends, record { shown = shown; cause = cause; line = line })
 refuses_host IsRefused known file (h.NoMemory error) status bytes cause none_shown = absurd none_shown
+
+-- so is what was asked of it, where it is answered
+pub kept_ok : {X E F : Type 0} (read : Result X E) (made : Result X F) (P : X → Type 0) → IfOk made (λ x. read ≡ Ok x) → IfOk read P
+    → IfOk made P
+kept_ok {X} {E} read (Ok x) P same is = subst (λ (z : Result X E). IfOk z P) same is
+kept_ok read (Err e) P same is = tt
+
+pub kept_refused : {X Y : Type 0} (IsRefused : List ℕ → HostRefusal → Type 0) (known : Option Files) (file word : List ℕ)
+    (read : Result X HostRefusal) (made : Result Y Answer) → word ≡ file
+    → IfErr read (λ refusal. KnownFile known file (λ contents. IsRefused contents refusal))
+    → IfErr made (λ answer. IsErrAnd read (λ refusal. RefusedHost word refusal answer.status answer.report.items))
+    → IfErr made (λ answer. RefusesHost IsRefused known file answer.status answer.report.items)
+kept_refused IsRefused known file word read (Ok x) same cause shown = tt
+kept_refused IsRefused known file word (Ok x) (Err answer) same cause shown = absurd shown
+kept_refused IsRefused known file word (Err refusal) (Err answer) same cause shown =
+    refuses_host IsRefused known file refusal answer.status answer.report.items cause
+    (subst (λ (name : List ℕ). RefusedHost name refusal answer.status answer.report.items) same shown)
 
 -- and that is its report
 pub refused_checks : (IsHost : List ℕ → ResolvedParts → Type 0) (IsRefused : List ℕ → HostRefusal → Type 0) (known : Option Files)

@@ -2,22 +2,22 @@
 //!
 //! What such hosts are, and why contents are none, is found by `wb_hosts`.
 
-ghost use Rattle.std.specs.Prelude.{◌≡◌, IfOk, IfErr};
+ghost use Rattle.std.specs.Prelude.{◌≡◌, IfOk, IfErr, Ok};
+ghost use Rattle.std.specs.Result.{IsErrAnd};
 ghost use Rattle.wb_certify.specs.Hosts.{IsCertifiedValue};
 ghost use Rattle.wb_certify.specs.WellDefined.{HasWellDefinedAttributes};
 ghost use Rattle.wb_hosts.specs.Contents.{IsHostText, IsHostRefusal};
 ghost use Rattle.wb_hosts.specs.WellDefined.{IsWellDefinedText, IsWellDefinedTextRefusal};
 ghost use Rattle.wb_inputs.specs.Contents.{ReadIs};
-ghost use Rattle.wb_inputs.specs.Files.{KnownFile};
 ghost use Rattle.wb_inputs.specs.HostChecks.{IsHostFile, IsWellDefinedFile, RefusesHost};
 ghost use Rattle.wb_inputs.specs.Inner.Hosts.{RefusedHost};
 ghost use Rattle.wb_inputs.specs.Stopped.{outside, Stopped, GoesOn};
 
 use crate::answer::{Answer, reported};
-use crate::reading::{Contents, ReadFailure, read_file};
+use crate::reading::{Contents, ReadFailure, named_contents};
 use crate::status::Status;
 use std::alloc::{AllocError, Global};
-use wb_base::{Bytes, FILE_LIMIT};
+use wb_base::Bytes;
 use wb_certify::CertifiedHost;
 use wb_hosts::{HostRefusal, host_of, well_defined_host_of};
 use wb_operations::{Meaning, OperationTable};
@@ -40,11 +40,9 @@ pub fn read_host<S: Shelf, M: Meaning>(
     ensures goes_on { GoesOn (outside (S.files shelf.old) (S.absences shelf.old) (S.faults shelf.old))
         (outside (S.files shelf.new) (S.absences shelf.new) (S.faults shelf.new)) }
 {
-    let word = Bytes::from_slice(alloc, file.as_bytes())?;
-    match certified_of(alloc, shelf, file, operations)? {
-        Ok(host) => Ok(Ok(host)),
-        Err(refusal) => Ok(Err(refused_host(alloc, word, refusal)?)),
-    }
+    let (word, contents) = named_contents(alloc, shelf, file)?;
+    let host = host_in(alloc, contents, operations);
+    Ok(answered(alloc, word, host)?)
 }
 
 /// The host of a file, whose attributes are well defined, or the answer where the file is none.
@@ -61,30 +59,9 @@ pub fn read_well_defined<S: Shelf, M: Meaning>(
     ensures goes_on { GoesOn (outside (S.files shelf.old) (S.absences shelf.old) (S.faults shelf.old))
         (outside (S.files shelf.new) (S.absences shelf.new) (S.faults shelf.new)) }
 {
-    let word = Bytes::from_slice(alloc, file.as_bytes())?;
-    match well_defined_of(alloc, shelf, file, operations)? {
-        Ok(host) => Ok(Ok(host)),
-        Err(refusal) => Ok(Err(refused_host(alloc, word, refusal)?)),
-    }
-}
-
-// Reads and certifies the host of a file.
-fn certified_of<S: Shelf, M: Meaning>(
-    alloc: Global,
-    shelf: &mut S,
-    file: &str,
-    operations: &OperationTable<M>,
-) -> Result<Result<CertifiedHost, HostRefusal>, ReadFailure>
-    ensures ok { IfOk result (λ read. IfOk read (λ host. IsHostFile operations.now.signatures (S.files shelf.old) file.now host.resolved)) }
-    ensures operations { IfOk result (λ read. IfOk read (λ host. host.operations ≡ operations.now.signatures)) }
-    ensures refused { IfOk result (λ read. IfErr read (λ refusal. KnownFile (S.files shelf.old) file.now (λ contents. IsHostRefusal operations.now.signatures contents refusal))) }
-    ensures stopped { IfErr result (Stopped (outside (S.files shelf.old) (S.absences shelf.old) (S.faults shelf.old))
-        (outside (S.files shelf.new) (S.absences shelf.new) (S.faults shelf.new)) (λ P. P file.now)) }
-    ensures goes_on { GoesOn (outside (S.files shelf.old) (S.absences shelf.old) (S.faults shelf.old))
-        (outside (S.files shelf.new) (S.absences shelf.new) (S.faults shelf.new)) }
-{
-    let contents = read_file(alloc, shelf, file, FILE_LIMIT)?;
-    Ok(host_in(alloc, contents, operations))
+    let (word, contents) = named_contents(alloc, shelf, file)?;
+    let host = well_defined_in(alloc, contents, operations);
+    Ok(answered(alloc, word, host)?)
 }
 
 // The certified host that was read.
@@ -106,24 +83,6 @@ fn host_in<M: Meaning>(
     }
 }
 
-// Reads the host of a file, whose attributes are well defined.
-fn well_defined_of<S: Shelf, M: Meaning>(
-    alloc: Global,
-    shelf: &mut S,
-    file: &str,
-    operations: &OperationTable<M>,
-) -> Result<Result<Resolved, HostRefusal>, ReadFailure>
-    ensures ok { IfOk result (λ read. IfOk read (IsWellDefinedFile operations.now.signatures (S.files shelf.old) file.now)) }
-    ensures refused { IfOk result (λ read. IfErr read (λ refusal. KnownFile (S.files shelf.old) file.now (λ contents. IsWellDefinedTextRefusal operations.now.signatures contents refusal))) }
-    ensures stopped { IfErr result (Stopped (outside (S.files shelf.old) (S.absences shelf.old) (S.faults shelf.old))
-        (outside (S.files shelf.new) (S.absences shelf.new) (S.faults shelf.new)) (λ P. P file.now)) }
-    ensures goes_on { GoesOn (outside (S.files shelf.old) (S.absences shelf.old) (S.faults shelf.old))
-        (outside (S.files shelf.new) (S.absences shelf.new) (S.faults shelf.new)) }
-{
-    let contents = read_file(alloc, shelf, file, FILE_LIMIT)?;
-    Ok(well_defined_in(alloc, contents, operations))
-}
-
 // The host that was read, whose attributes are well defined.
 fn well_defined_in<M: Meaning>(
     alloc: Global,
@@ -139,6 +98,24 @@ fn well_defined_in<M: Meaning>(
         Contents::TooLong => Err(HostRefusal::Specification(Refusal::Specification(
             SpecReason::TooLong,
         ))),
+    }
+}
+
+// The host that was read, or the answer for a file that is no such host.
+fn answered<T>(
+    alloc: Global,
+    file: Bytes,
+    read: Result<T, HostRefusal>,
+) -> Result<Result<T, Answer>, AllocError>
+    ensures ok { IfOk result (λ made. IfOk made (λ host. read ≡ Ok host)) }
+    ensures refused { IfOk result (λ made. IfErr made (λ answer. IsErrAnd read (λ refusal. RefusedHost file refusal answer.status answer.report.items))) }
+{
+    match read {
+        Ok(host) => {
+            drop(file);
+            Ok(Ok(host))
+        }
+        Err(refusal) => Ok(Err(refused_host(alloc, file, refusal)?)),
     }
 }
 

@@ -9,6 +9,7 @@ ghost use Rattle.wb_inputs.specs.Inner.Contents.{KnownPrefix};
 ghost use Rattle.wb_inputs.specs.Stopped.{outside, Stopped, GoesOn};
 
 use std::alloc::{AllocError, Global};
+use wb_base::{Bytes, FILE_LIMIT};
 use wb_world::{Got, Shelf};
 
 /// Why a run ends without a report.
@@ -64,6 +65,29 @@ pub fn read_file<S: Shelf>(
         Ok(Contents::Whole(bytes))
     } else {
         Ok(Contents::TooLong)
+    }
+}
+
+// The word that names a file, as reports show it, and what is read of the file, unless it is longer than a specification may be.
+pub(crate) fn named_contents<S: Shelf>(
+    alloc: Global,
+    shelf: &mut S,
+    file: &str,
+) -> Result<(Bytes, Contents), ReadFailure>
+    ensures word { IfOk result (λ read. read.0 ≡ file.now) }
+    ensures contents { IfOk result (λ read. ContentsAre 1048576 (S.files shelf.old) file.now read.1) }
+    ensures stopped { IfErr result (Stopped (outside (S.files shelf.old) (S.absences shelf.old) (S.faults shelf.old))
+        (outside (S.files shelf.new) (S.absences shelf.new) (S.faults shelf.new)) (λ P. P file.now)) }
+    ensures goes_on { GoesOn (outside (S.files shelf.old) (S.absences shelf.old) (S.faults shelf.old))
+        (outside (S.files shelf.new) (S.absences shelf.new) (S.faults shelf.new)) }
+{
+    let word = Bytes::from_slice(alloc, file.as_bytes())?;
+    match read_file(alloc, shelf, file, FILE_LIMIT) {
+        Ok(contents) => Ok((word, contents)),
+        Err(failure) => {
+            drop(word);
+            Err(failure)
+        }
     }
 }
 

@@ -14,10 +14,10 @@ ghost use Rattle.wb_inputs.specs.Inner.Several.{IsApartFrom, IsDuplicateOf, IsNe
 ghost use Rattle.wb_inputs.specs.Stopped.{outside, Stopped, GoesOn};
 
 use crate::answer::{Answer, reported};
-use crate::reading::{Contents, ReadFailure, read_file};
+use crate::reading::{Contents, ReadFailure, named_contents};
 use crate::status::Status;
 use std::alloc::{AllocError, Global};
-use wb_base::{Bytes, FILE_LIMIT};
+use wb_base::Bytes;
 use wb_beside::{CertifiedExtension, release_extensions};
 use wb_certify::CertifiedHost;
 use wb_extension_files::{FileRefusal, extension_of_spec, extension_spec};
@@ -173,10 +173,12 @@ fn next_extension<S: Shelf, M: Meaning>(
     ensures goes_on { GoesOn (outside (S.files shelf.old) (S.absences shelf.old) (S.faults shelf.old))
         (outside (S.files shelf.new) (S.absences shelf.new) (S.faults shelf.new)) }
 {
-    let word = Bytes::from_slice(alloc, file.as_bytes())?;
-    let contents = read_file(alloc, shelf, file, FILE_LIMIT)?;
+    let (word, contents) = named_contents(alloc, shelf, file)?;
     match next_in(alloc, host, before, contents, operations) {
-        Ok(extension) => Ok(Ok(extension)),
+        Ok(extension) => {
+            drop(word);
+            Ok(Ok(extension))
+        }
         Err(refusal) => Ok(Err(refused_next(alloc, word, refusal)?)),
     }
 }

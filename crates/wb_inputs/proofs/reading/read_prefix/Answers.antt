@@ -43,3 +43,6 @@ returns-then-branch-eq0-clause-goes_on g c =
     (outside (g.S.Shelf.files c.loop-bytes.shelf) (g.S.Shelf.absences c.loop-bytes.shelf) (g.S.Shelf.faults c.loop-bytes.shelf))
     (outside (g.S.Shelf.files c.read_piece.new.shelf) (g.S.Shelf.absences c.read_piece.new.shelf) (g.S.Shelf.faults c.read_piece.new.shelf))
     c.loop-bytes.invariant.goes_on c.read_piece.ensures.goes_on
+
+pub returns-clause-goes_on : goal.returns-clause-goes_on
+returns-clause-goes_on g c = c.loop-bytes.invariant.goes_on
