@@ -87,8 +87,10 @@ fn contents_answer<M: Meaning>(
 {
     match contents {
         Contents::Whole(bytes) => {
-            text_answer(alloc, &bytes, steps, None, asked, composed, operations)
-        },
+            let answer = text_answer(alloc, &bytes, steps, None, asked, composed, operations);
+            drop(bytes);
+            answer
+        }
         Contents::TooLong => reported(alloc, Status::TextTooLong, Outcome::TextTooLong),
     }
 }
@@ -140,14 +142,11 @@ pub(crate) fn made_answer<M: Meaning>(
     ensures { IfOk result (λ answer. MadeReport (record { signatures = operations.now.signatures; meaning = M.meaning }) asked.now.host.now.resolved (all_resolved asked.now.extensions.now) asked.now.name.now number size answer.status answer.report.items) }
 {
     match generated_text(alloc, asked.host, asked.extensions, composed, number, size)? {
-        Generated::Text { text, leaves } => made_text(
-            alloc,
-            text.as_slice(),
-            leaves,
-            asked,
-            composed,
-            operations,
-        ),
+        Generated::Text { text, leaves } => {
+            let answer = made_text(alloc, text.as_slice(), leaves, asked, composed, operations);
+            drop(text);
+            answer
+        }
         Generated::NoSentence(least) => reported(
             alloc,
             Status::NoSentence,

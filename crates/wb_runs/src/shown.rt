@@ -51,7 +51,11 @@ fn shown_value(
         ),
         TreeValue::MoreSteps => reported(alloc, Status::MoreSteps, Outcome::MoreSteps(steps)),
         TreeValue::TooLong => reported(alloc, Status::TooLongToPrint, Outcome::TooLongToPrint),
-        TreeValue::Value(printed) => printed_value(alloc, &printed, name, bytes, leaves),
+        TreeValue::Value(printed) => {
+            let answer = printed_value(alloc, &printed, name, bytes, leaves);
+            drop(printed);
+            answer
+        }
     }
 }
 

@@ -16,7 +16,7 @@ returns-in-Whole g c =
     let name = asked.name.now in
     let Shown : List ℕ → Report = λ text.
     TextValueReport operations asked.host.now.resolved (all_resolved asked.extensions.now) name c.args.steps (shown_with name 0 None) text in
-    subst (λ (contents : Contents). IfOk c.text_answer.result (λ answer. ReadText Shown contents answer.status answer.report.items))
+    subst (λ (contents : Contents). IfOk c.text_answer-answer.result (λ answer. ReadText Shown contents answer.status answer.report.items))
     (sym c.in-Whole.is)
-    (subst (λ (text : List ℕ). IfOk c.text_answer.result (λ answer. Shown text answer.status answer.report.items)) c.deref.ensures.value
-    c.text_answer.ensures)
+    (subst (λ (text : List ℕ). IfOk c.text_answer-answer.result (λ answer. Shown text answer.status answer.report.items)) c.deref.ensures.value
+    c.text_answer-answer.ensures)

@@ -17,3 +17,12 @@ returns-clause-ok g c =
     (λ (text : List ℕ). TextValueReport operations asked.host.now.resolved (all_resolved asked.extensions.now) name c.args.steps
     (shown_with name 0 None) text) c.in_ok-contents.contents answer.status answer.report.items c.in_ok-contents.ensures.ok
     c.in_ok-contents_answer.ensures
+
+pub returns-clause-goes_on : goal.returns-clause-goes_on
+returns-clause-goes_on g c = c.read_file.ensures.goes_on
+
+pub returns-in_err-contents-clause-goes_on : goal.returns-in_err-contents-clause-goes_on
+returns-in_err-contents-clause-goes_on g c = c.read_file.ensures.goes_on
+
+pub returns-in_err-contents_answer-clause-goes_on : goal.returns-in_err-contents_answer-clause-goes_on
+returns-in_err-contents_answer-clause-goes_on g c = c.read_file.ensures.goes_on

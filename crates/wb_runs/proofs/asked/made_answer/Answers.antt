@@ -24,11 +24,11 @@ returns-in-Text g c =
     let leaves = c.in-Text.leaves in
     let is : IsGeneratedText host operations.signatures values number size made =
     subst (λ (xs : List OperationSignature). IsGeneratedText host xs values number size made) c.requires.asked.same c.in_ok-text.ensures in
-    let text : IfOk c.made_text.result (λ answer. MadeTextReport operations host values name leaves c.in-Text.text answer.status
+    let text : IfOk c.made_text-answer.result (λ answer. MadeTextReport operations host values name leaves c.in-Text.text answer.status
     answer.report.items) =
-    subst (λ (bytes : List ℕ). IfOk c.made_text.result (λ answer. MadeTextReport operations host values name leaves bytes answer.status
-    answer.report.items)) c.as_slice.ensures c.made_text.ensures in
-    on_ok c.made_text.result (λ answer. MadeTextReport operations host values name leaves c.in-Text.text answer.status answer.report.items)
+    subst (λ (bytes : List ℕ). IfOk c.made_text-answer.result (λ answer. MadeTextReport operations host values name leaves bytes answer.status
+    answer.report.items)) c.as_slice.ensures c.made_text-answer.ensures in
+    on_ok c.made_text-answer.result (λ answer. MadeTextReport operations host values name leaves c.in-Text.text answer.status answer.report.items)
     (λ answer. MadeReport operations host values name number size answer.status answer.report.items)
     (λ answer shown. record {
       made = made;

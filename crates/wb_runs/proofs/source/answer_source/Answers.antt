@@ -1,5 +1,7 @@
 -- Extensions are read after their host, and their report comes after that host's checks.
-use Rattle.std.proofs.Common.{rules, ◌≤◌, Option, IfOk, length, subst, arith}
+use Rattle.std.proofs.Common.{rules, ◌≤◌, ℕ, List, Option, IfOk, length, subst, arith}
+use Rattle.wb_lemmas.proofs.Refusals.{handed_on}
+use Rattle.wb_resolved.specs.declared.resolved.ResolvedParts.{ResolvedParts}
 use Rattle.wb_hosts.specs.Contents.{IsHostRefusal}
 use Rattle.wb_operations.specs.Operations.{Operations}
 use Rattle.wb_words.specs.Words.{texts}
@@ -10,7 +12,7 @@ use Rattle.wb_inputs.specs.SeveralChecks.{EachChecks, SeveralChecks}
 use Rattle.wb_inputs.specs.Stopped.{outside, Stopped}
 use Rattle.wb_inputs.specs.declared.answer.Answer.{Answer}
 use Rattle.wb_inputs.proofs.CauseLemmas.{err_of, goes_on_twice, on_err, on_ok}
-use Rattle.wb_inputs.proofs.ComposeLemmas.{several_certified, several_refused, composed_later}
+use Rattle.wb_inputs.proofs.ComposeLemmas.{several_certified, several_refused, composed_first, composed_later}
 use Rattle.wb_inputs.proofs.WordLemmas.{few_texts}
 use Rattle.wb_runs.specs.Inner.Sources.{SourceChecks, SourceEnd}
 use Rattle.wb_runs.proofs.SourceLemmas.{end_weaker}
@@ -84,3 +86,25 @@ returns-in-Ok-clause-goes_on g c =
     (outside (g.S.Shelf.files c.files_answer-answer.new.shelf) (g.S.Shelf.absences c.files_answer-answer.new.shelf)
     (g.S.Shelf.faults c.files_answer-answer.new.shelf))
     c.read_host.ensures.goes_on c.files_answer-answer.ensures.goes_on
+
+pub returns-in_err-certified-clause-stopped : goal.returns-in_err-certified-clause-stopped
+returns-in_err-certified-clause-stopped g c =
+    let files = g.S.Shelf.files c.args.shelf.now in
+    let operations = c.args.operations.now.signatures in
+    let host = c.args.host.now in
+    let extensions = texts c.args.extensions.now in
+    let End : (List ℕ → Type 0) → ResolvedParts → List ResolvedParts → Type 0 = λ P.
+    SourceEnd operations c.args.attribute.now c.args.source P in
+    let before = outside files (g.S.Shelf.absences c.args.shelf.now) (g.S.Shelf.faults c.args.shelf.now) in
+    let now = outside (g.S.Shelf.files c.read_host.new.shelf) (g.S.Shelf.absences c.read_host.new.shelf)
+    (g.S.Shelf.faults c.read_host.new.shelf) in
+    let few : length extensions ≤ 64 = few_texts c.args.extensions.now 64 (omega arith) in
+    handed_on (Stopped before now (λ P. P host)) (Stopped before now (λ P. StopsComposed operations files host extensions P (End P))) _
+    c.in_err-certified.field-0.0 (search rules) (λ failure. composed_first operations before now host extensions End failure few)
+    c.in_err-certified.ensures.stopped
+
+pub returns-in_err-certified-clause-goes_on : goal.returns-in_err-certified-clause-goes_on
+returns-in_err-certified-clause-goes_on g c = c.read_host.ensures.goes_on
+
+pub returns-in-Err-clause-goes_on : goal.returns-in-Err-clause-goes_on
+returns-in-Err-clause-goes_on g c = c.read_host.ensures.goes_on

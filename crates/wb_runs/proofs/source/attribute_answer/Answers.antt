@@ -101,3 +101,6 @@ returns-in_err-unknown-in-None-clause-goes_on g c =
 pub returns-in_ok-unknown-in-None-clause-goes_on : goal.returns-in_ok-unknown-in-None-clause-goes_on
 returns-in_ok-unknown-in-None-clause-goes_on g c =
     goes_on_here (outside (g.S.Shelf.files c.args.shelf.now) (g.S.Shelf.absences c.args.shelf.now) (g.S.Shelf.faults c.args.shelf.now))
+
+pub returns-in-Some-clause-goes_on : goal.returns-in-Some-clause-goes_on
+returns-in-Some-clause-goes_on g c = c.source_answer.ensures.goes_on

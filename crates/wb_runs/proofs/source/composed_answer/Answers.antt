@@ -31,3 +31,6 @@ returns-in_err-made_answer-in-Number-clause-goes_on g c =
 pub returns-in_ok-made_answer-in-Number-clause-goes_on : goal.returns-in_ok-made_answer-in-Number-clause-goes_on
 returns-in_ok-made_answer-in-Number-clause-goes_on g c =
     goes_on_here (outside (g.S.Shelf.files c.args.shelf.now) (g.S.Shelf.absences c.args.shelf.now) (g.S.Shelf.faults c.args.shelf.now))
+
+pub returns-in-File-clause-goes_on : goal.returns-in-File-clause-goes_on
+returns-in-File-clause-goes_on g c = c.file_answer.ensures.goes_on

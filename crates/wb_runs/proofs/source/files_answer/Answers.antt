@@ -1,16 +1,18 @@
 -- A text comes after the extensions, and its report comes after theirs.
-use Rattle.std.proofs.Common.{List, [], Option, IfErr, IfOk, inr, subst}
+use Rattle.std.proofs.Common.{rules, ℕ, List, [], Option, IfErr, IfOk, inr, subst}
+use Rattle.wb_lemmas.proofs.Refusals.{handed_on}
+use Rattle.wb_resolved.specs.declared.resolved.ResolvedParts.{ResolvedParts}
 use Rattle.wb_beside.specs.Kept.{ExtensionView}
 use Rattle.wb_operations.specs.Operations.{Operations}
 use Rattle.wb_united_trees.specs.Unions.{all_resolved}
 use Rattle.wb_words.specs.Words.{texts}
 use Rattle.wb_world.specs.Shelf.{Files}
-use Rattle.wb_inputs.specs.Reads.{StopsThen}
+use Rattle.wb_inputs.specs.Reads.{StopsEach, StopsThen}
 use Rattle.wb_inputs.specs.SeveralChecks.{AreEach, EachChecks}
 use Rattle.wb_inputs.specs.Stopped.{outside, Stopped}
 use Rattle.wb_inputs.specs.declared.answer.Answer.{Answer}
 use Rattle.wb_inputs.proofs.CauseLemmas.{goes_on_twice, ok_of, on_err, on_ok}
-use Rattle.wb_inputs.proofs.ComposeLemmas.{reason_since}
+use Rattle.wb_inputs.proofs.ComposeLemmas.{reason_since, then_first}
 use Rattle.wb_runs.specs.Inner.Sources.{SourceChecks, SourceEnd}
 use Rattle.wb_runs.proofs.SourceLemmas.{end_weaker}
 use Rattle.wb_runs.proofs.source.files_answer.Goals as goal
@@ -77,3 +79,22 @@ returns-in-Ok-clause-goes_on g c =
     (outside (g.S.Shelf.files c.union_answer-answer.new.shelf) (g.S.Shelf.absences c.union_answer-answer.new.shelf)
     (g.S.Shelf.faults c.union_answer-answer.new.shelf))
     c.read_extensions.ensures.goes_on c.union_answer-answer.ensures.goes_on
+
+pub returns-in_err-extensions-clause-stopped : goal.returns-in_err-extensions-clause-stopped
+returns-in_err-extensions-clause-stopped g c =
+    let before = outside (g.S.Shelf.files c.args.shelf.now) (g.S.Shelf.absences c.args.shelf.now) (g.S.Shelf.faults c.args.shelf.now) in
+    let now = outside (g.S.Shelf.files c.read_extensions.new.shelf) (g.S.Shelf.absences c.read_extensions.new.shelf)
+    (g.S.Shelf.faults c.read_extensions.new.shelf) in
+    let signatures = c.args.operations.now.signatures in
+    let r = c.args.host.now.resolved in
+    let files = texts c.args.files.now in
+    let End : (List ℕ → Type 0) → List ResolvedParts → Type 0 = λ P. SourceEnd signatures c.args.attribute.now c.args.source P r in
+    handed_on (Stopped before now (λ P. StopsEach signatures before.files r P files []))
+    (Stopped before now (λ P. StopsThen signatures before.files r P files (End P))) _ c.in_err-extensions.field-0.0 (search rules)
+    (λ failure. then_first signatures before now r files End failure) c.in_err-extensions.ensures.stopped
+
+pub returns-in_err-extensions-clause-goes_on : goal.returns-in_err-extensions-clause-goes_on
+returns-in_err-extensions-clause-goes_on g c = c.read_extensions.ensures.goes_on
+
+pub returns-in-Err-clause-goes_on : goal.returns-in-Err-clause-goes_on
+returns-in-Err-clause-goes_on g c = c.read_extensions.ensures.goes_on
