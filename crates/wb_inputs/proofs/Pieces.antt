@@ -4,8 +4,8 @@ use Rattle.std.proofs.Math.Seq.{take-add}
 use Rattle.std.proofs.lemmas.List.{length-take, take_all}
 use Rattle.std.proofs.lemmas.Grind.{common_steps}
 use Rattle.wb_world.specs.Shelf.{Files, FitsFiles, GivesFrom}
-use Rattle.wb_world.specs.declared.shelf.Got.TheVariants.{Bytes as Gave}
-use Rattle.wb_inputs.specs.Files.{FileIs, KnownFile}
+use Rattle.wb_world.specs.declared.shelf.Got.TheVariants.{Bytes as Gave, Absent}
+use Rattle.wb_inputs.specs.Files.{FileIs, KnownAbsent, KnownFile}
 use Rattle.wb_inputs.specs.Contents.{KnownIs}
 use Rattle.wb_inputs.specs.Inner.Contents.{IsPrefix, KnownPrefix}
 
@@ -26,6 +26,12 @@ pub prefix_more : (told : Option Files) (name bytes buffer more : List ℕ) (n :
 prefix_more None name bytes buffer more n prefix gives within is = tt
 prefix_more (Some files) name bytes buffer more n prefix gives within is = prefix_more_file
     (files name) bytes buffer more n prefix gives within is
+
+-- a read that finds no file finds that there is none
+pub absent_known : (told : Option Files) (name : List ℕ) (from : ℕ) (buffer : List ℕ) → FitsFiles told name from Absent buffer
+    → KnownAbsent told name
+absent_known None name from buffer fits = tt
+absent_known (Some files) name from buffer fits = fits
 
 -- the next lemma, of one file
 prefix_end_file : (file : Option (List ℕ)) (bytes : List ℕ) (size most : ℕ) → IsPrefix file bytes → FileIs file (λ c. length c ≤ size) →

@@ -1,11 +1,12 @@
 -- At the end, or one byte past the limit, the bytes are the prefix that is asked for.
 use Rattle.std.proofs.Common.{rules, sym, ◌≡◌, ◌≤◌, ◌+◌, arith, subst, length, vec_len}
 use Rattle.std.proofs.lemmas.Grind.{common_steps}
+use Rattle.wb_lemmas.proofs.Refusals.{handed_on}
 use Rattle.wb_inputs.specs.Files.{KnownFile}
 use Rattle.wb_inputs.specs.Inner.Contents.{KnownPrefix}
 use Rattle.wb_inputs.proofs.Pieces.{prefix_end, prefix_limit}
-use Rattle.wb_inputs.specs.Stopped.{outside}
-use Rattle.wb_inputs.proofs.CauseLemmas.{goes_on_here, goes_on_twice}
+use Rattle.wb_inputs.specs.Stopped.{outside, Stopped}
+use Rattle.wb_inputs.proofs.CauseLemmas.{goes_on_here, goes_on_twice, stops_since}
 use Rattle.wb_inputs.proofs.reading.read_prefix.Goals as goal
 
 pub returns-then-branch-eq0-clause-ok : goal.returns-then-branch-eq0-clause-ok
@@ -46,3 +47,14 @@ returns-then-branch-eq0-clause-goes_on g c =
 
 pub returns-clause-goes_on : goal.returns-clause-goes_on
 returns-clause-goes_on g c = c.loop-bytes.invariant.goes_on
+
+pub returns-in_err-read_piece-clause-stopped : goal.returns-in_err-read_piece-clause-stopped
+returns-in_err-read_piece-clause-stopped g c =
+    let name = c.args.name.now in
+    let before = outside (g.S.Shelf.files c.args.shelf.now) (g.S.Shelf.absences c.args.shelf.now) (g.S.Shelf.faults c.args.shelf.now) in
+    let between = outside (g.S.Shelf.files c.loop-bytes.shelf) (g.S.Shelf.absences c.loop-bytes.shelf) (g.S.Shelf.faults c.loop-bytes.shelf) in
+    let now = outside (g.S.Shelf.files c.read_piece.new.shelf) (g.S.Shelf.absences c.read_piece.new.shelf)
+    (g.S.Shelf.faults c.read_piece.new.shelf) in
+    handed_on (Stopped between now (λ P. P name)) (Stopped before now (λ P. P name)) c.from_residual-in_err-read_piece.result
+    c.in_err-read_piece.field-0.0 c.from_residual-in_err-read_piece.ensures.1
+    (λ failure. stops_since before between now name failure c.loop-bytes.invariant.goes_on) c.in_err-read_piece.ensures.stopped

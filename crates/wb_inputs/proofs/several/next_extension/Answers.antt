@@ -52,3 +52,6 @@ returns-in_ok-refused_next-in-Err-clause-goes_on g c = c.named_contents.ensures.
 
 pub returns-in_err-refused_next-in-Err-clause-goes_on : goal.returns-in_err-refused_next-in-Err-clause-goes_on
 returns-in_err-refused_next-in-Err-clause-goes_on g c = c.named_contents.ensures.goes_on
+
+pub returns-in-Ok-clause-apart : goal.returns-in-Ok-clause-apart
+returns-in-Ok-clause-apart g c = c.in-Ok.ensures.apart
