@@ -11,7 +11,7 @@ use Rattle.wb_inputs.specs.Reads.{StopsComposed, StopsThen}
 use Rattle.wb_inputs.specs.SeveralChecks.{EachChecks, SeveralChecks}
 use Rattle.wb_inputs.specs.Stopped.{outside, Stopped}
 use Rattle.wb_inputs.specs.declared.answer.Answer.{Answer}
-use Rattle.wb_inputs.proofs.CauseLemmas.{err_of, goes_on_twice, on_err, on_ok}
+use Rattle.wb_inputs.proofs.CauseLemmas.{err_of, goes_on_here, goes_on_twice, on_err, on_ok}
 use Rattle.wb_inputs.proofs.ComposeLemmas.{several_certified, several_refused, composed_first, composed_later}
 use Rattle.wb_inputs.proofs.WordLemmas.{few_texts}
 use Rattle.wb_runs.specs.Inner.Sources.{SourceChecks, SourceEnd}
@@ -108,3 +108,11 @@ returns-in_err-certified-clause-goes_on g c = c.read_host.ensures.goes_on
 
 pub returns-in-Err-clause-goes_on : goal.returns-in-Err-clause-goes_on
 returns-in-Err-clause-goes_on g c = c.read_host.ensures.goes_on
+
+pub returns-in_err-reported-clause-goes_on : goal.returns-in_err-reported-clause-goes_on
+returns-in_err-reported-clause-goes_on g c =
+    goes_on_here (outside (g.S.Shelf.files c.args.shelf.now) (g.S.Shelf.absences c.args.shelf.now) (g.S.Shelf.faults c.args.shelf.now))
+
+pub returns-then-extensions-gt-MOST_EXTENSIONS-clause-goes_on : goal.returns-then-extensions-gt-MOST_EXTENSIONS-clause-goes_on
+returns-then-extensions-gt-MOST_EXTENSIONS-clause-goes_on g c =
+    goes_on_here (outside (g.S.Shelf.files c.args.shelf.now) (g.S.Shelf.absences c.args.shelf.now) (g.S.Shelf.faults c.args.shelf.now))

@@ -1,5 +1,5 @@
 -- An attribute was found that may be asked at the start, and what is behind it comes after it.
-use Rattle.std.proofs.Common.{◌≡◌, ℕ, List, Option, Some, MatchOption, subst}
+use Rattle.std.proofs.Common.{◌≡◌, ℕ, List, Option, Some, None, MatchOption, subst}
 use Rattle.wb_operations.specs.Operations.{Operations, OperationSignature}
 use Rattle.wb_resolved.specs.declared.resolved.ResolvedParts.{ResolvedParts}
 use Rattle.wb_united_trees.specs.Unions.{all_resolved}
@@ -8,7 +8,7 @@ use Rattle.wb_inputs.specs.Stopped.{outside, Stopped}
 use Rattle.wb_inputs.proofs.CauseLemmas.{goes_on_here, ok_of, on_err, on_ok, weaker_stop}
 use Rattle.wb_runs.specs.Inner.Sources.{SourceChecks, SourceEnd, SourceRest, SourceText}
 use Rattle.wb_runs.specs.declared.asked.Asked.{Asked}
-use Rattle.wb_runs.proofs.SourceLemmas.{found_checks, found_end}
+use Rattle.wb_runs.proofs.SourceLemmas.{found_checks, found_end, unknown_checks}
 use Rattle.wb_runs.proofs.source.attribute_answer.Goals as goal
 
 -- what was found, where one was
@@ -18,6 +18,16 @@ found_one : (host : ResolvedParts) (operations : List OperationSignature) (value
     → IsRootAttribute host operations values name attribute
 found_one host operations values name other found attribute same is holds =
     subst (λ (x : List ℕ). IsRootAttribute host operations values x attribute) same
+    (subst (λ (x : Option ℕ). MatchOption x (HasNoRootAttribute host operations values other) (IsRootAttribute host operations values other))
+    is holds)
+
+-- and where none was
+found_none : (host : ResolvedParts) (operations : List OperationSignature) (values : List ResolvedParts) (name other : List ℕ)
+    (found : Option ℕ) → other ≡ name → found ≡ None
+    → MatchOption found (HasNoRootAttribute host operations values other) (IsRootAttribute host operations values other)
+    → HasNoRootAttribute host operations values name
+found_none host operations values name other found same is holds =
+    subst (λ (x : List ℕ). HasNoRootAttribute host operations values x) same
     (subst (λ (x : Option ℕ). MatchOption x (HasNoRootAttribute host operations values other) (IsRootAttribute host operations values other))
     is holds)
 
@@ -104,3 +114,21 @@ returns-in_ok-unknown-in-None-clause-goes_on g c =
 
 pub returns-in-Some-clause-goes_on : goal.returns-in-Some-clause-goes_on
 returns-in-Some-clause-goes_on g c = c.source_answer.ensures.goes_on
+
+pub returns-in_ok-unknown-in-None-clause-ok : goal.returns-in_ok-unknown-in-None-clause-ok
+returns-in_ok-unknown-in-None-clause-ok g c =
+    let operations : Operations = record { signatures = c.args.operations.now.signatures; meaning = g.M.Meaning.meaning } in
+    let host = c.args.host.now in
+    let values = all_resolved c.args.extensions.now in
+    let name = c.as_bytes.result.now in
+    let found = c.in_ok-attribute.field-0 in
+    let answer = c.in_ok-unknown-in-None.field-0 in
+    let none : HasNoRootAttribute host.resolved host.operations values c.args.name.now =
+    found_none host.resolved host.operations values c.args.name.now name found c.as_bytes.ensures.value c.in-None.is
+    (ok_of c.root_attribute.result found (λ (x : Option ℕ). MatchOption x (HasNoRootAttribute host.resolved host.operations values name)
+    (IsRootAttribute host.resolved host.operations values name)) c.in_ok-attribute.was
+    (c.root_attribute.ensures values c.requires.attributes)) in
+    unknown_checks operations (g.S.Shelf.files c.args.shelf.now) c.args.source c.args.name.now host.resolved values answer.status
+    answer.report.items
+    (subst (λ (xs : List OperationSignature). HasNoRootAttribute host.resolved xs values c.args.name.now) c.requires.operations none)
+    c.in_ok-unknown-in-None.ensures

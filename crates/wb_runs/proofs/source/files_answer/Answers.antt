@@ -1,5 +1,5 @@
 -- A text comes after the extensions, and its report comes after theirs.
-use Rattle.std.proofs.Common.{rules, ℕ, List, [], Option, IfErr, IfOk, inr, subst}
+use Rattle.std.proofs.Common.{rules, ℕ, List, [], Option, IfErr, IfOk, inl, inr, subst}
 use Rattle.wb_lemmas.proofs.Refusals.{handed_on}
 use Rattle.wb_resolved.specs.declared.resolved.ResolvedParts.{ResolvedParts}
 use Rattle.wb_beside.specs.Kept.{ExtensionView}
@@ -8,10 +8,10 @@ use Rattle.wb_united_trees.specs.Unions.{all_resolved}
 use Rattle.wb_words.specs.Words.{texts}
 use Rattle.wb_world.specs.Shelf.{Files}
 use Rattle.wb_inputs.specs.Reads.{StopsEach, StopsThen}
-use Rattle.wb_inputs.specs.SeveralChecks.{AreEach, EachChecks}
+use Rattle.wb_inputs.specs.SeveralChecks.{AreEach, EachChecks, RefusesEach}
 use Rattle.wb_inputs.specs.Stopped.{outside, Stopped}
 use Rattle.wb_inputs.specs.declared.answer.Answer.{Answer}
-use Rattle.wb_inputs.proofs.CauseLemmas.{goes_on_twice, ok_of, on_err, on_ok}
+use Rattle.wb_inputs.proofs.CauseLemmas.{err_of, goes_on_twice, ok_of, on_err, on_ok}
 use Rattle.wb_inputs.proofs.ComposeLemmas.{reason_since, then_first}
 use Rattle.wb_runs.specs.Inner.Sources.{SourceChecks, SourceEnd}
 use Rattle.wb_runs.proofs.SourceLemmas.{end_weaker}
@@ -98,3 +98,12 @@ returns-in_err-extensions-clause-goes_on g c = c.read_extensions.ensures.goes_on
 
 pub returns-in-Err-clause-goes_on : goal.returns-in-Err-clause-goes_on
 returns-in-Err-clause-goes_on g c = c.read_extensions.ensures.goes_on
+
+pub returns-in-Err-clause-ok : goal.returns-in-Err-clause-ok
+returns-in-Err-clause-ok g c =
+    let known = g.S.Shelf.files c.args.shelf.now in
+    let signatures = c.args.operations.now.signatures in
+    let files = texts c.args.files.now in
+    inl (err_of c.in_ok-extensions.field-0 c.in-Err.answer
+    (λ answer. RefusesEach signatures known c.args.host.now.resolved files [] answer.status answer.report.items) c.in-Err.is
+    c.in_ok-extensions.ensures.refused)
