@@ -8,10 +8,10 @@ use Rattle.wb_beside.specs.Kept.{AreCertifiedBoth, ExtensionView}
 use Rattle.wb_certify.specs.Hosts.{CertifiedView, IsCertifiedValue}
 use Rattle.wb_contexts.specs.Considered.{LexiconView}
 use Rattle.wb_determinism.specs.Lexicons.{lexicon_of}
-use Rattle.wb_joined.specs.Joined.{AreCertifiedApart, Extended}
-use Rattle.wb_joined.specs.Written.{name_in, written_in}
-use Rattle.wb_joined.proofs.JoinedLemmas.{markers_are}
-use Rattle.wb_joined.proofs.WrittenApart.{all_apart, all_certified}
+use Rattle.wb_composition.specs.Joined.{AreCertifiedApart, Extended}
+use Rattle.wb_composition.specs.Written.{name_in, written_in}
+use Rattle.wb_composition.proofs.JoinedLemmas.{markers_are}
+use Rattle.wb_composition.proofs.WrittenApart.{all_apart, all_certified}
 use Rattle.wb_languages.specs.Languages.{LanguageView}
 use Rattle.wb_resolved.specs.declared.resolved.ResolvedParts.{ResolvedParts}
 use Rattle.wb_resolved.specs.Resolved.{IsResolved}
@@ -27,7 +27,7 @@ use Rattle.wb_uniting.specs.Lents as lents
 use Rattle.wb_united_language.specs.United.{HasWithdrawn, IsUnion}
 use Rattle.wb_composition.specs.Composed.{IsComposed, IsExtended, IsWith, name_of}
 use Rattle.wb_composition.specs.Inner.Lending.{IsLent, IsLentHost}
-use Rattle.wb_composition.proofs.WrittenLemmas.{lexicon_is, marker_flags, written_is}
+use Rattle.wb_composition.proofs.LendingLemmas.{lexicon_is, marker_flags, written_is}
 
 -- each extension with its grammar
 abbrev extended_by : ExtensionView → Addition → Extended

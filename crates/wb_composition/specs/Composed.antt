@@ -5,8 +5,8 @@ use Rattle.wb_base.specs.Grammar.{GrammarView}
 use Rattle.wb_beside.specs.Kept.{ExtensionView}
 use Rattle.wb_certify.specs.Hosts.{CertifiedView}
 use Rattle.wb_determinism.specs.Lexicons.{lexicon_of}
-use Rattle.wb_joined.specs.Joined.{AreCertifiedApart, Extended}
-use Rattle.wb_joined.specs.Written.{name_in, written_in}
+use Rattle.wb_composition.specs.Joined.{AreCertifiedApart, Extended}
+use Rattle.wb_composition.specs.Written.{name_in, written_in}
 use Rattle.wb_languages.specs.Languages.{LanguageView}
 use Rattle.wb_united_forms.specs.Languages.{AreWithdrawn, IsUnitedLanguage}
 

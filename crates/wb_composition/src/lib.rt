@@ -1,9 +1,17 @@
-//! The language of a certified host and of certified extensions.
+//! What certified extensions make with their certified host, whichever are picked: one language, and its attributes.
 //!
-//! What is certified has a language: no call here has a refusal but want of memory. A host by itself has one in `wb_compose`.
+//! No call here has a refusal but want of memory, and the laws say why: a certified extension is a piece of a union (`laws`), whose attributes
+//! are well defined (`attribute_laws`) and agree with its grammar (`agreement`). A host by itself has its language in `wb_compose`.
 #![tactic(auto)]
 
 mod additions;
+pub mod agreement;
+pub mod attribute_laws;
+mod attributes;
 mod composition;
+mod cuts;
+pub mod laws;
+mod rows;
 
+pub use attributes::composed_attributes;
 pub use composition::{Composed, compose};

@@ -13,7 +13,7 @@ use Rattle.wb_base.specs.Different.{Differ}
 use Rattle.wb_beside.specs.Kept.{ExtensionView}
 use Rattle.wb_certify.specs.Hosts.{CertifiedView}
 use Rattle.wb_composition.specs.Composed.{IsWith, name_of}
-use Rattle.wb_joined.specs.Written.{name_in}
+use Rattle.wb_composition.specs.Written.{name_in}
 use Rattle.wb_extension_files.specs.Contents.{IsExtensionText}
 use Rattle.wb_extension_files.specs.Specifications.{IsHeaderRefusal, IsSpecFor}
 use Rattle.wb_extension_files.specs.declared.refusal.FileRefusal.TheVariants as f
@@ -24,7 +24,7 @@ use Rattle.wb_report.specs.declared.refusal.Refusal.TheVariants as r
 use Rattle.wb_report.specs.declared.spec_reason.SpecReason.TheVariants as t
 use Rattle.wb_resolved.specs.declared.resolved.ResolvedParts.{ResolvedParts}
 use Rattle.wb_syntax.specs.SpecText.{SpecView}
-use Rattle.wb_united_trees.specs.Unions.{all_resolved}
+use Rattle.wb_united_texts.specs.Unions.{all_resolved}
 use Rattle.wb_world.specs.Shelf.{Files}
 use Rattle.wb_inputs.specs.Files.{FileIs, KnownFile}
 use Rattle.wb_inputs.specs.Reads.{StopsEach}

@@ -1,6 +1,6 @@
 -- The checks of several extensions of a host, of which no two have one name, with which commands go on that compose them.
 use Rattle.std.specs.Prelude.{◌≡◌, ◌≤◌, ◌⊎◌, ◌++◌, ℕ, Option, List, [], ◌∷◌, Contains, length, map}
-use Rattle.wb_joined.specs.Written.{name_in}
+use Rattle.wb_composition.specs.Written.{name_in}
 use Rattle.wb_extension_files.specs.Contents.{IsExtensionText, IsExtensionRefusal}
 use Rattle.wb_extension_files.specs.Specifications.{IsHeaderRefusal, IsSpecFor}
 use Rattle.wb_extension_files.specs.declared.refusal.FileRefusal.{FileRefusal}

@@ -4,7 +4,7 @@
 
 ghost use Rattle.std.specs.Prelude.{◌≡◌, ◌↔◌, ◌++◌, ◌∷◌, IfOk, IfErr, OnOk, IsTrue, Contains, ℕ, List, []};
 ghost use Rattle.wb_extension_files.specs.Specifications.{IsSpecFor};
-ghost use Rattle.wb_united_trees.specs.Unions.{all_resolved};
+ghost use Rattle.wb_united_texts.specs.Unions.{all_resolved};
 ghost use Rattle.wb_words.specs.Words.{texts};
 ghost use Rattle.wb_inputs.specs.Reads.{StopsEach};
 ghost use Rattle.wb_inputs.specs.SeveralChecks.{AreEach, IsNext, IsNextText, RefusesEach, RefusesNext, names_of};

@@ -6,7 +6,7 @@ use Rattle.std.proofs.lemmas.Option.{same_Some, slice_get_within}
 use Rattle.wb_base.specs.Different.{Differ}
 use Rattle.wb_evaluator.proofs.MachineLemmas.{no_more}
 use Rattle.wb_extension_files.specs.Contents.{IsExtensionText}
-use Rattle.wb_joined.specs.Written.{name_in}
+use Rattle.wb_composition.specs.Written.{name_in}
 use Rattle.wb_lemmas.proofs.Members.{contains_at, place_of}
 use Rattle.wb_lemmas.proofs.Places.{append_keeps, append_seam, at_once, at_push, nothing_at}
 use Rattle.wb_operations.specs.Operations.{OperationSignature}

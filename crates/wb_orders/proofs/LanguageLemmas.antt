@@ -1,22 +1,19 @@
 -- The union of a host and extensions has a language in every order of the extensions, where it has one in one.
-use Rattle.std.proofs.Common.{◌≡◌, ◌<◌, ◌≤◌, ◌+◌, ◌∙◌, ℕ, List, Some, Contains, length, map, slice_get, ap, sym, refl, subst, inl, inr}
-use Rattle.std.proofs.Common.{arith}
+use Rattle.std.proofs.Common.{◌≡◌, ◌+◌, ◌∙◌, ℕ, List, Some, Contains, length, map, slice_get, ap, sym, refl, subst}
+use Rattle.std.proofs.Common.{inl, inr, arith}
 use Rattle.std.specs.List.{range_with_len}
 use Rattle.std.proofs.lemmas.List.{length-map}
-use Rattle.std.proofs.lemmas.List.FromFn.{get_or-range_with_len, length-range_with_len}
-use Rattle.std.proofs.lemmas.Option.{slice_get-get_or}
 use Rattle.std.specs.Prelude.{◌↔◌}
 use Rattle.wb_automata.specs.Automata.{IsMatch}
-use Rattle.wb_base.specs.Different.{Differ}
 use Rattle.wb_base.specs.Grammar.{GrammarView}
 use Rattle.wb_contexts.specs.Considered.{LexiconView}
-use Rattle.wb_evaluator.proofs.MachineLemmas.{no_more}
 use Rattle.wb_languages.specs.declared.form.Form.{Form}
 use Rattle.wb_languages.specs.Languages.{LanguageView, bare, forms_of}
 use Rattle.wb_lemmas.proofs.Members.{contains_at, place_of}
 use Rattle.wb_lemmas.proofs.Places.{append_after, append_keeps, at_append}
 use Rattle.wb_renamed_languages.specs.Grammars.{IsUndoneBy}
 use Rattle.wb_renamed_languages.specs.Languages.{renamed_form}
+use Rattle.wb_reordered_attributes.proofs.TotalLemmas.{no_more_below}
 use Rattle.wb_reordered_unions.specs.Orders.{IsReordering}
 use Rattle.wb_reordered_unions.specs.Unions.{names_to}
 use Rattle.wb_reordered_unions.proofs.FormLemmas.{form_there, pieces_reordered, pieces_there, prefers_there, text_there}
@@ -32,40 +29,6 @@ use Rattle.wb_united_forms.specs.Languages.{AreForms, IsTextOf, IsUnitedLanguage
 use Rattle.wb_united_forms.specs.Rows.{Prefers, layout_count}
 use Rattle.wb_united_forms.specs.Written.{WrittenPiece, pieces_of}
 use Rattle.wb_united_forms.proofs.DecidedLemmas.{range_at}
-
--- what a range has at a place within
-at_range : (a n j : ℕ) → j < n → slice_get (range_with_len a n) j ≡ Some (a + j)
-at_range a n j less =
-    let len = length-range_with_len a n in
-    slice_get-get_or (range_with_len a n) j 0 (omega (arith, less, len)) ∙ ap Some (get_or-range_with_len a n j 0 less)
-
--- numbers that go to different ones below a count are no more
-module _ (n k : ℕ) (f g : ℕ → ℕ) (undone : (t : ℕ) → g (f t) ≡ t) (below : (t : ℕ) → t < n → f t < k) where
-  all_differ : Differ (map f (range_with_len 0 n))
-  all_differ x i j one two =
-      let (a, a_at, a_is) = map_at f (range_with_len 0 n) i x one in
-      let (b, b_at, b_is) = map_at f (range_with_len 0 n) j x two in
-      let first = (range_at 0 n i a a_at).0 in
-      let second = (range_at 0 n j b b_at).0 in
-      let same : a ≡ b = sym (undone a) ∙ (ap g (sym a_is ∙ b_is) ∙ undone b) in
-      omega (arith, first, second, same)
-
-  all_there : (x : ℕ) → Contains (map f (range_with_len 0 n)) x → Contains (range_with_len 0 k) x
-  all_there x has =
-      let (i, at) = place_of (map f (range_with_len 0 n)) x has in
-      let (a, a_at, x_is) = map_at f (range_with_len 0 n) i x at in
-      let (a_is, less) = range_at 0 n i a a_at in
-      let low = below a (omega (arith, a_is, less)) in
-      let within : x < k = omega (arith, low, x_is) in
-      contains_at (range_with_len 0 k) x x (at_range 0 k x within ∙ ap Some (let e : 0 + x ≡ x = omega arith in e))
-
-  no_more_numbers : n ≤ k
-  no_more_numbers =
-      let few = no_more (map f (range_with_len 0 n)) (range_with_len 0 k) all_differ all_there in
-      let a = length-map (range_with_len 0 n) f in
-      let b = length-range_with_len 0 n in
-      let c = length-range_with_len 0 k in
-      omega (arith, few, a, b, c)
 
 module _ (host : GrammarView) (extensible : List ℕ) (own : LexiconView) (written others : List WrittenPiece) (to from : ℕ → ℕ)
     (ok : ArePieces host extensible (pieces_of written)) (re : IsReordering to from written others) (l : LanguageView)
@@ -104,11 +67,13 @@ module _ (host : GrammarView) (extensible : List ℕ) (own : LexiconView) (writt
   same_terminals =
       let n = (united host extensible (pieces_of written)).terminals in
       let k = (united host extensible (pieces_of others)).terminals in
-      let one = no_more_numbers n k r.terminal s.terminal undone.terminal
-      (union_leads host extensible (pieces_of written) (pieces_of others) to from ok (pieces_reordered re)).terminals in
-      let two = no_more_numbers k n s.terminal r.terminal redone.terminal
+      let one = no_more_below n k r.terminal
+      (union_leads host extensible (pieces_of written) (pieces_of others) to from ok (pieces_reordered re)).terminals
+      (λ i j less less' same. sym (undone.terminal i) ∙ (ap s.terminal same ∙ undone.terminal j)) in
+      let two = no_more_below k n s.terminal
       (union_leads host extensible (pieces_of others) (pieces_of written) from to there_ok
-      (pieces_reordered (reordering_back re))).terminals in
+      (pieces_reordered (reordering_back re))).terminals
+      (λ i j less less' same. sym (redone.terminal i) ∙ (ap r.terminal same ∙ redone.terminal j)) in
       omega (arith, one, two)
 
   -- a form there and back

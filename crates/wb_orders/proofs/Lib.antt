@@ -1,5 +1,9 @@
+pub mod LanguageLemmas
+pub mod UnionLemmas
+pub mod ProductionLemmas
+pub mod AttributeLemmas
+pub mod OrderLemmas
 mod FileLemmas
-mod LanguageLemmas
 mod ReportLemmas
 mod RunLemmas
 mod SeveralLemmas

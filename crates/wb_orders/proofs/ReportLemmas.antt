@@ -6,9 +6,9 @@ use Rattle.wb_base.specs.Grammar.{GrammarView}
 use Rattle.wb_determinism.specs.Lexicons.{lexicon_of}
 use Rattle.wb_grammars.specs.Trees.{Forest, nothing, leaf, node}
 use Rattle.wb_beside.specs.Kept.{AreCertifiedBoth}
-use Rattle.wb_joined.specs.Joined.{Extended}
-use Rattle.wb_joined.specs.Written.{written_in, written_with}
-use Rattle.wb_joined.proofs.WrittenApart.{all_certified}
+use Rattle.wb_composition.specs.Joined.{Extended}
+use Rattle.wb_composition.specs.Written.{written_in, written_with}
+use Rattle.wb_composition.proofs.WrittenApart.{all_certified}
 use Rattle.wb_languages.specs.Languages.{LanguageView}
 use Rattle.wb_languages.specs.Shown.{Shows, values_of}
 use Rattle.wb_lemmas.proofs.Elements.{all_at, all_from_places}
@@ -24,11 +24,11 @@ use Rattle.wb_terms.specs.Printed.{printed_tree}
 use Rattle.wb_trees.specs.declared.answer.TextAnswer.{TextAnswer}
 use Rattle.wb_trees.specs.declared.answer.TextAnswer.TheVariants as a
 use Rattle.wb_unions.specs.Renamings.{Renaming}
-use Rattle.wb_united_trees.specs.Answers.{HasPrintedTree, IsAnswerIn, IsUnitedTextAnswer}
-use Rattle.wb_united_trees.specs.Names.{stop_shown, terminals_of}
-use Rattle.wb_united_trees.specs.Signatures.{signatures_of}
-use Rattle.wb_united_trees.specs.Unions.{IsLanguageOf, Union}
-use Rattle.wb_united_trees.proofs.AnswerLemmas.{same_answer}
+use Rattle.wb_united_texts.specs.Answers.{HasPrintedTree, IsAnswerIn, IsUnitedTextAnswer}
+use Rattle.wb_united_texts.specs.Names.{stop_shown, terminals_of}
+use Rattle.wb_united_texts.specs.Signatures.{signatures_of}
+use Rattle.wb_united_texts.specs.Unions.{IsLanguageOf, Union}
+use Rattle.wb_united_texts.proofs.AnswerLemmas.{same_answer}
 use Rattle.wb_values.specs.Signature.{Signature}
 use Rattle.wb_values.specs.Tree.{Tree, empty, more, tree}
 use Rattle.wb_values.specs.Tree as values

@@ -1,8 +1,8 @@
 -- A report of what comes of a text and an attribute is one with the extensions in every other order.
 use Rattle.std.proofs.Common.{ℕ, List, Some, inl, inr}
 use Rattle.wb_operations.specs.Operations.{Operations}
-use Rattle.wb_reordered_values.specs.Laws.{AreInTwoOrders, HasSameRoots, HasSameValues}
-use Rattle.wb_reordered_values.proofs.OrderLemmas.{roots_there, values_there}
+use Rattle.wb_orders.specs.ValueLaws.{AreInTwoOrders, HasSameRoots, HasSameValues}
+use Rattle.wb_orders.proofs.OrderLemmas.{roots_there, values_there}
 use Rattle.wb_resolved.specs.declared.resolved.ResolvedParts.{ResolvedParts}
 use Rattle.wb_world.specs.Shelf.{Files}
 use Rattle.wb_inputs.specs.declared.status.Status.{Status}

@@ -1,17 +1,17 @@
 -- Two reports of `compose`, and of `tree` with extensions, have one status, and one text where nothing is refused.
 use Rattle.std.proofs.Common.{◌≡◌, ℕ, List, Some, length, ap, sym, ◌∙◌, subst}
 use Rattle.wb_base.specs.Different.{Differ}
-use Rattle.wb_generated_texts.specs.Generated.{HasOneText}
+use Rattle.wb_united_texts.specs.Generated.{HasOneText}
 use Rattle.wb_operations.specs.Operations.{Operations, OperationSignature}
 use Rattle.wb_report.specs.Lines.{report_of}
 use Rattle.wb_report.specs.declared.done.Done.TheVariants as done
 use Rattle.wb_report.specs.declared.outcome.Outcome.TheVariants as o
 use Rattle.wb_resolved.specs.declared.resolved.ResolvedParts.{ResolvedParts}
 use Rattle.wb_trees.specs.declared.answer.TextAnswer.{TextAnswer}
-use Rattle.wb_united_trees.specs.Answers.{HasSameAnswer}
-use Rattle.wb_united_trees.specs.Withdrawn.{HasOneWithdrawn}
-use Rattle.wb_united_values.specs.Roots.{HasOneRootAttribute}
-use Rattle.wb_united_values.specs.Values.{HasOneTextValue}
+use Rattle.wb_united_texts.specs.Answers.{HasSameAnswer}
+use Rattle.wb_united_texts.specs.Withdrawn.{HasOneWithdrawn}
+use Rattle.wb_united_texts.specs.Roots.{HasOneRootAttribute}
+use Rattle.wb_united_texts.specs.Values.{HasOneTextValue}
 use Rattle.wb_world.specs.Shelf.{Files}
 use Rattle.wb_inputs.specs.Checks.{Ends, Check}
 use Rattle.wb_inputs.specs.SeveralChecks.{names_of}

@@ -6,8 +6,8 @@ use Rattle.wb_report.specs.declared.done.Done.TheVariants as done
 use Rattle.wb_report.specs.declared.outcome.Outcome.TheVariants as o
 use Rattle.wb_resolved.specs.declared.resolved.ResolvedParts.{ResolvedParts}
 use Rattle.wb_trees.specs.declared.answer.TextAnswer.{TextAnswer}
-use Rattle.wb_united_trees.specs.Answers.{IsUnitedTextAnswer}
-use Rattle.wb_united_trees.specs.Withdrawn.{AreWithdrawnNames}
+use Rattle.wb_united_texts.specs.Answers.{IsUnitedTextAnswer}
+use Rattle.wb_united_texts.specs.Withdrawn.{AreWithdrawnNames}
 use Rattle.wb_world.specs.Shelf.{Files}
 use Rattle.wb_inputs.specs.Checks.{Report, Ends, Check}
 use Rattle.wb_inputs.specs.SeveralChecks.{SeveralChecks}

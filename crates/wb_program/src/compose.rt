@@ -6,7 +6,7 @@
 ghost use Rattle.std.specs.Prelude.{◌≡◌, IfOk, IfErr, List, []};
 ghost use Rattle.wb_composition.specs.Composed.{IsComposed};
 ghost use Rattle.wb_resolved.specs.declared.resolved.ResolvedParts.{ResolvedParts};
-ghost use Rattle.wb_united_trees.specs.Unions.{all_resolved};
+ghost use Rattle.wb_united_texts.specs.Unions.{all_resolved};
 ghost use Rattle.wb_words.specs.Words.{texts};
 ghost use Rattle.wb_inputs.specs.Checks.{Ends};
 ghost use Rattle.wb_inputs.specs.ExtensionChecks.{AreApart};
@@ -25,7 +25,7 @@ use wb_inputs::{
 };
 use wb_operations::{Meaning, OperationTable};
 use wb_report::{Done, Outcome};
-use wb_united_trees::withdrawn_names;
+use wb_united_texts::withdrawn_names;
 use wb_world::Shelf;
 
 // The answer to `compose HOST EXT..`.

@@ -5,7 +5,8 @@
 ghost use Rattle.wb_program.specs.Laws.{EndAsReported, HaveOneStatus, HaveOneText};
 ghost use Rattle.wb_program.specs.ShownAgain.{IsStable};
 
-use wb_united_trees::laws::{one_answer_law, withdrawn_law};
+use wb_united_texts::tree_laws::{one_answer_law, withdrawn_law};
+use wb_united_texts::value_laws::{one_root_law, one_value_law};
 
 /// Words and files have at most one status that is reported.
 pub fn one_status_law()
@@ -15,9 +16,9 @@ pub fn one_status_law()
     wb_extension_files::header_law();
     withdrawn_law();
     one_answer_law();
-    wb_united_values::one_root_law();
-    wb_united_values::one_answer_law();
-    wb_generated_texts::laws::one_text_law();
+    one_root_law();
+    one_value_law();
+    wb_united_texts::generated_laws::one_text_law();
 }
 
 /// Words and files have at most one text with a status, but where a refusal may show any true example.
@@ -28,9 +29,9 @@ pub fn one_text_law()
     wb_extension_files::header_law();
     withdrawn_law();
     one_answer_law();
-    wb_united_values::one_root_law();
-    wb_united_values::one_answer_law();
-    wb_generated_texts::laws::one_text_law();
+    one_root_law();
+    one_value_law();
+    wb_united_texts::generated_laws::one_text_law();
 }
 
 /// Where words and known files have a report, a run ends with its status: with 0 where everything is in order. Else it ends at a file or
@@ -42,9 +43,9 @@ pub fn complete_law()
     wb_extension_files::header_law();
     withdrawn_law();
     one_answer_law();
-    wb_united_values::one_root_law();
-    wb_united_values::one_answer_law();
-    wb_generated_texts::laws::one_text_law();
+    one_root_law();
+    one_value_law();
+    wb_united_texts::generated_laws::one_text_law();
 }
 
 /// The canonical text of a specification is read as the same one but for places, and is the one canonical text of that, so that

@@ -1,11 +1,11 @@
 //! What does `tree --text FILE HOST EXT..` answer where there are extensions?
 //!
-//! The host and the extensions come as in `compose`, and then the text, whose answer in their language is found by `wb_united_trees`.
+//! The host and the extensions come as in `compose`, and then the text, whose answer in their language is found by `wb_united_texts`.
 
 ghost use Rattle.std.specs.Prelude.{◌≡◌, IfOk, IfErr, ℕ, List};
 ghost use Rattle.wb_composition.specs.Composed.{IsComposed};
 ghost use Rattle.wb_resolved.specs.declared.resolved.ResolvedParts.{ResolvedParts};
-ghost use Rattle.wb_united_trees.specs.Unions.{all_resolved};
+ghost use Rattle.wb_united_texts.specs.Unions.{all_resolved};
 ghost use Rattle.wb_words.specs.Words.{texts};
 ghost use Rattle.wb_inputs.specs.Checks.{Check};
 ghost use Rattle.wb_inputs.specs.ExtensionChecks.{AreApart};
@@ -27,7 +27,7 @@ use wb_inputs::{
 };
 use wb_operations::{Meaning, OperationTable};
 use wb_report::Outcome;
-use wb_united_trees::united_text_answer;
+use wb_united_texts::united_text_answer;
 use wb_world::Shelf;
 
 // The answer to `tree --text FILE HOST EXT..`.

@@ -3,17 +3,17 @@ use Rattle.std.proofs.Common.{◌≡◌, ◌<◌, ◌≤◌, inl, inr, ℕ, List
 use Rattle.wb_base.specs.Different.{Differ}
 use Rattle.wb_generate.specs.declared.generated.Generated.{Generated}
 use Rattle.wb_generate.specs.declared.generated.Generated.TheVariants as g
-use Rattle.wb_generated_texts.specs.Generated.{HasOneText}
+use Rattle.wb_united_texts.specs.Generated.{HasOneText}
 use Rattle.wb_operations.specs.Operations.{Operations, OperationSignature}
 use Rattle.wb_report.specs.declared.done.Done.{Done}
 use Rattle.wb_report.specs.declared.done.Done.TheVariants as done
 use Rattle.wb_resolved.specs.declared.resolved.ResolvedParts.{ResolvedParts}
 use Rattle.wb_root_values.specs.declared.value.TreeValue.{TreeValue}
 use Rattle.wb_root_values.specs.declared.value.TreeValue.TheVariants as t
-use Rattle.wb_united_values.specs.Roots.{HasOneRootAttribute, IsRootAttribute}
-use Rattle.wb_united_values.specs.Values.{HasOneTextValue}
-use Rattle.wb_united_values.specs.declared.value.TextValue.{TextValue}
-use Rattle.wb_united_values.specs.declared.value.TextValue.TheVariants as v
+use Rattle.wb_united_texts.specs.Roots.{HasOneRootAttribute, IsRootAttribute}
+use Rattle.wb_united_texts.specs.Values.{HasOneTextValue}
+use Rattle.wb_united_texts.specs.declared.value.TextValue.{TextValue}
+use Rattle.wb_united_texts.specs.declared.value.TextValue.TheVariants as v
 use Rattle.wb_world.specs.Shelf.{Files}
 use Rattle.wb_inputs.specs.Checks.{Report, Check}
 use Rattle.wb_inputs.specs.SeveralChecks.{names_of}

@@ -8,9 +8,9 @@ use Rattle.wb_report.specs.declared.done.Done.TheVariants as done
 use Rattle.wb_resolved.specs.declared.resolved.ResolvedParts.{ResolvedParts}
 use Rattle.wb_root_values.specs.declared.value.TreeValue.{TreeValue}
 use Rattle.wb_root_values.specs.declared.value.TreeValue.TheVariants as t
-use Rattle.wb_united_values.specs.Roots.{IsRootAttribute}
-use Rattle.wb_united_values.specs.declared.value.TextValue.{TextValue}
-use Rattle.wb_united_values.specs.declared.value.TextValue.TheVariants as v
+use Rattle.wb_united_texts.specs.Roots.{IsRootAttribute}
+use Rattle.wb_united_texts.specs.declared.value.TextValue.{TextValue}
+use Rattle.wb_united_texts.specs.declared.value.TextValue.TheVariants as v
 use Rattle.wb_world.specs.Shelf.{Files}
 use Rattle.wb_inputs.specs.Checks.{Report, Check}
 use Rattle.wb_inputs.specs.Texts.{IsText, IsTooLongText}

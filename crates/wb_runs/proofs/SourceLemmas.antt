@@ -4,8 +4,8 @@ use Rattle.wb_operations.specs.Operations.{Operations, OperationSignature}
 use Rattle.wb_report.specs.Lines.{report_of}
 use Rattle.wb_report.specs.declared.outcome.Outcome.TheVariants as o
 use Rattle.wb_resolved.specs.declared.resolved.ResolvedParts.{ResolvedParts}
-use Rattle.wb_united_trees.specs.Unions.{all_resolved}
-use Rattle.wb_united_values.specs.Roots.{HasNoRootAttribute, IsRootAttribute}
+use Rattle.wb_united_texts.specs.Unions.{all_resolved}
+use Rattle.wb_united_texts.specs.Roots.{HasNoRootAttribute, IsRootAttribute}
 use Rattle.wb_world.specs.Shelf.{Files}
 use Rattle.wb_inputs.specs.Checks.{Ends}
 use Rattle.wb_inputs.specs.declared.status.Status.{Status}

@@ -2,7 +2,7 @@
 use Rattle.std.specs.Prelude.{◌≡◌, ◌<◌, ◌≤◌, ◌⊎◌, ℕ, Option, List, length}
 use Rattle.wb_generate.specs.declared.generated.Generated.{Generated}
 use Rattle.wb_generate.specs.declared.generated.Generated.TheVariants as g
-use Rattle.wb_generated_texts.specs.Generated.{IsGeneratedText}
+use Rattle.wb_united_texts.specs.Generated.{IsGeneratedText}
 use Rattle.wb_operations.specs.Operations.{Operations}
 use Rattle.wb_report.specs.Lines.{report_of}
 use Rattle.wb_report.specs.declared.done.Done.TheVariants as done

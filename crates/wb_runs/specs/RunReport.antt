@@ -3,7 +3,7 @@ use Rattle.std.specs.Prelude.{ℕ, Option, List}
 use Rattle.wb_operations.specs.Operations.{Operations, OperationSignature}
 use Rattle.wb_report.specs.declared.done.Done.TheVariants as done
 use Rattle.wb_resolved.specs.declared.resolved.ResolvedParts.{ResolvedParts}
-use Rattle.wb_united_values.specs.Roots.{IsRootAttribute}
+use Rattle.wb_united_texts.specs.Roots.{IsRootAttribute}
 use Rattle.wb_world.specs.Shelf.{Files}
 use Rattle.wb_inputs.specs.Checks.{Report, Check}
 use Rattle.wb_inputs.specs.Reads.{StopsComposed}

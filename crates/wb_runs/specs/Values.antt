@@ -7,10 +7,10 @@ use Rattle.wb_report.specs.declared.outcome.Outcome.TheVariants as o
 use Rattle.wb_resolved.specs.declared.resolved.ResolvedParts.{ResolvedParts}
 use Rattle.wb_root_values.specs.declared.value.TreeValue.{TreeValue}
 use Rattle.wb_root_values.specs.declared.value.TreeValue.TheVariants as t
-use Rattle.wb_united_values.specs.Roots.{HasNoRootAttribute, IsRootAttribute}
-use Rattle.wb_united_values.specs.Values.{IsTextValue}
-use Rattle.wb_united_values.specs.declared.value.TextValue.{TextValue}
-use Rattle.wb_united_values.specs.declared.value.TextValue.TheVariants as v
+use Rattle.wb_united_texts.specs.Roots.{HasNoRootAttribute, IsRootAttribute}
+use Rattle.wb_united_texts.specs.Values.{IsTextValue}
+use Rattle.wb_united_texts.specs.declared.value.TextValue.{TextValue}
+use Rattle.wb_united_texts.specs.declared.value.TextValue.TheVariants as v
 use Rattle.wb_inputs.specs.Checks.{Report, Check, Ends}
 use Rattle.wb_inputs.specs.declared.status.Status.{Status}
 use Rattle.wb_inputs.specs.declared.status.Status.TheVariants as s

@@ -1,11 +1,11 @@
 //! What is answered of an attribute that may be asked at the start, for a text that is read or made?
 //!
-//! The text's value is found by `wb_united_values`, and the text that a number makes by `wb_generated_texts`.
+//! The text's value is found by `wb_united_texts`, and the text that a number makes by `wb_united_texts`.
 
 ghost use Rattle.std.specs.Prelude.{◌≡◌, ◌≤◌, IfOk, IfErr, ℕ, List, None, Some, length};
 ghost use Rattle.wb_composition.specs.Composed.{IsComposed};
 ghost use Rattle.wb_operations.specs.Kept.{IsKept};
-ghost use Rattle.wb_united_trees.specs.Unions.{all_resolved};
+ghost use Rattle.wb_united_texts.specs.Unions.{all_resolved};
 ghost use Rattle.wb_inputs.specs.Checks.{Check};
 ghost use Rattle.wb_inputs.specs.Stopped.{outside, Stopped, GoesOn};
 ghost use Rattle.wb_inputs.specs.Texts.{IsText, IsTooLongText, ReadText};
@@ -20,12 +20,11 @@ use wb_beside::CertifiedExtension;
 use wb_certify::CertifiedHost;
 use wb_composition::Composed;
 use wb_generate::Generated;
-use wb_generated_texts::generated_text;
 use wb_inputs::{Answer, Contents, ReadFailure, Status, read_file, reported};
 use wb_operations::{Meaning, OperationRefusal, OperationTable};
 use wb_report::Outcome;
 use wb_resolved::Attribution;
-use wb_united_values::{Question, text_value};
+use wb_united_texts::{Question, generated_text, text_value};
 use wb_values::Value;
 use wb_world::Shelf;
 

@@ -11,7 +11,7 @@ use wb_base::{Bytes, Sequence};
 use wb_inputs::{Answer, Status, reported};
 use wb_report::{Done, Outcome};
 use wb_root_values::TreeValue;
-use wb_united_values::TextValue;
+use wb_united_texts::TextValue;
 
 // The answer for a text, which stops, or has a tree and a value at its root.
 pub(crate) fn shown_text(

@@ -3,11 +3,11 @@
 //! The host comes first, then the extensions, then the attribute among those of their union, and then the text.
 
 ghost use Rattle.std.specs.Prelude.{◌≡◌, IfOk, IfErr};
-ghost use Rattle.wb_certified_unions.specs.United.{IsOfUnion};
+ghost use Rattle.wb_composition.specs.United.{IsOfUnion};
 ghost use Rattle.wb_composition.specs.Composed.{IsComposed};
 ghost use Rattle.wb_operations.specs.Kept.{IsKept};
 ghost use Rattle.wb_report.specs.Lines.{report_of};
-ghost use Rattle.wb_united_trees.specs.Unions.{all_resolved};
+ghost use Rattle.wb_united_texts.specs.Unions.{all_resolved};
 ghost use Rattle.wb_words.specs.Words.{texts};
 ghost use Rattle.wb_inputs.specs.Checks.{Ends};
 ghost use Rattle.wb_inputs.specs.ExtensionChecks.{AreApart};
@@ -21,15 +21,14 @@ use std::alloc::{AllocError, Global};
 use wb_base::Bytes;
 use wb_beside::{CertifiedExtension, release_extensions};
 use wb_certify::CertifiedHost;
-use wb_composed_attributes::composed_attributes;
-use wb_composition::{Composed, compose};
+use wb_composition::{Composed, compose, composed_attributes};
 use wb_inputs::{
     Answer, MOST_EXTENSIONS, ReadFailure, Status, read_extensions, read_host, reported,
 };
 use wb_operations::{Meaning, OperationRefusal, OperationTable};
 use wb_report::Outcome;
 use wb_resolved::Attribution;
-use wb_united_values::root_attribute;
+use wb_united_texts::root_attribute;
 use wb_values::Value;
 use wb_world::Shelf;
 

@@ -2,7 +2,7 @@
 use Rattle.std.specs.Prelude.{◌≡◌, List, Some}
 use Rattle.wb_base.specs.Grammar.{GrammarView}
 use Rattle.wb_beside.specs.Kept.{AreCertifiedBoth, ExtensionView}
-use Rattle.wb_joined.specs.Written.{name_in}
+use Rattle.wb_composition.specs.Written.{name_in}
 use Rattle.wb_resolved.specs.declared.resolved.ResolvedParts.{ResolvedParts}
 use Rattle.wb_uniting.specs.declared.addition.Addition.{Addition}
 use Rattle.wb_uniting.specs.declared.addition.Lent.{Lent}

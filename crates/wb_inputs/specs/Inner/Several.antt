@@ -10,7 +10,7 @@ use Rattle.wb_report.specs.Lines.{report_of}
 use Rattle.wb_report.specs.declared.outcome.Outcome.TheVariants as o
 use Rattle.wb_resolved.specs.declared.resolved.ResolvedParts.{ResolvedParts}
 use Rattle.wb_syntax.specs.SpecText.{SpecView}
-use Rattle.wb_united_trees.specs.Unions.{all_resolved}
+use Rattle.wb_united_texts.specs.Unions.{all_resolved}
 use Rattle.wb_inputs.specs.Checks.{Report, Ends}
 use Rattle.wb_inputs.specs.Reads.{StopsEach}
 use Rattle.wb_inputs.specs.SeveralChecks.{AreEach, HasTakenName, IsLaterRefusal, IsNextText, RefusesEach, names_of}

@@ -1,12 +1,12 @@
 -- Where the text of a run comes from, what is asked of it, and what is reported.
 use Rattle.std.specs.Prelude.{◌≡◌, ◌≤◌, ℕ, Option, Some, None, List}
-use Rattle.wb_certified_unions.specs.United.{IsOfUnion}
+use Rattle.wb_composition.specs.United.{IsOfUnion}
 use Rattle.wb_operations.specs.Operations.{Operations, OperationSignature}
 use Rattle.wb_report.specs.declared.done.Done.{Done}
 use Rattle.wb_report.specs.declared.done.Done.TheVariants as done
 use Rattle.wb_resolved.specs.declared.resolved.ResolvedParts.{ResolvedParts}
-use Rattle.wb_united_trees.specs.Unions.{all_resolved}
-use Rattle.wb_united_values.specs.Roots.{IsRootAttribute}
+use Rattle.wb_united_texts.specs.Unions.{all_resolved}
+use Rattle.wb_united_texts.specs.Roots.{IsRootAttribute}
 use Rattle.wb_world.specs.Shelf.{Files}
 use Rattle.wb_inputs.specs.Checks.{Report, Check}
 use Rattle.wb_inputs.specs.ExtensionChecks.{AreApart}

@@ -1,7 +1,7 @@
 -- An extension that is found has the name, and where none is found none has it.
 use Rattle.std.proofs.Common.{rules, ◌≡◌, ◌≢◌, ◌∙◌, Some, Contains, slice_get, ap, sym, refl, arith}
 use Rattle.std.proofs.lemmas.Option.{slice_get-get_or, slice_get_within}
-use Rattle.wb_united_trees.specs.Unions.{all_resolved}
+use Rattle.wb_united_texts.specs.Unions.{all_resolved}
 use Rattle.wb_inputs.specs.SeveralChecks.{names_of}
 use Rattle.wb_inputs.proofs.SeveralLemmas.{has_at, has_none, named_one, none_more}
 use Rattle.wb_inputs.proofs.several.has_name.Goals as goal

@@ -1,7 +1,7 @@
 -- What was read is an extension after others, and so the file is; or the file is refused.
 use Rattle.std.proofs.Common.{◌≡◌, List, ℕ, subst}
 use Rattle.wb_lemmas.proofs.Refusals.{handed_on}
-use Rattle.wb_united_trees.specs.Unions.{all_resolved}
+use Rattle.wb_united_texts.specs.Unions.{all_resolved}
 use Rattle.wb_inputs.specs.Files.{KnownFile}
 use Rattle.wb_inputs.specs.SeveralChecks.{IsNextText}
 use Rattle.wb_inputs.specs.Inner.Several.{IsNextRefusal, RefusedNext}

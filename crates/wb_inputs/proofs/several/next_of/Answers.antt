@@ -1,5 +1,5 @@
 -- The contents are the specification that is an extension after others.
-use Rattle.wb_united_trees.specs.Unions.{all_resolved}
+use Rattle.wb_united_texts.specs.Unions.{all_resolved}
 use Rattle.wb_inputs.specs.SeveralChecks.{IsNextText}
 use Rattle.wb_inputs.specs.Inner.Several.{IsNextSpec}
 use Rattle.wb_inputs.proofs.CauseLemmas.{on_ok}

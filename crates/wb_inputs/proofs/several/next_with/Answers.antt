@@ -3,7 +3,7 @@ use Rattle.std.proofs.Common.{ℕ, List, Contains, refl, subst}
 use Rattle.wb_composition.specs.Composed.{IsWith}
 use Rattle.wb_extension_files.specs.Contents.{IsExtensionText, IsExtensionRefusal}
 use Rattle.wb_operations.specs.Operations.{OperationSignature}
-use Rattle.wb_united_trees.specs.Unions.{all_resolved}
+use Rattle.wb_united_texts.specs.Unions.{all_resolved}
 use Rattle.wb_inputs.specs.SeveralChecks.{names_of}
 use Rattle.wb_inputs.proofs.SeveralLemmas.{is_apart, not_found}
 use Rattle.wb_inputs.proofs.several.next_with.Goals as goal

@@ -1,6 +1,6 @@
 -- What is found of the extensions that are left is found of all, and those that were read are apart.
 use Rattle.std.proofs.Common.{◌≤◌, ◌-◌, length}
-use Rattle.wb_united_trees.specs.Unions.{all_resolved}
+use Rattle.wb_united_texts.specs.Unions.{all_resolved}
 use Rattle.wb_words.specs.Words.{texts}
 use Rattle.wb_inputs.specs.ExtensionChecks.{AreApart}
 use Rattle.wb_inputs.specs.Inner.Several.{IsReached}

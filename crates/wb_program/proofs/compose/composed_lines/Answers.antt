@@ -5,7 +5,7 @@ use Rattle.wb_beside.specs.Kept.{ExtensionView}
 use Rattle.wb_report.specs.Lines.{report_of}
 use Rattle.wb_report.specs.declared.done.Done.TheVariants as done
 use Rattle.wb_report.specs.declared.outcome.Outcome.TheVariants as o
-use Rattle.wb_united_trees.specs.Unions.{all_resolved}
+use Rattle.wb_united_texts.specs.Unions.{all_resolved}
 use Rattle.wb_inputs.specs.Checks.{Ends}
 use Rattle.wb_inputs.specs.declared.status.Status.TheVariants.{Done}
 use Rattle.wb_inputs.proofs.CauseLemmas.{on_both_ok}

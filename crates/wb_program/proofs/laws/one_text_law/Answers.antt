@@ -8,6 +8,6 @@ returns c = one_text (record {
   withdrawn = c.withdrawn_law.ensures;
   texts = c.one_answer_law-2.ensures;
   attributes = c.one_root_law.ensures;
-  values = c.one_answer_law-3.ensures;
+  values = c.one_value_law.ensures;
   made = c.one_text_law.ensures;
 })

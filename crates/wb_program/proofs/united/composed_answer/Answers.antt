@@ -1,5 +1,5 @@
 -- The answer of a text is shown.
-use Rattle.wb_united_trees.specs.Unions.{all_resolved}
+use Rattle.wb_united_texts.specs.Unions.{all_resolved}
 use Rattle.wb_inputs.proofs.CauseLemmas.{on_ok}
 use Rattle.wb_program.specs.ComposeReport.{UnitedReport}
 use Rattle.wb_program.specs.TreeReport.{ShownText}

@@ -1,6 +1,6 @@
 -- What was read is a text, and its answer is shown.
 use Rattle.std.proofs.Common.{ℕ, List, IfOk, sym, subst}
-use Rattle.wb_united_trees.specs.Unions.{all_resolved}
+use Rattle.wb_united_texts.specs.Unions.{all_resolved}
 use Rattle.wb_inputs.specs.Texts.{ReadText}
 use Rattle.wb_inputs.specs.declared.reading.Contents.{Contents}
 use Rattle.wb_program.specs.ComposeReport.{UnitedReport}

@@ -3,7 +3,7 @@ use Rattle.std.proofs.Common.{ℕ, List, [], Option, IfOk, inl, inr, subst}
 use Rattle.wb_beside.specs.Kept.{ExtensionView}
 use Rattle.wb_operations.specs.Operations.{OperationSignature}
 use Rattle.wb_resolved.specs.declared.resolved.ResolvedParts.{ResolvedParts}
-use Rattle.wb_united_trees.specs.Unions.{all_resolved}
+use Rattle.wb_united_texts.specs.Unions.{all_resolved}
 use Rattle.wb_words.specs.Words.{texts}
 use Rattle.wb_world.specs.Shelf.{Files}
 use Rattle.wb_inputs.specs.Checks.{Check}

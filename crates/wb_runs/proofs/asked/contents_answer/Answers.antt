@@ -1,7 +1,7 @@
 -- What was read is a text, and what comes of it is shown.
 use Rattle.std.proofs.Common.{ℕ, List, None, IfOk, sym, subst}
 use Rattle.wb_operations.specs.Operations.{Operations}
-use Rattle.wb_united_trees.specs.Unions.{all_resolved}
+use Rattle.wb_united_texts.specs.Unions.{all_resolved}
 use Rattle.wb_inputs.specs.Checks.{Report}
 use Rattle.wb_inputs.specs.Texts.{ReadText}
 use Rattle.wb_inputs.specs.declared.reading.Contents.{Contents}

@@ -1,7 +1,7 @@
 -- The report of what was read is that of the file.
 use Rattle.std.proofs.Common.{ℕ, List, None}
 use Rattle.wb_operations.specs.Operations.{Operations}
-use Rattle.wb_united_trees.specs.Unions.{all_resolved}
+use Rattle.wb_united_texts.specs.Unions.{all_resolved}
 use Rattle.wb_inputs.proofs.HostLemmas.{text_checks}
 use Rattle.wb_runs.specs.Inner.Sources.{shown_with}
 use Rattle.wb_runs.specs.Values.{TextValueReport}

@@ -1,11 +1,11 @@
 -- What a number makes is shown.
 use Rattle.std.proofs.Common.{◌≡◌, ℕ, List, IfOk, sym, subst}
 use Rattle.wb_generate.specs.declared.generated.Generated.{Generated}
-use Rattle.wb_generated_texts.specs.Generated.{IsGeneratedText}
+use Rattle.wb_united_texts.specs.Generated.{IsGeneratedText}
 use Rattle.wb_operations.specs.Operations.{Operations, OperationSignature}
 use Rattle.wb_report.specs.Lines.{report_of}
 use Rattle.wb_report.specs.declared.outcome.Outcome.TheVariants as o
-use Rattle.wb_united_trees.specs.Unions.{all_resolved}
+use Rattle.wb_united_texts.specs.Unions.{all_resolved}
 use Rattle.wb_inputs.specs.declared.status.Status.TheVariants.{NoSentence}
 use Rattle.wb_inputs.proofs.CauseLemmas.{on_ok, on_both_ok}
 use Rattle.wb_runs.specs.GenerateReport.{MadeReport, MadeTextReport, ShownMade}

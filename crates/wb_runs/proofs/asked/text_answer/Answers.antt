@@ -1,9 +1,9 @@
 -- What comes of a text is shown.
 use Rattle.std.proofs.Common.{length}
 use Rattle.wb_operations.specs.Operations.{Operations}
-use Rattle.wb_united_trees.specs.Unions.{all_resolved}
-use Rattle.wb_united_values.specs.Values.{IsTextValue}
-use Rattle.wb_united_values.specs.declared.value.TextValue.{TextValue}
+use Rattle.wb_united_texts.specs.Unions.{all_resolved}
+use Rattle.wb_united_texts.specs.Values.{IsTextValue}
+use Rattle.wb_united_texts.specs.declared.value.TextValue.{TextValue}
 use Rattle.wb_inputs.proofs.CauseLemmas.{ok_of, on_ok}
 use Rattle.wb_runs.specs.Inner.Sources.{shown_with}
 use Rattle.wb_runs.specs.Values.{ShownTextValue, TextValueReport}

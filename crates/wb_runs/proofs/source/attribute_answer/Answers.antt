@@ -2,8 +2,8 @@
 use Rattle.std.proofs.Common.{◌≡◌, ℕ, List, Option, Some, None, MatchOption, subst}
 use Rattle.wb_operations.specs.Operations.{Operations, OperationSignature}
 use Rattle.wb_resolved.specs.declared.resolved.ResolvedParts.{ResolvedParts}
-use Rattle.wb_united_trees.specs.Unions.{all_resolved}
-use Rattle.wb_united_values.specs.Roots.{HasNoRootAttribute, IsRootAttribute}
+use Rattle.wb_united_texts.specs.Unions.{all_resolved}
+use Rattle.wb_united_texts.specs.Roots.{HasNoRootAttribute, IsRootAttribute}
 use Rattle.wb_inputs.specs.Stopped.{outside, Stopped}
 use Rattle.wb_inputs.proofs.CauseLemmas.{goes_on_here, ok_of, on_err, on_ok, weaker_stop}
 use Rattle.wb_runs.specs.Inner.Sources.{SourceChecks, SourceEnd, SourceRest, SourceText}

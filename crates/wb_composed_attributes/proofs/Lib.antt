@@ -1,2 +1,0 @@
-mod AdditionLemmas
-mod ComposedLemmas

@@ -1,2 +1,0 @@
--- what is cut out of a host and of extensions
-pub mod Cuts

@@ -1,2 +1,0 @@
--- what only proofs need
-pub mod Inner

@@ -1,3 +1,0 @@
-mod LengthLemmas
-mod TextLemmas
-mod OneLemmas

@@ -1,5 +1,0 @@
-use Rattle.wb_joined.proofs.JoinedLemmas.{kernels_are}
-use Rattle.wb_joined.proofs.laws.kernels_law.Goals as goal
-
-pub returns : goal.returns
-returns c = kernels_are

@@ -1,5 +1,0 @@
-pub mod LanguageLemmas
-pub mod UnionLemmas
-pub mod ProductionLemmas
-pub mod AttributeLemmas
-pub mod OrderLemmas

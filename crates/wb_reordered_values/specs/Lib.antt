@@ -1,2 +1,0 @@
--- what the law says of a host with extensions in two orders
-pub mod Laws

@@ -1,2 +1,0 @@
--- expressions as they are added
-pub mod Added

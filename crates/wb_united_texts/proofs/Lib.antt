@@ -1,0 +1,20 @@
+mod TableLemmas
+mod NameLemmas
+pub mod AnswerLemmas
+pub mod ComposedLemmas
+pub mod WithdrawnLemmas
+pub mod AgreesLemmas
+mod AddedLemmas
+-- two languages of a union have the same answers
+mod SameLanguage
+-- two unions of the same extensions are one
+pub mod OneUnion
+-- a text and an attribute come to one thing
+pub mod OneTextValue
+-- what comes of what a text was parsed to
+mod ParsedLemmas
+-- what comes of a text in a language that is composed
+mod ComposedValues
+mod LengthLemmas
+mod TextLemmas
+mod OneLemmas

@@ -1,0 +1,6 @@
+-- what tables of names and signatures are made of
+pub mod Tables
+-- expressions as they are added
+pub mod Added
+-- what comes of what a text was parsed to
+pub mod Parsed

@@ -1,0 +1,22 @@
+-- the names of the union's terminals
+pub mod Names
+-- the signatures of the union's productions
+pub mod Signatures
+-- a union, and a language of it
+pub mod Unions
+-- what a text is in a language of the union
+pub mod Answers
+-- the names of the markers without a bare form
+pub mod Withdrawn
+-- the expressions of a union's terminals and layouts
+pub mod Expressions
+-- which attribute may be asked at the start of a host with extensions
+pub mod Roots
+-- what may be asked of a text
+pub mod Questions
+-- what comes of a text and an attribute
+pub mod Values
+-- the text that a number makes of a host with extensions
+pub mod Generated
+-- words of the private functions
+pub mod Inner

@@ -1,2 +1,0 @@
--- what tables of names and signatures are made of
-pub mod Tables

@@ -1,2 +1,0 @@
--- what comes of what a text was parsed to
-pub mod Parsed
