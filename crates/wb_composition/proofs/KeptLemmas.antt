@@ -1,5 +1,5 @@
 -- What is of a host's grammar keeps its numbers with an extension.
-use Rattle.std.proofs.Common.{◌≡◌, ◌≤◌, ◌<◌, ◌+◌, ◌++◌, ◌∷◌, ◌⊎◌, inl, inr, [], ℕ, zero, suc, List, Some, Contains, map, take}
+use Rattle.std.proofs.Common.{◌≡◌, ◌≤◌, ◌<◌, ◌+◌, ◌++◌, ◌∷◌, ◌⊎◌, inl, inr, [], ℕ, List, Some, Contains, map, take}
 use Rattle.std.proofs.Common.{length, slice_get, ap, refl, sym, subst, ◌∙◌, arith}
 use Rattle.std.specs.Prelude.{option_map, option_to_list}
 use Rattle.std.specs.List.{AllZip}
@@ -36,6 +36,7 @@ use Rattle.wb_syntax.specs.declared.item.PlainForm.TheVariants as i
 use Rattle.wb_syntax.specs.SpecText.{SpecView}
 use Rattle.wb_composition.proofs.InRange.{grammar_of, in_range, with_some}
 use Rattle.wb_composition.proofs.RowLemmas.{Kept, all_below, kept_at, map_at, same_list}
+use Rattle.wb_composition.proofs.CutLemmas.{length-take_within}
 
 -- a number that is moved stays where its name does
 same_number : {X : Type 0} (entry : X → Entry) (before rows : List X) → NamesDiffer (map entry rows) → (k other : ℕ) (was row : X)
@@ -54,13 +55,6 @@ length-sources {A} {B} before declared =
     let joined = length-append (map left before) (map right declared) in
     let one = length-map before left in
     let other = length-map declared right in omega (arith, joined, one, other)
-
--- so many are taken where there are so many
-length-take_within : {X : Type 0} (n : ℕ) (xs : List X) → n ≤ length xs → length (take n xs) ≡ n
-length-take_within zero [] within = refl
-length-take_within zero (x ∷ xs) within = refl
-length-take_within (suc n) [] within = absurd (omega (arith, within))
-length-take_within (suc n) (x ∷ xs) within = ap suc (length-take_within n xs (omega (arith, within)))
 
 -- no members, no list
 empty_of : {X : Type 0} (xs : List X) → ((x : X) → ¬ Contains xs x) → xs ≡ []

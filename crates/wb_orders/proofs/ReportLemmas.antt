@@ -1,24 +1,13 @@
 -- A report of a text's answer is one with the extensions in every other order.
-use Rattle.std.proofs.Common.{◌≡◌, ◌∙◌, ◌∷◌, [], ℕ, List, Option, Some, None, All, length, map, ap, sym, refl, subst, inl, inr}
+use Rattle.std.proofs.Common.{◌≡◌, ℕ, List, Some, length, refl, subst, inl, inr}
 use Rattle.std.proofs.lemmas.Bool.{cases_lt}
-use Rattle.std.proofs.lemmas.List.Elements.{All-head, All-tail}
-use Rattle.wb_base.specs.Grammar.{GrammarView}
-use Rattle.wb_determinism.specs.Lexicons.{lexicon_of}
 use Rattle.wb_grammars.specs.Trees.{Forest, nothing, leaf, node}
-use Rattle.wb_beside.specs.Kept.{AreCertifiedBoth}
-use Rattle.wb_composition.specs.Joined.{Extended}
-use Rattle.wb_composition.specs.Written.{written_in, written_with}
-use Rattle.wb_composition.proofs.WrittenApart.{all_certified}
 use Rattle.wb_languages.specs.Languages.{LanguageView}
 use Rattle.wb_languages.specs.Shown.{Shows, values_of}
-use Rattle.wb_lemmas.proofs.Elements.{all_at, all_from_places}
 use Rattle.wb_operations.specs.Operations.{OperationSignature}
 use Rattle.wb_renamed_languages.specs.Answers.{renamed_forest, renamed_kind}
 use Rattle.wb_renamed_languages.specs.Laws.{HasSameAnswers}
 use Rattle.wb_reordered_unions.specs.Orders.{IsReordering}
-use Rattle.wb_reordered_unions.specs.Unions.{names_to}
-use Rattle.wb_reordered_unions.proofs.LanguageLemmas.{same_language, same_union_answers}
-use Rattle.wb_reordered_unions.proofs.NumberLemmas.{reordering_map}
 use Rattle.wb_resolved.specs.declared.resolved.ResolvedParts.{ResolvedParts}
 use Rattle.wb_terms.specs.Printed.{printed_tree}
 use Rattle.wb_trees.specs.declared.answer.TextAnswer.{TextAnswer}
@@ -34,7 +23,6 @@ use Rattle.wb_values.specs.Tree.{Tree, empty, more, tree}
 use Rattle.wb_values.specs.Tree as values
 use Rattle.wb_world.specs.Shelf.{Files}
 use Rattle.wb_orders.specs.Laws.{HaveOneOrder, IsAnswerStatus}
-use Rattle.wb_orders.proofs.LanguageLemmas.{in_other_order, is_in_other_order}
 use Rattle.wb_orders.proofs.SeveralLemmas.{RefusesNone, several_there}
 use Rattle.wb_inputs.specs.Checks.{Check, Report}
 use Rattle.wb_inputs.specs.Texts.{IsText, IsTooLongText}
@@ -42,9 +30,7 @@ use Rattle.wb_inputs.specs.declared.status.Status.{Status}
 use Rattle.wb_inputs.specs.declared.status.Status.TheVariants.{TextTooLong}
 use Rattle.wb_program.specs.ComposeReport.{UnitedReport}
 use Rattle.wb_program.specs.TreeReport.{ShownText}
-
-abbrev resolved_in : List Extended → List ResolvedParts
-resolved_in xs = map (λ (e : Extended). e.resolved) xs
+use Rattle.wb_orders.proofs.UnionLemmas.{is_language_there, language_there, names, same_texts, union_there}
 
 -- a tree in other numbers is a value too
 value_there : (r : Renaming) (root : Forest) (value : Tree) → Shows value root → (other : Tree) × Shows other (renamed_forest r root)
@@ -83,74 +69,23 @@ module _ (r : Renaming) (l m : LanguageView) (same : HasSameAnswers r l m) (name
 
 module _ (host : ResolvedParts) (operations : List OperationSignature) (extensions others : List ResolvedParts) (to from : ℕ → ℕ)
     (re : IsReordering to from extensions others) where
-  module _ (u : Union host operations extensions) where
-    abbrev Both : Extended → Type 0
-    Both e = AreCertifiedBoth host e.resolved u.grammar e.grammar operations
-
-    abbrev grammar_or : Option GrammarView → GrammarView
-    grammar_or None = u.grammar
-    grammar_or (Some g) = g
-
-    -- an extension with its grammar
-    abbrev with_grammar : ResolvedParts → Extended
-    with_grammar r = record { resolved = r; grammar = grammar_or r.grammar }
-
-    own_is : (xs : List Extended) → All Both xs → xs ≡ map with_grammar (resolved_in xs)
-    own_is [] all = refl
-    own_is (x ∷ xs) all =
-        let grammar : x.grammar ≡ grammar_or x.resolved.grammar = sym (ap grammar_or (All-head Both x xs all).start) in
-        let rest : xs ≡ map with_grammar (resolved_in xs) = own_is xs (All-tail Both x xs all) in
-        λ z. record { resolved = x.resolved; grammar = grammar z } ∷ rest z
-
-    resolved_back : (rs : List ResolvedParts) → resolved_in (map with_grammar rs) ≡ rs
-    resolved_back [] = refl
-    resolved_back (r ∷ rs) = ap (λ z. r ∷ z) (resolved_back rs)
-
-    extended_re : IsReordering to from u.extended (map with_grammar others)
-    extended_re = subst (λ z. IsReordering to from z (map with_grammar others))
-        (sym (own_is u.extended u.certified.each ∙ ap (map with_grammar) u.extensions_are)) (reordering_map with_grammar re)
-
-    -- the union in the other order
-    abbrev union_there : Union host operations others
-    union_there = record {
-      grammar = u.grammar;
-      extended = map with_grammar others;
-      extensions_are = resolved_back others;
-      certified = record {
-        host_resolved = u.certified.host_resolved;
-        host_start = u.certified.host_start;
-        host_certified = u.certified.host_certified;
-        each = all_from_places Both (map with_grammar others)
-            (λ k e at. all_at Both u.extended (from k) e u.certified.each (extended_re.back k e at));
-      };
-    }
-
-    written_re : IsReordering to from (written_in u.extended) (written_in (map with_grammar others))
-    written_re = reordering_map (λ (e : Extended). written_with e.resolved e.grammar) extended_re
-
-    -- and a text's answer in it
-    answer_there : (l : LanguageView) → IsLanguageOf host operations extensions u l → (text : List ℕ) (x : TextAnswer)
-        → IsAnswerIn (terminals_of host extensions) (signatures_of host extensions) l text x
-        → (y : TextAnswer) × IsUnitedTextAnswer host operations others text y
-    answer_there l is text x answers =
-        let pieces = (all_certified host u.grammar operations u.extended u.certified).are_pieces in
-        let old = written_in u.extended in
-        let new = written_in (map with_grammar others) in
-        let own = lexicon_of host u.grammar in
-        let m : LanguageView = in_other_order u.grammar host.extensible own old new to from pieces written_re l is.of_union in
-        let m_is = is_in_other_order u.grammar host.extensible own old new to from pieces written_re l is.of_union in
-        let same = same_union_answers u.grammar host.extensible own old new to from pieces written_re l m is.of_union m_is in
-        let ok = (same_language u.grammar host.extensible own old new to from pieces written_re l m is.of_union m_is).0 is.language in
-        let (y, y_is) = answer_here (names_to u.grammar host.extensible old new to) l m same (terminals_of host extensions)
-        (terminals_of host others) (signatures_of host extensions) (signatures_of host others) text x answers in (
-          y,
-          record {
-            whole = union_there;
-            language = m;
-            is_language = record { of_union = m_is; language = ok };
-            is = y_is;
-          },
-        )
+  -- a text's answer in the other order
+  answer_there : (u : Union host operations extensions) (l : LanguageView) → IsLanguageOf host operations extensions u l → (text : List ℕ)
+      (x : TextAnswer) → IsAnswerIn (terminals_of host extensions) (signatures_of host extensions) l text x
+      → (y : TextAnswer) × IsUnitedTextAnswer host operations others text y
+  answer_there u l is text x answers =
+      let (y, y_is) = answer_here (names host operations extensions others to from re u) l
+      (language_there host operations extensions others to from re u l is)
+      (same_texts host operations extensions others to from re u l is) (terminals_of host extensions) (terminals_of host others)
+      (signatures_of host extensions) (signatures_of host others) text x answers in (
+        y,
+        record {
+          whole = union_there host operations extensions others to from re u;
+          language = language_there host operations extensions others to from re u l is;
+          is_language = is_language_there host operations extensions others to from re u l is;
+          is = y_is;
+        },
+      )
 
   -- the report of a text in the other order
   pub united_there : (text : List ℕ) (status : Status) (bytes : List ℕ) → UnitedReport operations host extensions text status bytes

@@ -2,8 +2,8 @@
 use Rattle.std.proofs.Common.{◌≡◌, ◌<◌, ◌≤◌, ◌+◌, ◌-◌, ◌++◌, ◌∷◌, ◌∙◌, [], ℕ, List, Option, None, Some, drop, get_or, length}
 use Rattle.std.proofs.Common.{map, slice_get, slice_index_or, take, ap, refl, subst, sym, arith}
 use Rattle.std.specs.List.{AllZip}
-use Rattle.std.proofs.lemmas.List.{length-drop, length-take-le, map-append, take_all, take_more}
-use Rattle.std.proofs.lemmas.Option.{get_or_from_slice_get, slice_get_within, slice_get_read}
+use Rattle.std.proofs.lemmas.List.{append-nil, length-take-le, map-append}
+use Rattle.std.proofs.lemmas.Option.{slice_get_read}
 use Rattle.wb_beside.specs.Kept.{ExtensionView}
 use Rattle.wb_lemmas.proofs.Parts.{append_assoc}
 use Rattle.wb_lemmas.proofs.Places.{at_take, at_within}
@@ -12,14 +12,10 @@ use Rattle.wb_reordered_unions.specs.Names.{all_of}
 use Rattle.wb_resolved.specs.declared.resolved.ResolvedParts.{ResolvedParts}
 use Rattle.wb_resolved.specs.declared.terminal.Terminal.{Terminal}
 use Rattle.wb_shown.specs.Names.{terminals_in}
-use Rattle.wb_united.proofs.ProductionLemmas.{drop_at}
 use Rattle.wb_united_texts.specs.Unions.{all_resolved}
 use Rattle.wb_united_texts.specs.Expressions.{AreUnitedExpressions, IsExpressionOf, Row, added_rows, rows_of}
 use Rattle.wb_united_texts.specs.Inner.Added.{AreAdded}
-
-append_none : {X : Type 0} (xs : List X) → xs ++ [] ≡ xs
-append_none [] = refl
-append_none (x ∷ xs) = ap (λ z. x ∷ z) (append_none xs)
+use Rattle.wb_united_texts.proofs.TableLemmas.{all_next, part_all, part_next, take_next}
 
 -- a pair of related elements more
 zip_push : {A B : Type 0} (R : A → B → Type 0) (xs : List A) (ys : List B) (x : A) (y : B) → AllZip R xs ys → R x y →
@@ -31,7 +27,7 @@ zip_push R (a ∷ xs) (b ∷ ys) x y all more = (all.0, zip_push R xs ys x y all
 
 -- no row, one more, and more after others
 none_added : (old : List Tree) → AreAdded [] old old
-none_added old before zip = subst (λ z. AllZip IsExpressionOf z old) (sym (append_none before)) zip
+none_added old before zip = subst (λ z. AllZip IsExpressionOf z old) (sym (append-nil before)) zip
 
 pub added_next : (rows longer : List Row) (row : Row) (old now new : List Tree) (made : Tree) → longer ≡ rows ++ row ∷ [] →
     AreAdded rows old now → IsExpressionOf row made → new ≡ now ++ made ∷ [] → AreAdded longer old new
@@ -44,30 +40,6 @@ added_next rows longer row old now new made more was is pushed before zip =
 pub added_both : (a b : List Row) (old mid new : List Tree) → AreAdded a old mid → AreAdded b mid new → AreAdded (a ++ b) old new
 added_both a b old mid new first second before zip =
     subst (λ z. AllZip IsExpressionOf z new) (append_assoc before a b) (second (before ++ a) (first before zip))
-
--- one element more
-take_next : {X : Type 0} (xs : List X) (i : ℕ) (x : X) → slice_get xs i ≡ Some x → take (i + 1) xs ≡ take i xs ++ x ∷ []
-take_next xs i x at =
-    take_more xs i x (slice_get_within xs i x at) ∙ ap (λ z. take i xs ++ z ∷ []) (get_or_from_slice_get xs i x x at)
-
--- a list from a number on, as far as it was read
-part_next : {X : Type 0} (xs : List X) (from k : ℕ) (x : X) → from ≤ k → slice_get xs k ≡ Some x →
-    take (k + 1 - from) (drop from xs) ≡ take (k - from) (drop from xs) ++ x ∷ []
-part_next xs from k x above at =
-    let next : k + 1 - from ≡ (k - from) + 1 = omega (arith, above) in
-    let place : from + (k - from) ≡ k = omega (arith, above) in
-    ap (λ n. take n (drop from xs)) next ∙
-    take_next (drop from xs) (k - from) x (drop_at from (k - from) xs ∙ (ap (slice_get xs) place ∙ at))
-
-part_all : {X : Type 0} (xs : List X) (from k n : ℕ) → length xs ≡ n → n ≤ k → take (k - from) (drop from xs) ≡ drop from xs
-part_all xs from k n len past =
-    let count = length-drop from xs in take_all (k - from) (drop from xs) (omega (arith, count, len, past))
-
--- lists one after another, with one more
-all_next : {X : Type 0} (blocks : List (List X)) (block : List X) → all_of (blocks ++ block ∷ []) ≡ all_of blocks ++ block
-all_next [] block = append_none block
-all_next (first ∷ blocks) block =
-    ap (λ z. first ++ z) (all_next blocks block) ∙ sym (append_assoc first (all_of blocks) block)
 
 module _ (name : Option (List ℕ)) (from to : ℕ) (rows : List Terminal) where
   -- the rows as far as they were read

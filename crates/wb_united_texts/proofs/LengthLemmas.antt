@@ -9,7 +9,7 @@ use Rattle.std.proofs.lemmas.Option.{slice_get_within}
 use Rattle.wb_base.specs.Grammar.{GrammarView}
 use Rattle.wb_beside.specs.Kept.{AreCertifiedBoth, ExtensionView}
 use Rattle.wb_certify.specs.Hosts.{CertifiedView}
-use Rattle.wb_composition.specs.Composed.{IsComposed, IsExtended}
+use Rattle.wb_composition.specs.Composed.{IsComposed}
 use Rattle.wb_composition.specs.Joined.{AreCertifiedApart, Extended}
 use Rattle.wb_composition.specs.Written.{written_in}
 use Rattle.wb_languages.specs.Languages.{LanguageView}
@@ -26,6 +26,8 @@ use Rattle.wb_united_texts.specs.Expressions.{AreUnitedExpressions, IsExpression
 use Rattle.wb_united_forms.specs.Written.{pieces_of}
 use Rattle.wb_united_texts.specs.Unions.{Union, all_resolved, united_of}
 use Rattle.wb_united_texts.specs.Generated.{first_layout, place_behind}
+use Rattle.wb_united_texts.proofs.ComposedLemmas.{union_is}
+use Rattle.wb_united_texts.proofs.NameLemmas.{resolved_in}
 
 length_append : {X : Type 0} (xs ys : List X) → length (xs ++ ys) ≡ length xs + length ys
 length_append [] ys = omega arith
@@ -38,9 +40,6 @@ rows_len name from to rows within =
     let f = length-drop from (take to rows) in
     let h = length-take-le to rows within in
     omega (arith, e, f, h)
-
-abbrev pub resolved_in : List Extended → List ResolvedParts
-resolved_in xs = map (λ (e : Extended). e.resolved) xs
 
 module _ (host : ResolvedParts) (h : GrammarView) (operations : List OperationSignature) where
   abbrev Both : Extended → Type 0
@@ -109,23 +108,9 @@ module _ (host : ResolvedParts) (operations : List OperationSignature) (extensio
           let e = expressions_len in
           omega (arith, within, size, e)
 
-pub resolved_are : (es : List ExtensionView) (xs : List Extended) → AllZip IsExtended es xs → resolved_in xs ≡ all_resolved es
-resolved_are [] [] all = refl
-resolved_are [] (x ∷ xs) all = absurd all
-resolved_are (e ∷ es) [] all = absurd all
-resolved_are (e ∷ es) (x ∷ xs) all = λ j. all.0.resolved_is j ∷ resolved_are es xs all.1 j
-
 -- the union of what was composed
 module _ (host : CertifiedView) (es : List ExtensionView) (l : LanguageView) (withdrawn : List ℕ)
     (composed : IsComposed host es l withdrawn) where
-  abbrev pub union_is : Union host.resolved host.operations (all_resolved es)
-  union_is = record {
-    grammar = composed.grammar;
-    extended = composed.extended;
-    extensions_are = resolved_are es composed.extended composed.each;
-    certified = composed.certified;
-  }
-
   -- its grammar is that of the language
-  pub union_grammar : l.grammar ≡ united_of host.resolved host.operations (all_resolved es) union_is
+  pub union_grammar : l.grammar ≡ united_of host.resolved host.operations (all_resolved es) (union_is host es l withdrawn composed)
   union_grammar = composed.language.grammar

@@ -1,11 +1,10 @@
 -- A number makes one text of a host with extensions, whichever expressions its markers are written by.
-use Rattle.std.proofs.Common.{◌≡◌, ◌↔◌, ◌∷◌, ◌∙◌, [], ℕ, List, Option, Some, None, All, map, refl, sym, subst}
+use Rattle.std.proofs.Common.{◌≡◌, ◌↔◌, ◌∷◌, ◌∙◌, [], ℕ, List, Option, Some, None, sym, subst}
 use Rattle.std.specs.List.{AllZip}
-use Rattle.std.proofs.lemmas.List.Elements.{All-head, All-tail}
 use Rattle.std.proofs.lemmas.Option.{same_Some}
 use Rattle.wb_automata.specs.Overlaps.{IsLeastMatch}
 use Rattle.wb_base.specs.Grammar.{GrammarView}
-use Rattle.wb_composition.specs.Joined.{AreCertifiedApart, Extended}
+use Rattle.wb_composition.specs.Joined.{AreCertifiedApart}
 use Rattle.wb_composition.specs.Written.{written_in}
 use Rattle.wb_operations.specs.Operations.{OperationSignature}
 use Rattle.wb_regex.specs.Matches.{Matches}
@@ -17,13 +16,12 @@ use Rattle.wb_united.specs.UnitedWorlds.{united}
 use Rattle.wb_united_texts.specs.Expressions.{IsExpressionOf, IsWrittenAs, Row, united_rows}
 use Rattle.wb_united_forms.specs.Written.{pieces_of}
 use Rattle.wb_united_texts.specs.Unions.{Union, united_of}
-use Rattle.wb_united_texts.proofs.AnswerLemmas.{extended_is}
-use Rattle.wb_united_texts.proofs.AnswerLemmas as answer
 use Rattle.wb_generate.specs.Outcomes.{IsOutcome}
 use Rattle.wb_generate.specs.declared.generated.Generated.{Generated}
 use Rattle.wb_generate.specs.declared.generated.Generated.TheVariants.{Text, NoSentence}
 use Rattle.wb_generate.proofs.OneLemmas.{one_outcome}
 use Rattle.wb_united_texts.specs.Generated.{HasOneText, first_layout, place_behind}
+use Rattle.wb_united_texts.proofs.WithdrawnLemmas.{same_extended}
 
 -- the two match the same texts
 abbrev SameMatches : Tree → Tree → Type 0
@@ -79,25 +77,6 @@ outcome_there rows xs ys first second g layout number size (Text text many) is =
   few = is.few;
 }
 outcome_there rows xs ys first second g layout number size (NoSentence n) is = is
-
-abbrev resolved_in : List Extended → List ResolvedParts
-resolved_in xs = map (λ (e : Extended). e.resolved) xs
-
--- what is resolved has one list of grammars
-module _ (host : ResolvedParts) (h : GrammarView) (operations : List OperationSignature) where
-  same_extended : (xs ys : List Extended) → All (answer.Both host h operations) xs → All (answer.Both host h operations) ys →
-      resolved_in xs ≡ resolved_in ys → xs ≡ ys
-  same_extended [] [] one two same = refl
-  same_extended [] (y ∷ ys) one two same = absurd (cc same)
-  same_extended (x ∷ xs) [] one two same = absurd (cc same)
-  same_extended (x ∷ xs) (y ∷ ys) one two same =
-      let first : x.resolved ≡ y.resolved = cc in
-      let rest : resolved_in xs ≡ resolved_in ys = cc in
-      let head = extended_is host h operations x y (All-head (answer.Both host h operations) x xs one)
-      (All-head (answer.Both host h operations) y ys two) first in
-      let tail = same_extended xs ys (All-tail (answer.Both host h operations) x xs one)
-      (All-tail (answer.Both host h operations) y ys two) rest in
-      λ z. head z ∷ tail z
 
 -- a union has one grammar
 one_grammar : (host : ResolvedParts) (operations : List OperationSignature) (extensions : List ResolvedParts)

@@ -66,11 +66,7 @@ mapped_next f xs i d y now new less was is pushed =
 
 -- lists one after another, with one more
 pub all_next : {X : Type 0} (blocks : List (List X)) (block : List X) → all_of (blocks ++ block ∷ []) ≡ all_of blocks ++ block
-all_next [] block = append_none block
-  where
-    append_none : {X : Type 0} (xs : List X) → xs ++ [] ≡ xs
-    append_none [] = refl
-    append_none (x ∷ xs) = ap (λ z. x ∷ z) (append_none xs)
+all_next [] block = append-nil block
 all_next (first ∷ blocks) block =
     ap (λ z. first ++ z) (all_next blocks block) ∙ sym (append_assoc first (all_of blocks) block)
 

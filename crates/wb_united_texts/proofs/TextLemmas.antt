@@ -14,7 +14,8 @@ use Rattle.wb_regex.specs.Tree.{Tree}
 use Rattle.wb_united_texts.specs.Expressions.{AreUnitedExpressions}
 use Rattle.wb_united_texts.specs.Unions.{all_resolved, united_of}
 use Rattle.wb_united_texts.specs.Generated.{IsGeneratedText, first_layout, place_behind}
-use Rattle.wb_united_texts.proofs.LengthLemmas.{enough_expressions, layout_there, union_grammar, union_is}
+use Rattle.wb_united_texts.proofs.ComposedLemmas.{union_is}
+use Rattle.wb_united_texts.proofs.LengthLemmas.{enough_expressions, layout_there, union_grammar}
 
 -- a language's grammar has neither cycle
 pub no_cycle : (l : LanguageView) → IsLanguage l → HasNoCycle l.grammar

@@ -62,7 +62,7 @@ one_rising (x ∷ xs) (y ∷ ys) first second there back =
 
 module _ (host : ResolvedParts) (h : GrammarView) (operations : List OperationSignature) where
   -- what is resolved has one list of grammars
-  same_extended : (xs ys : List Extended) → All (answer.Both host h operations) xs → All (answer.Both host h operations) ys →
+  pub same_extended : (xs ys : List Extended) → All (answer.Both host h operations) xs → All (answer.Both host h operations) ys →
       resolved_in xs ≡ resolved_in ys → xs ≡ ys
   same_extended [] [] one two same = refl
   same_extended [] (y ∷ ys) one two same = absurd (cc same)
