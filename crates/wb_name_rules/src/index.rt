@@ -57,6 +57,11 @@ impl NameIndex {
         })
     }
 
+    /// Lets go of the index. A crate that calls this proves no drop of what it holds.
+    pub fn release(self) {
+        drop(self)
+    }
+
     /// The declarations: those of the base, then those of the items in the order of the text. Takes no memory.
     pub fn declarations(&self) -> &[Declaration]
         ensures all { result.now ≡ self.now }

@@ -10,6 +10,8 @@ pub mod Nodes
 pub mod Moves
 -- the equations of items that write on a production
 pub mod Blocks
+-- the row of a production, by its parts
+pub mod Row
 -- items of names alone, and the rows that are found
 pub mod Plains
 -- rows of terminals: those of the grammar, and layout

@@ -61,6 +61,11 @@ impl Index {
             None => None,
         }
     }
+
+    /// Lets go of the texts. A crate that calls this proves no drop of what they hold.
+    pub fn release(self) {
+        drop(self)
+    }
 }
 
 // Keeps the place of a text, where the text is new.

@@ -17,6 +17,7 @@ mod local;
 pub mod moves;
 mod node;
 pub mod plains;
+pub mod row;
 pub mod scope;
 pub mod signatures;
 pub mod terminals;

@@ -28,7 +28,7 @@ pub(crate) fn forwarders_of(alloc: Global, items: &[Item<Pattern>]) -> Result<In
     match add_forwarders(items, &mut names) {
         Ok(()) => Ok(names),
         Err(error) => {
-            drop(names);
+            names.release();
             Err(error)
         }
     }

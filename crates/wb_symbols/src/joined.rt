@@ -7,7 +7,7 @@ ghost use Rattle.std.specs.Prelude.{◌≡◌, ◌++◌, IfOk, OnOk, length};
 use std::alloc::AllocError;
 
 /// Puts what follows after what leads, and answers how many lead. The only error is want of memory.
-pub fn join<T: Drop>(leading: &mut Vec<T>, following: &mut Vec<T>) -> Result<usize, AllocError>
+pub fn join<T>(leading: &mut Vec<T>, following: &mut Vec<T>) -> Result<usize, AllocError>
     ensures count { IfOk result (λ count. count ≡ length leading.old.items) }
     ensures joined { OnOk result (leading.new.items ≡ leading.old.items ++ following.old.items) }
 {

@@ -53,7 +53,7 @@ pub(crate) fn add_nonterminals(
 {
     let grammar = grammar_names_of(alloc, file.items)?;
     let added = add_both(alloc, file, scope, &grammar, made);
-    drop(grammar);
+    grammar.release();
     added
 }
 
@@ -192,7 +192,7 @@ fn add_own(
         forwarders: &forwarders,
     };
     let added = add_declared(alloc, &known, made);
-    drop(forwarders);
+    forwarders.release();
     added
 }
 

@@ -36,7 +36,12 @@ pub struct Symbols {
 impl Symbols {
     /// Lets go of the symbols. A crate that calls this proves no drop of what they hold.
     pub fn release(self) {
-        drop(self)
+        self.scope.terminals.release();
+        self.scope.nonterminals.release();
+        self.scope.attributes.release();
+        self.scope.productions.release();
+        drop(self.terminals);
+        drop(self.nonterminals)
     }
 }
 
