@@ -17,7 +17,8 @@ use std::alloc::{AllocError, Global};
 use std::mem::replace;
 use wb_base::{Bytes, Grammar, Sequence};
 use wb_resolved::{Attribution, AttributionParts, Resolved, ResolvedParts};
-use wb_rows::grammar::grammar_of;
+use wb_rows::grammar::{grammar_of, release_grammar};
+use wb_rows::row::release_rows;
 use wb_rows::signatures::signatures_of;
 use wb_symbols::lent::Lent;
 use wb_symbols::symbols::{Counts, Symbols, fill, no_symbols};
@@ -32,7 +33,20 @@ pub(crate) fn numbered(alloc: Global, file: &Lent) -> Result<Resolved, AllocErro
     let mut written = nothing_written(alloc);
     let made = numbered_in(alloc, file, &mut symbols, &mut written);
     symbols.release();
-    drop(written);
+    let Written {
+        writers,
+        productions,
+        rest,
+        ..
+    } = written;
+    drop(writers.places);
+    drop(rest.extensible);
+    release_rows(
+        writers.names,
+        productions.concrete,
+        productions.others,
+        rest.plains,
+    );
     made
 }
 
@@ -99,7 +113,7 @@ fn copies_of(
         Err(error) => {
             drop(host);
             drop(extensions);
-            drop(grammar);
+            release_grammar(grammar);
             Err(error)
         }
     }
@@ -161,7 +175,7 @@ fn value(
         ),
         Err(error) => {
             drop(copies.host);
-            drop(copies.grammar);
+            release_grammar(copies.grammar);
             Err(error)
         }
     }

@@ -8,18 +8,18 @@ ghost use Rattle.std.specs.List.{AllZip};
 ghost use Rattle.wb_naming.specs.Declarations.{productions};
 ghost use Rattle.wb_numbering.specs.Files.{equations_on};
 ghost use Rattle.wb_rows.specs.Moves.{IsChildNow, IsForwardNow, NodeIsWithin};
-ghost use Rattle.wb_names.specs.Inner.Bodies.{IsContext, IsDeclaredBody, IsExtendedBody, IsMovedHead, IsOwn, IsWritten, KnowsLabels, file_of, labels_with};
+ghost use Rattle.wb_names.specs.Inner.Bodies.{IsContext, IsExtendedBody, IsMovedHead, IsWritten, KnowsLabels, file_of, labels_with};
 ghost use Rattle.wb_names.specs.Inner.Now.{IsDeclaredNow, IsExtendedNow};
 ghost use Rattle.wb_names.specs.Inner.Rows.{AddsProductions, declares_concrete, has_concrete};
 
 use crate::productions::{Productions, add};
 use crate::writers::Writers;
 use std::alloc::{AllocError, Global};
-use wb_base::{Bytes, Sequence};
 use wb_resolved::{Child, Forward, Production};
 use wb_rows::body::{Body, add_all, labels_of};
 use wb_rows::child::written_children;
 use wb_rows::moves::{Moves, moved_children, moved_equations, moved_forward, moved_locals};
+use wb_rows::row::Head;
 use wb_rows::scope::{Scope, number_of};
 use wb_symbols::lent::Lent;
 use wb_symbols::names::numbered_role;
@@ -46,67 +46,52 @@ pub(crate) fn add_extended(
 {
     let head = moved_head(alloc, context, production)?;
     match extended_body(alloc, context, production, head.children.as_slice()) {
-        Ok(body) => add(extended_row(context, production, head, body), made),
+        Ok(body) => add(head, body, made),
         Err(error) => {
-            drop(head);
+            head.release();
             Err(error)
         }
     }
 }
 
-// The parts of a row on which items write nothing.
-#[derive(Drop)]
-struct Head {
-    name: Bytes,
-    children: Sequence<Child>,
-    forward: Option<Forward>,
-}
-
-// Those of a base's production.
+// The head of the row of a base's production.
 fn moved_head(alloc: Global, context: &Context, production: &Production) -> Result<Head, AllocError>
     requires context { IsContext context.now }
     requires there { Contains context.now.file.base.now.attributes.productions production.now }
     ensures { IfOk result (IsMovedHead context.now.moves.now production.now) }
 {
     let name = production.name.copy()?;
-    let forward = match moved_forwards(alloc, context.moves, &production.forward) {
-        Ok(forward) => forward,
+    let children = match moved_children(alloc, context.moves, production.children.as_slice()) {
+        Ok(children) => children,
         Err(error) => {
             drop(name);
             return Err(error);
         }
     };
-    match moved_children(alloc, context.moves, production.children.as_slice()) {
-        Ok(children) => Ok(Head {
+    let owner = production.owner;
+    let role = production.role;
+    let left = context.moves.nonterminals[production.left];
+    match moved_forwards(alloc, context.moves, &production.forward) {
+        Ok(forward) => Ok(Head {
             name,
+            owner,
+            role,
+            left,
             children,
             forward,
         }),
         Err(error) => {
-            drop(name);
-            drop(forward);
+            Head {
+                name,
+                owner,
+                role,
+                left,
+                children,
+                forward: None,
+            }
+            .release();
             Err(error)
         }
-    }
-}
-
-// The row of these parts.
-fn extended_row(context: &Context, production: &Production, head: Head, body: Body) -> Production
-    requires context { IsContext context.now }
-    requires there { Contains context.now.file.base.now.attributes.productions production.now }
-    requires head { IsMovedHead context.now.moves.now production.now head }
-    requires body { IsExtendedBody (file_of context.now) context.now.scope.now context.now.moves.now production.now head.children body }
-    ensures { IsExtendedNow (file_of context.now) context.now.scope.now context.now.moves.now production.now result }
-{
-    Production {
-        name: head.name,
-        owner: production.owner,
-        role: production.role,
-        left: context.moves.nonterminals[production.left],
-        children: head.children,
-        locals: Sequence::from_vec(body.locals),
-        forward: head.forward,
-        equations: Sequence::from_vec(body.equations),
     }
 }
 
@@ -141,7 +126,12 @@ fn extended_body(
     let equations = match moved_equations(alloc, context.moves, production.equations.as_slice()) {
         Ok(equations) => equations,
         Err(error) => {
-            drop(locals);
+            Body {
+                locals,
+                forwards: Vec::new(alloc),
+                equations: Vec::new(alloc),
+            }
+            .release();
             return Err(error);
         }
     };
@@ -159,7 +149,7 @@ fn extended_body(
     ) {
         Ok(()) => Ok(body),
         Err(error) => {
-            drop(body);
+            body.release();
             Err(error)
         }
     }
@@ -181,7 +171,7 @@ fn add_written(
     let places = context.writers.places_of(name);
     let labels = labels_of(alloc, children, &body.locals, items, places)?;
     let added = add_all(alloc, context.scope, &labels, items, places, body);
-    drop(labels);
+    labels.names.release();
     added
 }
 
@@ -211,51 +201,21 @@ pub(crate) fn add_own(
         equations: Vec::new(alloc),
     };
     let own = production.name.as_slice();
-    match add_written(alloc, context, own, children.as_slice(), &mut body) {
-        Ok(()) => {
-            let own = Own { name, children };
-            add(declared_row(context, role, production, own, body), made)
-        }
-        Err(error) => {
-            drop(name);
-            drop(children);
-            drop(body);
-            Err(error)
-        }
-    }
-}
-
-// The name and the children of a row.
-#[derive(Drop)]
-struct Own {
-    name: Bytes,
-    children: Sequence<Child>,
-}
-
-// The row of these parts.
-fn declared_row(
-    context: &Context,
-    role: wb_syntax::ProductionRole,
-    production: &wb_syntax::Production,
-    own: Own,
-    body: Body,
-) -> Production
-    requires context { IsContext context.now }
-    requires there { Contains (productions context.now.file.items.now) (record { role = role; production = production.now }) }
-    requires own { IsOwn context.now.scope.now production.now own }
-    requires body { IsDeclaredBody (file_of context.now) context.now.scope.now production.now.name own.children body }
-    ensures { IsDeclaredNow (file_of context.now) context.now.scope.now context.now.moves.now (record { role = role; production = production.now }) result }
-{
-    let mut forwards = body.forwards;
-    let forward = forwards.pop();
-    Production {
-        name: own.name,
+    let added = add_written(alloc, context, own, children.as_slice(), &mut body);
+    let head = Head {
+        name,
         owner: context.file.owner,
         role: numbered_role(role),
         left: number_of(&context.scope.nonterminals, production.left.as_slice()),
-        children: own.children,
-        locals: Sequence::from_vec(body.locals),
-        forward,
-        equations: Sequence::from_vec(body.equations),
+        children,
+        forward: body.forwards.pop(),
+    };
+    match added {
+        Ok(()) => add(head, body, made),
+        Err(error) => {
+            head.release();
+            body.release();
+            Err(error)
+        }
     }
 }

@@ -4,6 +4,7 @@
 
 ghost use Rattle.std.specs.Prelude.{◌≡◌, [], IfOk, OnOk};
 ghost use Rattle.wb_naming.specs.Declarations.{productions};
+ghost use Rattle.wb_rows.specs.Row.{row_of};
 ghost use Rattle.wb_names.specs.Inner.Bodies.{IsContext, file_of};
 ghost use Rattle.wb_names.specs.Inner.Now.{IsDeclaredNow, IsExtendedNow};
 ghost use Rattle.wb_names.specs.Inner.Productions.{AreProductions};
@@ -11,8 +12,9 @@ ghost use Rattle.wb_names.specs.Inner.Rows.{AddsProductions, AddsRow, declares_c
 
 use crate::production::{Context, add_extended, add_own};
 use std::alloc::{AllocError, Global};
-use wb_base::push;
 use wb_resolved::{Production, ProductionRole};
+use wb_rows::body::Body;
+use wb_rows::row::{Head, add_row};
 use wb_symbols::joined::join;
 use wb_syntax::ItemForm;
 
@@ -66,12 +68,12 @@ fn add_declared(alloc: Global, context: &Context, made: &mut Productions) -> Res
     Ok(())
 }
 
-// Adds one.
-pub(crate) fn add(row: Production, made: &mut Productions) -> Result<(), AllocError>
-    ensures { OnOk result (AddsRow row made.old made.new) }
+// Adds one, by its parts.
+pub(crate) fn add(head: Head, body: Body, made: &mut Productions) -> Result<(), AllocError>
+    ensures { OnOk result (AddsRow (row_of head body) made.old made.new) }
 {
-    match row.role {
-        ProductionRole::Concrete => push(&mut made.concrete, row),
-        ProductionRole::Abstract => push(&mut made.others, row),
+    match head.role {
+        ProductionRole::Concrete => add_row(head, body, &mut made.concrete),
+        ProductionRole::Abstract => add_row(head, body, &mut made.others),
     }
 }

@@ -109,7 +109,7 @@ fn resolve_in(alloc: Global, file: &Lent) -> Result<Resolved, NameRefusal>
     ensures ok { IfOk result (IsValueOf (lent_file file.now)) }
     ensures refused { IfErr result (IsTrueRefusal (file_scope (lent_file file.now))) }
 {
-    drop(check_names(alloc, file.base, file.owner, file.items)?);
+    check_names(alloc, file.base, file.owner, file.items)?.release();
     Ok(numbered(alloc, file)?)
 }
 

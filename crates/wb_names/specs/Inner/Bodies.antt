@@ -5,27 +5,23 @@ use Rattle.wb_resolved.specs.declared.production.Child.{Child}
 use Rattle.wb_resolved.specs.declared.production.Local.{Local}
 use Rattle.wb_resolved.specs.declared.production.Production.{Production}
 use Rattle.wb_syntax.specs.declared.expression.Equation as written
-use Rattle.wb_syntax.specs.declared.production.Production as written_production
 use Rattle.wb_naming.specs.declared.declaration.Labelled.{Labelled}
 use Rattle.wb_naming.specs.Declares.{declarations}
 use Rattle.wb_naming.specs.Meaning.{HasLabel}
 use Rattle.wb_numbering.specs.Files.{File, equations_on}
-use Rattle.wb_numbering.specs.Numbering.{Numbering}
 use Rattle.wb_numbering.specs.Written.{local_equations}
 use Rattle.wb_numbering.proofs.OneProduction.{local_label}
 use Rattle.wb_rows.specs.declared.body.Body.{Body}
 use Rattle.wb_rows.specs.declared.moves.Moves.{Moves}
+use Rattle.wb_rows.specs.declared.row.Head.{Head}
 use Rattle.wb_rows.specs.declared.scope.Scope.{Scope}
 use Rattle.wb_rows.specs.declared.scope.ProductionLabels.{ProductionLabels}
 use Rattle.wb_rows.specs.Blocks.{AddsBody}
-use Rattle.wb_rows.specs.Moves.{IsChildNow, IsLocalNow, IsForwardNow, IsEquationNow}
-use Rattle.wb_rows.specs.Scope.{IsFoundChild}
+use Rattle.wb_rows.specs.Moves.{IsNow, IsChildNow, IsLocalNow, IsForwardNow, IsEquationNow}
 use Rattle.wb_symbols.specs.Symbols.{AreNumbers}
 use Rattle.wb_symbols.specs.Lent.{lent_file}
 use Rattle.wb_symbols.specs.Right.{IsRight}
 use Rattle.wb_names.specs.declared.production.Context.{Context}
-use Rattle.wb_names.specs.declared.production.Head.{Head}
-use Rattle.wb_names.specs.declared.production.Own.{Own}
 use Rattle.wb_names.specs.Inner.Writers.{AreWriters}
 
 -- the file of a context
@@ -59,6 +55,9 @@ pub record IsWritten (s : Scope) (children : List Child) (equations : List writt
 -- what a base's production has in new numbers, but for what is written on it
 pub record IsMovedHead (m : Moves) (p : Production) (head : Head) : Type 0 where
   pub name : head.name ≡ p.name
+  pub owner_is : head.owner ≡ p.owner
+  pub role : head.role ≡ p.role
+  pub left : IsNow m.nonterminals.items p.left head.left
   pub children : AllZip (IsChildNow m) p.children head.children
   pub forward : AllZip (IsForwardNow m) (option_to_list p.forward) (option_to_list head.forward)
 
@@ -76,8 +75,3 @@ pub record IsDeclaredBody (file : File) (s : Scope) (name : List ℕ) (children 
   pub no_forwards : empty.forwards.items ≡ []
   pub no_equations : empty.equations.items ≡ []
   pub written : IsWritten s children (equations_on name file.items) empty body
-
--- the name and the children of a production that a file declares
-pub record IsOwn (s : Scope) (p : written_production.Production) (own : Own) : Type 0 where
-  pub name : own.name ≡ p.name
-  pub children : (n : Numbering) → AllZip (IsFoundChild s n) p.children own.children

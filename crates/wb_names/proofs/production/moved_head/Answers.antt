@@ -1,17 +1,11 @@
-use Rattle.std.proofs.Common.{List, All, sym, subst}
+use Rattle.std.proofs.Common.{◌<◌, ◌∙◌, ℕ, List, All, Some, ap, refl, sym, subst}
 use Rattle.std.specs.List.{AllZip}
+use Rattle.std.proofs.lemmas.Option.{slice_get-get_or}
 use Rattle.wb_resolved.specs.declared.production.Child.{Child}
 use Rattle.wb_rows.specs.Moves.{ChildKindIsWithin, IsChildNow}
 use Rattle.wb_names.specs.Inner.Bodies.{file_of}
-use Rattle.wb_names.proofs.BaseParts.{children_within, forward_within}
+use Rattle.wb_names.proofs.BaseParts.{children_within, forward_within, left_within}
 use Rattle.wb_names.proofs.production.moved_head.Goals as goal
-
-pub moved_forwards-requires : goal.moved_forwards-requires
-moved_forwards-requires c =
-    let context = c.args.context.now in
-    forward_within (file_of context) context.scope.now context.moves.now c.requires.context.numbers.tables
-    c.requires.context.right.is_file.base
-    c.args.production.now c.requires.there
 
 pub moved_children-requires : goal.moved_children-requires
 moved_children-requires c =
@@ -21,12 +15,33 @@ moved_children-requires c =
     c.requires.context.right.is_file.base
     c.args.production.now c.requires.there)
 
-pub returns-in-Ok-moved_children : goal.returns-in-Ok-moved_children
-returns-in-Ok-moved_children c =
-    let m = c.args.context.now.moves.now in
+pub index-left-requires : goal.index-left-requires
+index-left-requires c =
+    let context = c.args.context.now in
+    let p = c.args.production.now in
+    subst (λ (z : ℕ). p.left < z) (sym context.moves.now.nonterminals.ok.0)
+    (left_within (file_of context) context.scope.now context.moves.now c.requires.context.numbers.tables
+    c.requires.context.right.is_file.base p c.requires.there)
+
+pub moved_forwards-requires : goal.moved_forwards-requires
+moved_forwards-requires c =
+    let context = c.args.context.now in
+    forward_within (file_of context) context.scope.now context.moves.now c.requires.context.numbers.tables
+    c.requires.context.right.is_file.base
+    c.args.production.now c.requires.there
+
+pub returns-in-Ok-moved_forwards : goal.returns-in-Ok-moved_forwards
+returns-in-Ok-moved_forwards c =
+    let context = c.args.context.now in
+    let m = context.moves.now in
+    let p = c.args.production.now in
+    let within = left_within (file_of context) context.scope.now m c.requires.context.numbers.tables
+    c.requires.context.right.is_file.base p c.requires.there in
     record {
       name = c.in_ok-name.ensures.ok;
-      children = subst (λ (z : List Child). AllZip (IsChildNow m) z c.in-Ok-moved_children.children) c.as_slice.ensures
-          c.in-Ok-moved_children.ensures;
-      forward = c.in-Ok.ensures;
+      owner_is = refl;
+      role = refl;
+      left = slice_get-get_or m.nonterminals.items p.left c.index-left.result.now within ∙ ap Some (sym c.index-left.ensures);
+      children = subst (λ (z : List Child). AllZip (IsChildNow m) z c.in-Ok.children) c.as_slice.ensures c.in-Ok.ensures;
+      forward = c.in-Ok-moved_forwards.ensures;
     }
