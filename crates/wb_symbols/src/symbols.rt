@@ -41,7 +41,8 @@ impl Symbols {
         self.scope.attributes.release();
         self.scope.productions.release();
         drop(self.terminals);
-        drop(self.nonterminals)
+        drop(self.nonterminals.of_grammar);
+        drop(self.nonterminals.others)
     }
 }
 
