@@ -4,7 +4,6 @@ use Rattle.wb_base.specs.Grammar.{GrammarView}
 use Rattle.wb_resolved.specs.declared.resolved.ResolvedParts.{ResolvedParts}
 use Rattle.wb_resolved.specs.Numbered.{signature_of}
 use Rattle.wb_values.specs.Signature.{Signature}
-use Rattle.wb_naming.specs.Declarations.{nonterminals, productions}
 use Rattle.wb_naming.specs.Hold.{NamesHold}
 use Rattle.wb_numbering.specs.Files.{File}
 use Rattle.wb_numbering.specs.Given.{IsFile}
@@ -42,7 +41,8 @@ module _ (file : File) (given : IsFile file) (hold : NamesHold (file_scope file)
     (same_signatures : signatures ≡ map (signature_of file.extensions) rows.productions) where
   -- the value of copies
   pub value_resolves : (host : List ℕ) → host ≡ file.base.host → (grammar : Option GrammarView)
-      → IsGrammarFor rows.scanned rows.of_grammar rows.concrete rows.productions rows.rest.start grammar → (r : ResolvedParts) → r ≡ made_value rows host extensions signatures grammar → Resolves file r
+      → IsGrammarFor rows.scanned rows.of_grammar rows.concrete rows.productions rows.rest.start grammar
+      → (r : ResolvedParts) → r ≡ made_value rows host extensions signatures grammar → Resolves file r
   value_resolves host same_host grammar is r made =
       let whole : made_value rows host extensions signatures grammar ≡ value_of file rows grammar =
       λ j. made_value rows (same_host j) (same_extensions j) (same_signatures j) grammar in

@@ -85,7 +85,8 @@ returns-in-Ok-added c =
       owner_is = refl;
       role = c.numbered_role.ensures;
       left = c.number_of.ensures ∙ ap Some c.as_slice-3.ensures;
-      children = λ n. subst (λ (z : List written.Child). AllZip (IsFoundChild s n) z c.in-Ok.children) c.as_slice.ensures (c.in-Ok.ensures n);
+      children = λ n. subst (λ (z : List written.Child). AllZip (IsFoundChild s n) z c.in-Ok.children) c.as_slice.ensures
+          (c.in-Ok.ensures n);
       left_over = rest.items;
       forward = c.pop.ensures.items;
       all_taken = λ e. sym rest.ok.0 ∙ none_left c.pop.result _ _ _ c.pop.ensures.cases e;
