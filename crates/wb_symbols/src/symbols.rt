@@ -94,13 +94,7 @@ pub fn fill(alloc: Global, file: &Lent, symbols: &mut Symbols) -> Result<Counts,
     requires nothing { IsEmpty file.now.owner symbols.old }
     ensures { IfOk result (λ counts. AreSymbols (lent_file file.now) counts symbols.new) }
 {
-    let counts = add_rows(
-        alloc,
-        file,
-        &mut symbols.terminals,
-        &mut symbols.nonterminals,
-        &mut symbols.scope,
-    )?;
+    let counts = add_rows(alloc, file, symbols)?;
     let terminals = symbols.terminals.scanned.as_slice();
     let nonterminals = symbols.nonterminals.of_grammar.as_slice();
     add_names(file, terminals, nonterminals, &mut symbols.scope)?;
@@ -109,24 +103,15 @@ pub fn fill(alloc: Global, file: &Lent, symbols: &mut Symbols) -> Result<Counts,
 }
 
 // Makes the rows. Names of attributes come before nonterminals, since flow types have their numbers.
-fn add_rows(
-    alloc: Global,
-    file: &Lent,
-    terminals: &mut Terminals,
-    nonterminals: &mut Nonterminals,
-    scope: &mut Scope,
-) -> Result<Counts, AllocError>
+fn add_rows(alloc: Global, file: &Lent, symbols: &mut Symbols) -> Result<Counts, AllocError>
     requires right { IsRight (lent_file file.now) }
-    requires scanned { terminals.old.scanned.items ≡ [] }
-    requires layout { terminals.old.layout.items ≡ [] }
-    requires of_grammar { nonterminals.old.of_grammar.items ≡ [] }
-    requires others { nonterminals.old.others.items ≡ [] }
-    requires scope { scope.old ≡ no_names file.now.owner [] }
-    ensures { IfOk result (λ counts. HaveRows (lent_file file.now) counts terminals.new nonterminals.new scope.new) }
+    requires nothing { IsEmpty file.now.owner symbols.old }
+    ensures rows { IfOk result (λ counts. HaveRows (lent_file file.now) counts symbols.new.terminals symbols.new.nonterminals symbols.new.scope) }
+    ensures moves { OnOk result (symbols.new.moves ≡ symbols.old.moves) }
 {
-    let scanned = add_terminals(file, terminals)?;
-    add_attribute_names(file, &mut scope.attributes)?;
-    let of_grammar = add_nonterminals(alloc, file, scope, nonterminals)?;
+    let scanned = add_terminals(file, &mut symbols.terminals)?;
+    add_attribute_names(file, &mut symbols.scope.attributes)?;
+    let of_grammar = add_nonterminals(alloc, file, &symbols.scope, &mut symbols.nonterminals)?;
     Ok(Counts {
         scanned,
         of_grammar,

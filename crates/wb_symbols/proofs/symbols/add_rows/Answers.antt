@@ -5,14 +5,14 @@ use Rattle.wb_symbols.proofs.RowsNamed.{nonterminals_joined}
 use Rattle.wb_symbols.proofs.symbols.add_rows.Goals as goal
 
 pub add_attribute_names-requires : goal.add_attribute_names-requires
-add_attribute_names-requires c = ap (λ (z : Scope). z.attributes) c.requires.scope
+add_attribute_names-requires c = ap (λ (z : Scope). z.attributes) c.requires.nothing.scope
 
 pub add_nonterminals-requires-clause-owner : goal.add_nonterminals-requires-clause-owner
-add_nonterminals-requires-clause-owner c = ap (λ (z : Scope). z.owner) c.requires.scope
+add_nonterminals-requires-clause-owner c = ap (λ (z : Scope). z.owner) c.requires.nothing.scope
 
-pub returns : goal.returns
-returns c =
-    let is = c.requires.scope in
+pub returns-clause-rows : goal.returns-clause-rows
+returns-clause-rows c =
+    let is = c.requires.nothing.scope in
     record {
       scope = λ j. record {
         owner = (is j).owner;
@@ -23,6 +23,7 @@ returns c =
       };
       terminals = c.in_ok-scanned.ensures;
       nonterminals = λ s are. nonterminals_joined (lent_file c.args.file.now) c.requires.right.hold.once s c.add_attribute_names.new.names
-          c.in_ok-of_grammar.of_grammar c.args.nonterminals.now c.add_nonterminals.new.made c.requires.of_grammar c.requires.others
+          c.in_ok-of_grammar.of_grammar c.args.symbols.now.nonterminals c.add_nonterminals.new.made c.requires.nothing.of_grammar
+          c.requires.nothing.others
           c.in_ok-of_grammar.ensures (are ∙ sym c.in_ok-add_attribute_names.ensures);
     }
