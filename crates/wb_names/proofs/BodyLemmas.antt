@@ -32,7 +32,7 @@ use Rattle.wb_rows.specs.Scope.{IsFoundChild}
 use Rattle.wb_rows.proofs.GroupLemmas.{zip_sources}
 use Rattle.wb_names.specs.Inner.Bodies.{IsWritten, IsExtendedBody, IsDeclaredBody, labels_with}
 use Rattle.wb_names.specs.Inner.Now.{AreLabelsOf, IsExtendedNow, IsDeclaredNow}
-use Rattle.wb_names.specs.Inner.Writers.{IsWrittenAt}
+use Rattle.wb_symbols.specs.Writers.{IsWrittenAt}
 use Rattle.wb_names.proofs.ForwardsOnce.{one_forward}
 
 -- the label of a local that is found is that of its equation

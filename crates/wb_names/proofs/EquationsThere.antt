@@ -24,7 +24,7 @@ use Rattle.wb_rows.specs.Scope.{KindIsThere}
 use Rattle.wb_rows.specs.There.{HasDeclared}
 use Rattle.wb_rows.proofs.UsesThere.{child_there, equation_there, nonterminal_there}
 use Rattle.wb_names.specs.Inner.Bodies.{KnowsLabels}
-use Rattle.wb_names.specs.Inner.Writers.{IsWrittenAt}
+use Rattle.wb_symbols.specs.Writers.{IsWrittenAt}
 
 module _ (file : File) (s : Scope) (has : HasDeclared s (declarations file.base file.items))
     (meant : AreMeant (declarations file.base file.items) (uses file.items)) (labels : ProductionLabels) (name : List ℕ)

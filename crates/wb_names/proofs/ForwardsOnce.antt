@@ -25,7 +25,7 @@ use Rattle.wb_numbering.specs.Written.{forward_equations, makes_forward}
 use Rattle.wb_numbering.proofs.Selected.{same_bytes, bytes_same}
 use Rattle.wb_numbering.proofs.Times.{once_where}
 use Rattle.wb_names.proofs.OnceLemmas.{once_right, one_kept}
-use Rattle.wb_names.proofs.WrittenLemmas.{on_append, on_one, block_on, block_where}
+use Rattle.wb_symbols.proofs.WrittenLemmas.{on_append, on_one, block_on, block_where}
 
 -- how many pass a test
 count_first : {X : Type 0} (test : X → Bool) (x : X) (xs : List X)

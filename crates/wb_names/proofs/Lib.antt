@@ -17,7 +17,5 @@ mod ForwardsOnce
 mod KnownLabels
 mod OnceLemmas
 mod ScopeNumbering
-mod WritersLemmas
-mod WrittenLemmas
 mod ProductionsGrouped
 mod ProductionsBridge

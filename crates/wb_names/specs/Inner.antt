@@ -7,6 +7,5 @@ pub mod Value
 pub mod Unwritten
 pub mod Joined
 pub mod Copies
-pub mod Writers
 pub mod Bodies
 pub mod Rows

@@ -11,6 +11,5 @@ mod productions;
 mod resolve;
 mod rest;
 mod rows;
-mod writers;
 
 pub use resolve::{resolve_extension, resolve_host};

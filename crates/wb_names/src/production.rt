@@ -1,7 +1,7 @@
 //! Which row has one production of a base or of a file?
 //!
 //! Its children and its locals give it labels, and then all that the file writes on it is numbered. Which items write on it is in
-//! `writers`.
+//! `wb_symbols`.
 
 ghost use Rattle.std.specs.Prelude.{◌∷◌, [], All, Contains, IfOk, OnOk, option_to_list};
 ghost use Rattle.std.specs.List.{AllZip};
@@ -13,7 +13,6 @@ ghost use Rattle.wb_names.specs.Inner.Now.{IsDeclaredNow, IsExtendedNow};
 ghost use Rattle.wb_names.specs.Inner.Rows.{AddsProductions, declares_concrete, has_concrete};
 
 use crate::productions::{Productions, add};
-use crate::writers::Writers;
 use std::alloc::{AllocError, Global};
 use wb_resolved::{Child, Forward, Production};
 use wb_rows::body::{Body, add_all, labels_of};
@@ -23,6 +22,7 @@ use wb_rows::row::Head;
 use wb_rows::scope::{Scope, number_of};
 use wb_symbols::lent::Lent;
 use wb_symbols::names::numbered_role;
+use wb_symbols::writers::Writers;
 
 // A file with what its names stand for, and with the items that write on each production.
 #[derive(Clone, Copy)]

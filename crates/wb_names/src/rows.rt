@@ -13,12 +13,12 @@ ghost use Rattle.wb_names.specs.Inner.Value.{AreWritten};
 use crate::production::Context;
 use crate::productions::{Productions, add_productions};
 use crate::rest::{Rest, add_rest};
-use crate::writers::{Writers, add_items};
 use std::alloc::{AllocError, Global};
 use wb_base::Names;
 use wb_rows::plains::Plains;
 use wb_symbols::lent::Lent;
 use wb_symbols::symbols::Symbols;
+use wb_symbols::writers::{Writers, add_items};
 
 // Which items write on productions; productions, of which so many are concrete; and what else is written.
 #[derive(Drop)]

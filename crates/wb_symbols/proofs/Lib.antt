@@ -10,3 +10,5 @@ mod ProductionNames
 mod RowsNamed
 pub mod Gathered
 pub mod JoinedLemmas
+pub mod WritersLemmas
+pub mod WrittenLemmas

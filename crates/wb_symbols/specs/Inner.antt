@@ -4,3 +4,5 @@ pub mod Names
 pub mod Nonterminals
 -- the numbers of a base's names, and the names of rows
 pub mod Tables
+-- what an item adds to the places of those that write on each production
+pub mod Writers

@@ -8,5 +8,7 @@ pub mod Rows
 pub mod Symbols
 -- no rows, names and numbers
 pub mod Empty
+-- which items write on each production
+pub mod Writers
 -- words of private functions
 pub mod Inner

@@ -1,5 +1,5 @@
 //! The symbols that a file has on its base, in the order of their numbers: rows of terminals and nonterminals, the names of all sorts by
-//! number, and the new numbers of a base's.
+//! number, the new numbers of a base's, and which items write on a production.
 //!
 //! Which value a file stands for is in `wb_numbering/specs`, and which name rule fails in `wb_naming/specs`; productions and the rest, which
 //! read these numbers, are in `wb_names`.
@@ -13,3 +13,4 @@ pub mod names;
 mod nonterminals;
 pub mod symbols;
 mod tables;
+pub mod writers;

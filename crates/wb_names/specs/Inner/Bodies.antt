@@ -22,7 +22,7 @@ use Rattle.wb_symbols.specs.Symbols.{AreNumbers}
 use Rattle.wb_symbols.specs.Lent.{lent_file}
 use Rattle.wb_symbols.specs.Right.{IsRight}
 use Rattle.wb_names.specs.declared.production.Context.{Context}
-use Rattle.wb_names.specs.Inner.Writers.{AreWriters}
+use Rattle.wb_symbols.specs.Writers.{AreWriters}
 
 -- the file of a context
 abbrev pub file_of : Context → File

@@ -1,8 +1,8 @@
 use Rattle.std.proofs.Common.{subst}
 use Rattle.std.proofs.lemmas.List.{take_all}
-use Rattle.wb_names.specs.Inner.Writers.{AreWriters}
-use Rattle.wb_names.proofs.WritersLemmas.{next_item}
-use Rattle.wb_names.proofs.writers.add_items.Goals as goal
+use Rattle.wb_symbols.specs.Writers.{AreWriters}
+use Rattle.wb_symbols.proofs.WritersLemmas.{next_item}
+use Rattle.wb_symbols.proofs.writers.add_items.Goals as goal
 
 pub items-preserved : goal.items-preserved
 items-preserved c =

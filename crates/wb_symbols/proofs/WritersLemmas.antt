@@ -19,9 +19,10 @@ use Rattle.wb_syntax.specs.Equations.{equations_of}
 use Rattle.wb_naming.specs.Declarations.{Items}
 use Rattle.wb_numbering.specs.Files.{Block, block_of, equations_on}
 use Rattle.wb_rows.specs.Blocks.{equations_at}
-use Rattle.wb_names.specs.declared.writers.Writers.{Writers}
-use Rattle.wb_names.specs.Inner.Writers.{lists_of, IsWrittenAt, AreWriters, AddsPlace, AddsBlock}
-use Rattle.wb_names.proofs.WrittenLemmas.{on_push, block_on, block_same, block_other, equations_of_form, at_push}
+use Rattle.wb_symbols.specs.declared.writers.Writers.{Writers}
+use Rattle.wb_symbols.specs.Writers.{lists_of, IsWrittenAt, AreWriters}
+use Rattle.wb_symbols.specs.Inner.Writers.{AddsPlace, AddsBlock}
+use Rattle.wb_symbols.proofs.WrittenLemmas.{on_push, block_on, block_same, block_other, equations_of_form, at_push}
 
 -- the list at a place, with one element more
 abbrev longer : List (List ℕ) → ℕ → ℕ → List ℕ

@@ -1,5 +1,5 @@
-use Rattle.wb_names.proofs.WritersLemmas.{found_places}
-use Rattle.wb_names.proofs.writers.Writers.places_of.Goals as goal
+use Rattle.wb_symbols.proofs.WritersLemmas.{found_places}
+use Rattle.wb_symbols.proofs.writers.Writers.places_of.Goals as goal
 
 pub returns-in-Some : goal.returns-in-Some
 returns-in-Some c items are =

@@ -1,10 +1,10 @@
 -- Which items write on each production, by its name.
-use Rattle.std.specs.Prelude.{◌≡◌, ◌<◌, ◌⊎◌, ◌++◌, ◌∷◌, [], ℕ, List, Option, Some, None, All, Contains, get_or, length, map, set, slice_get}
+use Rattle.std.specs.Prelude.{◌≡◌, ◌<◌, [], ℕ, List, Some, All, Contains, length, map, slice_get}
 use Rattle.wb_base.specs.Different.{Differ}
 use Rattle.wb_naming.specs.Declarations.{Items}
-use Rattle.wb_numbering.specs.Files.{Block, equations_on}
+use Rattle.wb_numbering.specs.Files.{equations_on}
 use Rattle.wb_rows.specs.Blocks.{equations_at}
-use Rattle.wb_names.specs.declared.writers.Writers.{Writers}
+use Rattle.wb_symbols.specs.declared.writers.Writers.{Writers}
 
 -- the places of items, by the number of a name
 abbrev pub lists_of : Writers → List (List ℕ)
@@ -22,15 +22,3 @@ pub record AreWriters (all first : Items) (w : Writers) : Type 0 where
   pub listed : (k : ℕ) (name places : List ℕ) → slice_get w.names k ≡ Some name → slice_get (lists_of w) k ≡ Some places
       → IsWrittenAt all first name places
   pub others : (name : List ℕ) → ¬ Contains w.names name → equations_on name first ≡ []
-
--- the place is added as the first one of a new name, or after the others of a name that is there
-abbrev pub AddsPlace : List ℕ → ℕ → Writers → Writers → Type 0
-AddsPlace name place old new =
-    ((¬ Contains old.names name) × (new.names ≡ old.names ++ name ∷ []) × (lists_of new ≡ lists_of old ++ (place ∷ []) ∷ []))
-    ⊎ ((k : ℕ) × (slice_get old.names k ≡ Some name) × (new.names ≡ old.names)
-    × (lists_of new ≡ set (lists_of old) k (get_or (lists_of old) k [] ++ place ∷ [])))
-
--- the place of an item is added, where the item writes on a production
-abbrev pub AddsBlock : Option Block → ℕ → Writers → Writers → Type 0
-AddsBlock None place old new = new ≡ old
-AddsBlock (Some b) place old new = AddsPlace b.name place old new

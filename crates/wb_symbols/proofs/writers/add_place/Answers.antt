@@ -3,8 +3,8 @@ use Rattle.std.proofs.lemmas.Option.{slice_get_within}
 use Rattle.std.proofs.lemmas.Result.{on_ok_weaker}
 use Rattle.wb_base.specs.declared.names.Added.TheVariants.{New, Present}
 use Rattle.wb_base.specs.Names.{AddsName}
-use Rattle.wb_names.proofs.WritersLemmas.{longer_lists, more_lists}
-use Rattle.wb_names.proofs.writers.add_place.Goals as goal
+use Rattle.wb_symbols.proofs.WritersLemmas.{longer_lists, more_lists}
+use Rattle.wb_symbols.proofs.writers.add_place.Goals as goal
 
 pub index_mut-requires : goal.index_mut-requires
 index_mut-requires c =

@@ -5,22 +5,23 @@
 ghost use Rattle.std.specs.Prelude.{◌≡◌, ◌∷◌, [], IfOk, OnOk, length};
 ghost use Rattle.wb_naming.specs.Declarations.{Items};
 ghost use Rattle.wb_numbering.specs.Files.{block_of};
-ghost use Rattle.wb_names.specs.Inner.Writers.{IsWrittenAt, AreWriters, AddsPlace, AddsBlock};
+ghost use Rattle.wb_symbols.specs.Writers.{IsWrittenAt, AreWriters};
+ghost use Rattle.wb_symbols.specs.Inner.Writers.{AddsPlace, AddsBlock};
 
 use std::alloc::{AllocError, Global};
 use wb_base::{Added, Names, push};
 use wb_syntax::{Item, ItemForm, Pattern};
 
-// Names of productions on which items write, and for each the places of these items.
+/// Names of productions on which items write, and for each the places of these items.
 #[derive(Drop)]
-pub(crate) struct Writers {
-    pub(crate) names: Names,
-    pub(crate) places: Vec<Vec<usize>>,
+pub struct Writers {
+    pub names: Names,
+    pub places: Vec<Vec<usize>>,
 }
 
 impl Writers {
-    // The places of the items that write on the production of this name, in order.
-    pub(crate) fn places_of(&self, name: &[u8]) -> &[usize]
+    /// The places of the items that write on the production of this name, in order.
+    pub fn places_of(&self, name: &[u8]) -> &[usize]
         requires { length self.now.places.items ≡ length self.now.names }
         ensures { (items : Items) → AreWriters items items self.now → IsWrittenAt items items name.now result.now }
     {
@@ -31,8 +32,8 @@ impl Writers {
     }
 }
 
-// Adds the places of those of these items that write on productions to none. The only error is want of memory.
-pub(crate) fn add_items(
+/// Adds the places of those of these items that write on productions to none. The only error is want of memory.
+pub fn add_items(
     alloc: Global,
     items: &[Item<Pattern>],
     made: &mut Writers,
