@@ -1,5 +1,6 @@
 -- Kinds of parts at places, and that a kind is exactly what is found.
-use Rattle.std.proofs.Common.{◌≡◌, ◌<◌, ◌+◌, ◌↔◌, ℕ, List, Option, Some, None, sym, ◌∙◌, subst, slice_get, arith}
+use Rattle.std.proofs.Common.{◌≡◌, ◌<◌, ◌+◌, ◌↔◌, ℕ, Bool, true, false, List, Option, Some, None, sym, ap, ◌∙◌, subst, slice_get}
+use Rattle.std.proofs.Common.{arith}
 use Rattle.std.proofs.Math.Decide.{dec_lt}
 use Rattle.wb_base.specs.declared.symbol.Kind.{Kind}
 use Rattle.wb_lemmas.proofs.Places.{at_once}
@@ -9,6 +10,16 @@ use Rattle.wb_types.specs.Inner.Nodes.{IsAt}
 pub none_exact : (found : Option Kind) (P : Kind → Type 0) → found ≡ None → ((is : Kind) → P is → ⊥) → (is : Kind)
     → (found ≡ Some is) ↔ P is
 none_exact found P none never is = (λ some. absurd (let e : None ≡ Some is = sym none ∙ some in cc), λ holds. absurd (never is holds))
+
+-- one kind is found where one is
+pub some_exact : (found : Kind) (P : Kind → Type 0) → P found → ((is : Kind) → P is → found ≡ is) → (is : Kind)
+    → (Some found ≡ Some is) ↔ P is
+some_exact found P holds one is = (λ some. let e : found ≡ is = cc some in subst P e holds, λ other. ap Some (one is other))
+
+-- nothing is both false and true
+pub never_both : (b : Bool) → b ≡ false → b ≡ true → ⊥
+never_both true e f = cc e
+never_both false e f = cc f
 
 -- parts are of their kinds up to a place, and the one there is too
 pub each_more : (kinds : List (Option Kind)) (places : List ℕ) (are : List Kind) (count at : ℕ) (is : Kind)

@@ -3,3 +3,4 @@ mod AtLemmas
 pub mod NodeLemmas
 pub mod OperationLemmas
 pub mod PassLemmas
+mod PlaceLemmas

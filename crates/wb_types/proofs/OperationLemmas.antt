@@ -1,11 +1,17 @@
 -- Operations and signatures by their numbers.
-use Rattle.std.proofs.Common.{◌≡◌, ◌<◌, ◌↔◌, ℕ, List, Option, Some, None, length, refl, sym, ap, subst, ◌∙◌, slice_get, IfSome}
+use Rattle.std.proofs.Common.{◌≡◌, ◌<◌, ◌≤◌, ◌↔◌, ℕ, List, Option, Some, None, length, refl, sym, ap, subst, ◌∙◌, slice_get}
+use Rattle.std.proofs.Common.{IfSome, arith, true, eqb}
 use Rattle.std.specs.Option.{IsSomeAnd, option_map}
 use Rattle.std.proofs.lemmas.Option.{slice_get-map, slice_get_within}
 use Rattle.wb_base.specs.declared.symbol.Kind.{Kind}
 use Rattle.wb_base.specs.Different.{Differ}
 use Rattle.wb_expressions.specs.declared.node.Node.TheVariants as n
+use Rattle.std.proofs.lemmas.Bool.{eq-eqb}
 use Rattle.wb_lemmas.proofs.Members.{contains_at}
+use Rattle.wb_lemmas.proofs.Numbers.{eqb_true}
+use Rattle.wb_lemmas.proofs.Places.{at_within, at_once}
+use Rattle.wb_resolved.specs.Expression.{Node}
+use Rattle.wb_values.specs.Signature.{Signature}
 use Rattle.wb_operations.specs.Operations.{OperationSignature, HasOperation, IsOperation, names_of}
 use Rattle.wb_resolved.specs.declared.attribution.AttributionParts.{AttributionParts}
 use Rattle.wb_types.specs.Rules.{HasArity}
@@ -118,4 +124,26 @@ arity_found a operations name arguments number takes differ found takes_is =
       λ e. λ j t there same. let one : t ≡ s = one_operation operations name j number t s differ there same at named in
           e ∙ ap length (kinds_is ∙ sym (ap (λ (s : OperationSignature). s.takes) one)),
       λ has. has number s at named ∙ sym (ap length kinds_is),
+    )
+
+-- a tree of a production that isn't there has the right number of children
+pub built_past : (a : AttributionParts) (operations : List OperationSignature) (node : Node) (number : ℕ) (children : List ℕ)
+    → node ≡ n.Build number children → length a.signatures ≤ number → HasArity a operations node
+built_past a operations node number children is past = subst (HasArity a operations) (sym is) (λ s at. absurd (
+    let within = slice_get_within a.signatures number s at in
+    omega (arith, within, past)))
+
+-- a tree has the right number exactly where it has as many as its production's children
+pub built_exact : (a : AttributionParts) (operations : List OperationSignature) (node : Node) (number : ℕ) (children : List ℕ)
+    (kinds : List Kind) (count : ℕ) → node ≡ n.Build number children → number < length a.signatures
+    → IfSome (slice_get a.signatures number) (λ (s : Signature). kinds ≡ s.children) → count ≡ length children
+    → (eqb (length kinds) count ≡ true) ↔ HasArity a operations node
+built_exact a operations node number children kinds count is within kinds_are counted =
+    let (s, at) = at_within a.signatures number within in
+    let same : kinds ≡ s.children = fact_at (slice_get a.signatures number) (λ (s : Signature). kinds ≡ s.children) s kinds_are at in (
+      λ e. subst (HasArity a operations) (sym is) (λ t there.
+          let one = at_once a.signatures number s t at there in
+          sym counted ∙ sym (eqb_true (length kinds) count e) ∙ ap length (same ∙ ap (λ (s : Signature). s.children) one)),
+      λ has. eq-eqb (length kinds) count
+          (ap length same ∙ sym (counted ∙ subst (HasArity a operations) is has s at)),
     )

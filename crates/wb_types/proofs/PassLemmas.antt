@@ -3,6 +3,7 @@ use Rattle.std.proofs.Common.{◌≡◌, ◌<◌, ◌≤◌, ◌+◌, ◌-◌, �
 use Rattle.std.proofs.Common.{subst, ◌∙◌, slice_get, arith, Contains}
 use Rattle.std.proofs.lemmas.List.{take_more, take_all}
 use Rattle.std.proofs.lemmas.Option.{slice_get-get_or}
+use Rattle.wb_lemmas.proofs.Elements.{all_contained}
 use Rattle.wb_lemmas.proofs.Members.{contains_at}
 use Rattle.std.proofs.lemmas.List.Elements.{All-push}
 use Rattle.wb_base.specs.declared.symbol.Kind.{Kind}
@@ -11,7 +12,7 @@ use Rattle.wb_expressions.specs.declared.node.Node.TheVariants as n
 use Rattle.wb_expressions.specs.Expression.{IsWhole}
 use Rattle.wb_expressions.proofs.PartLemmas.{whole_some}
 use Rattle.wb_expressions.proofs.PlaceLemmas.{whole_stands}
-use Rattle.wb_operations.specs.Operations.{OperationSignature}
+use Rattle.wb_operations.specs.Operations.{OperationSignature, HasOperation}
 use Rattle.wb_resolved.specs.declared.attribution.AttributionParts.{AttributionParts}
 use Rattle.wb_resolved.specs.declared.production.Production.{Production}
 use Rattle.wb_resolved.specs.Expression.{Node}
@@ -26,9 +27,9 @@ use Rattle.wb_types.specs.Expected.{IsExpected, attribute_of}
 use Rattle.wb_types.specs.Expected as s
 use Rattle.wb_types.specs.Kinds.{IsAttributeKind}
 use Rattle.wb_types.specs.Refusals.{IsTrueRefusal}
-use Rattle.wb_types.specs.Rules.{IsKnown, IsOfKind, AreKnown, HaveArities}
+use Rattle.wb_types.specs.Rules.{IsKnown, HasArity, IsOfKind, AreKnown, HaveArities}
 use Rattle.wb_types.specs.Inner.Nodes.{IsAt, AreKept}
-use Rattle.wb_types.specs.Inner.Passes.{Passes, Fails, AllPass, SomeFails, AnyFails}
+use Rattle.wb_types.specs.Inner.Passes.{IsUnknownIn, Passes, Fails, AllPass, SomeFails, AnyFails}
 
 -- what holds of those before a place and of the one there holds of one more
 pub taken_more : {X : Type 0} (P : X → Type 0) (xs : List X) (i : ℕ) (x : X) → All P (take i xs) → i < length xs → x ≡ get_or xs i x → P x
@@ -39,6 +40,11 @@ taken_more P xs i x all within is holds =
 -- at the end all hold
 pub taken_all : {X : Type 0} (P : X → Type 0) (xs : List X) (i : ℕ) → All P (take i xs) → length xs ≤ i → All P xs
 taken_all P xs i all ended = subst (All P) (take_all i xs ended) all
+
+-- at the end each that is listed holds
+pub each_taken : {X : Type 0} (P : X → Type 0) (ys xs : List X) (i : ℕ) → ys ≡ xs → All P (take i ys) → length ys ≤ i
+    → (x : X) → Contains xs x → P x
+each_taken P ys xs i same all ended x listed = all_contained P xs x (subst (All P) same (taken_all P ys i all ended)) listed
 
 -- a node that calls nothing calls nothing unknown
 pub calls_nothing : (operations : List OperationSignature) (node : Node)
@@ -100,6 +106,31 @@ all_pass rule a operations production locals forward equations nodes is offset a
       subst (λ z. Passes rule a operations production z is) (sym e)
       (subst (Passes rule a operations production y.nodes) (sym f) (forward y there))
   at (s.equation y listed e f g) = subst (λ z. Passes rule a operations production z is) (sym e) (equations y is listed f)
+
+-- what the production forwards to passes where its nodes do
+pub forward_passes : (rule : Rule) (a : AttributionParts) (operations : List OperationSignature) (production : Production) (f : Forward)
+    (nodes : List Node) → production.forward ≡ Some f → nodes ≡ f.nodes
+    → Passes rule a operations production nodes (kind.Tree production.left) → (g : Forward) → production.forward ≡ Some g
+    → Passes rule a operations production g.nodes (kind.Tree production.left)
+forward_passes rule a operations production f nodes there same passes g here =
+    let some : Some f ≡ Some g = sym there ∙ here in let one : f ≡ g = cc in
+    subst (λ z. Passes rule a operations production z (kind.Tree production.left)) (same ∙ ap (λ (z : Forward). z.nodes) one) passes
+
+-- a node that neither builds nor calls has the right number
+pub other_arity : (a : AttributionParts) (operations : List OperationSignature) (node : Node)
+    → ((number : ℕ) (children : List ℕ) → node ≡ n.Build number children → ⊥)
+    → ((name : List ℕ) (arguments : List ℕ) → node ≡ n.Call name arguments → ⊥) → HasArity a operations node
+other_arity a operations (n.Int z) build call = tt
+other_arity a operations (n.Text s) build call = tt
+other_arity a operations (n.Bool b) build call = tt
+other_arity a operations (n.Label l) build call = tt
+other_arity a operations (n.Read l attribute) build call = tt
+other_arity a operations (n.Lexeme l) build call = tt
+other_arity a operations (n.Top attribute) build call = tt
+other_arity a operations (n.Forward attribute) build call = tt
+other_arity a operations (n.Build number children) build call = absurd (build number children refl)
+other_arity a operations (n.Call name arguments) build call = absurd (call name arguments refl)
+other_arity a operations (n.If condition holds fails) build call = tt
 
 -- an expression that fails the first rule calls what isn't there
 pub known_refused : (a : AttributionParts) (operations : List OperationSignature) (refusal : TypeRefusal)
@@ -164,3 +195,14 @@ kind_refused a operations known arities (r.NoMemory error) any = tt
 pub read_contained : {X : Type 0} (ys xs : List X) (i : ℕ) (x : X) → ys ≡ xs → i < length ys → x ≡ get_or ys i x → Contains xs x
 read_contained ys xs i x same within is =
     contains_at xs x i (ap (λ z. slice_get z i) (sym same) ∙ slice_get-get_or ys i x within ∙ ap Some (sym is))
+
+-- a node that calls what isn't there is an unknown call of the expression
+pub unknown_in : (operations : List OperationSignature) (nodes : List Node) (node : Node) (name copy operation : List ℕ)
+    (arguments : List ℕ)
+    → Contains nodes node → node ≡ n.Call operation arguments → name ≡ operation → copy ≡ operation → ¬ HasOperation operations name
+    → IsUnknownIn operations nodes copy
+unknown_in operations nodes node name copy operation arguments listed is same copied unknown = record {
+  arguments = arguments;
+  calls = subst (Contains nodes) (is ∙ ap (λ z. n.Call z arguments) (sym copied)) listed;
+  unknown = λ has. unknown (subst (HasOperation operations) (copied ∙ sym same) has);
+}

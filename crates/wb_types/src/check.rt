@@ -19,8 +19,8 @@ ghost use Rattle.wb_types.specs.Rules.{KindsOk, IsKnown, HasArity};
 ghost use Rattle.wb_types.specs.Inner.Passes.{Passes, FailsKnown, Fails, AllPass, SomeFails, AnyFails};
 
 use crate::TypeRefusal;
-use crate::context::{Context, Expected, Rule};
-use crate::kinds::{attribute_kind, is_at, kinds_of};
+use crate::context::{Context, Rule};
+use crate::kinds::{attribute_kind, has_kind};
 use std::alloc::Global;
 use wb_base::Kind;
 use wb_operations::{Meaning, OperationSignatures, OperationTable};
@@ -76,77 +76,59 @@ fn check_rule(
 {
     'productions: for production in attributes.productions.as_slice() {
         let context = Context {
+            rule,
             attributes,
             operations,
             production,
         };
-        check_production(alloc, rule, &context)?;
+        check_trees(alloc, &context)?;
+        check_equations(alloc, &context)?;
     }
     Ok(())
 }
 
-// Whether the expressions of a production pass a rule.
-fn check_production(alloc: Global, rule: Rule, context: &Context) -> Result<(), TypeRefusal>
+// Whether the expressions of a production's locals and of what it forwards to pass: each has to be a tree.
+fn check_trees(alloc: Global, context: &Context) -> Result<(), TypeRefusal>
     requires { IsNamedProduction context.now.attributes.now context.now.production.now }
-    ensures ok { IfOk result (λ done. AllPass rule context.now.attributes.now context.now.operations.now context.now.production.now) }
-    ensures refused { IfErr result (SomeFails rule context.now.attributes.now context.now.operations.now context.now.production.now) }
-{
-    check_locals(alloc, rule, context)?;
-    check_forward(alloc, rule, context)?;
-    check_equations(alloc, rule, context)
-}
-
-// Whether the expressions of its locals do.
-fn check_locals(alloc: Global, rule: Rule, context: &Context) -> Result<(), TypeRefusal>
-    requires { IsNamedProduction context.now.attributes.now context.now.production.now }
-    ensures ok { IfOk result (λ done. (l : Local) → Contains context.now.production.now.locals l → Passes rule context.now.attributes.now context.now.operations.now context.now.production.now l.nodes (Tree l.nonterminal)) }
-    ensures refused { IfErr result (SomeFails rule context.now.attributes.now context.now.operations.now context.now.production.now) }
+    ensures locals { IfOk result (λ done. (l : Local) → Contains context.now.production.now.locals l → Passes context.now.rule context.now.attributes.now context.now.operations.now context.now.production.now l.nodes (Tree l.nonterminal)) }
+    ensures forward { IfOk result (λ done. (f : Forward) → context.now.production.now.forward ≡ Some f → Passes context.now.rule context.now.attributes.now context.now.operations.now context.now.production.now f.nodes (Tree context.now.production.now.left)) }
+    ensures refused { IfErr result (SomeFails context.now.rule context.now.attributes.now context.now.operations.now context.now.production.now) }
 {
     'locals: for local in context.production.locals.as_slice() {
-        let expected = Expected {
-            nodes: local.nodes.as_slice(),
-            kind: Kind::Tree(local.nonterminal),
-            offset: local.offset,
-        };
-        check_expression(alloc, rule, context, &expected)?;
+        let kind = Kind::Tree(local.nonterminal);
+        check_expression(alloc, context, local.nodes.as_slice(), kind, local.offset)?;
     }
-    Ok(())
-}
-
-// Whether the expression of what it forwards to does.
-fn check_forward(alloc: Global, rule: Rule, context: &Context) -> Result<(), TypeRefusal>
-    requires { IsNamedProduction context.now.attributes.now context.now.production.now }
-    ensures ok { IfOk result (λ done. (f : Forward) → context.now.production.now.forward ≡ Some f → Passes rule context.now.attributes.now context.now.operations.now context.now.production.now f.nodes (Tree context.now.production.now.left)) }
-    ensures refused { IfErr result (SomeFails rule context.now.attributes.now context.now.operations.now context.now.production.now) }
-{
     let Some(forward) = &context.production.forward else {
         return Ok(());
     };
-    let expected = Expected {
-        nodes: forward.nodes.as_slice(),
-        kind: Kind::Tree(context.production.left),
-        offset: forward.offset,
-    };
-    check_expression(alloc, rule, context, &expected)
+    let kind = Kind::Tree(context.production.left);
+    check_expression(
+        alloc,
+        context,
+        forward.nodes.as_slice(),
+        kind,
+        forward.offset,
+    )
 }
 
 // Whether the expressions of its equations do.
-fn check_equations(alloc: Global, rule: Rule, context: &Context) -> Result<(), TypeRefusal>
+fn check_equations(alloc: Global, context: &Context) -> Result<(), TypeRefusal>
     requires { IsNamedProduction context.now.attributes.now context.now.production.now }
-    ensures ok { IfOk result (λ done. (e : Equation) (is : Kind) → Contains context.now.production.now.equations e → IsAttributeKind context.now.attributes.now (attribute_of e.target) is → Passes rule context.now.attributes.now context.now.operations.now context.now.production.now e.nodes is) }
-    ensures refused { IfErr result (SomeFails rule context.now.attributes.now context.now.operations.now context.now.production.now) }
+    ensures ok { IfOk result (λ done. (e : Equation) (is : Kind) → Contains context.now.production.now.equations e → IsAttributeKind context.now.attributes.now (attribute_of e.target) is → Passes context.now.rule context.now.attributes.now context.now.operations.now context.now.production.now e.nodes is) }
+    ensures refused { IfErr result (SomeFails context.now.rule context.now.attributes.now context.now.operations.now context.now.production.now) }
 {
     'equations: for equation in context.production.equations.as_slice() {
         let Some(kind) = attribute_kind(context.attributes, target_attribute(equation.target))
         else {
             continue;
         };
-        let expected = Expected {
-            nodes: equation.nodes.as_slice(),
+        check_expression(
+            alloc,
+            context,
+            equation.nodes.as_slice(),
             kind,
-            offset: equation.offset,
-        };
-        check_expression(alloc, rule, context, &expected)?;
+            equation.offset,
+        )?;
     }
     Ok(())
 }
@@ -162,29 +144,29 @@ fn target_attribute(target: Target) -> usize
     }
 }
 
-// Whether an expression passes a rule.
+// Whether an expression passes the rule, where its equation begins at this offset and asks for this kind.
 fn check_expression(
     alloc: Global,
-    rule: Rule,
     context: &Context,
-    expected: &Expected,
+    nodes: &[Node],
+    kind: Kind,
+    offset: usize,
 ) -> Result<(), TypeRefusal>
-    requires { IsWhole expected.now.nodes.now }
-    ensures ok { IfOk result (λ done. Passes rule context.now.attributes.now context.now.operations.now context.now.production.now expected.now.nodes.now expected.now.kind) }
-    ensures refused { IfErr result (Fails rule context.now.attributes.now context.now.operations.now context.now.production.now expected.now.nodes.now expected.now.kind expected.now.offset) }
+    requires { IsWhole nodes.now }
+    ensures ok { IfOk result (λ done. Passes context.now.rule context.now.attributes.now context.now.operations.now context.now.production.now nodes.now kind) }
+    ensures refused { IfErr result (Fails context.now.rule context.now.attributes.now context.now.operations.now context.now.production.now nodes.now kind offset) }
 {
-    match rule {
-        Rule::Known => check_known(context.operations, expected.nodes),
+    match context.rule {
+        Rule::Known => check_known(context.operations, nodes),
         Rule::Arity => {
-            if !have_arities(context, expected.nodes) {
-                return Err(TypeRefusal::WrongArity(expected.offset));
+            if !have_arities(context, nodes) {
+                return Err(TypeRefusal::WrongArity(offset));
             }
             Ok(())
         }
         Rule::Kind => {
-            let kinds = kinds_of(alloc, context, expected.nodes)?;
-            if !is_at(&kinds, expected.nodes.len() - 1, expected.kind) {
-                return Err(TypeRefusal::TypeMismatch(expected.offset));
+            if !has_kind(alloc, context, nodes, kind)? {
+                return Err(TypeRefusal::TypeMismatch(offset));
             }
             Ok(())
         }

@@ -1,25 +1,17 @@
-//! In which production is an expression, and of which kind has it to be?
+//! By which rule is an expression tested, and in which production is it?
 //!
 //! All rules read the same few things, so they are handed on together. The rules themselves are in `check`.
 
-use wb_base::Kind;
 use wb_operations::OperationSignatures;
-use wb_resolved::{AttributionParts, Node, Production};
+use wb_resolved::{AttributionParts, Production};
 
-// The attribution, the operations, and the production that an expression is in.
+// The rule, the attribution, the operations, and the production that an expression is in.
 #[derive(Clone, Copy)]
 pub(crate) struct Context<'a> {
+    pub(crate) rule: Rule,
     pub(crate) attributes: &'a AttributionParts,
     pub(crate) operations: &'a OperationSignatures,
     pub(crate) production: &'a Production,
-}
-
-// An expression, the kind that it has to be of, and where its equation begins.
-#[derive(Clone, Copy)]
-pub(crate) struct Expected<'a> {
-    pub(crate) nodes: &'a [Node],
-    pub(crate) kind: Kind,
-    pub(crate) offset: usize,
 }
 
 // The kind rules, in the order in which they are tested.

@@ -5,10 +5,12 @@
 ghost use Rattle.std.specs.Prelude.{◌≡◌, ◌↔◌, Some, IfOk, IsTrue, length};
 ghost use Rattle.wb_base.specs.declared.symbol.Kind.{Kind};
 ghost use Rattle.wb_base.specs.declared.symbol.Kind.TheVariants.{Bool};
+ghost use Rattle.wb_expressions.specs.Expression.{IsWhole};
 ghost use Rattle.wb_expressions.specs.Places.{HasPartsBefore};
 ghost use Rattle.wb_resolved.specs.declared.production.ChildKind.TheVariants.{Value};
 ghost use Rattle.wb_resolved.specs.Visible.{kind_at};
 ghost use Rattle.wb_types.specs.Kinds.{IsAttributeKind};
+ghost use Rattle.wb_types.specs.Rules.{IsOfKind};
 ghost use Rattle.wb_types.specs.Inner.Nodes.{IsAt, AreAt, BuildsKind, CallsKind, NodeHasKind, AreKept};
 
 use crate::context::Context;
@@ -18,8 +20,22 @@ use wb_operations::OperationSignatures;
 use wb_resolved::{AttributionParts, ChildKind, Node, Place, Production};
 use wb_values::Signatures;
 
+// Whether an expression is of a kind. The only error is want of memory.
+pub(crate) fn has_kind(
+    alloc: Global,
+    context: &Context,
+    nodes: &[Node],
+    kind: Kind,
+) -> Result<bool, AllocError>
+    requires { IsWhole nodes.now }
+    ensures { IfOk result (λ yes. IsTrue yes ↔ IsOfKind context.now.attributes.now context.now.operations.now context.now.production.now nodes.now kind) }
+{
+    let kinds = kinds_of(alloc, context, nodes)?;
+    Ok(is_at(&kinds, nodes.len() - 1, kind))
+}
+
 // The kind of each node, by place. The only error is want of memory.
-pub(crate) fn kinds_of(
+fn kinds_of(
     alloc: Global,
     context: &Context,
     nodes: &[Node],
@@ -175,7 +191,7 @@ fn are_at(kinds: &[Option<Kind>], places: &[usize], wanted: &[Kind]) -> bool
 }
 
 // Whether the part at a place is of a kind.
-pub(crate) fn is_at(kinds: &[Option<Kind>], place: usize, kind: Kind) -> bool
+fn is_at(kinds: &[Option<Kind>], place: usize, kind: Kind) -> bool
     ensures { IsTrue result ↔ IsAt kinds.now place kind }
 {
     place < kinds.len() && kinds[place] == Some(kind)

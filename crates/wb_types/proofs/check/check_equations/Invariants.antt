@@ -9,5 +9,5 @@ use Rattle.wb_types.proofs.check.check_equations.Given as goal
 abbrev pub invariant-equations : goal.invariant-equations
 invariant-equations l = All
     (λ (z : Equation). (is : Kind) → IsAttributeKind l.context.attributes.now (attribute_of z.target) is
-    → Passes l.rule l.context.attributes.now l.context.operations.now l.context.production.now z.nodes is)
+    → Passes l.context.rule l.context.attributes.now l.context.operations.now l.context.production.now z.nodes is)
     (take l.equation-index l.equation-items)

@@ -1,45 +1,42 @@
-use Rattle.std.proofs.Common.{◌≡◌, List, Option, length, sym, subst, refl, true}
-use Rattle.wb_base.specs.declared.symbol.Kind.{Kind}
-use Rattle.wb_expressions.proofs.PartLemmas.{whole_some, whole_has_parts_before}
+use Rattle.std.proofs.Common.{refl, subst, sym}
+use Rattle.std.specs.Prelude.{IfOk, IfErr}
 use Rattle.wb_types.specs.declared.context.Rule.{Rule}
-use Rattle.wb_types.specs.Inner.Nodes.{AreKept}
+use Rattle.wb_types.specs.declared.refusal.TypeRefusal.TheVariants.{WrongArity, TypeMismatch}
 use Rattle.wb_types.specs.Inner.Passes.{Passes, Fails}
-use Rattle.wb_types.specs.declared.refusal.TypeRefusal.TheVariants.{TypeMismatch}
-use Rattle.wb_types.proofs.PassLemmas.{last_whole, whole_last}
+use Rattle.wb_types.proofs.AtLemmas.{never_both}
 use Rattle.wb_types.proofs.check.check_expression.Goals as goal
 
-pub kinds_of-requires : goal.kinds_of-requires
-kinds_of-requires c = whole_has_parts_before c.args.expected.now.nodes.now c.requires
+pub returns-in-Known-clause-ok : goal.returns-in-Known-clause-ok
+returns-in-Known-clause-ok c =
+    subst (λ (rule : Rule). IfOk c.check_known.result (λ done. Passes rule c.args.context.now.attributes.now
+    c.args.context.now.operations.now c.args.context.now.production.now c.args.nodes.now c.args.kind)) (sym c.in-Known.is)
+    c.check_known.ensures.ok
 
-pub overflow_sub-expected : goal.overflow_sub-expected
-overflow_sub-expected c = whole_some c.args.expected.now.nodes.now c.requires
+pub returns-in-Known-clause-refused : goal.returns-in-Known-clause-refused
+returns-in-Known-clause-refused c =
+    subst (λ (rule : Rule). IfErr c.check_known.result (Fails rule c.args.context.now.attributes.now c.args.context.now.operations.now
+    c.args.context.now.production.now c.args.nodes.now c.args.kind c.args.offset)) (sym c.in-Known.is) c.check_known.ensures.refused
 
-pub returns-then-not-is_at-clause-refused : goal.returns-then-not-is_at-clause-refused
-returns-then-not-is_at-clause-refused c =
-    let a = c.args.context.now.attributes.now in
-    let operations = c.args.context.now.operations.now in
-    let production = c.args.context.now.production.now in
-    let nodes = c.args.expected.now.nodes.now in
-    let is = c.args.expected.now.kind in
-    let offset = c.args.expected.now.offset in
-    let kept = subst (λ (ks : List (Option Kind)). AreKept a operations production nodes ks (length nodes)) (sym c.deref.ensures.value)
-    c.in_ok-kinds-in-Kind.ensures.kept in
-    subst (λ (rule : Rule). Fails rule a operations production nodes is offset (TypeMismatch offset)) (sym c.in-Kind.is) (
-      refl,
-      λ whole.
-          let yes : c.is_at.result ≡ true = c.is_at.ensures.1 (whole_last a operations production nodes c.deref.result.now kept is whole) in
-          let no = c.if-not-is_at.true in
-          cc,
-    )
+pub returns-then-not-have_arities-clause-refused : goal.returns-then-not-have_arities-clause-refused
+returns-then-not-have_arities-clause-refused c =
+    subst (λ (rule : Rule). Fails rule c.args.context.now.attributes.now c.args.context.now.operations.now
+    c.args.context.now.production.now c.args.nodes.now c.args.kind c.args.offset (WrongArity c.args.offset)) (sym c.in-Arity.is)
+    (refl, λ all. never_both c.have_arities.result c.if-not-have_arities.true (c.have_arities.ensures.1 all))
 
-pub returns-else-not-is_at-clause-ok : goal.returns-else-not-is_at-clause-ok
-returns-else-not-is_at-clause-ok c =
-    let a = c.args.context.now.attributes.now in
-    let operations = c.args.context.now.operations.now in
-    let production = c.args.context.now.production.now in
-    let nodes = c.args.expected.now.nodes.now in
-    let is = c.args.expected.now.kind in
-    let kept = subst (λ (ks : List (Option Kind)). AreKept a operations production nodes ks (length nodes)) (sym c.deref.ensures.value)
-    c.in_ok-kinds-in-Kind.ensures.kept in
-    subst (λ (rule : Rule). Passes rule a operations production nodes is) (sym c.in-Kind.is)
-    (last_whole a operations production nodes c.deref.result.now kept is c.requires (c.is_at.ensures.0 c.if-not-is_at.false))
+pub returns-else-not-have_arities-clause-ok : goal.returns-else-not-have_arities-clause-ok
+returns-else-not-have_arities-clause-ok c =
+    subst (λ (rule : Rule). Passes rule c.args.context.now.attributes.now c.args.context.now.operations.now
+    c.args.context.now.production.now c.args.nodes.now c.args.kind) (sym c.in-Arity.is)
+    (c.have_arities.ensures.0 c.if-not-have_arities.false)
+
+pub returns-then-not-branch-clause-refused : goal.returns-then-not-branch-clause-refused
+returns-then-not-branch-clause-refused c =
+    subst (λ (rule : Rule). Fails rule c.args.context.now.attributes.now c.args.context.now.operations.now
+    c.args.context.now.production.now c.args.nodes.now c.args.kind c.args.offset (TypeMismatch c.args.offset)) (sym c.in-Kind.is)
+    (refl, λ whole. never_both c.in_ok-has_kind-in-Kind.field-0 c.if-not-branch.true (c.in_ok-has_kind-in-Kind.ensures.1 whole))
+
+pub returns-else-not-branch-clause-ok : goal.returns-else-not-branch-clause-ok
+returns-else-not-branch-clause-ok c =
+    subst (λ (rule : Rule). Passes rule c.args.context.now.attributes.now c.args.context.now.operations.now
+    c.args.context.now.production.now c.args.nodes.now c.args.kind) (sym c.in-Kind.is)
+    (c.in_ok-has_kind-in-Kind.ensures.0 c.if-not-branch.false)

@@ -1,18 +1,16 @@
-use Rattle.std.proofs.Common.{◌≡◌, ◌<◌, refl, subst, arith, true}
+use Rattle.std.proofs.Common.{◌<◌, refl, subst, arith, false}
 use Rattle.std.proofs.lemmas.Option.{slice_get-get_or, slice_get_within}
-use Rattle.wb_types.proofs.AtLemmas.{each_more}
+use Rattle.wb_types.proofs.AtLemmas.{each_more, never_both}
 use Rattle.wb_types.proofs.kinds.are_at.Goals as goal
 
 pub returns-then-not-is_at : goal.returns-then-not-is_at
 returns-then-not-is_at c = (
-  λ e. absurd (cc e),
+  λ e. absurd (never_both false refl e),
   λ parts. absurd (
       let within : c.places.number < _ = subst (λ z. c.places.number < z) c.if-places-wanted.false c.places-test.true in
-      let yes : c.is_at.result ≡ true = c.is_at.ensures.1 (parts.each c.places.number _ _
+      never_both c.is_at.result c.if-not-is_at.true (c.is_at.ensures.1 (parts.each c.places.number _ _
       (slice_get-get_or c.args.places.now c.places.number _ c.places-test.true)
-      (slice_get-get_or c.args.wanted.now c.places.number _ within)) in
-      let other = c.if-not-is_at.true in
-      cc),
+      (slice_get-get_or c.args.wanted.now c.places.number _ within)))),
 )
 
 pub places-preserved : goal.places-preserved

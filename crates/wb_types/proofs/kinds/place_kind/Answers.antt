@@ -1,0 +1,37 @@
+use Rattle.std.proofs.Common.{Some, ap, ◌∙◌}
+use Rattle.wb_base.specs.declared.symbol.Kind.TheVariants.{Tree}
+use Rattle.wb_resolved.specs.declared.production.Child.{Child}
+use Rattle.wb_resolved.specs.declared.production.ChildKind.TheVariants.{Value}
+use Rattle.wb_resolved.specs.declared.production.Local.{Local}
+use Rattle.wb_types.proofs.PlaceLemmas.{map_at, map_past, nothing_exact, terminal_exact, value_exact, child_is, local_is}
+use Rattle.wb_types.proofs.kinds.place_kind.Goals as goal
+
+pub returns-then-number-children : goal.returns-then-number-children
+returns-then-number-children c =
+    nothing_exact _ Value (child_is c.args.production.now c.args.place c.in-Child.number c.in-Child.is
+    ∙ map_past (λ (z : Child). z.kind) c.args.production.now.children c.as_slice-children.result.now c.in-Child.number
+    c.as_slice-children.ensures c.if-number-children.true)
+
+pub returns-in-Terminal : goal.returns-in-Terminal
+returns-in-Terminal c =
+    terminal_exact _ c.in-Terminal.field-0 (child_is c.args.production.now c.args.place c.in-Child.number c.in-Child.is
+    ∙ map_at (λ (z : Child). z.kind) c.args.production.now.children c.as_slice-children.result.now c.in-Child.number _
+    c.as_slice-children.ensures c.if-number-children.false ∙ ap Some c.in-Terminal.is)
+
+pub returns-in-Value : goal.returns-in-Value
+returns-in-Value c =
+    value_exact _ c.in-Value.kind (child_is c.args.production.now c.args.place c.in-Child.number c.in-Child.is
+    ∙ map_at (λ (z : Child). z.kind) c.args.production.now.children c.as_slice-children.result.now c.in-Child.number _
+    c.as_slice-children.ensures c.if-number-children.false ∙ ap Some c.in-Value.is)
+
+pub returns-then-number-locals : goal.returns-then-number-locals
+returns-then-number-locals c =
+    nothing_exact _ Value (local_is c.args.production.now c.args.place c.in-Local.number c.in-Local.is
+    ∙ map_past (λ (l : Local). Value (Tree l.nonterminal)) c.args.production.now.locals c.as_slice-locals.result.now c.in-Local.number
+    c.as_slice-locals.ensures c.if-number-locals.true)
+
+pub returns-else-number-locals : goal.returns-else-number-locals
+returns-else-number-locals c =
+    value_exact _ _ (local_is c.args.production.now c.args.place c.in-Local.number c.in-Local.is
+    ∙ map_at (λ (l : Local). Value (Tree l.nonterminal)) c.args.production.now.locals c.as_slice-locals.result.now c.in-Local.number
+    c.index-locals-number.result c.as_slice-locals.ensures c.if-number-locals.false)
