@@ -1,6 +1,6 @@
 -- The kinds of nodes are those of their expressions.
 use Rattle.std.proofs.Common.{◌≡◌, ◌<◌, ◌+◌, ◌↔◌, ◌∷◌, ◌++◌, [], ℕ, zero, suc, List, Option, Some, All, length, refl, sym, ap, subst, ◌∙◌}
-use Rattle.std.proofs.Common.{slice_get, arith}
+use Rattle.std.proofs.Common.{◌⊎◌, inl, inr, slice_get, arith}
 use Rattle.std.proofs.Math.Decide.{dec_lt}
 use Rattle.wb_lemmas.proofs.Places.{push_last, push_before}
 use Rattle.std.proofs.lemmas.List.Elements.{All-head, All-tail}
@@ -12,6 +12,7 @@ use Rattle.wb_expressions.specs.Places.{HasNode, HasPartsBefore, Stands, AllStan
 use Rattle.wb_expressions.specs.Places as p
 use Rattle.wb_operations.specs.Operations.{OperationSignature}
 use Rattle.wb_resolved.specs.declared.attribution.AttributionParts.{AttributionParts}
+use Rattle.wb_resolved.specs.declared.equation.Place.{Place}
 use Rattle.wb_resolved.specs.declared.production.Production.{Production}
 use Rattle.wb_resolved.specs.Expression.{Expression, Expressions, Node}
 use Rattle.wb_resolved.specs.declared.production.ChildKind.TheVariants as child
@@ -28,6 +29,18 @@ pub of_node : (a : AttributionParts) (operations : List OperationSignature) (pro
     → (r ≡ Some is) ↔ NodeHasKind a operations production kinds node is
 of_node a operations production kinds node form r is e exact =
     subst (λ (z : Node). (r ≡ Some is) ↔ NodeHasKind a operations production kinds z is) (sym e) exact
+
+-- a node that reads an attribute, wherever, has the attribute's kind
+pub of_attribute : (a : AttributionParts) (operations : List OperationSignature) (production : Production) (kinds : List (Option Kind))
+    (node : Node) (attribute : ℕ) (r : Option Kind) (is : Kind)
+    → (((at : Place) × (node ≡ n.Read at attribute)) ⊎ ((node ≡ n.Top attribute) ⊎ (node ≡ n.Forward attribute)))
+    → (r ≡ Some is) ↔ IsAttributeKind a attribute is → (r ≡ Some is) ↔ NodeHasKind a operations production kinds node is
+of_attribute a operations production kinds node attribute r is (inl (at, e)) exact =
+    of_node a operations production kinds node (n.Read at attribute) r is e exact
+of_attribute a operations production kinds node attribute r is (inr (inl e)) exact =
+    of_node a operations production kinds node (n.Top attribute) r is e exact
+of_attribute a operations production kinds node attribute r is (inr (inr e)) exact =
+    of_node a operations production kinds node (n.Forward attribute) r is e exact
 
 module _ (a : AttributionParts) (operations : List OperationSignature) (production : Production) where
   -- the first of several parts, and the others

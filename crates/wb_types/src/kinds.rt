@@ -58,13 +58,12 @@ fn kind_of(context: &Context, node: &Node, kinds: &[Option<Kind>]) -> Option<Kin
 {
     match node {
         Node::Int(_) => Some(Kind::Int),
-        Node::Text(_) => Some(Kind::Text),
+        Node::Text(_) | Node::Lexeme(_) => Some(Kind::Text),
         Node::Bool(_) => Some(Kind::Bool),
         Node::Label(place) => place_kind(context.production, *place),
-        Node::Read { attribute, .. } => attribute_kind(context.attributes, *attribute),
-        Node::Lexeme(_) => Some(Kind::Text),
-        Node::Top(attribute) => attribute_kind(context.attributes, *attribute),
-        Node::Forward(attribute) => attribute_kind(context.attributes, *attribute),
+        Node::Read { attribute, .. } | Node::Top(attribute) | Node::Forward(attribute) => {
+            attribute_kind(context.attributes, *attribute)
+        }
         Node::Build {
             production,
             children,
