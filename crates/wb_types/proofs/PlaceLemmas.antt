@@ -1,5 +1,6 @@
 -- The kind of what is at a place of a production, and of an attribute.
 use Rattle.std.proofs.Common.{◌≡◌, ◌<◌, ◌≤◌, ◌↔◌, ℕ, List, Option, Some, None, length, get_or, sym, ap, ◌∙◌, slice_get}
+use Rattle.std.proofs.Common.{◌⊎◌, inl, inr, subst}
 use Rattle.std.specs.Option.{option_map}
 use Rattle.std.proofs.lemmas.Option.{slice_get-get_or, slice_get_past}
 use Rattle.wb_base.specs.declared.symbol.Kind.{Kind}
@@ -11,7 +12,12 @@ use Rattle.wb_resolved.specs.declared.production.ChildKind.{ChildKind}
 use Rattle.wb_resolved.specs.declared.production.ChildKind.TheVariants as child
 use Rattle.wb_resolved.specs.declared.production.Local.{Local}
 use Rattle.wb_resolved.specs.declared.production.Production.{Production}
+use Rattle.wb_resolved.specs.declared.attribution.AttributionParts.{AttributionParts}
+use Rattle.wb_resolved.specs.declared.equation.Target.{Target}
+use Rattle.wb_resolved.specs.declared.equation.Target.TheVariants as t
 use Rattle.wb_resolved.specs.Visible.{kind_at}
+use Rattle.wb_types.specs.Expected.{attribute_of}
+use Rattle.wb_types.specs.Kinds.{IsAttributeKind}
 
 -- a field of what is in a list is that of what is read there
 pub map_at : {X Y : Type 0} (f : X → Y) (xs ys : List X) (i : ℕ) (d : X) → ys ≡ xs → i < length ys
@@ -53,3 +59,14 @@ child_is production place number is = ap (kind_at production) is
 pub local_is : (production : Production) (place : Place) (number : ℕ) → place ≡ p.Local number
     → kind_at production place ≡ option_map (λ (l : Local). child.Value (kind.Tree l.nonterminal)) (slice_get production.locals number)
 local_is production place number is = ap (kind_at production) is
+
+-- what is the kind of the attribute of a target is so whatever the target
+pub of_target : (a : AttributionParts) (target : Target) (attribute : ℕ) (r : Option Kind)
+    → ((target ≡ t.Top attribute) ⊎ (((at : Place) × (target ≡ t.Place at attribute)) ⊎ (target ≡ t.Forward attribute)))
+    → ((is : Kind) → (r ≡ Some is) ↔ IsAttributeKind a attribute is)
+    → (is : Kind) → (r ≡ Some is) ↔ IsAttributeKind a (attribute_of target) is
+of_target a target attribute r (inl e) exact is = subst (λ z. (r ≡ Some is) ↔ IsAttributeKind a (attribute_of z) is) (sym e) (exact is)
+of_target a target attribute r (inr (inl (at, e))) exact is =
+    subst (λ z. (r ≡ Some is) ↔ IsAttributeKind a (attribute_of z) is) (sym e) (exact is)
+of_target a target attribute r (inr (inr e)) exact is =
+    subst (λ z. (r ≡ Some is) ↔ IsAttributeKind a (attribute_of z) is) (sym e) (exact is)

@@ -118,8 +118,7 @@ fn check_equations(alloc: Global, context: &Context) -> Result<(), TypeRefusal>
     ensures refused { IfErr result (SomeFails context.now.rule context.now.attributes.now context.now.operations.now context.now.production.now) }
 {
     'equations: for equation in context.production.equations.as_slice() {
-        let Some(kind) = attribute_kind(context.attributes, target_attribute(equation.target))
-        else {
+        let Some(kind) = target_kind(context.attributes, equation.target) else {
             continue;
         };
         check_expression(
@@ -133,14 +132,14 @@ fn check_equations(alloc: Global, context: &Context) -> Result<(), TypeRefusal>
     Ok(())
 }
 
-// The number of the attribute that an equation is for.
-fn target_attribute(target: Target) -> usize
-    ensures { result ≡ attribute_of target }
+// The kind of the attribute that an equation is for.
+fn target_kind(attributes: &AttributionParts, target: Target) -> Option<Kind>
+    ensures { (is : Kind) → (result ≡ Some is) ↔ IsAttributeKind attributes.now (attribute_of target) is }
 {
     match target {
-        Target::Top(attribute) => attribute,
-        Target::Place { attribute, .. } => attribute,
-        Target::Forward(attribute) => attribute,
+        Target::Top(attribute) | Target::Place { attribute, .. } | Target::Forward(attribute) => {
+            attribute_kind(attributes, attribute)
+        }
     }
 }
 

@@ -1,4 +1,4 @@
-use Rattle.std.proofs.Common.{◌≡◌, ℕ, Some, refl, subst, sym}
+use Rattle.std.proofs.Common.{◌≡◌, Some, refl, subst}
 use Rattle.wb_base.specs.declared.symbol.Kind.{Kind}
 use Rattle.wb_lemmas.proofs.Refusals.{handed_on}
 use Rattle.wb_resolved.specs.declared.equation.Equation.{Equation}
@@ -18,8 +18,7 @@ equations-preserved-in_default c =
     taken_more (λ (z : Equation). (is : Kind) → IsAttributeKind a (attribute_of z.target) is
     → Passes c.args.context.now.rule a operations production z.nodes is)
     c.as_slice-equation-items.result.now c.equations.equation-index e c.equations.invariant c.equations-test.true c.equation-item.is
-    (λ is of. absurd (c.in_default.not-Some is
-    ((c.attribute_kind.ensures is).1 (subst (λ (number : ℕ). IsAttributeKind a number is) (sym c.target_attribute.ensures) of))))
+    (λ is of. absurd (c.in_default.not-Some is ((c.target_kind.ensures is).1 of)))
 
 pub returns-in_err-check_expression-clause-refused : goal.returns-in_err-check_expression-clause-refused
 returns-in_err-check_expression-clause-refused c =
@@ -29,8 +28,7 @@ returns-in_err-check_expression-clause-refused c =
     let e = c.equation-item.result in
     let nodes = c.as_slice.result.now in
     let is = c.in-Some.kind in
-    let of = subst (λ (number : ℕ). IsAttributeKind a number is) c.target_attribute.ensures
-    ((c.attribute_kind.ensures is).0 c.in-Some.is) in
+    let of = (c.target_kind.ensures is).0 c.in-Some.is in
     handed_on (Fails c.args.context.now.rule a operations production nodes is e.offset) (SomeFails
     c.args.context.now.rule a operations production)
     c.from_residual.result c.in_err-check_expression.field-0.0 c.from_residual.ensures.1
@@ -52,8 +50,7 @@ equations-preserved c =
     → Passes c.args.context.now.rule a operations production z.nodes is)
     c.as_slice-equation-items.result.now c.equations.equation-index e c.equations.invariant c.equations-test.true c.equation-item.is
     (λ is of.
-    let some : c.attribute_kind.result ≡ Some is =
-    (c.attribute_kind.ensures is).1 (subst (λ (number : ℕ). IsAttributeKind a number is) (sym c.target_attribute.ensures) of) in
+    let some : c.target_kind.result ≡ Some is = (c.target_kind.ensures is).1 of in
     let there = c.in-Some.is in
     let same : c.in-Some.kind ≡ is = cc in
     subst (Passes c.args.context.now.rule a operations production e.nodes) same
