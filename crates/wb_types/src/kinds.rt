@@ -30,26 +30,12 @@ pub(crate) fn has_kind(
     requires { IsWhole nodes.now }
     ensures { IfOk result (λ yes. IsTrue yes ↔ IsOfKind context.now.attributes.now context.now.operations.now context.now.production.now nodes.now kind) }
 {
-    let kinds = kinds_of(alloc, context, nodes)?;
-    Ok(is_at(&kinds, nodes.len() - 1, kind))
-}
-
-// The kind of each node, by place. The only error is want of memory.
-fn kinds_of(
-    alloc: Global,
-    context: &Context,
-    nodes: &[Node],
-) -> Result<Vec<Option<Kind>>, AllocError>
-    requires { HasPartsBefore nodes.now }
-    ensures count { IfOk result (λ kinds. length kinds.items ≡ length nodes.now) }
-    ensures kept { IfOk result (λ kinds. AreKept context.now.attributes.now context.now.operations.now context.now.production.now nodes.now kinds.items (length nodes.now)) }
-{
     let mut kinds = Vec::new(alloc);
     'nodes: for place in 0..nodes.len() {
         let kind = kind_of(context, &nodes[place], &kinds);
         push(&mut kinds, kind)?;
     }
-    Ok(kinds)
+    Ok(is_at(&kinds, nodes.len() - 1, kind))
 }
 
 // The kind of a node by those of its parts.
