@@ -4,6 +4,7 @@ use Rattle.std.proofs.Common.{IfSome, arith, true, eqb}
 use Rattle.std.specs.Option.{IsSomeAnd, option_map}
 use Rattle.std.proofs.lemmas.Option.{slice_get-map, slice_get_within}
 use Rattle.wb_base.specs.declared.symbol.Kind.{Kind}
+use Rattle.wb_base.specs.declared.symbol.Kind.TheVariants as kind
 use Rattle.wb_base.specs.Different.{Differ}
 use Rattle.wb_expressions.specs.declared.node.Node.TheVariants as n
 use Rattle.std.proofs.lemmas.Bool.{eq-eqb}
@@ -15,7 +16,7 @@ use Rattle.wb_values.specs.Signature.{Signature}
 use Rattle.wb_operations.specs.Operations.{OperationSignature, HasOperation, IsOperation, names_of}
 use Rattle.wb_resolved.specs.declared.attribution.AttributionParts.{AttributionParts}
 use Rattle.wb_types.specs.Rules.{HasArity}
-use Rattle.wb_types.specs.Inner.Nodes.{AreAt, CallsKind}
+use Rattle.wb_types.specs.Inner.Nodes.{AreAt, BuildsKind, CallsKind}
 
 -- what is there, of which a fact holds
 some_at : {X : Type 0} (o : Option X) (P : X → Type 0) → IsSomeAnd o P → (x : X) × (o ≡ Some x) × P x
@@ -147,3 +148,34 @@ built_exact a operations node number children kinds count is within kinds_are co
       λ has. eq-eqb (length kinds) count
           (ap length same ∙ sym (counted ∙ subst (HasArity a operations) is has s at)),
     )
+
+-- the parts of a tree are of the kinds of its production's children
+pub builds_exact : (signatures : List Signature) (kinds : List (Option Kind)) (number : ℕ) (places : List ℕ) (children : List Kind)
+    → IfSome (slice_get signatures number) (λ (s : Signature). children ≡ s.children) → (is : Kind)
+    → BuildsKind signatures kinds number places is → AreAt kinds places children
+builds_exact signatures kinds number places children are is builds =
+    subst (AreAt kinds places) (sym (fact_at (slice_get signatures number) (λ (s : Signature). children ≡ s.children) builds.signature are
+    builds.listed)) builds.parts
+
+-- a tree is of the production's left side
+pub builds_left : (signatures : List Signature) (kinds : List (Option Kind)) (number : ℕ) (places : List ℕ) (left : ℕ)
+    → IfSome (slice_get signatures number) (λ (s : Signature). left ≡ s.left) → (is : Kind)
+    → BuildsKind signatures kinds number places is → kind.Tree left ≡ is
+builds_left signatures kinds number places left left_is is builds =
+    ap kind.Tree (fact_at (slice_get signatures number) (λ (s : Signature). left ≡ s.left) builds.signature left_is builds.listed)
+    ∙ sym builds.whole
+
+-- where the parts are of those kinds, it is one
+pub left_builds : (signatures : List Signature) (kinds : List (Option Kind)) (number : ℕ) (places : List ℕ) (children : List Kind)
+    (left : ℕ) → number < length signatures → IfSome (slice_get signatures number) (λ (s : Signature). children ≡ s.children)
+    → IfSome (slice_get signatures number) (λ (s : Signature). left ≡ s.left) → AreAt kinds places children
+    → BuildsKind signatures kinds number places (kind.Tree left)
+left_builds signatures kinds number places children left within are left_is parts =
+    let (s, at) = at_within signatures number within in
+    record {
+      signature = s;
+      listed = at;
+      parts = subst (AreAt kinds places)
+          (fact_at (slice_get signatures number) (λ (z : Signature). children ≡ z.children) s are at) parts;
+      whole = ap kind.Tree (fact_at (slice_get signatures number) (λ (z : Signature). left ≡ z.left) s left_is at);
+    }

@@ -1,4 +1,7 @@
-use Rattle.std.proofs.Common.{◌≡◌, Some, refl, subst}
+use Rattle.wb_lemmas.proofs.Elements.{all_contained}
+use Rattle.wb_expressions.specs.Expression.{IsWhole}
+use Rattle.wb_resolved.specs.Named.{IsNamedEquation}
+use Rattle.std.proofs.Common.{sym, ◌≡◌, Some, refl, subst}
 use Rattle.wb_base.specs.declared.symbol.Kind.{Kind}
 use Rattle.wb_lemmas.proofs.Refusals.{handed_on}
 use Rattle.wb_resolved.specs.declared.equation.Equation.{Equation}
@@ -8,6 +11,16 @@ use Rattle.wb_types.specs.Kinds.{IsAttributeKind}
 use Rattle.wb_types.specs.Inner.Passes.{Passes, Fails, SomeFails}
 use Rattle.wb_types.proofs.PassLemmas.{some_fails, taken_more, each_taken, read_contained}
 use Rattle.wb_types.proofs.check.check_equations.Goals as goal
+
+pub check_expression-requires : goal.check_expression-requires
+check_expression-requires c =
+    let a = c.args.context.now.attributes.now in
+    let production = c.args.context.now.production.now in
+    let e = c.equation-item.result in
+    let named = all_contained (IsNamedEquation a production) production.equations e c.requires.equations
+    (read_contained c.as_slice-equation-items.result.now production.equations c.equations.equation-index e
+    c.as_slice-equation-items.ensures c.equations-test.true c.equation-item.is) in
+    subst IsWhole (sym c.as_slice.ensures) named.value.whole
 
 pub equations-preserved-in_default : goal.equations-preserved-in_default
 equations-preserved-in_default c =

@@ -1,7 +1,23 @@
+use Rattle.wb_lemmas.proofs.Elements.{all_contained}
+use Rattle.wb_resolved.specs.Named.{IsNamedProduction}
 use Rattle.wb_lemmas.proofs.Refusals.{handed_on}
 use Rattle.wb_types.specs.Inner.Passes.{AllPass, SomeFails, AnyFails}
 use Rattle.wb_types.proofs.PassLemmas.{all_pass, any_fails, taken_more, each_taken, read_contained}
 use Rattle.wb_types.proofs.check.check_rule.Goals as goal
+
+pub check_trees-requires : goal.check_trees-requires
+check_trees-requires c =
+    all_contained (IsNamedProduction c.args.attributes.now) c.args.attributes.now.productions c.production-item.result
+    c.requires.named.productions
+    (read_contained c.as_slice-production-items.result.now c.args.attributes.now.productions c.productions.production-index
+    c.production-item.result c.as_slice-production-items.ensures c.productions-test.true c.production-item.is)
+
+pub check_equations-requires : goal.check_equations-requires
+check_equations-requires c =
+    all_contained (IsNamedProduction c.args.attributes.now) c.args.attributes.now.productions c.production-item.result
+    c.requires.named.productions
+    (read_contained c.as_slice-production-items.result.now c.args.attributes.now.productions c.productions.production-index
+    c.production-item.result c.as_slice-production-items.ensures c.productions-test.true c.production-item.is)
 
 pub productions-preserved : goal.productions-preserved
 productions-preserved c =

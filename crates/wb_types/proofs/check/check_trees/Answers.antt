@@ -1,3 +1,6 @@
+use Rattle.wb_resolved.specs.declared.production.Forward.{Forward}
+use Rattle.wb_resolved.specs.Named.{IsNamedExpression}
+use Rattle.wb_types.proofs.OperationLemmas.{fact_at}
 use Rattle.std.proofs.Common.{refl, subst, sym}
 use Rattle.std.proofs.lemmas.Result.{IfOk-weaker, IfErr-weaker}
 use Rattle.wb_base.specs.declared.symbol.Kind.TheVariants.{Tree}
@@ -92,3 +95,11 @@ returns-clause-forward c =
     (λ done passes. forward_passes c.args.context.now.rule c.args.context.now.attributes.now c.args.context.now.operations.now
     c.args.context.now.production.now c.in-Some.forward c.as_slice-2.result.now c.in-Some.is c.as_slice-2.ensures passes)
     c.check_expression-2.ensures.ok
+
+pub check_expression-requires-2 : goal.check_expression-requires-2
+check_expression-requires-2 c =
+    let a = c.args.context.now.attributes.now in
+    let production = c.args.context.now.production.now in
+    let named = fact_at production.forward (λ (f : Forward). IsNamedExpression a production production.owner f.nodes)
+    c.in-Some.forward c.requires.forward c.in-Some.is in
+    subst IsWhole (sym c.as_slice-2.ensures) named.whole
