@@ -76,7 +76,7 @@ pub fn evaluate<M: Meaning>(
     };
     let answer = evaluate_root(alloc, &context, store, root, attribute);
     drop(context);
-    drop(rules);
+    rules.release();
     answer
 }
 
@@ -105,7 +105,7 @@ fn evaluate_root<M: Meaning>(
     let mut work = Work::new(alloc);
     let answer = take_turns(context, &mut machine, store, &mut work);
     drop(work);
-    drop(machine);
+    machine.release();
     answer
 }
 

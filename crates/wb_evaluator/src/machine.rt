@@ -23,7 +23,6 @@ pub(crate) enum Key {
 
 // The memo, the attribute that is asked of the root, the instances that wait with the one at work last, the frames of those whose
 // expressions wait, and how many were entered.
-#[derive(Drop)]
 pub(crate) struct Machine<'a> {
     pub memo: Memo,
     pub root: TreeId,
@@ -52,6 +51,21 @@ impl<'a> Machine<'a> {
             frames: Frames::new(alloc),
             entered: 0,
         })
+    }
+
+    // Lets go of what is kept, the memo by its own call.
+    pub(crate) fn release(self) {
+        let Machine {
+            memo,
+            stack,
+            frames,
+            root: _,
+            attribute: _,
+            entered: _,
+        } = self;
+        memo.release();
+        drop(stack);
+        drop(frames);
     }
 
     // Enters the instance of a key, for the one at work to wait for.

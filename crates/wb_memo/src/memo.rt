@@ -42,6 +42,11 @@ impl Memo {
         })
     }
 
+    /// Lets go of the memo. A crate that calls this proves no drop of what it holds.
+    pub fn release(self) {
+        drop(self)
+    }
+
     /// The value of an attribute, where it is known. The only error is that a text has too many copies to be counted.
     pub fn attribute(&self, site: usize, attribute: usize) -> Result<Option<Value>, AllocError>
         requires { IsWhole self.now }

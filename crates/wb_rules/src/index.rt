@@ -27,4 +27,9 @@ impl RuleIndex {
         }
         Ok(RuleIndex { rows })
     }
+
+    /// Lets go of the index. A crate that calls this proves no drop of what it holds.
+    pub fn release(self) {
+        drop(self)
+    }
 }
