@@ -1,29 +1,28 @@
--- The report of extensions comes after the checks of their host, and a run that stops at one of them, or at a text after them, has its cause.
-use Rattle.std.proofs.Common.{◌≡◌, ◌≤◌, ◌++◌, inl, inr, ℕ, List, [], ◌∷◌, Option, length, subst}
+-- The report of what is composed comes after the checks of the host and the extensions, and a run that stops at one of them has its cause.
+use Rattle.std.proofs.Common.{◌≡◌, ◌≤◌, ◌++◌, inl, inr, ℕ, List, [], ◌∷◌, Option, length, subst, sym, ap, ◌∙◌}
+use Rattle.wb_certify.specs.Hosts.{CertifiedView}
 use Rattle.wb_hosts.specs.Contents.{IsHostText, IsHostRefusal}
 use Rattle.wb_operations.specs.Operations.{OperationSignature}
 use Rattle.wb_resolved.specs.declared.resolved.ResolvedParts.{ResolvedParts}
 use Rattle.wb_world.specs.Shelf.{Files}
+use Rattle.wb_united_texts.specs.Unions.{all_resolved}
 use Rattle.wb_inputs.specs.Checks.{Report}
-use Rattle.wb_inputs.specs.Files.{KnownAbsent}
+use Rattle.wb_inputs.specs.Composable.{AreRead, RefusesAny}
+use Rattle.wb_inputs.specs.ExtensionChecks.{AreApart}
+use Rattle.wb_inputs.specs.Files.{KnownAbsent, KnownFile}
+use Rattle.wb_inputs.specs.Inner.Several.{AreWith}
 use Rattle.wb_inputs.specs.Reads.{IsMissing, IsFaulty, StopsComposed, StopsEach, StopsThen}
 use Rattle.wb_inputs.specs.SeveralChecks.{AreEach, EachChecks, IsNext, SeveralChecks}
 use Rattle.wb_inputs.specs.HostChecks.{IsHostFile, RefusesHost}
 use Rattle.wb_inputs.specs.Stopped.{Outside, Stopped, GoesOn}
+use Rattle.wb_inputs.specs.declared.composable.Composable.{Composable}
 use Rattle.wb_inputs.specs.declared.reading.ReadFailure.{ReadFailure}
 use Rattle.wb_inputs.specs.declared.reading.ReadFailure.TheVariants.{Absent, ReadFault, NoMemory}
 use Rattle.wb_inputs.specs.declared.status.Status.{Status}
 use Rattle.wb_inputs.proofs.CauseLemmas.{rose_since, weaker_stop}
 use Rattle.wb_inputs.proofs.HostLemmas.{refused_checks}
 
--- a certified host has the report of its extensions
-pub several_certified : (operations : List OperationSignature) (known : Option Files) (host : List ℕ) (all : List (List ℕ))
-    (rest : ResolvedParts → List ResolvedParts → Report) (r : ResolvedParts) (status : Status) (bytes : List ℕ) → length all ≤ 64
-    → IsHostFile operations known host r → EachChecks operations known r all (rest r) status bytes
-    → SeveralChecks operations known host all rest status bytes
-several_certified operations known host all rest r status bytes few is report = inr (few, inr (inr (r, is.contents, report)))
-
--- another file has that of its refusal
+-- a file that is no certified host has the report of its refusal
 pub several_refused : (operations : List OperationSignature) (known : Option Files) (host : List ℕ) (all : List (List ℕ))
     (rest : ResolvedParts → List ResolvedParts → Report) (status : Status) (bytes : List ℕ) → length all ≤ 64
     → RefusesHost (IsHostRefusal operations) known host status bytes → SeveralChecks operations known host all rest status bytes
@@ -106,11 +105,64 @@ then_first operations before now r all End failure =
     weaker_stop before now (λ P. StopsEach operations before.files r P all []) (λ P. StopsThen operations before.files r P all (End P))
     failure (λ P is. inl is)
 
--- a run that stops at a text after them
-pub then_text : (operations : List OperationSignature) (before between now : Outside) (r : ResolvedParts) (all : List (List ℕ))
-    (values : List ResolvedParts) (text : List ℕ) (failure : ReadFailure) → AreEach operations before.files r all [] values
-    → GoesOn before between → Stopped between now (λ P. P text) failure
-    → Stopped before now (λ P. StopsThen operations before.files r P all (λ others. P text)) failure
-then_text operations before between now r all values text failure each kept =
-    reason_since before between now (λ P. P text) (λ P. StopsThen operations before.files r P all (λ others. P text)) failure kept
-    (λ P Q weaker is. inr (values, each, weaker text is))
+module _ (operations : List OperationSignature) (host : List ℕ) (extensions : List (List ℕ)) where
+  -- a run that ends before the rest has its report, whatever the rest is
+  pub several_ended : (known : Option Files) (rest : ResolvedParts → List ResolvedParts → Report) (status : Status) (bytes : List ℕ)
+      → RefusesAny operations known host extensions status bytes → SeveralChecks operations known host extensions rest status bytes
+  several_ended known rest status bytes (inl many) = inl many
+  several_ended known rest status bytes (inr (few, inl refused)) = inr (few, inl refused)
+  several_ended known rest status bytes (inr (few, inr (inl refused))) = inr (few, inr (inl refused))
+  several_ended known rest status bytes (inr (few, inr (inr (r, is, inl refused)))) = inr (few, inr (inr (r, is, inl refused)))
+  several_ended known rest status bytes (inr (few, inr (inr (r, is, inr (values, each, none))))) = absurd none
+
+  -- a certified host and extensions with it are read
+  pub are_read : (known : Option Files) (certified : CertifiedView) (all : Composable) → length extensions ≤ 64
+      → IsHostFile operations known host certified.resolved → certified.operations ≡ operations
+      → AreWith operations known certified extensions all → AreRead operations known host extensions all
+  are_read known certified all few is signatures are = record {
+    few = few;
+    is_host = subst (λ (h : CertifiedView). KnownFile known host (λ contents. IsHostText operations contents h.resolved)) (sym are.same)
+        is.contents;
+    each = subst (λ (h : CertifiedView). AreEach operations known h.resolved extensions [] (all_resolved all.extensions.items))
+        (sym are.same) are.each;
+    apart = subst (λ (h : CertifiedView). AreApart h all.extensions.items) (sym are.same) are.apart;
+    signatures = ap (λ (h : CertifiedView). h.operations) are.same ∙ signatures;
+  }
+
+  -- where all are read, the report is that of the rest
+  pub several_read : (known : Option Files) (rest : ResolvedParts → List ResolvedParts → Report) (all : Composable) (status : Status)
+      (bytes : List ℕ) → AreRead operations known host extensions all
+      → rest all.host.resolved (all_resolved all.extensions.items) status bytes
+      → SeveralChecks operations known host extensions rest status bytes
+  several_read known rest all status bytes are report =
+      inr (are.few, inr (inr (all.host.resolved, are.is_host, inr (all_resolved all.extensions.items, are.each, report))))
+
+  -- what stops at one of them
+  stops_ended : (known : Option Files) (P : List ℕ → Type 0) (End : ResolvedParts → List ResolvedParts → Type 0)
+      → StopsComposed operations known host extensions P (λ r values. ⊥) → StopsComposed operations known host extensions P End
+  stops_ended known P End (few, inl is) = (few, inl is)
+  stops_ended known P End (few, inr (r, is, inl each)) = (few, inr (r, is, inl each))
+  stops_ended known P End (few, inr (r, is, inr (values, each, none))) = absurd none
+
+  -- a run that stops at one of them
+  pub composed_ended : (before now : Outside) (End : (List ℕ → Type 0) → ResolvedParts → List ResolvedParts → Type 0)
+      (failure : ReadFailure) → Stopped before now (λ P. StopsComposed operations before.files host extensions P (λ r values. ⊥)) failure
+      → Stopped before now (λ P. StopsComposed operations before.files host extensions P (End P)) failure
+  composed_ended before now End failure =
+      weaker_stop before now (λ P. StopsComposed operations before.files host extensions P (λ r values. ⊥))
+      (λ P. StopsComposed operations before.files host extensions P (End P)) failure (λ P. stops_ended before.files P (End P))
+
+  -- a run that stops after all of them
+  pub composed_last : (before between now : Outside) (End : (List ℕ → Type 0) → ResolvedParts → List ResolvedParts → Type 0)
+      (all : Composable) (failure : ReadFailure)
+      → ((P Q : List ℕ → Type 0) → ((file : List ℕ) → P file → Q file) → End P all.host.resolved (all_resolved all.extensions.items)
+      → End Q all.host.resolved (all_resolved all.extensions.items)) → AreRead operations before.files host extensions all
+      → GoesOn before between → Stopped between now (λ P. End P all.host.resolved (all_resolved all.extensions.items)) failure
+      → Stopped before now (λ P. StopsComposed operations before.files host extensions P (End P)) failure
+  composed_last before between now End all failure last are kept =
+      reason_since before between now (λ P. End P all.host.resolved (all_resolved all.extensions.items))
+      (λ P. StopsComposed operations before.files host extensions P (End P)) failure kept
+      (λ P Q weaker stops. (
+        are.few,
+        inr (all.host.resolved, are.is_host, inr (all_resolved all.extensions.items, are.each, last P Q weaker stops)),
+      ))

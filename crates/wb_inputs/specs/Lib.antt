@@ -12,6 +12,8 @@ pub mod HostChecks
 pub mod ExtensionChecks
 -- the checks of several extensions
 pub mod SeveralChecks
+-- a host and extensions that are read
+pub mod Composable
 -- a text, and one that is too long
 pub mod Texts
 -- which files are read, and which one is missing or faulty where a run stops

@@ -4,13 +4,15 @@
 #![tactic(auto)]
 
 mod answer;
+mod composable;
 mod hosts;
 mod reading;
 mod several;
 mod status;
 
 pub use answer::{Answer, reported};
+pub use composable::{Composable, MOST_EXTENSIONS, read_composable};
 pub use hosts::{read_host, read_well_defined};
-pub use reading::{Contents, ReadFailure, read_file};
-pub use several::{MOST_EXTENSIONS, read_extensions, refused_extension};
+pub use reading::{Contents, ReadFailure, named_contents, read_file};
+pub use several::refused_extension;
 pub use status::Status;

@@ -68,8 +68,8 @@ pub fn read_file<S: Shelf>(
     }
 }
 
-// The word that names a file, as reports show it, and what is read of the file, unless it is longer than a specification may be.
-pub(crate) fn named_contents<S: Shelf>(
+/// The word that names a file, as reports show it, and what is read of the file, unless it has more bytes than a specification may have.
+pub fn named_contents<S: Shelf>(
     alloc: Global,
     shelf: &mut S,
     file: &str,

@@ -18,16 +18,13 @@ use crate::reading::{Contents, ReadFailure, named_contents};
 use crate::status::Status;
 use std::alloc::{AllocError, Global};
 use wb_base::Bytes;
-use wb_beside::{CertifiedExtension, release_extensions};
+use wb_beside::CertifiedExtension;
 use wb_certify::CertifiedHost;
 use wb_extension_files::{FileRefusal, extension_of_spec, extension_spec};
 use wb_operations::{Meaning, OperationTable};
 use wb_report::{Outcome, Refusal, SpecReason};
 use wb_syntax::Spec;
 use wb_world::Shelf;
-
-/// The most extensions that a command takes.
-pub const MOST_EXTENSIONS: usize = 64;
 
 // Why a file is refused as an extension after others.
 #[derive(Drop)]
@@ -40,40 +37,8 @@ pub(crate) enum NextRefusal {
     Later(FileRefusal),
 }
 
-/// The extensions of files, in their order, or the answer where one is refused.
-pub fn read_extensions<S: Shelf, M: Meaning>(
-    alloc: Global,
-    shelf: &mut S,
-    host: &CertifiedHost,
-    files: &[String],
-    operations: &OperationTable<M>,
-) -> Result<Result<Vec<CertifiedExtension>, Answer>, ReadFailure>
-    requires { host.now.operations ≡ operations.now.signatures }
-    ensures apart { IfOk result (λ read. IfOk read (λ extensions. AreApart host.now extensions.items)) }
-    ensures ok { IfOk result (λ read. IfOk read (λ extensions. AreEach operations.now.signatures (S.files shelf.old) host.now.resolved (texts files.now) [] (all_resolved extensions.items))) }
-    ensures refused { IfOk result (λ read. IfErr read (λ answer. RefusesEach operations.now.signatures (S.files shelf.old) host.now.resolved (texts files.now) [] answer.status answer.report.items)) }
-    ensures stopped { IfErr result (Stopped (outside (S.files shelf.old) (S.absences shelf.old) (S.faults shelf.old))
-        (outside (S.files shelf.new) (S.absences shelf.new) (S.faults shelf.new))
-        (λ P. StopsEach operations.now.signatures (S.files shelf.old) host.now.resolved P (texts files.now) [])) }
-    ensures goes_on { GoesOn (outside (S.files shelf.old) (S.absences shelf.old) (S.faults shelf.old))
-        (outside (S.files shelf.new) (S.absences shelf.new) (S.faults shelf.new)) }
-{
-    let mut extensions = Vec::new(alloc);
-    match read_into(alloc, shelf, host, files, &mut extensions, operations) {
-        Ok(Ok(())) => Ok(Ok(extensions)),
-        Ok(Err(answer)) => {
-            release_extensions(extensions);
-            Ok(Err(answer))
-        }
-        Err(failure) => {
-            release_extensions(extensions);
-            Err(failure)
-        }
-    }
-}
-
 // Adds the extensions of files to a list without any, in their order, or finds the answer where one is refused.
-fn read_into<S: Shelf, M: Meaning>(
+pub(crate) fn read_into<S: Shelf, M: Meaning>(
     alloc: Global,
     shelf: &mut S,
     host: &CertifiedHost,

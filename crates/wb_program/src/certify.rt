@@ -17,12 +17,12 @@ ghost use Rattle.wb_program.specs.CertifyReport.{CertifyReport, ExtensionsReport
 ghost use Rattle.wb_program.specs.Inner.Extensions.{CertifyStops, EndsAtExtension};
 
 use std::alloc::{AllocError, Global};
-use wb_base::{Bytes, FILE_LIMIT, Sequence};
+use wb_base::{Bytes, Sequence};
 use wb_beside::CertifiedExtension;
 use wb_certify::CertifiedHost;
 use wb_extension_files::{FileRefusal, extension_of};
 use wb_inputs::{
-    Answer, Contents, MOST_EXTENSIONS, ReadFailure, Status, read_file, read_host,
+    Answer, Contents, MOST_EXTENSIONS, ReadFailure, Status, named_contents, read_host,
     refused_extension, reported,
 };
 use wb_operations::{Meaning, OperationTable};
@@ -110,36 +110,14 @@ fn name_of<S: Shelf, M: Meaning>(
     ensures goes_on { GoesOn (outside (S.files shelf.old) (S.absences shelf.old) (S.faults shelf.old))
         (outside (S.files shelf.new) (S.absences shelf.new) (S.faults shelf.new)) }
 {
-    let word = Bytes::from_slice(alloc, file.as_bytes())?;
-    match certified_beside(alloc, shelf, host, file, operations)? {
+    let (word, contents) = named_contents(alloc, shelf, file)?;
+    match extension_in(alloc, host, contents, operations) {
         Ok(extension) => {
             drop(word);
             Ok(Ok(extension_name(alloc, extension)?))
         }
         Err(refusal) => Ok(Err(refused_extension(alloc, word, refusal)?)),
     }
-}
-
-// Reads and certifies the extension of a file beside a host.
-fn certified_beside<S: Shelf, M: Meaning>(
-    alloc: Global,
-    shelf: &mut S,
-    host: &CertifiedHost,
-    file: &str,
-    operations: &OperationTable<M>,
-) -> Result<Result<CertifiedExtension, FileRefusal>, ReadFailure>
-    requires { host.now.operations ≡ operations.now.signatures }
-    ensures ok { IfOk result (λ read. IfOk read (λ extension. KnownFile (S.files shelf.old) file.now
-        (λ contents. IsExtensionText host.now.resolved operations.now.signatures contents extension.resolved))) }
-    ensures refused { IfOk result (λ read. IfErr read (λ refusal. KnownFile (S.files shelf.old) file.now
-        (λ contents. IsExtensionRefusal host.now.resolved operations.now.signatures contents refusal))) }
-    ensures stopped { IfErr result (Stopped (outside (S.files shelf.old) (S.absences shelf.old) (S.faults shelf.old))
-        (outside (S.files shelf.new) (S.absences shelf.new) (S.faults shelf.new)) (λ P. P file.now)) }
-    ensures goes_on { GoesOn (outside (S.files shelf.old) (S.absences shelf.old) (S.faults shelf.old))
-        (outside (S.files shelf.new) (S.absences shelf.new) (S.faults shelf.new)) }
-{
-    let contents = read_file(alloc, shelf, file, FILE_LIMIT)?;
-    Ok(extension_in(alloc, host, contents, operations))
 }
 
 // The certified extension that was read.

@@ -1,28 +1,23 @@
 //! What does `compose HOST EXT..` answer?
 //!
-//! The host comes first, by the checks in `check`, then the extensions, by those in `several`, and then the language that `wb_composition`
-//! composes of them.
+//! The host and the extensions come first, by the checks of `wb_inputs`, and then the language that `wb_composition` composes of them.
 
-ghost use Rattle.std.specs.Prelude.{◌≡◌, IfOk, IfErr, List, []};
+ghost use Rattle.std.specs.Prelude.{IfOk, IfErr};
 ghost use Rattle.wb_composition.specs.Composed.{IsComposed};
-ghost use Rattle.wb_resolved.specs.declared.resolved.ResolvedParts.{ResolvedParts};
 ghost use Rattle.wb_united_texts.specs.Unions.{all_resolved};
 ghost use Rattle.wb_words.specs.Words.{texts};
 ghost use Rattle.wb_inputs.specs.Checks.{Ends};
 ghost use Rattle.wb_inputs.specs.ExtensionChecks.{AreApart};
-ghost use Rattle.wb_inputs.specs.Reads.{StopsComposed, StopsEach};
-ghost use Rattle.wb_inputs.specs.SeveralChecks.{EachChecks};
+ghost use Rattle.wb_inputs.specs.Reads.{StopsComposed};
 ghost use Rattle.wb_inputs.specs.Stopped.{outside, Stopped, GoesOn};
 ghost use Rattle.wb_program.specs.ComposeReport.{ComposeReport, ComposedLines};
 
 use std::alloc::{AllocError, Global};
 use wb_base::Bytes;
-use wb_beside::{CertifiedExtension, release_extensions};
+use wb_beside::CertifiedExtension;
 use wb_certify::CertifiedHost;
 use wb_composition::{Composed, compose};
-use wb_inputs::{
-    Answer, MOST_EXTENSIONS, ReadFailure, Status, read_extensions, read_host, reported,
-};
+use wb_inputs::{Answer, ReadFailure, Status, read_composable, reported};
 use wb_operations::{Meaning, OperationTable};
 use wb_report::{Done, Outcome};
 use wb_united_texts::withdrawn_names;
@@ -42,39 +37,10 @@ pub(crate) fn answer_compose<S: Shelf, M: Meaning>(
     ensures goes_on { GoesOn (outside (S.files shelf.old) (S.absences shelf.old) (S.faults shelf.old))
         (outside (S.files shelf.new) (S.absences shelf.new) (S.faults shelf.new)) }
 {
-    if extensions.len() > MOST_EXTENSIONS {
-        return Ok(reported(alloc, Status::TooManyExtensions, Outcome::TooManyExtensions)?);
-    }
-    match read_host(alloc, shelf, host, operations)? {
-        Ok(certified) => {
-            let answer = compose_files(alloc, shelf, &certified, extensions, operations);
-            certified.release();
-            answer
-        }
-        Err(answer) => Ok(answer),
-    }
-}
-
-// The answer for the extensions of files with a host.
-fn compose_files<S: Shelf, M: Meaning>(
-    alloc: Global,
-    shelf: &mut S,
-    host: &CertifiedHost,
-    files: &[String],
-    operations: &OperationTable<M>,
-) -> Result<Answer, ReadFailure>
-    requires { host.now.operations ≡ operations.now.signatures }
-    ensures ok { IfOk result (λ answer. EachChecks operations.now.signatures (S.files shelf.old) host.now.resolved (texts files.now)
-        (λ (values : List ResolvedParts). Ends Status.Done (ComposedLines operations.now.signatures host.now.resolved values)) answer.status answer.report.items) }
-    ensures stopped { IfErr result (Stopped (outside (S.files shelf.old) (S.absences shelf.old) (S.faults shelf.old))
-        (outside (S.files shelf.new) (S.absences shelf.new) (S.faults shelf.new)) (λ P. StopsEach operations.now.signatures (S.files shelf.old) host.now.resolved P (texts files.now) [])) }
-    ensures goes_on { GoesOn (outside (S.files shelf.old) (S.absences shelf.old) (S.faults shelf.old))
-        (outside (S.files shelf.new) (S.absences shelf.new) (S.faults shelf.new)) }
-{
-    match read_extensions(alloc, shelf, host, files, operations)? {
-        Ok(extensions) => {
-            let answer = answer_composed(alloc, host, &extensions);
-            release_extensions(extensions);
+    match read_composable(alloc, shelf, host, extensions, operations)? {
+        Ok(all) => {
+            let answer = answer_composed(alloc, &all.host, &all.extensions);
+            all.release();
             Ok(answer?)
         }
         Err(answer) => Ok(answer),

@@ -2,15 +2,13 @@
 //!
 //! The host and the extensions come as in `compose`, and then the text, whose answer in their language is found by `wb_united_texts`.
 
-ghost use Rattle.std.specs.Prelude.{◌≡◌, IfOk, IfErr, ℕ, List};
+ghost use Rattle.std.specs.Prelude.{IfOk, IfErr, ℕ, List};
 ghost use Rattle.wb_composition.specs.Composed.{IsComposed};
-ghost use Rattle.wb_resolved.specs.declared.resolved.ResolvedParts.{ResolvedParts};
 ghost use Rattle.wb_united_texts.specs.Unions.{all_resolved};
 ghost use Rattle.wb_words.specs.Words.{texts};
 ghost use Rattle.wb_inputs.specs.Checks.{Check};
 ghost use Rattle.wb_inputs.specs.ExtensionChecks.{AreApart};
-ghost use Rattle.wb_inputs.specs.Reads.{StopsComposed, StopsThen};
-ghost use Rattle.wb_inputs.specs.SeveralChecks.{EachChecks};
+ghost use Rattle.wb_inputs.specs.Reads.{StopsComposed};
 ghost use Rattle.wb_inputs.specs.Stopped.{outside, Stopped, GoesOn};
 ghost use Rattle.wb_inputs.specs.Texts.{IsText, IsTooLongText, ReadText};
 ghost use Rattle.wb_program.specs.ComposeReport.{UnitedReport, UnitedTreeReport};
@@ -18,13 +16,10 @@ ghost use Rattle.wb_program.specs.ComposeReport.{UnitedReport, UnitedTreeReport}
 use crate::tree::shown_text;
 use std::alloc::{AllocError, Global};
 use wb_base::FILE_LIMIT;
-use wb_beside::{CertifiedExtension, release_extensions};
+use wb_beside::CertifiedExtension;
 use wb_certify::CertifiedHost;
 use wb_composition::{Composed, compose};
-use wb_inputs::{
-    Answer, Contents, MOST_EXTENSIONS, ReadFailure, Status, read_extensions, read_file, read_host,
-    reported,
-};
+use wb_inputs::{Answer, Contents, ReadFailure, Status, read_composable, read_file, reported};
 use wb_operations::{Meaning, OperationTable};
 use wb_report::Outcome;
 use wb_united_texts::united_text_answer;
@@ -45,41 +40,10 @@ pub(crate) fn answer_united<S: Shelf, M: Meaning>(
     ensures goes_on { GoesOn (outside (S.files shelf.old) (S.absences shelf.old) (S.faults shelf.old))
         (outside (S.files shelf.new) (S.absences shelf.new) (S.faults shelf.new)) }
 {
-    if extensions.len() > MOST_EXTENSIONS {
-        return Ok(reported(alloc, Status::TooManyExtensions, Outcome::TooManyExtensions)?);
-    }
-    match read_host(alloc, shelf, host, operations)? {
-        Ok(certified) => {
-            let answer = united_files(alloc, shelf, text, &certified, extensions, operations);
-            certified.release();
-            answer
-        }
-        Err(answer) => Ok(answer),
-    }
-}
-
-// The answer for the text of a file in the language of a host with the extensions of files.
-fn united_files<S: Shelf, M: Meaning>(
-    alloc: Global,
-    shelf: &mut S,
-    text: &str,
-    host: &CertifiedHost,
-    files: &[String],
-    operations: &OperationTable<M>,
-) -> Result<Answer, ReadFailure>
-    requires { host.now.operations ≡ operations.now.signatures }
-    ensures ok { IfOk result (λ answer. EachChecks operations.now.signatures (S.files shelf.old) host.now.resolved (texts files.now)
-        (λ (values : List ResolvedParts). Check Status.TextTooLong (IsTooLongText (S.files shelf.old) text.now) (IsText (S.files shelf.old) text.now)
-        (λ (contents : List ℕ). UnitedReport operations.now.signatures host.now.resolved values contents)) answer.status answer.report.items) }
-    ensures stopped { IfErr result (Stopped (outside (S.files shelf.old) (S.absences shelf.old) (S.faults shelf.old))
-        (outside (S.files shelf.new) (S.absences shelf.new) (S.faults shelf.new)) (λ P. StopsThen operations.now.signatures (S.files shelf.old) host.now.resolved P (texts files.now) (λ values. P text.now))) }
-    ensures goes_on { GoesOn (outside (S.files shelf.old) (S.absences shelf.old) (S.faults shelf.old))
-        (outside (S.files shelf.new) (S.absences shelf.new) (S.faults shelf.new)) }
-{
-    match read_extensions(alloc, shelf, host, files, operations)? {
-        Ok(extensions) => {
-            let answer = united_text(alloc, shelf, text, host, &extensions);
-            release_extensions(extensions);
+    match read_composable(alloc, shelf, host, extensions, operations)? {
+        Ok(all) => {
+            let answer = united_text(alloc, shelf, text, &all.host, &all.extensions);
+            all.release();
             answer
         }
         Err(answer) => Ok(answer),

@@ -11,20 +11,18 @@ ghost use Rattle.wb_united_texts.specs.Unions.{all_resolved};
 ghost use Rattle.wb_words.specs.Words.{texts};
 ghost use Rattle.wb_inputs.specs.Checks.{Ends};
 ghost use Rattle.wb_inputs.specs.ExtensionChecks.{AreApart};
-ghost use Rattle.wb_inputs.specs.Reads.{StopsComposed, StopsThen};
-ghost use Rattle.wb_inputs.specs.SeveralChecks.{EachChecks, SeveralChecks};
+ghost use Rattle.wb_inputs.specs.Reads.{StopsComposed};
+ghost use Rattle.wb_inputs.specs.SeveralChecks.{SeveralChecks};
 ghost use Rattle.wb_inputs.specs.Stopped.{outside, Stopped, GoesOn};
 ghost use Rattle.wb_runs.specs.Inner.Sources.{HasFewLeaves, IsAsked, SourceChecks, SourceEnd, SourceRest, SourceText};
 
 use crate::asked::{Asked, file_answer, made_answer};
 use std::alloc::{AllocError, Global};
 use wb_base::Bytes;
-use wb_beside::{CertifiedExtension, release_extensions};
+use wb_beside::CertifiedExtension;
 use wb_certify::CertifiedHost;
 use wb_composition::{Composed, compose, composed_attributes};
-use wb_inputs::{
-    Answer, MOST_EXTENSIONS, ReadFailure, Status, read_extensions, read_host, reported,
-};
+use wb_inputs::{Answer, ReadFailure, Status, read_composable, reported};
 use wb_operations::{Meaning, OperationRefusal, OperationTable};
 use wb_report::Outcome;
 use wb_resolved::Attribution;
@@ -62,56 +60,18 @@ pub(crate) fn answer_source<S: Shelf, M: Meaning>(
     ensures goes_on { GoesOn (outside (S.files shelf.old) (S.absences shelf.old) (S.faults shelf.old))
         (outside (S.files shelf.new) (S.absences shelf.new) (S.faults shelf.new)) }
 {
-    if extensions.len() > MOST_EXTENSIONS {
-        return Ok(reported(alloc, Status::TooManyExtensions, Outcome::TooManyExtensions)?);
-    }
-    match read_host(alloc, shelf, host, operations)? {
-        Ok(certified) => {
-            let answer = files_answer(
-                alloc, shelf, source, attribute, &certified, extensions, operations,
-            );
-            certified.release();
-            answer
-        }
-        Err(answer) => Ok(answer),
-    }
-}
-
-// The answer in the union of a host with the extensions of files.
-fn files_answer<S: Shelf, M: Meaning>(
-    alloc: Global,
-    shelf: &mut S,
-    source: Source<'_>,
-    attribute: &str,
-    host: &CertifiedHost,
-    files: &[String],
-    operations: &OperationTable<M>,
-) -> Result<Answer, ReadFailure>
-    requires operations { host.now.operations ≡ operations.now.signatures }
-    requires size { HasFewLeaves source }
-    requires kept { IsKept operations.now.signatures operations.now.built_in operations.now.runs.items M.meaning
-        (λ run vs. ⟦<Box<dyn Fn(&[Value]) -> Result<Value, OperationRefusal>> as Fn(&[Value]) -> Result<Value, OperationRefusal>>⟧.pre run vs)
-        (λ run vs r. ⟦<Box<dyn Fn(&[Value]) -> Result<Value, OperationRefusal>> as Fn(&[Value]) -> Result<Value, OperationRefusal>>⟧.post run vs r) }
-    ensures ok { IfOk result (λ answer. EachChecks operations.now.signatures (S.files shelf.old) host.now.resolved (texts files.now)
-        (SourceChecks (record { signatures = operations.now.signatures; meaning = M.meaning }) (S.files shelf.old) attribute.now source.entry host.now.resolved) answer.status answer.report.items) }
-    ensures stopped { IfErr result (Stopped (outside (S.files shelf.old) (S.absences shelf.old) (S.faults shelf.old))
-        (outside (S.files shelf.new) (S.absences shelf.new) (S.faults shelf.new))
-        (λ P. StopsThen operations.now.signatures (S.files shelf.old) host.now.resolved P (texts files.now) (SourceEnd operations.now.signatures attribute.now source.entry P host.now.resolved))) }
-    ensures goes_on { GoesOn (outside (S.files shelf.old) (S.absences shelf.old) (S.faults shelf.old))
-        (outside (S.files shelf.new) (S.absences shelf.new) (S.faults shelf.new)) }
-{
-    match read_extensions(alloc, shelf, host, files, operations)? {
-        Ok(extensions) => {
+    match read_composable(alloc, shelf, host, extensions, operations)? {
+        Ok(all) => {
             let answer = union_answer(
                 alloc,
                 shelf,
                 source,
                 attribute,
-                host,
-                &extensions,
+                &all.host,
+                &all.extensions,
                 operations,
             );
-            release_extensions(extensions);
+            all.release();
             answer
         }
         Err(answer) => Ok(answer),

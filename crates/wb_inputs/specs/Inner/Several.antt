@@ -1,5 +1,5 @@
 -- What is made of the file of an extension after others, and of several in their order.
-use Rattle.std.specs.Prelude.{◌≡◌, ℕ, List, [], Contains, drop}
+use Rattle.std.specs.Prelude.{◌≡◌, ℕ, List, Option, [], Contains, drop}
 use Rattle.wb_beside.specs.Kept.{ExtensionView}
 use Rattle.wb_certify.specs.Hosts.{CertifiedView}
 use Rattle.wb_composition.specs.Composed.{IsWith, name_of}
@@ -11,11 +11,13 @@ use Rattle.wb_report.specs.declared.outcome.Outcome.TheVariants as o
 use Rattle.wb_resolved.specs.declared.resolved.ResolvedParts.{ResolvedParts}
 use Rattle.wb_syntax.specs.SpecText.{SpecView}
 use Rattle.wb_united_texts.specs.Unions.{all_resolved}
+use Rattle.wb_world.specs.Shelf.{Files}
 use Rattle.wb_inputs.specs.Checks.{Report, Ends}
 use Rattle.wb_inputs.specs.Reads.{StopsEach}
 use Rattle.wb_inputs.specs.SeveralChecks.{AreEach, HasTakenName, IsLaterRefusal, IsNextText, RefusesEach, names_of}
-use Rattle.wb_inputs.specs.ExtensionChecks.{RefusedExtension}
+use Rattle.wb_inputs.specs.ExtensionChecks.{AreApart, RefusedExtension}
 use Rattle.wb_inputs.specs.Stopped.{Outside, Stopped}
+use Rattle.wb_inputs.specs.declared.composable.Composable.{Composable}
 use Rattle.wb_inputs.specs.declared.reading.ReadFailure.{ReadFailure}
 use Rattle.wb_inputs.specs.declared.several.NextRefusal.{NextRefusal}
 use Rattle.wb_inputs.specs.declared.several.NextRefusal.TheVariants as n
@@ -48,6 +50,13 @@ IsDuplicateOf name other = ⊥
 pub record IsApartFrom (host : CertifiedView) (before : List ExtensionView) (e : ExtensionView) : Type 0 where
   pub with_host : IsWith host e
   pub new : ¬ Contains (names_of (all_resolved before)) (name_of e)
+
+-- these are the host and extensions of files, which are certified with it and have different names
+pub record AreWith (operations : List OperationSignature) (known : Option Files) (host : CertifiedView) (files : List (List ℕ))
+    (all : Composable) : Type 0 where
+  pub same : all.host ≡ host
+  pub each : AreEach operations known host.resolved files [] (all_resolved all.extensions.items)
+  pub apart : AreApart host all.extensions.items
 
 -- a refused extension: the status of its sort, and the line that says why; want of memory has no line
 abbrev pub RefusedNext : List ℕ → NextRefusal → Report

@@ -1,12 +1,10 @@
--- A file is a certified extension of this name, or the run ends with its refusal.
-use Rattle.std.proofs.Common.{rules, ◌≡◌, ◌∙◌, subst, List, ℕ}
-use Rattle.wb_beside.specs.Extensions.{IsOneExtension}
+-- What was read is a certified extension of this name, and so the file is; or the run ends with its refusal.
+use Rattle.std.proofs.Common.{◌≡◌, subst, List, ℕ}
 use Rattle.wb_extension_files.specs.Contents.{IsExtensionText, IsExtensionRefusal}
-use Rattle.wb_inputs.specs.Files.{KnownFile}
 use Rattle.wb_inputs.specs.ExtensionChecks.{RefusedExtension}
+use Rattle.wb_inputs.specs.Files.{KnownFile}
+use Rattle.wb_inputs.proofs.HostLemmas.{read_is}
 use Rattle.wb_program.proofs.ExtensionLemmas.{is_named, refused_ends}
-use Rattle.wb_inputs.specs.Stopped.{outside}
-use Rattle.wb_inputs.proofs.CauseLemmas.{goes_on_here}
 use Rattle.wb_program.proofs.certify.name_of.Goals as goal
 
 pub returns-in_ok-extension_name-in-Ok-clause-ok : goal.returns-in_ok-extension_name-in-Ok-clause-ok
@@ -14,9 +12,11 @@ returns-in_ok-extension_name-in-Ok-clause-ok g c =
     let known = g.S.Shelf.files c.args.shelf.now in
     let host = c.args.host.now.resolved in
     let operations = c.args.operations.now.signatures in
-    let is : KnownFile known c.args.file.now (λ contents. IsExtensionText host operations contents c.in-Ok.extension.resolved) = search rules in
-    let named : IsOneExtension c.in-Ok.extension.resolved c.in_ok-extension_name-in-Ok.field-0 = search rules in
-    is_named operations known host c.args.file.now c.in_ok-extension_name-in-Ok.field-0 c.in-Ok.extension.resolved is named
+    let value = c.in-Ok.extension.resolved in
+    let is : KnownFile known c.args.file.now (λ contents. IsExtensionText host operations contents value) =
+    read_is known c.args.file.now c.in_ok-word.contents (λ bytes. IsExtensionText host operations bytes value)
+    c.in_ok-word.ensures.contents c.in-Ok.ensures.ok in
+    is_named operations known host c.args.file.now c.in_ok-extension_name-in-Ok.field-0 value is c.in_ok-extension_name-in-Ok.ensures
 
 pub returns-in_ok-refused_extension-in-Err-clause-refused : goal.returns-in_ok-refused_extension-in-Err-clause-refused
 returns-in_ok-refused_extension-in-Err-clause-refused g c =
@@ -24,31 +24,29 @@ returns-in_ok-refused_extension-in-Err-clause-refused g c =
     let host = c.args.host.now.resolved in
     let operations = c.args.operations.now.signatures in
     let answer = c.in_ok-refused_extension-in-Err.field-0 in
-    let cause : KnownFile known c.args.file.now (λ contents. IsExtensionRefusal host operations contents c.in-Err.refusal) = search rules in
-    let word : c.in_ok-word.word ≡ c.args.file.now = c.in_ok-word.ensures.ok ∙ c.as_bytes.ensures.value in
+    let cause : KnownFile known c.args.file.now (λ contents. IsExtensionRefusal host operations contents c.in-Err.refusal) =
+    read_is known c.args.file.now c.in_ok-word.contents (λ bytes. IsExtensionRefusal host operations bytes c.in-Err.refusal)
+    c.in_ok-word.ensures.contents c.in-Err.ensures.refused in
+    let word : c.in_ok-word.word ≡ c.args.file.now = c.in_ok-word.ensures.word in
     let shown : RefusedExtension c.args.file.now c.in-Err.refusal answer.status answer.report.items =
     subst (λ (file : List ℕ). RefusedExtension file c.in-Err.refusal answer.status answer.report.items) word
     c.in_ok-refused_extension-in-Err.ensures in
     refused_ends operations known host c.args.file.now c.in-Err.refusal answer.status answer.report.items cause shown
 
 pub returns-in_err-word-clause-goes_on : goal.returns-in_err-word-clause-goes_on
-returns-in_err-word-clause-goes_on g c =
-    goes_on_here (outside (g.S.Shelf.files c.args.shelf.now) (g.S.Shelf.absences c.args.shelf.now) (g.S.Shelf.faults c.args.shelf.now))
+returns-in_err-word-clause-goes_on g c = c.named_contents.ensures.goes_on
 
 pub returns-in_ok-extension_name-in-Ok-clause-goes_on : goal.returns-in_ok-extension_name-in-Ok-clause-goes_on
-returns-in_ok-extension_name-in-Ok-clause-goes_on g c = c.certified_beside.ensures.goes_on
+returns-in_ok-extension_name-in-Ok-clause-goes_on g c = c.named_contents.ensures.goes_on
 
 pub returns-in_ok-refused_extension-in-Err-clause-goes_on : goal.returns-in_ok-refused_extension-in-Err-clause-goes_on
-returns-in_ok-refused_extension-in-Err-clause-goes_on g c = c.certified_beside.ensures.goes_on
-
-pub returns-in_err-extension-clause-goes_on : goal.returns-in_err-extension-clause-goes_on
-returns-in_err-extension-clause-goes_on g c = c.certified_beside.ensures.goes_on
+returns-in_ok-refused_extension-in-Err-clause-goes_on g c = c.named_contents.ensures.goes_on
 
 pub returns-in_err-extension_name-in-Ok-clause-goes_on : goal.returns-in_err-extension_name-in-Ok-clause-goes_on
-returns-in_err-extension_name-in-Ok-clause-goes_on g c = c.certified_beside.ensures.goes_on
+returns-in_err-extension_name-in-Ok-clause-goes_on g c = c.named_contents.ensures.goes_on
 
 pub returns-in_err-refused_extension-in-Err-clause-goes_on : goal.returns-in_err-refused_extension-in-Err-clause-goes_on
-returns-in_err-refused_extension-in-Err-clause-goes_on g c = c.certified_beside.ensures.goes_on
+returns-in_err-refused_extension-in-Err-clause-goes_on g c = c.named_contents.ensures.goes_on
 
 pub returns-in_ok-extension_name-in-Ok-clause-stopped : goal.returns-in_ok-extension_name-in-Ok-clause-stopped
 returns-in_ok-extension_name-in-Ok-clause-stopped g c = tt
