@@ -3,18 +3,19 @@
 //! Numbers are those of the host with the extension; in prefixes, items, conflicts and lookaheads those of its grammar with holes.
 
 ghost use Rattle.std.specs.Prelude.{◌≡◌, IfOk, map};
+ghost use Rattle.wb_report.specs.declared.extension_reason.ExtensionReason.TheVariants as shown;
 ghost use Rattle.wb_shown.specs.Extensions as spec;
 ghost use Rattle.wb_shown.specs.Names as names;
 
 use crate::both::both;
-use crate::grammar::{conflict_of, pair_of, symbol_names};
+use crate::grammar::{ShownPair, conflict_of, pair_of, symbol_names};
 use crate::holes::{lookahead_name, reduction_name};
 use crate::names::{production_name, terminal_name};
 use std::alloc::{AllocError, Global};
 use wb_base::{Bytes, Sequence, Symbol};
 use wb_determinism::{DeterminismRefusal, EnvelopeFault};
 use wb_items::Item;
-use wb_report::{ExtensionReason, Refusal, ShownItem};
+use wb_report::{ExtensionReason, Refusal, ShownConflict, ShownItem};
 use wb_resolved::Resolved;
 
 // A rule on what an extension adds to its host; none for the rules that hosts have too, and for want of memory.
@@ -41,38 +42,47 @@ pub(crate) fn extension_rule(
             marker,
             other,
             text,
-        } => {
-            let pair = pair_of(alloc, resolved, *marker, *other, text)?;
-            Ok(ExtensionReason::MarkerClash {
-                marker: pair.left,
-                terminal: pair.right,
-                text: pair.text,
-            })
-        }
+        } => Ok(marker_clash(pair_of(alloc, resolved, *marker, *other, text)?)),
         DeterminismRefusal::Lookahead {
             prefix,
             item,
             terminal,
-        } => {
-            let (prefix, (item, terminal)) = lookahead_of(
-                alloc,
-                resolved,
-                prefix.as_slice(),
-                *item,
-                *terminal,
-            )?;
-            Ok(ExtensionReason::Lookahead {
-                prefix,
-                item,
-                terminal,
-            })
-        }
+        } => lookahead_rule(alloc, resolved, prefix.as_slice(), *item, *terminal),
         DeterminismRefusal::Envelope { prefix, fault } => {
             envelope_rule(alloc, resolved, prefix.as_slice(), fault)
         }
         _ => return Ok(None),
     };
     Ok(Some(Refusal::Extension(reason?)))
+}
+
+// A marker that clashes with a terminal.
+fn marker_clash(pair: ShownPair) -> ExtensionReason
+    ensures { result ≡ shown.MarkerClash pair.left pair.right pair.text }
+{
+    ExtensionReason::MarkerClash {
+        marker: pair.left,
+        terminal: pair.right,
+        text: pair.text,
+    }
+}
+
+// A lookahead that an item of the host gets.
+fn lookahead_rule(
+    alloc: Global,
+    resolved: &Resolved,
+    prefix: &[Symbol],
+    item: Item,
+    terminal: usize,
+) -> Result<ExtensionReason, AllocError>
+    ensures { IfOk result (λ made. made ≡ shown.Lookahead (map (names.symbol_shown resolved.now) prefix.now) (spec.item_shown resolved.now item) (names.lookahead_shown resolved.now terminal)) }
+{
+    let (prefix, (item, terminal)) = lookahead_of(alloc, resolved, prefix, item, terminal)?;
+    Ok(ExtensionReason::Lookahead {
+        prefix,
+        item,
+        terminal,
+    })
 }
 
 // A lookahead that an item gets after a prefix.
@@ -116,37 +126,72 @@ fn envelope_rule(
 {
     match fault {
         EnvelopeFault::Lookahead { item, terminal } => {
-            let (prefix, (item, terminal)) = lookahead_of(
-                alloc, resolved, prefix, *item, *terminal,
-            )?;
-            Ok(ExtensionReason::NewLookahead {
-                prefix,
-                item,
-                terminal,
-            })
+            new_lookahead(alloc, resolved, prefix, *item, *terminal)
         }
         EnvelopeFault::Conflict {
             terminal,
             first,
             second,
-        } => {
-            let (prefix, conflict) = both(
-                symbol_names(alloc, resolved, prefix),
-                conflict_of(alloc, resolved, *terminal, *first, *second),
-            )?;
-            Ok(ExtensionReason::NewConflict { prefix, conflict })
-        }
-        EnvelopeFault::Clash { left, right, text } => {
-            let (prefix, pair) = both(
-                symbol_names(alloc, resolved, prefix),
-                pair_of(alloc, resolved, *left, *right, text),
-            )?;
-            Ok(ExtensionReason::NewClash {
-                prefix,
-                left: pair.left,
-                right: pair.right,
-                text: pair.text,
-            })
-        }
+        } => new_conflict(
+            alloc,
+            resolved,
+            prefix,
+            conflict_of(alloc, resolved, *terminal, *first, *second)?,
+        ),
+        EnvelopeFault::Clash { left, right, text } => new_clash(
+            alloc,
+            resolved,
+            prefix,
+            pair_of(alloc, resolved, *left, *right, text)?,
+        ),
     }
+}
+
+// A lookahead that the host doesn't allow.
+fn new_lookahead(
+    alloc: Global,
+    resolved: &Resolved,
+    prefix: &[Symbol],
+    item: Item,
+    terminal: usize,
+) -> Result<ExtensionReason, AllocError>
+    ensures { IfOk result (λ made. made ≡ shown.NewLookahead (map (names.symbol_shown resolved.now) prefix.now) (spec.item_shown resolved.now item) (names.lookahead_shown resolved.now terminal)) }
+{
+    let (prefix, (item, terminal)) = lookahead_of(alloc, resolved, prefix, item, terminal)?;
+    Ok(ExtensionReason::NewLookahead {
+        prefix,
+        item,
+        terminal,
+    })
+}
+
+// A conflict that the host doesn't have.
+fn new_conflict(
+    alloc: Global,
+    resolved: &Resolved,
+    prefix: &[Symbol],
+    conflict: ShownConflict,
+) -> Result<ExtensionReason, AllocError>
+    ensures { IfOk result (λ made. made ≡ shown.NewConflict (map (names.symbol_shown resolved.now) prefix.now) conflict) }
+{
+    let (prefix, conflict) = both(symbol_names(alloc, resolved, prefix), Ok(conflict))?;
+    Ok(ExtensionReason::NewConflict { prefix, conflict })
+}
+
+// A clash that the host doesn't have.
+fn new_clash(
+    alloc: Global,
+    resolved: &Resolved,
+    prefix: &[Symbol],
+    pair: ShownPair,
+) -> Result<ExtensionReason, AllocError>
+    ensures { IfOk result (λ made. made ≡ shown.NewClash (map (names.symbol_shown resolved.now) prefix.now) pair.left pair.right pair.text) }
+{
+    let (prefix, pair) = both(symbol_names(alloc, resolved, prefix), Ok(pair))?;
+    Ok(ExtensionReason::NewClash {
+        prefix,
+        left: pair.left,
+        right: pair.right,
+        text: pair.text,
+    })
 }

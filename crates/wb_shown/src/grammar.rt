@@ -1,6 +1,7 @@
 //! Which rule of grammars and scanners does a report show, by names?
 
 ghost use Rattle.std.specs.Prelude.{◌≡◌, IfOk, map};
+ghost use Rattle.wb_report.specs.declared.grammar_reason.GrammarReason.TheVariants as shown;
 ghost use Rattle.wb_shown.specs.Names as names;
 ghost use Rattle.wb_shown.specs.Shows as spec;
 
@@ -41,30 +42,23 @@ pub(crate) fn grammar_rule(
             terminal,
             first,
             second,
-        } => {
-            let (prefix, conflict) = both(
-                symbol_names(alloc, resolved, prefix.as_slice()),
-                conflict_of(alloc, resolved, *terminal, *first, *second),
-            )?;
-            Ok(GrammarReason::Conflict { prefix, conflict })
-        }
+        } => conflict_reason(
+            alloc,
+            resolved,
+            prefix.as_slice(),
+            conflict_of(alloc, resolved, *terminal, *first, *second)?,
+        ),
         DeterminismRefusal::Clash {
             prefix,
             left,
             right,
             text,
-        } => {
-            let (prefix, pair) = both(
-                symbol_names(alloc, resolved, prefix.as_slice()),
-                pair_of(alloc, resolved, *left, *right, text),
-            )?;
-            Ok(GrammarReason::Clash {
-                prefix,
-                left: pair.left,
-                right: pair.right,
-                text: pair.text,
-            })
-        }
+        } => clash_reason(
+            alloc,
+            resolved,
+            prefix.as_slice(),
+            pair_of(alloc, resolved, *left, *right, text)?,
+        ),
         _ => return Ok(None),
     };
     Ok(Some(Refusal::Grammar(reason?)))
@@ -86,6 +80,19 @@ fn reduced_rule(
             alloc, resolved, *number,
         )?)),
     }
+}
+
+// A conflict after a prefix.
+fn conflict_reason(
+    alloc: Global,
+    resolved: &Resolved,
+    prefix: &[Symbol],
+    conflict: ShownConflict,
+) -> Result<GrammarReason, AllocError>
+    ensures { IfOk result (λ made. made ≡ shown.Conflict (map (names.symbol_shown resolved.now) prefix.now) conflict) }
+{
+    let (prefix, conflict) = both(symbol_names(alloc, resolved, prefix), Ok(conflict))?;
+    Ok(GrammarReason::Conflict { prefix, conflict })
 }
 
 // Two actions on a terminal.
@@ -152,6 +159,24 @@ pub(crate) fn pair_of(
         ),
     )?;
     Ok(ShownPair { left, right, text })
+}
+
+// A clash after a prefix.
+fn clash_reason(
+    alloc: Global,
+    resolved: &Resolved,
+    prefix: &[Symbol],
+    pair: ShownPair,
+) -> Result<GrammarReason, AllocError>
+    ensures { IfOk result (λ made. made ≡ shown.Clash (map (names.symbol_shown resolved.now) prefix.now) pair.left pair.right pair.text) }
+{
+    let (prefix, pair) = both(symbol_names(alloc, resolved, prefix), Ok(pair))?;
+    Ok(GrammarReason::Clash {
+        prefix,
+        left: pair.left,
+        right: pair.right,
+        text: pair.text,
+    })
 }
 
 // The names of terminals.
