@@ -25,18 +25,16 @@ pub(crate) fn attribute_rule(
     ensures { IfOk result (λ shown. shown ≡ spec.of_attributes (spec.attribute_reason resolved.now refusal.now)) }
 {
     let reason = match refusal {
-        AttributeRefusal::StartInherits(attribute) => Ok(AttributeReason::StartInherits(
-            attribute_name(alloc, resolved, *attribute)?,
-        )),
-        AttributeRefusal::NoForward(production) => Ok(AttributeReason::NoForward(production_name(
-            alloc,
-            resolved,
-            *production,
-        )?)),
+        AttributeRefusal::StartInherits(attribute) => {
+            AttributeReason::StartInherits(attribute_name(alloc, resolved, *attribute)?)
+        }
+        AttributeRefusal::NoForward(production) => {
+            AttributeReason::NoForward(production_name(alloc, resolved, *production)?)
+        }
         AttributeRefusal::NoEquation {
             production,
             attribute,
-        } => no_equation(alloc, resolved, *production, *attribute),
+        } => no_equation(alloc, resolved, *production, *attribute)?,
         AttributeRefusal::NoInherited { production, vertex } => {
             return no_inherited(alloc, resolved, *production, *vertex);
         }
@@ -44,24 +42,24 @@ pub(crate) fn attribute_rule(
             nonterminal,
             attribute,
             inherited,
-        } => lacks_forward(alloc, resolved, *nonterminal, *attribute, *inherited),
+        } => lacks_forward(alloc, resolved, *nonterminal, *attribute, *inherited)?,
         AttributeRefusal::Reads {
             production,
             attribute,
             inherited,
-        } => reads(alloc, resolved, *production, *attribute, *inherited),
+        } => reads(alloc, resolved, *production, *attribute, *inherited)?,
         AttributeRefusal::Cycle {
             production,
             vertices,
-        } => cycle(alloc, resolved, *production, vertices.as_slice()),
+        } => cycle(alloc, resolved, *production, vertices.as_slice())?,
         AttributeRefusal::ForwardReads {
             production,
             attribute,
             inherited,
-        } => forward_reads(alloc, resolved, *production, *attribute, *inherited),
+        } => forward_reads(alloc, resolved, *production, *attribute, *inherited)?,
         AttributeRefusal::NoMemory(_) => return Ok(None),
     };
-    Ok(Some(Refusal::Attributes(reason?)))
+    Ok(Some(Refusal::Attributes(reason)))
 }
 
 // A production without an equation for an attribute.

@@ -27,33 +27,31 @@ pub(crate) fn extension_rule(
     ensures { IfOk result (λ shown. shown ≡ spec.of_extension (spec.extension_reason resolved.now refusal.now)) }
 {
     let reason = match refusal {
-        DeterminismRefusal::NotBridge(production) => Ok(ExtensionReason::NotBridge(production_name(
-            alloc,
-            resolved,
-            *production,
-        )?)),
-        DeterminismRefusal::MarkerElsewhere(marker) => Ok(ExtensionReason::MarkerElsewhere(
-            terminal_name(alloc, resolved, *marker)?,
-        )),
-        DeterminismRefusal::NotExtensible(production) => Ok(ExtensionReason::NotExtensible(
-            production_name(alloc, resolved, *production)?,
-        )),
+        DeterminismRefusal::NotBridge(production) => {
+            ExtensionReason::NotBridge(production_name(alloc, resolved, *production)?)
+        }
+        DeterminismRefusal::MarkerElsewhere(marker) => {
+            ExtensionReason::MarkerElsewhere(terminal_name(alloc, resolved, *marker)?)
+        }
+        DeterminismRefusal::NotExtensible(production) => {
+            ExtensionReason::NotExtensible(production_name(alloc, resolved, *production)?)
+        }
         DeterminismRefusal::MarkerClash {
             marker,
             other,
             text,
-        } => Ok(marker_clash(pair_of(alloc, resolved, *marker, *other, text)?)),
+        } => marker_clash(pair_of(alloc, resolved, *marker, *other, text)?),
         DeterminismRefusal::Lookahead {
             prefix,
             item,
             terminal,
-        } => lookahead_rule(alloc, resolved, prefix.as_slice(), *item, *terminal),
+        } => lookahead_rule(alloc, resolved, prefix.as_slice(), *item, *terminal)?,
         DeterminismRefusal::Envelope { prefix, fault } => {
-            envelope_rule(alloc, resolved, prefix.as_slice(), fault)
+            envelope_rule(alloc, resolved, prefix.as_slice(), fault)?
         }
         _ => return Ok(None),
     };
-    Ok(Some(Refusal::Extension(reason?)))
+    Ok(Some(Refusal::Extension(reason)))
 }
 
 // A marker that clashes with a terminal.

@@ -25,18 +25,18 @@ pub(crate) fn grammar_rule(
     ensures { IfOk result (λ shown. shown ≡ spec.of_grammar (spec.grammar_reason resolved.now refusal.now)) }
 {
     let reason = match refusal {
-        DeterminismRefusal::PreferenceCycle(terminals) => Ok(GrammarReason::PreferenceCycle(
+        DeterminismRefusal::PreferenceCycle(terminals) => GrammarReason::PreferenceCycle(
             terminal_names(alloc, resolved, terminals.as_slice())?,
-        )),
-        DeterminismRefusal::NotReduced(reason) => reduced_rule(alloc, resolved, reason),
-        DeterminismRefusal::UnitCycle(cycle) => Ok(GrammarReason::UnitCycle(nonterminal_names(
+        ),
+        DeterminismRefusal::NotReduced(reason) => reduced_rule(alloc, resolved, reason)?,
+        DeterminismRefusal::UnitCycle(cycle) => GrammarReason::UnitCycle(nonterminal_names(
             alloc,
             resolved,
             cycle.as_slice(),
-        )?)),
-        DeterminismRefusal::HiddenLeftRecursion(cycle) => Ok(GrammarReason::HiddenLeftRecursion(
+        )?),
+        DeterminismRefusal::HiddenLeftRecursion(cycle) => GrammarReason::HiddenLeftRecursion(
             nonterminal_names(alloc, resolved, cycle.as_slice())?,
-        )),
+        ),
         DeterminismRefusal::Conflict {
             prefix,
             terminal,
@@ -47,7 +47,7 @@ pub(crate) fn grammar_rule(
             resolved,
             prefix.as_slice(),
             conflict_of(alloc, resolved, *terminal, *first, *second)?,
-        ),
+        )?,
         DeterminismRefusal::Clash {
             prefix,
             left,
@@ -58,10 +58,10 @@ pub(crate) fn grammar_rule(
             resolved,
             prefix.as_slice(),
             pair_of(alloc, resolved, *left, *right, text)?,
-        ),
+        )?,
         _ => return Ok(None),
     };
-    Ok(Some(Refusal::Grammar(reason?)))
+    Ok(Some(Refusal::Grammar(reason)))
 }
 
 // Why a grammar isn't reduced.
