@@ -14,7 +14,6 @@ use wb_resolved::Resolved;
 ///
 /// The host is certified. With the extension each expression is of its kind, markers keep their rules, the extension is deterministic
 /// beside the host, and its attributes are well defined, whatever other extensions there are.
-#[derive(Drop)]
 pub struct CertifiedExtension {
     pub(crate) host: Resolved,
     pub(crate) resolved: Resolved,
@@ -84,6 +83,13 @@ impl CertifiedExtension {
 
     /// Lets go of the extension. A crate that calls this proves no drop of what it holds.
     pub fn release(self) {
+        drop(self);
+    }
+}
+
+// By the calls that let go of its parts, so that no drop of what they hold is proved again.
+impl Drop for CertifiedExtension {
+    fn drop(self) {
         let CertifiedExtension {
             host,
             resolved,
