@@ -3,7 +3,6 @@
 //! Names first, then what the numbered value of host and extension has to meet.
 
 ghost use Rattle.std.specs.Prelude.{◌≡◌, [], IfErr, IfOk};
-ghost use Rattle.wb_certify.specs.Hosts.{IsCertifiedValue};
 ghost use Rattle.wb_names.specs.Resolving.{ResolvesExtension};
 ghost use Rattle.wb_beside.specs.Extensions.{IsCertifiedExtension};
 ghost use Rattle.wb_beside.specs.Kept.{ArePartsBeside};
@@ -16,7 +15,6 @@ use wb_certify::{CertifiedHost, CertifyRefusal};
 use wb_names::resolve_extension;
 use wb_naming::NameRefusal;
 use wb_operations::{Meaning, OperationTable};
-use wb_resolved::Resolved;
 use wb_syntax::Spec;
 
 /// A specification as an extension that is certified with its host over a table of operations, or the first rule that fails.
@@ -38,24 +36,12 @@ pub fn certify_extension<M: Meaning>(
     ensures certified { IfOk result (λ extension. IsCertifiedExtension host.now.resolved spec.now host.now.operations) }
     ensures refused { IfErr result (IsExtensionCertifyRefusal host.now.resolved spec.now host.now.operations) }
 {
-    let resolved = resolved_extension(alloc, host, spec)?;
-    let answer = certify_beside(alloc, host, &resolved, operations);
-    resolved.release();
-    answer
-}
-
-// The numbered value of a host with an extension whose names are right.
-fn resolved_extension(
-    alloc: Global,
-    host: &CertifiedHost,
-    spec: &Spec,
-) -> Result<Resolved, CertifyRefusal>
-    ensures host { IfOk result (λ resolved. IsCertifiedValue host.now.resolved host.now.operations) }
-    ensures ok { IfOk result (ResolvesExtension host.now.resolved spec.now) }
-    ensures refused { IfErr result (IsExtensionCertifyRefusal host.now.resolved spec.now host.now.operations) }
-{
     match resolve_extension(alloc, host.resolved(), spec) {
-        Ok(resolved) => Ok(resolved),
+        Ok(resolved) => {
+            let answer = certify_beside(alloc, host, &resolved, operations);
+            resolved.release();
+            answer
+        }
         Err(NameRefusal::NoMemory(error)) => Err(CertifyRefusal::NoMemory(error)),
         Err(refusal) => Err(CertifyRefusal::Names(refusal)),
     }
