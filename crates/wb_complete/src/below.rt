@@ -3,14 +3,11 @@
 //! Where an attribute of a child or local is read, its flow type says which are needed. What the forwarded tree lacks is the top's.
 
 ghost use Rattle.std.specs.Prelude.{◌≡◌, ◌≢◌, ℕ, Some, IfOk, IfErr, IfSome, IfNone, Contains};
-ghost use Rattle.wb_attributes.specs.Modular.{IsProduction};
 ghost use Rattle.wb_attributes.specs.Rules.{IsTreeAt};
 ghost use Rattle.wb_attributes.specs.WellDefined.{DefinesBelow};
 ghost use Rattle.wb_complete.specs.Inner.Tests.{DefinesRead, DefinesReads, RefusesRead, RefusesReads, RefusesBelow, RefusesNeeds, IsTested};
 ghost use Rattle.wb_base.specs.declared.symbol.Kind.TheVariants.{Tree};
-ghost use Rattle.wb_flow.specs.Occurrences.{IsIndexOf};
 ghost use Rattle.wb_flow.specs.Rules.{attribute_at, IsDefined};
-ghost use Rattle.wb_resolved.specs.Attribution.{IsAttribution};
 ghost use Rattle.wb_resolved.specs.declared.equation.Equation.{Equation};
 ghost use Rattle.wb_resolved.specs.declared.production.ChildKind.TheVariants.{Value};
 ghost use Rattle.wb_resolved.specs.declared.production.Forward.{Forward};
@@ -22,33 +19,14 @@ use wb_resolved::{ChildKind, Node, Place, Production};
 
 // A production with its number.
 #[derive(Clone, Copy)]
-struct Tested<'a> {
-    scope: &'a Scope<'a>,
-    number: usize,
-    production: &'a Production,
-}
-
-// Whether the production of this number does.
-pub(crate) fn check_below(
-    scope: &Scope,
-    number: usize,
-    production: &Production,
-) -> Result<(), AttributeRefusal>
-    requires attribution { IsAttribution scope.now.attributes.now }
-    requires index { IsIndexOf scope.now.attributes.now.occurrences scope.now.index.now }
-    requires there { IsProduction scope.now.attributes.now number production.now }
-    ensures ok { IfOk result (λ done. DefinesBelow scope.now.attributes.now production.now) }
-    ensures refused { IfErr result (RefusesBelow scope.now.attributes.now number production.now) }
-{
-    check_expressions(&Tested {
-        scope,
-        number,
-        production,
-    })
+pub(crate) struct Tested<'a> {
+    pub(crate) scope: &'a Scope<'a>,
+    pub(crate) number: usize,
+    pub(crate) production: &'a Production,
 }
 
 // Whether what its expressions read is defined.
-fn check_expressions(tested: &Tested) -> Result<(), AttributeRefusal>
+pub(crate) fn check_below(tested: &Tested) -> Result<(), AttributeRefusal>
     requires { IsTested tested.now }
     ensures ok { IfOk result (λ done. DefinesBelow tested.now.scope.now.attributes.now tested.now.production.now) }
     ensures refused { IfErr result (RefusesBelow tested.now.scope.now.attributes.now tested.now.number tested.now.production.now) }

@@ -3,14 +3,14 @@
 //! Each rule is tested on all productions before the next, so the first that fails is the answer.
 
 ghost use Rattle.std.specs.Prelude.{◌≡◌, ℕ, Option, IfOk, IfErr, IfSome, IsTrue, ◌↔◌};
-ghost use Rattle.wb_attributes.specs.Modular.{EachProduction, InheritsNothing, IsBridging, IsHosts, ForwardsAsExtension};
+ghost use Rattle.wb_attributes.specs.Modular.{EachProduction, InheritsNothing, IsBridging, ForwardsAsExtension};
 ghost use Rattle.wb_attributes.specs.WellDefined.{DefinesTop, DefinesBelow};
 ghost use Rattle.wb_complete.specs.Inner.Tests.{RefusesStart, RefusesForward, RefusesAnyTop, RefusesAnyBelow};
 ghost use Rattle.wb_complete.specs.Refusals.{CompleteOk, IsTrueCompletenessRefusal};
 ghost use Rattle.wb_flow.specs.Occurrences.{IsIndexOf};
 ghost use Rattle.wb_resolved.specs.Attribution.{IsAttribution};
 
-use crate::below::check_below;
+use crate::below::{Tested, check_below};
 use crate::top::check_top;
 use std::alloc::Global;
 use wb_flow::{AttributeRefusal, OccurrenceIndex, Scope};
@@ -34,14 +34,16 @@ pub fn check_complete(
 {
     let parts = attributes.parts();
     let index = OccurrenceIndex::new(alloc, parts)?;
-    check_in(
+    let answer = check_in(
         &Scope {
             attributes: parts,
             index: &index,
         },
         start,
         extension,
-    )
+    );
+    drop(index);
+    answer
 }
 
 // The same, where occurrences are by nonterminal.
@@ -100,15 +102,10 @@ fn check_forwards(scope: &Scope, extension: usize) -> Result<(), AttributeRefusa
 fn is_bridging(scope: &Scope, extension: usize, production: &Production) -> bool
     ensures { IsTrue result ↔ IsBridging scope.now.attributes.now extension production.now }
 {
-    production.owner == extension && is_hosts(scope, production.left)
-}
-
-// Whether a nonterminal is the host's.
-fn is_hosts(scope: &Scope, nonterminal: usize) -> bool
-    ensures { IsTrue result ↔ IsHosts scope.now.attributes.now nonterminal }
-{
     let nonterminals = scope.attributes.nonterminals.as_slice();
-    nonterminal < nonterminals.len() && nonterminals[nonterminal].owner == 0
+    production.owner == extension
+        && production.left < nonterminals.len()
+        && nonterminals[production.left].owner == 0
 }
 
 // Whether each production has an equation for each synthesized attribute of its left side, or forwards.
@@ -134,7 +131,11 @@ fn check_belows(scope: &Scope) -> Result<(), AttributeRefusal>
 {
     let productions = scope.attributes.productions.as_slice();
     'productions: for number in 0..productions.len() {
-        check_below(scope, number, &productions[number])?;
+        check_below(&Tested {
+            scope: &*scope,
+            number,
+            production: &productions[number],
+        })?;
     }
     Ok(())
 }

@@ -18,11 +18,14 @@ returns-in_err-check_below-clause-refused c =
     handed_on (RefusesBelow a n p) (RefusesAnyBelow a) c.from_residual.result c.in_err-check_below.field-0.0 c.from_residual.ensures.1
     (λ e is. (n, p, there, is)) c.in_err-check_below.ensures.refused
 
-pub check_below-requires-clause-there : goal.check_below-requires-clause-there
-check_below-requires-clause-there c =
-    let p = c.index-productions-number.result in
-    subst (λ (z : List Production). slice_get z c.productions.number ≡ Some p) c.as_slice-productions.ensures
-    (read_item c.as_slice-productions.result.now c.productions.number p c.productions-test.true c.index-productions-number.is)
+pub check_below-requires : goal.check_below-requires
+check_below-requires c =
+    let p = c.index-productions-number.result in record {
+      attribution = c.requires.attribution;
+      index = c.requires.index;
+      there = subst (λ (z : List Production). slice_get z c.productions.number ≡ Some p) c.as_slice-productions.ensures
+          (read_item c.as_slice-productions.result.now c.productions.number p c.productions-test.true c.index-productions-number.is);
+    }
 
 pub productions-preserved : goal.productions-preserved
 productions-preserved c =

@@ -4,7 +4,7 @@ use Rattle.wb_attributes.specs.WellDefined.{DefinesBelow}
 use Rattle.wb_complete.specs.Inner.Tests.{DefinesReads}
 use Rattle.wb_complete.proofs.TestLemmas.{defines_below}
 use Rattle.wb_resolved.specs.declared.production.Forward.{Forward}
-use Rattle.wb_complete.proofs.below.check_expressions.Goals as goal
+use Rattle.wb_complete.proofs.below.check_below.Goals as goal
 
 pub returns-clause-ok : goal.returns-clause-ok
 returns-clause-ok c =
