@@ -3,8 +3,8 @@
 //! A flow graph is made only for a production that has such an equation.
 
 ghost use Rattle.std.specs.Prelude.{◌≡◌, ◌<◌, ◌↔◌, ℕ, Some, IfOk, IfErr, IsTrue, length, slice_get};
-ghost use Rattle.wb_attributes.specs.Modular.{ForwardEquationsReach, IsBridging, IsHosts, IsProduction};
-ghost use Rattle.wb_forwards.specs.Inner.Tests.{IsChecked, KeepsForward, KeepsWhereBridging, RefusesProduction};
+ghost use Rattle.wb_attributes.specs.Modular.{ForwardEquationsReach, IsBridging, IsProduction};
+ghost use Rattle.wb_forwards.specs.Inner.Tests.{IsChecked, KeepsWhereBridging};
 ghost use Rattle.wb_forwards.specs.Refusals.{IsTrueForwardRefusal};
 ghost use Rattle.wb_resolved.specs.declared.production.Production.{Production};
 
@@ -32,14 +32,16 @@ pub fn check_forward(
         attributes: parts,
         index: &index,
     };
-    check_in(
+    let answer = check_in(
         alloc,
         &Checked {
             attributes,
             scope: &scope,
             extension,
         },
-    )
+    );
+    drop(index);
+    answer
 }
 
 // An attribution with its parts, and an extension.
@@ -78,26 +80,11 @@ fn check_production(
     if !is_bridging(checked.scope, checked.extension, production) {
         return Ok(());
     }
-    check_bridging(alloc, checked, number, production)
-}
-
-// Whether such a production does.
-fn check_bridging(
-    alloc: Global,
-    checked: &Checked,
-    number: usize,
-    production: &Production,
-) -> Result<(), AttributeRefusal>
-    requires checked { IsChecked checked.now }
-    requires there { IsProduction checked.now.scope.now.attributes.now number production.now }
-    ensures ok { IfOk result (λ done. KeepsForward checked.now.scope.now.attributes.now production.now) }
-    ensures refused { IfErr result (RefusesProduction checked.now.scope.now.attributes.now number production.now) }
-{
     if !gives_forward(production) {
         return Ok(());
     }
     let graph = production_graph(alloc, checked.attributes, number)?;
-    check_vertices(
+    let answer = check_vertices(
         alloc,
         &Tested {
             scope: checked.scope,
@@ -105,20 +92,17 @@ fn check_bridging(
             production,
             graph: &graph,
         },
-    )
+    );
+    drop(graph);
+    answer
 }
 
 // Whether a production is an extension's, on a nonterminal of the host.
 fn is_bridging(scope: &Scope, extension: usize, production: &Production) -> bool
     ensures { IsTrue result ↔ IsBridging scope.now.attributes.now extension production.now }
 {
-    production.owner == extension && is_hosts(scope, production.left)
-}
-
-// Whether a nonterminal is the host's.
-fn is_hosts(scope: &Scope, nonterminal: usize) -> bool
-    ensures { IsTrue result ↔ IsHosts scope.now.attributes.now nonterminal }
-{
     let nonterminals = scope.attributes.nonterminals.as_slice();
-    nonterminal < nonterminals.len() && nonterminals[nonterminal].owner == 0
+    production.owner == extension
+        && production.left < nonterminals.len()
+        && nonterminals[production.left].owner == 0
 }

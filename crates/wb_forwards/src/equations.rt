@@ -71,7 +71,9 @@ fn check_from(alloc: Global, tested: &Tested, start: usize) -> Result<(), Attrib
     let edges = tested.graph.edges.as_slice();
     let reached = reachable_from(alloc, tested.graph.vertices.len(), edges, &[start])?;
     let allowed = tested.scope.forward_needs(tested.production.left);
-    let Some(inherited) = first_outside(tested, &reached, allowed, attribute) else {
+    let found = first_outside(tested, &reached, allowed, attribute);
+    drop(reached);
+    let Some(inherited) = found else {
         return Ok(());
     };
     Err(AttributeRefusal::ForwardReads {

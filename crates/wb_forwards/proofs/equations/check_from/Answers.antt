@@ -24,8 +24,8 @@ returns-in_default-clause-ok c vertex at attribute is inherited_one rule reaches
     let same = at_once t.graph.now.vertices c.args.start (get_or c.as_slice.result.now c.args.start (Top 0)) vertex there at in
     absurd (c.in_default.ensures.none attribute (same ∙ is) (below_rule t.production.now (made forward) attribute rule))
 
-pub returns-in_default-first_outside-clause-ok : goal.returns-in_default-first_outside-clause-ok
-returns-in_default-first_outside-clause-ok c vertex at =
+pub returns-in_default-found-clause-ok : goal.returns-in_default-found-clause-ok
+returns-in_default-found-clause-ok c vertex at =
     let t = c.args.tested.now in
     let a = t.scope.now.attributes.now in
     let v = get_or c.as_slice.result.now c.args.start (Top 0) in
@@ -37,7 +37,7 @@ returns-in_default-first_outside-clause-ok c vertex at =
     subst (KeepsFrom a t.production.now) (at_once t.graph.now.vertices c.args.start v vertex there at)
     (keeps_from a c.requires.tested.attribution t.production.now known t.graph.now c.requires.tested.graph c.args.start v there
     c.in-Some.attribute c.in-Some.ensures.some.0 c.deref.result.now reached c.forward_needs-allowed.result.now
-    c.forward_needs-allowed.ensures c.in_default-first_outside.ensures.none)
+    c.forward_needs-allowed.ensures c.in_default-found.ensures.none)
 
 pub returns-clause-refused : goal.returns-clause-refused
 returns-clause-refused c =
@@ -49,11 +49,11 @@ returns-clause-refused c =
     let reached = reached_in c.len.result (length t.graph.now.vertices) c.len.ensures c.as_slice-edges.result.now t.graph.now.edges
     c.as_slice-edges.ensures (c.args.start ∷ []) c.in_ok-reached.reached.items c.deref.result.now c.deref.ensures.value
     c.in_ok-reached.ensures in
-    let (k, other, at_k, outside) = c.in-Some-first_outside.ensures.some in
+    let (k, other, at_k, outside) = c.in-Some-found.ensures.some in
     let defined = c.in-Some.ensures.some.1 in (
       refl,
       reads_outside a c.requires.tested.attribution t.production.now known t.graph.now c.requires.tested.graph c.args.start v there
           c.in-Some.attribute c.in-Some.ensures.some.0 c.deref.result.now reached c.forward_needs-allowed.result.now
           c.forward_needs-allowed.ensures (defined_goes a t.production.now known c.in-Some.attribute defined) defined
-          c.in-Some-first_outside.inherited k other at_k outside,
+          c.in-Some-found.inherited k other at_k outside,
     )
