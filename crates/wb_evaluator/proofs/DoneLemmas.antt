@@ -1,7 +1,7 @@
 -- A visit that is done, by the form of the node.
 use Rattle.std.proofs.Common.{◌≡◌, ◌∙◌, ◌≤◌, ◌<◌, ◌+◌, ◌++◌, ℕ, zero, suc, pos, ℤ, Bool, List, [], ◌∷◌, Option, Some, None, length, refl}
 use Rattle.std.proofs.Common.{sym, ap, subst, arith}
-use Rattle.std.proofs.Common.{slice_get, get_or}
+use Rattle.std.proofs.Common.{◌⊎◌, inl, inr, slice_get, get_or}
 use Rattle.std.proofs.lemmas.Option.{slice_get-map}
 use Rattle.std.specs.Prelude.{option_map}
 use Rattle.wb_lemmas.proofs.Members.{contains_at}
@@ -84,6 +84,12 @@ way_is (place.Local y) = refl
 pub node_here : (nodes : List Node) (at : ℕ) (node : Node) {form : Node} → at < length nodes → node ≡ get_or nodes at node
     → get_or nodes at node ≡ form → HasNode nodes at form
 node_here nodes at node h is form_is = subst (HasNode nodes at) (is ∙ form_is) (has_node nodes at node h is)
+
+-- a node of either form is there in that form
+pub either_here : (nodes : List Node) (at : ℕ) (node : Node) {one other : Node} → at < length nodes → node ≡ get_or nodes at node
+    → (get_or nodes at node ≡ one) ⊎ (get_or nodes at node ≡ other) → HasNode nodes at one ⊎ HasNode nodes at other
+either_here nodes at node h is (inl form_is) = inl (node_here nodes at node h is form_is)
+either_here nodes at node h is (inr form_is) = inr (node_here nodes at node h is form_is)
 
 pub same_memo : (old new : Machine) → new ≡ with_memo old new.memo → IsSteady old new
 same_memo old new is = record {
@@ -254,6 +260,10 @@ module _ {a : AttributionParts} {operations : Operations} {trees : List Tree} {m
   label_label (place.Child k) has = label_there k has
   label_label (place.Local k) has = tt
 
+  pub place_label : (p : Place) → HasNode nodes at (n.Label p) ⊎ HasNode nodes at (n.Lexeme p) → HasLabel trees m site p
+  place_label p (inl has) = label_label p has
+  place_label p (inr has) = lexeme_label p has
+
   -- an instance is read, at a machine whose memo may have grown
   read_done : (after : Machine) (e : Expression) (v : IsVisiting a operations trees after site nodes old.tasks.items old.values.items e)
       (k : Key)
@@ -357,6 +367,11 @@ module _ {a : AttributionParts} {operations : Operations} {trees : List Tree} {m
   lexeme_visited (place.Child k) has after result (same, pushed) =
       subst (λ (z : Machine). Done z result) (sym same) (lexeme_done k has result pushed)
   lexeme_visited (place.Local k) has after result r = absurd (no_lexeme k has)
+
+  pub place_visited : (p : Place) → HasNode nodes at (n.Label p) ⊎ HasNode nodes at (n.Lexeme p) → (after : Machine) (result : Option Key)
+      → IsLabelVisited trees m after site p old new result → Done after result
+  place_visited p (inl has) = label_visited p has
+  place_visited p (inr has) = lexeme_visited p has
 
   -- a value was pushed, and nothing is read
   pub int_visited : (z : ℤ) → HasNode nodes at (n.Int z) → (result : Option Key) → IsPushed old new (stored.Int z) result → Done m result

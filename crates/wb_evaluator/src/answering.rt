@@ -8,7 +8,7 @@ ghost use Rattle.wb_attributes.specs.WellDefined.{IsWellDefinedProduction};
 ghost use Rattle.wb_evaluation.specs.Evaluable.{IsEvaluable, IsAsked};
 ghost use Rattle.wb_evaluator.specs.Evaluates.{HoldsMore, IsValue, IsFault, AsksMore};
 ghost use Rattle.wb_evaluator.specs.Inner.Machines.{IsMachine, IsFresh};
-ghost use Rattle.wb_evaluator.specs.Inner.Answering.{IsAnswered, IsTurned, IsLeaving, IsLeftWith, IsEnteredWithin};
+ghost use Rattle.wb_evaluator.specs.Inner.Answering.{IsAnswered, IsTurned, IsEnteredWithin};
 ghost use Rattle.wb_evaluator.specs.Inner.Piles.{IsPiled};
 ghost use Rattle.wb_evaluator.specs.Inner.Works.{IsExtended};
 ghost use Rattle.wb_operations.specs.Kept.{IsKept};
@@ -151,22 +151,10 @@ fn turn<'a, M: Meaning>(
     ensures store { IsExtended store.old store.new }
 {
     match run(context, machine, store, work)? {
-        Ran::Value(answer) => leave_or_answer(machine, answer),
+        Ran::Value(answer) => leave(machine, answer),
         Ran::Fault { operation, code } => Ok(Some(Evaluated::Fault { operation, code })),
         Ran::Needs(key) => enter_or_stop(machine, key, context.steps),
     }
-}
-
-// Leaves the last instance, whose value this is: the answer, where none waits for it.
-fn leave_or_answer(machine: &mut Machine, answer: Value) -> Result<Option<Evaluated>, AllocError>
-    requires { IsLeaving machine.old answer }
-    ensures { IfOk result (IsLeftWith machine.old machine.new answer) }
-{
-    if machine.stack.len() == 1 {
-        return Ok(Some(Evaluated::Value(answer)));
-    }
-    leave(machine, answer)?;
-    Ok(None)
 }
 
 // Enters the instance of a key, where there is a step left for it.

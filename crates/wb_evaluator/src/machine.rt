@@ -58,14 +58,20 @@ impl<'a> Machine<'a> {
         let Machine {
             memo,
             stack,
-            frames,
+            frames: Frames {
+                rows,
+                tasks,
+                values,
+            },
             root: _,
             attribute: _,
             entered: _,
         } = self;
         memo.release();
         drop(stack);
-        drop(frames);
+        drop(rows);
+        drop(tasks);
+        drop(values);
     }
 
     // Enters the instance of a key, for the one at work to wait for.

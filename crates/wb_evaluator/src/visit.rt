@@ -37,7 +37,9 @@ pub(crate) fn visit<M: Meaning>(
         Node::Int(number) => visit_value(work, Value::Int(*number)),
         Node::Text(text) => visit_text(work, text),
         Node::Bool(truth) => visit_value(work, Value::Bool(*truth)),
-        Node::Label(place) => visit_label(machine, store, work, site, *place),
+        Node::Label(place) | Node::Lexeme(place) => {
+            visit_label(machine, store, work, site, *place)
+        }
         Node::Read { label, attribute } => {
             let origin = Origin {
                 parent: site,
@@ -45,7 +47,6 @@ pub(crate) fn visit<M: Meaning>(
             };
             read_below(machine, store, work, origin, *attribute)
         }
-        Node::Lexeme(place) => visit_label(machine, store, work, site, *place),
         Node::Top(attribute) => {
             let key = Key::Inherited {
                 site,

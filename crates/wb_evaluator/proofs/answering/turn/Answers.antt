@@ -15,8 +15,8 @@ run-requires-clause-rules g c = c.requires.rules
 pub run-requires-clause-kept : goal.run-requires-clause-kept
 run-requires-clause-kept g c = c.requires.kept
 
-pub leave_or_answer-requires : goal.leave_or_answer-requires
-leave_or_answer-requires g c =
+pub leave-requires : goal.leave-requires
+leave-requires g c =
     let context = c.args.context.now in
     let operations : Operations = record { signatures = context.operations.now.signatures; meaning = g.M.Meaning.meaning } in
     let ran = subst (IsRan context.attributes.now operations c.run.new.store c.run.new.machine) c.in-Value.is c.in_ok-answer.ensures.ran in
@@ -34,9 +34,9 @@ returns-in-Value-clause-turned g c =
     let context = c.args.context.now in
     let operations : Operations = record { signatures = context.operations.now.signatures; meaning = g.M.Meaning.meaning } in
     let ran = subst (IsRan context.attributes.now operations c.run.new.store c.run.new.machine) c.in-Value.is c.in_ok-answer.ensures.ran in
-    IfOk-weaker c.leave_or_answer.result _ _
-    (left_turned context.attributes.now operations c.run.new.store c.args.machine.now c.run.new.machine c.leave_or_answer.new.machine
-    context.steps c.in-Value.answer c.in_ok-answer.ensures.same c.requires.within ran.0 ran.1) c.leave_or_answer.ensures
+    IfOk-weaker c.leave.result _ _
+    (left_turned context.attributes.now operations c.run.new.store c.args.machine.now c.run.new.machine c.leave.new.machine
+    context.steps c.in-Value.answer c.in_ok-answer.ensures.same c.requires.within ran.0 ran.1) c.leave.ensures
 
 pub returns-in-Value-clause-store : goal.returns-in-Value-clause-store
 returns-in-Value-clause-store g c = c.run.ensures.store

@@ -2,7 +2,7 @@ use Rattle.std.proofs.Common.{Some, refl, sym, subst, arith}
 use Rattle.std.specs.Vec.{with_item}
 use Rattle.std.proofs.lemmas.Result.{on_ok_weaker}
 use Rattle.wb_evaluator.proofs.BackLemmas.{attribute_set}
-use Rattle.wb_evaluator.specs.Inner.Machines.{IsKey, IsSet, IsFor}
+use Rattle.wb_evaluator.specs.Inner.Machines.{IsKey, IsSet}
 use Rattle.wb_evaluator.specs.declared.machine.Key.{Key}
 use Rattle.wb_memo.specs.declared.memo.Memo.{Memo}
 use Rattle.wb_evaluator.proofs.steps.keep.Goals as goal
@@ -18,9 +18,6 @@ set_attribute-requires-in-Inherited-clause-whole c = c.requires.whole
 
 pub set_attribute-requires-in-Inherited-clause-there : goal.set_attribute-requires-in-Inherited-clause-there
 set_attribute-requires-in-Inherited-clause-there c = subst (IsKey c.args.memo.now) c.in-Inherited.is c.requires.there
-
-pub tree_of-tree-requires : goal.tree_of-tree-requires
-tree_of-tree-requires c = subst (λ (k : Key). IsFor k c.args.answer) c.in-Tree.is c.requires.tree
 
 pub index_mut-requires : goal.index_mut-requires
 index_mut-requires c =
@@ -45,18 +42,18 @@ returns-in-Inherited c =
     (attribute_set c.set_attribute-in-Inherited.result c.args.memo.now c.set_attribute-in-Inherited.new.self c.in-Inherited.site
     c.in-Inherited.attribute c.args.answer e.whole e.sites e.trees e.set e.kept)
 
-pub returns-in-Tree : goal.returns-in-Tree
-returns-in-Tree c =
+pub returns-in-Tree-answer : goal.returns-in-Tree-answer
+returns-in-Tree-answer c =
     let old = c.args.memo.now in
     let new : Memo = record {
       sites = old.sites;
-      trees = with_item old.trees c.in-Tree.site (Some c.tree_of-tree.result);
+      trees = with_item old.trees c.in-Tree.site (Some c.in-Tree-answer.tree);
       cells = old.cells;
       values = old.values;
     } in
     subst (λ (k : Key). IsSet old new k c.args.answer) (sym c.in-Tree.is) (record {
-      id = c.tree_of-tree.result;
-      is = c.tree_of-tree.ensures;
+      id = c.in-Tree-answer.tree;
+      is = c.in-Tree-answer.is;
       sites = refl;
       cells = refl;
       values = refl;

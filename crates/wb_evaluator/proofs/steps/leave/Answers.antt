@@ -52,15 +52,24 @@ returns c =
     ∙ read_at keys keys (c.len-at.result - 1) c.index-key.result.now refl (omega (arith, some, is)) c.index-key.ensures in
     let frames = c.args.machine.now.frames in
     let shorter : Frames = record { rows = c.truncate-2.new.self; tasks = frames.tasks; values = frames.values } in
-    let rows = c.truncate-2.ensures.items ∙ ap (λ n. take (n - 1) frames.rows.items) (is ∙ sym c.requires.frames) in
-    record {
-      key = c.index-key.result.now;
-      last = at;
-      set = c.in_ok-keep.ensures;
-      root = refl;
-      attribute = refl;
-      entered = refl;
-      stack = c.truncate.ensures.items ∙ ap (λ n. take (n - 1) keys) is;
-      frames = left_waits frames c.requires.piled c.requires.none shorter rows refl refl;
-      piled = left_piled frames c.requires.piled c.requires.none shorter rows refl refl;
-    }
+    let rows = c.truncate-2.ensures.items ∙ ap (λ n. take (n - 1) frames.rows.items) (is ∙ sym c.requires.frames) in (
+      record {
+        key = c.index-key.result.now;
+        last = at;
+        set = c.in_ok-keep.ensures;
+        root = refl;
+        attribute = refl;
+        entered = refl;
+        stack = c.truncate.ensures.items ∙ ap (λ n. take (n - 1) keys) is;
+        frames = left_waits frames c.requires.piled c.requires.none shorter rows refl refl;
+        piled = left_piled frames c.requires.piled c.requires.none shorter rows refl refl;
+      },
+      λ one. c.if-at-eq0.false (omega (arith, one, is)),
+    )
+
+pub returns-then-at-eq0 : goal.returns-then-at-eq0
+returns-then-at-eq0 c =
+    let some = c.requires.some in
+    let is = c.len-at.ensures ∙ c.args.machine.now.stack.ok.0 in
+    let first = c.if-at-eq0.true in
+    (refl, omega (arith, some, is, first))

@@ -1,8 +1,7 @@
 use Rattle.std.proofs.lemmas.Int.{to_z-of_z}
 use Rattle.std.proofs.Common.{rules, FitsSigned, w64, sym, subst}
 use Rattle.std.proofs.lemmas.Result.{IfOk-weaker}
-use Rattle.wb_evaluator.proofs.DoneLemmas.{node_here, int_visited, text_visited, truth_visited, label_label, label_visited, lexeme_label}
-use Rattle.wb_evaluator.proofs.DoneLemmas.{lexeme_visited}
+use Rattle.wb_evaluator.proofs.DoneLemmas.{node_here, either_here, int_visited, text_visited, truth_visited, place_label, place_visited}
 use Rattle.wb_evaluator.proofs.DoneLemmas.{top_done, read_ready, read_below_done, forward_done, build_visited, call_visited, choice_visited}
 use Rattle.wb_evaluator.proofs.DoneLemmas.{call_there}
 use Rattle.wb_evaluator.specs.Inner.Reached.{IsReady}
@@ -22,23 +21,9 @@ visit_label-requires-clause-there g c =
 
 pub visit_label-requires-clause-label : goal.visit_label-requires-clause-label
 visit_label-requires-clause-label g c =
-    let has = node_here c.args.expression.now.nodes.now c.args.at c.index-expression-at.result c.requires.there
+    let has = either_here c.args.expression.now.nodes.now c.args.at c.index-expression-at.result c.requires.there
     c.index-expression-at.is c.in-Label.is in
-    label_label c.args.work.now c.args.work.now c.args.at c.requires.evaluating c.in-Label.place has
-
-pub visit_label-requires-in-Lexeme-clause-whole : goal.visit_label-requires-in-Lexeme-clause-whole
-visit_label-requires-in-Lexeme-clause-whole g c =
-    c.requires.evaluating.runs.machine.memo.whole
-
-pub visit_label-requires-in-Lexeme-clause-there : goal.visit_label-requires-in-Lexeme-clause-there
-visit_label-requires-in-Lexeme-clause-there g c =
-    c.requires.evaluating.there
-
-pub visit_label-requires-in-Lexeme-clause-label : goal.visit_label-requires-in-Lexeme-clause-label
-visit_label-requires-in-Lexeme-clause-label g c =
-    let has = node_here c.args.expression.now.nodes.now c.args.at c.index-expression-at.result c.requires.there
-    c.index-expression-at.is c.in-Lexeme.is in
-    lexeme_label c.args.work.now c.args.work.now c.args.at c.requires.evaluating c.in-Lexeme.place has
+    place_label c.args.work.now c.args.work.now c.args.at c.requires.evaluating c.in-Label.place has
 
 pub read_below-requires-clause-whole : goal.read_below-requires-clause-whole
 read_below-requires-clause-whole g c =
@@ -105,19 +90,11 @@ returns-in-Bool g c =
 
 pub returns-in-Label : goal.returns-in-Label
 returns-in-Label g c =
-    let has = node_here c.args.expression.now.nodes.now c.args.at c.index-expression-at.result c.requires.there
+    let has = either_here c.args.expression.now.nodes.now c.args.at c.index-expression-at.result c.requires.there
     c.index-expression-at.is c.in-Label.is in
     IfOk-weaker c.visit_label.result _ _
-    (λ r it. label_visited c.args.work.now c.visit_label.new.work c.args.at c.requires.evaluating c.in-Label.place has
+    (λ r it. place_visited c.args.work.now c.visit_label.new.work c.args.at c.requires.evaluating c.in-Label.place has
     c.visit_label.new.machine r it) c.visit_label.ensures
-
-pub returns-in-Lexeme : goal.returns-in-Lexeme
-returns-in-Lexeme g c =
-    let has = node_here c.args.expression.now.nodes.now c.args.at c.index-expression-at.result c.requires.there
-    c.index-expression-at.is c.in-Lexeme.is in
-    IfOk-weaker c.visit_label-in-Lexeme.result _ _
-    (λ r it. lexeme_visited c.args.work.now c.visit_label-in-Lexeme.new.work c.args.at c.requires.evaluating c.in-Lexeme.place has
-    c.visit_label-in-Lexeme.new.machine r it) c.visit_label-in-Lexeme.ensures
 
 pub returns-in-Read : goal.returns-in-Read
 returns-in-Read g c =
