@@ -1,5 +1,5 @@
 -- How the work on an instance starts, by its key.
-use Rattle.std.proofs.Common.{◌≡◌, ◌≢◌, ◌∙◌, ◌≤◌, ◌<◌, ◌-◌, ℕ, List, [], ◌∷◌, Option, Some, None, length, refl, sym, ap, arith, slice_get}
+use Rattle.std.proofs.Common.{subst, ◌≡◌, ◌≢◌, ◌∙◌, ◌≤◌, ◌<◌, ◌-◌, ℕ, List, [], ◌∷◌, Option, Some, None, length, refl, sym, ap, arith, slice_get}
 use Rattle.std.proofs.Common.{get_or}
 use Rattle.wb_attributes.specs.Rules.{IsRule, HasRule}
 use Rattle.wb_attributes.specs.Vertices.{Made, child, made, local, forward, top_synthesized, inherited, tree_of}
@@ -19,7 +19,8 @@ use Rattle.wb_evaluator.proofs.LeaveLemmas.{named_length, key_here}
 use Rattle.wb_evaluator.specs.Inner.Machines.{tree_named, IsMachine, Wants}
 use Rattle.wb_memo.specs.Memos.{path_in}
 use Rattle.wb_memo.specs.Sites.{step_of}
-use Rattle.wb_evaluator.specs.Inner.Starts.{HasProduction, IsProductionAt, IsAtWork, IsStarting, IsAlone, IsForwarding, made_by}
+use Rattle.wb_evaluator.specs.Inner.Starts.{HasProduction, IsProductionAt, IsAtWork, IsStarting, IsAlone, IsForwarding, IsStart, made_by}
+use Rattle.wb_evaluator.specs.declared.start.Start.{Start}
 use Rattle.wb_evaluator.specs.Inner.Tasks.{visit, resume}
 use Rattle.wb_evaluator.specs.Inner.Works.{IsEvaluating}
 use Rattle.wb_evaluator.specs.declared.machine.Key.{Key}
@@ -235,3 +236,8 @@ module _ {a : AttributionParts} {operations : Operations} {trees : List Tree} {m
       let at = slice_get-get_or m.stack.items (length m.stack.items - 1) k (omega (arith, some)) ∙ ap Some (sym found) in
       let (is_key, this_is) = key_here a operations trees m r k at in
       record { machine = r; is_key = is_key; this_is = this_is }
+
+  -- it is worked on by what the instance of the last key is worked on by
+  pub started : (k : Key) (count : ℕ) → count ≡ length m.stack.items → k ≡ get_or m.stack.items (count - 1) k → (s : Start)
+      → ((os : Operations) → IsAtWork a os trees m k → IsStart a os trees m s) → IsStart a operations trees m s
+  started k count is found s starts_by = starts_by operations (at_work k (subst (λ n. k ≡ get_or m.stack.items (n - 1) k) is found))

@@ -13,6 +13,13 @@ pub(crate) struct Context<'a, M: Meaning> {
     pub steps: u64,
 }
 
+// Attributes, and their rules by what they define.
+#[derive(Clone, Copy)]
+pub(crate) struct Definitions<'a> {
+    pub attributes: &'a AttributionParts,
+    pub rules: &'a RuleIndex,
+}
+
 // An expression at a site, with the attributes and operations by which it is evaluated.
 #[derive(Drop)]
 pub(crate) struct Expression<'a, M: Meaning> {

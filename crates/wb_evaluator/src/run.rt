@@ -4,6 +4,8 @@
 
 ghost use Rattle.std.specs.Prelude.{◌≡◌, ◌≤◌, ◌<◌, length, IfOk, OnOk};
 ghost use Rattle.wb_operations.specs.Kept.{IsKept};
+ghost use Rattle.wb_operations.specs.Operations.{Operations};
+ghost use Rattle.wb_resolved.specs.declared.attribution.AttributionParts.{AttributionParts};
 ghost use Rattle.wb_evaluator.specs.Inner.Machines.{IsMachine, IsKey, IsSame};
 ghost use Rattle.wb_memo.specs.Memos.{IsWhole};
 ghost use Rattle.wb_evaluator.specs.Inner.Piles.{HasNoFrame};
@@ -11,7 +13,7 @@ ghost use Rattle.wb_evaluator.specs.Inner.Starts.{IsForwarding};
 ghost use Rattle.wb_evaluator.specs.Inner.Works.{IsEvaluating, IsExtended, IsRan, IsRead};
 ghost use Rattle.wb_rules.specs.Indexes.{AreIndexes};
 
-use crate::context::{Context, Expression};
+use crate::context::{Context, Definitions, Expression};
 use crate::machine::{Key, Machine};
 use crate::perform::evaluate_tasks;
 use crate::start::{Start, start_of};
@@ -70,7 +72,11 @@ fn run_from_start<'a, M: Meaning>(
     ensures store { IsExtended store.old store.new }
 {
     let at = machine.stack.len() - 1;
-    match start_of(context, machine, store, machine.stack[at]) {
+    let definitions = Definitions {
+        attributes: context.attributes,
+        rules: context.rules,
+    };
+    match start_of(&definitions, machine, store, machine.stack[at]) {
         Start::Expression { site, nodes } => {
             let last = nodes.len() - 1;
             work.start(last)?;
@@ -83,24 +89,21 @@ fn run_from_start<'a, M: Meaning>(
             go_on(&expression, machine, store, work)
         }
         Start::Read(key) => read_alone(machine, key),
-        Start::Forward { site, attribute } => {
-            run_forward(context, machine, store, site, attribute)
-        }
+        Start::Forward { site, attribute } => run_forward(machine, store, site, attribute),
         Start::Needs(key) => Ok(Ran::Needs(key)),
     }
 }
 
 // Works on a synthesized attribute that is that of the forwarded tree.
-fn run_forward<M: Meaning>(
-    context: &Context<M>,
+fn run_forward(
     machine: &mut Machine,
     store: &TreeStore,
     site: usize,
     attribute: usize,
 ) -> Result<Ran, AllocError>
-    requires forwarding { IsForwarding context.now.attributes.now (record { signatures = context.now.operations.now.signatures; meaning = M.meaning }) store.now machine.old site attribute }
+    requires forwarding { (a : AttributionParts) × (operations : Operations) × IsForwarding a operations store.now machine.old site attribute }
     requires none { HasNoFrame machine.old.frames }
-    ensures ran { IfOk result (IsRan context.now.attributes.now (record { signatures = context.now.operations.now.signatures; meaning = M.meaning }) store.now machine.new) }
+    ensures ran { (a : AttributionParts) (operations : Operations) → IsForwarding a operations store.now machine.old site attribute → IfOk result (IsRan a operations store.now machine.new) }
     ensures same { OnOk result (IsSame machine.old machine.new) }
 {
     let below = machine.below(store, site, Step::Forward)?;

@@ -7,13 +7,13 @@ ghost use Rattle.wb_attributes.specs.Rules.{target_vertex, IsRule, HasRule};
 ghost use Rattle.wb_attributes.specs.Vertices.{inherited, tree_of};
 ghost use Rattle.wb_evaluator.specs.Inner.Starts.{IsAtWork, HasProduction, IsProductionAt, IsStart, made_by};
 ghost use Rattle.wb_memo.specs.Sites.{step_of};
+ghost use Rattle.wb_operations.specs.Operations.{Operations};
 ghost use Rattle.wb_rules.specs.Indexes.{AreIndexes, IsIndexOf};
 ghost use Rattle.wb_evaluator.specs.declared.machine.Key.TheVariants.{Synthesized, Inherited, Tree};
 
-use crate::context::Context;
+use crate::context::Definitions;
 use crate::machine::{Key, Machine, tree_at};
 use wb_memo::Step;
-use wb_operations::Meaning;
 use wb_resolved::{AttributionParts, Node, Place, Production, Target};
 use wb_rules::{RuleIndex, Rules, equation_for, forward_nodes, local_nodes};
 use wb_values::TreeStore;
@@ -32,42 +32,42 @@ pub(crate) enum Start<'a> {
 }
 
 // By what the instance of a key is worked on.
-pub(crate) fn start_of<'a, M: Meaning>(
-    context: &Context<'a, M>,
+pub(crate) fn start_of<'a>(
+    definitions: &Definitions<'a>,
     machine: &Machine,
     store: &TreeStore,
     key: Key,
 ) -> Start<'a>
-    requires works { IsAtWork context.now.attributes.now (record { signatures = context.now.operations.now.signatures; meaning = M.meaning }) store.now machine.now key }
-    requires rules { AreIndexes context.now.attributes.now.productions context.now.rules.now.rows.items }
-    ensures { IsStart context.now.attributes.now (record { signatures = context.now.operations.now.signatures; meaning = M.meaning }) store.now machine.now result }
+    requires works { (operations : Operations) × IsAtWork definitions.now.attributes.now operations store.now machine.now key }
+    requires rules { AreIndexes definitions.now.attributes.now.productions definitions.now.rules.now.rows.items }
+    ensures { (operations : Operations) → IsAtWork definitions.now.attributes.now operations store.now machine.now key → IsStart definitions.now.attributes.now operations store.now machine.now result }
 {
     match key {
         Key::Synthesized { site, attribute } => {
-            start_of_synthesized(context, machine, store, site, attribute)
+            start_of_synthesized(definitions, machine, store, site, attribute)
         }
         Key::Inherited { site, attribute } => {
-            start_of_inherited(context, machine, store, site, attribute)
+            start_of_inherited(definitions, machine, store, site, attribute)
         }
-        Key::Tree { site } => start_of_tree(context, machine, store, site),
+        Key::Tree { site } => start_of_tree(definitions, machine, store, site),
     }
 }
 
 // By what the tree of a local or forward is.
-fn start_of_tree<'a, M: Meaning>(
-    context: &Context<'a, M>,
+fn start_of_tree<'a>(
+    definitions: &Definitions<'a>,
     machine: &Machine,
     store: &TreeStore,
     site: usize,
 ) -> Start<'a>
-    requires works { IsAtWork context.now.attributes.now (record { signatures = context.now.operations.now.signatures; meaning = M.meaning }) store.now machine.now (Tree site) }
-    requires rules { AreIndexes context.now.attributes.now.productions context.now.rules.now.rows.items }
-    ensures { IsStart context.now.attributes.now (record { signatures = context.now.operations.now.signatures; meaning = M.meaning }) store.now machine.now result }
+    requires works { (operations : Operations) × IsAtWork definitions.now.attributes.now operations store.now machine.now (Tree site) }
+    requires rules { AreIndexes definitions.now.attributes.now.productions definitions.now.rules.now.rows.items }
+    ensures { (operations : Operations) → IsAtWork definitions.now.attributes.now operations store.now machine.now (Tree site) → IsStart definitions.now.attributes.now operations store.now machine.now result }
 {
     let origin = machine.memo.sites.origins[site - 1];
     let rules = rules_at(
-        context.attributes,
-        context.rules,
+        definitions.attributes,
+        definitions.rules,
         machine,
         store,
         origin.parent,
@@ -94,21 +94,21 @@ fn tree_nodes(production: &Production, step: Step) -> Option<&[Node]>
 }
 
 // By what an inherited attribute is.
-fn start_of_inherited<'a, M: Meaning>(
-    context: &Context<'a, M>,
+fn start_of_inherited<'a>(
+    definitions: &Definitions<'a>,
     machine: &Machine,
     store: &TreeStore,
     site: usize,
     attribute: usize,
 ) -> Start<'a>
-    requires works { IsAtWork context.now.attributes.now (record { signatures = context.now.operations.now.signatures; meaning = M.meaning }) store.now machine.now (Inherited site attribute) }
-    requires rules { AreIndexes context.now.attributes.now.productions context.now.rules.now.rows.items }
-    ensures { IsStart context.now.attributes.now (record { signatures = context.now.operations.now.signatures; meaning = M.meaning }) store.now machine.now result }
+    requires works { (operations : Operations) × IsAtWork definitions.now.attributes.now operations store.now machine.now (Inherited site attribute) }
+    requires rules { AreIndexes definitions.now.attributes.now.productions definitions.now.rules.now.rows.items }
+    ensures { (operations : Operations) → IsAtWork definitions.now.attributes.now operations store.now machine.now (Inherited site attribute) → IsStart definitions.now.attributes.now operations store.now machine.now result }
 {
     let origin = machine.memo.sites.origins[site - 1];
     let rules = rules_at(
-        context.attributes,
-        context.rules,
+        definitions.attributes,
+        definitions.rules,
         machine,
         store,
         origin.parent,
@@ -126,21 +126,27 @@ fn start_of_inherited<'a, M: Meaning>(
 }
 
 // By what a synthesized attribute is.
-fn start_of_synthesized<'a, M: Meaning>(
-    context: &Context<'a, M>,
+fn start_of_synthesized<'a>(
+    definitions: &Definitions<'a>,
     machine: &Machine,
     store: &TreeStore,
     site: usize,
     attribute: usize,
 ) -> Start<'a>
-    requires works { IsAtWork context.now.attributes.now (record { signatures = context.now.operations.now.signatures; meaning = M.meaning }) store.now machine.now (Synthesized site attribute) }
-    requires rules { AreIndexes context.now.attributes.now.productions context.now.rules.now.rows.items }
-    ensures { IsStart context.now.attributes.now (record { signatures = context.now.operations.now.signatures; meaning = M.meaning }) store.now machine.now result }
+    requires works { (operations : Operations) × IsAtWork definitions.now.attributes.now operations store.now machine.now (Synthesized site attribute) }
+    requires rules { AreIndexes definitions.now.attributes.now.productions definitions.now.rules.now.rows.items }
+    ensures { (operations : Operations) → IsAtWork definitions.now.attributes.now operations store.now machine.now (Synthesized site attribute) → IsStart definitions.now.attributes.now operations store.now machine.now result }
 {
     if machine.memo.trees[site].is_none() {
         return Start::Needs(Key::Tree { site });
     }
-    let rules = rules_at(context.attributes, context.rules, machine, store, site);
+    let rules = rules_at(
+        definitions.attributes,
+        definitions.rules,
+        machine,
+        store,
+        site,
+    );
     match equation_for(&rules, Target::Top(attribute)) {
         Some(nodes) => Start::Expression { site, nodes },
         None => Start::Forward { site, attribute },

@@ -3,25 +3,25 @@ use Rattle.wb_evaluator.proofs.StartLemmas.{tree_some, tree_production, tree_sta
 use Rattle.wb_evaluator.proofs.start.start_of_tree.Goals as goal
 
 pub overflow_sub-site : goal.overflow_sub-site
-overflow_sub-site g c =
-    (tree_some c.args.site c.requires.works).0
+overflow_sub-site c =
+    (tree_some c.args.site c.requires.works.1).0
 
 pub index-origin-requires : goal.index-origin-requires
-index-origin-requires g c =
-    let within = (tree_some c.args.site c.requires.works).1 in
+index-origin-requires c =
+    let within = (tree_some c.args.site c.requires.works.1).1 in
     search rules
 
 pub rules_at-rules-requires-clause-production : goal.rules_at-rules-requires-clause-production
-rules_at-rules-requires-clause-production g c =
-    tree_production c.args.site c.requires.works c.index-origin.result.now c.index-origin.ensures
+rules_at-rules-requires-clause-production c =
+    tree_production c.args.site c.requires.works.1 c.index-origin.result.now c.index-origin.ensures
 
 pub returns : goal.returns
-returns g c =
-    tree_starts c.args.site c.requires.works c.index-origin.result.now c.index-origin.ensures c.rules_at-rules.result.production.now
+returns c = λ operations works.
+    tree_starts c.args.site works c.index-origin.result.now c.index-origin.ensures c.rules_at-rules.result.production.now
     c.in-Some.nodes.now
     c.rules_at-rules.ensures.production c.in-Some.ensures.some
 
 pub unreachable-requires : goal.unreachable-requires
-unreachable-requires g c =
-    tree_stops c.args.site c.requires.works c.index-origin.result.now c.index-origin.ensures c.rules_at-rules.result.production.now
+unreachable-requires c =
+    tree_stops c.args.site c.requires.works.1 c.index-origin.result.now c.index-origin.ensures c.rules_at-rules.result.production.now
     c.rules_at-rules.ensures.production c.in-None.ensures.none
