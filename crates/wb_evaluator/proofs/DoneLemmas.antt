@@ -105,6 +105,14 @@ same_memo old new is = record {
 pub still_same : (old : Machine) (frames : Frames) (new : Machine) → IsSame (with_frames old frames) new → IsSame old new
 still_same old frames new it = record { root = it.root; attribute = it.attribute; stack = it.stack; entered = it.entered }
 
+pub same_through : (first second third : Machine) → IsSame first second → IsSame second third → IsSame first third
+same_through first second third p q = record {
+  root = q.root ∙ p.root;
+  attribute = q.attribute ∙ p.attribute;
+  stack = q.stack ∙ p.stack;
+  entered = q.entered ∙ p.entered;
+}
+
 pub same_machine : (m : Machine) → IsSteady m m
 same_machine m = record { same = record { root = refl; attribute = refl; stack = refl; entered = refl }; frames = refl }
 

@@ -19,8 +19,10 @@ use Rattle.wb_evaluator.proofs.LeaveLemmas.{named_length, key_here}
 use Rattle.wb_evaluator.specs.Inner.Machines.{tree_named, IsMachine, Wants}
 use Rattle.wb_memo.specs.Memos.{path_in}
 use Rattle.wb_memo.specs.Sites.{step_of}
-use Rattle.wb_evaluator.specs.Inner.Starts.{HasProduction, IsProductionAt, IsAtWork, IsStarting, IsAlone, IsForwarding, IsStart, made_by}
+use Rattle.wb_evaluator.specs.Inner.Starts.{HasProduction, IsProductionAt, IsAtWork, IsStarting, IsAlone, IsForwarding, IsStart, IsNext, made_by}
 use Rattle.wb_evaluator.specs.declared.start.Start.{Start}
+use Rattle.wb_evaluator.specs.declared.start.Start.TheVariants as start
+use Rattle.wb_evaluator.specs.declared.work.Work.{Work}
 use Rattle.wb_evaluator.specs.Inner.Tasks.{visit, resume}
 use Rattle.wb_evaluator.specs.Inner.Works.{IsEvaluating}
 use Rattle.wb_evaluator.specs.declared.machine.Key.{Key}
@@ -241,3 +243,12 @@ module _ {a : AttributionParts} {operations : Operations} {trees : List Tree} {m
   pub started : (k : Key) (count : ℕ) → count ≡ length m.stack.items → k ≡ get_or m.stack.items (count - 1) k → (s : Start)
       → ((os : Operations) → IsAtWork a os trees m k → IsStart a os trees m s) → IsStart a operations trees m s
   started k count is found s starts_by = starts_by operations (at_work k (subst (λ n. k ≡ get_or m.stack.items (n - 1) k) is found))
+
+-- what isn't an expression is next as it is
+pub next_other : (a : AttributionParts) (operations : Operations) (trees : List Tree) (m : Machine) (work : Work) (s : Start)
+    → ((site : ℕ) (nodes : _) → s ≡ start.Expression site nodes → ⊥) → IsStart a operations trees m s
+    → IsNext a operations trees m work s
+next_other a operations trees m work (start.Expression site nodes) other is = absurd (other site nodes refl)
+next_other a operations trees m work (start.Read k) other is = is
+next_other a operations trees m work (start.Forward site x) other is = is
+next_other a operations trees m work (start.Needs k) other is = is

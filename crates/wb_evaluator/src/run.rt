@@ -9,7 +9,7 @@ ghost use Rattle.wb_resolved.specs.declared.attribution.AttributionParts.{Attrib
 ghost use Rattle.wb_evaluator.specs.Inner.Machines.{IsMachine, IsKey, IsSame};
 ghost use Rattle.wb_memo.specs.Memos.{IsWhole};
 ghost use Rattle.wb_evaluator.specs.Inner.Piles.{HasNoFrame};
-ghost use Rattle.wb_evaluator.specs.Inner.Starts.{IsForwarding};
+ghost use Rattle.wb_evaluator.specs.Inner.Starts.{IsForwarding, IsNext};
 ghost use Rattle.wb_evaluator.specs.Inner.Works.{IsEvaluating, IsExtended, IsRan, IsRead};
 ghost use Rattle.wb_rules.specs.Indexes.{AreIndexes};
 
@@ -39,47 +39,13 @@ pub(crate) fn run<'a, M: Meaning>(
     ensures same { OnOk result (IsSame machine.old machine.new) }
     ensures store { IsExtended store.old store.new }
 {
-    match machine.frames.take(work) {
-        Ok(Some(frame)) => {
-            let expression = Expression {
-                attributes: context.attributes,
-                operations: context.operations,
-                site: frame.site,
-                nodes: frame.nodes,
-            };
-            go_on(&expression, machine, store, work)
-        }
-        Ok(None) => run_from_start(context, machine, store, work),
-        Err(error) => Err(error),
-    }
-}
-
-// Works on the last instance from the start.
-fn run_from_start<'a, M: Meaning>(
-    context: &Context<'a, M>,
-    machine: &mut Machine<'a>,
-    store: &mut TreeStore,
-    work: &mut Work,
-) -> Result<Ran, AllocError>
-    requires whole { IsMachine context.now.attributes.now (record { signatures = context.now.operations.now.signatures; meaning = M.meaning }) store.old machine.old }
-    requires none { HasNoFrame machine.old.frames }
-    requires rules { AreIndexes context.now.attributes.now.productions context.now.rules.now.rows.items }
-    requires kept { IsKept context.now.operations.now.signatures context.now.operations.now.built_in context.now.operations.now.runs.items M.meaning
-        (λ run vs. ⟦<Box<dyn Fn(&[Value]) -> Result<Value, OperationRefusal>> as Fn(&[Value]) -> Result<Value, OperationRefusal>>⟧.pre run vs)
-        (λ run vs r. ⟦<Box<dyn Fn(&[Value]) -> Result<Value, OperationRefusal>> as Fn(&[Value]) -> Result<Value, OperationRefusal>>⟧.post run vs r) }
-    ensures ran { IfOk result (IsRan context.now.attributes.now (record { signatures = context.now.operations.now.signatures; meaning = M.meaning }) store.new machine.new) }
-    ensures same { OnOk result (IsSame machine.old machine.new) }
-    ensures store { IsExtended store.old store.new }
-{
-    let at = machine.stack.len() - 1;
     let definitions = Definitions {
         attributes: context.attributes,
         rules: context.rules,
     };
-    match start_of(&definitions, machine, store, machine.stack[at]) {
+    let next = resume(&definitions, machine, store, work)?;
+    match next {
         Start::Expression { site, nodes } => {
-            let last = nodes.len() - 1;
-            work.start(last)?;
             let expression = Expression {
                 attributes: context.attributes,
                 operations: context.operations,
@@ -91,6 +57,52 @@ fn run_from_start<'a, M: Meaning>(
         Start::Read(key) => read_alone(machine, key),
         Start::Forward { site, attribute } => run_forward(machine, store, site, attribute),
         Start::Needs(key) => Ok(Ran::Needs(key)),
+    }
+}
+
+// By what the last instance is worked on: an expression's work is there, on from where it waited or from the start.
+fn resume<'a>(
+    definitions: &Definitions<'a>,
+    machine: &mut Machine<'a>,
+    store: &TreeStore,
+    work: &mut Work,
+) -> Result<Start<'a>, AllocError>
+    requires whole { (operations : Operations) × IsMachine definitions.now.attributes.now operations store.now machine.old }
+    requires rules { AreIndexes definitions.now.attributes.now.productions definitions.now.rules.now.rows.items }
+    ensures next { (operations : Operations) → IsMachine definitions.now.attributes.now operations store.now machine.old → IfOk result (IsNext definitions.now.attributes.now operations store.now machine.new work.new) }
+    ensures none { OnOk result (HasNoFrame machine.new.frames) }
+    ensures same { OnOk result (IsSame machine.old machine.new) }
+{
+    match machine.frames.take(work) {
+        Ok(Some(frame)) => Ok(Start::Expression {
+            site: frame.site,
+            nodes: frame.nodes,
+        }),
+        Ok(None) => begin(definitions, machine, store, work),
+        Err(error) => Err(error),
+    }
+}
+
+// The same from the start.
+fn begin<'a>(
+    definitions: &Definitions<'a>,
+    machine: &Machine,
+    store: &TreeStore,
+    work: &mut Work,
+) -> Result<Start<'a>, AllocError>
+    requires whole { (operations : Operations) × IsMachine definitions.now.attributes.now operations store.now machine.now }
+    requires rules { AreIndexes definitions.now.attributes.now.productions definitions.now.rules.now.rows.items }
+    ensures { (operations : Operations) → IsMachine definitions.now.attributes.now operations store.now machine.now → IfOk result (IsNext definitions.now.attributes.now operations store.now machine.now work.new) }
+{
+    let at = machine.stack.len() - 1;
+    let start = start_of(definitions, machine, store, machine.stack[at]);
+    match start {
+        Start::Expression { nodes, .. } => {
+            let last = nodes.len() - 1;
+            work.start(last)?;
+            Ok(start)
+        }
+        _ => Ok(start),
     }
 }
 

@@ -17,6 +17,8 @@ use Rattle.wb_evaluator.specs.Inner.Machines.{HasTree, named, IsKey, IsMachine, 
 use Rattle.wb_memo.specs.Memos.{count, path_in}
 use Rattle.wb_evaluator.specs.declared.machine.Key.{Key}
 use Rattle.wb_evaluator.specs.declared.machine.Machine.{Machine}
+use Rattle.wb_evaluator.specs.Inner.Works.{IsEvaluating}
+use Rattle.wb_evaluator.specs.declared.work.Work.{Work}
 use Rattle.wb_evaluator.specs.declared.start.Start.{Start}
 use Rattle.wb_evaluator.specs.declared.start.Start.TheVariants as start
 use Rattle.wb_memo.specs.declared.sites.Step.{Step}
@@ -72,6 +74,11 @@ module _ (a : AttributionParts) (operations : Operations) (trees : List Tree) wh
   IsStart m (start.Read k) = IsAlone a operations trees m k
   IsStart m (start.Forward site x) = IsForwarding a operations trees m site x
   IsStart m (start.Needs k) = Wants a operations trees m k
+
+  -- it is worked on by this, where the work is what is left of its expression
+  abbrev pub IsNext : Machine → Work → Start → Type 0
+  IsNext m work (start.Expression site nodes) = IsEvaluating a operations trees m site nodes.now work.tasks.items work.values.items
+  IsNext m work other = IsStart m other
 
 -- where a step is to a tree that an expression makes, so it is with that
 abbrev pub made_by : Step → (Made → Type 0) → Type 0

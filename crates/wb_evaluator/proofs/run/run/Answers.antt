@@ -1,63 +1,123 @@
-use Rattle.std.proofs.lemmas.Result.{on_ok_weaker}
-use Rattle.wb_evaluator.proofs.DoneLemmas.{same_store, still_same}
-use Rattle.wb_evaluator.proofs.ParkLemmas.{rows_some, resumed, started}
-use Rattle.wb_evaluator.specs.Inner.Piles.{wait}
+use Rattle.std.proofs.Common.{subst}
+use Rattle.std.proofs.lemmas.Result.{IfOk-weaker, on_ok_weaker}
+use Rattle.wb_evaluator.proofs.DoneLemmas.{same_store, same_through}
+use Rattle.wb_evaluator.proofs.ForwardLemmas.{alone_ran}
+use Rattle.wb_evaluator.specs.Inner.Starts.{IsNext}
 use Rattle.wb_evaluator.proofs.run.run.Goals as goal
 
-pub take-requires-clause-some : goal.take-requires-clause-some
-take-requires-clause-some g c =
-    rows_some c.requires.whole
+pub resume-requires-clause-whole : goal.resume-requires-clause-whole
+resume-requires-clause-whole g c = (_, c.requires.whole)
+
+pub resume-requires-clause-rules : goal.resume-requires-clause-rules
+resume-requires-clause-rules g c = c.requires.rules
 
 pub go_on-requires-clause-evaluating : goal.go_on-requires-clause-evaluating
 go_on-requires-clause-evaluating g c =
-    let e = c.in-Ok-Some.ensures in
-    let f = c.in-Ok-Some.frame in
-    let work = c.take.new.work in
-    resumed c.requires.whole c.take.new.self e.piled e.taken.without (wait f.site f.nodes.now work.tasks.items work.values.items)
-    (e.taken.its f c.in-Ok-Some.field-0-is)
-
-pub run_from_start-requires-clause-whole : goal.run_from_start-requires-clause-whole
-run_from_start-requires-clause-whole g c =
-    let e = c.in-Ok-None.ensures in started c.requires.whole c.take.new.self e.piled e.taken.without
+    (subst (IsNext c.args.context.now.attributes.now (record {
+      signatures =
+          c.args.context.now.operations.now.signatures;
+      meaning = g.M.Meaning.meaning;
+    })
+    c.args.store.now c.resume.new.machine c.resume.new.work) c.in-Expression.is (c.in_ok-next.ensures.next _ c.requires.whole))
 
 pub go_on-requires-clause-none : goal.go_on-requires-clause-none
-go_on-requires-clause-none g c = c.in-Ok-Some.ensures.taken.none
-
-pub run_from_start-requires-clause-none : goal.run_from_start-requires-clause-none
-run_from_start-requires-clause-none g c = c.in-Ok-None.ensures.taken.none
-
-pub take-requires-clause-piled : goal.take-requires-clause-piled
-take-requires-clause-piled g c = c.requires.whole.piled
+go_on-requires-clause-none g c = c.in_ok-next.ensures.none
 
 pub go_on-requires-clause-kept : goal.go_on-requires-clause-kept
 go_on-requires-clause-kept g c = c.requires.kept
 
-pub run_from_start-requires-clause-rules : goal.run_from_start-requires-clause-rules
-run_from_start-requires-clause-rules g c = c.requires.rules
+pub read_alone-requires-clause-whole : goal.read_alone-requires-clause-whole
+read_alone-requires-clause-whole g c =
+    let alone = (subst (IsNext c.args.context.now.attributes.now (record {
+      signatures =
+          c.args.context.now.operations.now.signatures;
+      meaning = g.M.Meaning.meaning;
+    })
+    c.args.store.now c.resume.new.machine c.resume.new.work) c.in-Read.is (c.in_ok-next.ensures.next _ c.requires.whole)) in
+    alone.runs.machine.memo.whole
 
-pub run_from_start-requires-clause-kept : goal.run_from_start-requires-clause-kept
-run_from_start-requires-clause-kept g c = c.requires.kept
+pub read_alone-requires-clause-key : goal.read_alone-requires-clause-key
+read_alone-requires-clause-key g c =
+    let alone = (subst (IsNext c.args.context.now.attributes.now (record {
+      signatures =
+          c.args.context.now.operations.now.signatures;
+      meaning = g.M.Meaning.meaning;
+    })
+    c.args.store.now c.resume.new.machine c.resume.new.work) c.in-Read.is (c.in_ok-next.ensures.next _ c.requires.whole)) in
+    alone.is_key
 
-pub returns-in-Ok-Some-clause-ran : goal.returns-in-Ok-Some-clause-ran
-returns-in-Ok-Some-clause-ran g c = c.go_on.ensures.ran
+pub run_forward-requires-clause-forwarding : goal.run_forward-requires-clause-forwarding
+run_forward-requires-clause-forwarding g c = (
+  _,
+  _,
+  (subst (IsNext c.args.context.now.attributes.now (record {
+    signatures =
+        c.args.context.now.operations.now.signatures;
+    meaning = g.M.Meaning.meaning;
+  })
+      c.args.store.now c.resume.new.machine c.resume.new.work) c.in-Forward.is (c.in_ok-next.ensures.next _ c.requires.whole)),
+)
 
-pub returns-in-Ok-Some-clause-same : goal.returns-in-Ok-Some-clause-same
-returns-in-Ok-Some-clause-same g c =
-    on_ok_weaker c.go_on.result (still_same c.args.machine.now c.take.new.self c.go_on.new.machine) c.go_on.ensures.same
+pub run_forward-requires-clause-none : goal.run_forward-requires-clause-none
+run_forward-requires-clause-none g c = c.in_ok-next.ensures.none
 
-pub returns-in-Ok-Some-clause-store : goal.returns-in-Ok-Some-clause-store
-returns-in-Ok-Some-clause-store g c = c.go_on.ensures.store
+pub returns-in-Expression-clause-ran : goal.returns-in-Expression-clause-ran
+returns-in-Expression-clause-ran g c = c.go_on.ensures.ran
 
-pub returns-in-Ok-None-clause-ran : goal.returns-in-Ok-None-clause-ran
-returns-in-Ok-None-clause-ran g c = c.run_from_start.ensures.ran
+pub returns-in-Expression-clause-same : goal.returns-in-Expression-clause-same
+returns-in-Expression-clause-same g c =
+    on_ok_weaker c.go_on.result (same_through c.args.machine.now c.resume.new.machine c.go_on.new.machine c.in_ok-next.ensures.same)
+    c.go_on.ensures.same
 
-pub returns-in-Ok-None-clause-same : goal.returns-in-Ok-None-clause-same
-returns-in-Ok-None-clause-same g c =
-    on_ok_weaker c.run_from_start.result (still_same c.args.machine.now c.take.new.self c.run_from_start.new.machine)
-    c.run_from_start.ensures.same
+pub returns-in-Expression-clause-store : goal.returns-in-Expression-clause-store
+returns-in-Expression-clause-store g c = c.go_on.ensures.store
 
-pub returns-in-Ok-None-clause-store : goal.returns-in-Ok-None-clause-store
-returns-in-Ok-None-clause-store g c = c.run_from_start.ensures.store
+pub returns-in-Read-clause-ran : goal.returns-in-Read-clause-ran
+returns-in-Read-clause-ran g c =
+    let alone = (subst (IsNext c.args.context.now.attributes.now (record {
+      signatures =
+          c.args.context.now.operations.now.signatures;
+      meaning = g.M.Meaning.meaning;
+    })
+    c.args.store.now c.resume.new.machine c.resume.new.work) c.in-Read.is (c.in_ok-next.ensures.next _ c.requires.whole)) in
+    IfOk-weaker c.read_alone.result _ _ (alone_ran c.in-Read.key alone c.in_ok-next.ensures.none) c.read_alone.ensures
 
-pub returns-in-Err-clause-store : goal.returns-in-Err-clause-store
-returns-in-Err-clause-store g c = same_store c.args.store.now
+pub returns-in-Read-clause-same : goal.returns-in-Read-clause-same
+returns-in-Read-clause-same g c =
+    IfOk-weaker c.read_alone.result _ _ (λ ran is. c.in_ok-next.ensures.same) c.read_alone.ensures
+
+pub returns-in-Read-clause-store : goal.returns-in-Read-clause-store
+returns-in-Read-clause-store g c = same_store c.args.store.now
+
+pub returns-in-Forward-clause-ran : goal.returns-in-Forward-clause-ran
+returns-in-Forward-clause-ran g c =
+    c.run_forward.ensures.ran _ _ (subst (IsNext c.args.context.now.attributes.now (record {
+      signatures =
+          c.args.context.now.operations.now.signatures;
+      meaning = g.M.Meaning.meaning;
+    })
+    c.args.store.now c.resume.new.machine c.resume.new.work) c.in-Forward.is (c.in_ok-next.ensures.next _ c.requires.whole))
+
+pub returns-in-Forward-clause-same : goal.returns-in-Forward-clause-same
+returns-in-Forward-clause-same g c =
+    on_ok_weaker c.run_forward.result
+    (same_through c.args.machine.now c.resume.new.machine c.run_forward.new.machine c.in_ok-next.ensures.same)
+    c.run_forward.ensures.same
+
+pub returns-in-Forward-clause-store : goal.returns-in-Forward-clause-store
+returns-in-Forward-clause-store g c = same_store c.args.store.now
+
+pub returns-in-Needs-clause-ran : goal.returns-in-Needs-clause-ran
+returns-in-Needs-clause-ran g c =
+    (subst (IsNext c.args.context.now.attributes.now (record {
+      signatures =
+          c.args.context.now.operations.now.signatures;
+      meaning = g.M.Meaning.meaning;
+    })
+    c.args.store.now c.resume.new.machine c.resume.new.work) c.in-Needs.is (c.in_ok-next.ensures.next _ c.requires.whole))
+
+pub returns-in-Needs-clause-same : goal.returns-in-Needs-clause-same
+returns-in-Needs-clause-same g c = c.in_ok-next.ensures.same
+
+pub returns-in-Needs-clause-store : goal.returns-in-Needs-clause-store
+returns-in-Needs-clause-store g c = same_store c.args.store.now
