@@ -121,3 +121,6 @@ returns-in-Needs-clause-same g c = c.in_ok-next.ensures.same
 
 pub returns-in-Needs-clause-store : goal.returns-in-Needs-clause-store
 returns-in-Needs-clause-store g c = same_store c.args.store.now
+
+pub returns-in_err-next-clause-store : goal.returns-in_err-next-clause-store
+returns-in_err-next-clause-store g c = same_store c.args.store.now
