@@ -30,7 +30,6 @@ use wb_termset::TermSet;
 /// Terminals and sets are numbered by their places in the lists that the automaton was built from. States are numbered
 /// by the paths by which they were found: by sets, and for each set by texts, shorter ones first and then by bytes.
 /// Several sets may share a state, where the same of their terminals may still match.
-#[derive(Drop)]
 pub struct Automaton {
     terminals: Vec<Regex>,
     sets: Vec<TermSet>,
@@ -153,6 +152,29 @@ impl Automaton {
         ensures { IfOk result (λ text. (path : Path) → slice_get self.now.paths state ≡ Some path → text ≡ path.text) }
     {
         text_at(alloc, &self.predecessors, state)
+    }
+}
+
+// By hand, so that no crate above proves how the parts are dropped.
+impl Drop for Automaton {
+    fn drop(self) {
+        let Automaton {
+            terminals,
+            sets,
+            starts,
+            classes,
+            width: _,
+            moves,
+            accepted,
+            predecessors,
+        } = self;
+        drop(terminals);
+        drop(sets);
+        drop(starts);
+        drop(classes);
+        drop(moves);
+        drop(accepted);
+        drop(predecessors);
     }
 }
 

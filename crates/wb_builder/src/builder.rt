@@ -33,7 +33,6 @@ pub struct PlacedTarget {
 }
 
 /// The parts of a specification. What is read first is taken last.
-#[derive(Drop)]
 pub struct SpecBuilder {
     /// Names.
     pub names: Stack<PlacedBytes>,
@@ -151,5 +150,50 @@ impl SpecBuilder {
             header,
             items: items.into_sequence(),
         }
+    }
+}
+
+// By hand, so that no crate above proves how the parts are dropped.
+impl Drop for SpecBuilder {
+    fn drop(self) {
+        let SpecBuilder {
+            names,
+            starts,
+            integers,
+            texts,
+            patterns,
+            kinds,
+            lists,
+            needs,
+            children,
+            targets,
+            nodes,
+            roots,
+            arguments,
+            equations,
+            productions,
+            format: _,
+            name,
+            header,
+            items,
+        } = self;
+        drop(names);
+        drop(starts);
+        drop(integers);
+        drop(texts);
+        drop(patterns);
+        drop(kinds);
+        drop(lists);
+        drop(needs);
+        drop(children);
+        drop(targets);
+        drop(nodes);
+        drop(roots);
+        drop(arguments);
+        drop(equations);
+        drop(productions);
+        drop(name);
+        drop(header);
+        drop(items);
     }
 }

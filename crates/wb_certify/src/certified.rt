@@ -14,7 +14,6 @@ use wb_resolved::Resolved;
 ///
 /// Each of its expressions is of its kind, it has a start, it is deterministic whatever certified extensions may come, and its attributes
 /// are well defined.
-#[derive(Drop)]
 pub struct CertifiedHost {
     pub(crate) resolved: Resolved,
     pub(crate) parts: HostParts,
@@ -76,5 +75,19 @@ impl CertifiedHost {
         resolved.release();
         parts.release();
         operations.release();
+    }
+}
+
+// By hand, so that no crate above proves how the parts are dropped.
+impl Drop for CertifiedHost {
+    fn drop(self) {
+        let CertifiedHost {
+            resolved,
+            parts,
+            operations,
+        } = self;
+        drop(resolved);
+        drop(parts);
+        drop(operations);
     }
 }

@@ -6,7 +6,6 @@ use wb_items::{Kernels, Lookaheads};
 use wb_lookahead::Tables;
 
 /// The grammar of the host with the extension, with holes, and what is made of it for a parser.
-#[derive(Drop)]
 pub struct ExtensionParts {
     /// The grammar with holes.
     pub grammar: Grammar,
@@ -23,4 +22,22 @@ pub struct ExtensionParts {
 impl ExtensionParts {
     /// Lets go of the parts. A crate that calls this proves no drop of what it holds.
     pub fn release(self) {}
+}
+
+// By hand, so that no crate above proves how the parts are dropped.
+impl Drop for ExtensionParts {
+    fn drop(self) {
+        let ExtensionParts {
+            grammar,
+            kernels,
+            lookaheads,
+            tables,
+            regions,
+        } = self;
+        drop(grammar);
+        drop(kernels);
+        drop(lookaheads);
+        drop(tables);
+        drop(regions);
+    }
 }

@@ -14,7 +14,6 @@ use wb_base::push;
 use wb_resolved::{AttributionParts, Direction, Occurrence};
 
 /// The numbers of occurrences by the nonterminal that they are on.
-#[derive(Drop)]
 pub struct OccurrenceIndex {
     rows: Vec<Vec<usize>>,
 }
@@ -59,6 +58,14 @@ impl OccurrenceIndex {
         ensures ok { OnOk result ((m k : ℕ) → Contains (slice_index_or self.new m []) k ↔ (Contains (slice_index_or self.old m []) k ⊎ ((m ≡ nonterminal) × (k ≡ number)))) }
     {
         push(&mut self.rows[nonterminal], number)
+    }
+}
+
+// By hand, so that no crate above proves how the parts are dropped.
+impl Drop for OccurrenceIndex {
+    fn drop(self) {
+        let OccurrenceIndex { rows } = self;
+        drop(rows);
     }
 }
 

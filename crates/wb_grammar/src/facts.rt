@@ -14,7 +14,6 @@ use wb_termset::TermSet;
 ///
 /// A call that takes facts beside a grammar asks that they are the facts of that grammar, as `analyse` says of its answer. Such a
 /// grammar is reduced and has neither unit cycles nor hidden left recursion.
-#[derive(Drop)]
 pub struct Facts {
     pub(crate) nullable: TermSet,
     pub(crate) first: Vec<TermSet>,
@@ -49,5 +48,14 @@ impl Facts {
         ensures exact { (g : GrammarView) → AreFacts g self.now → (t : ℕ) → IsMember result.now t ↔ IsFirst g (Nonterminal nonterminal ∷ []) t }
     {
         &self.first[nonterminal]
+    }
+}
+
+// By hand, so that no crate above proves how the parts are dropped.
+impl Drop for Facts {
+    fn drop(self) {
+        let Facts { nullable, first } = self;
+        drop(nullable);
+        drop(first);
     }
 }

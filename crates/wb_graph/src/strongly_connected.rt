@@ -14,7 +14,6 @@ use std::mem::replace;
 /// The strongly connected components of a graph: a number for each vertex, from 0 to below `len()`.
 ///
 /// Two vertices have one number exactly where walks lead both ways, and an edge leads to the same number or a smaller one.
-#[derive(Drop)]
 pub struct Components {
     // The number of each vertex.
     numbers: Vec<usize>,
@@ -59,6 +58,15 @@ impl Components {
         ensures { slice_get self.now.roots component ≡ Some result }
     {
         self.roots[component]
+    }
+}
+
+// By hand, so that no crate above proves how the parts are dropped.
+impl Drop for Components {
+    fn drop(self) {
+        let Components { numbers, roots } = self;
+        drop(numbers);
+        drop(roots);
     }
 }
 

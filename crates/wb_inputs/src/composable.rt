@@ -26,7 +26,6 @@ use wb_world::Shelf;
 pub const MOST_EXTENSIONS: usize = 64;
 
 /// A certified host, and extensions that are certified with it, in the order of their files. No two have one name.
-#[derive(Drop)]
 pub struct Composable {
     pub host: CertifiedHost,
     pub extensions: Vec<CertifiedExtension>,
@@ -35,8 +34,16 @@ pub struct Composable {
 impl Composable {
     /// Lets go of the host and the extensions. A crate that calls this proves no drop of what they hold.
     pub fn release(self) {
-        self.host.release();
-        release_extensions(self.extensions)
+        drop(self);
+    }
+}
+
+// By hand, so that no crate above proves how the parts are dropped.
+impl Drop for Composable {
+    fn drop(self) {
+        let Composable { host, extensions } = self;
+        host.release();
+        release_extensions(extensions);
     }
 }
 

@@ -16,10 +16,17 @@ use wb_grammars::Item;
 use wb_termset::TermSet;
 
 /// An item with a set of terminals.
-#[derive(Drop)]
 pub struct ItemLookahead {
     pub item: Item,
     pub set: TermSet,
+}
+
+// By hand, so that no crate above proves how the parts are dropped.
+impl Drop for ItemLookahead {
+    fn drop(self) {
+        let ItemLookahead { item: _, set } = self;
+        drop(set);
+    }
 }
 
 // The items in order.

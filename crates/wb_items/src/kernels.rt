@@ -21,7 +21,6 @@ use wb_grammars::Item;
 ///
 /// They are numbered from 0, in the order in which they are found from that of the empty prefix. Each number stands for a prefix
 /// that has the kernel. Contracts see the grammar, these prefixes, and the items of each.
-#[derive(Drop)]
 pub struct Kernels {
     grammar: Grammar,
     found: KernelIndex,
@@ -118,5 +117,21 @@ impl Kernels {
         ensures { IfOk result (λ prefix. prefix.items ≡ prefix_of self.now state) }
     {
         self.found.prefix(alloc, state)
+    }
+}
+
+// By hand, so that no crate above proves how the parts are dropped.
+impl Drop for Kernels {
+    fn drop(self) {
+        let Kernels {
+            grammar,
+            found,
+            closures,
+            rows,
+        } = self;
+        drop(grammar);
+        drop(found);
+        drop(closures);
+        drop(rows);
     }
 }

@@ -20,7 +20,6 @@ use wb_termset::TermSet;
 ///
 /// Kernels have their numbers, and the place of an item is that in the kernel's closure. A set is one of numbers up to the number
 /// of terminals, which stands for the end of a text. Contracts see for each kernel the list of its items with their sets.
-#[derive(Drop)]
 pub struct Lookaheads {
     rows: Vec<Row>,
 }
@@ -131,5 +130,13 @@ impl Lookaheads {
         ensures stayed { result ≡ false → self.new ≡ self.old }
     {
         self.rows[state].unite(place, set)
+    }
+}
+
+// By hand, so that no crate above proves how the parts are dropped.
+impl Drop for Lookaheads {
+    fn drop(self) {
+        let Lookaheads { rows } = self;
+        drop(rows);
     }
 }

@@ -10,7 +10,6 @@ use std::mem::replace;
 use wb_base::Sequence;
 
 /// Values in order.
-#[derive(Drop)]
 pub struct List<T> {
     items: Vec<T>,
 }
@@ -62,6 +61,15 @@ impl<T: Drop> List<T> {
     pub fn into_sequence(self) -> Sequence<T>
         ensures { result ≡ self }
     {
-        Sequence::from_vec(self.items)
+        let List { items } = self;
+        Sequence::from_vec(items)
+    }
+}
+
+// By hand, so that no crate above proves how the parts are dropped.
+impl<T: Drop> Drop for List<T> {
+    fn drop(self) {
+        let List { items } = self;
+        drop(items);
     }
 }

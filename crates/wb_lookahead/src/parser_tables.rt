@@ -17,7 +17,6 @@ use wb_termset::TermSet;
 ///
 /// Kernels, terminals and nonterminals have their numbers, and the number of terminals stands for the end of a text. An action and
 /// a kernel after a nonterminal take four bytes each, whether there is one or not.
-#[derive(Drop)]
 pub struct Tables {
     terminals: usize,
     actions: Matrix,
@@ -88,5 +87,20 @@ impl Tables {
         ensures { result.now ≡ valid_of self.now state }
     {
         &self.valid[state]
+    }
+}
+
+// By hand, so that no crate above proves how the parts are dropped.
+impl Drop for Tables {
+    fn drop(self) {
+        let Tables {
+            terminals: _,
+            actions,
+            gotos,
+            valid,
+        } = self;
+        drop(actions);
+        drop(gotos);
+        drop(valid);
     }
 }

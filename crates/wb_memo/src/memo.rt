@@ -12,7 +12,6 @@ use std::alloc::{AllocError, Global};
 use wb_values::{TreeId, Value};
 
 /// The sites, their trees and the values of their attributes, as far as they are known.
-#[derive(Drop)]
 pub struct Memo {
     /// The sites.
     pub sites: Sites,
@@ -117,6 +116,21 @@ impl Memo {
         let site = self.sites.add(parent, step)?;
         self.trees.push_reserved(tree);
         Ok(site)
+    }
+}
+
+// By hand, so that no crate above proves how the parts are dropped.
+impl Drop for Memo {
+    fn drop(self) {
+        let Memo {
+            sites,
+            trees,
+            cells: _,
+            values,
+        } = self;
+        drop(sites);
+        drop(trees);
+        drop(values);
     }
 }
 

@@ -30,7 +30,6 @@ pub struct Origin {
 }
 
 /// The sites, by number.
-#[derive(Drop)]
 pub struct Sites {
     /// How each is reached, but for the root.
     pub origins: Vec<Origin>,
@@ -95,5 +94,18 @@ impl Sites {
             Step::Forward => self.forwards.put(parent, 0, site)?,
         }
         Ok(())
+    }
+}
+
+// By hand, so that no crate above proves how the parts are dropped.
+impl Drop for Sites {
+    fn drop(self) {
+        let Sites {
+            origins,
+            children: _,
+            locals: _,
+            forwards: _,
+        } = self;
+        drop(origins);
     }
 }

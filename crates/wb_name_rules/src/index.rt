@@ -21,7 +21,6 @@ use std::marker::Model;
 use wb_naming::{Declaration, NameRefusal};
 
 /// What is declared, in one list, with a table by which each name is found. Where no name rule fails, nothing is declared twice there.
-#[derive(Drop)]
 pub struct NameIndex {
     declarations: Vec<Declaration>,
     table: Table,
@@ -167,5 +166,17 @@ impl NameIndex {
         ensures none { IfOk result (λ found. IfNone found (¬ meaning.Forwards self.now production.now)) }
     {
         self.text_place(alloc, FORWARD, production)
+    }
+}
+
+// By hand, so that no crate above proves how the parts are dropped.
+impl Drop for NameIndex {
+    fn drop(self) {
+        let NameIndex {
+            declarations,
+            table,
+        } = self;
+        drop(declarations);
+        drop(table);
     }
 }

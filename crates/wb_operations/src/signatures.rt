@@ -18,7 +18,6 @@ struct Entry {
 }
 
 /// The signatures of operations with different names, numbered from 0 in the order in which they were added.
-#[derive(Drop)]
 pub struct OperationSignatures {
     alloc: Global,
     names: Names,
@@ -132,4 +131,17 @@ impl OperationSignatures {
 
     /// Lets go of the signatures. A crate that calls this proves no drop of what it holds.
     pub fn release(self) {}
+}
+
+// By hand, so that no crate above proves how the parts are dropped.
+impl Drop for OperationSignatures {
+    fn drop(self) {
+        let OperationSignatures {
+            alloc: _,
+            names,
+            entries,
+        } = self;
+        drop(names);
+        drop(entries);
+    }
 }

@@ -19,7 +19,6 @@ use wb_values::Value;
 
 /// A table of operations with different names, numbered from 0. The first are the standard ones, where it has them, and the others
 /// are numbered in the order in which they were added.
-#[derive(Drop)]
 pub struct OperationTable<M: Meaning> {
     pub alloc: Global,
     pub signatures: OperationSignatures,
@@ -142,5 +141,20 @@ impl<M: Meaning> OperationTable<M> {
             return run_standard(self.alloc, operation, arguments);
         }
         call_run(&self.runs[operation - self.built_in], arguments)
+    }
+}
+
+// By hand, so that no crate above proves how the parts are dropped.
+impl<M: Meaning> Drop for OperationTable<M> {
+    fn drop(self) {
+        let OperationTable {
+            alloc: _,
+            signatures,
+            built_in: _,
+            runs,
+            of: _,
+        } = self;
+        drop(signatures);
+        drop(runs);
     }
 }

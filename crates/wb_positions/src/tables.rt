@@ -22,12 +22,24 @@ use wb_termset::TermSet;
 
 /// The nodes of all expressions. With n nodes, the start of expression k is the place n + k: there is a row for each
 /// place, with what may come after it and with the expressions that may end with it; and for each set its starts.
-#[derive(Drop)]
 pub struct Tables {
     pub nodes: Vec<RegexNode>,
     pub follow: Rows,
     pub ends: Rows,
     pub starts: Rows,
+}
+
+// By hand, so that no crate above proves how the parts are dropped.
+impl Drop for Tables {
+    fn drop(self) {
+        let Tables {
+            nodes,
+            follow: _,
+            ends: _,
+            starts: _,
+        } = self;
+        drop(nodes);
+    }
 }
 
 /// The tables of these expressions and sets of them. The only error is want of memory.

@@ -56,7 +56,6 @@ pub enum Event {
 }
 
 /// What a reading has met, in order.
-#[derive(Drop)]
 pub struct Events {
     items: Vec<Event>,
 }
@@ -93,6 +92,14 @@ impl Events {
         ensures { result.now ≡ self.now }
     {
         self.items.as_slice()
+    }
+}
+
+// By hand, so that no crate above proves how the parts are dropped.
+impl Drop for Events {
+    fn drop(self) {
+        let Events { items } = self;
+        drop(items);
     }
 }
 

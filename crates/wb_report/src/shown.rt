@@ -14,7 +14,6 @@ pub enum ShownAction {
 }
 
 /// Two actions on one terminal.
-#[derive(Drop)]
 pub struct ShownConflict {
     /// The terminal, or `end`.
     pub terminal: Bytes,
@@ -24,13 +23,34 @@ pub struct ShownConflict {
     pub second: ShownAction,
 }
 
+// By hand, so that no crate above proves how the parts are dropped.
+impl Drop for ShownConflict {
+    fn drop(self) {
+        let ShownConflict {
+            terminal,
+            first,
+            second,
+        } = self;
+        drop(terminal);
+        drop(first);
+        drop(second);
+    }
+}
+
 /// A production with a place between its symbols.
-#[derive(Drop)]
 pub struct ShownItem {
     /// The production.
     pub production: Bytes,
     /// How many of its symbols come before the place.
     pub dot: usize,
+}
+
+// By hand, so that no crate above proves how the parts are dropped.
+impl Drop for ShownItem {
+    fn drop(self) {
+        let ShownItem { production, dot: _ } = self;
+        drop(production);
+    }
 }
 
 /// Why a text stops.

@@ -5,7 +5,6 @@
 use wb_base::{Bytes, Kind, Sequence};
 
 /// A nonterminal.
-#[derive(Drop)]
 pub struct Nonterminal {
     /// Its name, as its owner's file writes it.
     pub name: Bytes,
@@ -13,6 +12,19 @@ pub struct Nonterminal {
     pub owner: usize,
     /// The numbers of the inherited attributes that what its productions forward to may need.
     pub forward_needs: Sequence<usize>,
+}
+
+// By hand, so that no crate above proves how the parts are dropped.
+impl Drop for Nonterminal {
+    fn drop(self) {
+        let Nonterminal {
+            name,
+            owner: _,
+            forward_needs,
+        } = self;
+        drop(name);
+        drop(forward_needs);
+    }
 }
 
 /// Which way an attribute's values go in a tree.
@@ -25,7 +37,6 @@ pub enum Direction {
 }
 
 /// An attribute.
-#[derive(Drop)]
 pub struct Attribute {
     /// Its name, as its owner's file writes it.
     pub name: Bytes,
@@ -37,8 +48,20 @@ pub struct Attribute {
     pub kind: Kind,
 }
 
+// By hand, so that no crate above proves how the parts are dropped.
+impl Drop for Attribute {
+    fn drop(self) {
+        let Attribute {
+            name,
+            owner: _,
+            direction: _,
+            kind: _,
+        } = self;
+        drop(name);
+    }
+}
+
 /// An attribute on a nonterminal.
-#[derive(Drop)]
 pub struct Occurrence {
     /// Whose it is.
     pub owner: usize,
@@ -48,4 +71,17 @@ pub struct Occurrence {
     pub nonterminal: usize,
     /// Its flow type: the numbers of inherited attributes of the nonterminal. Empty for an inherited attribute.
     pub needs: Sequence<usize>,
+}
+
+// By hand, so that no crate above proves how the parts are dropped.
+impl Drop for Occurrence {
+    fn drop(self) {
+        let Occurrence {
+            owner: _,
+            attribute: _,
+            nonterminal: _,
+            needs,
+        } = self;
+        drop(needs);
+    }
 }

@@ -14,7 +14,6 @@ use wb_base::{Bytes, Sequence};
 use wb_values::Signatures;
 
 /// The lists of which an attribution is made.
-#[derive(Drop)]
 pub struct AttributionParts {
     /// The names of the extensions: that of owner k is at position k - 1.
     pub extensions: Sequence<Bytes>,
@@ -30,13 +29,32 @@ pub struct AttributionParts {
     pub signatures: Signatures,
 }
 
+// By hand, so that no crate above proves how the parts are dropped.
+impl Drop for AttributionParts {
+    fn drop(self) {
+        let AttributionParts {
+            extensions,
+            nonterminals,
+            attributes,
+            occurrences,
+            productions,
+            signatures,
+        } = self;
+        drop(extensions);
+        drop(nonterminals);
+        drop(attributes);
+        drop(occurrences);
+        drop(productions);
+        drop(signatures);
+    }
+}
+
 /// The attributes of a host, of a host with one extension, or of a host with many, on all its productions.
 ///
 /// Nonterminals, attributes and productions are numbered from 0 on. Concrete productions come before abstract ones, each by owner, and
 /// attributes go by owner; a resolved specification keeps the order of nonterminals. Each name is declared where its writer sees it, and
 /// is of the right kind, operations and numbers of terminals aside; extensions declare and write only what they may; no attribute
 /// occurs twice on a nonterminal, and no two equations of a production are for the same.
-#[derive(Drop)]
 pub struct Attribution {
     parts: Rc<AttributionParts>,
 }
@@ -83,4 +101,12 @@ impl Attribution {
 
     /// Lets go of the attribution. A crate that calls this proves no drop of what it holds.
     pub fn release(self) {}
+}
+
+// By hand, so that no crate above proves how the parts are dropped.
+impl Drop for Attribution {
+    fn drop(self) {
+        let Attribution { parts } = self;
+        drop(parts);
+    }
 }

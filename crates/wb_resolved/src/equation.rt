@@ -35,7 +35,6 @@ pub enum Target {
 }
 
 /// An equation for an attribute.
-#[derive(Drop)]
 pub struct Equation {
     /// Whose it is.
     pub owner: usize,
@@ -45,4 +44,17 @@ pub struct Equation {
     pub target: Target,
     /// Its expression.
     pub nodes: Sequence<Node>,
+}
+
+// By hand, so that no crate above proves how the parts are dropped.
+impl Drop for Equation {
+    fn drop(self) {
+        let Equation {
+            owner: _,
+            offset: _,
+            target: _,
+            nodes,
+        } = self;
+        drop(nodes);
+    }
 }

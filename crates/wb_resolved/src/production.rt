@@ -24,7 +24,6 @@ pub enum ChildKind {
 }
 
 /// A child of a production.
-#[derive(Drop)]
 pub struct Child {
     /// The label by which its file names it.
     pub label: Bytes,
@@ -32,8 +31,15 @@ pub struct Child {
     pub kind: ChildKind,
 }
 
+// By hand, so that no crate above proves how the parts are dropped.
+impl Drop for Child {
+    fn drop(self) {
+        let Child { label, kind: _ } = self;
+        drop(label);
+    }
+}
+
 /// A local of a production: a tree that an equation makes.
-#[derive(Drop)]
 pub struct Local {
     /// The label by which its owner's file names it.
     pub label: Bytes,
@@ -47,8 +53,22 @@ pub struct Local {
     pub nodes: Sequence<Node>,
 }
 
+// By hand, so that no crate above proves how the parts are dropped.
+impl Drop for Local {
+    fn drop(self) {
+        let Local {
+            label,
+            owner: _,
+            offset: _,
+            nonterminal: _,
+            nodes,
+        } = self;
+        drop(label);
+        drop(nodes);
+    }
+}
+
 /// What a production forwards to.
-#[derive(Drop)]
 pub struct Forward {
     /// The position of the first token of its equation, in bytes from the beginning of the file of the production's owner.
     pub offset: usize,
@@ -56,8 +76,15 @@ pub struct Forward {
     pub nodes: Sequence<Node>,
 }
 
+// By hand, so that no crate above proves how the parts are dropped.
+impl Drop for Forward {
+    fn drop(self) {
+        let Forward { offset: _, nodes } = self;
+        drop(nodes);
+    }
+}
+
 /// A production with all that is written on it.
-#[derive(Drop)]
 pub struct Production {
     /// Its name, as its owner's file writes it.
     pub name: Bytes,
@@ -75,4 +102,25 @@ pub struct Production {
     pub forward: Option<Forward>,
     /// Its equations for attributes, of all owners that see it, in any order.
     pub equations: Sequence<Equation>,
+}
+
+// By hand, so that no crate above proves how the parts are dropped.
+impl Drop for Production {
+    fn drop(self) {
+        let Production {
+            name,
+            owner: _,
+            role: _,
+            left: _,
+            children,
+            locals,
+            forward,
+            equations,
+        } = self;
+        drop(name);
+        drop(children);
+        drop(locals);
+        drop(forward);
+        drop(equations);
+    }
 }

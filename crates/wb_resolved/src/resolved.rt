@@ -12,7 +12,6 @@ use std::rc::Rc;
 use wb_base::{Bytes, Grammar, Sequence};
 
 /// What a resolved specification is made of.
-#[derive(Drop)]
 pub struct ResolvedParts {
     /// The name of the host.
     pub host: Bytes,
@@ -28,12 +27,31 @@ pub struct ResolvedParts {
     pub attributes: Attribution,
 }
 
+// By hand, so that no crate above proves how the parts are dropped.
+impl Drop for ResolvedParts {
+    fn drop(self) {
+        let ResolvedParts {
+            host,
+            grammar,
+            terminals,
+            preferences,
+            extensible,
+            attributes,
+        } = self;
+        drop(host);
+        drop(grammar);
+        drop(terminals);
+        drop(preferences);
+        drop(extensible);
+        drop(attributes);
+    }
+}
+
 /// A host, a host with one extension, or a host with many, whose names are numbers.
 ///
 /// Terminals and nonterminals of the grammar come first, with the numbers that they have there; layout, and nonterminals that are
 /// abstract alone, follow; each of these groups goes by owner. Each name is declared and of the kind that its position asks for, operations
 /// aside, and nothing is declared twice by owners of whom one sees the other.
-#[derive(Drop)]
 pub struct Resolved {
     parts: Rc<ResolvedParts>,
 }
@@ -84,4 +102,12 @@ impl Resolved {
 
     /// Lets go of the specification. A crate that calls this proves no drop of what it holds.
     pub fn release(self) {}
+}
+
+// By hand, so that no crate above proves how the parts are dropped.
+impl Drop for Resolved {
+    fn drop(self) {
+        let Resolved { parts } = self;
+        drop(parts);
+    }
 }

@@ -13,11 +13,24 @@ use wb_base::{Kind, Sequence, push};
 use wb_resolved::{Child, ChildKind, Equation, Forward, Local, Node};
 
 /// The new numbers of a base's nonterminals, terminals and productions, by the old ones.
-#[derive(Drop)]
 pub struct Moves {
     pub nonterminals: Vec<usize>,
     pub terminals: Vec<usize>,
     pub productions: Vec<usize>,
+}
+
+// By hand, so that no crate above proves how the parts are dropped.
+impl Drop for Moves {
+    fn drop(self) {
+        let Moves {
+            nonterminals,
+            terminals,
+            productions,
+        } = self;
+        drop(nonterminals);
+        drop(terminals);
+        drop(productions);
+    }
 }
 
 // A kind.

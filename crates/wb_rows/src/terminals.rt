@@ -13,10 +13,18 @@ use wb_resolved::{Terminal, TerminalKind};
 use wb_syntax::{Item, ItemForm, Pattern, Role};
 
 /// Those of the grammar, and layout.
-#[derive(Drop)]
 pub struct Terminals {
     pub scanned: Vec<Terminal>,
     pub layout: Vec<Terminal>,
+}
+
+// By hand, so that no crate above proves how the parts are dropped.
+impl Drop for Terminals {
+    fn drop(self) {
+        let Terminals { scanned, layout } = self;
+        drop(scanned);
+        drop(layout);
+    }
 }
 
 /// Adds those of a base. The only error is want of memory.

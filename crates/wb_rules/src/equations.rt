@@ -13,7 +13,6 @@ use std::alloc::{AllocError, Global};
 use wb_resolved::{Node, Place, Production, Target};
 
 /// The equations of a production by what they are for, as numbers from 1 on.
-#[derive(Drop)]
 pub struct Equations {
     /// Those for attributes of the top, by attribute.
     pub tops: Vec<usize>,
@@ -127,5 +126,21 @@ impl Equations {
             },
         }
         Ok(())
+    }
+}
+
+// By hand, so that no crate above proves how the parts are dropped.
+impl Drop for Equations {
+    fn drop(self) {
+        let Equations {
+            tops,
+            forwards,
+            children,
+            locals,
+        } = self;
+        drop(tops);
+        drop(forwards);
+        drop(children);
+        drop(locals);
     }
 }

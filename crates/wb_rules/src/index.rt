@@ -8,7 +8,6 @@ use std::alloc::{AllocError, Global};
 use wb_resolved::{AttributionParts, Production};
 
 /// The equations of each production, by its number.
-#[derive(Drop)]
 pub struct RuleIndex {
     /// Those of each production.
     pub rows: Vec<Equations>,
@@ -31,5 +30,13 @@ impl RuleIndex {
     /// Lets go of the index. A crate that calls this proves no drop of what it holds.
     pub fn release(self) {
         drop(self)
+    }
+}
+
+// By hand, so that no crate above proves how the parts are dropped.
+impl Drop for RuleIndex {
+    fn drop(self) {
+        let RuleIndex { rows } = self;
+        drop(rows);
     }
 }

@@ -17,7 +17,6 @@ use wb_lookahead::Tables;
 ///
 /// The grammar is reduced, without unit cycle, hidden left recursion and conflict. At each prefix and each place of a text at most one
 /// form wins, and one does where any that is considered matches. States are those of the tables.
-#[derive(Drop)]
 pub struct Language {
     pub(crate) grammar: Grammar,
     pub(crate) tables: Tables,
@@ -91,4 +90,24 @@ impl Language {
 
     /// Lets go of the language. A crate that calls this proves no drop of what it holds.
     pub fn release(self) {}
+}
+
+// By hand, so that no crate above proves how the parts are dropped.
+impl Drop for Language {
+    fn drop(self) {
+        let Language {
+            grammar,
+            tables,
+            automaton,
+            forms,
+            layout,
+            preferences,
+        } = self;
+        drop(grammar);
+        drop(tables);
+        drop(automaton);
+        drop(forms);
+        drop(layout);
+        drop(preferences);
+    }
 }

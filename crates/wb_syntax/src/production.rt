@@ -19,7 +19,6 @@ pub enum NamedKind {
 }
 
 /// A child of a production.
-#[derive(Drop)]
 pub struct Child {
     /// The label by which equations name it.
     pub label: Bytes,
@@ -27,8 +26,16 @@ pub struct Child {
     pub kind: NamedKind,
 }
 
+// By hand, so that no crate above proves how the parts are dropped.
+impl Drop for Child {
+    fn drop(self) {
+        let Child { label, kind } = self;
+        drop(label);
+        drop(kind);
+    }
+}
+
 /// A production with its equations.
-#[derive(Drop)]
 pub struct Production {
     /// Its name.
     pub name: Bytes,
@@ -38,6 +45,22 @@ pub struct Production {
     pub children: Sequence<Child>,
     /// Its equations, in the order in which they are written.
     pub equations: Sequence<Equation>,
+}
+
+// By hand, so that no crate above proves how the parts are dropped.
+impl Drop for Production {
+    fn drop(self) {
+        let Production {
+            name,
+            left,
+            children,
+            equations,
+        } = self;
+        drop(name);
+        drop(left);
+        drop(children);
+        drop(equations);
+    }
 }
 
 /// What a production is for.

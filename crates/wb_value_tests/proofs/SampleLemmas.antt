@@ -181,6 +181,34 @@ module _ (node : Node) (is : IsSampleNode node) where
 pub is_sampled : (a : AttributionParts) (node : Node) → IsSampleNode node → a ≡ sample node → IsAttribution a
 is_sampled a node is same = subst IsAttribution (sym same) (is_sample node is)
 
+-- attributes that declare nothing are an attribution
+pub is_nothing : (a : AttributionParts) → a ≡ no_parts → IsAttribution a
+is_nothing a same = subst IsAttribution (sym same) (record {
+  named = record {
+    extensions = All-nil IsName;
+    nonterminals = λ k r at. absurd (cc at);
+    attributes = All-nil (IsNamedAttribute no_parts);
+    occurrences = All-nil (IsNamedOccurrence no_parts);
+    productions = All-nil (IsNamedProduction no_parts);
+  };
+  owned = record {
+    occurrences = All-nil (IsOwnOccurrence no_parts);
+    equations = All-nil (λ (p : Production). All (IsOwnEquation no_parts p) p.equations);
+  };
+  once = record {
+    extensions = λ z i j at there. absurd (cc at);
+    symbols = λ i j owner other name at there sees. absurd (cc at);
+    attributes = λ i j owner other name at there sees. absurd (cc at);
+    occurrences = λ i j r s at there e f. absurd (cc at);
+    productions = All-nil IsOnceIn;
+  };
+  numbered = record {
+    signatures = refl;
+    productions = λ i j z y lt at there. absurd (cc at);
+    attributes = λ i j z y lt at there. absurd (cc at);
+  };
+})
+
 -- a list without elements has none
 none_all : {X : Type 0} (P : X → Type 0) (xs : List X) → xs ≡ [] → All P xs
 none_all P xs e = subst (All P) (sym e) (All-nil P)

@@ -16,7 +16,6 @@ use wb_base::Bytes;
 
 /// A list of values, most of which take 8 bytes: trees with a number below 2^32, numbers of 32 bits, truth values, and texts of at most 6
 /// bytes. Each other value takes 40.
-#[derive(Drop)]
 pub struct PackedValues {
     cells: Vec<Cell>,
     large: Vec<Value>,
@@ -308,5 +307,14 @@ impl PackedValues {
         if let Cell::Large(_, _) = self.cells.take_last() {
             self.large.truncate(self.large.len() - 1);
         }
+    }
+}
+
+// By hand, so that no crate above proves how the parts are dropped.
+impl Drop for PackedValues {
+    fn drop(self) {
+        let PackedValues { cells, large } = self;
+        drop(cells);
+        drop(large);
     }
 }

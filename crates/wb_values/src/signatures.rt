@@ -20,7 +20,6 @@ struct Entry {
 /// The signatures of productions: the printed name, the left nonterminal and the kinds of the children of each.
 ///
 /// Productions are numbered from 0 in the order in which they were added, and several may have one name.
-#[derive(Drop)]
 pub struct Signatures {
     alloc: Global,
     names: Names,
@@ -134,6 +133,21 @@ impl Signatures {
             )?;
         }
         Ok(made)
+    }
+}
+
+// By hand, so that no crate above proves how the parts are dropped.
+impl Drop for Signatures {
+    fn drop(self) {
+        let Signatures {
+            alloc: _,
+            names,
+            firsts,
+            entries,
+        } = self;
+        drop(names);
+        drop(firsts);
+        drop(entries);
     }
 }
 

@@ -13,7 +13,6 @@ use std::alloc::{AllocError, Global};
 use std::marker::Model;
 
 /// A store of trees, one for each node. Nodes and their children lie in two flat lists.
-#[derive(Drop)]
 pub struct TreeStore {
     nodes: Vec<Node>,
     children: PackedValues,
@@ -196,6 +195,15 @@ impl TreeStore {
         let first = begin(nodes, tree.0);
         prove!(place < self.children.len());
         self.children.tree(first + place)
+    }
+}
+
+// By hand, so that no crate above proves how the parts are dropped.
+impl Drop for TreeStore {
+    fn drop(self) {
+        let TreeStore { nodes, children } = self;
+        drop(nodes);
+        drop(children);
     }
 }
 

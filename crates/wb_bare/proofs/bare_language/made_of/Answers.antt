@@ -5,7 +5,7 @@ use Rattle.wb_bare.specs.Refusals.{IsFree}
 use Rattle.wb_bare.proofs.LanguageLemmas.{language_parts}
 use Rattle.wb_bare.proofs.bare_language.made_of.Goals as goal
 
-module _ (c : goal.After-drop-parts-10) where
+module _ (c : goal.After-drop-parts-3) where
   -- nothing is against the language
   free : IsFree (language_of_written c.args.grammar.now c.args.written.now)
   free = record {

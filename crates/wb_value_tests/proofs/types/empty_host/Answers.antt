@@ -1,8 +1,7 @@
 use Rattle.std.proofs.Common.{refl, sym, subst}
 use Rattle.wb_base.specs.Identifiers.{IsName}
-use Rattle.wb_resolved.specs.Attribution.{IsAttribution}
 use Rattle.wb_value_tests.proofs.NameLemmas.{h_name}
-use Rattle.wb_value_tests.proofs.SampleLemmas.{nothing_resolved}
+use Rattle.wb_value_tests.proofs.SampleLemmas.{is_nothing, nothing_resolved}
 use Rattle.wb_value_tests.proofs.types.empty_host.Goals as goal
 
 pub new-requires : goal.new-requires
@@ -14,4 +13,4 @@ new-requires c = nothing_resolved _
       preferences = c.nothing-2.ensures;
       extensible = c.nothing-3.ensures;
     })
-    (subst IsAttribution c.attributes.view_is c.attributes.invariant) c.in_ok-attributes.ensures
+    (is_nothing _ c.in_ok-attributes.ensures) c.in_ok-attributes.ensures
