@@ -2,7 +2,7 @@
 //!
 //! At most one item says it of each nonterminal. It is found by one look-up among the names that items say it of.
 
-ghost use Rattle.std.specs.Prelude.{◌≡◌, ◌++◌, All, Contains, IfOk, OnOk, map};
+ghost use Rattle.std.specs.Prelude.{◌≡◌, ◌++◌, ◌∷◌, [], All, Contains, IfOk, OnOk, map};
 ghost use Rattle.std.specs.List.{AllZip};
 ghost use Rattle.wb_syntax.specs.declared.item.Item.{Item as Written};
 ghost use Rattle.wb_syntax.specs.declared.pattern.Pattern.{Pattern as Read};
@@ -11,6 +11,7 @@ ghost use Rattle.wb_rows.specs.Nodes.{IsAt};
 ghost use Rattle.wb_symbols.specs.Inner.Names.{form_forwarder, form_needs};
 ghost use Rattle.wb_symbols.specs.Inner.Nonterminals.{HasForwards, HasBytes};
 
+use crate::names::add_name;
 use crate::nonterminals::Known;
 use std::alloc::{AllocError, Global};
 use wb_base::{Bytes, Sequence};
@@ -27,7 +28,7 @@ pub(crate) fn forwarders_of(alloc: Global, items: &[Item<Pattern>]) -> Result<In
     match add_forwarders(items, &mut names) {
         Ok(()) => Ok(names),
         Err(error) => {
-            names.release();
+            drop(names);
             Err(error)
         }
     }
@@ -38,22 +39,21 @@ fn add_forwarders(items: &[Item<Pattern>], names: &mut Index) -> Result<(), Allo
     ensures { OnOk result (names.new ≡ names.old ++ map (λ (item : Written Read). form_forwarder item.form) items.now) }
 {
     'items: for item in items {
-        let name = forwarder_of(&item.form)?;
-        names.add(name)?;
+        add_forwarder(&item.form, names)?;
     }
     Ok(())
 }
 
-// The nonterminal of which an item says so, or no bytes.
-fn forwarder_of(form: &ItemForm<Pattern>) -> Result<Bytes, AllocError>
-    ensures { IfOk result (λ name. name ≡ form_forwarder form.now) }
+// Adds the nonterminal of which an item says so, or no bytes.
+fn add_forwarder(form: &ItemForm<Pattern>, names: &mut Index) -> Result<(), AllocError>
+    ensures { OnOk result (names.new ≡ names.old ++ form_forwarder form.now ∷ []) }
 {
     match form {
         ItemForm::Plain(plain) => match plain {
-            PlainForm::ForwardOn { nonterminal, .. } => nonterminal.copy(),
-            _ => Ok(Bytes::empty()),
+            PlainForm::ForwardOn { nonterminal, .. } => add_name(nonterminal, names),
+            _ => names.add(Bytes::empty()),
         },
-        _ => Ok(Bytes::empty()),
+        _ => names.add(Bytes::empty()),
     }
 }
 

@@ -24,10 +24,18 @@ use wb_rows::scope::Scope;
 use wb_syntax::{Item, ItemForm, Pattern, PlainForm};
 
 /// Those of the grammar, and the others.
-#[derive(Drop)]
 pub struct Nonterminals {
     pub of_grammar: Vec<Nonterminal>,
     pub others: Vec<Nonterminal>,
+}
+
+// By hand, so that no crate above proves how the parts are dropped.
+impl Drop for Nonterminals {
+    fn drop(self) {
+        let Nonterminals { of_grammar, others } = self;
+        drop(of_grammar);
+        drop(others);
+    }
 }
 
 // What rows of declared nonterminals read: names of the grammar, and by which names the items are found that say what forwards may need.
@@ -53,7 +61,7 @@ pub(crate) fn add_nonterminals(
 {
     let grammar = grammar_names_of(alloc, file.items)?;
     let added = add_both(alloc, file, scope, &grammar, made);
-    grammar.release();
+    drop(grammar);
     added
 }
 
@@ -192,7 +200,7 @@ fn add_own(
         forwarders: &forwarders,
     };
     let added = add_declared(alloc, &known, made);
-    forwarders.release();
+    drop(forwarders);
     added
 }
 

@@ -25,7 +25,6 @@ use wb_rows::terminals::{Terminals, add_base, add_declared};
 /// Rows of terminals and nonterminals, the names of all sorts by number, and the new numbers of a base's.
 ///
 /// Once they are filled, layout stands after what is scanned, in one list with it, and other nonterminals after those of the grammar.
-#[derive(Drop)]
 pub struct Symbols {
     pub terminals: Terminals,
     pub nonterminals: Nonterminals,
@@ -33,16 +32,19 @@ pub struct Symbols {
     pub moves: Moves,
 }
 
-impl Symbols {
-    /// Lets go of the symbols. A crate that calls this proves no drop of what they hold.
-    pub fn release(self) {
-        self.scope.terminals.release();
-        self.scope.nonterminals.release();
-        self.scope.attributes.release();
-        self.scope.productions.release();
-        drop(self.terminals);
-        drop(self.nonterminals.of_grammar);
-        drop(self.nonterminals.others)
+// By hand, so that no crate above proves how the parts are dropped.
+impl Drop for Symbols {
+    fn drop(self) {
+        let Symbols {
+            terminals,
+            nonterminals,
+            scope,
+            moves,
+        } = self;
+        drop(terminals);
+        drop(nonterminals);
+        drop(scope);
+        drop(moves);
     }
 }
 

@@ -13,7 +13,6 @@ use wb_base::{Added, Names, push};
 use wb_syntax::{Item, ItemForm, Pattern};
 
 /// Names of productions on which items write, and for each the places of these items.
-#[derive(Drop)]
 pub struct Writers {
     pub names: Names,
     pub places: Vec<Vec<usize>>,
@@ -29,6 +28,15 @@ impl Writers {
             Some(number) => &self.places[number],
             None => &[],
         }
+    }
+}
+
+// By hand, so that no crate above proves how the parts are dropped.
+impl Drop for Writers {
+    fn drop(self) {
+        let Writers { names, places } = self;
+        drop(names);
+        drop(places);
     }
 }
 

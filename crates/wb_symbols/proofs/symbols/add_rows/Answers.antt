@@ -1,4 +1,4 @@
-use Rattle.std.proofs.Common.{◌∙◌, ap, sym}
+use Rattle.std.proofs.Common.{◌∙◌, ap, refl, sym}
 use Rattle.wb_rows.specs.declared.scope.Scope.{Scope}
 use Rattle.wb_symbols.specs.Lent.{lent_file}
 use Rattle.wb_symbols.proofs.RowsNamed.{nonterminals_joined}
@@ -27,3 +27,6 @@ returns-clause-rows c =
           c.requires.nothing.others
           c.in_ok-of_grammar.ensures (are ∙ sym c.in_ok-add_attribute_names.ensures);
     }
+
+pub returns-clause-moves : goal.returns-clause-moves
+returns-clause-moves c = refl
