@@ -6,6 +6,6 @@ pub mod Rest
 pub mod Value
 pub mod Unwritten
 pub mod Joined
-pub mod Copies
+pub mod Made
 pub mod Bodies
 pub mod Rows

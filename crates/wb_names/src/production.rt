@@ -68,28 +68,18 @@ fn moved_head(alloc: Global, context: &Context, production: &Production) -> Resu
             return Err(error);
         }
     };
-    let owner = production.owner;
-    let role = production.role;
-    let left = context.moves.nonterminals[production.left];
     match moved_forwards(alloc, context.moves, &production.forward) {
         Ok(forward) => Ok(Head {
             name,
-            owner,
-            role,
-            left,
+            owner: production.owner,
+            role: production.role,
+            left: context.moves.nonterminals[production.left],
             children,
             forward,
         }),
         Err(error) => {
-            Head {
-                name,
-                owner,
-                role,
-                left,
-                children,
-                forward: None,
-            }
-            .release();
+            drop(name);
+            drop(children);
             Err(error)
         }
     }
@@ -126,12 +116,7 @@ fn extended_body(
     let equations = match moved_equations(alloc, context.moves, production.equations.as_slice()) {
         Ok(equations) => equations,
         Err(error) => {
-            Body {
-                locals,
-                forwards: Vec::new(alloc),
-                equations: Vec::new(alloc),
-            }
-            .release();
+            drop(locals);
             return Err(error);
         }
     };

@@ -14,18 +14,21 @@ use crate::production::Context;
 use crate::productions::{Productions, add_productions};
 use crate::rest::{Rest, add_rest};
 use std::alloc::{AllocError, Global};
-use wb_base::Names;
+use wb_base::{Grammar, Names};
 use wb_rows::plains::Plains;
 use wb_symbols::lent::Lent;
 use wb_symbols::symbols::Symbols;
 use wb_symbols::writers::{Writers, add_items};
+use wb_values::Signatures;
 
-// Which items write on productions; productions, of which so many are concrete; and what else is written.
+// Which items write on productions; productions, of which so many are concrete, their grammar and signatures; and what else is written.
 #[derive(Drop)]
 pub(crate) struct Written {
     pub(crate) writers: Writers,
     pub(crate) concrete: usize,
     pub(crate) productions: Productions,
+    pub(crate) grammar: Option<Grammar>,
+    pub(crate) signatures: Signatures,
     pub(crate) rest: Rest,
 }
 
@@ -43,6 +46,8 @@ pub(crate) fn nothing_written(alloc: Global) -> Written
             concrete: Vec::new(alloc),
             others: Vec::new(alloc),
         },
+        grammar: None,
+        signatures: Signatures::new(alloc),
         rest: Rest {
             plains: Plains {
                 attributes: Vec::new(alloc),

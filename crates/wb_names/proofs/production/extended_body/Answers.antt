@@ -45,7 +45,7 @@ returns-in-Ok-add_written c =
     let file = file_of context in
     let m = context.moves.now in
     let moved : Body =
-    record { locals = c.in_ok-locals.locals; forwards = c.new-2.result; equations = c.in-Ok.equations } in
+    record { locals = c.in_ok-locals.locals; forwards = c.new.result; equations = c.in-Ok.equations } in
     record {
       moved = moved;
       locals = subst (λ (z : List Local). AllZip (IsLocalNow m) z c.in_ok-locals.locals.items) c.as_slice.ensures c.in_ok-locals.ensures;

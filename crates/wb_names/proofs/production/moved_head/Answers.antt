@@ -15,8 +15,8 @@ moved_children-requires c =
     c.requires.context.right.is_file.base
     c.args.production.now c.requires.there)
 
-pub index-left-requires : goal.index-left-requires
-index-left-requires c =
+pub index-requires : goal.index-requires
+index-requires c =
     let context = c.args.context.now in
     let p = c.args.production.now in
     subst (λ (z : ℕ). p.left < z) (sym context.moves.now.nonterminals.ok.0)
@@ -41,7 +41,7 @@ returns-in-Ok-moved_forwards c =
       name = c.in_ok-name.ensures.ok;
       owner_is = refl;
       role = refl;
-      left = slice_get-get_or m.nonterminals.items p.left c.index-left.result.now within ∙ ap Some (sym c.index-left.ensures);
+      left = slice_get-get_or m.nonterminals.items p.left c.index.result.now within ∙ ap Some (sym c.index.ensures);
       children = subst (λ (z : List Child). AllZip (IsChildNow m) z c.in-Ok.children) c.as_slice.ensures c.in-Ok.ensures;
       forward = c.in-Ok-moved_forwards.ensures;
     }
