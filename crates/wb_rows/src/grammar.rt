@@ -31,11 +31,6 @@ pub fn grammar_of(
     Ok(grammar)
 }
 
-/// Lets go of a grammar. A crate that calls this proves no drop of what it holds.
-pub fn release_grammar(grammar: Option<Grammar>) {
-    drop(grammar)
-}
-
 // The symbols of children, all of which are of the grammar.
 fn symbols_of(alloc: Global, children: &[Child]) -> Result<Vec<Symbol>, AllocError>
     requires { All (λ c. IsSome (symbol c.kind)) children.now }

@@ -7,9 +7,8 @@ ghost use Rattle.std.specs.Prelude.{◌≡◌, ◌++◌, ◌∷◌, [], OnOk};
 ghost use Rattle.wb_rows.specs.Row.{row_of};
 
 use crate::body::Body;
-use crate::plains::Plains;
 use std::alloc::AllocError;
-use wb_base::{Bytes, Names, Sequence, push};
+use wb_base::{Bytes, Sequence, push};
 use wb_resolved::{Child, Forward, Production, ProductionRole};
 
 /// What a row has beside its locals and equations.
@@ -59,19 +58,4 @@ impl Body {
         drop(self.forwards);
         drop(self.equations)
     }
-}
-
-/// Lets go of names, of two lists of productions, and of other rows.
-pub fn release_rows(
-    names: Names,
-    concrete: Vec<Production>,
-    others: Vec<Production>,
-    plains: Plains,
-) {
-    drop(names);
-    drop(concrete);
-    drop(others);
-    drop(plains.attributes);
-    drop(plains.occurrences);
-    drop(plains.preferences)
 }
