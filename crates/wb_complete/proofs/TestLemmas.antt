@@ -1,5 +1,5 @@
 -- What the tests of a production find is what the rules say.
-use Rattle.std.proofs.Common.{◌≡◌, ◌≢◌, ◌∙◌, ◌⊎◌, inl, inr, ℕ, List, None, Some, refl, sym, ap, subst, Contains, slice_get, get_or, [], false, is_some}
+use Rattle.std.proofs.Common.{◌≡◌, ◌≢◌, ◌∙◌, ◌⊎◌, inl, inr, ℕ, List, None, Option, Some, IfNone, refl, sym, ap, subst, Contains, slice_get, get_or, [], false, is_some}
 use Rattle.std.proofs.Common.{◌<◌, ◌≤◌, length, option_map}
 use Rattle.std.proofs.lemmas.Option.{same_Some, slice_get_past}
 use Rattle.wb_base.specs.declared.symbol.Kind.TheVariants as kind
@@ -14,8 +14,6 @@ use Rattle.wb_attributes.specs.Rules as rules
 use Rattle.wb_attributes.specs.WellDefined.{DefinesTop, DefinesBelow}
 use Rattle.wb_attributes.proofs.EdgeLemmas.{below_place}
 use Rattle.wb_attributes.proofs.OccurrenceLemmas.{flow_type_inherited}
-use Rattle.wb_flow.specs.declared.refusal.AttributeRefusal.{AttributeRefusal}
-use Rattle.wb_flow.specs.declared.refusal.AttributeRefusal.TheVariants as r
 use Rattle.wb_flow.specs.declared.vertex.Vertex.{Vertex}
 use Rattle.wb_flow.specs.declared.vertex.Vertex.TheVariants as code
 use Rattle.wb_flow.specs.Occurrences.{IsIndexOf}
@@ -23,8 +21,8 @@ use Rattle.wb_flow.specs.Rules.{attribute_at, IsDefined}
 use Rattle.wb_flow.specs.Vertices.{vertex_of}
 use Rattle.wb_flow.proofs.AddingLemmas.{read_item}
 use Rattle.wb_flow.proofs.ArrowLemmas.{defined_rule, top_rule, below_rule, place_vertex}
-use Rattle.wb_complete.specs.Inner.Tests.{DefinesAttribute, DefinesRead, DefinesReads, LacksRead, RefusesRead, RefusesReads, RefusesBelow, RefusesNeeds}
-use Rattle.wb_complete.specs.Refusals.{LacksTop, LacksBelow}
+use Rattle.wb_complete.specs.Inner.Tests.{DefinesAttribute, DefinesRead, DefinesReads, LacksNeeds, LacksRead, LacksReads}
+use Rattle.wb_complete.specs.Refusals.{LacksTop, LacksBelow, StartHas}
 use Rattle.wb_resolved.specs.declared.attributes.Direction.TheVariants.{Synthesized, Inherited}
 use Rattle.wb_resolved.specs.declared.attributes.Occurrence.{Occurrence}
 use Rattle.wb_resolved.specs.declared.attribution.AttributionParts.{AttributionParts}
@@ -39,6 +37,11 @@ use Rattle.wb_resolved.specs.declared.production.Production.{Production}
 use Rattle.wb_resolved.specs.Attribution.{IsAttribution}
 use Rattle.wb_resolved.specs.Expression.{Node}
 use Rattle.wb_resolved.specs.Visible.{kind_at}
+
+-- what follows where there is no value
+pub none_then : {X : Type 0} (o : Option X) {P Q : Type 0} → IfNone o P → (P → Q) → IfNone o Q
+none_then None holds f = f holds
+none_then (Some x) holds f = tt
 
 -- an equation for an attribute of a child or local is its rule
 place_rule : (production : Production) (at : Place) (i : ℕ) → IsDefined production (attribute_at at i)
@@ -138,10 +141,10 @@ module _ (a : AttributionParts) (production : Production) where
     go (node, listed, is) = elim (read_at node s needs.attribute is) [ inl read ↦ inl (by_read node listed read) | inr other ↦ inr other ]
 
   module _ (is : IsAttribution a) where
-    -- a read that lacks something lacks it one step down
-    lacks_below : (v : w.Vertex) (nodes : List Node) → IsRule production v nodes → (node : Node) → Contains nodes node → (vertex : Vertex)
-        → LacksRead a production node vertex → LacksBelow a production vertex
-    lacks_below v nodes rule node listed vertex lacks =
+    -- what a read of an expression lacks is lacked one step down
+    pub lacks_below : (v : w.Vertex) (nodes : List Node) → IsRule production v nodes → (vertex : Vertex) → LacksReads a production nodes vertex
+        → LacksBelow a production vertex
+    lacks_below v nodes rule vertex (node, listed, lacks) =
         let goes = (flow_type_inherited a is lacks.attribute lacks.nonterminal lacks.inherited_one lacks.needs).1.goes in
         record {
           step = w.step_to lacks.at;
@@ -161,46 +164,21 @@ module _ (a : AttributionParts) (production : Production) where
           other = not_forward lacks.at;
         }
 
-    -- a refusal of an expression is one of its production
-    pub reads_refused : (number : ℕ) (v : w.Vertex) (nodes : List Node) → IsRule production v nodes → (refusal : AttributeRefusal)
-        → RefusesReads a number production nodes refusal → RefusesBelow a number production refusal
-    reads_refused number v nodes rule (r.StartInherits x) (node, listed, bad) = absurd bad
-    reads_refused number v nodes rule (r.NoForward p) (node, listed, bad) = absurd bad
-    reads_refused number v nodes rule (r.NoEquation p x) (node, listed, bad) = absurd bad
-    reads_refused number v nodes rule (r.NoInherited p vertex) (node, listed, (same, lacks)) =
-        (same, lacks_below v nodes rule node listed vertex lacks)
-    reads_refused number v nodes rule (r.LacksForward m x i) (node, listed, bad) = absurd bad
-    reads_refused number v nodes rule (r.Reads p x i) (node, listed, bad) = absurd bad
-    reads_refused number v nodes rule (r.Cycle p vs) (node, listed, bad) = absurd bad
-    reads_refused number v nodes rule (r.ForwardReads p x i) (node, listed, bad) = absurd bad
-    reads_refused number v nodes rule (r.NoMemory e) (node, listed, bad) = absurd bad
-
-  -- a refusal of what a read needs is one of its node
-  pub needs_refused : (number : ℕ) (node : Node) (at : Place) (x m : ℕ) (needs : List ℕ) → node ≡ n.Read at x → IsTreeAt production at m
-      → ((i : ℕ) → Contains needs i → Needs a x m i) → (refusal : AttributeRefusal) → RefusesNeeds number production at needs refusal
-      → RefusesRead a number production node refusal
-  needs_refused number node at x m needs reads tree are (r.StartInherits y) bad = absurd bad
-  needs_refused number node at x m needs reads tree are (r.NoForward p) bad = absurd bad
-  needs_refused number node at x m needs reads tree are (r.NoEquation p y) bad = absurd bad
-  needs_refused number node at x m needs reads tree are (r.NoInherited p vertex) (same, (i, has, is, lacks)) = (
-    same,
-    record {
-      at = at;
-      attribute = x;
-      nonterminal = m;
-      inherited_one = i;
-      reads = reads;
-      tree = tree;
-      needs = are i has;
-      is = is;
-      lacks = lacks;
-    },
-  )
-  needs_refused number node at x m needs reads tree are (r.LacksForward k y i) bad = absurd bad
-  needs_refused number node at x m needs reads tree are (r.Reads p y i) bad = absurd bad
-  needs_refused number node at x m needs reads tree are (r.Cycle p vs) bad = absurd bad
-  needs_refused number node at x m needs reads tree are (r.ForwardReads p y i) bad = absurd bad
-  needs_refused number node at x m needs reads tree are (r.NoMemory e) bad = absurd bad
+  -- what a node's read needs and isn't defined is what the node lacks
+  pub lacks_read : (node : Node) (at : Place) (x m : ℕ) (needs : List ℕ) → node ≡ n.Read at x → IsTreeAt production at m
+      → ((i : ℕ) → Contains needs i → Needs a x m i) → (vertex : Vertex) → LacksNeeds production at needs vertex
+      → LacksRead a production node vertex
+  lacks_read node at x m needs reads tree are vertex (i, has, is, lacks) = record {
+    at = at;
+    attribute = x;
+    nonterminal = m;
+    inherited_one = i;
+    reads = reads;
+    tree = tree;
+    needs = are i has;
+    is = is;
+    lacks = lacks;
+  }
 
   -- where all that a read needs is defined, the node's reads are
   pub defines_read : (node : Node) (at : Place) (x m : ℕ) (needs : List ℕ) → node ≡ n.Read at x → IsTreeAt production at m
@@ -229,6 +207,18 @@ of_row a rows index m row same Q each o listed on =
     let (n, at) = place_of a.occurrences o listed in
     let (k, there) = place_of (get_or rows m []) n ((index m n).1 (o, at, on)) in
     each k n (subst (λ z. slice_get z k ≡ Some n) (sym same) there) o at
+
+-- an inherited attribute that occurs on the start is one that it has
+pub start_has : (a : AttributionParts) (start : Option ℕ) (m : ℕ) → start ≡ Some m → (o : Occurrence) → Contains a.occurrences o
+    → o.nonterminal ≡ m → Goes a Inherited o.attribute → StartHas a start o.attribute
+start_has a start m is o listed on goes = record {
+  nonterminal = m;
+  is_start = is;
+  occurs = record {
+    goes = goes;
+    on = (o.needs, record { occurrence = o; listed = listed; of_attribute = refl; on_nonterminal = on; needs_are = refl });
+  };
+}
 
 -- where no number of a row is that of an inherited attribute, the nonterminal inherits nothing
 pub inherits_nothing : (a : AttributionParts) (rows : List (List ℕ)) → IsIndexOf a.occurrences rows → (m : ℕ) (row : List ℕ)

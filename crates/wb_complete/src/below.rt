@@ -1,120 +1,116 @@
-//! Does a production define the inherited attributes that are needed one step down?
+//! Which inherited attribute does a production lack that is needed one step down?
 //!
 //! Where an attribute of a child or local is read, its flow type says which are needed. What the forwarded tree lacks is the top's.
 
-ghost use Rattle.std.specs.Prelude.{◌≡◌, ◌≢◌, ℕ, Some, IfOk, IfErr, IfSome, IfNone, Contains};
+ghost use Rattle.std.specs.Prelude.{◌≡◌, ◌≢◌, ℕ, IfSome, IfNone, Contains};
 ghost use Rattle.wb_attributes.specs.Rules.{IsTreeAt};
 ghost use Rattle.wb_attributes.specs.WellDefined.{DefinesBelow};
-ghost use Rattle.wb_complete.specs.Inner.Tests.{DefinesRead, DefinesReads, RefusesRead, RefusesReads, RefusesBelow, RefusesNeeds, IsTested};
+ghost use Rattle.wb_complete.specs.Inner.Tests.{DefinesRead, DefinesReads, LacksNeeds, LacksRead, LacksReads};
+ghost use Rattle.wb_complete.specs.Refusals.{LacksBelow};
 ghost use Rattle.wb_base.specs.declared.symbol.Kind.TheVariants.{Tree};
+ghost use Rattle.wb_flow.specs.Occurrences.{IsIndexOf};
 ghost use Rattle.wb_flow.specs.Rules.{attribute_at, IsDefined};
+ghost use Rattle.wb_resolved.specs.Attribution.{IsAttribution};
 ghost use Rattle.wb_resolved.specs.declared.equation.Equation.{Equation};
 ghost use Rattle.wb_resolved.specs.declared.production.ChildKind.TheVariants.{Value};
-ghost use Rattle.wb_resolved.specs.declared.production.Forward.{Forward};
 ghost use Rattle.wb_resolved.specs.declared.production.Local.{Local};
 
 use wb_base::Kind;
-use wb_flow::{AttributeRefusal, Scope, Vertex, defines};
+use wb_flow::{Scope, Vertex, defines};
 use wb_resolved::{ChildKind, Node, Place, Production};
 
-// A production with its number.
-#[derive(Clone, Copy)]
-pub(crate) struct Tested<'a> {
-    pub(crate) scope: &'a Scope<'a>,
-    pub(crate) number: usize,
-    pub(crate) production: &'a Production,
-}
-
-// Whether what its expressions read is defined.
-pub(crate) fn check_below(tested: &Tested) -> Result<(), AttributeRefusal>
-    requires { IsTested tested.now }
-    ensures ok { IfOk result (λ done. DefinesBelow tested.now.scope.now.attributes.now tested.now.production.now) }
-    ensures refused { IfErr result (RefusesBelow tested.now.scope.now.attributes.now tested.now.number tested.now.production.now) }
+// An inherited attribute of a child or local that the production needs and has no equation for.
+pub(crate) fn lacking_below(scope: &Scope, production: &Production) -> Option<Vertex>
+    requires attribution { IsAttribution scope.now.attributes.now }
+    requires index { IsIndexOf scope.now.attributes.now.occurrences scope.now.index.now }
+    ensures some { IfSome result (LacksBelow scope.now.attributes.now production.now) }
+    ensures none { IfNone result (DefinesBelow scope.now.attributes.now production.now) }
 {
-    check_equations(tested)?;
-    check_locals(tested)?;
-    check_forward(tested)
-}
-
-// Whether what its equations read is defined.
-fn check_equations(tested: &Tested) -> Result<(), AttributeRefusal>
-    requires { IsTested tested.now }
-    ensures ok { IfOk result (λ done. (e : Equation) → Contains tested.now.production.now.equations e → DefinesReads tested.now.scope.now.attributes.now tested.now.production.now e.nodes) }
-    ensures refused { IfErr result (RefusesBelow tested.now.scope.now.attributes.now tested.now.number tested.now.production.now) }
-{
-    'equations: for equation in tested.production.equations.as_slice() {
-        check_nodes(tested, equation.nodes.as_slice())?;
+    if let Some(vertex) = lacking_in_equations(scope, production) {
+        return Some(vertex);
     }
-    Ok(())
-}
-
-// Whether what the expressions of its locals read is.
-fn check_locals(tested: &Tested) -> Result<(), AttributeRefusal>
-    requires { IsTested tested.now }
-    ensures ok { IfOk result (λ done. (l : Local) → Contains tested.now.production.now.locals l → DefinesReads tested.now.scope.now.attributes.now tested.now.production.now l.nodes) }
-    ensures refused { IfErr result (RefusesBelow tested.now.scope.now.attributes.now tested.now.number tested.now.production.now) }
-{
-    'locals: for local in tested.production.locals.as_slice() {
-        check_nodes(tested, local.nodes.as_slice())?;
+    if let Some(vertex) = lacking_in_locals(scope, production) {
+        return Some(vertex);
     }
-    Ok(())
+    match &production.forward {
+        Some(forward) => lacking_in(scope, production, forward.nodes.as_slice()),
+        None => None,
+    }
 }
 
-// Whether what the expression of what it forwards to reads is.
-fn check_forward(tested: &Tested) -> Result<(), AttributeRefusal>
-    requires { IsTested tested.now }
-    ensures ok { IfOk result (λ done. (f : Forward) → tested.now.production.now.forward ≡ Some f → DefinesReads tested.now.scope.now.attributes.now tested.now.production.now f.nodes) }
-    ensures refused { IfErr result (RefusesBelow tested.now.scope.now.attributes.now tested.now.number tested.now.production.now) }
+// One that an equation needs.
+fn lacking_in_equations(scope: &Scope, production: &Production) -> Option<Vertex>
+    requires attribution { IsAttribution scope.now.attributes.now }
+    requires index { IsIndexOf scope.now.attributes.now.occurrences scope.now.index.now }
+    ensures some { IfSome result (LacksBelow scope.now.attributes.now production.now) }
+    ensures none { IfNone result ((e : Equation) → Contains production.now.equations e → DefinesReads scope.now.attributes.now production.now e.nodes) }
 {
-    let Some(forward) = &tested.production.forward else {
-        return Ok(());
-    };
-    check_nodes(tested, forward.nodes.as_slice())
+    'equations: for equation in production.equations.as_slice() {
+        if let Some(vertex) = lacking_in(scope, production, equation.nodes.as_slice()) {
+            return Some(vertex);
+        }
+    }
+    None
 }
 
-// Whether what the nodes of an expression read is.
-fn check_nodes(tested: &Tested, nodes: &[Node]) -> Result<(), AttributeRefusal>
-    requires { IsTested tested.now }
-    ensures ok { IfOk result (λ done. DefinesReads tested.now.scope.now.attributes.now tested.now.production.now nodes.now) }
-    ensures refused { IfErr result (RefusesReads tested.now.scope.now.attributes.now tested.now.number tested.now.production.now nodes.now) }
+// One that the expression of a local needs.
+fn lacking_in_locals(scope: &Scope, production: &Production) -> Option<Vertex>
+    requires attribution { IsAttribution scope.now.attributes.now }
+    requires index { IsIndexOf scope.now.attributes.now.occurrences scope.now.index.now }
+    ensures some { IfSome result (LacksBelow scope.now.attributes.now production.now) }
+    ensures none { IfNone result ((l : Local) → Contains production.now.locals l → DefinesReads scope.now.attributes.now production.now l.nodes) }
+{
+    'locals: for local in production.locals.as_slice() {
+        if let Some(vertex) = lacking_in(scope, production, local.nodes.as_slice()) {
+            return Some(vertex);
+        }
+    }
+    None
+}
+
+// One that a node of an expression needs.
+fn lacking_in(scope: &Scope, production: &Production, nodes: &[Node]) -> Option<Vertex>
+    requires attribution { IsAttribution scope.now.attributes.now }
+    requires index { IsIndexOf scope.now.attributes.now.occurrences scope.now.index.now }
+    ensures some { IfSome result (LacksReads scope.now.attributes.now production.now nodes.now) }
+    ensures none { IfNone result (DefinesReads scope.now.attributes.now production.now nodes.now) }
 {
     'nodes: for node in nodes {
-        check_node(tested, node)?;
+        if let Some(vertex) = lacking_at(scope, production, node) {
+            return Some(vertex);
+        }
     }
-    Ok(())
+    None
 }
 
-// Whether what a node reads is.
-fn check_node(tested: &Tested, node: &Node) -> Result<(), AttributeRefusal>
-    requires { IsTested tested.now }
-    ensures ok { IfOk result (λ done. DefinesRead tested.now.scope.now.attributes.now tested.now.production.now node.now) }
-    ensures refused { IfErr result (RefusesRead tested.now.scope.now.attributes.now tested.now.number tested.now.production.now node.now) }
+// One that this node needs.
+fn lacking_at(scope: &Scope, production: &Production, node: &Node) -> Option<Vertex>
+    requires attribution { IsAttribution scope.now.attributes.now }
+    requires index { IsIndexOf scope.now.attributes.now.occurrences scope.now.index.now }
+    ensures some { IfSome result (LacksRead scope.now.attributes.now production.now node.now) }
+    ensures none { IfNone result (DefinesRead scope.now.attributes.now production.now node.now) }
 {
     let Node::Read { label, attribute } = node else {
-        return Ok(());
+        return None;
     };
-    let Some(nonterminal) = nonterminal_at(tested.production, *label) else {
-        return Ok(());
+    let Some(nonterminal) = nonterminal_at(production, *label) else {
+        return None;
     };
-    let needs = tested.scope.needs(*attribute, nonterminal);
-    check_needs(tested, *label, needs)
+    lacking_of(production, *label, scope.needs(*attribute, nonterminal))
 }
 
-// Whether each of these inherited attributes of a child or local is.
-fn check_needs(tested: &Tested, at: Place, needs: &[usize]) -> Result<(), AttributeRefusal>
-    ensures ok { IfOk result (λ done. (i : ℕ) → Contains needs.now i → IsDefined tested.now.production.now (attribute_at at i)) }
-    ensures refused { IfErr result (RefusesNeeds tested.now.number tested.now.production.now at needs.now) }
+// One of these of a child or local that has no equation.
+fn lacking_of(production: &Production, at: Place, needs: &[usize]) -> Option<Vertex>
+    ensures some { IfSome result (LacksNeeds production.now at needs.now) }
+    ensures none { IfNone result ((i : ℕ) → Contains needs.now i → IsDefined production.now (attribute_at at i)) }
 {
     'needs: for &inherited in needs {
         let vertex = inherited_at(at, inherited);
-        if !defines(tested.production, vertex) {
-            return Err(AttributeRefusal::NoInherited {
-                production: tested.number,
-                vertex,
-            });
+        if !defines(production, vertex) {
+            return Some(vertex);
         }
     }
-    Ok(())
+    None
 }
 
 // An attribute of a child or local.

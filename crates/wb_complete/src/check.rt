@@ -2,18 +2,18 @@
 //!
 //! Each rule is tested on all productions before the next, so the first that fails is the answer.
 
-ghost use Rattle.std.specs.Prelude.{◌≡◌, ℕ, Option, IfOk, IfErr, IfSome, IsTrue, ◌↔◌};
+ghost use Rattle.std.specs.Prelude.{◌↔◌, IfOk, IfErr, IfSome, IfNone, IsTrue};
 ghost use Rattle.wb_attributes.specs.Modular.{EachProduction, InheritsNothing, IsBridging, ForwardsAsExtension};
 ghost use Rattle.wb_attributes.specs.WellDefined.{DefinesTop, DefinesBelow};
-ghost use Rattle.wb_complete.specs.Inner.Tests.{RefusesStart, RefusesForward, RefusesAnyTop, RefusesAnyBelow};
-ghost use Rattle.wb_complete.specs.Refusals.{CompleteOk, IsTrueCompletenessRefusal};
+ghost use Rattle.wb_complete.specs.Inner.Tests.{IsSo, IsWithoutForward};
+ghost use Rattle.wb_complete.specs.Refusals.{CompleteOk, IsTrueCompletenessRefusal, LacksBelow, LacksTop, StartHas};
 ghost use Rattle.wb_flow.specs.Occurrences.{IsIndexOf};
 ghost use Rattle.wb_resolved.specs.Attribution.{IsAttribution};
 
-use crate::below::{Tested, check_below};
-use crate::top::check_top;
+use crate::below::lacking_below;
+use crate::top::lacking_top;
 use std::alloc::Global;
-use wb_flow::{AttributeRefusal, OccurrenceIndex, Scope};
+use wb_flow::{AttributeRefusal, OccurrenceIndex, Scope, Vertex};
 use wb_resolved::{Attribution, Production};
 
 /// Whether a start has no inherited attribute, an extension's productions on the host's nonterminals forward, each production has an
@@ -57,45 +57,59 @@ fn check_in(
     ensures ok { IfOk result (λ done. CompleteOk scope.now.attributes.now start extension) }
     ensures refused { IfErr result (IsTrueCompletenessRefusal scope.now.attributes.now start extension) }
 {
-    if let Some(nonterminal) = start {
-        check_start(scope, nonterminal)?;
+    if let Some(attribute) = inherited_of_start(scope, start) {
+        return Err(AttributeRefusal::StartInherits(attribute));
     }
-    if let Some(owner) = extension {
-        check_forwards(scope, owner)?;
+    if let Some(production) = without_forward(scope, extension) {
+        return Err(AttributeRefusal::NoForward(production));
     }
-    check_tops(scope)?;
-    check_belows(scope)
-}
-
-// Whether a nonterminal has no inherited attribute.
-fn check_start(scope: &Scope, start: usize) -> Result<(), AttributeRefusal>
-    requires attribution { IsAttribution scope.now.attributes.now }
-    requires index { IsIndexOf scope.now.attributes.now.occurrences scope.now.index.now }
-    ensures ok { IfOk result (λ done. InheritsNothing scope.now.attributes.now start) }
-    ensures refused { IfErr result (RefusesStart scope.now.attributes.now start) }
-{
-    'occurrences: for &number in scope.index.on(start) {
-        let attribute = scope.occurrence(number).attribute;
-        if scope.is_inherited(attribute) {
-            return Err(AttributeRefusal::StartInherits(attribute));
-        }
+    if let Some((production, attribute)) = without_equation(scope) {
+        return Err(AttributeRefusal::NoEquation {
+            production,
+            attribute,
+        });
+    }
+    if let Some((production, vertex)) = without_inherited(scope) {
+        return Err(AttributeRefusal::NoInherited { production, vertex });
     }
     Ok(())
 }
 
-// Whether the productions of an extension on nonterminals of the host forward.
-fn check_forwards(scope: &Scope, extension: usize) -> Result<(), AttributeRefusal>
-    ensures ok { IfOk result (λ done. ForwardsAsExtension scope.now.attributes.now extension) }
-    ensures refused { IfErr result (RefusesForward scope.now.attributes.now extension) }
+// An inherited attribute of the start, where there is one.
+fn inherited_of_start(scope: &Scope, start: Option<usize>) -> Option<usize>
+    requires attribution { IsAttribution scope.now.attributes.now }
+    requires index { IsIndexOf scope.now.attributes.now.occurrences scope.now.index.now }
+    ensures some { IfSome result (StartHas scope.now.attributes.now start) }
+    ensures none { IfNone result (IfSome start (InheritsNothing scope.now.attributes.now)) }
 {
+    let Some(nonterminal) = start else {
+        return None;
+    };
+    'occurrences: for &number in scope.index.on(nonterminal) {
+        let attribute = scope.occurrence(number).attribute;
+        if scope.is_inherited(attribute) {
+            return Some(attribute);
+        }
+    }
+    None
+}
+
+// A production of the extension on a nonterminal of the host that doesn't forward.
+fn without_forward(scope: &Scope, extension: Option<usize>) -> Option<usize>
+    ensures some { IfSome result (IsWithoutForward scope.now.attributes.now extension) }
+    ensures none { IfNone result (IfSome extension (ForwardsAsExtension scope.now.attributes.now)) }
+{
+    let Some(owner) = extension else {
+        return None;
+    };
     let productions = scope.attributes.productions.as_slice();
     'productions: for number in 0..productions.len() {
         let production = &productions[number];
-        if production.forward.is_none() && is_bridging(scope, extension, production) {
-            return Err(AttributeRefusal::NoForward(number));
+        if production.forward.is_none() && is_bridging(scope, owner, production) {
+            return Some(number);
         }
     }
-    Ok(())
+    None
 }
 
 // Whether a production is an extension's, on a nonterminal of the host.
@@ -108,34 +122,34 @@ fn is_bridging(scope: &Scope, extension: usize, production: &Production) -> bool
         && nonterminals[production.left].owner == 0
 }
 
-// Whether each production has an equation for each synthesized attribute of its left side, or forwards.
-fn check_tops(scope: &Scope) -> Result<(), AttributeRefusal>
+// A production with a synthesized attribute of its left side that it lacks an equation for, where it doesn't forward.
+fn without_equation(scope: &Scope) -> Option<(usize, usize)>
     requires attribution { IsAttribution scope.now.attributes.now }
     requires index { IsIndexOf scope.now.attributes.now.occurrences scope.now.index.now }
-    ensures ok { IfOk result (λ done. EachProduction scope.now.attributes.now (DefinesTop scope.now.attributes.now)) }
-    ensures refused { IfErr result (RefusesAnyTop scope.now.attributes.now) }
+    ensures some { IfSome result (λ found. IsSo scope.now.attributes.now found.0 (λ production. LacksTop scope.now.attributes.now production found.1)) }
+    ensures none { IfNone result (EachProduction scope.now.attributes.now (DefinesTop scope.now.attributes.now)) }
 {
     let productions = scope.attributes.productions.as_slice();
     'productions: for number in 0..productions.len() {
-        check_top(scope, number, &productions[number])?;
+        if let Some(attribute) = lacking_top(scope, &productions[number]) {
+            return Some((number, attribute));
+        }
     }
-    Ok(())
+    None
 }
 
-// Whether each has an equation for each inherited attribute that is needed one step down.
-fn check_belows(scope: &Scope) -> Result<(), AttributeRefusal>
+// A production with an inherited attribute one step down that is needed and that it lacks an equation for.
+fn without_inherited(scope: &Scope) -> Option<(usize, Vertex)>
     requires attribution { IsAttribution scope.now.attributes.now }
     requires index { IsIndexOf scope.now.attributes.now.occurrences scope.now.index.now }
-    ensures ok { IfOk result (λ done. EachProduction scope.now.attributes.now (DefinesBelow scope.now.attributes.now)) }
-    ensures refused { IfErr result (RefusesAnyBelow scope.now.attributes.now) }
+    ensures some { IfSome result (λ found. IsSo scope.now.attributes.now found.0 (λ production. LacksBelow scope.now.attributes.now production found.1)) }
+    ensures none { IfNone result (EachProduction scope.now.attributes.now (DefinesBelow scope.now.attributes.now)) }
 {
     let productions = scope.attributes.productions.as_slice();
     'productions: for number in 0..productions.len() {
-        check_below(&Tested {
-            scope: &*scope,
-            number,
-            production: &productions[number],
-        })?;
+        if let Some(vertex) = lacking_below(scope, &productions[number]) {
+            return Some((number, vertex));
+        }
     }
-    Ok(())
+    None
 }

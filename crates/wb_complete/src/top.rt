@@ -1,29 +1,25 @@
-//! Does a production define the synthesized attributes of its left side?
+//! Which synthesized attribute of its left side does a production lack?
 //!
 //! One without an equation is that of the tree to which the production forwards, where it does.
 
-ghost use Rattle.std.specs.Prelude.{IfOk, IfErr};
+ghost use Rattle.std.specs.Prelude.{IfSome, IfNone};
 ghost use Rattle.wb_attributes.specs.WellDefined.{DefinesTop};
-ghost use Rattle.wb_complete.specs.Inner.Tests.{RefusesTop};
+ghost use Rattle.wb_complete.specs.Refusals.{LacksTop};
 ghost use Rattle.wb_flow.specs.Occurrences.{IsIndexOf};
 ghost use Rattle.wb_resolved.specs.Attribution.{IsAttribution};
 
-use wb_flow::{AttributeRefusal, Scope, Vertex, defines};
+use wb_flow::{Scope, Vertex, defines};
 use wb_resolved::Production;
 
-// Whether the production of this number does.
-pub(crate) fn check_top(
-    scope: &Scope,
-    number: usize,
-    production: &Production,
-) -> Result<(), AttributeRefusal>
+// A synthesized attribute of its left side that the production has no equation for, where it doesn't forward.
+pub(crate) fn lacking_top(scope: &Scope, production: &Production) -> Option<usize>
     requires attribution { IsAttribution scope.now.attributes.now }
     requires index { IsIndexOf scope.now.attributes.now.occurrences scope.now.index.now }
-    ensures ok { IfOk result (λ done. DefinesTop scope.now.attributes.now production.now) }
-    ensures refused { IfErr result (RefusesTop scope.now.attributes.now number production.now) }
+    ensures some { IfSome result (LacksTop scope.now.attributes.now production.now) }
+    ensures none { IfNone result (DefinesTop scope.now.attributes.now production.now) }
 {
     let None = &production.forward else {
-        return Ok(());
+        return None;
     };
     'occurrences: for &place in scope.index.on(production.left) {
         let attribute = scope.occurrence(place).attribute;
@@ -31,11 +27,8 @@ pub(crate) fn check_top(
             continue;
         }
         if !defines(production, Vertex::Top(attribute)) {
-            return Err(AttributeRefusal::NoEquation {
-                production: number,
-                attribute,
-            });
+            return Some(attribute);
         }
     }
-    Ok(())
+    None
 }

@@ -1,6 +1,0 @@
-use Rattle.wb_attributes.specs.WellDefined.{DefinesBelow}
-use Rattle.wb_flow.proofs.EachLemmas.{EachBefore}
-use Rattle.wb_complete.proofs.check.check_belows.Given as goal
-
-abbrev pub invariant-productions : goal.invariant-productions
-invariant-productions l = EachBefore l.productions l.number (DefinesBelow l.scope.attributes.now)

@@ -1,6 +1,0 @@
-use Rattle.wb_attributes.specs.WellDefined.{DefinesTop}
-use Rattle.wb_flow.proofs.EachLemmas.{EachBefore}
-use Rattle.wb_complete.proofs.check.check_tops.Given as goal
-
-abbrev pub invariant-productions : goal.invariant-productions
-invariant-productions l = EachBefore l.productions l.number (DefinesTop l.scope.attributes.now)
