@@ -73,7 +73,8 @@ edges_below r named = all_from_places (IsEdgeBelow (length r.terminals)) (prefer
     place i edge at = found i edge (slice_get r.preferences i) refl (sym (slice_get-map pair r.preferences i) ∙ at)
 
 -- the lexicon of a resolved specification fits its grammar with holes
-pub lexicon_fits : (r : ResolvedParts) (g : GrammarView) → HasGrammar r g → FitsGrammar (with_holes_of g r.extensible).terminals (lexicon_of r g)
+pub lexicon_fits : (r : ResolvedParts) (g : GrammarView) → HasGrammar r g
+    → FitsGrammar (with_holes_of g r.extensible).terminals (lexicon_of r g)
 lexicon_fits r g has = record {
   scanned = omega arith;
   expressions = subst (λ (n : ℕ). g.terminals ≤ n) (sym (length-map r.terminals (λ (t : Terminal). t.pattern))) of.terminals_len;

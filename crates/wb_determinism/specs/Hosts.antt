@@ -29,8 +29,8 @@ pub record IsFitForParsing (r : ResolvedParts) (g : GrammarView) : Type 0 where
   pub no_unit_cycle : HasNoUnitCycle (with_holes_of g r.extensible)
   pub no_hidden_left_recursion : HasNoHiddenLeftRecursion (with_holes_of g r.extensible)
 
--- a host with this grammar is deterministic: preferences are acyclic, the grammar is reduced, and with holes it has no unit cycle, no hidden
--- left recursion, no conflict, and at no prefix two terminals or layouts that match one text with no preference between them
+-- a host with this grammar is deterministic: preferences are acyclic, the grammar is reduced, and with holes it has no unit cycle, no
+-- hidden left recursion, no conflict, and at no prefix two terminals or layouts that match one text with no preference between them
 pub record IsDeterministicHost (r : ResolvedParts) (g : GrammarView) : Type 0 where
   pub fit : IsFitForParsing r g
   pub no_conflict : HasNoConflict (with_holes_of g r.extensible)

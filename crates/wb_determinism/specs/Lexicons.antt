@@ -21,4 +21,9 @@ is_layout Marking = false
 -- its terminals, which have the numbers of the grammar, and layout; a hole, and the end of a text, match no text and are left out
 abbrev pub lexicon_of : ResolvedParts → GrammarView → LexiconView
 lexicon_of r g =
-    record { expressions = map (λ (t : Terminal). t.pattern) r.terminals; scanned = g.terminals; layout = map (λ (t : Terminal). is_layout t.kind) r.terminals; preferences = preference_pairs r }
+    record {
+      expressions = map (λ (t : Terminal). t.pattern) r.terminals;
+      scanned = g.terminals;
+      layout = map (λ (t : Terminal). is_layout t.kind) r.terminals;
+      preferences = preference_pairs r;
+    }

@@ -43,7 +43,7 @@ pub fn host_determinism(alloc: Global, resolved: &Resolved) -> Result<HostParts,
 }
 
 // A host and its grammar.
-#[derive(Drop)]
+#[derive(Clone, Copy)]
 struct Host<'a> {
     resolved: &'a Resolved,
     grammar: &'a Grammar,
@@ -84,9 +84,9 @@ fn lists_of(alloc: Global, host: &Host) -> Result<Lists, AllocError>
 {
     let parts = host.resolved.parts();
     let terminals = parts.terminals.as_slice();
-    let expressions = expressions_of(alloc, terminals)?;
     let layout = layout_of(alloc, terminals)?;
     let pairs = pairs_of(alloc, parts.preferences.as_slice())?;
+    let expressions = expressions_of(alloc, terminals)?;
     Ok(Lists {
         expressions,
         layout,

@@ -11,7 +11,6 @@ use wb_items::Item;
 use wb_lookahead::Action;
 
 /// Why it is refused: the first of this list that holds, each with an example. Which of several examples is shown is left open.
-#[derive(Drop)]
 pub enum DeterminismRefusal {
     /// E1: this production of the extension is on a host's nonterminal and doesn't begin with one of its markers.
     NotBridge(usize),
@@ -65,7 +64,6 @@ pub enum DeterminismRefusal {
 }
 
 /// How a kernel of host's items that an extension makes goes beyond what the host allows.
-#[derive(Drop)]
 pub enum EnvelopeFault {
     /// This terminal is a lookahead of the item.
     Lookahead {
@@ -97,7 +95,68 @@ impl From<AllocError> for DeterminismRefusal {
     }
 }
 
-impl DeterminismRefusal {
-    /// Lets go of the refusal. A crate that calls this proves no drop of what it holds.
-    pub fn release(self) {}
+// By hand, so that no crate above proves how the parts are dropped.
+impl Drop for DeterminismRefusal {
+    fn drop(self) {
+        match self {
+            DeterminismRefusal::NotBridge(_) => {}
+            DeterminismRefusal::MarkerElsewhere(_) => {}
+            DeterminismRefusal::NotExtensible(_) => {}
+            DeterminismRefusal::PreferenceCycle(cycle) => drop(cycle),
+            DeterminismRefusal::MarkerClash {
+                marker: _,
+                other: _,
+                text,
+            } => drop(text),
+            DeterminismRefusal::NotReduced(_) => {}
+            DeterminismRefusal::UnitCycle(cycle) => drop(cycle),
+            DeterminismRefusal::HiddenLeftRecursion(cycle) => drop(cycle),
+            DeterminismRefusal::Conflict {
+                prefix,
+                terminal: _,
+                first: _,
+                second: _,
+            } => drop(prefix),
+            DeterminismRefusal::Clash {
+                prefix,
+                left: _,
+                right: _,
+                text,
+            } => {
+                drop(prefix);
+                drop(text);
+            }
+            DeterminismRefusal::Lookahead {
+                prefix,
+                item: _,
+                terminal: _,
+            } => drop(prefix),
+            DeterminismRefusal::Envelope { prefix, fault } => {
+                drop(prefix);
+                drop(fault);
+            }
+            DeterminismRefusal::NoMemory(_) => {}
+        }
+    }
+}
+
+impl Drop for EnvelopeFault {
+    fn drop(self) {
+        match self {
+            EnvelopeFault::Lookahead {
+                item: _,
+                terminal: _,
+            } => {}
+            EnvelopeFault::Conflict {
+                terminal: _,
+                first: _,
+                second: _,
+            } => {}
+            EnvelopeFault::Clash {
+                left: _,
+                right: _,
+                text,
+            } => drop(text),
+        }
+    }
 }

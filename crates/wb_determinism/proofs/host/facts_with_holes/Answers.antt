@@ -6,7 +6,8 @@ pub returns-in-Err-NotReduced-clause-refused : goal.returns-in-Err-NotReduced-cl
 returns-in-Err-NotReduced-clause-refused c =
     let r = c.args.host.now.resolved.now in
     let g = c.args.host.now.grammar.now in
-    absurd (not_reduced c.args.holes.now c.in-Err-NotReduced.reason (rw c.in-Err-NotReduced.field-0-is at c.in-Err-NotReduced.ensures.refused)
+    absurd (not_reduced c.args.holes.now c.in-Err-NotReduced.reason
+    (rw c.in-Err-NotReduced.field-0-is at c.in-Err-NotReduced.ensures.refused)
     (rw c.requires.holes (lifted_reduced g r.extensible c.requires.sound.reduced)))
 
 pub returns-in-Err-HiddenLeftRecursion-clause-refused : goal.returns-in-Err-HiddenLeftRecursion-clause-refused

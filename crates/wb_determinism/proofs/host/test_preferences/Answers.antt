@@ -10,6 +10,7 @@ pub preference_cycle-requires : goal.preference_cycle-requires
 preference_cycle-requires c =
     let r = c.args.host.now.resolved.now in
     let same = ap (λ (x : LexiconView). x.preferences) c.requires in
-    subst (λ (n : ℕ). All (IsEdgeBelow n) c.args.lexicon.now.preferences.now) (sym (c.len-count.ensures ∙ ap (λ (p : ResolvedParts). length p.terminals) c.parts.ensures.parts))
+    subst (λ (n : ℕ). All (IsEdgeBelow n) c.args.lexicon.now.preferences.now)
+    (sym (c.len-count.ensures ∙ ap (λ (p : ResolvedParts). length p.terminals) c.parts.ensures.parts))
     (subst (λ (edges : List (ℕ × ℕ)). All (IsEdgeBelow (length r.terminals)) edges) (sym same)
     (edges_below r c.parts.ensures.whole.preferences))
