@@ -17,7 +17,7 @@ use Rattle.wb_certify.specs.Refusals.{IsDeterminismOf, IsDeterministic, IsValueR
 use Rattle.wb_certify.specs.WellDefined.{HasWellDefinedAttributes, IsWellDefinedRefusal}
 use Rattle.wb_certify.specs.declared.refusal.CertifyRefusal.{CertifyRefusal}
 use Rattle.wb_certify.specs.declared.refusal.CertifyRefusal.TheVariants as c
-use Rattle.wb_certify.specs.Inner.Tests.{AreComplete, IsAttributesRefusal, IsKindRefusal}
+use Rattle.wb_certify.specs.Inner.Tests.{AreComplete, IsAttributesRefusal, IsGrammarRefusal, IsKindRefusal}
 use Rattle.wb_certify.proofs.ValueLemmas.{well_defined}
 
 module _ (r : ResolvedParts) (operations : List OperationSignature) where
@@ -39,6 +39,15 @@ module _ (r : ResolvedParts) (operations : List OperationSignature) where
   kinds_ill_defined (c.NoMemory error) reason = tt
 
   module _ (kinds : KindsOk r.attributes operations) where
+    -- a refusal of preferences, the start, the grammar or the scanner
+    pub grammar_refused : (refusal : CertifyRefusal) → IsGrammarRefusal r refusal → IsValueRefusal r operations refusal
+    grammar_refused (c.Names refusal) reason = absurd reason
+    grammar_refused (c.Types refusal) reason = absurd reason
+    grammar_refused c.NoStart (acyclic, none) = record { kinds = kinds; acyclic = acyclic; none = none }
+    grammar_refused (c.Determinism refusal) (reason, other) = (record { kinds = kinds; reason = reason }, other)
+    grammar_refused (c.Attributes refusal) reason = absurd reason
+    grammar_refused (c.NoMemory error) reason = tt
+
     -- a refusal of attributes
     pub attributes_refused : IsDeterministic r → (refusal : CertifyRefusal) → IsAttributesRefusal r refusal
         → IsValueRefusal r operations refusal
@@ -69,35 +78,29 @@ module _ (r : ResolvedParts) (operations : List OperationSignature) where
     attributes_well_defined (Ok x) alone is = well_defined r operations alone kinds is.0 is.1
     attributes_well_defined (Err refusal) alone is = tt
 
-    -- a host with a start that isn't deterministic
-    of_grammar : (o : Option GrammarView) (refusal : DeterminismRefusal) → IsSome o → IfSome o (λ g. IsHostRefusal r g refusal)
-        → IsDeterminismOf r o refusal
-    of_grammar (Some g) refusal there reason = reason
-    of_grammar None refusal there reason = absurd (cc there)
+module _ (r : ResolvedParts) where
+  -- a host with a start that isn't deterministic
+  of_grammar : (o : Option GrammarView) (refusal : DeterminismRefusal) → IsSome o → IfSome o (λ g. IsHostRefusal r g refusal)
+      → IsDeterminismOf r o refusal
+  of_grammar (Some g) refusal there reason = reason
+  of_grammar None refusal there reason = absurd (cc there)
 
-    pub not_deterministic : (refusal : DeterminismRefusal) → IsSome r.grammar → IfSome r.grammar (λ g. IsHostRefusal r g refusal)
-        → ¬ IsNoMemory refusal → IsValueRefusal r operations (c.Determinism refusal)
-    not_deterministic refusal there reason other = (record { kinds = kinds; reason = of_grammar r.grammar refusal there reason }, other)
+  pub not_deterministic : (refusal : DeterminismRefusal) → IsSome r.grammar → IfSome r.grammar (λ g. IsHostRefusal r g refusal)
+      → ¬ IsNoMemory refusal → IsGrammarRefusal r (c.Determinism refusal)
+  not_deterministic refusal there reason other = (of_grammar r.grammar refusal there reason, other)
 
-    -- one without a start
-    module _ (none : r.grammar ≡ None) (edges : List (ℕ × ℕ)) (are : edges ≡ preference_pairs r) where
-      pub no_start : ((cycle : List ℕ) → ¬ IsCycle edges cycle) → IsValueRefusal r operations c.NoStart
-      no_start acyclic = record {
-        kinds = kinds;
-        acyclic = subst (λ (es : List (ℕ × ℕ)). (cycle : List ℕ) → ¬ IsCycle es cycle) are acyclic;
-        none = none;
-      }
+  -- one without a start
+  module _ (none : r.grammar ≡ None) (edges : List (ℕ × ℕ)) (are : edges ≡ preference_pairs r) where
+    pub no_start : ((cycle : List ℕ) → ¬ IsCycle edges cycle) → IsGrammarRefusal r c.NoStart
+    no_start acyclic = (subst (λ (es : List (ℕ × ℕ)). (cycle : List ℕ) → ¬ IsCycle es cycle) are acyclic, none)
 
-      pub in_cycle : (cycle : List ℕ) (shown : List ℕ) → shown ≡ cycle → IsSimpleCycle edges cycle
-          → IsValueRefusal r operations (c.Determinism (d.PreferenceCycle shown))
-      in_cycle cycle shown same is = (
-        record {
-          kinds = kinds;
-          reason = subst (λ (o : Option GrammarView). IsDeterminismOf r o (d.PreferenceCycle shown)) (sym none)
-              (subst (λ (es : List (ℕ × ℕ)). IsSimpleCycle es shown) are (subst (IsSimpleCycle edges) (sym same) is));
-        },
-        λ never. never,
-      )
+    pub in_cycle : (cycle : List ℕ) (shown : List ℕ) → shown ≡ cycle → IsSimpleCycle edges cycle
+        → IsGrammarRefusal r (c.Determinism (d.PreferenceCycle shown))
+    in_cycle cycle shown same is = (
+      subst (λ (o : Option GrammarView). IsDeterminismOf r o (d.PreferenceCycle shown)) (sym none)
+          (subst (λ (es : List (ℕ × ℕ)). IsSimpleCycle es shown) are (subst (IsSimpleCycle edges) (sym same) is)),
+      λ never. never,
+    )
 
 module _ (r : ResolvedParts) (parts : HostParts) where
   -- a host with a start that is deterministic

@@ -1,5 +1,5 @@
 -- What is known of a resolved host after each test.
-use Rattle.std.proofs.Common.{◌≡◌, ◌∙◌, Result, Ok, Err, IfOk, IfErr, Some, None, ℕ, List, [], All, length, map, sym, ap, subst, inr}
+use Rattle.std.proofs.Common.{◌≡◌, ◌∙◌, Result, Ok, Err, IfOk, IfErr, None, ℕ, List, [], All, length, map, sym, ap, subst, inr}
 use Rattle.std.specs.Prelude.{Option, option_map}
 use Rattle.wb_attributes.specs.Modular.{AreWellDefinedAttributes}
 use Rattle.wb_base.specs.Grammar.{GrammarView}
@@ -14,7 +14,6 @@ use Rattle.wb_resolved.specs.declared.resolved.ResolvedParts.{ResolvedParts}
 use Rattle.wb_resolved.specs.declared.terminal.Preference.{Preference}
 use Rattle.wb_resolved.specs.Resolved.{IsResolved}
 use Rattle.wb_types.specs.Rules.{KindsOk}
-use Rattle.wb_determinism.specs.Hosts.{AreHostParts}
 use Rattle.wb_determinism.specs.declared.parts.HostParts.{HostParts}
 use Rattle.wb_certify.specs.Hosts.{IsCertified, IsCertifiedValue}
 use Rattle.wb_certify.specs.Refusals.{IsAttributeRefusal, IsDeterministic, start_of}
@@ -40,7 +39,8 @@ pub flows_also : (r parts : ResolvedParts) (start : Option ℕ) {X : Type 0} (re
     → start ≡ start_of r → CompleteOk parts.attributes start None → IfOk result (λ done. FlowsOk parts.attributes)
     → IfOk result (λ done. AreComplete r × FlowsOk r.attributes)
 flows_also r parts start (Ok done) same is complete flows = (
-  subst (λ (s : Option ℕ). CompleteOk r.attributes s None) is (subst (λ (q : ResolvedParts). CompleteOk q.attributes start None) same complete),
+  subst (λ (s : Option ℕ). CompleteOk r.attributes s None) is
+      (subst (λ (q : ResolvedParts). CompleteOk q.attributes start None) same complete),
   subst (λ (q : ResolvedParts). FlowsOk q.attributes) same flows,
 )
 flows_also r parts start (Err refusal) same is complete flows = tt
@@ -52,7 +52,8 @@ pub flow_refused : (r parts : ResolvedParts) (start : Option ℕ) {X : Type 0} (
 flow_refused r parts start (Ok done) same is complete refused = tt
 flow_refused r parts start (Err refusal) same is complete refused =
     inr (
-      subst (λ (s : Option ℕ). CompleteOk r.attributes s None) is (subst (λ (q : ResolvedParts). CompleteOk q.attributes start None) same complete),
+      subst (λ (s : Option ℕ). CompleteOk r.attributes s None) is
+          (subst (λ (q : ResolvedParts). CompleteOk q.attributes start None) same complete),
       subst (λ (q : ResolvedParts). IsTrueFlowRefusal q.attributes refusal) same refused,
     )
 
@@ -92,10 +93,8 @@ certified r operations alone kinds is complete flows = record {
 
 -- what is kept of it, with copies
 pub kept_of : (r copied : ResolvedParts) (operations kept : List OperationSignature) (parts : HostParts) → copied ≡ r → kept ≡ operations
-    → IsCertifiedValue r operations → ((g : GrammarView) → r.grammar ≡ Some g → AreHostParts r g parts)
+    → IsCertified (record { resolved = r; parts = parts; operations = operations })
     → IsCertified (record { resolved = copied; parts = parts; operations = kept })
-kept_of r copied operations kept parts same also is of_grammar = record {
-  certified = subst (λ (q : ResolvedParts). IsCertifiedValue q kept) (sym same)
-      (subst (λ (os : List OperationSignature). IsCertifiedValue r os) (sym also) is);
-  parts = subst (λ (q : ResolvedParts). (g : GrammarView) → q.grammar ≡ Some g → AreHostParts q g parts) (sym same) of_grammar;
-}
+kept_of r copied operations kept parts same also is =
+    subst (λ (q : ResolvedParts). IsCertified (record { resolved = q; parts = parts; operations = kept })) (sym same)
+    (subst (λ (os : List OperationSignature). IsCertified (record { resolved = r; parts = parts; operations = os })) (sym also) is)

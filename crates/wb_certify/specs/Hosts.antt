@@ -6,6 +6,7 @@ use Rattle.wb_determinism.specs.Hosts.{IsDeterministicHost, AreHostParts}
 use Rattle.wb_determinism.specs.declared.parts.HostParts.{HostParts}
 use Rattle.wb_names.specs.Resolving.{ResolvesHost}
 use Rattle.wb_operations.specs.Operations.{OperationSignature}
+use Rattle.wb_resolved.specs.Resolved.{IsResolved}
 use Rattle.wb_resolved.specs.declared.resolved.ResolvedParts.{ResolvedParts}
 use Rattle.wb_syntax.specs.SpecText.{SpecView}
 use Rattle.wb_types.specs.Rules.{KindsOk}
@@ -26,8 +27,9 @@ pub record CertifiedView : Type 0 where
   pub parts : HostParts
   pub operations : List OperationSignature
 
--- the host is certified over these operations, and the parts are those of its grammar
+-- the host is one by numbers, is certified over these operations, and the parts are those of its grammar
 pub record IsCertified (h : CertifiedView) : Type 0 where
+  pub whole : IsResolved h.resolved
   pub certified : IsCertifiedValue h.resolved h.operations
   pub parts : (g : GrammarView) → h.resolved.grammar ≡ Some g → AreHostParts h.resolved g h.parts
 

@@ -58,7 +58,8 @@ start_of r = option_map (λ (g : GrammarView). g.start) r.grammar
 -- attributes aren't complete, or are and don't keep to their flow types, for this reason
 abbrev pub IsAttributeRefusal : ResolvedParts → Option ℕ → AttributeRefusal → Type 0
 IsAttributeRefusal r start refusal =
-    IsTrueCompletenessRefusal r.attributes start None refusal ⊎ (CompleteOk r.attributes start None × IsTrueFlowRefusal r.attributes refusal)
+    IsTrueCompletenessRefusal r.attributes start None refusal
+    ⊎ (CompleteOk r.attributes start None × IsTrueFlowRefusal r.attributes refusal)
 
 -- expressions are of their kinds, the host is deterministic, and its attributes aren't well defined for this reason
 pub record AreNotWellDefined (r : ResolvedParts) (operations : List OperationSignature) (refusal : AttributeRefusal) : Type 0 where

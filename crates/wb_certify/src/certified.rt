@@ -3,7 +3,7 @@
 ghost use Rattle.std.specs.Prelude.{◌≡◌, Some};
 ghost use Rattle.wb_base.specs.Grammar.{GrammarView};
 ghost use Rattle.wb_determinism.specs.Hosts.{AreHostParts};
-ghost use Rattle.wb_certify.specs.Hosts.{IsCertifiedValue};
+ghost use Rattle.wb_certify.specs.Hosts.{IsCertified, IsCertifiedValue};
 
 use std::marker::Model;
 use wb_determinism::HostParts;
@@ -54,6 +54,7 @@ impl CertifiedHost {
     pub fn parts(&self) -> &HostParts
         ensures parts { result.now ≡ self.now.parts }
         ensures of_grammar { (g : GrammarView) → self.now.resolved.grammar ≡ Some g → AreHostParts self.now.resolved g self.now.parts }
+        ensures certified { IsCertified self.now }
     {
         &self.parts
     }
@@ -67,14 +68,7 @@ impl CertifiedHost {
 
     /// Lets go of the host. A crate that calls this proves no drop of what it holds.
     pub fn release(self) {
-        let CertifiedHost {
-            resolved,
-            parts,
-            operations,
-        } = self;
-        resolved.release();
-        parts.release();
-        operations.release();
+        drop(self);
     }
 }
 
@@ -87,7 +81,7 @@ impl Drop for CertifiedHost {
             operations,
         } = self;
         drop(resolved);
-        drop(parts);
+        parts.release();
         drop(operations);
     }
 }

@@ -12,5 +12,5 @@ mod well_defined;
 pub use certified::CertifiedHost;
 pub use host::certify_host;
 pub use refusal::CertifyRefusal;
-pub use value::certify_resolved;
+pub use value::{certify_resolved, start};
 pub use well_defined::check_well_defined;

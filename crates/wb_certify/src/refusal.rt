@@ -9,7 +9,6 @@ use wb_types::TypeRefusal;
 /// Why a specification isn't certified: the first rule that fails. Which of several examples is shown is left open.
 ///
 /// Want of memory is never inside another reason.
-#[derive(Drop)]
 pub enum CertifyRefusal {
     /// A rule of names fails.
     Names(NameRefusal),
@@ -39,12 +38,20 @@ impl From<AllocError> for CertifyRefusal {
 impl CertifyRefusal {
     /// Lets go of the refusal. A crate that calls this proves no drop of what it holds.
     pub fn release(self) {
+        drop(self);
+    }
+}
+
+// By hand, so that no crate above proves how the parts are dropped.
+impl Drop for CertifyRefusal {
+    fn drop(self) {
         match self {
             CertifyRefusal::Names(refusal) => refusal.release(),
             CertifyRefusal::Types(refusal) => refusal.release(),
-            CertifyRefusal::Determinism(refusal) => refusal.release(),
+            CertifyRefusal::NoStart => {}
+            CertifyRefusal::Determinism(refusal) => drop(refusal),
             CertifyRefusal::Attributes(refusal) => refusal.release(),
-            CertifyRefusal::NoStart | CertifyRefusal::NoMemory(_) => {}
+            CertifyRefusal::NoMemory(_) => {}
         }
     }
 }

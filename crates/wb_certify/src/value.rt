@@ -1,16 +1,14 @@
 //! Is a resolved host certified? Each test after names, in the order in which refusals are reported.
 
-ghost use Rattle.std.specs.Prelude.{◌≡◌, [], IfErr, IfOk, None, Some};
-ghost use Rattle.wb_base.specs.Grammar.{GrammarView};
-ghost use Rattle.wb_determinism.specs.Hosts.{AreHostParts};
+ghost use Rattle.std.specs.Prelude.{◌≡◌, [], IfErr, IfOk, None};
 ghost use Rattle.wb_flow.specs.Refusals.{FlowsOk};
 ghost use Rattle.wb_types.specs.Rules.{KindsOk};
-ghost use Rattle.wb_certify.specs.Hosts.{IsCertifiedValue};
-ghost use Rattle.wb_certify.specs.Refusals.{IsAttributeRefusal, IsDeterministic, IsValueRefusal, start_of};
-ghost use Rattle.wb_certify.specs.Inner.Tests.{AreComplete, IsAttributesRefusal, IsKindRefusal};
+ghost use Rattle.wb_certify.specs.Hosts.{IsCertified, IsCertifiedValue};
+ghost use Rattle.wb_certify.specs.Refusals.{IsAttributeRefusal, IsValueRefusal, start_of};
+ghost use Rattle.wb_certify.specs.Inner.Tests.{AreComplete, IsAttributesRefusal, IsFound, IsGrammarRefusal, IsKindRefusal};
 
 use crate::{CertifiedHost, CertifyRefusal};
-use std::alloc::Global;
+use std::alloc::{AllocError, Global};
 use wb_base::Sequence;
 use wb_complete::check_complete;
 use wb_determinism::{DeterminismRefusal, HostParts, host_determinism, pairs_of};
@@ -22,8 +20,9 @@ use wb_types::{TypeRefusal, check_types};
 
 /// A resolved host as a certified one over a table of operations, or the first rule that fails.
 ///
-/// It has no extension: an extension is certified with its host by other rules. Rules of names don't come, since they hold. Others go by rule, each on the whole host: kinds, then preferences, a start, the grammar and
-/// the scanner, and attributes at last. No clause bounds the time.
+/// It has no extension: an extension is certified with its host by other rules. Rules of names don't come, since they hold. Others go by
+/// rule, each on the whole host: kinds, then preferences, a start, the grammar and the scanner, and attributes at last. No clause bounds
+/// the time.
 pub fn certify_resolved<M: Meaning>(
     alloc: Global,
     resolved: &Resolved,
@@ -64,12 +63,11 @@ fn certified_parts<M: Meaning>(
     operations: &OperationTable<M>,
 ) -> Result<HostParts, CertifyRefusal>
     requires { resolved.now.attributes.extensions ≡ [] }
-    ensures certified { IfOk result (λ parts. IsCertifiedValue resolved.now operations.now.signatures) }
-    ensures parts { IfOk result (λ parts. (g : GrammarView) → resolved.now.grammar ≡ Some g → AreHostParts resolved.now g parts) }
+    ensures certified { IfOk result (λ parts. IsCertified (record { resolved = resolved.now; parts = parts; operations = operations.now.signatures })) }
     ensures refused { IfErr result (IsValueRefusal resolved.now operations.now.signatures) }
 {
     check_kinds(alloc, resolved, operations)?;
-    let parts = determinism_of(alloc, resolved, operations)?;
+    let parts = determinism_of(alloc, resolved)?;
     match check_attributes(alloc, resolved) {
         Ok(()) => Ok(parts),
         Err(refusal) => {
@@ -96,35 +94,24 @@ pub(crate) fn check_kinds<M: Meaning>(
 }
 
 // What is made of a deterministic host.
-fn determinism_of<M: Meaning>(
-    alloc: Global,
-    resolved: &Resolved,
-    operations: &OperationTable<M>,
-) -> Result<HostParts, CertifyRefusal>
-    requires { KindsOk resolved.now.attributes operations.now.signatures }
-    ensures ok { IfOk result (λ parts. IsDeterministic resolved.now) }
-    ensures parts { IfOk result (λ parts. (g : GrammarView) → resolved.now.grammar ≡ Some g → AreHostParts resolved.now g parts) }
-    ensures refused { IfErr result (IsValueRefusal resolved.now operations.now.signatures) }
+fn determinism_of(alloc: Global, resolved: &Resolved) -> Result<HostParts, CertifyRefusal>
+    ensures ok { IfOk result (IsFound resolved.now) }
+    ensures refused { IfErr result (IsGrammarRefusal resolved.now) }
 {
     if resolved.parts().grammar.is_none() {
-        return Err(without_start(alloc, resolved, operations));
+        return Err(without_start(alloc, resolved));
     }
     match host_determinism(alloc, resolved) {
         Ok(parts) => Ok(parts),
-        Err(DeterminismRefusal::NoMemory(error)) => Err(CertifyRefusal::NoMemory(error)),
+        Err(DeterminismRefusal::NoMemory(..)) => Err(CertifyRefusal::NoMemory(AllocError)),
         Err(refusal) => Err(CertifyRefusal::Determinism(refusal)),
     }
 }
 
 // Why a host without a start isn't certified.
-fn without_start<M: Meaning>(
-    alloc: Global,
-    resolved: &Resolved,
-    operations: &OperationTable<M>,
-) -> CertifyRefusal
-    requires kinds { KindsOk resolved.now.attributes operations.now.signatures }
-    requires none { resolved.now.grammar ≡ None }
-    ensures { IsValueRefusal resolved.now operations.now.signatures result }
+fn without_start(alloc: Global, resolved: &Resolved) -> CertifyRefusal
+    requires { resolved.now.grammar ≡ None }
+    ensures { IsGrammarRefusal resolved.now result }
 {
     let parts = resolved.parts();
     let pairs = match pairs_of(alloc, parts.preferences.as_slice()) {
@@ -164,8 +151,8 @@ fn attribute_refusal(alloc: Global, resolved: &Resolved) -> Result<(), Attribute
     check_flow(alloc, &parts.attributes)
 }
 
-// The start of a resolved specification.
-fn start(resolved: &Resolved) -> Option<usize>
+/// The start of a resolved specification, where it has one. Takes no memory.
+pub fn start(resolved: &Resolved) -> Option<usize>
     ensures { result ≡ start_of resolved.now }
 {
     match &resolved.parts().grammar {

@@ -1,10 +1,15 @@
 -- What each private test of a host tells.
-use Rattle.std.specs.Prelude.{None, List}
+use Rattle.std.specs.Prelude.{◌≡◌, Some, None, List}
+use Rattle.wb_base.specs.Grammar.{GrammarView}
 use Rattle.wb_complete.specs.Refusals.{CompleteOk}
+use Rattle.wb_determinism.specs.Hosts.{AreAcyclic, AreHostParts}
+use Rattle.wb_determinism.specs.Refusals.{IsNoMemory}
+use Rattle.wb_determinism.specs.declared.parts.HostParts.{HostParts}
 use Rattle.wb_operations.specs.Operations.{OperationSignature}
+use Rattle.wb_resolved.specs.Resolved.{IsResolved}
 use Rattle.wb_resolved.specs.declared.resolved.ResolvedParts.{ResolvedParts}
 use Rattle.wb_types.specs.Refusals.{IsTrueRefusal}
-use Rattle.wb_certify.specs.Refusals.{IsAttributeMemory, IsAttributeRefusal, IsTypeMemory, start_of}
+use Rattle.wb_certify.specs.Refusals.{IsAttributeMemory, IsAttributeRefusal, IsDeterminismOf, IsDeterministic, IsTypeMemory, start_of}
 use Rattle.wb_certify.specs.declared.refusal.CertifyRefusal.{CertifyRefusal}
 use Rattle.wb_certify.specs.declared.refusal.CertifyRefusal.TheVariants as c
 
@@ -12,11 +17,25 @@ use Rattle.wb_certify.specs.declared.refusal.CertifyRefusal.TheVariants as c
 abbrev pub AreComplete : ResolvedParts → Type 0
 AreComplete r = CompleteOk r.attributes (start_of r) None
 
+-- the host is deterministic, and these parts are those of its grammar
+pub record IsFound (r : ResolvedParts) (parts : HostParts) : Type 0 where
+  pub whole : IsResolved r
+  pub deterministic : IsDeterministic r
+  pub of_grammar : (g : GrammarView) → r.grammar ≡ Some g → AreHostParts r g parts
+
 -- a rule of kinds fails for this reason; want of memory says nothing and is in no other reason
 abbrev pub IsKindRefusal : ResolvedParts → List OperationSignature → CertifyRefusal → Type 0
 IsKindRefusal r operations (c.Types refusal) = IsTrueRefusal r.attributes operations refusal × ¬ IsTypeMemory refusal
 IsKindRefusal r operations (c.NoMemory error) = Unit {0}
 IsKindRefusal r operations other = ⊥
+
+-- a rule of preferences, of the start, of the grammar or of the scanner fails for this reason; want of memory says nothing and is in no
+-- other reason
+abbrev pub IsGrammarRefusal : ResolvedParts → CertifyRefusal → Type 0
+IsGrammarRefusal r c.NoStart = AreAcyclic r × (r.grammar ≡ None)
+IsGrammarRefusal r (c.Determinism refusal) = IsDeterminismOf r r.grammar refusal × ¬ IsNoMemory refusal
+IsGrammarRefusal r (c.NoMemory error) = Unit {0}
+IsGrammarRefusal r other = ⊥
 
 -- a rule of attributes fails for this reason; want of memory says nothing and is in no other reason
 abbrev pub IsAttributesRefusal : ResolvedParts → CertifyRefusal → Type 0
