@@ -32,8 +32,8 @@ pub(crate) fn has_kind(
 {
     let mut kinds = Vec::new(alloc);
     'nodes: for place in 0..nodes.len() {
-        let kind = kind_of(context, &nodes[place], &kinds);
-        push(&mut kinds, kind)?;
+        let found = kind_of(context, &nodes[place], &kinds);
+        push(&mut kinds, found)?;
     }
     Ok(is_at(&kinds, nodes.len() - 1, kind))
 }

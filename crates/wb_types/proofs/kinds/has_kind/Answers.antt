@@ -23,13 +23,13 @@ nodes-preserved c =
       is = λ default. get_or_default nodes place default node c.nodes-test.true ∙ sym c.index-nodes-place.is;
     } in
     let exact = λ (is : Kind). subst (λ (ks : List (Option Kind)).
-    (c.kind_of-kind.result ≡ Some is) ↔ NodeHasKind a operations production ks node is)
-    c.deref.ensures.value (c.kind_of-kind.ensures is) in
-    let more = kept_more a operations production nodes kinds place node c.kind_of-kind.result
+    (c.kind_of-found.result ≡ Some is) ↔ NodeHasKind a operations production ks node is)
+    c.deref.ensures.value (c.kind_of-found.ensures is) in
+    let more = kept_more a operations production nodes kinds place node c.kind_of-found.result
     (whole_has_parts_before nodes c.requires) len kept has exact in
     subst (λ (ks : List (Option Kind)). (length ks ≡ place + 1) × AreKept a operations production nodes ks (place + 1))
     (sym c.in_ok-push.ensures.ok)
-    (omega (arith, length-append kinds (c.kind_of-kind.result ∷ []), len), more)
+    (omega (arith, length-append kinds (c.kind_of-found.result ∷ []), len), more)
 
 pub overflow_sub-nodes : goal.overflow_sub-nodes
 overflow_sub-nodes c = whole_some c.args.nodes.now c.requires
