@@ -22,8 +22,8 @@ use Rattle.wb_evaluator.specs.declared.evaluated.Evaluated.TheVariants as evalua
 use Rattle.wb_evaluator.specs.declared.machine.Key.{Key}
 use Rattle.wb_evaluator.specs.declared.machine.Machine.{Machine}
 use Rattle.wb_evaluator.specs.Evaluates.{IsValue, IsFault, AsksMore}
-use Rattle.wb_evaluator.specs.Inner.Answering.{GoesOn, IsAnswered, IsTurned, IsLeftWith, IsEnteredWithin}
-use Rattle.wb_evaluator.specs.Inner.Machines.{IsMachine, IsBlank, IsSame, Runs, Wants}
+use Rattle.wb_evaluator.specs.Inner.Answering.{turns_left, GoesOn, IsAnswered, IsTurned, IsLeftWith}
+use Rattle.wb_evaluator.specs.Inner.Machines.{IsMachine, IsBlank, IsSame, HasMore, Runs, Wants}
 use Rattle.wb_evaluator.specs.Inner.State.{IsState, start}
 use Rattle.wb_evaluator.specs.Inner.Works.{IsExtended}
 
@@ -92,77 +92,50 @@ answered_as {a} {operations} {trees} m id y steps e blank h =
     subst (λ (z : ℕ). IsAnswered a operations trees id z steps e) blank.attribute_is
     (subst (λ (i : TreeId). IsAnswered a operations trees i m.attribute steps e) blank.root_is h)
 
-pub answered_same : (a : AttributionParts) (operations : Operations) (trees : List Tree) (old m : Machine) (steps : ℕ) (e : Evaluated)
-    → IsSame old m → IsAnswered a operations trees m.root m.attribute steps e → IsAnswered a operations trees old.root old.attribute steps e
-answered_same a operations trees old m steps e same h = answered_before a operations trees old m steps e same.root same.attribute h
+-- as much is left to do at a machine with the same instances
+pub turns_same : (steps : ℕ) (old m : Machine) → IsSame old m → turns_left steps m ≡ turns_left steps old
+turns_same steps old m same =
+    ap (λ (n : ℕ). 2 * (steps - n) + length m.stack.items) same.entered ∙ ap (λ s. 2 * (steps - old.entered) + length s.items) same.stack
 
--- after an instance is left
-pub goes_left : (a : AttributionParts) (operations : Operations) (trees : List Tree) (old m new : Machine) (steps : ℕ) → IsSame old m
-    → IsMachine a operations trees new → new.root ≡ m.root → new.attribute ≡ m.attribute → new.entered ≡ m.entered
-    → suc (length new.stack.items) ≡ length m.stack.items → old.entered ≤ steps → GoesOn a operations trees old new steps
-goes_left a operations trees old m new steps same whole root attribute count_is stack le =
-    let counts : m.entered ≡ old.entered = same.entered in
-    let stacks : length m.stack.items ≡ length old.stack.items = ap (λ s. length s.items) same.stack in
-    let total : new.entered ≡ old.entered = count_is ∙ counts in
-    record {
-      whole = whole;
-      root = root ∙ same.root;
-      attribute = attribute ∙ same.attribute;
-      within = omega (arith, total, le);
-      less = let d : steps - new.entered ≡ steps - old.entered = ap (λ n. steps - n) total in
-          let h = ap (λ n. 2 * n) d in omega (arith, h, stack, stacks);
-    }
+module _ (a : AttributionParts) (operations : Operations) (trees : List Tree) (m new : Machine) (steps : ℕ) where
+  -- after an instance is left
+  goes_left : IsMachine a operations trees new → new.root ≡ m.root → new.attribute ≡ m.attribute → new.entered ≡ m.entered
+      → suc (length new.stack.items) ≡ length m.stack.items → m.entered ≤ steps → GoesOn a operations trees m new steps
+  goes_left whole root attribute count_is stack le = record {
+    whole = whole;
+    root = root;
+    attribute = attribute;
+    within = omega (arith, count_is, le);
+    less = let d : steps - new.entered ≡ steps - m.entered = ap (λ n. steps - n) count_is in
+        let h = ap (λ n. 2 * n) d in omega (arith, h, stack);
+  }
 
--- after one is entered
-pub goes_entered : (a : AttributionParts) (operations : Operations) (trees : List Tree) (old m new : Machine) (steps : ℕ) → IsSame old m
-    → IsMachine a operations trees new → new.root ≡ m.root → new.attribute ≡ m.attribute → new.entered ≡ m.entered + 1
-    → length new.stack.items ≡ suc (length m.stack.items) → m.entered < steps → GoesOn a operations trees old new steps
-goes_entered a operations trees old m new steps same whole root attribute count_is stack lt =
-    let counts : m.entered ≡ old.entered = same.entered in
-    let stacks : length m.stack.items ≡ length old.stack.items = ap (λ s. length s.items) same.stack in
-    record {
-      whole = whole;
-      root = root ∙ same.root;
-      attribute = attribute ∙ same.attribute;
-      within = omega (arith, count_is, lt);
-      less = omega (arith, counts, stacks, count_is, stack, lt);
-    }
+  -- after the instance at work has its value
+  pub left_turned : (v : Value) → m.entered ≤ steps → Runs a operations trees m (done (value (value_in trees v))) → IsIn (length trees) v
+      → (r : Option Evaluated) → IsLeftWith m new v r → IsTurned a operations trees m new steps r
+  left_turned v le runs inside None (popped, others) =
+      let some = stack_some runs.machine in
+      let b = back a operations trees m v runs inside new popped (omega (arith, some, others)) in
+      goes_left b.whole b.root b.attribute b.entered b.stack le
+  left_turned v le runs inside (Some e) (is, one) =
+      subst (IsAnswered a operations trees m.root m.attribute steps) (sym is)
+      (answers_value a operations trees m v steps runs inside one le)
 
--- a turn in which the instance at work has its value
-pub left_turned : (a : AttributionParts) (operations : Operations) (trees : List Tree) (old m new : Machine) (steps : ℕ) (v : Value)
-    → IsSame old m → old.entered ≤ steps → Runs a operations trees m (done (value (value_in trees v))) → IsIn (length trees) v
-    → (r : Option Evaluated) → IsLeftWith m new v r → IsTurned a operations trees old new steps r
-left_turned a operations trees old m new steps v same le runs inside None (popped, others) =
-    let some = stack_some runs.machine in
-    let b = back a operations trees m v runs inside new popped (omega (arith, some, others)) in
-    goes_left a operations trees old m new steps same b.whole b.root b.attribute b.entered b.stack le
-left_turned a operations trees old m new steps v same le runs inside (Some e) (is, one) =
-    let counts = same.entered in
-    subst (IsAnswered a operations trees old.root old.attribute steps) (sym is)
-    (answered_same a operations trees old m steps (evaluated.Value v) same
-    (answers_value a operations trees m v steps runs inside one (omega (arith, counts, le))))
-
--- one in which it has a fault
-pub fault_turned : (a : AttributionParts) (operations : Operations) (trees : List Tree) (old m : Machine) (steps operation code : ℕ)
-    → IsSame old m → old.entered ≤ steps → Runs a operations trees m (done (fault operation code))
-    → IsAnswered a operations trees old.root old.attribute steps (evaluated.Fault operation code)
-fault_turned a operations trees old m steps operation code same le runs =
-    let counts = same.entered in
-    answered_same a operations trees old m steps (evaluated.Fault operation code) same
-    (answers_fault a operations trees m operation code steps runs (omega (arith, counts, le)))
-
--- one in which it reads an instance that wasn't entered
-pub entered_turned : (a : AttributionParts) (operations : Operations) (trees : List Tree) (old m new : Machine) (steps : ℕ) (k : Key)
-    → IsSame old m → Wants a operations trees m k
-    → (r : Option Evaluated) → IsEnteredWithin m new k steps r → IsTurned a operations trees old new steps r
-entered_turned a operations trees old m new steps k same wants None (h, lt) =
-    let whole = entered a operations trees m k new wants h.memo h.root h.attribute h.stack h.entered h.frames h.piled in
-    let count = length-append m.stack.items (k ∷ []) in
-    let more = ap length h.stack in
-    goes_entered a operations trees old m new steps same whole h.root h.attribute h.entered (omega (arith, count, more)) lt
-entered_turned a operations trees old m new steps k same wants (Some e) (is, le) =
-    subst (IsAnswered a operations trees old.root old.attribute steps) (sym is)
-    (answered_same a operations trees old m steps evaluated.MoreSteps same (answers_more a operations trees m k steps wants le))
+  -- after one is entered that it reads
+  pub entered_turned : (k : Key) → Wants a operations trees m k → HasMore m new k → m.entered < steps
+      → GoesOn a operations trees m new steps
+  entered_turned k wants h lt =
+      let whole = entered a operations trees m k new wants h.memo h.root h.attribute h.stack h.entered h.frames h.piled in
+      let count = length-append m.stack.items (k ∷ []) in
+      let more = ap length h.stack in
+      let count_is = h.entered in
+      record {
+        whole = whole;
+        root = h.root;
+        attribute = h.attribute;
+        within = omega (arith, count_is, lt);
+        less = omega (arith, count_is, count, more, lt);
+      }
 
 -- the tree of the root in a store with more
 pub root_extended : (first second : List Tree) (id : ℕ) → IsExtended first second → id < length first → tree_in second id ≡ tree_in first id

@@ -5,9 +5,18 @@ pub mod FrameLemmas
 pub mod RunLemmas
 pub mod StackLemmas
 pub mod VisitLemmas
+pub mod BelowLemmas
+pub mod PartVisitLemmas
 pub mod DoneLemmas
+pub mod LabelDoneLemmas
+pub mod ReadDoneLemmas
+pub mod PartDoneLemmas
+pub mod NumberLemmas
+pub mod SteadyLemmas
 pub mod TreeTaskLemmas
 pub mod CallTaskLemmas
+pub mod ChoiceTaskLemmas
+pub mod PlainLemmas
 pub mod PerformLemmas
 pub mod StepLemmas
 pub mod LeaveLemmas
@@ -16,6 +25,8 @@ pub mod HomeLemmas
 pub mod StartLemmas
 pub mod ForwardLemmas
 pub mod PileLemmas
+pub mod MoveLemmas
+pub mod WaitLemmas
 pub mod ParkLemmas
 pub mod ReachedLemmas
 pub mod BackLemmas

@@ -1,5 +1,5 @@
 -- An expression that waits is kept with its instance, and taken when that is at work again.
-use Rattle.std.proofs.Common.{◌≡◌, ◌≢◌, ◌∙◌, ◌<◌, ◌-◌, ℕ, List, Some, None, length, refl, sym, ap, subst, arith, slice_get}
+use Rattle.std.proofs.Common.{◌≡◌, ◌∙◌, ◌<◌, ◌-◌, ℕ, List, Some, None, length, sym, ap, subst, arith, slice_get}
 use Rattle.std.specs.List.{slice_set}
 use Rattle.std.proofs.lemmas.Option.{same_Some}
 use Rattle.wb_lemmas.proofs.Places.{at_within}
@@ -12,22 +12,19 @@ use Rattle.wb_values.specs.ValuesIn.{tree_in}
 use Rattle.wb_evaluation.specs.Instances.{Instance}
 use Rattle.wb_evaluator.proofs.FrameLemmas.{frames_set}
 use Rattle.wb_evaluator.proofs.LeaveLemmas.{key_here}
-use Rattle.wb_evaluator.proofs.PileLemmas.{waits_length}
+use Rattle.wb_evaluator.proofs.WaitLemmas.{waits_length}
 use Rattle.wb_evaluator.proofs.StartLemmas.{stack_some}
 use Rattle.wb_evaluator.specs.Inner.Jobs.{stack_of}
 use Rattle.wb_evaluator.specs.Inner.Machines.{named, IsSuspended, AreSuspended, IsMachine, Wants, with_frames}
 use Rattle.wb_memo.specs.Memos.{path_in}
-use Rattle.wb_evaluator.specs.Inner.Piles.{Wait, wait, waits, IsPiled, HasNoFrame}
+use Rattle.wb_evaluator.specs.Inner.Piles.{Wait, wait, waits, IsPiled}
 use Rattle.wb_evaluator.specs.Inner.State.{HasCome}
 use Rattle.wb_evaluator.specs.Inner.Tasks.{resume}
-use Rattle.wb_evaluator.specs.Inner.Works.{IsEvaluating, Parks, IsRan, IsRanAt}
+use Rattle.wb_evaluator.specs.Inner.Works.{IsEvaluating, Parks}
 use Rattle.wb_evaluator.specs.declared.frames.Frames.{Frames}
 use Rattle.wb_evaluator.specs.declared.machine.Key.{Key}
 use Rattle.wb_evaluator.specs.declared.machine.Machine.{Machine}
-use Rattle.wb_evaluator.specs.declared.work.Ran.{Ran}
-use Rattle.wb_evaluator.specs.declared.work.Ran.TheVariants as ran
 use Rattle.wb_evaluator.specs.declared.work.Task.{Task}
-use Rattle.wb_evaluator.specs.declared.work.Work.{Work}
 
 module _ {a : AttributionParts} {operations : Operations} {trees : List Tree} {m : Machine} where
   -- a machine with other frames
@@ -137,11 +134,3 @@ module _ {a : AttributionParts} {operations : Operations} {trees : List Tree} {m
       is_key = p.wants.is_key;
       fresh = p.wants.fresh;
     }
-
--- what an expression came to that waits for nothing
-pub settled : (a : AttributionParts) (operations : Operations) (trees : List Tree) (m : Machine) (site : ℕ) (nodes : List Node)
-    (work : Work) (r : Ran) → ((k : Key) → r ≢ ran.Needs k) → IsRanAt a operations trees m site nodes work r → HasNoFrame m.frames
-    → IsRan a operations trees m r
-settled a operations trees m site nodes work (ran.Value v) others (runs, inside) none = (runs, inside, none)
-settled a operations trees m site nodes work (ran.Fault operation code) others it none = it
-settled a operations trees m site nodes work (ran.Needs k) others it none = absurd (others k refl)

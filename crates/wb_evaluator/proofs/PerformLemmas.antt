@@ -1,6 +1,7 @@
 -- A task that was done: a tree was built, an operation called, or a branch chosen.
 use Rattle.std.proofs.Common.{◌≡◌, ◌∙◌, ◌≤◌, ◌<◌, ◌+◌, ◌-◌, ◌++◌, ◌∷◌, [], ℕ, inl, inr, true, false, List, Option, Some, None, length}
 use Rattle.std.proofs.Common.{take, slice_get, All, refl, sym, ap, subst, arith}
+use Rattle.std.specs.List.{slice_set}
 use Rattle.std.specs.Prelude.{option_to_list}
 use Rattle.wb_operations.specs.Given.{FitKinds, plains_of}
 use Rattle.wb_operations.specs.Operations.{OperationSignature, Operations}
@@ -11,13 +12,18 @@ use Rattle.wb_values.specs.declared.value.Value.TheVariants as stored
 use Rattle.wb_values.specs.Tree.{Tree}
 use Rattle.wb_values.specs.ValuesIn.{IsIn, last}
 use Rattle.wb_evaluation.specs.Walks.{done, fault}
-use Rattle.wb_evaluator.proofs.CallTaskLemmas.{call_ready, choice_ready, called, call_failed, chosen_after, choice_less, given_value}
-use Rattle.wb_evaluator.proofs.CallTaskLemmas.{given_fault}
-use Rattle.wb_evaluator.proofs.TreeTaskLemmas.{build_ready, built}
+use Rattle.wb_evaluator.proofs.CallTaskLemmas.{call_ready, called, call_failed}
+use Rattle.wb_evaluator.proofs.ChoiceTaskLemmas.{choice_ready, chosen_after, choice_less}
+use Rattle.wb_evaluator.proofs.PlainLemmas.{given_value, given_fault}
 use Rattle.wb_evaluator.proofs.DoneLemmas.{visit_within}
-use Rattle.wb_evaluator.specs.Inner.Machines.{Runs}
+use Rattle.wb_evaluator.proofs.TreeTaskLemmas.{build_ready, built}
+use Rattle.wb_evaluator.proofs.ParkLemmas.{parked}
+use Rattle.wb_evaluator.proofs.SteadyLemmas.{same_machine}
+use Rattle.wb_evaluator.specs.Inner.Machines.{Runs, with_frames}
+use Rattle.wb_evaluator.specs.Inner.Piles.{wait, waits, IsPiled}
 use Rattle.wb_evaluator.specs.Inner.Works.{task_size, left_to_do, IsEvaluating, IsOver, IsBuilt, IsChosen, IsCalled, HasTruth}
-use Rattle.wb_evaluator.specs.Inner.Works.{Parks, IsAfter, IsLess, IsDone}
+use Rattle.wb_evaluator.specs.Inner.Works.{Parks, IsAfter, IsLess, IsDone, HasRun}
+use Rattle.wb_evaluator.specs.declared.frames.Frames.{Frames}
 use Rattle.wb_evaluator.specs.declared.machine.Key.{Key}
 use Rattle.wb_evaluator.specs.declared.machine.Machine.{Machine}
 use Rattle.wb_evaluator.specs.declared.work.Ran.{Ran}
@@ -35,19 +41,20 @@ module _ (a : AttributionParts) (operations : Operations) (trees : List Tree) (m
   -- the work goes on, with these tasks and values
   goes_on : (trees' : List Tree) (ts : List Task) (vs : List Value) (before : ℕ) → IsEvaluating a operations trees' m site nodes ts vs
       → new.tasks.items ≡ ts → new.values.items ≡ vs → left_to_do nodes ts < before
-      → IsOver a operations trees' m site nodes new before None
+      → IsOver a operations trees' m m site nodes new before None
   goes_on trees' ts vs before it tasks values less = (
+    same_machine m,
     subst (λ (us : List Value). IsEvaluating a operations trees' m site nodes new.tasks.items us) (sym values)
         (subst (λ (us : List Task). IsEvaluating a operations trees' m site nodes us vs) (sym tasks) it),
     subst (λ (us : List Task). left_to_do nodes us < before) (sym tasks) less,
   )
 
   pub build_over : (p n : ℕ) → With (task.Build p n) → (trees' : List Tree) (r : Option Ran) → IsBuilt trees trees' old new p n r
-      → IsOver a operations trees' m site nodes new (left_to_do nodes old.tasks.items + task_size nodes (task.Build p n)) r
+      → IsOver a operations trees' m m site nodes new (left_to_do nodes old.tasks.items + task_size nodes (task.Build p n)) r
   build_over p n ev trees' r b =
       let before = left_to_do nodes old.tasks.items + task_size nodes (task.Build p n) in
       let it = built a operations trees m site nodes old.tasks.items old.values.items p n b.id ev b.id_is in
-      subst (IsOver a operations trees' m site nodes new before) (sym b.goes_on)
+      subst (IsOver a operations trees' m m site nodes new before) (sym b.goes_on)
       (goes_on trees' old.tasks.items _ before
       (subst (λ (ts : List Tree). IsEvaluating a operations ts m site nodes old.tasks.items
       (take (length old.values.items - n) old.values.items ++ stored.Tree b.id ∷ [])) (sym b.trees_are) it)
@@ -55,20 +62,20 @@ module _ (a : AttributionParts) (operations : Operations) (trees : List Tree) (m
 
   pub call_over : (number n : ℕ) → With (task.Call number n) → (r : Option Ran)
       → IsCalled (operations.meaning number (plains_of (last n old.values.items))) old new number n r
-      → IsOver a operations trees m site nodes new (left_to_do nodes old.tasks.items + task_size nodes (task.Call number n)) r
+      → IsOver a operations trees m m site nodes new (left_to_do nodes old.tasks.items + task_size nodes (task.Call number n)) r
   call_over number n ev None (w, gave, tasks, values) =
       let (p, means, plain_one) = given_value _ w gave in
       goes_on trees old.tasks.items _ _ (called a operations trees m site nodes old.tasks.items old.values.items number n w p ev means
       plain_one)
       (ap (λ ts. ts.items) tasks) values (omega arith)
   call_over number n ev (Some (ran.Fault operation code)) (same, gave) =
-      subst (λ (i : ℕ). Runs a operations trees m (done (fault i code))) (sym same)
-      (call_failed a operations trees m site nodes old.tasks.items old.values.items number n code ev (given_fault _ code gave))
+      let runs = call_failed a operations trees m site nodes old.tasks.items old.values.items number n code ev (given_fault _ code gave) in
+      ((same_machine m).same, subst (λ (i : ℕ). Runs a operations trees m (done (fault i code))) (sym same) runs)
   call_over number n ev (Some (ran.Value w)) never = absurd never
   call_over number n ev (Some (ran.Needs key)) never = absurd never
 
   pub choice_over : (h f : ℕ) → With (task.Choose h f) → (r : Option Ran) → IsChosen old new h f r
-      → IsOver a operations trees m site nodes new (left_to_do nodes old.tasks.items + task_size nodes (task.Choose h f)) r
+      → IsOver a operations trees m m site nodes new (left_to_do nodes old.tasks.items + task_size nodes (task.Choose h f)) r
   choice_over h f ev None (inl by) =
       goes_on trees _ _ _ ((chosen_after a operations trees m site nodes old.tasks.items old.values.items h f ev true by.is).0 refl)
       by.tasks by.values (choice_less nodes old.tasks.items h f h (inl refl))
@@ -102,7 +109,7 @@ module _ {a : AttributionParts} {operations : Operations} {trees : List Tree} {m
   module _ (new : Work) (r : Option Ran) where
     -- the work is over, or goes on with less than the task
     abbrev pub Over : List Tree → Task → Type 0
-    Over trees' u = IsOver a operations trees' m site nodes new (left_to_do nodes old.tasks.items + task_size nodes u) r
+    Over trees' u = IsOver a operations trees' m m site nodes new (left_to_do nodes old.tasks.items + task_size nodes u) r
 
     pub build_done : (p n : ℕ) → t ≡ task.Build p n → (trees' : List Tree) → IsBuilt trees trees' old new p n r → Over trees' t
     build_done p n is trees' it =
@@ -120,16 +127,27 @@ module _ {a : AttributionParts} {operations : Operations} {trees : List Tree} {m
 -- a visit that waits is left to do, and one that doesn't is done
 module _ {a : AttributionParts} {operations : Operations} {trees : List Tree} {m after : Machine} {site : ℕ} {nodes : List Node}
     (old mid : Work) (at : ℕ) (r : Option Key) (it : IsDone a operations trees m after site nodes old mid (task.Visit at) r) where
-  pub visit_waits : (new : Work) (key : Key) → r ≡ Some key → new.tasks.items ≡ mid.tasks.items ++ task.Visit at ∷ []
+  pub visit_parks : (new : Work) (key : Key) → r ≡ Some key → new.tasks.items ≡ mid.tasks.items ++ task.Visit at ∷ []
       → new.values ≡ mid.values → Parks a operations trees after site nodes new.tasks.items new.values.items key
-  visit_waits new key is tasks values =
+  visit_parks new key is tasks values =
       subst (λ vs. Parks a operations trees after site nodes new.tasks.items vs.items key) (sym values)
       (subst (λ (ts : List Task). Parks a operations trees after site nodes ts mid.values.items key) (sym tasks)
       (subst (IsAfter a operations trees after site nodes mid.tasks.items mid.values.items (task.Visit at)) is it.after_it))
 
-  pub visit_goes : r ≡ None → IsEvaluating a operations trees after site nodes mid.tasks.items mid.values.items
-      × (left_to_do nodes mid.tasks.items < left_to_do nodes old.tasks.items + task_size nodes (task.Visit at))
+  pub visit_waits : (new : Work) (key : Key) → Parks a operations trees after site nodes new.tasks.items new.values.items key
+      → (frames : Frames) → IsPiled frames
+      → waits frames ≡ slice_set (waits after.frames) (length after.frames.rows.items - 1)
+      (Some (wait site nodes new.tasks.items new.values.items))
+      → HasRun a operations trees m (with_frames after frames) (ran.Needs key)
+  visit_waits new key parks frames piled kept = (
+    record { root = it.same.same.root; attribute = it.same.same.attribute; stack = it.same.same.stack; entered = it.same.same.entered },
+    parked site nodes new.tasks.items new.values.items key parks frames piled kept,
+  )
+
+  pub visit_goes : r ≡ None
+      → IsOver a operations trees m after site nodes mid (left_to_do nodes old.tasks.items + task_size nodes (task.Visit at)) None
   visit_goes is = (
+    it.same,
     subst (IsAfter a operations trees after site nodes mid.tasks.items mid.values.items (task.Visit at)) is it.after_it,
     subst (IsLess (left_to_do nodes mid.tasks.items) (left_to_do nodes old.tasks.items + task_size nodes (task.Visit at))) is it.less,
   )

@@ -1,84 +1,20 @@
 -- How what is left of all expressions lies in two lists, as the last is kept or taken away.
-use Rattle.std.proofs.Common.{◌≡◌, ◌∙◌, ◌≤◌, ◌<◌, ◌+◌, ◌-◌, ◌++◌, ℕ, suc, List, [], ◌∷◌, Option, Some, None, length, refl, sym, ap}
-use Rattle.std.proofs.Common.{subst, arith}
-use Rattle.std.proofs.Common.{slice_get, take, drop, append-nil, append_assoc, reverse}
+use Rattle.std.proofs.Common.{◌≡◌, ◌∙◌, ◌≤◌, ◌<◌, ◌+◌, ◌-◌, ◌++◌, ℕ, List, [], ◌∷◌, Option, Some, None, length, sym, ap, subst, arith}
+use Rattle.std.proofs.Common.{slice_get, take, drop, reverse}
 use Rattle.std.specs.List.{slice_set}
-use Rattle.std.proofs.lemmas.List.{length-append, length-take-le, length-drop, take-append-drop, take-append-le, drop-append-le}
-use Rattle.std.proofs.lemmas.List.{take_all, take_at, drop_at, reverse-append, reverse-reverse, length-reverse, length-set}
+use Rattle.std.proofs.lemmas.List.{length-append, length-take-le, length-drop, take-append-drop, take_all, take_at, reverse-reverse}
+use Rattle.std.proofs.lemmas.List.{length-reverse, length-set}
 use Rattle.std.proofs.lemmas.Option.{same_Some}
 use Rattle.wb_lemmas.proofs.Places.{push_last}
 use Rattle.wb_values.specs.declared.value.Value.{Value}
 use Rattle.wb_evaluator.proofs.FrameLemmas.{set_here}
 use Rattle.wb_evaluator.proofs.StepLemmas.{last_key}
-use Rattle.wb_evaluator.specs.Inner.Piles.{Wait, wait, tasks_in, values_in, wait_of, waits_in, waits, IsPiled, IsTaken, IsMoved}
+use Rattle.wb_evaluator.specs.Inner.Piles.{Wait, wait, tasks_in, values_in, wait_of, waits_in, waits, IsPiled, IsTaken}
 use Rattle.wb_evaluator.specs.declared.frames.Frame.{Frame}
 use Rattle.wb_evaluator.specs.declared.frames.Frames.{Frames}
 use Rattle.wb_evaluator.specs.declared.work.Task.{Task}
 use Rattle.wb_evaluator.specs.declared.work.Work.{Work}
-
--- the last of a list
-set_last : {X : Type 0} (front : List X) (x y : X) → slice_set (front ++ x ∷ []) (length front) y ≡ front ++ y ∷ []
-set_last [] x y = refl
-set_last (z ∷ front) x y = ap (λ l. z ∷ l) (set_last front x y)
-
--- as many as frames
-pub waits_length : (rows : List (Option Frame)) (ts : List Task) (vs : List Value) → length (waits_in rows ts vs) ≡ length rows
-waits_length [] ts vs = refl
-waits_length (None ∷ rows) ts vs = ap suc (waits_length rows ts vs)
-waits_length (Some f ∷ rows) ts vs = ap suc (waits_length rows (drop f.tasks ts) (drop f.values vs))
-
--- one without a frame is added
-pub waits_none : (rows : List (Option Frame)) (ts : List Task) (vs : List Value)
-    → waits_in (rows ++ None ∷ []) ts vs ≡ waits_in rows ts vs ++ None ∷ []
-waits_none [] ts vs = refl
-waits_none (None ∷ rows) ts vs = ap (λ (l : List (Option Wait)). None ∷ l) (waits_none rows ts vs)
-waits_none (Some f ∷ rows) ts vs = ap (λ l. Some (wait_of f ts vs) ∷ l) (waits_none rows (drop f.tasks ts) (drop f.values vs))
-
-pub tasks_none : (rows : List (Option Frame)) → tasks_in (rows ++ None ∷ []) ≡ tasks_in rows
-tasks_none [] = refl
-tasks_none (None ∷ rows) = tasks_none rows
-tasks_none (Some f ∷ rows) = ap (λ n. f.tasks + n) (tasks_none rows)
-
-pub values_none : (rows : List (Option Frame)) → values_in (rows ++ None ∷ []) ≡ values_in rows
-values_none [] = refl
-values_none (None ∷ rows) = values_none rows
-values_none (Some f ∷ rows) = ap (λ n. f.values + n) (values_none rows)
-
--- one with a frame is added
-tasks_some : (rows : List (Option Frame)) (f : Frame) → tasks_in (rows ++ Some f ∷ []) ≡ tasks_in rows + f.tasks
-tasks_some [] f = omega arith
-tasks_some (None ∷ rows) f = tasks_some rows f
-tasks_some (Some g ∷ rows) f = let h = tasks_some rows f in omega (arith, h)
-
-values_some : (rows : List (Option Frame)) (f : Frame) → values_in (rows ++ Some f ∷ []) ≡ values_in rows + f.values
-values_some [] f = omega arith
-values_some (None ∷ rows) f = values_some rows f
-values_some (Some g ∷ rows) f = let h = values_some rows f in omega (arith, h)
-
-no_length : {X : Type 0} (xs : List X) → 0 ≡ length xs → xs ≡ []
-no_length [] is = refl
-no_length (x ∷ xs) is = absurd (cc is)
-
-waits_some : (rows : List (Option Frame)) (f : Frame) (ts p : List Task) (vs q : List Value) → tasks_in rows ≡ length ts
-    → values_in rows ≡ length vs
-    → waits_in (rows ++ Some f ∷ []) (ts ++ p) (vs ++ q) ≡ waits_in rows ts vs ++ Some (wait_of f p q) ∷ []
-waits_some [] f ts p vs q tasks values =
-    ap (λ l. Some (wait_of f (l ++ p) (vs ++ q)) ∷ []) (no_length ts tasks)
-    ∙ ap (λ l. Some (wait_of f p (l ++ q)) ∷ []) (no_length vs values)
-waits_some (None ∷ rows) f ts p vs q tasks values = ap (λ (l : List (Option Wait)). None ∷ l) (waits_some rows f ts p vs q tasks values)
-waits_some (Some g ∷ rows) f ts p vs q tasks values =
-    let le : g.tasks ≤ length ts = omega (arith, tasks) in
-    let le' : g.values ≤ length vs = omega (arith, values) in
-    let t = length-drop g.tasks ts in
-    let v = length-drop g.values vs in
-    let head : wait_of g (ts ++ p) (vs ++ q) ≡ wait_of g ts vs =
-    ap (λ l. wait g.site g.nodes.now (reverse l) (reverse (take g.values (vs ++ q)))) (take-append-le g.tasks ts p le)
-    ∙ ap (λ l. wait g.site g.nodes.now (reverse (take g.tasks ts)) (reverse l)) (take-append-le g.values vs q le') in
-    ap (λ w. Some w ∷ waits_in (rows ++ Some f ∷ []) (drop g.tasks (ts ++ p)) (drop g.values (vs ++ q))) head
-    ∙ ap (λ l. Some (wait_of g ts vs) ∷ waits_in (rows ++ Some f ∷ []) l (drop g.values (vs ++ q))) (drop-append-le g.tasks ts p le)
-    ∙ ap (λ l. Some (wait_of g ts vs) ∷ waits_in (rows ++ Some f ∷ []) (drop g.tasks ts ++ p) l) (drop-append-le g.values vs q le')
-    ∙ ap (λ l. Some (wait_of g ts vs) ∷ l)
-    (waits_some rows f (drop g.tasks ts) p (drop g.values vs) q (omega (arith, tasks, t)) (omega (arith, values, v)))
+use Rattle.wb_evaluator.proofs.WaitLemmas.{set_last, waits_length, waits_none, tasks_none, values_none, tasks_some, values_some, waits_some}
 
 -- the last has a frame
 module _ (old : Frames) (piled : IsPiled old) (f : Frame) (at : slice_get old.rows.items (length old.rows.items - 1) ≡ Some (Some f)) where
@@ -287,37 +223,6 @@ entered_piled old new piled rows tasks values = (
       ∙ ap (λ l. waits_in old.rows.items l new.values.items ++ None ∷ []) tasks
       ∙ ap (λ l. waits_in old.rows.items old.tasks.items l ++ None ∷ []) values,
 )
-
--- nothing was moved yet
-pub unmoved : {X : Type 0} (start : ℕ) (from to : List X) → start ≤ length from → IsMoved start from from to to
-unmoved start from to le = record {
-  moved = [];
-  whole = sym (append-nil from);
-  gone = sym (append-nil to);
-  left = (length from - start, omega (arith, le));
-}
-
--- one more was moved
-pub moved_more : {X : Type 0} (start : ℕ) (old_from from next old_to to : List X) (x : X) → IsMoved start old_from from old_to to
-    → start < length from
-    → from ≡ next ++ x ∷ [] → IsMoved start old_from next old_to (to ++ x ∷ [])
-moved_more start old_from from next old_to to x m lt is = record {
-  moved = x ∷ m.moved;
-  whole = m.whole ∙ ap (λ l. l ++ m.moved) is ∙ append_assoc next (x ∷ []) m.moved;
-  gone = ap (λ l. l ++ x ∷ []) m.gone ∙ append_assoc old_to (reverse m.moved) (x ∷ [])
-      ∙ ap (λ l. old_to ++ l) (sym (reverse-append (x ∷ []) m.moved));
-  left = (length next - start, let l = ap length is in let a = length-append next (x ∷ []) in omega (arith, l, a, lt));
-}
-
--- all was moved
-pub moved_all : {X : Type 0} (start : ℕ) (old_from from old_to to : List X) → IsMoved start old_from from old_to to → length from ≤ start
-    → (from ≡ take start old_from) × (to ≡ old_to ++ reverse (drop start old_from))
-moved_all start old_from from old_to to m le =
-    let (rest, is) = m.left in
-    let same : length from ≡ start = omega (arith, is, le) in (
-      sym (take_at from m.moved start same) ∙ ap (take start) (sym m.whole),
-      m.gone ∙ ap (λ l. old_to ++ reverse l) (sym (drop_at from m.moved start same) ∙ ap (drop start) (sym m.whole)),
-    )
 
 some_before : (rows : List (Option Frame)) (x : Option Frame) → slice_get rows (length rows - 1) ≡ Some x → 0 < length rows
 some_before [] x at = absurd (cc at)

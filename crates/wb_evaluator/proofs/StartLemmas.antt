@@ -1,5 +1,6 @@
 -- How the work on an instance starts, by its key.
-use Rattle.std.proofs.Common.{subst, ◌≡◌, ◌≢◌, ◌∙◌, ◌≤◌, ◌<◌, ◌-◌, ℕ, List, [], ◌∷◌, Option, Some, None, length, refl, sym, ap, arith, slice_get}
+use Rattle.std.proofs.Common.{subst, ◌≡◌, ◌≢◌, ◌∙◌, ◌≤◌, ◌<◌, ◌-◌, ℕ, List, [], ◌∷◌, Option, Some, None, length, refl, sym, ap, arith}
+use Rattle.std.proofs.Common.{slice_get}
 use Rattle.std.proofs.Common.{get_or}
 use Rattle.wb_attributes.specs.Rules.{IsRule, HasRule}
 use Rattle.wb_attributes.specs.Vertices.{Made, child, made, local, forward, top_synthesized, inherited, tree_of}
@@ -19,7 +20,8 @@ use Rattle.wb_evaluator.proofs.LeaveLemmas.{named_length, key_here}
 use Rattle.wb_evaluator.specs.Inner.Machines.{tree_named, IsMachine, Wants}
 use Rattle.wb_memo.specs.Memos.{path_in}
 use Rattle.wb_memo.specs.Sites.{step_of}
-use Rattle.wb_evaluator.specs.Inner.Starts.{HasProduction, IsProductionAt, IsAtWork, IsStarting, IsAlone, IsForwarding, IsStart, IsNext, made_by}
+use Rattle.wb_evaluator.specs.Inner.Starts.{HasProduction, IsProductionAt, IsAtWork, IsStarting, IsAlone, IsForwarding, IsStart, IsNext}
+use Rattle.wb_evaluator.specs.Inner.Starts.{made_by}
 use Rattle.wb_evaluator.specs.declared.start.Start.{Start}
 use Rattle.wb_evaluator.specs.declared.start.Start.TheVariants as start
 use Rattle.wb_evaluator.specs.declared.work.Work.{Work}

@@ -1,78 +1,42 @@
--- Visits of nodes: of one without parts, its value is pushed or an instance is read; of another, its parts are visited first.
-use Rattle.std.proofs.Common.{◌≡◌, ◌∙◌, ◌⊎◌, ◌≤◌, ◌++◌, inl, inr, ℕ, suc, List, [], ◌∷◌, Option, Some, None, All, length, refl, sym, ap}
-use Rattle.std.proofs.Common.{subst, arith}
-use Rattle.std.proofs.Common.{slice_get}
-use Rattle.std.proofs.lemmas.Option.{same_Some}
+-- Visits of nodes without parts: a value is pushed, or an instance is read.
+use Rattle.std.proofs.Common.{◌≡◌, ◌⊎◌, ◌≤◌, ◌++◌, inl, inr, ℕ, List, [], ◌∷◌, Some, None, All, length, refl, sym, subst}
 use Rattle.std.proofs.lemmas.List.Elements.{All-push}
 use Rattle.wb_attributes.specs.Modular.{IsProduction}
-use Rattle.wb_attributes.specs.Vertices.{child}
 use Rattle.wb_base.specs.declared.symbol.Kind.{Kind}
-use Rattle.wb_base.specs.declared.symbol.Kind.TheVariants as kd
-use Rattle.wb_expressions.specs.Expression as x
-use Rattle.wb_expressions.specs.Expression.{size, size_of_all}
-use Rattle.wb_expressions.specs.Places.{Stands, AllStand}
-use Rattle.wb_operations.specs.Operations.{OperationSignature, Operations}
+use Rattle.wb_expressions.specs.Expression.{size}
+use Rattle.wb_expressions.specs.Places.{Stands}
+use Rattle.wb_operations.specs.Operations.{Operations}
 use Rattle.wb_resolved.specs.declared.attribution.AttributionParts.{AttributionParts}
 use Rattle.wb_resolved.specs.declared.production.Production.{Production}
-use Rattle.wb_resolved.specs.Expression.{Expression, Expressions, Node}
-use Rattle.wb_resolved.specs.Named.{IsNamedNode}
-use Rattle.wb_types.specs.Kinds.{HasKind, HaveKinds}
-use Rattle.wb_types.specs.Kinds as k
+use Rattle.wb_resolved.specs.Expression.{Expression, Node}
 use Rattle.wb_values.specs.declared.value.TreeId.{TreeId}
 use Rattle.wb_values.specs.declared.value.Value.{Value}
 use Rattle.wb_values.specs.Fits.{FitsValue}
 use Rattle.wb_values.specs.Tree.{Tree, Values, production_of, children_of}
 use Rattle.wb_values.specs.Tree as t
 use Rattle.wb_values.specs.ValuesIn.{tree_in, value_in, IsIn}
-use Rattle.wb_evaluation.proofs.AnswerLemmas.{one_node}
-use Rattle.wb_evaluation.proofs.DefinedLemmas.{kid_is_tree}
-use Rattle.wb_evaluation.proofs.ExpressionLemmas.{IsIn as IsPart, IsInOne}
+use Rattle.wb_evaluation.proofs.ExpressionLemmas.{IsIn as IsPart}
 use Rattle.wb_evaluation.proofs.KindLemmas.{node_fits, kinded}
 use Rattle.wb_evaluation.proofs.LawLemmas.{setting_of}
 use Rattle.wb_evaluation.proofs.ReadLemmas.{below_fits}
 use Rattle.wb_evaluation.proofs.Settings.{Setting}
 use Rattle.wb_evaluation.proofs.SoundLemmas.{Goes, stay, go, goes_done, Inside, at_read, at_fault, Sound, through}
-use Rattle.wb_evaluation.specs.Answers.{IsNodeAt, at_child}
-use Rattle.wb_evaluation.specs.Instances.{Path, down, synthesized_at}
-use Rattle.wb_evaluation.specs.Walks.{value, Walk, done, read, number_of, walk_expression, finish}
-use Rattle.wb_evaluator.proofs.RunLemmas.{reads_there, runs_on, value_known, not_entered, grown_runs, IsGiven}
-use Rattle.wb_evaluator.proofs.StackLemmas.{unstacked, stacked, visits_stacked, stack_push, count_stands}
-use Rattle.wb_evaluator.proofs.TaskLemmas.{visits, count, step_choice, step_build, step_call}
-use Rattle.wb_evaluator.specs.Inner.Machines.{HasTree, named, IsKey, known, IsNode, Runs, with_memo}
-use Rattle.wb_memo.specs.Memos.{path_in, IsWhole, IsGrown}
+use Rattle.wb_evaluation.specs.Answers.{IsNodeAt}
+use Rattle.wb_evaluation.specs.Instances.{Path}
+use Rattle.wb_evaluation.specs.Walks.{value, Walk, done, read, walk_expression, finish}
+use Rattle.wb_evaluator.proofs.RunLemmas.{runs_on, value_known, not_entered}
+use Rattle.wb_evaluator.proofs.StackLemmas.{unstacked, stacked, stack_push}
+use Rattle.wb_evaluator.specs.Inner.Machines.{HasTree, named, IsKey, known, Runs}
+use Rattle.wb_memo.specs.Memos.{path_in}
 use Rattle.wb_memo.specs.Memos as memos
-use Rattle.wb_evaluator.specs.Inner.Reached.{IsReady, IsGivenTree, IsReached}
-use Rattle.wb_memo.specs.Sites.{step_of}
 use Rattle.wb_evaluator.specs.Inner.State.{HasCome}
 use Rattle.wb_evaluator.specs.Inner.Tasks.{Job, visit, build, call, choose, resume}
-use Rattle.wb_evaluator.specs.Inner.Jobs.{visiting, stack_of, IsJob, Stacked, more_kinds, ValuesFit, IsTyped, JobsFit}
+use Rattle.wb_evaluator.specs.Inner.Jobs.{stack_of, IsJob, Stacked, ValuesFit, IsTyped, JobsFit}
 use Rattle.wb_evaluator.specs.Inner.Works.{IsEvaluating, Parks}
 use Rattle.wb_evaluator.specs.declared.machine.Key.{Key}
 use Rattle.wb_evaluator.specs.declared.machine.Machine.{Machine}
-use Rattle.wb_memo.specs.declared.memo.Memo.{Memo}
-use Rattle.wb_memo.specs.declared.sites.Step.{Step}
-use Rattle.wb_memo.specs.declared.sites.Step.TheVariants as step
 use Rattle.wb_evaluator.specs.declared.work.Task.{Task}
 use Rattle.wb_evaluator.specs.declared.work.Task.TheVariants as task
-
--- as many kinds as expressions
-have_length : {a : AttributionParts} {operations : List OperationSignature} {production : Production} (ks : List Kind) (es : Expressions)
-    → HaveKinds a operations production es ks → length ks ≡ count es
-have_length ks x.none k.nothing = refl
-have_length ks (x.more e es) (k.next {ks = rest} first more) = ap suc (have_length rest es more)
-
--- visits of typed expressions
-visits_fit : (a : AttributionParts) (operations : Operations) (production : Production) (es : Expressions) (ks : List Kind)
-    (jobs : List Job)
-    (base : List Kind) → HaveKinds a operations.signatures production es ks
-    → ((part : Node) → IsInOne es part → (owner : ℕ) × IsNamedNode a production owner part)
-    → JobsFit a operations production jobs (more_kinds ks base) → JobsFit a operations production (visits es jobs) base
-visits_fit a operations production x.none ks jobs base k.nothing names fit = fit
-visits_fit a operations production (x.more e es) ks jobs base (k.next {k = first} {ks = rest} has have) names fit = (
-  first,
-  record { has_kind = has; named = λ part i. names part (inl i) },
-  visits_fit a operations production es rest jobs (first ∷ base) have (λ part i. names part (inr i)) fit,
-)
 
 module _ (a : AttributionParts) (operations : Operations) (trees : List Tree) where
   -- an expression is visited next
@@ -242,200 +206,3 @@ module _ (a : AttributionParts) (operations : Operations) (trees : List Tree) wh
           come = v.runs.come;
         };
       }
-
-    -- a tree
-    pub parts_of_build : (p : ℕ) (es : Expressions) (places : List ℕ) → e ≡ x.Build p es → AllStand nodes places es
-        → IsEvaluating a operations trees m site nodes ((tasks ++ task.Build p (length places) ∷ []) ++ visiting places) values
-    unfolding resume
-    parts_of_build p es places same all =
-        let typed = subst (λ (z : Expression). IsTyped a operations v.production z v.kind) same v.typed in
-        let runs = subst (λ (z : Expression). Runs a operations trees m (walk_expression operations q vs z rest_of)) same v.runs in
-        let small = subst (λ (z : Expression). size z ≤ length nodes) same v.small in
-        by_kind typed.has_kind typed.named runs small where
-          by_kind : HasKind a operations.signatures v.production (x.Build p es) v.kind
-              → ((part : Node) → IsInOne es part → (owner : ℕ) × IsNamedNode a v.production owner part)
-              → Runs a operations trees m (walk_expression operations q vs (x.Build p es) rest_of) → size (x.Build p es) ≤ length nodes
-              → IsEvaluating a operations trees m site nodes ((tasks ++ task.Build p (length places) ∷ []) ++ visiting places) values
-          by_kind (k.build o at have kind_is) names runs small =
-              let n = count_stands all in
-              let count_is : length o.children ≡ count es = have_length o.children es have in
-              let jobs = visits es (build p (count es) ∷ v.rest) in
-              record {
-                id = v.id;
-                has = v.has;
-                there = v.there;
-                production = v.production;
-                is = v.is;
-                jobs = jobs;
-                stacked = visits_stacked operations.signatures nodes (tasks ++ task.Build p (length places) ∷ []) places es []
-                    (build p (count es) ∷ v.rest)
-                    all (omega (arith, small)) (stacked operations.signatures nodes tasks (task.Build p (length places))
-                    (build p (count es)) [] v.rest
-                    v.stacked (refl, n));
-                kinds = v.kinds;
-                inside = v.inside;
-                values_fit = v.values_fit;
-                jobs_fit = visits_fit a operations v.production es o.children (build p (count es) ∷ v.rest) v.kinds have names (
-                  o,
-                  v.kinds,
-                  at,
-                  count_is,
-                  refl,
-                  subst (λ (z : Kind). JobsFit a operations v.production v.rest (z ∷ v.kinds)) kind_is v.jobs_fit,
-                );
-                runs = subst (Runs a operations trees m) (step_build operations q vs p es v.rest (stack_of trees values)) runs;
-              }
-
-    -- a call
-    pub parts_of_call : (name : List ℕ) (number : ℕ) (es : Expressions) (places : List ℕ) → e ≡ x.Call name es → AllStand nodes places es
-        → number_of operations.signatures name ≡ Some number
-        → IsEvaluating a operations trees m site nodes ((tasks ++ task.Call number (length places) ∷ []) ++ visiting places) values
-    unfolding resume
-    parts_of_call name number es places same all found =
-        let typed = subst (λ (z : Expression). IsTyped a operations v.production z v.kind) same v.typed in
-        let runs = subst (λ (z : Expression). Runs a operations trees m (walk_expression operations q vs z rest_of)) same v.runs in
-        let small = subst (λ (z : Expression). size z ≤ length nodes) same v.small in
-        by_kind typed.has_kind typed.named runs small where
-          by_kind : HasKind a operations.signatures v.production (x.Call name es) v.kind
-              → ((part : Node) → IsInOne es part → (owner : ℕ) × IsNamedNode a v.production owner part)
-              → Runs a operations trees m (walk_expression operations q vs (x.Call name es) rest_of) → size (x.Call name es) ≤ length nodes
-              → IsEvaluating a operations trees m site nodes ((tasks ++ task.Call number (length places) ∷ []) ++ visiting places) values
-          by_kind (k.call i o at is_named have kind_is) names runs small =
-              let n = count_stands all in
-              let count_is : length o.takes ≡ count es = have_length o.takes es have in
-              record {
-                id = v.id;
-                has = v.has;
-                there = v.there;
-                production = v.production;
-                is = v.is;
-                jobs = visits es (call name (count es) ∷ v.rest);
-                stacked = visits_stacked operations.signatures nodes (tasks ++ task.Call number (length places) ∷ []) places es []
-                    (call name (count es) ∷ v.rest) all (omega (arith, small))
-                    (stacked operations.signatures nodes tasks (task.Call number (length places)) (call name (count es)) [] v.rest v.stacked
-                    (found, n));
-                kinds = v.kinds;
-                inside = v.inside;
-                values_fit = v.values_fit;
-                jobs_fit = visits_fit a operations v.production es o.takes (call name (count es) ∷ v.rest) v.kinds have names (
-                  i,
-                  o,
-                  v.kinds,
-                  at,
-                  is_named,
-                  count_is,
-                  refl,
-                  subst (λ (z : Kind). JobsFit a operations v.production v.rest (z ∷ v.kinds)) kind_is v.jobs_fit,
-                );
-                runs = subst (Runs a operations trees m) (step_call operations q vs name es v.rest (stack_of trees values)) runs;
-              }
-
-    -- the operation of a typed call is there
-    pub call_known : (name : List ℕ) (es : Expressions) → e ≡ x.Call name es
-        → (i : ℕ) × (o : OperationSignature) × (slice_get operations.signatures i ≡ Some o) × (o.name ≡ name)
-    call_known name es same = by_kind (subst (λ (z : Expression). IsTyped a operations v.production z v.kind) same v.typed).has_kind where
-      by_kind : HasKind a operations.signatures v.production (x.Call name es) v.kind
-          → (i : ℕ) × (o : OperationSignature) × (slice_get operations.signatures i ≡ Some o) × (o.name ≡ name)
-      by_kind (k.call i o at is_named have kind_is) = (i, o, at, is_named)
-
-    -- a choice
-    pub parts_of_choice : (c h f : Expression) (pc ph pf : ℕ) → e ≡ x.If c h f → Stands nodes pc c → Stands nodes ph h → Stands nodes pf f
-        → IsEvaluating a operations trees m site nodes ((tasks ++ task.Choose ph pf ∷ []) ++ task.Visit pc ∷ []) values
-    unfolding resume
-    parts_of_choice c h f pc ph pf same at_c at_h at_f =
-        let typed = subst (λ (z : Expression). IsTyped a operations v.production z v.kind) same v.typed in
-        let runs = subst (λ (z : Expression). Runs a operations trees m (walk_expression operations q vs z rest_of)) same v.runs in
-        let small = subst (λ (z : Expression). size z ≤ length nodes) same v.small in
-        by_kind typed.has_kind typed.named runs small where
-          by_kind : HasKind a operations.signatures v.production (x.If c h f) v.kind
-              → ((part : Node) → IsPart (x.If c h f) part → (owner : ℕ) × IsNamedNode a v.production owner part)
-              → Runs a operations trees m (walk_expression operations q vs (x.If c h f) rest_of) → size (x.If c h f) ≤ length nodes
-              → IsEvaluating a operations trees m site nodes ((tasks ++ task.Choose ph pf ∷ []) ++ task.Visit pc ∷ []) values
-          by_kind (k.if_then has_c has_h has_f) names runs small = record {
-            id = v.id;
-            has = v.has;
-            there = v.there;
-            production = v.production;
-            is = v.is;
-            jobs = visit c ∷ choose h f ∷ v.rest;
-            stacked = stacked operations.signatures nodes (tasks ++ task.Choose ph pf ∷ []) (task.Visit pc) (visit c) []
-                (choose h f ∷ v.rest)
-                (stacked operations.signatures nodes tasks (task.Choose ph pf) (choose h f) [] v.rest v.stacked
-                ((at_h, omega (arith, small)), (at_f, omega (arith, small)))) (at_c, omega (arith, small));
-            kinds = v.kinds;
-            inside = v.inside;
-            values_fit = v.values_fit;
-            jobs_fit = (
-              kd.Bool,
-              record { has_kind = has_c; named = λ part i. names part (inl i) },
-              (
-                v.kind,
-                v.kinds,
-                refl,
-                record { has_kind = has_h; named = λ part i. names part (inr (inl i)) },
-                record { has_kind = has_f; named = λ part i. names part (inr (inr i)) },
-                v.jobs_fit,
-              ),
-            );
-            runs = subst (Runs a operations trees m) (step_choice operations q vs c h f v.rest (stack_of trees values)) runs;
-          }
-
-    -- what is read one step down
-    pub ready : (way : Step) (y : ℕ)
-        → ((rest : t.Value → Walk) → walk_expression operations q vs e rest ≡ read (synthesized_at (down q (step_of way)) y) rest)
-        → IsReady trees m.memo site way
-    ready (step.Child c) y is =
-        let runs = subst (Runs a operations trees m) (is rest_of) v.runs in
-        let there = reads_there a operations trees m (synthesized_at (down q (child c)) y) rest_of runs in
-        let same = one_node a operations v.runs.machine.top there.there node_here in
-        let is_of = subst (λ (z : Tree). IsProduction a (production_of z) there.production) same there.is in
-        let kid = kid_is_tree s c y above there.production is_of (node_fits s node_here) there.vertex in
-        (v.id, v.has, (v.runs.machine.memo.nodes site v.id v.has).inside, kid)
-    ready (step.Local c) y is = tt
-    ready step.Forward y is = tt
-
-    -- the memo has grown
-    pub given_of : (t : Step) (tree : Option TreeId) → IsGivenTree trees m.memo site t tree
-        → IsGiven a operations trees v.runs.machine.top q t tree
-    given_of (step.Child c) tree (id, kid, has, is_kid, tree_is) = record {
-      child_node = λ other same.
-          let e : kid ≡ other = same_Some kid other (sym tree_is ∙ same) in (
-            c,
-            refl,
-            subst (λ (z : TreeId). IsNode a operations trees v.runs.machine.top (down q (child c)) z) e (record {
-              inside = is_kid.inside;
-              is_node = at_child (v.runs.machine.memo.nodes site id has).is_node is_kid.is;
-            }),
-          );
-      child_has = λ k same. (kid, tree_is);
-    }
-    given_of (step.Local c) tree none = record {
-      child_node = λ other same. absurd (cc (same, none));
-      child_has = λ k same. absurd (cc same);
-    }
-    given_of step.Forward tree none = record { child_node = λ other same. absurd (cc (same, none)); child_has = λ k same. absurd (cc same) }
-
-    pub grown : (new : Memo) (t : Step) (below : ℕ) → IsWhole new → IsGrown m.memo new → IsReached trees m.memo new site t below
-        → IsVisiting (with_memo m new) site nodes tasks values e
-    grown new t below whole more (tree, given, is_below) =
-        let runs = grown_runs a operations trees m _ new site below t tree v.runs whole more is_below v.there (v.id, v.has)
-        (given_of t tree given) in
-        let path = more.paths site v.there in
-        record {
-          id = v.id;
-          has = more.trees site v.there ∙ v.has;
-          there = let le = more.more in let t = v.there in omega (arith, le, t);
-          production = v.production;
-          is = v.is;
-          small = v.small;
-          rest = v.rest;
-          stacked = v.stacked;
-          kinds = v.kinds;
-          kind = v.kind;
-          typed = v.typed;
-          inside = v.inside;
-          values_fit = v.values_fit;
-          jobs_fit = v.jobs_fit;
-          runs = subst (λ (p : Path). Runs a operations trees (with_memo m new) (walk_expression operations p vs e
-              (λ w. resume operations p vs v.rest (w ∷ stack_of trees values)))) (sym path) runs;
-        }

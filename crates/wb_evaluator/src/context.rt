@@ -4,12 +4,11 @@ use wb_operations::{Meaning, OperationTable};
 use wb_resolved::{AttributionParts, Node};
 use wb_rules::RuleIndex;
 
-// Attributes, their rules by what they define, the operations that their expressions call, and how many instances may be entered.
+// Definitions, the operations that their expressions call, and how many instances may be entered.
 #[derive(Drop)]
-pub(crate) struct Context<'a, M: Meaning> {
-    pub attributes: &'a AttributionParts,
-    pub rules: &'a RuleIndex,
-    pub operations: &'a OperationTable<M>,
+pub(crate) struct Context<'a, 'b, M: Meaning> {
+    pub definitions: Definitions<'a>,
+    pub operations: &'b OperationTable<M>,
     pub steps: u64,
 }
 
@@ -20,11 +19,9 @@ pub(crate) struct Definitions<'a> {
     pub rules: &'a RuleIndex,
 }
 
-// An expression at a site, with the attributes and operations by which it is evaluated.
-#[derive(Drop)]
-pub(crate) struct Expression<'a, M: Meaning> {
-    pub attributes: &'a AttributionParts,
-    pub operations: &'a OperationTable<M>,
+// An expression at a site.
+#[derive(Clone, Copy)]
+pub(crate) struct Expression<'a> {
     pub site: usize,
     pub nodes: &'a [Node],
 }

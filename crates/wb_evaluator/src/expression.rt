@@ -2,22 +2,20 @@
 //!
 //! A task at a time, until its value is there, an operation fails, or an instance is read that wasn't entered. Which expression: `run`.
 
-ghost use Rattle.std.specs.Prelude.{◌≡◌, ◌≤◌, ◌<◌, ◌++◌, ◌∷◌, [], length, OnOk, IfOk};
-ghost use Rattle.wb_operations.specs.Kept.{IsKept};
-ghost use Rattle.wb_evaluator.specs.Inner.Machines.{IsKey, Wants, IsSame};
+ghost use Rattle.std.specs.Prelude.{◌≡◌, ◌≤◌, IfOk};
+ghost use Rattle.wb_evaluator.specs.Inner.Machines.{IsKey};
 ghost use Rattle.wb_memo.specs.Memos.{count, IsWhole};
 ghost use Rattle.wb_evaluator.specs.Inner.Reached.{IsReady};
 ghost use Rattle.wb_evaluator.specs.declared.machine.Key.TheVariants.{Synthesized, Tree};
 ghost use Rattle.wb_memo.specs.declared.sites.Step.TheVariants.{Local};
-ghost use Rattle.wb_evaluator.specs.Inner.Works.{IsEvaluating, IsAfter, IsReading, HasChildAt, IsChildPushed, IsPushed, IsReadBelow, IsDone, way_to, left_to_do, task_size};
-ghost use Rattle.wb_evaluator.specs.declared.work.Task.TheVariants.{Visit};
+ghost use Rattle.wb_evaluator.specs.Inner.Works.{IsReading, HasChildAt, IsChildPushed, IsPushed, IsReadBelow, way_to};
 
+use crate::evaluation::Evaluation;
 use crate::machine::{Key, Machine, tree_at};
-use crate::work::{Task, Work};
+use crate::work::Work;
 use std::alloc::AllocError;
-use wb_memo::{Origin, Step};
-use wb_operations::{Meaning, OperationRefusal, OperationTable};
-use wb_resolved::{Node, Place};
+use wb_memo::Step;
+use wb_resolved::Place;
 use wb_values::{TreeStore, Value};
 
 // Reads the instance of a key, which is then on the values, or wasn't entered.
@@ -58,39 +56,39 @@ pub(crate) fn visit_value(work: &mut Work, value: Value) -> Result<Option<Key>, 
 
 // Reads a synthesized attribute one step down.
 pub(crate) fn read_below(
-    machine: &mut Machine,
+    evaluation: &mut Evaluation,
     store: &TreeStore,
-    work: &mut Work,
-    origin: Origin,
+    site: usize,
+    step: Step,
     attribute: usize,
 ) -> Result<Option<Key>, AllocError>
-    requires whole { IsWhole machine.old.memo }
-    requires there { origin.parent ≤ count machine.old.memo }
-    requires ready { IsReady store.now machine.old.memo origin.parent origin.step }
-    ensures { IfOk result (IsReadBelow store.now machine.old machine.new origin.parent origin.step (λ below. Synthesized below attribute) work.old work.new) }
+    requires whole { IsWhole evaluation.old.machine.memo }
+    requires there { site ≤ count evaluation.old.machine.memo }
+    requires ready { IsReady store.now evaluation.old.machine.memo site step }
+    ensures { IfOk result (IsReadBelow store.now evaluation.old.machine evaluation.new.machine site step (λ below. Synthesized below attribute) evaluation.old.work evaluation.new.work) }
 {
-    let below = machine.below(store, origin.parent, origin.step)?;
+    let below = evaluation.machine.below(store, site, step)?;
     let key = Key::Synthesized {
         site: below,
         attribute,
     };
-    read(machine, work, key)
+    read(&evaluation.machine, &mut evaluation.work, key)
 }
 
 // Reads the tree of a local.
 pub(crate) fn read_local(
-    machine: &mut Machine,
+    evaluation: &mut Evaluation,
     store: &TreeStore,
-    work: &mut Work,
     site: usize,
     local: usize,
 ) -> Result<Option<Key>, AllocError>
-    requires whole { IsWhole machine.old.memo }
-    requires there { site ≤ count machine.old.memo }
-    ensures { IfOk result (IsReadBelow store.now machine.old machine.new site (Local local) (λ below. Tree below) work.old work.new) }
+    requires whole { IsWhole evaluation.old.machine.memo }
+    requires there { site ≤ count evaluation.old.machine.memo }
+    ensures { IfOk result (IsReadBelow store.now evaluation.old.machine evaluation.new.machine site (Local local) (λ below. Tree below) evaluation.old.work evaluation.new.work) }
 {
-    let below = machine.below(store, site, Step::Local(local))?;
-    read(machine, work, Key::Tree { site: below })
+    let below = evaluation.machine.below(store, site, Step::Local(local))?;
+    let key = Key::Tree { site: below };
+    read(&evaluation.machine, &mut evaluation.work, key)
 }
 
 // The step to a child or local.

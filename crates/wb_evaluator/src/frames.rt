@@ -8,6 +8,7 @@ ghost use Rattle.wb_evaluator.specs.Inner.Piles.{wait, waits, IsPiled, HasNoFram
 
 use crate::work::{Task, Work};
 use std::alloc::{AllocError, Global};
+use wb_base::push;
 use wb_resolved::Node;
 use wb_values::Value;
 
@@ -21,7 +22,6 @@ pub(crate) struct Frame<'a> {
 }
 
 // A frame or none for each instance, and the tasks and values of the frames, each part with its first last.
-#[derive(Drop)]
 pub(crate) struct Frames<'a> {
     pub rows: Vec<Option<Frame<'a>>>,
     pub tasks: Vec<Task>,
@@ -57,8 +57,8 @@ impl<'a> Frames<'a> {
     {
         let tasks = work.tasks.len();
         let values = work.values.len();
-        move_end(&mut work.tasks, 0, &mut self.tasks)?;
-        move_end(&mut work.values, 0, &mut self.values)?;
+        move_last(&mut work.tasks, tasks, &mut self.tasks)?;
+        move_last(&mut work.values, values, &mut self.values)?;
         let at = self.rows.len() - 1;
         self.rows[at] = Some(Frame {
             site,
@@ -80,42 +80,26 @@ impl<'a> Frames<'a> {
         match self.rows[at] {
             Some(frame) => {
                 self.rows[at] = None;
-                self.take_parts(frame.tasks, frame.values, work)?;
+                work.tasks.clear();
+                work.values.clear();
+                move_last(&mut self.tasks, frame.tasks, &mut work.tasks)?;
+                move_last(&mut self.values, frame.values, &mut work.values)?;
                 Ok(Some(frame))
             }
             None => Ok(None),
         }
     }
-
-    // Makes the work of the last tasks and values, so many.
-    fn take_parts(&mut self, tasks: usize, values: usize, work: &mut Work) -> Result<(), AllocError>
-        requires tasks { tasks ≤ length self.old.tasks.items }
-        requires values { values ≤ length self.old.values.items }
-        ensures rows { OnOk result (self.new.rows ≡ self.old.rows) }
-        ensures tasks { OnOk result (self.new.tasks.items ≡ take (length self.old.tasks.items - tasks) self.old.tasks.items) }
-        ensures values { OnOk result (self.new.values.items ≡ take (length self.old.values.items - values) self.old.values.items) }
-        ensures work_tasks { OnOk result (work.new.tasks.items ≡ reverse (drop (length self.old.tasks.items - tasks) self.old.tasks.items)) }
-        ensures work_values { OnOk result (work.new.values.items ≡ reverse (drop (length self.old.values.items - values) self.old.values.items)) }
-    {
-        let first_task = self.tasks.len() - tasks;
-        let first_value = self.values.len() - values;
-        work.tasks.clear();
-        work.values.clear();
-        move_end(&mut self.tasks, first_task, &mut work.tasks)?;
-        move_end(&mut self.values, first_value, &mut work.values)
-    }
 }
 
-// Moves what is in a list from a place on after what is in another, the last first.
-fn move_end<T: Drop>(from: &mut Vec<T>, start: usize, to: &mut Vec<T>) -> Result<(), AllocError>
-    requires { start ≤ length from.old.items }
-    ensures from { OnOk result (from.new.items ≡ take start from.old.items) }
-    ensures to { OnOk result (to.new.items ≡ to.old.items ++ reverse (drop start from.old.items)) }
+// Moves so many of a list from its end to that of another, the last first.
+fn move_last<T: Drop>(from: &mut Vec<T>, count: usize, to: &mut Vec<T>) -> Result<(), AllocError>
+    requires { count ≤ length from.old.items }
+    ensures from { OnOk result (from.new.items ≡ take (length from.old.items - count) from.old.items) }
+    ensures to { OnOk result (to.new.items ≡ to.old.items ++ reverse (drop (length from.old.items - count) from.old.items)) }
 {
+    let start = from.len() - count;
     'items: while from.len() > start {
-        to.reserve(1)?;
-        let item = from.take_last();
-        to.push_reserved(item);
+        push(to, from.take_last())?;
     }
     Ok(())
 }

@@ -7,6 +7,7 @@
 mod answering;
 mod context;
 mod evaluated;
+mod evaluation;
 mod expression;
 mod frames;
 mod machine;

@@ -10,6 +10,7 @@ ghost use Rattle.wb_evaluator.specs.Inner.Reached.{IsReady, IsGivenTree, IsReach
 
 use crate::frames::Frames;
 use std::alloc::{AllocError, Global};
+use wb_base::push;
 use wb_memo::{Memo, Step};
 use wb_values::{TreeId, TreeStore, Value};
 
@@ -53,37 +54,14 @@ impl<'a> Machine<'a> {
         })
     }
 
-    // Lets go of what is kept, the memo by its own call.
-    pub(crate) fn release(self) {
-        let Machine {
-            memo,
-            stack,
-            frames: Frames {
-                rows,
-                tasks,
-                values,
-            },
-            root: _,
-            attribute: _,
-            entered: _,
-        } = self;
-        memo.release();
-        drop(stack);
-        drop(rows);
-        drop(tasks);
-        drop(values);
-    }
-
     // Enters the instance of a key, for the one at work to wait for.
     pub(crate) fn push(&mut self, key: Key) -> Result<(), AllocError>
         requires piled { IsPiled self.old.frames }
         requires room { self.old.entered + 1 < 2 ^ 64 }
         ensures { OnOk result (HasMore self.old self.new key) }
     {
-        self.frames.rows.reserve(1)?;
-        self.stack.reserve(1)?;
-        self.frames.rows.push_reserved(None);
-        self.stack.push_reserved(key);
+        push(&mut self.frames.rows, None)?;
+        push(&mut self.stack, key)?;
         self.entered += 1;
         Ok(())
     }

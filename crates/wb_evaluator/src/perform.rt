@@ -2,86 +2,97 @@
 //!
 //! It visits a node, builds a tree, calls an operation or chooses a branch, until nothing is left to do.
 
-ghost use Rattle.std.specs.Prelude.{◌≡◌, ◌≤◌, ◌<◌, ◌+◌, ◌-◌, ◌++◌, ◌∷◌, [], All, Some, length, slice_get, IfOk, OnOk};
-ghost use Rattle.wb_operations.specs.Given.{FitKinds, plains_of};
+ghost use Rattle.std.specs.Prelude.{◌≡◌, ◌≤◌, ◌<◌, ◌+◌, ◌-◌, ◌++◌, ◌∷◌, ℕ, List, [], All, Some, length, slice_get, IfOk};
+ghost use Rattle.wb_operations.specs.Given.{FitKinds, Given, plains_of};
 ghost use Rattle.wb_operations.specs.Kept.{IsKept};
-ghost use Rattle.wb_evaluator.specs.Inner.Machines.{IsSteady};
-ghost use Rattle.wb_evaluator.specs.Inner.Works.{IsEvaluating, IsExtended, IsRanAt, IsOver, IsBuilt, IsChosen, IsCalled, HasTruth, left_to_do, task_size};
+ghost use Rattle.wb_resolved.specs.declared.attribution.AttributionParts.{AttributionParts};
+ghost use Rattle.wb_values.specs.Tree.{Plain};
+ghost use Rattle.wb_evaluator.specs.Inner.Piles.{HasNoFrame};
+ghost use Rattle.wb_evaluator.specs.Inner.Works.{IsEvaluating, IsExtended, HasRun, IsOver, IsBuilt, IsChosen, IsCalled, HasTruth, left_to_do, task_size};
 ghost use Rattle.wb_values.specs.ValuesIn.{IsIn, last};
 ghost use Rattle.wb_values.specs.declared.value.Value.TheVariants.{Bool};
 ghost use Rattle.wb_evaluator.specs.declared.work.Task.TheVariants.{Visit};
 
-use crate::context::Expression;
-use crate::machine::Machine;
+use crate::context::{Context, Expression};
+use crate::evaluation::Evaluation;
 use crate::visit::visit;
 use crate::work::{Ran, Task, Work};
 use std::alloc::AllocError;
-use wb_operations::{Meaning, OperationRefusal, OperationTable};
+use wb_operations::{Meaning, OperationRefusal, OperationSignatures, OperationTable};
 use wb_values::{TreeStore, Value};
 
-// Evaluates the expression whose tasks are left.
-pub(crate) fn evaluate_tasks<M: Meaning>(
-    expression: &Expression<M>,
-    machine: &mut Machine,
+// Evaluates the expression whose work is left, which is kept where it waits.
+pub(crate) fn evaluate_tasks<'a, M: Meaning>(
+    context: &Context<'a, '_, M>,
+    expression: &Expression<'a>,
+    evaluation: &mut Evaluation<'a>,
     store: &mut TreeStore,
-    work: &mut Work,
 ) -> Result<Ran, AllocError>
-    requires evaluating { IsEvaluating expression.now.attributes.now (record { signatures = expression.now.operations.now.signatures; meaning = M.meaning }) store.old machine.old expression.now.site expression.now.nodes.now work.old.tasks.items work.old.values.items }
-    requires kept { IsKept expression.now.operations.now.signatures expression.now.operations.now.built_in expression.now.operations.now.runs.items M.meaning
+    requires evaluating { IsEvaluating context.now.definitions.attributes.now (record { signatures = context.now.operations.now.signatures; meaning = M.meaning }) store.old evaluation.old.machine expression.now.site expression.now.nodes.now evaluation.old.work.tasks.items evaluation.old.work.values.items }
+    requires none { HasNoFrame evaluation.old.machine.frames }
+    requires kept { IsKept context.now.operations.now.signatures context.now.operations.now.built_in context.now.operations.now.runs.items M.meaning
         (λ run vs. ⟦<Box<dyn Fn(&[Value]) -> Result<Value, OperationRefusal>> as Fn(&[Value]) -> Result<Value, OperationRefusal>>⟧.pre run vs)
         (λ run vs r. ⟦<Box<dyn Fn(&[Value]) -> Result<Value, OperationRefusal>> as Fn(&[Value]) -> Result<Value, OperationRefusal>>⟧.post run vs r) }
-    ensures ran { IfOk result (IsRanAt expression.now.attributes.now (record { signatures = expression.now.operations.now.signatures; meaning = M.meaning }) store.new machine.new expression.now.site expression.now.nodes.now work.new) }
-    ensures same { OnOk result (IsSteady machine.old machine.new) }
+    ensures ran { IfOk result (HasRun context.now.definitions.attributes.now (record { signatures = context.now.operations.now.signatures; meaning = M.meaning }) store.new evaluation.old.machine evaluation.new.machine) }
     ensures store { IsExtended store.old store.new }
 {
-    'tasks: while let Some(task) = work.tasks.pop() {
-        if let Some(ran) = perform(expression, machine, store, work, task)? {
+    'tasks: while let Some(task) = evaluation.work.tasks.pop() {
+        if let Some(ran) = perform(context, expression, evaluation, store, task)? {
             return Ok(ran);
         }
     }
-    Ok(Ran::Value(work.values.take_last()))
+    Ok(Ran::Value(evaluation.work.values.take_last()))
 }
 
 // Does a task, which was on top: what the work comes to, where it is over.
-fn perform<M: Meaning>(
-    expression: &Expression<M>,
-    machine: &mut Machine,
+fn perform<'a, M: Meaning>(
+    context: &Context<'a, '_, M>,
+    expression: &Expression<'a>,
+    evaluation: &mut Evaluation<'a>,
     store: &mut TreeStore,
-    work: &mut Work,
     task: Task,
 ) -> Result<Option<Ran>, AllocError>
-    requires evaluating { IsEvaluating expression.now.attributes.now (record { signatures = expression.now.operations.now.signatures; meaning = M.meaning }) store.old machine.old expression.now.site expression.now.nodes.now (work.old.tasks.items ++ task ∷ []) work.old.values.items }
-    requires kept { IsKept expression.now.operations.now.signatures expression.now.operations.now.built_in expression.now.operations.now.runs.items M.meaning
+    requires evaluating { IsEvaluating context.now.definitions.attributes.now (record { signatures = context.now.operations.now.signatures; meaning = M.meaning }) store.old evaluation.old.machine expression.now.site expression.now.nodes.now (evaluation.old.work.tasks.items ++ task ∷ []) evaluation.old.work.values.items }
+    requires none { HasNoFrame evaluation.old.machine.frames }
+    requires kept { IsKept context.now.operations.now.signatures context.now.operations.now.built_in context.now.operations.now.runs.items M.meaning
         (λ run vs. ⟦<Box<dyn Fn(&[Value]) -> Result<Value, OperationRefusal>> as Fn(&[Value]) -> Result<Value, OperationRefusal>>⟧.pre run vs)
         (λ run vs r. ⟦<Box<dyn Fn(&[Value]) -> Result<Value, OperationRefusal>> as Fn(&[Value]) -> Result<Value, OperationRefusal>>⟧.post run vs r) }
-    ensures over { IfOk result (IsOver expression.now.attributes.now (record { signatures = expression.now.operations.now.signatures; meaning = M.meaning }) store.new machine.new expression.now.site expression.now.nodes.now work.new (left_to_do expression.now.nodes.now work.old.tasks.items + task_size expression.now.nodes.now task)) }
-    ensures same { OnOk result (IsSteady machine.old machine.new) }
+    ensures over { IfOk result (IsOver context.now.definitions.attributes.now (record { signatures = context.now.operations.now.signatures; meaning = M.meaning }) store.new evaluation.old.machine evaluation.new.machine expression.now.site expression.now.nodes.now evaluation.new.work (left_to_do expression.now.nodes.now evaluation.old.work.tasks.items + task_size expression.now.nodes.now task)) }
     ensures store { IsExtended store.old store.new }
 {
     match task {
-        Task::Visit(at) => visit_or_wait(expression, machine, store, work, at),
-        Task::Build { production, count } => build_tree(store, work, production, count),
-        Task::Call { operation, count } => call(expression.operations, work, operation, count),
-        Task::Choose { holds, fails } => choose(work, holds, fails),
+        Task::Visit(at) => {
+            let signatures = &context.operations.signatures;
+            visit_or_wait(signatures, expression, evaluation, store, at)
+        }
+        Task::Build { production, count } => {
+            build_tree(store, &mut evaluation.work, production, count)
+        }
+        Task::Call { operation, count } => {
+            call(context.operations, &mut evaluation.work, operation, count)
+        }
+        Task::Choose { holds, fails } => choose(&mut evaluation.work, holds, fails),
     }
 }
 
-// Visits a node, and leaves the visit to do where it waits for an instance.
-fn visit_or_wait<M: Meaning>(
-    expression: &Expression<M>,
-    machine: &mut Machine,
+// Visits a node. Where that waits for an instance, it is left to do, and what is left of the expression is kept.
+fn visit_or_wait<'a>(
+    signatures: &OperationSignatures,
+    expression: &Expression<'a>,
+    evaluation: &mut Evaluation<'a>,
     store: &TreeStore,
-    work: &mut Work,
     at: usize,
 ) -> Result<Option<Ran>, AllocError>
     requires there { at < length expression.now.nodes.now }
-    requires evaluating { IsEvaluating expression.now.attributes.now (record { signatures = expression.now.operations.now.signatures; meaning = M.meaning }) store.now machine.old expression.now.site expression.now.nodes.now (work.old.tasks.items ++ Visit at ∷ []) work.old.values.items }
-    ensures over { IfOk result (IsOver expression.now.attributes.now (record { signatures = expression.now.operations.now.signatures; meaning = M.meaning }) store.now machine.new expression.now.site expression.now.nodes.now work.new (left_to_do expression.now.nodes.now work.old.tasks.items + task_size expression.now.nodes.now (Visit at))) }
-    ensures same { OnOk result (IsSteady machine.old machine.new) }
+    requires evaluating { (a : AttributionParts) × (meaning : ℕ → List Plain → Given) × IsEvaluating a (record { signatures = signatures.now; meaning = meaning }) store.now evaluation.old.machine expression.now.site expression.now.nodes.now (evaluation.old.work.tasks.items ++ Visit at ∷ []) evaluation.old.work.values.items }
+    requires none { HasNoFrame evaluation.old.machine.frames }
+    ensures { (a : AttributionParts) (meaning : ℕ → List Plain → Given) → IsEvaluating a (record { signatures = signatures.now; meaning = meaning }) store.now evaluation.old.machine expression.now.site expression.now.nodes.now (evaluation.old.work.tasks.items ++ Visit at ∷ []) evaluation.old.work.values.items → IfOk result (IsOver a (record { signatures = signatures.now; meaning = meaning }) store.now evaluation.old.machine evaluation.new.machine expression.now.site expression.now.nodes.now evaluation.new.work (left_to_do expression.now.nodes.now evaluation.old.work.tasks.items + task_size expression.now.nodes.now (Visit at))) }
 {
-    match visit(expression, machine, store, work, at) {
+    match visit(signatures, expression, evaluation, store, at) {
         Ok(Some(key)) => {
-            work.push_task(Task::Visit(at))?;
+            evaluation.work.push_task(Task::Visit(at))?;
+            let frames = &mut evaluation.machine.frames;
+            frames.keep(expression.site, expression.nodes, &mut evaluation.work)?;
             Ok(Some(Ran::Needs(key)))
         }
         Ok(None) => Ok(None),

@@ -2,18 +2,19 @@
 //!
 //! By an expression, by another instance, or through the forwarded tree. Which of them is in `start`, which instance is next in `evaluate`.
 
-ghost use Rattle.std.specs.Prelude.{◌≡◌, ◌≤◌, ◌<◌, length, IfOk, OnOk};
+ghost use Rattle.std.specs.Prelude.{IfOk};
 ghost use Rattle.wb_operations.specs.Kept.{IsKept};
 ghost use Rattle.wb_operations.specs.Operations.{Operations};
 ghost use Rattle.wb_resolved.specs.declared.attribution.AttributionParts.{AttributionParts};
-ghost use Rattle.wb_evaluator.specs.Inner.Machines.{IsMachine, IsKey, IsSame};
+ghost use Rattle.wb_evaluator.specs.Inner.Machines.{IsMachine, IsKey};
 ghost use Rattle.wb_memo.specs.Memos.{IsWhole};
 ghost use Rattle.wb_evaluator.specs.Inner.Piles.{HasNoFrame};
-ghost use Rattle.wb_evaluator.specs.Inner.Starts.{IsForwarding, IsNext};
-ghost use Rattle.wb_evaluator.specs.Inner.Works.{IsEvaluating, IsExtended, IsRan, IsRead};
+ghost use Rattle.wb_evaluator.specs.Inner.Starts.{IsForwarding, IsNext, IsResumed};
+ghost use Rattle.wb_evaluator.specs.Inner.Works.{IsExtended, HasRun, IsRead};
 ghost use Rattle.wb_rules.specs.Indexes.{AreIndexes};
 
 use crate::context::{Context, Definitions, Expression};
+use crate::evaluation::Evaluation;
 use crate::machine::{Key, Machine};
 use crate::perform::evaluate_tasks;
 use crate::start::{Start, start_of};
@@ -25,37 +26,28 @@ use wb_values::{TreeStore, Value};
 
 // Works on the last instance, on from where it waited.
 pub(crate) fn run<'a, M: Meaning>(
-    context: &Context<'a, M>,
-    machine: &mut Machine<'a>,
+    context: &Context<'a, '_, M>,
+    evaluation: &mut Evaluation<'a>,
     store: &mut TreeStore,
-    work: &mut Work,
 ) -> Result<Ran, AllocError>
-    requires whole { IsMachine context.now.attributes.now (record { signatures = context.now.operations.now.signatures; meaning = M.meaning }) store.old machine.old }
-    requires rules { AreIndexes context.now.attributes.now.productions context.now.rules.now.rows.items }
+    requires whole { IsMachine context.now.definitions.attributes.now (record { signatures = context.now.operations.now.signatures; meaning = M.meaning }) store.old evaluation.old.machine }
+    requires rules { AreIndexes context.now.definitions.attributes.now.productions context.now.definitions.rules.now.rows.items }
     requires kept { IsKept context.now.operations.now.signatures context.now.operations.now.built_in context.now.operations.now.runs.items M.meaning
         (λ run vs. ⟦<Box<dyn Fn(&[Value]) -> Result<Value, OperationRefusal>> as Fn(&[Value]) -> Result<Value, OperationRefusal>>⟧.pre run vs)
         (λ run vs r. ⟦<Box<dyn Fn(&[Value]) -> Result<Value, OperationRefusal>> as Fn(&[Value]) -> Result<Value, OperationRefusal>>⟧.post run vs r) }
-    ensures ran { IfOk result (IsRan context.now.attributes.now (record { signatures = context.now.operations.now.signatures; meaning = M.meaning }) store.new machine.new) }
-    ensures same { OnOk result (IsSame machine.old machine.new) }
+    ensures ran { IfOk result (HasRun context.now.definitions.attributes.now (record { signatures = context.now.operations.now.signatures; meaning = M.meaning }) store.new evaluation.old.machine evaluation.new.machine) }
     ensures store { IsExtended store.old store.new }
 {
-    let definitions = Definitions {
-        attributes: context.attributes,
-        rules: context.rules,
-    };
-    let next = resume(&definitions, machine, store, work)?;
+    let next = resume(&context.definitions, evaluation, store)?;
     match next {
         Start::Expression { site, nodes } => {
-            let expression = Expression {
-                attributes: context.attributes,
-                operations: context.operations,
-                site,
-                nodes,
-            };
-            go_on(&expression, machine, store, work)
+            let expression = Expression { site, nodes };
+            evaluate_tasks(context, &expression, evaluation, store)
         }
-        Start::Read(key) => read_alone(machine, key),
-        Start::Forward { site, attribute } => run_forward(machine, store, site, attribute),
+        Start::Read(key) => read_alone(&evaluation.machine, key),
+        Start::Forward { site, attribute } => {
+            run_forward(&mut evaluation.machine, store, site, attribute)
+        }
         Start::Needs(key) => Ok(Ran::Needs(key)),
     }
 }
@@ -63,22 +55,24 @@ pub(crate) fn run<'a, M: Meaning>(
 // By what the last instance is worked on: an expression's work is there, on from where it waited or from the start.
 fn resume<'a>(
     definitions: &Definitions<'a>,
-    machine: &mut Machine<'a>,
+    evaluation: &mut Evaluation<'a>,
     store: &TreeStore,
-    work: &mut Work,
 ) -> Result<Start<'a>, AllocError>
-    requires whole { (operations : Operations) × IsMachine definitions.now.attributes.now operations store.now machine.old }
+    requires whole { (operations : Operations) × IsMachine definitions.now.attributes.now operations store.now evaluation.old.machine }
     requires rules { AreIndexes definitions.now.attributes.now.productions definitions.now.rules.now.rows.items }
-    ensures next { (operations : Operations) → IsMachine definitions.now.attributes.now operations store.now machine.old → IfOk result (IsNext definitions.now.attributes.now operations store.now machine.new work.new) }
-    ensures none { OnOk result (HasNoFrame machine.new.frames) }
-    ensures same { OnOk result (IsSame machine.old machine.new) }
+    ensures { (operations : Operations) → IsMachine definitions.now.attributes.now operations store.now evaluation.old.machine → IfOk result (IsResumed definitions.now.attributes.now operations store.now evaluation.old.machine evaluation.new.machine evaluation.new.work) }
 {
-    match machine.frames.take(work) {
+    match evaluation.machine.frames.take(&mut evaluation.work) {
         Ok(Some(frame)) => Ok(Start::Expression {
             site: frame.site,
             nodes: frame.nodes,
         }),
-        Ok(None) => begin(definitions, machine, store, work),
+        Ok(None) => begin(
+            definitions,
+            &evaluation.machine,
+            store,
+            &mut evaluation.work,
+        ),
         Err(error) => Err(error),
     }
 }
@@ -115,8 +109,7 @@ fn run_forward(
 ) -> Result<Ran, AllocError>
     requires forwarding { (a : AttributionParts) × (operations : Operations) × IsForwarding a operations store.now machine.old site attribute }
     requires none { HasNoFrame machine.old.frames }
-    ensures ran { (a : AttributionParts) (operations : Operations) → IsForwarding a operations store.now machine.old site attribute → IfOk result (IsRan a operations store.now machine.new) }
-    ensures same { OnOk result (IsSame machine.old machine.new) }
+    ensures { (a : AttributionParts) (operations : Operations) → IsForwarding a operations store.now machine.old site attribute → IfOk result (HasRun a operations store.now machine.old machine.new) }
 {
     let below = machine.below(store, site, Step::Forward)?;
     if machine.memo.trees[below].is_none() {
@@ -138,32 +131,5 @@ fn read_alone(machine: &Machine, key: Key) -> Result<Ran, AllocError>
     match machine.known(key)? {
         Some(value) => Ok(Ran::Value(value)),
         None => Ok(Ran::Needs(key)),
-    }
-}
-
-// Evaluates the expression whose work this is, which is kept where it waits.
-fn go_on<'a, M: Meaning>(
-    expression: &Expression<'a, M>,
-    machine: &mut Machine<'a>,
-    store: &mut TreeStore,
-    work: &mut Work,
-) -> Result<Ran, AllocError>
-    requires evaluating { IsEvaluating expression.now.attributes.now (record { signatures = expression.now.operations.now.signatures; meaning = M.meaning }) store.old machine.old expression.now.site expression.now.nodes.now work.old.tasks.items work.old.values.items }
-    requires none { HasNoFrame machine.old.frames }
-    requires kept { IsKept expression.now.operations.now.signatures expression.now.operations.now.built_in expression.now.operations.now.runs.items M.meaning
-        (λ run vs. ⟦<Box<dyn Fn(&[Value]) -> Result<Value, OperationRefusal>> as Fn(&[Value]) -> Result<Value, OperationRefusal>>⟧.pre run vs)
-        (λ run vs r. ⟦<Box<dyn Fn(&[Value]) -> Result<Value, OperationRefusal>> as Fn(&[Value]) -> Result<Value, OperationRefusal>>⟧.post run vs r) }
-    ensures ran { IfOk result (IsRan expression.now.attributes.now (record { signatures = expression.now.operations.now.signatures; meaning = M.meaning }) store.new machine.new) }
-    ensures same { OnOk result (IsSame machine.old machine.new) }
-    ensures store { IsExtended store.old store.new }
-{
-    match evaluate_tasks(expression, machine, store, work)? {
-        Ran::Needs(key) => {
-            machine
-                .frames
-                .keep(expression.site, expression.nodes, work)?;
-            Ok(Ran::Needs(key))
-        }
-        ran => Ok(ran),
     }
 }

@@ -14,8 +14,8 @@ ghost use Rattle.wb_evaluator.specs.declared.machine.Key.TheVariants.{Synthesize
 use crate::context::Definitions;
 use crate::machine::{Key, Machine, tree_at};
 use wb_memo::Step;
-use wb_resolved::{AttributionParts, Node, Place, Production, Target};
-use wb_rules::{RuleIndex, Rules, equation_for, forward_nodes, local_nodes};
+use wb_resolved::{Node, Place, Production, Target};
+use wb_rules::{Rules, equation_for, forward_nodes, local_nodes};
 use wb_values::TreeStore;
 
 // By what an instance is worked on.
@@ -65,13 +65,7 @@ fn start_of_tree<'a>(
     ensures { (operations : Operations) → IsAtWork definitions.now.attributes.now operations store.now machine.now (Tree site) → IsStart definitions.now.attributes.now operations store.now machine.now result }
 {
     let origin = machine.memo.sites.origins[site - 1];
-    let rules = rules_at(
-        definitions.attributes,
-        definitions.rules,
-        machine,
-        store,
-        origin.parent,
-    );
+    let rules = rules_at(definitions, machine, store, origin.parent);
     match tree_nodes(rules.production, origin.step) {
         Some(nodes) => Start::Expression {
             site: origin.parent,
@@ -106,13 +100,7 @@ fn start_of_inherited<'a>(
     ensures { (operations : Operations) → IsAtWork definitions.now.attributes.now operations store.now machine.now (Inherited site attribute) → IsStart definitions.now.attributes.now operations store.now machine.now result }
 {
     let origin = machine.memo.sites.origins[site - 1];
-    let rules = rules_at(
-        definitions.attributes,
-        definitions.rules,
-        machine,
-        store,
-        origin.parent,
-    );
+    let rules = rules_at(definitions, machine, store, origin.parent);
     match equation_for(&rules, target_below(origin.step, attribute)) {
         Some(nodes) => Start::Expression {
             site: origin.parent,
@@ -140,13 +128,7 @@ fn start_of_synthesized<'a>(
     if machine.memo.trees[site].is_none() {
         return Start::Needs(Key::Tree { site });
     }
-    let rules = rules_at(
-        definitions.attributes,
-        definitions.rules,
-        machine,
-        store,
-        site,
-    );
+    let rules = rules_at(definitions, machine, store, site);
     match equation_for(&rules, Target::Top(attribute)) {
         Some(nodes) => Start::Expression { site, nodes },
         None => Start::Forward { site, attribute },
@@ -155,23 +137,22 @@ fn start_of_synthesized<'a>(
 
 // The rules of the production at a site whose tree is known.
 fn rules_at<'a>(
-    attributes: &'a AttributionParts,
-    index: &'a RuleIndex,
+    definitions: &Definitions<'a>,
     machine: &Machine,
     store: &TreeStore,
     site: usize,
 ) -> Rules<'a>
-    requires production { HasProduction attributes.now store.now machine.now site }
-    requires rules { AreIndexes attributes.now.productions index.now.rows.items }
-    ensures production { IsProductionAt attributes.now store.now machine.now site result.production.now }
+    requires production { HasProduction definitions.now.attributes.now store.now machine.now site }
+    requires rules { AreIndexes definitions.now.attributes.now.productions definitions.now.rules.now.rows.items }
+    ensures production { IsProductionAt definitions.now.attributes.now store.now machine.now site result.production.now }
     ensures equations { IsIndexOf result.production.now.equations (length result.production.now.equations) result.equations.now }
 {
     let tree = tree_at(&machine.memo, site);
     let number = store.production(tree);
-    let productions = attributes.productions.as_slice();
+    let productions = definitions.attributes.productions.as_slice();
     Rules {
         production: &productions[number],
-        equations: &index.rows[number],
+        equations: &definitions.rules.rows[number],
     }
 }
 

@@ -1,20 +1,48 @@
-//! How does an evaluation leave an instance?
+//! How does an evaluation come from one instance to the next?
 //!
-//! It keeps its value in the memo, and takes it away with its frame. What is done at one is in `run`.
+//! It leaves one, whose value is then kept in the memo, or enters one that is needed. What is done at one is in `run`.
 
-ghost use Rattle.std.specs.Prelude.{OnOk, IfOk};
+ghost use Rattle.std.specs.Prelude.{◌≤◌, List, OnOk, IfOk};
+ghost use Rattle.wb_operations.specs.Operations.{Operations};
+ghost use Rattle.wb_resolved.specs.declared.attribution.AttributionParts.{AttributionParts};
+ghost use Rattle.wb_values.specs.Tree.{Tree};
 ghost use Rattle.wb_memo.specs.Memos.{IsWhole};
-ghost use Rattle.wb_evaluator.specs.Inner.Answering.{IsLeaving, IsLeftWith};
+ghost use Rattle.wb_evaluator.specs.Inner.Answering.{IsLeaving, IsLeftWith, IsTurned};
 ghost use Rattle.wb_evaluator.specs.Inner.Machines.{IsKey, IsFor, IsSet};
+ghost use Rattle.wb_evaluator.specs.Inner.Works.{IsRan};
 
 use crate::evaluated::Evaluated;
 use crate::machine::{Key, Machine};
+use crate::work::Ran;
 use std::alloc::AllocError;
 use wb_memo::Memo;
 use wb_values::Value;
 
+// Leaves the instance at work with what its work came to, or enters the one that it needs: the answer, where that is known.
+pub(crate) fn proceed(
+    machine: &mut Machine,
+    ran: Ran,
+    steps: u64,
+) -> Result<Option<Evaluated>, AllocError>
+    requires ran { (a : AttributionParts) × (operations : Operations) × (trees : List Tree) × IsRan a operations trees machine.old ran }
+    requires within { machine.old.entered ≤ steps }
+    ensures { (a : AttributionParts) (operations : Operations) (trees : List Tree) → IsRan a operations trees machine.old ran → IfOk result (IsTurned a operations trees machine.old machine.new steps) }
+{
+    match ran {
+        Ran::Value(answer) => leave(machine, answer),
+        Ran::Fault { operation, code } => Ok(Some(Evaluated::Fault { operation, code })),
+        Ran::Needs(key) => {
+            if machine.entered >= steps {
+                return Ok(Some(Evaluated::MoreSteps));
+            }
+            machine.push(key)?;
+            Ok(None)
+        }
+    }
+}
+
 // Leaves the instance at work, whose value this is: the answer, where none waits for it.
-pub(crate) fn leave(machine: &mut Machine, answer: Value) -> Result<Option<Evaluated>, AllocError>
+fn leave(machine: &mut Machine, answer: Value) -> Result<Option<Evaluated>, AllocError>
     requires { IsLeaving machine.old answer }
     ensures { IfOk result (IsLeftWith machine.old machine.new answer) }
 {

@@ -2,78 +2,72 @@
 //!
 //! It pushes a value, reads an instance, or visits the node's parts first. Tasks on values are in `perform`.
 
-ghost use Rattle.std.specs.Prelude.{◌≡◌, ◌≤◌, ◌<◌, ◌++◌, ◌∷◌, ℕ, [], length, IfOk};
+ghost use Rattle.std.specs.Prelude.{◌≤◌, ◌<◌, ◌++◌, ◌∷◌, ℕ, List, [], length, IfOk};
 ghost use Rattle.wb_evaluator.specs.Inner.Works.{IsEvaluating, IsDone, HasLabel, IsLabelVisited, IsPushed, ArePushed};
 ghost use Rattle.wb_evaluator.specs.declared.work.Task.TheVariants.{Visit, Build, Call, Choose};
 ghost use Rattle.wb_values.specs.declared.value.Value.TheVariants.{Text};
 ghost use Rattle.wb_memo.specs.Memos.{count, IsWhole};
+ghost use Rattle.wb_operations.specs.Given.{Given};
 ghost use Rattle.wb_operations.specs.Operations.{HasOperation, IsOperation};
+ghost use Rattle.wb_resolved.specs.declared.attribution.AttributionParts.{AttributionParts};
+ghost use Rattle.wb_values.specs.Tree.{Plain};
 
 use crate::context::Expression;
+use crate::evaluation::Evaluation;
 use crate::expression::{read, read_below, read_local, step_to, visit_child, visit_value};
-use crate::machine::{Key, Machine};
+use crate::machine::Key;
 use crate::work::{Task, Work};
 use std::alloc::AllocError;
 use wb_base::{Bytes, Sequence};
-use wb_memo::{Origin, Step};
-use wb_operations::{Meaning, OperationTable};
+use wb_memo::Step;
+use wb_operations::OperationSignatures;
 use wb_resolved::{Node, Place};
 use wb_values::{TreeStore, Value};
 
 // Visits a node.
-pub(crate) fn visit<M: Meaning>(
-    expression: &Expression<M>,
-    machine: &mut Machine,
+pub(crate) fn visit(
+    signatures: &OperationSignatures,
+    expression: &Expression,
+    evaluation: &mut Evaluation,
     store: &TreeStore,
-    work: &mut Work,
     at: usize,
 ) -> Result<Option<Key>, AllocError>
     requires there { at < length expression.now.nodes.now }
-    requires evaluating { IsEvaluating expression.now.attributes.now (record { signatures = expression.now.operations.now.signatures; meaning = M.meaning }) store.now machine.old expression.now.site expression.now.nodes.now (work.old.tasks.items ++ Visit at ∷ []) work.old.values.items }
-    ensures { IfOk result (IsDone expression.now.attributes.now (record { signatures = expression.now.operations.now.signatures; meaning = M.meaning }) store.now machine.old machine.new expression.now.site expression.now.nodes.now work.old work.new (Visit at)) }
+    requires evaluating { (a : AttributionParts) × (meaning : ℕ → List Plain → Given) × IsEvaluating a (record { signatures = signatures.now; meaning = meaning }) store.now evaluation.old.machine expression.now.site expression.now.nodes.now (evaluation.old.work.tasks.items ++ Visit at ∷ []) evaluation.old.work.values.items }
+    ensures { (a : AttributionParts) (meaning : ℕ → List Plain → Given) → IsEvaluating a (record { signatures = signatures.now; meaning = meaning }) store.now evaluation.old.machine expression.now.site expression.now.nodes.now (evaluation.old.work.tasks.items ++ Visit at ∷ []) evaluation.old.work.values.items → IfOk result (IsDone a (record { signatures = signatures.now; meaning = meaning }) store.now evaluation.old.machine evaluation.new.machine expression.now.site expression.now.nodes.now evaluation.old.work evaluation.new.work (Visit at)) }
 {
     let site = expression.site;
     match &expression.nodes[at] {
-        Node::Int(number) => visit_value(work, Value::Int(*number)),
-        Node::Text(text) => visit_text(work, text),
-        Node::Bool(truth) => visit_value(work, Value::Bool(*truth)),
-        Node::Label(place) | Node::Lexeme(place) => {
-            visit_label(machine, store, work, site, *place)
-        }
+        Node::Int(number) => visit_value(&mut evaluation.work, Value::Int(*number)),
+        Node::Text(text) => visit_text(&mut evaluation.work, text),
+        Node::Bool(truth) => visit_value(&mut evaluation.work, Value::Bool(*truth)),
+        Node::Label(place) | Node::Lexeme(place) => visit_label(evaluation, store, site, *place),
         Node::Read { label, attribute } => {
-            let origin = Origin {
-                parent: site,
-                step: step_to(*label),
-            };
-            read_below(machine, store, work, origin, *attribute)
+            read_below(evaluation, store, site, step_to(*label), *attribute)
         }
         Node::Top(attribute) => {
             let key = Key::Inherited {
                 site,
                 attribute: *attribute,
             };
-            read(machine, work, key)
+            read(&evaluation.machine, &mut evaluation.work, key)
         }
         Node::Forward(attribute) => {
-            let origin = Origin {
-                parent: site,
-                step: Step::Forward,
-            };
-            read_below(machine, store, work, origin, *attribute)
+            read_below(evaluation, store, site, Step::Forward, *attribute)
         }
         Node::Build {
             production,
             children,
-        } => visit_build(work, *production, children),
+        } => visit_build(&mut evaluation.work, *production, children),
         Node::Call {
             operation,
             arguments,
-        } => visit_call(expression.operations, work, operation, arguments),
+        } => visit_call(signatures, &mut evaluation.work, operation, arguments),
         Node::If {
             condition,
             holds,
             fails,
-        } => visit_branches(work, *condition, *holds, *fails),
+        } => visit_branches(&mut evaluation.work, *condition, *holds, *fails),
     }
 }
 
@@ -87,20 +81,19 @@ fn visit_text(work: &mut Work, text: &Bytes) -> Result<Option<Key>, AllocError>
 
 // Pushes the value of a child, or reads the tree of a local.
 fn visit_label(
-    machine: &mut Machine,
+    evaluation: &mut Evaluation,
     store: &TreeStore,
-    work: &mut Work,
     site: usize,
     place: Place,
 ) -> Result<Option<Key>, AllocError>
-    requires whole { IsWhole machine.old.memo }
-    requires there { site ≤ count machine.old.memo }
-    requires label { HasLabel store.now machine.old site place }
-    ensures { IfOk result (IsLabelVisited store.now machine.old machine.new site place work.old work.new) }
+    requires whole { IsWhole evaluation.old.machine.memo }
+    requires there { site ≤ count evaluation.old.machine.memo }
+    requires label { HasLabel store.now evaluation.old.machine site place }
+    ensures { IfOk result (IsLabelVisited store.now evaluation.old.machine evaluation.new.machine site place evaluation.old.work evaluation.new.work) }
 {
     match place {
-        Place::Child(k) => visit_child(machine, store, work, site, k),
-        Place::Local(x) => read_local(machine, store, work, site, x),
+        Place::Child(k) => visit_child(&evaluation.machine, store, &mut evaluation.work, site, k),
+        Place::Local(x) => read_local(evaluation, store, site, x),
     }
 }
 
@@ -117,17 +110,17 @@ fn visit_build(
 }
 
 // Visits the arguments of a call.
-fn visit_call<M: Meaning>(
-    operations: &OperationTable<M>,
+fn visit_call(
+    signatures: &OperationSignatures,
     work: &mut Work,
     operation: &Bytes,
     arguments: &Sequence<usize>,
 ) -> Result<Option<Key>, AllocError>
-    requires { HasOperation operations.now.signatures operation.now }
-    ensures { IfOk result (λ key. (number : ℕ) × IsOperation operations.now.signatures operation.now number
+    requires { HasOperation signatures.now operation.now }
+    ensures { IfOk result (λ key. (number : ℕ) × IsOperation signatures.now operation.now number
         × ArePushed work.old work.new (Call number (length arguments.now)) arguments.now key) }
 {
-    match operations.find(operation.as_slice()) {
+    match signatures.find(operation.as_slice()) {
         Some(operation) => {
             let count = arguments.len();
             visit_parts(work, Task::Call { operation, count }, arguments.as_slice())

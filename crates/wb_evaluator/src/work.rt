@@ -8,6 +8,7 @@ ghost use Rattle.wb_evaluator.specs.declared.work.Task.TheVariants.{Visit};
 
 use crate::machine::Key;
 use std::alloc::{AllocError, Global};
+use wb_base::push;
 use wb_values::Value;
 
 // A task, with positions of nodes.
@@ -20,7 +21,6 @@ pub(crate) enum Task {
 }
 
 // Tasks, the next last, and values, the last last.
-#[derive(Drop)]
 pub(crate) struct Work {
     pub tasks: Vec<Task>,
     pub values: Vec<Value>,
@@ -53,12 +53,7 @@ impl Work {
         ensures tasks { OnOk result (self.new.tasks ≡ self.old.tasks) }
         ensures values { OnOk result (self.new.values.items ≡ self.old.values.items ++ value ∷ []) }
     {
-        if let Err(error) = self.values.reserve(1) {
-            drop(value);
-            return Err(error);
-        }
-        self.values.push_reserved(value);
-        Ok(())
+        push(&mut self.values, value)
     }
 
     // Adds a task.
@@ -66,9 +61,7 @@ impl Work {
         ensures tasks { OnOk result (self.new.tasks.items ≡ self.old.tasks.items ++ task ∷ []) }
         ensures values { OnOk result (self.new.values ≡ self.old.values) }
     {
-        self.tasks.reserve(1)?;
-        self.tasks.push_reserved(task);
-        Ok(())
+        push(&mut self.tasks, task)
     }
 
     // Adds visits of the nodes at these places, the first on top.

@@ -11,7 +11,7 @@ use Rattle.wb_evaluator.specs.declared.evaluated.Evaluated.TheVariants as evalua
 use Rattle.wb_evaluator.specs.declared.machine.Key.{Key}
 use Rattle.wb_evaluator.specs.declared.machine.Machine.{Machine}
 use Rattle.wb_evaluator.specs.Evaluates.{IsValue, IsFault, AsksMore}
-use Rattle.wb_evaluator.specs.Inner.Machines.{IsKey, IsMachine, IsFor, IsSet, HasMore}
+use Rattle.wb_evaluator.specs.Inner.Machines.{IsKey, IsMachine, IsFor, IsSet}
 use Rattle.wb_evaluator.specs.Inner.Piles.{waits, IsPiled, HasNoFrame}
 use Rattle.wb_memo.specs.Memos.{IsWhole}
 
@@ -83,8 +83,3 @@ pub record IsPopped (old new : Machine) (v : Value) : Type 0 where
 abbrev pub IsLeftWith : Machine → Machine → Value → Option Evaluated → Type 0
 IsLeftWith old new v None = IsPopped old new v × (length old.stack.items ≢ 1)
 IsLeftWith old new v (Some e) = (e ≡ evaluated.Value v) × (length old.stack.items ≡ 1)
-
--- another instance was entered, or there is no step left for it
-abbrev pub IsEnteredWithin : Machine → Machine → Key → ℕ → Option Evaluated → Type 0
-IsEnteredWithin old new k steps None = HasMore old new k × (old.entered < steps)
-IsEnteredWithin old new k steps (Some e) = (e ≡ evaluated.MoreSteps) × (steps ≤ old.entered)

@@ -13,7 +13,8 @@ use Rattle.wb_values.specs.ValuesIn.{tree_in}
 use Rattle.wb_evaluation.specs.Instances.{down, synthesized_at, tree_at}
 use Rattle.wb_evaluation.specs.Rules.{rule_of}
 use Rattle.wb_evaluation.specs.Walks.{read, walk_expression, finish}
-use Rattle.wb_evaluator.specs.Inner.Machines.{HasTree, named, IsKey, IsMachine, Runs, Wants}
+use Rattle.wb_evaluator.specs.Inner.Machines.{HasTree, named, IsKey, IsMachine, IsSame, Runs, Wants}
+use Rattle.wb_evaluator.specs.Inner.Piles.{HasNoFrame}
 use Rattle.wb_memo.specs.Memos.{count, path_in}
 use Rattle.wb_evaluator.specs.declared.machine.Key.{Key}
 use Rattle.wb_evaluator.specs.declared.machine.Machine.{Machine}
@@ -79,6 +80,10 @@ module _ (a : AttributionParts) (operations : Operations) (trees : List Tree) wh
   abbrev pub IsNext : Machine → Work → Start → Type 0
   IsNext m work (start.Expression site nodes) = IsEvaluating a operations trees m site nodes.now work.tasks.items work.values.items
   IsNext m work other = IsStart m other
+
+  -- so it is, and its frame was taken
+  abbrev pub IsResumed : Machine → Machine → Work → Start → Type 0
+  IsResumed old m work s = IsSame old m × HasNoFrame m.frames × IsNext m work s
 
 -- where a step is to a tree that an expression makes, so it is with that
 abbrev pub made_by : Step → (Made → Type 0) → Type 0

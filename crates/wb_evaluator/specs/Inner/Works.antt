@@ -19,7 +19,7 @@ use Rattle.wb_values.specs.ValuesIn.{tree_in, value_in, values_in, last, IsIn}
 use Rattle.wb_evaluation.specs.Walks.{value, fault, done}
 use Rattle.wb_evaluator.specs.declared.work.Ran.{Ran}
 use Rattle.wb_evaluator.specs.declared.work.Ran.TheVariants as ran
-use Rattle.wb_evaluator.specs.Inner.Machines.{HasTree, known, IsSuspended, Runs, Wants, IsSteady, with_memo}
+use Rattle.wb_evaluator.specs.Inner.Machines.{HasTree, known, IsSuspended, Runs, Wants, IsSame, IsSteady, with_memo}
 use Rattle.wb_evaluator.specs.Inner.Piles.{HasNoFrame}
 use Rattle.wb_evaluator.specs.Inner.Reached.{HasChild, IsReached}
 use Rattle.wb_memo.specs.Memos.{count, path_in, IsWhole, IsGrown}
@@ -173,17 +173,15 @@ module _ (a : AttributionParts) (operations : Operations) (trees : List Tree) wh
   IsRan m (ran.Fault operation code) = Runs a operations trees m (done (fault operation code))
   IsRan m (ran.Needs key) = Wants a operations trees m key
 
-  -- the evaluation of an expression is over, or its tasks wait for an instance that wasn't entered
-  abbrev pub IsRanAt : Machine → ℕ → List Node → Work → Ran → Type 0
-  IsRanAt m site nodes work (ran.Value v) = Runs a operations trees m (done (value (value_in trees v))) × IsIn (length trees) v
-  IsRanAt m site nodes work (ran.Fault operation code) = IsRan m (ran.Fault operation code)
-  IsRanAt m site nodes work (ran.Needs key) = Parks a operations trees m site nodes work.tasks.items work.values.items key
+  -- so it has, and the instances are the same
+  abbrev pub HasRun : Machine → Machine → Ran → Type 0
+  HasRun old m r = IsSame old m × IsRan m r
 
-  -- it goes on, and less is left to do; or it is over
-  abbrev pub IsOver : Machine → ℕ → List Node → Work → ℕ → Option Ran → Type 0
-  IsOver m site nodes work before None =
-      IsEvaluating a operations trees m site nodes work.tasks.items work.values.items × (left_to_do nodes work.tasks.items < before)
-  IsOver m site nodes work before (Some r) = IsRanAt m site nodes work r
+  -- it goes on with the same instances, and less is left to do; or it is over
+  abbrev pub IsOver : Machine → Machine → ℕ → List Node → Work → ℕ → Option Ran → Type 0
+  IsOver old m site nodes work before None = IsSteady old m
+      × IsEvaluating a operations trees m site nodes work.tasks.items work.values.items × (left_to_do nodes work.tasks.items < before)
+  IsOver old m site nodes work before (Some r) = HasRun old m r
 
 -- a tree was built of the last values
 pub record IsBuilt (trees new : List Tree) (before after : Work) (production count : ℕ) (result : Option Ran) : Type 0 where

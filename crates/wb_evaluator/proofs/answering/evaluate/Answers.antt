@@ -9,7 +9,7 @@ use Rattle.wb_values.specs.ValuesIn.{tree_in}
 use Rattle.wb_evaluation.specs.Evaluable.{IsEvaluable, IsAsked}
 use Rattle.wb_evaluation.specs.Needed.{NeedsMoreThan}
 use Rattle.wb_evaluator.proofs.AnsweringLemmas.{answered_at, needs_first}
-use Rattle.wb_evaluator.proofs.DoneLemmas.{same_store}
+use Rattle.wb_evaluator.proofs.SteadyLemmas.{same_store}
 use Rattle.wb_evaluator.specs.Inner.State.{start}
 use Rattle.wb_evaluator.proofs.answering.evaluate.Goals as goal
 

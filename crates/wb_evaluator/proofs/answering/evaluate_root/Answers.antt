@@ -1,7 +1,7 @@
 use Rattle.std.proofs.lemmas.Result.{IfOk-weaker}
 use Rattle.wb_evaluator.proofs.AnsweringLemmas.{answered_as}
 use Rattle.wb_evaluator.proofs.BeginLemmas.{fresh}
-use Rattle.wb_evaluator.proofs.DoneLemmas.{same_store}
+use Rattle.wb_evaluator.proofs.SteadyLemmas.{same_store}
 use Rattle.wb_evaluator.proofs.answering.evaluate_root.Goals as goal
 
 pub returns-in_err-machine-clause-store : goal.returns-in_err-machine-clause-store

@@ -6,13 +6,14 @@ use Rattle.wb_evaluator.proofs.answering.take_turns.Given as goal
 
 abbrev pub invariant-turns : goal.invariant-turns
 invariant-turns g l = record {
-  whole : IsMachine l.context.attributes.now (record { signatures = l.context.operations.now.signatures; meaning = g.M.Meaning.meaning })
-      l.store l.machine;
-  root : l.machine.root ≡ l.initial.machine.root;
-  attribute : l.machine.attribute ≡ l.initial.machine.attribute;
-  within : l.machine.entered ≤ l.context.steps;
+  whole : IsMachine l.context.definitions.attributes.now
+      (record { signatures = l.context.operations.now.signatures; meaning = g.M.Meaning.meaning })
+      l.store l.evaluation.machine;
+  root : l.evaluation.machine.root ≡ l.initial.evaluation.machine.root;
+  attribute : l.evaluation.machine.attribute ≡ l.initial.evaluation.machine.attribute;
+  within : l.evaluation.machine.entered ≤ l.context.steps;
   store : IsExtended l.initial.store l.store;
 }
 
 abbrev pub decreases-turns : goal.decreases-turns
-decreases-turns g l = turns_left l.context.steps l.machine
+decreases-turns g l = turns_left l.context.steps l.evaluation.machine

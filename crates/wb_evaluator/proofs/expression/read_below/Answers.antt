@@ -15,9 +15,9 @@ pub returns : goal.returns
 returns c =
     let e = c.in_ok-below.ensures in
     let made : (r : Option Key)
-    → IsReading c.below.new.self c.args.work.now c.read.new.work (key.Synthesized c.in_ok-below.below c.args.attribute) r
-    → IsReadBelow c.args.store.now c.args.machine.now c.below.new.self c.args.origin.parent c.args.origin.step
-    (λ below. key.Synthesized below c.args.attribute) c.args.work.now c.read.new.work r =
+    → IsReading c.below.new.self c.args.evaluation.now.work c.read.new.work (key.Synthesized c.in_ok-below.below c.args.attribute) r
+    → IsReadBelow c.args.store.now c.args.evaluation.now.machine c.below.new.self c.args.site c.args.step
+    (λ below. key.Synthesized below c.args.attribute) c.args.evaluation.now.work c.read.new.work r =
     λ r reading. record {
       below = c.in_ok-below.below;
       machine = e.same;

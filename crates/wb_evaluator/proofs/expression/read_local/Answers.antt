@@ -13,14 +13,15 @@ read-requires-clause-whole c = c.in_ok-below.ensures.whole
 
 pub read-requires-clause-key : goal.read-requires-clause-key
 read-requires-clause-key c =
-    let e = c.in_ok-below.ensures in (e.site.2.there, (path_in c.args.machine.now.memo c.args.site, local c.args.local, e.site.2.path))
+    let site = c.in_ok-below.ensures.site in
+    (site.2.there, (path_in c.args.evaluation.now.machine.memo c.args.site, local c.args.local, site.2.path))
 
 pub returns : goal.returns
 returns c =
     let e = c.in_ok-below.ensures in
-    let made : (r : Option Key) → IsReading c.below.new.self c.args.work.now c.read.new.work (key.Tree c.in_ok-below.below) r
-    → IsReadBelow c.args.store.now c.args.machine.now c.below.new.self c.args.site (step.Local c.args.local)
-    (λ below. key.Tree below) c.args.work.now c.read.new.work r =
+    let made : (r : Option Key) → IsReading c.below.new.self c.args.evaluation.now.work c.read.new.work (key.Tree c.in_ok-below.below) r
+    → IsReadBelow c.args.store.now c.args.evaluation.now.machine c.below.new.self c.args.site (step.Local c.args.local)
+    (λ below. key.Tree below) c.args.evaluation.now.work c.read.new.work r =
     λ r reading. record {
       below = c.in_ok-below.below;
       machine = e.same;

@@ -4,12 +4,12 @@ use Rattle.wb_evaluator.proofs.perform.evaluate_tasks.Given as goal
 
 abbrev pub invariant-tasks : goal.invariant-tasks
 invariant-tasks g l = record {
-  evaluating : IsEvaluating l.expression.attributes.now
-      (record { signatures = l.expression.operations.now.signatures; meaning = g.M.Meaning.meaning })
-      l.store l.machine l.expression.site l.expression.nodes.now l.work.tasks.items l.work.values.items;
-  same : IsSteady l.initial.machine l.machine;
+  evaluating : IsEvaluating l.context.definitions.attributes.now
+      (record { signatures = l.context.operations.now.signatures; meaning = g.M.Meaning.meaning })
+      l.store l.evaluation.machine l.expression.site l.expression.nodes.now l.evaluation.work.tasks.items l.evaluation.work.values.items;
+  same : IsSteady l.initial.evaluation.machine l.evaluation.machine;
   store : IsExtended l.initial.store l.store;
 }
 
 abbrev pub decreases-tasks : goal.decreases-tasks
-decreases-tasks g l = left_to_do l.expression.nodes.now l.work.tasks.items
+decreases-tasks g l = left_to_do l.expression.nodes.now l.evaluation.work.tasks.items

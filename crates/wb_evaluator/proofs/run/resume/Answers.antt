@@ -1,4 +1,5 @@
 use Rattle.std.proofs.Common.{refl}
+use Rattle.std.proofs.lemmas.Result.{IfOk-weaker}
 use Rattle.wb_evaluator.proofs.ParkLemmas.{rows_some, resumed, started}
 use Rattle.wb_evaluator.specs.Inner.Piles.{wait}
 use Rattle.wb_evaluator.proofs.run.resume.Goals as goal
@@ -18,21 +19,20 @@ begin-requires-clause-whole c =
 pub begin-requires-clause-rules : goal.begin-requires-clause-rules
 begin-requires-clause-rules c = c.requires.rules
 
-pub returns-in-Ok-Some-clause-next : goal.returns-in-Ok-Some-clause-next
-returns-in-Ok-Some-clause-next c = λ operations whole.
+pub returns-in-Ok-Some : goal.returns-in-Ok-Some
+returns-in-Ok-Some c = λ operations whole.
     let e = c.in-Ok-Some.ensures in
     let f = c.in-Ok-Some.frame in
-    let work = c.take.new.work in
-    resumed whole c.take.new.self e.piled e.taken.without (wait f.site f.nodes.now work.tasks.items work.values.items)
-    (e.taken.its f c.in-Ok-Some.field-0-is)
+    let work = c.take.new.work in (
+      record { root = refl; attribute = refl; stack = refl; entered = refl },
+      e.taken.none,
+      resumed whole c.take.new.self e.piled e.taken.without (wait f.site f.nodes.now work.tasks.items work.values.items)
+          (e.taken.its f c.in-Ok-Some.field-0-is),
+    )
 
-pub returns-in-Ok-Some-clause-none : goal.returns-in-Ok-Some-clause-none
-returns-in-Ok-Some-clause-none c = c.in-Ok-Some.ensures.taken.none
-
-pub returns-in-Ok-Some-clause-same : goal.returns-in-Ok-Some-clause-same
-returns-in-Ok-Some-clause-same c = record { root = refl; attribute = refl; stack = refl; entered = refl }
-
-pub returns-in-Ok-None-clause-next : goal.returns-in-Ok-None-clause-next
-returns-in-Ok-None-clause-next c = λ operations whole.
+pub returns-in-Ok-None : goal.returns-in-Ok-None
+returns-in-Ok-None c = λ operations whole.
     let e = c.in-Ok-None.ensures in
-    c.begin.ensures operations (started whole c.take.new.self e.piled e.taken.without)
+    IfOk-weaker c.begin.result _ _
+    (λ start next. (record { root = refl; attribute = refl; stack = refl; entered = refl }, e.taken.none, next))
+    (c.begin.ensures operations (started whole c.take.new.self e.piled e.taken.without))

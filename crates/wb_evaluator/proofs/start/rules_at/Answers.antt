@@ -8,27 +8,27 @@ tree_at-tree-requires c = (c.requires.production.0, c.requires.production.1)
 
 pub production-number-requires : goal.production-number-requires
 production-number-requires c =
-    (production_here c.args.attributes.now c.args.store.now c.args.machine.now c.args.site c.requires.production
+    (production_here c.args.definitions.now.attributes.now c.args.store.now c.args.machine.now c.args.site c.requires.production
     c.tree_at-tree.result c.tree_at-tree.ensures).0
 
 pub bounds-productions-number : goal.bounds-productions-number
 bounds-productions-number c =
     subst (λ ps. c.production-number.result < length ps) (sym c.as_slice-productions.ensures)
-    (number_within c.args.attributes.now c.args.store.now c.args.machine.now c.args.site c.requires.production
+    (number_within c.args.definitions.now.attributes.now c.args.store.now c.args.machine.now c.args.site c.requires.production
     c.tree_at-tree.result c.tree_at-tree.ensures c.production-number.result c.production-number.ensures)
 
 pub index-requires : goal.index-requires
 index-requires c =
-    let within = number_within c.args.attributes.now c.args.store.now c.args.machine.now c.args.site c.requires.production
+    let within = number_within c.args.definitions.now.attributes.now c.args.store.now c.args.machine.now c.args.site c.requires.production
     c.tree_at-tree.result c.tree_at-tree.ensures c.production-number.result c.production-number.ensures in
     let count = c.requires.rules.count in
-    let rows = c.args.index.now.rows.ok.0 in
+    let rows = c.args.definitions.now.rules.now.rows.ok.0 in
     omega (arith, within, count, rows)
 
 pub returns-clause-production : goal.returns-clause-production
 returns-clause-production c =
-    let productions = c.args.attributes.now.productions in
-    let within = number_within c.args.attributes.now c.args.store.now c.args.machine.now c.args.site c.requires.production
+    let productions = c.args.definitions.now.attributes.now.productions in
+    let within = number_within c.args.definitions.now.attributes.now c.args.store.now c.args.machine.now c.args.site c.requires.production
     c.tree_at-tree.result c.tree_at-tree.ensures c.production-number.result c.production-number.ensures in (
       c.tree_at-tree.result,
       c.tree_at-tree.ensures,
@@ -39,9 +39,9 @@ returns-clause-production c =
 
 pub returns-clause-equations : goal.returns-clause-equations
 returns-clause-equations c =
-    let productions = c.args.attributes.now.productions in
-    let rows = c.args.index.now.rows.items in
-    let within = number_within c.args.attributes.now c.args.store.now c.args.machine.now c.args.site c.requires.production
+    let productions = c.args.definitions.now.attributes.now.productions in
+    let rows = c.args.definitions.now.rules.now.rows.items in
+    let within = number_within c.args.definitions.now.attributes.now c.args.store.now c.args.machine.now c.args.site c.requires.production
     c.tree_at-tree.result c.tree_at-tree.ensures c.production-number.result c.production-number.ensures in
     let count = c.requires.rules.count in
     c.requires.rules.each c.production-number.result c.index-productions-number.result c.index.result.now
@@ -53,6 +53,6 @@ pub offset_bounds-productions-number : goal.offset_bounds-productions-number
 offset_bounds-productions-number c =
     let within : c.production-number.result < length c.as_slice-productions.result.now =
     subst (λ ps. c.production-number.result < length ps) (sym c.as_slice-productions.ensures)
-    (number_within c.args.attributes.now c.args.store.now c.args.machine.now c.args.site c.requires.production
+    (number_within c.args.definitions.now.attributes.now c.args.store.now c.args.machine.now c.args.site c.requires.production
     c.tree_at-tree.result c.tree_at-tree.ensures c.production-number.result c.production-number.ensures) in
     search rules

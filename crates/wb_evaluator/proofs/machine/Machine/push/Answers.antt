@@ -1,4 +1,4 @@
-use Rattle.std.proofs.Common.{rules, refl}
+use Rattle.std.proofs.Common.{refl}
 use Rattle.wb_evaluator.proofs.PileLemmas.{entered_piled}
 use Rattle.wb_evaluator.specs.declared.frames.Frames.{Frames}
 use Rattle.wb_evaluator.proofs.machine.Machine.push.Goals as goal
@@ -6,13 +6,13 @@ use Rattle.wb_evaluator.proofs.machine.Machine.push.Goals as goal
 pub returns : goal.returns
 returns c =
     let old = c.args.self.now.frames in
-    let new : Frames = record { rows = c.push_reserved.new.self; tasks = old.tasks; values = old.values } in
-    let entered = entered_piled old new c.requires.piled (search rules) refl refl in
+    let new : Frames = record { rows = c.push.new.list; tasks = old.tasks; values = old.values } in
+    let entered = entered_piled old new c.requires.piled c.in_ok-push.ensures.ok refl refl in
     record {
       memo = refl;
       root = refl;
       attribute = refl;
-      stack = search rules;
+      stack = c.in_ok-push-2.ensures.ok;
       entered = refl;
       frames = entered.1;
       piled = entered.0;
