@@ -2,8 +2,9 @@
 use Rattle.std.proofs.Common.{◌≡◌, Some, None, List, sym, subst, refl}
 use Rattle.std.specs.Prelude.{IfSome, IsSome, Option, option_map}
 use Rattle.wb_base.specs.Grammar.{GrammarView}
-use Rattle.wb_certify.specs.Hosts.{CertifiedView, IsCertifiedValue}
+use Rattle.wb_certify.specs.Hosts.{CertifiedView, IsCertified}
 use Rattle.wb_certify.specs.Refusals.{start_of}
+use Rattle.wb_certify.specs.declared.refusal.CertifyRefusal.{CertifyRefusal}
 use Rattle.wb_certify.specs.declared.refusal.CertifyRefusal.TheVariants as c
 use Rattle.wb_complete.specs.Refusals.{CompleteOk}
 use Rattle.wb_determinism.specs.Hosts.{AreHostParts}
@@ -16,9 +17,9 @@ use Rattle.wb_operations.specs.Operations.{OperationSignature}
 use Rattle.wb_resolved.specs.declared.resolved.ResolvedParts.{ResolvedParts}
 use Rattle.wb_types.specs.Rules.{KindsOk}
 use Rattle.wb_beside.specs.Extensions.{IsCertifiedBeside}
-use Rattle.wb_beside.specs.Kept.{AreKeptParts, ArePartsBeside, Extends, IsKept}
-use Rattle.wb_beside.specs.Refusals.{IsReason}
-use Rattle.wb_beside.specs.Inner.Tests.{ArePartsFound, AttributesOk, IsFound, IsLaterRefusal, IsReasonBeside, IsTested}
+use Rattle.wb_beside.specs.Kept.{ArePartsBeside, Extends, IsKept}
+use Rattle.wb_beside.specs.Refusals.{IsAttributeRefusal, IsBesideRefusal, IsReason}
+use Rattle.wb_beside.specs.Inner.Tests.{ArePartsFound, AttributesOk, IsAttributesReason, IsFound, IsLaterRefusal, IsMade, IsMadeCertified, IsReasonBeside}
 use Rattle.wb_beside.proofs.BesideLemmas.{for_some, has_start, host_beside}
 
 -- what is there
@@ -26,31 +27,31 @@ some_of : {X : Type 0} (o : Option X) → IsSome o → (x : X) × (o ≡ Some x)
 some_of (Some x) is = (x, refl)
 some_of None is = absurd (cc is)
 
-module _ (host : CertifiedView) (r : ResolvedParts) (parts : HostParts) (tested : IsTested host r) (are : parts ≡ host.parts)
-    (of_grammar : (g : GrammarView) → host.resolved.grammar ≡ Some g → AreHostParts host.resolved g host.parts) where
-  own : AreHostParts host.resolved tested.certified.grammar parts
-  own =
-      subst (AreHostParts host.resolved tested.certified.grammar) (sym are)
-      (of_grammar tested.certified.grammar tested.certified.start)
+module _ (host : CertifiedView) (r : ResolvedParts) (parts : HostParts) (extends : Extends host.resolved r) (is_host : IsCertified host)
+    (are : parts ≡ host.parts) where
+  abbrev host_grammar : GrammarView
+  host_grammar = is_host.certified.grammar
+
+  own : AreHostParts host.resolved host_grammar parts
+  own = subst (AreHostParts host.resolved host_grammar) (sym are) (is_host.parts host_grammar is_host.certified.start)
 
   -- there is a start
   pub start_is : IsSome r.grammar
-  start_is = has_start host.resolved r tested.extends.0 tested.extends.1 tested.certified.grammar tested.certified.start
+  start_is = has_start host.resolved r extends.0 extends.1 host_grammar is_host.certified.start
 
   -- the host's parts are those beside which the extension is tested
   pub parts_beside : IfSome r.grammar (λ g. IsHostBeside r g parts)
   parts_beside =
       for_some r.grammar (λ g. IsHostBeside r g parts) (λ g start.
-      host_beside host.resolved r tested.extends.0 tested.extends.1 tested.certified.grammar tested.certified.start tested.whole g
-      start parts own)
+      host_beside host.resolved r extends.0 extends.1 host_grammar is_host.certified.start is_host.whole g start parts own)
 
   -- where it is deterministic beside these parts, it is beside the host
-  pub found : (made : ExtensionParts) → ArePartsFound r parts made → IsFound host.resolved r
+  found : (made : ExtensionParts) → ArePartsFound r parts made → IsFound host.resolved r
   found made is =
       let there = some_of r.grammar start_is in
       let one = is there.0 there.1 in record {
-        host_grammar = tested.certified.grammar;
-        host_start = tested.certified.start;
+        host_grammar = host_grammar;
+        host_start = is_host.certified.start;
         grammar = there.0;
         start = there.1;
         deterministic = record {
@@ -60,11 +61,12 @@ module _ (host : CertifiedView) (r : ResolvedParts) (parts : HostParts) (tested 
       }
 
   -- and the parts that were made are those of the extended grammar
-  pub made_beside : (made : ExtensionParts) → ArePartsFound r parts made → ArePartsBeside r host.parts made
-  made_beside made is = subst (λ (p : HostParts). ArePartsBeside r p made) are (λ g start. (is g start).made)
-
-  pub kept_beside : (made : ExtensionParts) → ArePartsFound r parts made → AreKeptParts host.resolved r made
-  kept_beside made is = record { host_parts = host.parts; of_host = of_grammar; beside = made_beside made is }
+  pub made_beside : (made : ExtensionParts) → ArePartsFound r parts made → IsMade host r made
+  made_beside made is = record {
+    host_certified = is_host;
+    found = found made is;
+    beside = subst (λ (p : HostParts). ArePartsBeside r p made) are (λ g start. (is g start).made);
+  }
 
   -- where it isn't, it isn't beside the host for the same reason
   pub not_found : (refusal : DeterminismRefusal) → IsReasonBeside r parts.grammar refusal → ¬ IsNoMemory refusal
@@ -73,8 +75,8 @@ module _ (host : CertifiedView) (r : ResolvedParts) (parts : HostParts) (tested 
       let there = some_of r.grammar start_is in (
         record {
           kinds = kinds;
-          host_grammar = tested.certified.grammar;
-          host_start = tested.certified.start;
+          host_grammar = host_grammar;
+          host_start = is_host.certified.start;
           grammar = there.0;
           start = there.1;
           reason = subst (λ (k : GrammarView). IsReason r there.0 k refusal) own.grammar (reason there.0 there.1);
@@ -113,18 +115,39 @@ certified host r operations extends kinds is ok = record {
     started = subst (λ (o : Option GrammarView). CompleteOk r.attributes (option_map (λ (g : GrammarView). g.start) o) (Some 1)) is.start
         ok.complete
 
+-- where attributes aren't well defined, it isn't certified
+pub attributes_refused : (host r : ResolvedParts) (operations : List OperationSignature) → KindsOk r.attributes operations → IsFound host r
+    → (refusal : CertifyRefusal) → IsAttributesReason r refusal → IsBesideRefusal host r operations refusal
+attributes_refused host r operations kinds is (c.Names refusal) reason = absurd reason
+attributes_refused host r operations kinds is (c.Types refusal) reason = absurd reason
+attributes_refused host r operations kinds is c.NoStart reason = absurd reason
+attributes_refused host r operations kinds is (c.Determinism refusal) reason = absurd reason
+attributes_refused host r operations kinds is (c.Attributes refusal) (reason, other) = (
+  record {
+    kinds = kinds;
+    host_grammar = is.host_grammar;
+    host_start = is.host_start;
+    grammar = is.grammar;
+    start = is.start;
+    deterministic = is.deterministic;
+    reason = subst (λ (o : Option GrammarView). IsAttributeRefusal r.attributes (option_map (λ (g : GrammarView). g.start) o) refusal)
+        is.start reason;
+  },
+  other,
+)
+attributes_refused host r operations kinds is (c.NoMemory error) reason = tt
+
 -- what is kept of it, with copies
-pub kept_of : (host base r copied : ResolvedParts) (operations kept : List OperationSignature) (parts : ExtensionParts)
-    → base ≡ host → copied ≡ r → kept ≡ operations → IsCertifiedValue host operations → Extends host r → IsCertifiedBeside host r operations
-    → AreKeptParts host r parts
-    → IsKept (record { host = base; resolved = copied; parts = parts; operations = kept })
-kept_of host base r copied operations kept parts same also again certified_host extends is made =
+pub kept_of : (host : CertifiedView) (base r copied : ResolvedParts) (operations kept : List OperationSignature) (parts : ExtensionParts)
+    → base ≡ host.resolved → copied ≡ r → kept ≡ host.operations → operations ≡ host.operations → Extends host.resolved r
+    → IsMadeCertified host r operations parts → IsKept (record { host = base; resolved = copied; parts = parts; operations = kept })
+kept_of host base r copied operations kept parts same also again alike extends made =
     subst (λ (b : ResolvedParts). IsKept (record { host = b; resolved = copied; parts = parts; operations = kept })) (sym same)
-    (subst (λ (q : ResolvedParts). IsKept (record { host = host; resolved = q; parts = parts; operations = kept })) (sym also)
-    (subst (λ (os : List OperationSignature). IsKept (record { host = host; resolved = r; parts = parts; operations = os })) (sym again)
-    (record {
-      host_certified = certified_host;
+    (subst (λ (q : ResolvedParts). IsKept (record { host = host.resolved; resolved = q; parts = parts; operations = kept })) (sym also)
+    (subst (λ (os : List OperationSignature). IsKept (record { host = host.resolved; resolved = r; parts = parts; operations = os }))
+    (sym again) (record {
+      host_certified = made.host_certified.certified;
       extends = extends;
-      certified = is;
-      parts = made;
+      certified = subst (IsCertifiedBeside host.resolved r) alike made.certified;
+      parts = record { host_parts = host.parts; of_host = made.host_certified.parts; beside = made.beside };
     })))

@@ -43,7 +43,8 @@ pub record IsKept (e : ExtensionView) : Type 0 where
   pub parts : AreKeptParts e.host e.resolved e.parts
 
 -- both are resolved and have these grammars; the host is certified, and r is the host with some extension, which is certified beside it
-pub record AreCertifiedBoth (host r : ResolvedParts) (host_grammar grammar : GrammarView) (operations : List OperationSignature) : Type 0 where
+pub record AreCertifiedBoth (host r : ResolvedParts) (host_grammar grammar : GrammarView) (operations : List OperationSignature) :
+    Type 0 where
   pub host_resolved : IsResolved host
   pub resolved : IsResolved r
   pub host_start : host.grammar ≡ Some host_grammar

@@ -1,11 +1,12 @@
 //! Are the attributes of a host with an extension well defined, as an extension's?
 
-ghost use Rattle.std.specs.Prelude.{◌≡◌, IfErr, IfOk};
+ghost use Rattle.std.specs.Prelude.{IfErr, IfOk};
 ghost use Rattle.wb_certify.specs.Refusals.{start_of};
 ghost use Rattle.wb_beside.specs.Inner.Tests.{AttributesOk};
 ghost use Rattle.wb_beside.specs.Refusals.{IsAttributeRefusal};
 
 use std::alloc::Global;
+use wb_certify::start;
 use wb_complete::check_complete;
 use wb_flow::{AttributeRefusal, check_flow};
 use wb_forwards::check_forward;
@@ -20,14 +21,4 @@ pub(crate) fn test_attributes(alloc: Global, resolved: &Resolved) -> Result<(), 
     check_complete(alloc, &parts.attributes, start(resolved), Some(1))?;
     check_flow(alloc, &parts.attributes)?;
     check_forward(alloc, &parts.attributes, 1)
-}
-
-// The start of a resolved specification.
-fn start(resolved: &Resolved) -> Option<usize>
-    ensures { result ≡ start_of resolved.now }
-{
-    match &resolved.parts().grammar {
-        Some(grammar) => Some(grammar.start()),
-        None => None,
-    }
 }

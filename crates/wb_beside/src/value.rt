@@ -2,15 +2,13 @@
 //! reported.
 
 ghost use Rattle.std.specs.Prelude.{◌≡◌, IfErr, IfOk};
-ghost use Rattle.wb_resolved.specs.Resolved.{IsResolved};
 ghost use Rattle.wb_resolved.specs.declared.resolved.ResolvedParts.{ResolvedParts as View};
 ghost use Rattle.wb_types.specs.Rules.{KindsOk};
-ghost use Rattle.wb_certify.specs.Hosts.{IsCertifiedValue};
 ghost use Rattle.wb_certify.specs.Refusals.{start_of};
 ghost use Rattle.wb_beside.specs.Extensions.{IsCertifiedBeside};
-ghost use Rattle.wb_beside.specs.Kept.{AreKeptParts, ArePartsBeside, Extends};
+ghost use Rattle.wb_beside.specs.Kept.{ArePartsBeside, Extends};
 ghost use Rattle.wb_beside.specs.Refusals.{IsBesideRefusal};
-ghost use Rattle.wb_beside.specs.Inner.Tests.{AttributesOk, IsFound, IsLaterRefusal, IsTested};
+ghost use Rattle.wb_beside.specs.Inner.Tests.{AttributesOk, IsAttributesReason, IsLaterRefusal, IsMade, IsMadeCertified};
 
 use crate::CertifiedExtension;
 use crate::attributes::test_attributes;
@@ -44,19 +42,17 @@ pub fn certify_beside<M: Meaning>(
     ensures certified { IfOk result (λ extension. IsCertifiedBeside host.now.resolved resolved.now host.now.operations) }
     ensures refused { IfErr result (IsBesideRefusal host.now.resolved resolved.now host.now.operations) }
 {
-    let (base, copied, signatures) = copies_of(host, resolved)?;
-    match parts_beside(alloc, host, resolved, operations) {
-        Ok(parts) => Ok(CertifiedExtension {
+    let parts = parts_beside(alloc, host, resolved, operations)?;
+    match copies_of(host, resolved) {
+        Ok((base, copied, signatures)) => Ok(CertifiedExtension {
             host: base,
             resolved: copied,
             parts,
             operations: signatures,
         }),
-        Err(refusal) => {
-            base.release();
-            copied.release();
-            signatures.release();
-            Err(refusal)
+        Err(error) => {
+            drop(parts);
+            Err(CertifyRefusal::NoMemory(error))
         }
     }
 }
@@ -69,25 +65,20 @@ fn copies_of(
     ensures host { IfOk result (λ made. made.0 ≡ host.now.resolved) }
     ensures resolved { IfOk result (λ made. made.1 ≡ resolved.now) }
     ensures operations { IfOk result (λ made. made.2 ≡ host.now.operations) }
-    ensures whole { IfOk result (λ made. IsResolved host.now.resolved) }
-    ensures certified { IfOk result (λ made. IsCertifiedValue host.now.resolved host.now.operations) }
 {
-    let own = host.resolved();
-    // That the host is resolved is known where its parts are seen.
-    own.parts();
-    let base = own.copy()?;
+    let base = host.resolved().copy()?;
     let copied = match resolved.copy() {
         Ok(copied) => copied,
         Err(error) => {
-            base.release();
+            drop(base);
             return Err(error);
         }
     };
     match host.operations().copy() {
         Ok(signatures) => Ok((base, copied, signatures)),
         Err(error) => {
-            base.release();
-            copied.release();
+            drop(base);
+            drop(copied);
             Err(error)
         }
     }
@@ -100,18 +91,16 @@ fn parts_beside<M: Meaning>(
     resolved: &Resolved,
     operations: &OperationTable<M>,
 ) -> Result<ExtensionParts, CertifyRefusal>
-    requires { IsTested host.now resolved.now }
-    ensures certified { IfOk result (λ parts. IsCertifiedBeside host.now.resolved resolved.now operations.now.signatures) }
-    ensures parts { IfOk result (ArePartsBeside resolved.now host.now.parts) }
-    ensures kept { IfOk result (AreKeptParts host.now.resolved resolved.now) }
+    requires { Extends host.now.resolved resolved.now }
+    ensures ok { IfOk result (IsMadeCertified host.now resolved.now operations.now.signatures) }
     ensures refused { IfErr result (IsBesideRefusal host.now.resolved resolved.now operations.now.signatures) }
 {
     check_kinds(alloc, resolved, operations)?;
     let parts = determinism_of(alloc, host, resolved)?;
-    match check_attributes(alloc, host, resolved) {
+    match check_attributes(alloc, resolved) {
         Ok(()) => Ok(parts),
         Err(refusal) => {
-            parts.release();
+            drop(parts);
             Err(refusal)
         }
     }
@@ -139,28 +128,21 @@ fn determinism_of(
     host: &CertifiedHost,
     resolved: &Resolved,
 ) -> Result<ExtensionParts, CertifyRefusal>
-    requires { IsTested host.now resolved.now }
-    ensures ok { IfOk result (λ parts. IsFound host.now.resolved resolved.now) }
-    ensures parts { IfOk result (ArePartsBeside resolved.now host.now.parts) }
-    ensures kept { IfOk result (AreKeptParts host.now.resolved resolved.now) }
+    requires { Extends host.now.resolved resolved.now }
+    ensures ok { IfOk result (IsMade host.now resolved.now) }
     ensures refused { IfErr result (IsLaterRefusal host.now.resolved resolved.now) }
 {
     match determinism_beside(alloc, host.parts(), resolved) {
         Ok(made) => Ok(made),
-        Err(DeterminismRefusal::NoMemory(error)) => Err(CertifyRefusal::NoMemory(error)),
+        Err(DeterminismRefusal::NoMemory(..)) => Err(CertifyRefusal::NoMemory(AllocError)),
         Err(refusal) => Err(CertifyRefusal::Determinism(refusal)),
     }
 }
 
 // Whether attributes are well defined.
-fn check_attributes(
-    alloc: Global,
-    _host: &CertifiedHost,
-    resolved: &Resolved,
-) -> Result<(), CertifyRefusal>
-    requires { IsFound _host.now.resolved resolved.now }
+fn check_attributes(alloc: Global, resolved: &Resolved) -> Result<(), CertifyRefusal>
     ensures ok { IfOk result (λ done. AttributesOk resolved.now.attributes (start_of resolved.now)) }
-    ensures refused { IfErr result (IsLaterRefusal _host.now.resolved resolved.now) }
+    ensures refused { IfErr result (IsAttributesReason resolved.now) }
 {
     match test_attributes(alloc, resolved) {
         Ok(()) => Ok(()),

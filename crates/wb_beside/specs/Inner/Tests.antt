@@ -2,8 +2,10 @@
 use Rattle.std.specs.Prelude.{◌≡◌, ℕ, List, Some, Option}
 use Rattle.wb_attributes.specs.Modular.{ForwardEquationsReach}
 use Rattle.wb_base.specs.Grammar.{GrammarView}
-use Rattle.wb_certify.specs.Hosts.{CertifiedView, IsCertifiedValue}
+use Rattle.wb_certify.specs.Hosts.{CertifiedView, IsCertified}
+use Rattle.wb_certify.specs.Refusals.{IsAttributeMemory, start_of}
 use Rattle.wb_certify.specs.declared.refusal.CertifyRefusal.{CertifyRefusal}
+use Rattle.wb_certify.specs.declared.refusal.CertifyRefusal.TheVariants as c
 use Rattle.wb_complete.specs.Refusals.{CompleteOk}
 use Rattle.wb_determinism.specs.declared.parts.HostParts.{HostParts}
 use Rattle.wb_determinism.specs.declared.refusal.DeterminismRefusal.{DeterminismRefusal}
@@ -17,11 +19,10 @@ use Rattle.wb_marks.specs.declared.refusal.MarkRefusal.TheVariants as m
 use Rattle.wb_operations.specs.Operations.{OperationSignature}
 use Rattle.wb_resolved.specs.declared.attribution.AttributionParts.{AttributionParts}
 use Rattle.wb_resolved.specs.declared.resolved.ResolvedParts.{ResolvedParts}
-use Rattle.wb_resolved.specs.Resolved.{IsResolved}
 use Rattle.wb_types.specs.Rules.{KindsOk}
-use Rattle.wb_beside.specs.Extensions.{AreMarkersKept, IsDeterministicBeside}
-use Rattle.wb_beside.specs.Kept.{Extends}
-use Rattle.wb_beside.specs.Refusals.{IsBesideRefusal, IsReason}
+use Rattle.wb_beside.specs.Extensions.{AreMarkersKept, IsCertifiedBeside, IsDeterministicBeside}
+use Rattle.wb_beside.specs.Kept.{ArePartsBeside}
+use Rattle.wb_beside.specs.Refusals.{IsAttributeRefusal, IsBesideRefusal, IsReason}
 
 -- the rules on bridges hold in the grammar
 abbrev pub HaveBridges : ResolvedParts → Type 0
@@ -57,12 +58,6 @@ pub record ArePartsOfDeterministic (r : ResolvedParts) (g : GrammarView) (host :
 abbrev pub ArePartsFound : ResolvedParts → HostParts → ExtensionParts → Type 0
 ArePartsFound r host parts = (g : GrammarView) → r.grammar ≡ Some g → ArePartsOfDeterministic r g host parts
 
--- a certified host, and the specification of it with an extension
-pub record IsTested (host : CertifiedView) (r : ResolvedParts) : Type 0 where
-  pub whole : IsResolved host.resolved
-  pub certified : IsCertifiedValue host.resolved host.operations
-  pub extends : Extends host.resolved r
-
 -- host and extended host have grammars, and the extension is deterministic beside the host
 pub record IsFound (host r : ResolvedParts) : Type 0 where
   pub host_grammar : GrammarView
@@ -70,6 +65,19 @@ pub record IsFound (host r : ResolvedParts) : Type 0 where
   pub grammar : GrammarView
   pub start : r.grammar ≡ Some grammar
   pub deterministic : IsDeterministicBeside host r host_grammar grammar
+
+-- the host is certified, the extension is deterministic beside it, and the parts are those of the extended grammar
+pub record IsMade (host : CertifiedView) (r : ResolvedParts) (parts : ExtensionParts) : Type 0 where
+  pub host_certified : IsCertified host
+  pub found : IsFound host.resolved r
+  pub beside : ArePartsBeside r host.parts parts
+
+-- the same of an extension that is certified beside the host
+pub record IsMadeCertified (host : CertifiedView) (r : ResolvedParts) (operations : List OperationSignature) (parts : ExtensionParts) :
+    Type 0 where
+  pub host_certified : IsCertified host
+  pub certified : IsCertifiedBeside host.resolved r operations
+  pub beside : ArePartsBeside r host.parts parts
 
 -- attributes are complete as an extension's, keep to their flow types, and so do equations for forwarded trees
 pub record AttributesOk (a : AttributionParts) (start : Option ℕ) : Type 0 where
@@ -81,3 +89,9 @@ pub record AttributesOk (a : AttributionParts) (start : Option ℕ) : Type 0 whe
 abbrev pub IsLaterRefusal : (host r : ResolvedParts) → CertifyRefusal → Type 0
 IsLaterRefusal host r refusal = (operations : List OperationSignature) → KindsOk r.attributes operations
     → IsBesideRefusal host r operations refusal
+
+-- a rule of attributes fails for this reason; want of memory says nothing and is in no other reason
+abbrev pub IsAttributesReason : ResolvedParts → CertifyRefusal → Type 0
+IsAttributesReason r (c.Attributes refusal) = IsAttributeRefusal r.attributes (start_of r) refusal × ¬ IsAttributeMemory refusal
+IsAttributesReason r (c.NoMemory error) = Unit {0}
+IsAttributesReason r other = ⊥

@@ -15,7 +15,8 @@ returns-in-Ok-clause-parts g c =
 pub returns-in-Ok-clause-certified : goal.returns-in-Ok-clause-certified
 returns-in-Ok-clause-certified g c =
     certified_extension c.args.host.now.resolved c.args.spec.now c.in-Ok.resolved c.args.host.now.operations
-    (rw c.resolved.ensures.resolved at c.in-Ok.ensures.ok) c.certify_beside-answer.result c.resolved.ensures.certified c.certify_beside-answer.ensures.certified
+    (rw c.resolved.ensures.resolved at c.in-Ok.ensures.ok) c.certify_beside-answer.result c.resolved.ensures.certified
+    c.certify_beside-answer.ensures.certified
 
 pub returns-in-Ok-clause-refused : goal.returns-in-Ok-clause-refused
 returns-in-Ok-clause-refused g c =

@@ -2,7 +2,7 @@ use Rattle.wb_lemmas.proofs.Refusals.{handed_on}
 use Rattle.wb_resolved.specs.declared.resolved.ResolvedParts.{ResolvedParts}
 use Rattle.wb_beside.specs.Inner.Tests.{IsLaterRefusal}
 use Rattle.wb_beside.specs.Refusals.{IsBesideRefusal}
-use Rattle.wb_beside.proofs.ValueLemmas.{certified}
+use Rattle.wb_beside.proofs.ValueLemmas.{attributes_refused, certified}
 use Rattle.wb_beside.proofs.value.parts_beside.Goals as goal
 
 pub returns-in_err-check_kinds-clause-refused : goal.returns-in_err-check_kinds-clause-refused
@@ -21,9 +21,14 @@ returns-in_err-parts-clause-refused g c =
     c.in_err-parts.ensures.refused
 
 pub returns-in-Err-clause-refused : goal.returns-in-Err-clause-refused
-returns-in-Err-clause-refused g c = c.in-Err.ensures.refused c.args.operations.now.signatures c.in_ok-check_kinds.ensures.ok
+returns-in-Err-clause-refused g c =
+    attributes_refused c.args.host.now.resolved c.args.resolved.now c.args.operations.now.signatures c.in_ok-check_kinds.ensures.ok
+    c.in_ok-parts.ensures.ok.found c.in-Err.refusal c.in-Err.ensures.refused
 
-pub returns-in-Ok-clause-certified : goal.returns-in-Ok-clause-certified
-returns-in-Ok-clause-certified g c =
-    certified c.args.host.now.resolved c.args.resolved.now c.args.operations.now.signatures c.requires.extends
-    c.in_ok-check_kinds.ensures.ok c.in_ok-parts.ensures.ok c.in-Ok.ensures.ok
+pub returns-in-Ok-clause-ok : goal.returns-in-Ok-clause-ok
+returns-in-Ok-clause-ok g c = record {
+  host_certified = c.in_ok-parts.ensures.ok.host_certified;
+  certified = certified c.args.host.now.resolved c.args.resolved.now c.args.operations.now.signatures c.requires
+      c.in_ok-check_kinds.ensures.ok c.in_ok-parts.ensures.ok.found c.in-Ok.ensures.ok;
+  beside = c.in_ok-parts.ensures.ok.beside;
+}
