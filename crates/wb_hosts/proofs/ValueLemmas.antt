@@ -12,7 +12,7 @@ use Rattle.wb_hosts.specs.Contents.{StandsFor, IsOfKinds, IsRefusedValue, IsHost
 use Rattle.wb_hosts.specs.WellDefined.{IsWellDefinedTextRefusal}
 use Rattle.wb_hosts.specs.declared.refusal.HostRefusal.{HostRefusal}
 use Rattle.wb_hosts.specs.declared.refusal.HostRefusal.TheVariants as h
-use Rattle.wb_hosts.specs.Inner.Refused.{IsSort}
+use Rattle.wb_hosts.specs.Inner.Refused.{IsShownAs, IsSort}
 
 module _ (operations : List OperationSignature) (contents : List ℕ) (r : ResolvedParts) (stands : StandsFor contents r) (shown : Refusal)
   where
@@ -22,11 +22,12 @@ module _ (operations : List OperationSignature) (contents : List ℕ) (r : Resol
         record { value = r; stands = stands; refusal = refusal; reason = reason; meets = meets; shows = shows }
 
     certification : (refusal : CertifyRefusal) → IsValueRefusal r operations refusal → ¬ IsOfKinds refusal
-        → refusal_shown r refusal ≡ Some shown → (sort : HostRefusal) → sort ≡ h.Certification shown → IsHostRefusal operations contents sort
+        → refusal_shown r refusal ≡ Some shown → (sort : HostRefusal) → sort ≡ h.Certification shown
+        → IsHostRefusal operations contents sort
     certification refusal reason other shows sort is =
         subst (IsHostRefusal operations contents) (sym is) (refused (λ (z : CertifyRefusal). ¬ IsOfKinds z) refusal reason other shows)
 
-    pub value_refused : (refusal : CertifyRefusal) → IsValueRefusal r operations refusal → refusal_shown r refusal ≡ Some shown
+    value_refused : (refusal : CertifyRefusal) → IsValueRefusal r operations refusal → refusal_shown r refusal ≡ Some shown
         → (sort : HostRefusal) → IsSort refusal shown sort → IsHostRefusal operations contents sort
     value_refused (c.Types refusal) reason shows sort is =
         subst (IsHostRefusal operations contents) (sym is) (inr (inr (refused IsOfKinds (c.Types refusal) reason tt shows)))
@@ -37,7 +38,7 @@ module _ (operations : List OperationSignature) (contents : List ℕ) (r : Resol
     value_refused (c.NoMemory error) reason shows sort is = certification (c.NoMemory error) reason (λ z. z) shows sort is
 
     -- and one of attributes is too
-    pub ill_defined_refused : (refusal : CertifyRefusal) → IsWellDefinedRefusal r operations refusal → refusal_shown r refusal ≡ Some shown
+    ill_defined_refused : (refusal : CertifyRefusal) → IsWellDefinedRefusal r operations refusal → refusal_shown r refusal ≡ Some shown
         → (sort : HostRefusal) → IsSort refusal shown sort → IsWellDefinedTextRefusal operations contents sort
     ill_defined_refused (c.Types refusal) reason shows sort is =
         subst (IsWellDefinedTextRefusal operations contents) (sym is)
@@ -51,3 +52,28 @@ module _ (operations : List OperationSignature) (contents : List ℕ) (r : Resol
     ill_defined_refused (c.Names refusal) reason shows sort is = absurd reason
     ill_defined_refused c.NoStart reason shows sort is = absurd reason
     ill_defined_refused (c.Determinism refusal) reason shows sort is = absurd reason
+
+module _ (r : ResolvedParts) (refusal : CertifyRefusal) where
+  -- what is shown of it, by its sort
+  pub shown_as : (shown : Refusal) → refusal_shown r refusal ≡ Some shown → (sort : HostRefusal) → IsSort refusal shown sort
+      → IsShownAs r refusal sort
+  shown_as shown shows (h.Specification other) is = (shown, shows, is)
+  shown_as shown shows (h.Certification other) is = (shown, shows, is)
+  shown_as shown shows (h.NoMemory error) is = tt
+
+  module _ (operations : List OperationSignature) (contents : List ℕ) (stands : StandsFor contents r) where
+    pub shown_refused : IsValueRefusal r operations refusal → (sort : HostRefusal) → IsShownAs r refusal sort
+        → IsHostRefusal operations contents sort
+    shown_refused reason (h.Specification other) (shown, shows, is) =
+        value_refused operations contents r stands shown refusal reason shows (h.Specification other) is
+    shown_refused reason (h.Certification other) (shown, shows, is) =
+        value_refused operations contents r stands shown refusal reason shows (h.Certification other) is
+    shown_refused reason (h.NoMemory error) is = tt
+
+    pub shown_ill_defined : IsWellDefinedRefusal r operations refusal → (sort : HostRefusal) → IsShownAs r refusal sort
+        → IsWellDefinedTextRefusal operations contents sort
+    shown_ill_defined reason (h.Specification other) (shown, shows, is) =
+        ill_defined_refused operations contents r stands shown refusal reason shows (h.Specification other) is
+    shown_ill_defined reason (h.Certification other) (shown, shows, is) =
+        ill_defined_refused operations contents r stands shown refusal reason shows (h.Certification other) is
+    shown_ill_defined reason (h.NoMemory error) is = tt

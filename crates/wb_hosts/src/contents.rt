@@ -2,17 +2,18 @@
 //!
 //! They are read, names get their numbers, and the value that they stand for is certified; each refusal is handed on as a report shows it.
 
-ghost use Rattle.std.specs.Prelude.{◌≡◌, [], IfErr, IfOk, List, ℕ};
-ghost use Rattle.wb_certify.specs.Refusals.{IsNameMemory, IsValueRefusal};
+ghost use Rattle.std.specs.Prelude.{◌≡◌, ◌≢◌, [], IfErr, IfOk, List, None, ℕ};
+ghost use Rattle.wb_certify.specs.Refusals.{IsNameMemory};
 ghost use Rattle.wb_names.specs.Resolving.{IsHostNameRefusal};
 ghost use Rattle.wb_reader.specs.OneAnswer.{IsNoMemory};
 ghost use Rattle.wb_reader.specs.Refusals.{HasCause, IsAcceptedText};
+ghost use Rattle.wb_shown.specs.Shows.{refusal_shown};
 ghost use Rattle.wb_hosts.specs.Contents.{IsHostRefusal, IsHostText, StandsFor};
-ghost use Rattle.wb_hosts.specs.Inner.Refused.{IsCertifyMemory, IsSort};
+ghost use Rattle.wb_hosts.specs.Inner.Refused.{IsShownAs, IsSort};
 ghost use Rattle.wb_hosts.specs.Inner.Unresolved.{IsUnresolved};
 
 use crate::HostRefusal;
-use std::alloc::Global;
+use std::alloc::{AllocError, Global};
 use wb_certify::{CertifiedHost, CertifyRefusal, certify_resolved};
 use wb_names::resolve_host;
 use wb_naming::NameRefusal;
@@ -54,9 +55,9 @@ fn certified<M: Meaning>(
 {
     match certify_resolved(alloc, resolved, operations) {
         Ok(host) => Ok(host),
-        Err(CertifyRefusal::NoMemory(error)) => Err(HostRefusal::NoMemory(error)),
+        Err(CertifyRefusal::NoMemory(..)) => Err(HostRefusal::NoMemory(AllocError)),
         Err(refusal) => {
-            let shown = bad_value(alloc, resolved, operations, &refusal);
+            let shown = bad_value(alloc, resolved, &refusal);
             refusal.release();
             Err(shown)
         }
@@ -131,16 +132,10 @@ fn bad_names(spec: &Spec, refusal: NameRefusal) -> HostRefusal
     }
 }
 
-// What is shown of a value that isn't certified.
-fn bad_value<M: Meaning>(
-    alloc: Global,
-    resolved: &Resolved,
-    operations: &OperationTable<M>,
-    refusal: &CertifyRefusal,
-) -> HostRefusal
-    requires reason { IsValueRefusal resolved.now operations.now.signatures refusal.now }
-    requires memory { ¬ IsCertifyMemory refusal.now }
-    ensures { (contents : List ℕ) → StandsFor contents resolved.now → IsHostRefusal operations.now.signatures contents result }
+// What is shown of a value for this reason.
+pub(crate) fn bad_value(alloc: Global, resolved: &Resolved, refusal: &CertifyRefusal) -> HostRefusal
+    requires { refusal_shown resolved.now refusal.now ≢ None }
+    ensures { IsShownAs resolved.now refusal.now result }
 {
     match shown_refusal(alloc, resolved, refusal) {
         Ok(Some(shown)) => of_sort(refusal, shown),
@@ -150,7 +145,7 @@ fn bad_value<M: Meaning>(
 }
 
 // A refusal of the sort that the rule is of.
-pub(crate) fn of_sort(refusal: &CertifyRefusal, shown: Refusal) -> HostRefusal
+fn of_sort(refusal: &CertifyRefusal, shown: Refusal) -> HostRefusal
     ensures { IsSort refusal.now shown result }
 {
     match refusal {

@@ -1,18 +1,16 @@
 //! Which host with well-defined attributes are the contents of a file? Nothing is asked of its grammar.
 
 ghost use Rattle.std.specs.Prelude.{◌≡◌, [], IfErr, IfOk, List, ℕ};
-ghost use Rattle.wb_certify.specs.WellDefined.{HasWellDefinedAttributes, IsWellDefinedRefusal};
+ghost use Rattle.wb_certify.specs.WellDefined.{HasWellDefinedAttributes};
 ghost use Rattle.wb_hosts.specs.Contents.{StandsFor};
 ghost use Rattle.wb_hosts.specs.WellDefined.{IsWellDefinedText, IsWellDefinedTextRefusal};
-ghost use Rattle.wb_hosts.specs.Inner.Refused.{IsCertifyMemory};
 
 use crate::HostRefusal;
-use crate::contents::{of_sort, value_of};
-use std::alloc::Global;
+use crate::contents::{bad_value, value_of};
+use std::alloc::{AllocError, Global};
 use wb_certify::{CertifyRefusal, check_well_defined};
 use wb_operations::{Meaning, OperationTable};
 use wb_resolved::Resolved;
-use wb_shown::shown_refusal;
 
 /// The host with well-defined attributes over a table of operations that the contents of a file are, or why they are none.
 ///
@@ -48,29 +46,11 @@ fn check_attributes<M: Meaning>(
 {
     match check_well_defined(alloc, resolved, operations) {
         Ok(()) => Ok(()),
-        Err(CertifyRefusal::NoMemory(error)) => Err(HostRefusal::NoMemory(error)),
+        Err(CertifyRefusal::NoMemory(..)) => Err(HostRefusal::NoMemory(AllocError)),
         Err(refusal) => {
-            let shown = ill_defined(alloc, resolved, operations, &refusal);
+            let shown = bad_value(alloc, resolved, &refusal);
             refusal.release();
             Err(shown)
         }
-    }
-}
-
-// What is shown of a value whose attributes aren't well defined.
-fn ill_defined<M: Meaning>(
-    alloc: Global,
-    resolved: &Resolved,
-    operations: &OperationTable<M>,
-    refusal: &CertifyRefusal,
-) -> HostRefusal
-    requires reason { IsWellDefinedRefusal resolved.now operations.now.signatures refusal.now }
-    requires memory { ¬ IsCertifyMemory refusal.now }
-    ensures { (contents : List ℕ) → StandsFor contents resolved.now → IsWellDefinedTextRefusal operations.now.signatures contents result }
-{
-    match shown_refusal(alloc, resolved, refusal) {
-        Ok(Some(shown)) => of_sort(refusal, shown),
-        Ok(None) => unreachable!(),
-        Err(error) => HostRefusal::NoMemory(error),
     }
 }
