@@ -19,7 +19,7 @@ ghost use Rattle.wb_extension_files.specs.Inner.Refused.{IsOtherHost, IsSort};
 
 use crate::FileRefusal;
 use crate::header::extension_spec;
-use std::alloc::Global;
+use std::alloc::{AllocError, Global};
 use wb_beside::{CertifiedExtension, certify_beside};
 use wb_certify::{CertifiedHost, CertifyRefusal};
 use wb_names::resolve_extension;
@@ -92,7 +92,7 @@ fn certified<M: Meaning>(
 {
     match certify_beside(alloc, host, resolved, operations) {
         Ok(extension) => Ok(extension),
-        Err(CertifyRefusal::NoMemory(error)) => Err(FileRefusal::NoMemory(error)),
+        Err(CertifyRefusal::NoMemory(..)) => Err(FileRefusal::NoMemory(AllocError)),
         Err(refusal) => {
             let shown = bad_value(alloc, resolved, &refusal);
             refusal.release();

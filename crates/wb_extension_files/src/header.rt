@@ -47,27 +47,15 @@ fn check_header(alloc: Global, host: &CertifiedHost, spec: &Spec) -> Result<(), 
 {
     match spec.header() {
         Header::Host => Err(no_extension(alloc, spec)),
-        Header::Extension { host: other } => check_host(alloc, host, spec, other),
-    }
-}
-
-// Whether the host that a specification names is this one.
-fn check_host(
-    alloc: Global,
-    host: &CertifiedHost,
-    _spec: &Spec,
-    other: &Bytes,
-) -> Result<(), FileRefusal>
-    requires { _spec.now.header ≡ header.Extension other.now }
-    ensures ok { IfOk result (λ done. _spec.now.header ≡ header.Extension host.now.resolved.host) }
-    ensures refused { IfErr result (λ refusal. (contents : List ℕ) → IsAcceptedText contents _spec.now → IsHeaderRefusal host.now.resolved contents refusal) }
-{
-    if other.as_slice() == host.name() {
-        return Ok(());
-    }
-    match Bytes::from_slice(alloc, other.as_slice()) {
-        Ok(name) => Err(FileRefusal::WrongHost(name)),
-        Err(error) => Err(FileRefusal::NoMemory(error)),
+        Header::Extension { host: other } => {
+            if other.as_slice() == host.name() {
+                return Ok(());
+            }
+            match Bytes::from_slice(alloc, other.as_slice()) {
+                Ok(name) => Err(FileRefusal::WrongHost(name)),
+                Err(error) => Err(FileRefusal::NoMemory(error)),
+            }
+        }
     }
 }
 
