@@ -19,7 +19,8 @@ use Rattle.wb_types.specs.Rules.{KindsOk}
 use Rattle.wb_beside.specs.Extensions.{IsCertifiedBeside}
 use Rattle.wb_beside.specs.Kept.{ArePartsBeside, Extends, IsKept}
 use Rattle.wb_beside.specs.Refusals.{IsAttributeRefusal, IsBesideRefusal, IsReason}
-use Rattle.wb_beside.specs.Inner.Tests.{ArePartsFound, AttributesOk, IsAttributesReason, IsFound, IsLaterRefusal, IsMade, IsMadeCertified, IsReasonBeside}
+use Rattle.wb_beside.specs.Inner.Tests.{ArePartsFound, AttributesOk, IsAttributesReason, IsFound, IsLaterRefusal, IsMade}
+use Rattle.wb_beside.specs.Inner.Tests.{IsMadeCertified, IsReasonBeside}
 use Rattle.wb_beside.proofs.BesideLemmas.{for_some, has_start, host_beside}
 
 -- what is there

@@ -1,5 +1,6 @@
 -- What the tests of a production find is what the rules say.
-use Rattle.std.proofs.Common.{◌≡◌, ◌≢◌, ◌∙◌, ◌⊎◌, inl, inr, ℕ, List, None, Option, Some, IfNone, refl, sym, ap, subst, Contains, slice_get, get_or, [], false, is_some}
+use Rattle.std.proofs.Common.{◌≡◌, ◌≢◌, ◌∙◌, ◌⊎◌, inl, inr, ℕ, List, None, Option, Some, IfNone, refl, sym, ap, subst}
+use Rattle.std.proofs.Common.{Contains, slice_get, get_or, [], false, is_some}
 use Rattle.std.proofs.Common.{◌<◌, ◌≤◌, length, option_map}
 use Rattle.std.proofs.lemmas.Option.{same_Some, slice_get_past}
 use Rattle.wb_base.specs.declared.symbol.Kind.TheVariants as kind
@@ -142,8 +143,8 @@ module _ (a : AttributionParts) (production : Production) where
 
   module _ (is : IsAttribution a) where
     -- what a read of an expression lacks is lacked one step down
-    pub lacks_below : (v : w.Vertex) (nodes : List Node) → IsRule production v nodes → (vertex : Vertex) → LacksReads a production nodes vertex
-        → LacksBelow a production vertex
+    pub lacks_below : (v : w.Vertex) (nodes : List Node) → IsRule production v nodes → (vertex : Vertex)
+        → LacksReads a production nodes vertex → LacksBelow a production vertex
     lacks_below v nodes rule vertex (node, listed, lacks) =
         let goes = (flow_type_inherited a is lacks.attribute lacks.nonterminal lacks.inherited_one lacks.needs).1.goes in
         record {
@@ -249,7 +250,8 @@ local_kind_at production locals n l same within is =
 pub no_child_at : (production : Production) (children : List Child) (n m : ℕ) → children ≡ production.children → length children ≤ n
     → ¬ IsTreeAt production (place.Child n) m
 no_child_at production children n m same past tree =
-    let none = ap (option_map (λ (x : Child). x.kind)) (subst (λ (z : List Child). slice_get z n ≡ None) same (slice_get_past children n past)) in
+    let none = ap (option_map (λ (x : Child). x.kind))
+    (subst (λ (z : List Child). slice_get z n ≡ None) same (slice_get_past children n past)) in
     let bad = sym none ∙ tree in cc
 
 pub no_local_at : (production : Production) (locals : List Local) (n m : ℕ) → locals ≡ production.locals → length locals ≤ n

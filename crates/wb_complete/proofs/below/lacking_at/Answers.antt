@@ -6,12 +6,12 @@ pub returns-clause-some : goal.returns-clause-some
 returns-clause-some c =
     let needs = c.needs.result.now in
     IfSome_then c.lacking_of.result c.lacking_of.ensures.some
-    (lacks_read c.args.scope.now.attributes.now c.args.production.now c.args.node.now c.in-Read.label c.in-Read.attribute c.in-Some.nonterminal
-    needs c.in-Read.is c.in-Some.ensures.some (λ i. (c.needs.ensures i).0))
+    (lacks_read c.args.scope.now.attributes.now c.args.production.now c.args.node.now c.in-Read.label c.in-Read.attribute
+    c.in-Some.nonterminal needs c.in-Read.is c.in-Some.ensures.some (λ i. (c.needs.ensures i).0))
 
 pub returns-clause-none : goal.returns-clause-none
 returns-clause-none c =
     let needs = c.needs.result.now in
     none_then c.lacking_of.result c.lacking_of.ensures.none
-    (defines_read c.args.scope.now.attributes.now c.args.production.now c.args.node.now c.in-Read.label c.in-Read.attribute c.in-Some.nonterminal
-    needs c.in-Read.is c.in-Some.ensures.some (λ i. (c.needs.ensures i).1))
+    (defines_read c.args.scope.now.attributes.now c.args.production.now c.args.node.now c.in-Read.label c.in-Read.attribute
+    c.in-Some.nonterminal needs c.in-Read.is c.in-Some.ensures.some (λ i. (c.needs.ensures i).1))

@@ -23,9 +23,10 @@ returns-in-Some-forward-clause-none c =
     none_then c.lacking_in.result c.lacking_in.ensures.none
     (λ defines. defines_below a c.args.production.now c.in_default.ensures.none c.in_default-lacking_in_locals.ensures.none
     (λ f there. subst (DefinesReads a c.args.production.now)
-    (c.as_slice.ensures ∙ ap (λ (z : Forward). z.nodes) (same_Some c.in-Some-forward.forward f (sym c.in-Some-forward.is ∙ there))) defines))
+    (c.as_slice.ensures ∙ ap (λ (z : Forward). z.nodes) (same_Some c.in-Some-forward.forward f (sym c.in-Some-forward.is ∙ there)))
+    defines))
 
 pub returns-in-None-clause-none : goal.returns-in-None-clause-none
 returns-in-None-clause-none c =
-    defines_below c.args.scope.now.attributes.now c.args.production.now c.in_default.ensures.none c.in_default-lacking_in_locals.ensures.none
-    (λ f there. let bad = sym c.in-None.is ∙ there in cc)
+    defines_below c.args.scope.now.attributes.now c.args.production.now c.in_default.ensures.none
+    c.in_default-lacking_in_locals.ensures.none (λ f there. let bad = sym c.in-None.is ∙ there in cc)

@@ -17,7 +17,8 @@ returns-in-Some-clause-some c =
     let there = read_item items c.equations.equation-index e c.equations-test.true c.equation-item.is in
     let listed = subst (λ (z : List Equation). Contains z e) c.as_slice-equation-items.ensures
     (contains_at items e c.equations.equation-index there) in
-    lacks_below a c.args.production.now c.requires.attribution (target_vertex e.target) e.nodes (by_equation e listed refl refl) c.in-Some.vertex
+    lacks_below a c.args.production.now c.requires.attribution (target_vertex e.target) e.nodes (by_equation e listed refl refl)
+    c.in-Some.vertex
     (subst (λ (z : List Node). LacksReads a c.args.production.now z c.in-Some.vertex) c.as_slice.ensures c.in-Some.ensures.some)
 
 pub equations-preserved : goal.equations-preserved

@@ -6,5 +6,5 @@ use Rattle.wb_resolved.specs.declared.attributes.Occurrence.{Occurrence}
 use Rattle.wb_complete.proofs.check.inherited_of_start.Given as goal
 
 abbrev pub invariant-occurrences : goal.invariant-occurrences
-invariant-occurrences l = EachBefore l.number-items l.number-index (λ n. (o : Occurrence) → slice_get l.scope.attributes.now.occurrences n ≡ Some o
-    → ¬ Goes l.scope.attributes.now Inherited o.attribute)
+invariant-occurrences l = EachBefore l.number-items l.number-index (λ n. (o : Occurrence)
+    → slice_get l.scope.attributes.now.occurrences n ≡ Some o → ¬ Goes l.scope.attributes.now Inherited o.attribute)

@@ -5,5 +5,5 @@ use Rattle.wb_resolved.specs.declared.attributes.Occurrence.{Occurrence}
 use Rattle.wb_complete.proofs.top.lacking_top.Given as goal
 
 abbrev pub invariant-occurrences : goal.invariant-occurrences
-invariant-occurrences l = EachBefore l.place-items l.place-index (λ n. (o : Occurrence) → slice_get l.scope.attributes.now.occurrences n ≡ Some o
-    → DefinesAttribute l.scope.attributes.now l.production o)
+invariant-occurrences l = EachBefore l.place-items l.place-index (λ n. (o : Occurrence)
+    → slice_get l.scope.attributes.now.occurrences n ≡ Some o → DefinesAttribute l.scope.attributes.now l.production o)
