@@ -20,4 +20,6 @@ pub mod Texts
 pub mod Reads
 -- why a run stops at a file, and what a shelf keeps meanwhile
 pub mod Stopped
+-- what a run that reads files makes
+pub mod Makes
 pub mod Inner

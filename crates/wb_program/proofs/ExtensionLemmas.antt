@@ -1,5 +1,7 @@
 -- What is made of the files of extensions, in their order, is their report; and a run that stops at one of them has its cause.
+use Rattle.std.proofs.Common.{String, Global, string_bytes}
 use Rattle.std.proofs.Common.{◌≡◌, ◌<◌, ◌≤◌, ◌+◌, ◌++◌, inl, inr, ℕ, List, [], ◌∷◌, Option, length, map, drop, subst, sym, refl}
+use Rattle.std.proofs.lemmas.List.{length-map}
 use Rattle.wb_extension_files.specs.Contents.{IsExtensionText, IsExtensionRefusal}
 use Rattle.wb_extension_files.specs.declared.refusal.FileRefusal.{FileRefusal}
 use Rattle.wb_extension_files.specs.declared.refusal.FileRefusal.TheVariants as f
@@ -14,21 +16,19 @@ use Rattle.wb_report.specs.declared.refusal.Refusal.TheVariants as r
 use Rattle.wb_report.specs.declared.spec_reason.SpecReason.TheVariants as t
 use Rattle.wb_resolved.specs.declared.resolved.ResolvedParts.{ResolvedParts}
 use Rattle.wb_world.specs.Shelf.{Files}
-use Rattle.wb_words.specs.Asked as a
-use Rattle.wb_inputs.specs.Reads.{Read, file_of, certified_host, certified_extension, Passes, StopsAt, IsMissing, IsFaulty}
+use Rattle.wb_words.specs.Words.{texts}
+use Rattle.wb_inputs.specs.Reads.{Read, file_of, certified_extension, Passes, StopsAt}
 use Rattle.wb_inputs.specs.Files.{KnownFile}
 use Rattle.wb_inputs.specs.ExtensionChecks.{RefusedExtension}
 use Rattle.wb_inputs.specs.HostChecks.{IsHostFile, RefusesHost}
-use Rattle.wb_inputs.specs.Stopped.{Outside, Stopped, GoesOn}
+use Rattle.wb_inputs.specs.Stopped.{Outside, Stopped}
 use Rattle.wb_inputs.specs.declared.reading.ReadFailure.{ReadFailure}
 use Rattle.wb_inputs.specs.declared.reading.ReadFailure.TheVariants.{Absent, ReadFault, NoMemory}
 use Rattle.wb_inputs.specs.declared.status.Status.{Status}
-use Rattle.wb_inputs.specs.declared.status.Status.TheVariants.{Done}
-use Rattle.wb_inputs.proofs.CauseLemmas.{stops_first, stops_since, weaker_stop}
+use Rattle.wb_inputs.specs.declared.status.Status.TheVariants.{Done, TooManyExtensions}
+use Rattle.wb_inputs.proofs.CauseLemmas.{stops_first}
 use Rattle.wb_inputs.proofs.HostLemmas.{refused_checks}
-use Rattle.wb_program.specs.Reads.{certify_reads}
 use Rattle.wb_program.specs.CertifyReport.{CertifyReport, ExtensionsReport, IsExtensionNamed}
-use Rattle.wb_program.specs.Reads.{ReadsTo}
 use Rattle.wb_program.specs.Inner.Extensions.{EndsAtExtension, LeadsTo, StopsFrom, CertifyStops}
 
 -- a text that is too long is refused for that
@@ -92,6 +92,14 @@ passes_on operations before now read reads Absent passes stopped = inr (passes, 
 passes_on operations before now read reads ReadFault passes stopped = inr (passes, stopped)
 passes_on operations before now read reads NoMemory passes stopped = tt
 
+-- a run that stops for a reason of each place
+every_place : (before now : Outside) (IsPlace : List ℕ → Type 0) (C : List ℕ → (List ℕ → Type 0) → Type 0) (failure : ReadFailure)
+    → ((place : List ℕ) → IsPlace place → Stopped before now (C place) failure)
+    → Stopped before now (λ P. (place : List ℕ) → IsPlace place → C place P) failure
+every_place before now IsPlace C Absent stopped = stopped
+every_place before now IsPlace C ReadFault stopped = stopped
+every_place before now IsPlace C NoMemory stopped = tt
+
 module _ (operations : List OperationSignature) (before : Outside) (host : ResolvedParts) (files : List (List ℕ)) where
   -- before the first extension
   pub stops_from_first : StopsFrom operations before.files host files before 0
@@ -110,18 +118,20 @@ module _ (operations : List OperationSignature) (before : Outside) (host : Resol
 
   -- at one of them
   pub stops_here : (at : ℕ) (file : List ℕ) (now : Outside) (failure : ReadFailure) → drop at files ≡ file ∷ drop (at + 1) files
-      → StopsFrom operations before.files host files before at → Stopped before now (λ P. P file) failure → (place : List ℕ)
-      → KnownFile before.files place (λ contents. IsHostText operations contents host)
-      → Stopped before now (λ P. StopsAt operations before.files P (map (certified_extension place) files)) failure
-  stops_here at file now failure here from stopped place is_host =
-      from place is_host now failure
+      → StopsFrom operations before.files host files before at → Stopped before now (λ P. P file) failure
+      → Stopped before now (λ P. (place : List ℕ) → KnownFile before.files place (λ contents. IsHostText operations contents host)
+      → StopsAt operations before.files P (map (certified_extension place) files)) failure
+  stops_here at file now failure here from stopped =
+      every_place before now (λ place. KnownFile before.files place (λ contents. IsHostText operations contents host))
+      (λ place P. StopsAt operations before.files P (map (certified_extension place) files)) failure
+      (λ place is_host. from place is_host now failure
       (subst (λ (left : List (List ℕ)). Stopped before now
       (λ P. StopsAt operations before.files P (map (certified_extension place) left)) failure) (sym here)
       (stops_first operations before now (certified_extension place file) file (map (certified_extension place) (drop (at + 1) files))
-      failure (λ P is. inl is) stopped))
+      failure (λ P is. inl is) stopped)))
 
--- a run that is missing a file later misses it since it began, and so at a list of files
-stops_at_since : (operations : List OperationSignature) (known later : Option Files) (P Q : List ℕ → Type 0) (reads : List Read)
+-- a list of files in which one meets this later has one that meets what is weaker at first
+pub stops_at_since : (operations : List OperationSignature) (known later : Option Files) (P Q : List ℕ → Type 0) (reads : List Read)
     → later ≡ known → ((file : List ℕ) → P file → Q file) → StopsAt operations later P reads → StopsAt operations known Q reads
 stops_at_since operations known later P Q [] same since stops = stops
 stops_at_since operations known later P Q (read ∷ reads) same since (inl here) = inl (since (file_of read) here)
@@ -131,19 +141,6 @@ stops_at_since operations known later P Q (read ∷ reads) same since (inr (pass
       stops_at_since operations known later P Q reads same since stops,
     )
 
--- a run that stops later at one of some files stops there since it began
-pub stops_before : (operations : List OperationSignature) (before between now : Outside) (reads : List Read) (failure : ReadFailure)
-    → GoesOn before between → Stopped between now (λ P. StopsAt operations between.files P reads) failure
-    → Stopped before now (λ P. StopsAt operations before.files P reads) failure
-stops_before operations before between now reads Absent kept stopped =
-    stops_at_since operations before.files between.files (IsMissing between.files between.absences now.absences)
-    (IsMissing before.files before.absences now.absences) reads kept.files
-    (λ file missing. stops_since before between now file Absent kept missing) stopped
-stops_before operations before between now reads ReadFault kept stopped =
-    stops_at_since operations before.files between.files (IsFaulty between.faults now.faults) (IsFaulty before.faults now.faults) reads
-    kept.files (λ file faulty. stops_since before between now file ReadFault kept faulty) stopped
-stops_before operations before between now reads NoMemory kept stopped = tt
-
 -- a run of `certify` that stops at its host
 pub certify_stops_first : (operations : List OperationSignature) (before now : Outside) (host : List ℕ) (extensions : List (List ℕ))
     (failure : ReadFailure) → length extensions ≤ 64 → Stopped before now (λ P. P host) failure
@@ -152,27 +149,12 @@ certify_stops_first operations before now host extensions Absent few stopped = (
 certify_stops_first operations before now host extensions ReadFault few stopped = (few, inl stopped)
 certify_stops_first operations before now host extensions NoMemory few stopped = tt
 
--- a run of `certify` that stops at an extension
-pub certify_stops_later : (operations : List OperationSignature) (before now : Outside) (host : List ℕ) (extensions : List (List ℕ))
-    (failure : ReadFailure) → length extensions ≤ 64 → Passes operations before.files (certified_host host)
-    → Stopped before now (λ P. StopsAt operations before.files P (map (certified_extension host) extensions)) failure
-    → Stopped before now (CertifyStops operations before.files host extensions) failure
-certify_stops_later operations before now host extensions Absent few passes stopped = (few, inr (passes, stopped))
-certify_stops_later operations before now host extensions ReadFault few passes stopped = (few, inr (passes, stopped))
-certify_stops_later operations before now host extensions NoMemory few passes stopped = tt
-
--- a run of `certify` comes to read one of its files
-pub certify_reads_to : (operations : List OperationSignature) (before now : Outside) (host : List ℕ) (extensions : List (List ℕ))
-    (failure : ReadFailure) → Stopped before now (CertifyStops operations before.files host extensions) failure
-    → Stopped before now (ReadsTo operations before.files (a.certify host extensions)) failure
-certify_reads_to operations before now host extensions failure =
-    weaker_stop before now (CertifyStops operations before.files host extensions)
-    (ReadsTo operations before.files (a.certify host extensions)) failure
-    (λ P stops. inl (record {
-      reads = certified_host host ∷ map (certified_extension host) extensions;
-      are_reads = certify_reads stops.0;
-      stops = stops.1;
-    }))
+-- `certify` of too many extensions
+pub certify_too_many : (operations : List OperationSignature) (known : Option Files) (host : List ℕ) (words : List (String Global))
+    (status : Status) (bytes : List ℕ) → 64 < length words → status ≡ TooManyExtensions → bytes ≡ report_of o.TooManyExtensions
+    → CertifyReport operations known host (texts words) status bytes
+certify_too_many operations known host words status bytes many ends line =
+    inl (ends, record { many = subst (λ (n : ℕ). 64 < n) (sym (length-map words string_bytes)) many; line = line })
 
 -- `certify` of a file that is no certified host
 pub certify_refused : (operations : List OperationSignature) (known : Option Files) (host : List ℕ) (extensions : List (List ℕ))

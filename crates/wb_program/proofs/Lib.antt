@@ -1,3 +1,4 @@
+mod Answering
 mod AnswerLemmas
 mod CauseLemmas
 mod ComposeLemmas

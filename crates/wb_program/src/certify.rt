@@ -12,9 +12,10 @@ ghost use Rattle.wb_words.specs.Words.{texts};
 ghost use Rattle.wb_inputs.specs.Contents.{ReadIs};
 ghost use Rattle.wb_inputs.specs.Files.{KnownFile};
 ghost use Rattle.wb_inputs.specs.Reads.{certified_extension, StopsAt};
-ghost use Rattle.wb_inputs.specs.Stopped.{outside, Stopped, GoesOn};
-ghost use Rattle.wb_program.specs.CertifyReport.{CertifyReport, ExtensionsReport, IsExtensionNamed};
-ghost use Rattle.wb_program.specs.Inner.Extensions.{CertifyStops, EndsAtExtension};
+ghost use Rattle.wb_inputs.specs.Stopped.{outside};
+ghost use Rattle.wb_inputs.specs.Makes.{Answers, Makes};
+ghost use Rattle.wb_program.specs.CertifyReport.{CertifyReport, ExtensionsReport};
+ghost use Rattle.wb_program.specs.Inner.Extensions.{CertifyStops, IsFound};
 
 use std::alloc::{AllocError, Global};
 use wb_base::{Bytes, Sequence};
@@ -37,12 +38,9 @@ pub(crate) fn answer_certify<S: Shelf, M: Meaning>(
     extensions: &[String],
     operations: &OperationTable<M>,
 ) -> Result<Answer, ReadFailure>
-    ensures ok { IfOk result (λ answer. CertifyReport operations.now.signatures (S.files shelf.old) host.now (texts extensions.now) answer.status answer.report.items) }
-    ensures stopped { IfErr result (Stopped (outside (S.files shelf.old) (S.absences shelf.old) (S.faults shelf.old))
-        (outside (S.files shelf.new) (S.absences shelf.new) (S.faults shelf.new))
-        (CertifyStops operations.now.signatures (S.files shelf.old) host.now (texts extensions.now))) }
-    ensures goes_on { GoesOn (outside (S.files shelf.old) (S.absences shelf.old) (S.faults shelf.old))
-        (outside (S.files shelf.new) (S.absences shelf.new) (S.faults shelf.new)) }
+    ensures { Answers (outside (S.files shelf.old) (S.absences shelf.old) (S.faults shelf.old)) (outside (S.files shelf.new) (S.absences shelf.new) (S.faults shelf.new))
+        result (CertifyReport operations.now.signatures (S.files shelf.old) host.now (texts extensions.now))
+        (CertifyStops operations.now.signatures (S.files shelf.old) host.now (texts extensions.now)) }
 {
     if extensions.len() > MOST_EXTENSIONS {
         return Ok(reported(alloc, Status::TooManyExtensions, Outcome::TooManyExtensions)?);
@@ -66,13 +64,10 @@ fn answer_extensions<S: Shelf, M: Meaning>(
     operations: &OperationTable<M>,
 ) -> Result<Answer, ReadFailure>
     requires { host.now.operations ≡ operations.now.signatures }
-    ensures ok { IfOk result (λ answer. ExtensionsReport operations.now.signatures (S.files shelf.old) host.now.resolved (texts files.now) [] answer.status answer.report.items) }
-    ensures stopped { (file : List ℕ) → KnownFile (S.files shelf.old) file (λ contents. IsHostText operations.now.signatures contents host.now.resolved)
-        → IfErr result (Stopped (outside (S.files shelf.old) (S.absences shelf.old) (S.faults shelf.old))
-        (outside (S.files shelf.new) (S.absences shelf.new) (S.faults shelf.new))
-        (λ P. StopsAt operations.now.signatures (S.files shelf.old) P (map (certified_extension file) (texts files.now)))) }
-    ensures goes_on { GoesOn (outside (S.files shelf.old) (S.absences shelf.old) (S.faults shelf.old))
-        (outside (S.files shelf.new) (S.absences shelf.new) (S.faults shelf.new)) }
+    ensures { Answers (outside (S.files shelf.old) (S.absences shelf.old) (S.faults shelf.old)) (outside (S.files shelf.new) (S.absences shelf.new) (S.faults shelf.new))
+        result (ExtensionsReport operations.now.signatures (S.files shelf.old) host.now.resolved (texts files.now) [])
+        (λ P. (file : List ℕ) → KnownFile (S.files shelf.old) file (λ contents. IsHostText operations.now.signatures contents host.now.resolved)
+        → StopsAt operations.now.signatures (S.files shelf.old) P (map (certified_extension file) (texts files.now))) }
 {
     let mut names = Vec::new(alloc);
     let mut at = 0;
@@ -103,12 +98,9 @@ fn name_of<S: Shelf, M: Meaning>(
     operations: &OperationTable<M>,
 ) -> Result<Result<Bytes, Answer>, ReadFailure>
     requires { host.now.operations ≡ operations.now.signatures }
-    ensures ok { IfOk result (λ read. IfOk read (IsExtensionNamed operations.now.signatures (S.files shelf.old) host.now.resolved file.now)) }
-    ensures refused { IfOk result (λ read. IfErr read (λ answer. EndsAtExtension operations.now.signatures (S.files shelf.old) host.now.resolved file.now answer.status answer.report.items)) }
-    ensures stopped { IfErr result (Stopped (outside (S.files shelf.old) (S.absences shelf.old) (S.faults shelf.old))
-        (outside (S.files shelf.new) (S.absences shelf.new) (S.faults shelf.new)) (λ P. P file.now)) }
-    ensures goes_on { GoesOn (outside (S.files shelf.old) (S.absences shelf.old) (S.faults shelf.old))
-        (outside (S.files shelf.new) (S.absences shelf.new) (S.faults shelf.new)) }
+    ensures { Makes (outside (S.files shelf.old) (S.absences shelf.old) (S.faults shelf.old)) (outside (S.files shelf.new) (S.absences shelf.new) (S.faults shelf.new))
+        result (IsFound operations.now.signatures (S.files shelf.old) host.now.resolved file.now)
+        (λ P. P file.now) }
 {
     let (word, contents) = named_contents(alloc, shelf, file)?;
     match extension_in(alloc, host, contents, operations) {

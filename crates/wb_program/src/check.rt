@@ -2,10 +2,11 @@
 //!
 //! Which certified host is in a file is found by `wb_inputs`, with whose checks other commands begin too.
 
-ghost use Rattle.std.specs.Prelude.{◌≡◌, IfOk, IfErr, [], ◌∷◌};
+ghost use Rattle.std.specs.Prelude.{◌≡◌, IfOk, [], ◌∷◌};
 ghost use Rattle.wb_report.specs.Lines.{report_of};
 ghost use Rattle.wb_inputs.specs.Reads.{certified_host, StopsAt};
-ghost use Rattle.wb_inputs.specs.Stopped.{outside, Stopped, GoesOn};
+ghost use Rattle.wb_inputs.specs.Stopped.{outside};
+ghost use Rattle.wb_inputs.specs.Makes.{Answers};
 ghost use Rattle.wb_program.specs.CheckReport.{CheckReport};
 
 use std::alloc::{AllocError, Global};
@@ -23,11 +24,8 @@ pub(crate) fn answer_check<S: Shelf, M: Meaning>(
     host: &str,
     operations: &OperationTable<M>,
 ) -> Result<Answer, ReadFailure>
-    ensures ok { IfOk result (λ answer. CheckReport operations.now.signatures (S.files shelf.old) host.now answer.status answer.report.items) }
-    ensures stopped { IfErr result (Stopped (outside (S.files shelf.old) (S.absences shelf.old) (S.faults shelf.old))
-        (outside (S.files shelf.new) (S.absences shelf.new) (S.faults shelf.new)) (λ P. StopsAt operations.now.signatures (S.files shelf.old) P (certified_host host.now ∷ []))) }
-    ensures goes_on { GoesOn (outside (S.files shelf.old) (S.absences shelf.old) (S.faults shelf.old))
-        (outside (S.files shelf.new) (S.absences shelf.new) (S.faults shelf.new)) }
+    ensures { Answers (outside (S.files shelf.old) (S.absences shelf.old) (S.faults shelf.old)) (outside (S.files shelf.new) (S.absences shelf.new) (S.faults shelf.new))
+        result (CheckReport operations.now.signatures (S.files shelf.old) host.now) (λ P. StopsAt operations.now.signatures (S.files shelf.old) P (certified_host host.now ∷ [])) }
 {
     match read_host(alloc, shelf, host, operations)? {
         Ok(certified) => Ok(certified_answer(alloc, certified)?),

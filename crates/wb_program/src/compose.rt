@@ -2,14 +2,15 @@
 //!
 //! The host and the extensions come first, by the checks of `wb_inputs`, and then the language that `wb_composition` composes of them.
 
-ghost use Rattle.std.specs.Prelude.{IfOk, IfErr};
+ghost use Rattle.std.specs.Prelude.{IfOk};
 ghost use Rattle.wb_composition.specs.Composed.{IsComposed};
 ghost use Rattle.wb_united_texts.specs.Unions.{all_resolved};
 ghost use Rattle.wb_words.specs.Words.{texts};
 ghost use Rattle.wb_inputs.specs.Checks.{Ends};
 ghost use Rattle.wb_inputs.specs.ExtensionChecks.{AreApart};
 ghost use Rattle.wb_inputs.specs.Reads.{StopsComposed};
-ghost use Rattle.wb_inputs.specs.Stopped.{outside, Stopped, GoesOn};
+ghost use Rattle.wb_inputs.specs.Stopped.{outside};
+ghost use Rattle.wb_inputs.specs.Makes.{Answers};
 ghost use Rattle.wb_program.specs.ComposeReport.{ComposeReport, ComposedLines};
 
 use std::alloc::{AllocError, Global};
@@ -31,11 +32,9 @@ pub(crate) fn answer_compose<S: Shelf, M: Meaning>(
     extensions: &[String],
     operations: &OperationTable<M>,
 ) -> Result<Answer, ReadFailure>
-    ensures ok { IfOk result (λ answer. ComposeReport operations.now.signatures (S.files shelf.old) host.now (texts extensions.now) answer.status answer.report.items) }
-    ensures stopped { IfErr result (Stopped (outside (S.files shelf.old) (S.absences shelf.old) (S.faults shelf.old))
-        (outside (S.files shelf.new) (S.absences shelf.new) (S.faults shelf.new)) (λ P. StopsComposed operations.now.signatures (S.files shelf.old) host.now (texts extensions.now) P (λ r values. ⊥))) }
-    ensures goes_on { GoesOn (outside (S.files shelf.old) (S.absences shelf.old) (S.faults shelf.old))
-        (outside (S.files shelf.new) (S.absences shelf.new) (S.faults shelf.new)) }
+    ensures { Answers (outside (S.files shelf.old) (S.absences shelf.old) (S.faults shelf.old)) (outside (S.files shelf.new) (S.absences shelf.new) (S.faults shelf.new))
+        result (ComposeReport operations.now.signatures (S.files shelf.old) host.now (texts extensions.now))
+        (λ P. StopsComposed operations.now.signatures (S.files shelf.old) host.now (texts extensions.now) P (λ r values. ⊥)) }
 {
     match read_composable(alloc, shelf, host, extensions, operations)? {
         Ok(all) => {

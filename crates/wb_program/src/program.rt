@@ -2,17 +2,18 @@
 //!
 //! The report is made before anything is written, so that a fault leaves a prefix of it. Each command has a file for its answer.
 
-ghost use Rattle.std.specs.Prelude.{◌≡◌, ◌≢◌, ◌⊎◌, IfOk, IfErr};
+ghost use Rattle.std.specs.Prelude.{◌≡◌, ◌⊎◌, IfOk, IfErr};
 ghost use Rattle.wb_world.specs.Cause.{Rose};
 ghost use Rattle.wb_operations.specs.Kept.{IsKept};
 ghost use Rattle.wb_report.specs.Lines.{report_of};
 ghost use Rattle.wb_words.specs.Commands.{asked_by};
 ghost use Rattle.wb_words.specs.Words.{texts};
-ghost use Rattle.wb_inputs.specs.Stopped.{outside, Stopped, GoesOn};
+ghost use Rattle.wb_inputs.specs.Stopped.{outside};
+ghost use Rattle.wb_inputs.specs.Makes.{Answers, Makes};
 ghost use Rattle.wb_program.specs.Reads.{AbsentCause, FaultCause, ComesTo, ReadsTo};
 ghost use Rattle.wb_program.specs.Report.{InCommandSet, IsReport, IsReportOf};
-ghost use Rattle.wb_program.specs.Written.{WritesNothing, Wrote};
-ghost use Rattle.wb_program.specs.Inner.Answered.{HasFewLeaves};
+ghost use Rattle.wb_program.specs.Written.{Wrote};
+ghost use Rattle.wb_program.specs.Inner.Answered.{HasFewLeaves, Replies};
 
 use crate::certify::answer_certify;
 use crate::check::answer_check;
@@ -83,16 +84,10 @@ fn answer<S: Shelf, M: Meaning>(
     requires kept { IsKept operations.now.signatures operations.now.built_in operations.now.runs.items M.meaning
         (λ run vs. ⟦<Box<dyn Fn(&[Value]) -> Result<Value, OperationRefusal>> as Fn(&[Value]) -> Result<Value, OperationRefusal>>⟧.pre run vs)
         (λ run vs r. ⟦<Box<dyn Fn(&[Value]) -> Result<Value, OperationRefusal>> as Fn(&[Value]) -> Result<Value, OperationRefusal>>⟧.post run vs r) }
-    ensures ok { IfOk result (λ answer. IsReport (record { signatures = operations.now.signatures; meaning = M.meaning }) (texts words.now) (S.files shelf.old) answer.status answer.report.items) }
-    ensures usage { IfOk result (λ answer. answer.status ≡ Status.Usage → ¬ InCommandSet (texts words.now)) }
-    ensures only_usage { IfOk result (λ answer. ¬ InCommandSet (texts words.now) → answer.status ≡ Status.Usage) }
-    ensures reports { IfOk result (λ answer. ¬ WritesNothing answer.status) }
-    ensures finishes { IfOk result (λ answer. answer.status ≢ Status.WriteFault) }
+    ensures replies { Makes (outside (S.files shelf.old) (S.absences shelf.old) (S.faults shelf.old)) (outside (S.files shelf.new) (S.absences shelf.new) (S.faults shelf.new))
+        result (Replies (record { signatures = operations.now.signatures; meaning = M.meaning }) (texts words.now) (S.files shelf.old))
+        (ComesTo operations.now.signatures (texts words.now) (S.files shelf.old)) }
     ensures asked { IfErr result (λ failure. ¬ InCommandSet (texts words.now) → failure ≡ ReadFailure.NoMemory) }
-    ensures stopped { IfErr result (Stopped (outside (S.files shelf.old) (S.absences shelf.old) (S.faults shelf.old))
-        (outside (S.files shelf.new) (S.absences shelf.new) (S.faults shelf.new)) (ComesTo operations.now.signatures (texts words.now) (S.files shelf.old))) }
-    ensures goes_on { GoesOn (outside (S.files shelf.old) (S.absences shelf.old) (S.faults shelf.old))
-        (outside (S.files shelf.new) (S.absences shelf.new) (S.faults shelf.new)) }
 {
     match command_of(words) {
         Some(command) => answer_to(alloc, shelf, command, operations),
@@ -111,11 +106,9 @@ fn answer_to<S: Shelf, M: Meaning>(
     requires kept { IsKept operations.now.signatures operations.now.built_in operations.now.runs.items M.meaning
         (λ run vs. ⟦<Box<dyn Fn(&[Value]) -> Result<Value, OperationRefusal>> as Fn(&[Value]) -> Result<Value, OperationRefusal>>⟧.pre run vs)
         (λ run vs r. ⟦<Box<dyn Fn(&[Value]) -> Result<Value, OperationRefusal>> as Fn(&[Value]) -> Result<Value, OperationRefusal>>⟧.post run vs r) }
-    ensures ok { IfOk result (λ answer. IsReportOf (record { signatures = operations.now.signatures; meaning = M.meaning }) (S.files shelf.old) answer.status answer.report.items (asked_by command.entry)) }
-    ensures stopped { IfErr result (Stopped (outside (S.files shelf.old) (S.absences shelf.old) (S.faults shelf.old))
-        (outside (S.files shelf.new) (S.absences shelf.new) (S.faults shelf.new)) (ReadsTo operations.now.signatures (S.files shelf.old) (asked_by command.entry))) }
-    ensures goes_on { GoesOn (outside (S.files shelf.old) (S.absences shelf.old) (S.faults shelf.old))
-        (outside (S.files shelf.new) (S.absences shelf.new) (S.faults shelf.new)) }
+    ensures { Answers (outside (S.files shelf.old) (S.absences shelf.old) (S.faults shelf.old)) (outside (S.files shelf.new) (S.absences shelf.new) (S.faults shelf.new))
+        result (λ status bytes. IsReportOf (record { signatures = operations.now.signatures; meaning = M.meaning }) (S.files shelf.old) status bytes (asked_by command.entry))
+        (ReadsTo operations.now.signatures (S.files shelf.old) (asked_by command.entry)) }
 {
     match command {
         Command::Value {

@@ -2,12 +2,11 @@
 //!
 //! The canonical text comes from `wb_printer`, why a file isn't a specification from `wb_reader`.
 
-ghost use Rattle.std.specs.Prelude.{IfOk, IfErr, List, [], ◌∷◌};
-ghost use Rattle.wb_operations.specs.Operations.{OperationSignature};
+ghost use Rattle.std.specs.Prelude.{IfOk};
 ghost use Rattle.wb_reader.specs.OneAnswer.{IsNoMemory};
 ghost use Rattle.wb_inputs.specs.Checks.{Ends};
-ghost use Rattle.wb_inputs.specs.Reads.{specification, StopsAt};
-ghost use Rattle.wb_inputs.specs.Stopped.{outside, Stopped, GoesOn};
+ghost use Rattle.wb_inputs.specs.Stopped.{outside};
+ghost use Rattle.wb_inputs.specs.Makes.{Answers};
 ghost use Rattle.wb_program.specs.ShowReport.{ShowReport};
 ghost use Rattle.wb_program.specs.Inner.Shown.{ContentsShow, ShowsRefusal};
 
@@ -26,11 +25,9 @@ pub(crate) fn answer_show<S: Shelf>(
     shelf: &mut S,
     file: &str,
 ) -> Result<Answer, ReadFailure>
-    ensures ok { IfOk result (λ answer. ShowReport (S.files shelf.old) file.now answer.status answer.report.items) }
-    ensures stopped { (operations : List OperationSignature) → IfErr result (Stopped (outside (S.files shelf.old) (S.absences shelf.old) (S.faults shelf.old))
-        (outside (S.files shelf.new) (S.absences shelf.new) (S.faults shelf.new)) (λ P. StopsAt operations (S.files shelf.old) P (specification file.now ∷ []))) }
-    ensures goes_on { GoesOn (outside (S.files shelf.old) (S.absences shelf.old) (S.faults shelf.old))
-        (outside (S.files shelf.new) (S.absences shelf.new) (S.faults shelf.new)) }
+    ensures { Answers (outside (S.files shelf.old) (S.absences shelf.old) (S.faults shelf.old)) (outside (S.files shelf.new) (S.absences shelf.new) (S.faults shelf.new))
+        result (ShowReport (S.files shelf.old) file.now)
+        (λ P. P file.now) }
 {
     let contents = read_file(alloc, shelf, file, FILE_LIMIT)?;
     Ok(answer_contents(alloc, file, contents)?)

@@ -2,11 +2,12 @@
 //!
 //! The host comes first, by the checks in `check`, and then the text, whose answer in the host's language is found by `wb_trees`.
 
-ghost use Rattle.std.specs.Prelude.{◌≡◌, List, ℕ, Some, IfOk, IfErr, [], ◌∷◌};
+ghost use Rattle.std.specs.Prelude.{◌≡◌, List, ℕ, Some, IfOk, [], ◌∷◌};
 ghost use Rattle.wb_base.specs.Grammar.{GrammarView};
 ghost use Rattle.wb_inputs.specs.Checks.{Check};
 ghost use Rattle.wb_inputs.specs.Reads.{certified_host, parsed_text, StopsAt};
-ghost use Rattle.wb_inputs.specs.Stopped.{outside, Stopped, GoesOn};
+ghost use Rattle.wb_inputs.specs.Stopped.{outside};
+ghost use Rattle.wb_inputs.specs.Makes.{Answers};
 ghost use Rattle.wb_inputs.specs.Texts.{IsText, IsTooLongText, ReadText};
 ghost use Rattle.wb_program.specs.TreeReport.{ShownText, TextReport, TreeReport};
 
@@ -27,12 +28,9 @@ pub(crate) fn answer_tree<S: Shelf, M: Meaning>(
     host: &str,
     operations: &OperationTable<M>,
 ) -> Result<Answer, ReadFailure>
-    ensures ok { IfOk result (λ answer. TreeReport operations.now.signatures (S.files shelf.old) text.now host.now answer.status answer.report.items) }
-    ensures stopped { IfErr result (Stopped (outside (S.files shelf.old) (S.absences shelf.old) (S.faults shelf.old))
-        (outside (S.files shelf.new) (S.absences shelf.new) (S.faults shelf.new))
-        (λ P. StopsAt operations.now.signatures (S.files shelf.old) P (certified_host host.now ∷ parsed_text text.now ∷ []))) }
-    ensures goes_on { GoesOn (outside (S.files shelf.old) (S.absences shelf.old) (S.faults shelf.old))
-        (outside (S.files shelf.new) (S.absences shelf.new) (S.faults shelf.new)) }
+    ensures { Answers (outside (S.files shelf.old) (S.absences shelf.old) (S.faults shelf.old)) (outside (S.files shelf.new) (S.absences shelf.new) (S.faults shelf.new))
+        result (TreeReport operations.now.signatures (S.files shelf.old) text.now host.now)
+        (λ P. StopsAt operations.now.signatures (S.files shelf.old) P (certified_host host.now ∷ parsed_text text.now ∷ [])) }
 {
     match read_host(alloc, shelf, host, operations)? {
         Ok(certified) => {
@@ -51,12 +49,10 @@ fn answer_text<S: Shelf>(
     file: &str,
     host: &CertifiedHost,
 ) -> Result<Answer, ReadFailure>
-    ensures ok { (g : GrammarView) → host.now.resolved.grammar ≡ Some g → IfOk result (λ answer. Check Status.TextTooLong (IsTooLongText (S.files shelf.old) file.now)
-        (IsText (S.files shelf.old) file.now) (λ (text : List ℕ). TextReport host.now.resolved text) answer.status answer.report.items) }
-    ensures stopped { IfErr result (Stopped (outside (S.files shelf.old) (S.absences shelf.old) (S.faults shelf.old))
-        (outside (S.files shelf.new) (S.absences shelf.new) (S.faults shelf.new)) (λ P. P file.now)) }
-    ensures goes_on { GoesOn (outside (S.files shelf.old) (S.absences shelf.old) (S.faults shelf.old))
-        (outside (S.files shelf.new) (S.absences shelf.new) (S.faults shelf.new)) }
+    ensures { Answers (outside (S.files shelf.old) (S.absences shelf.old) (S.faults shelf.old)) (outside (S.files shelf.new) (S.absences shelf.new) (S.faults shelf.new))
+        result (λ status bytes. (g : GrammarView) → host.now.resolved.grammar ≡ Some g → Check Status.TextTooLong (IsTooLongText (S.files shelf.old) file.now)
+        (IsText (S.files shelf.old) file.now) (λ (text : List ℕ). TextReport host.now.resolved text) status bytes)
+        (λ P. P file.now) }
 {
     let contents = read_file(alloc, shelf, file, FILE_LIMIT)?;
     Ok(answer_contents(alloc, contents, host)?)

@@ -2,14 +2,15 @@
 //!
 //! The host and the extensions come as in `compose`, and then the text, whose answer in their language is found by `wb_united_texts`.
 
-ghost use Rattle.std.specs.Prelude.{IfOk, IfErr, ℕ, List};
+ghost use Rattle.std.specs.Prelude.{IfOk, ℕ, List};
 ghost use Rattle.wb_composition.specs.Composed.{IsComposed};
 ghost use Rattle.wb_united_texts.specs.Unions.{all_resolved};
 ghost use Rattle.wb_words.specs.Words.{texts};
 ghost use Rattle.wb_inputs.specs.Checks.{Check};
 ghost use Rattle.wb_inputs.specs.ExtensionChecks.{AreApart};
 ghost use Rattle.wb_inputs.specs.Reads.{StopsComposed};
-ghost use Rattle.wb_inputs.specs.Stopped.{outside, Stopped, GoesOn};
+ghost use Rattle.wb_inputs.specs.Stopped.{outside};
+ghost use Rattle.wb_inputs.specs.Makes.{Answers};
 ghost use Rattle.wb_inputs.specs.Texts.{IsText, IsTooLongText, ReadText};
 ghost use Rattle.wb_program.specs.ComposeReport.{UnitedReport, UnitedTreeReport};
 
@@ -34,11 +35,9 @@ pub(crate) fn answer_united<S: Shelf, M: Meaning>(
     extensions: &[String],
     operations: &OperationTable<M>,
 ) -> Result<Answer, ReadFailure>
-    ensures ok { IfOk result (λ answer. UnitedTreeReport operations.now.signatures (S.files shelf.old) text.now host.now (texts extensions.now) answer.status answer.report.items) }
-    ensures stopped { IfErr result (Stopped (outside (S.files shelf.old) (S.absences shelf.old) (S.faults shelf.old))
-        (outside (S.files shelf.new) (S.absences shelf.new) (S.faults shelf.new)) (λ P. StopsComposed operations.now.signatures (S.files shelf.old) host.now (texts extensions.now) P (λ r values. P text.now))) }
-    ensures goes_on { GoesOn (outside (S.files shelf.old) (S.absences shelf.old) (S.faults shelf.old))
-        (outside (S.files shelf.new) (S.absences shelf.new) (S.faults shelf.new)) }
+    ensures { Answers (outside (S.files shelf.old) (S.absences shelf.old) (S.faults shelf.old)) (outside (S.files shelf.new) (S.absences shelf.new) (S.faults shelf.new))
+        result (UnitedTreeReport operations.now.signatures (S.files shelf.old) text.now host.now (texts extensions.now))
+        (λ P. StopsComposed operations.now.signatures (S.files shelf.old) host.now (texts extensions.now) P (λ r values. P text.now)) }
 {
     match read_composable(alloc, shelf, host, extensions, operations)? {
         Ok(all) => {
@@ -59,12 +58,10 @@ fn united_text<S: Shelf>(
     extensions: &[CertifiedExtension],
 ) -> Result<Answer, ReadFailure>
     requires { AreApart host.now extensions.now }
-    ensures ok { IfOk result (λ answer. Check Status.TextTooLong (IsTooLongText (S.files shelf.old) file.now) (IsText (S.files shelf.old) file.now)
-        (λ (text : List ℕ). UnitedReport host.now.operations host.now.resolved (all_resolved extensions.now) text) answer.status answer.report.items) }
-    ensures stopped { IfErr result (Stopped (outside (S.files shelf.old) (S.absences shelf.old) (S.faults shelf.old))
-        (outside (S.files shelf.new) (S.absences shelf.new) (S.faults shelf.new)) (λ P. P file.now)) }
-    ensures goes_on { GoesOn (outside (S.files shelf.old) (S.absences shelf.old) (S.faults shelf.old))
-        (outside (S.files shelf.new) (S.absences shelf.new) (S.faults shelf.new)) }
+    ensures { Answers (outside (S.files shelf.old) (S.absences shelf.old) (S.faults shelf.old)) (outside (S.files shelf.new) (S.absences shelf.new) (S.faults shelf.new))
+        result (Check Status.TextTooLong (IsTooLongText (S.files shelf.old) file.now) (IsText (S.files shelf.old) file.now)
+        (λ (text : List ℕ). UnitedReport host.now.operations host.now.resolved (all_resolved extensions.now) text))
+        (λ P. P file.now) }
 {
     let contents = read_file(alloc, shelf, file, FILE_LIMIT)?;
     Ok(united_contents(alloc, contents, host, extensions)?)

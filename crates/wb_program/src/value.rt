@@ -2,14 +2,15 @@
 //!
 //! The host comes first, whose attributes must be well defined, and then the term, whose answer is found by `wb_root_values`.
 
-ghost use Rattle.std.specs.Prelude.{IfOk, IfErr, List, ℕ, [], ◌∷◌};
+ghost use Rattle.std.specs.Prelude.{IfOk, List, ℕ, [], ◌∷◌};
 ghost use Rattle.wb_attributes.specs.Modular.{EachProduction};
 ghost use Rattle.wb_attributes.specs.WellDefined.{IsWellDefinedProduction};
 ghost use Rattle.wb_operations.specs.Kept.{IsKept};
 ghost use Rattle.wb_types.specs.Rules.{KindsOk};
 ghost use Rattle.wb_inputs.specs.Checks.{Check};
 ghost use Rattle.wb_inputs.specs.Reads.{well_defined_host, written_term, StopsAt};
-ghost use Rattle.wb_inputs.specs.Stopped.{outside, Stopped, GoesOn};
+ghost use Rattle.wb_inputs.specs.Stopped.{outside};
+ghost use Rattle.wb_inputs.specs.Makes.{Answers};
 ghost use Rattle.wb_inputs.specs.Texts.{IsText, IsTooLongText, ReadText};
 ghost use Rattle.wb_program.specs.ValueReport.{RootReport, TermReport, ValueReport};
 
@@ -38,12 +39,9 @@ pub(crate) fn answer_value<S: Shelf, M: Meaning>(
     requires kept { IsKept operations.now.signatures operations.now.built_in operations.now.runs.items M.meaning
         (λ run vs. ⟦<Box<dyn Fn(&[Value]) -> Result<Value, OperationRefusal>> as Fn(&[Value]) -> Result<Value, OperationRefusal>>⟧.pre run vs)
         (λ run vs r. ⟦<Box<dyn Fn(&[Value]) -> Result<Value, OperationRefusal>> as Fn(&[Value]) -> Result<Value, OperationRefusal>>⟧.post run vs r) }
-    ensures ok { IfOk result (λ answer. ValueReport (record { signatures = operations.now.signatures; meaning = M.meaning }) (S.files shelf.old) host.now term.now attribute.now answer.status answer.report.items) }
-    ensures stopped { IfErr result (Stopped (outside (S.files shelf.old) (S.absences shelf.old) (S.faults shelf.old))
-        (outside (S.files shelf.new) (S.absences shelf.new) (S.faults shelf.new))
-        (λ P. StopsAt operations.now.signatures (S.files shelf.old) P (well_defined_host host.now ∷ written_term term.now ∷ []))) }
-    ensures goes_on { GoesOn (outside (S.files shelf.old) (S.absences shelf.old) (S.faults shelf.old))
-        (outside (S.files shelf.new) (S.absences shelf.new) (S.faults shelf.new)) }
+    ensures { Answers (outside (S.files shelf.old) (S.absences shelf.old) (S.faults shelf.old)) (outside (S.files shelf.new) (S.absences shelf.new) (S.faults shelf.new))
+        result (ValueReport (record { signatures = operations.now.signatures; meaning = M.meaning }) (S.files shelf.old) host.now term.now attribute.now)
+        (λ P. StopsAt operations.now.signatures (S.files shelf.old) P (well_defined_host host.now ∷ written_term term.now ∷ [])) }
 {
     match read_well_defined(alloc, shelf, host, operations)? {
         Ok(resolved) => {
@@ -76,12 +74,10 @@ fn answer_term<S: Shelf, M: Meaning>(
     requires kept { IsKept operations.now.signatures operations.now.built_in operations.now.runs.items M.meaning
         (λ run vs. ⟦<Box<dyn Fn(&[Value]) -> Result<Value, OperationRefusal>> as Fn(&[Value]) -> Result<Value, OperationRefusal>>⟧.pre run vs)
         (λ run vs r. ⟦<Box<dyn Fn(&[Value]) -> Result<Value, OperationRefusal>> as Fn(&[Value]) -> Result<Value, OperationRefusal>>⟧.post run vs r) }
-    ensures ok { IfOk result (λ answer. Check Status.TextTooLong (IsTooLongText (S.files shelf.old) file.now) (IsText (S.files shelf.old) file.now)
-        (λ (text : List ℕ). TermReport (record { signatures = operations.now.signatures; meaning = M.meaning }) attributes.now file.now attribute.now text) answer.status answer.report.items) }
-    ensures stopped { IfErr result (Stopped (outside (S.files shelf.old) (S.absences shelf.old) (S.faults shelf.old))
-        (outside (S.files shelf.new) (S.absences shelf.new) (S.faults shelf.new)) (λ P. P file.now)) }
-    ensures goes_on { GoesOn (outside (S.files shelf.old) (S.absences shelf.old) (S.faults shelf.old))
-        (outside (S.files shelf.new) (S.absences shelf.new) (S.faults shelf.new)) }
+    ensures { Answers (outside (S.files shelf.old) (S.absences shelf.old) (S.faults shelf.old)) (outside (S.files shelf.new) (S.absences shelf.new) (S.faults shelf.new))
+        result (Check Status.TextTooLong (IsTooLongText (S.files shelf.old) file.now) (IsText (S.files shelf.old) file.now)
+        (λ (text : List ℕ). TermReport (record { signatures = operations.now.signatures; meaning = M.meaning }) attributes.now file.now attribute.now text))
+        (λ P. P file.now) }
 {
     let contents = read_file(alloc, shelf, file, FILE_LIMIT)?;
     Ok(answer_contents(alloc, contents, attributes, file, attribute, operations)?)

@@ -1,9 +1,23 @@
--- What the words of a command keep.
-use Rattle.std.specs.Prelude.{◌≤◌}
+-- What the words of a command keep, and what their answer is.
+use Rattle.std.specs.Prelude.{◌≡◌, ◌≢◌, ◌≤◌, List, ℕ, Option}
+use Rattle.wb_world.specs.Shelf.{Files}
+use Rattle.wb_operations.specs.Operations.{Operations}
 use Rattle.wb_words.specs.Asked.{Asked}
 use Rattle.wb_words.specs.Asked as a
+use Rattle.wb_inputs.specs.declared.answer.Answer.{Answer}
+use Rattle.wb_inputs.specs.declared.status.Status.TheVariants.{Usage, WriteFault}
+use Rattle.wb_program.specs.Report.{InCommandSet, IsReport}
+use Rattle.wb_program.specs.Written.{WritesNothing}
 
 -- a text that is to be made is to have few leaves
 abbrev pub HasFewLeaves : Asked → Type 0
 HasFewLeaves (a.generate number size attribute host extensions) = size ≤ 100000
 HasFewLeaves other = Unit {0}
+
+-- the answer to words is their report, and no status that ends a run otherwise
+pub record Replies (operations : Operations) (words : List (List ℕ)) (known : Option Files) (answer : Answer) : Type 0 where
+  pub report : IsReport operations words known answer.status answer.report.items
+  pub usage : answer.status ≡ Usage → ¬ InCommandSet words
+  pub only_usage : ¬ InCommandSet words → answer.status ≡ Usage
+  pub reports : ¬ WritesNothing answer.status
+  pub finishes : answer.status ≢ WriteFault

@@ -1,5 +1,5 @@
 -- What is made of the file of an extension, and of several in their order.
-use Rattle.std.specs.Prelude.{◌≤◌, ℕ, Option, List, [], ◌∷◌, drop, length, map}
+use Rattle.std.specs.Prelude.{◌≤◌, ℕ, Option, List, Result, Ok, Err, [], ◌∷◌, drop, length, map}
 use Rattle.wb_hosts.specs.Contents.{IsHostText}
 use Rattle.wb_operations.specs.Operations.{OperationSignature}
 use Rattle.wb_resolved.specs.declared.resolved.ResolvedParts.{ResolvedParts}
@@ -8,14 +8,20 @@ use Rattle.wb_inputs.specs.Reads.{certified_host, certified_extension, StopsAt}
 use Rattle.wb_inputs.specs.Checks.{Report}
 use Rattle.wb_inputs.specs.Files.{KnownFile}
 use Rattle.wb_inputs.specs.Stopped.{Outside, Stopped}
+use Rattle.wb_inputs.specs.declared.answer.Answer.{Answer}
 use Rattle.wb_inputs.specs.declared.reading.ReadFailure.{ReadFailure}
 use Rattle.wb_inputs.specs.declared.status.Status.{Status}
-use Rattle.wb_program.specs.CertifyReport.{ExtensionsReport}
+use Rattle.wb_program.specs.CertifyReport.{ExtensionsReport, IsExtensionNamed}
 
 -- the report of a run that ends at an extension, whatever comes after it
 abbrev pub EndsAtExtension : List OperationSignature → Option Files → ResolvedParts → List ℕ → Report
 EndsAtExtension operations known host file status bytes =
     (files names : List (List ℕ)) → ExtensionsReport operations known host (file ∷ files) names status bytes
+
+-- what the file of an extension is: certified with this name, or one at which the run ends with this answer
+abbrev pub IsFound : List OperationSignature → Option Files → ResolvedParts → List ℕ → Result (List ℕ) Answer → Type 0
+IsFound operations known host file (Ok name) = IsExtensionNamed operations known host file name
+IsFound operations known host file (Err answer) = EndsAtExtension operations known host file answer.status answer.report.items
 
 module _ (operations : List OperationSignature) (known : Option Files) (host : ResolvedParts) (files : List (List ℕ)) where
   -- a report of the extensions from a place on, after certified ones of these names, is one of all of them

@@ -11,10 +11,11 @@ use Rattle.wb_inputs.specs.declared.status.Status.TheVariants.{Done}
 use Rattle.wb_inputs.proofs.ComposeLemmas.{several_ended, several_read}
 use Rattle.wb_inputs.proofs.CauseLemmas.{err_of, ok_of}
 use Rattle.wb_program.specs.ComposeReport.{ComposedLines}
+use Rattle.wb_inputs.proofs.MakesLemmas.{answered, handed, exhausted}
 use Rattle.wb_program.proofs.compose.answer_compose.Goals as goal
 
-pub returns-in_ok-answer-in-Ok-clause-ok : goal.returns-in_ok-answer-in-Ok-clause-ok
-returns-in_ok-answer-in-Ok-clause-ok g c =
+pub returns-in_ok-answer-in-Ok : goal.returns-in_ok-answer-in-Ok
+returns-in_ok-answer-in-Ok g c =
     let known = g.S.Shelf.files c.args.shelf.now in
     let operations = c.args.operations.now.signatures in
     let extensions = texts c.args.extensions.now in
@@ -29,33 +30,27 @@ returns-in_ok-answer-in-Ok-clause-ok g c =
     subst (IsAnswered all.host.operations) c.deref.ensures.value c.in_ok-answer-in-Ok.ensures in
     let signed : IsAnswered operations all.extensions.items =
     subst (λ (signatures : List OperationSignature). IsAnswered signatures all.extensions.items) are.signatures listed in
-    several_read operations c.args.host.now extensions known rest all answer.status answer.report.items are signed
+    answered answer (several_read operations c.args.host.now extensions known rest all answer.status answer.report.items are signed)
+    c.read_composable.ensures.goes_on
 
-pub returns-in-Err-clause-ok : goal.returns-in-Err-clause-ok
-returns-in-Err-clause-ok g c =
+pub returns-in-Err : goal.returns-in-Err
+returns-in-Err g c =
     let known = g.S.Shelf.files c.args.shelf.now in
     let operations = c.args.operations.now.signatures in
     let extensions = texts c.args.extensions.now in
     let answer = c.in-Err.answer in
-    several_ended operations c.args.host.now extensions known (λ r values. Ends Done (ComposedLines operations r values)) answer.status
+    answered answer
+    (several_ended operations c.args.host.now extensions known (λ r values. Ends Done (ComposedLines operations r values)) answer.status
     answer.report.items
     (err_of c.in_ok-all.field-0 answer (λ made. RefusesAny operations known c.args.host.now extensions made.status made.report.items)
-    c.in-Err.is c.in_ok-all.ensures.refused)
+    c.in-Err.is c.in_ok-all.ensures.refused))
+    c.read_composable.ensures.goes_on
 
-pub returns-in-Err-clause-goes_on : goal.returns-in-Err-clause-goes_on
-returns-in-Err-clause-goes_on g c = c.read_composable.ensures.goes_on
+pub returns-in_err-answer-in-Ok : goal.returns-in_err-answer-in-Ok
+returns-in_err-answer-in-Ok g c =
+    exhausted c.from_residual-in_err-answer-in-Ok.result c.from_residual-in_err-answer-in-Ok.ensures.1 c.read_composable.ensures.goes_on
 
-pub returns-in-Err-clause-stopped : goal.returns-in-Err-clause-stopped
-returns-in-Err-clause-stopped g c = tt
-
-pub returns-in_err-answer-in-Ok-clause-goes_on : goal.returns-in_err-answer-in-Ok-clause-goes_on
-returns-in_err-answer-in-Ok-clause-goes_on g c = c.read_composable.ensures.goes_on
-
-pub returns-in_err-all-clause-goes_on : goal.returns-in_err-all-clause-goes_on
-returns-in_err-all-clause-goes_on g c = c.read_composable.ensures.goes_on
-
-pub returns-in_ok-answer-in-Ok-clause-goes_on : goal.returns-in_ok-answer-in-Ok-clause-goes_on
-returns-in_ok-answer-in-Ok-clause-goes_on g c = c.read_composable.ensures.goes_on
-
-pub returns-in_ok-answer-in-Ok-clause-stopped : goal.returns-in_ok-answer-in-Ok-clause-stopped
-returns-in_ok-answer-in-Ok-clause-stopped g c = tt
+pub returns-in_err-all : goal.returns-in_err-all
+returns-in_err-all g c =
+    handed c.from_residual.result c.in_err-all.field-0.0 c.from_residual.ensures.1 c.in_err-all.ensures.stopped
+    c.read_composable.ensures.goes_on

@@ -1,21 +1,20 @@
 -- The report of what was read is that of the file.
+use Rattle.wb_inputs.proofs.MakesLemmas.{answered, handed, exhausted}
 use Rattle.wb_program.proofs.ShowLemmas.{show_checks}
 use Rattle.wb_program.proofs.show.answer_show.Goals as goal
 
-pub returns-clause-ok : goal.returns-clause-ok
-returns-clause-ok g c =
+pub returns : goal.returns
+returns g c =
     let answer = c.in_ok-answer_contents.field-0 in
-    show_checks (g.S.Shelf.files c.args.shelf.now) c.args.file.now c.in_ok-contents.contents answer.status answer.report.items
-    c.in_ok-contents.ensures.ok c.in_ok-answer_contents.ensures
+    answered answer (show_checks (g.S.Shelf.files c.args.shelf.now) c.args.file.now c.in_ok-contents.contents answer.status
+    answer.report.items c.in_ok-contents.ensures.ok c.in_ok-answer_contents.ensures) c.read_file.ensures.goes_on
 
-pub returns-clause-goes_on : goal.returns-clause-goes_on
-returns-clause-goes_on g c = c.read_file.ensures.goes_on
+pub returns-in_err-answer_contents : goal.returns-in_err-answer_contents
+returns-in_err-answer_contents g c =
+    exhausted c.from_residual-in_err-answer_contents.result c.from_residual-in_err-answer_contents.ensures.1
+    c.read_file.ensures.goes_on
 
-pub returns-clause-stopped : goal.returns-clause-stopped
-returns-clause-stopped g c = λ operations. tt
-
-pub returns-in_err-answer_contents-clause-goes_on : goal.returns-in_err-answer_contents-clause-goes_on
-returns-in_err-answer_contents-clause-goes_on g c = c.read_file.ensures.goes_on
-
-pub returns-in_err-contents-clause-goes_on : goal.returns-in_err-contents-clause-goes_on
-returns-in_err-contents-clause-goes_on g c = c.read_file.ensures.goes_on
+pub returns-in_err-contents : goal.returns-in_err-contents
+returns-in_err-contents g c =
+    handed c.from_residual.result c.in_err-contents.field-0.0 c.from_residual.ensures.1 c.in_err-contents.ensures.stopped
+    c.read_file.ensures.goes_on
