@@ -43,7 +43,7 @@ unknown_checks operations known (Number number size) name r values s bytes none 
 
 -- a run that stops at the text's file stops there where an attribute may be asked
 pub found_end : (operations : List OperationSignature) (name : List ℕ) (source : Source) (r : ResolvedParts) (values : List ResolvedParts)
-    (attribute : ℕ) (P : List ℕ → Type 0) → IsRootAttribute r operations values name attribute → SourceText P source
-    → SourceEnd operations name source P r values
-found_end operations name (File file steps) r values attribute P is stops = ((attribute, is), stops)
-found_end operations name (Number number size) r values attribute P is none = absurd none
+    (attribute : ℕ) (P Q : List ℕ → Type 0) → IsRootAttribute r operations values name attribute → ((file : List ℕ) → P file → Q file)
+    → SourceText P source → SourceEnd operations name source Q r values
+found_end operations name (File file steps) r values attribute P Q is weaker stops = ((attribute, is), weaker file.now stops)
+found_end operations name (Number number size) r values attribute P Q is weaker none = absurd none

@@ -2,12 +2,13 @@
 //!
 //! The text's value is found by `wb_united_texts`, and the text that a number makes by `wb_united_texts`.
 
-ghost use Rattle.std.specs.Prelude.{◌≡◌, ◌≤◌, IfOk, IfErr, ℕ, List, None, Some, length};
+ghost use Rattle.std.specs.Prelude.{◌≡◌, ◌≤◌, IfOk, ℕ, List, None, Some, length};
 ghost use Rattle.wb_composition.specs.Composed.{IsComposed};
 ghost use Rattle.wb_operations.specs.Kept.{IsKept};
 ghost use Rattle.wb_united_texts.specs.Unions.{all_resolved};
 ghost use Rattle.wb_inputs.specs.Checks.{Check};
-ghost use Rattle.wb_inputs.specs.Stopped.{outside, Stopped, GoesOn};
+ghost use Rattle.wb_inputs.specs.Makes.{Answers};
+ghost use Rattle.wb_inputs.specs.Stopped.{outside};
 ghost use Rattle.wb_inputs.specs.Texts.{IsText, IsTooLongText, ReadText};
 ghost use Rattle.wb_runs.specs.GenerateReport.{MadeReport, MadeTextReport};
 ghost use Rattle.wb_runs.specs.Values.{TextValueReport};
@@ -56,13 +57,10 @@ pub(crate) fn file_answer<S: Shelf, M: Meaning>(
     requires kept { IsKept operations.now.signatures operations.now.built_in operations.now.runs.items M.meaning
         (λ run vs. ⟦<Box<dyn Fn(&[Value]) -> Result<Value, OperationRefusal>> as Fn(&[Value]) -> Result<Value, OperationRefusal>>⟧.pre run vs)
         (λ run vs r. ⟦<Box<dyn Fn(&[Value]) -> Result<Value, OperationRefusal>> as Fn(&[Value]) -> Result<Value, OperationRefusal>>⟧.post run vs r) }
-    ensures ok { IfOk result (λ answer. Check Status.TextTooLong (IsTooLongText (S.files shelf.old) file.now) (IsText (S.files shelf.old) file.now)
-        (λ (text : List ℕ). TextValueReport (record { signatures = operations.now.signatures; meaning = M.meaning }) asked.now.host.now.resolved (all_resolved asked.now.extensions.now) asked.now.name.now steps (shown_with asked.now.name.now 0 None) text) answer.status answer.report.items) }
-    ensures stopped { IfErr result (Stopped (outside (S.files shelf.old) (S.absences shelf.old) (S.faults shelf.old))
-        (outside (S.files shelf.new) (S.absences shelf.new) (S.faults shelf.new))
-        (λ P. P file.now)) }
-    ensures goes_on { GoesOn (outside (S.files shelf.old) (S.absences shelf.old) (S.faults shelf.old))
-        (outside (S.files shelf.new) (S.absences shelf.new) (S.faults shelf.new)) }
+    ensures { Answers (outside (S.files shelf.old) (S.absences shelf.old) (S.faults shelf.old)) (outside (S.files shelf.new) (S.absences shelf.new) (S.faults shelf.new))
+        result (Check Status.TextTooLong (IsTooLongText (S.files shelf.old) file.now) (IsText (S.files shelf.old) file.now)
+        (λ (text : List ℕ). TextValueReport (record { signatures = operations.now.signatures; meaning = M.meaning }) asked.now.host.now.resolved (all_resolved asked.now.extensions.now) asked.now.name.now steps (shown_with asked.now.name.now 0 None) text))
+        (λ P. P file.now) }
 {
     let contents = read_file(alloc, shelf, file, FILE_LIMIT)?;
     Ok(contents_answer(alloc, contents, steps, asked, composed, operations)?)

@@ -2,7 +2,7 @@
 //!
 //! The host comes first, then the extensions, then the attribute among those of their union, and then the text.
 
-ghost use Rattle.std.specs.Prelude.{◌≡◌, IfOk, IfErr};
+ghost use Rattle.std.specs.Prelude.{◌≡◌, IfOk};
 ghost use Rattle.wb_composition.specs.United.{IsOfUnion};
 ghost use Rattle.wb_composition.specs.Composed.{IsComposed};
 ghost use Rattle.wb_operations.specs.Kept.{IsKept};
@@ -11,9 +11,10 @@ ghost use Rattle.wb_united_texts.specs.Unions.{all_resolved};
 ghost use Rattle.wb_words.specs.Words.{texts};
 ghost use Rattle.wb_inputs.specs.Checks.{Ends};
 ghost use Rattle.wb_inputs.specs.ExtensionChecks.{AreApart};
+ghost use Rattle.wb_inputs.specs.Makes.{Answers};
 ghost use Rattle.wb_inputs.specs.Reads.{StopsComposed};
 ghost use Rattle.wb_inputs.specs.SeveralChecks.{SeveralChecks};
-ghost use Rattle.wb_inputs.specs.Stopped.{outside, Stopped, GoesOn};
+ghost use Rattle.wb_inputs.specs.Stopped.{outside};
 ghost use Rattle.wb_runs.specs.Inner.Sources.{HasFewLeaves, IsAsked, SourceChecks, SourceEnd, SourceRest, SourceText};
 
 use crate::asked::{Asked, file_answer, made_answer};
@@ -53,12 +54,9 @@ pub(crate) fn answer_source<S: Shelf, M: Meaning>(
     requires kept { IsKept operations.now.signatures operations.now.built_in operations.now.runs.items M.meaning
         (λ run vs. ⟦<Box<dyn Fn(&[Value]) -> Result<Value, OperationRefusal>> as Fn(&[Value]) -> Result<Value, OperationRefusal>>⟧.pre run vs)
         (λ run vs r. ⟦<Box<dyn Fn(&[Value]) -> Result<Value, OperationRefusal>> as Fn(&[Value]) -> Result<Value, OperationRefusal>>⟧.post run vs r) }
-    ensures ok { IfOk result (λ answer. SeveralChecks operations.now.signatures (S.files shelf.old) host.now (texts extensions.now) (SourceChecks (record { signatures = operations.now.signatures; meaning = M.meaning }) (S.files shelf.old) attribute.now source.entry) answer.status answer.report.items) }
-    ensures stopped { IfErr result (Stopped (outside (S.files shelf.old) (S.absences shelf.old) (S.faults shelf.old))
-        (outside (S.files shelf.new) (S.absences shelf.new) (S.faults shelf.new))
-        (λ P. StopsComposed operations.now.signatures (S.files shelf.old) host.now (texts extensions.now) P (SourceEnd operations.now.signatures attribute.now source.entry P))) }
-    ensures goes_on { GoesOn (outside (S.files shelf.old) (S.absences shelf.old) (S.faults shelf.old))
-        (outside (S.files shelf.new) (S.absences shelf.new) (S.faults shelf.new)) }
+    ensures { Answers (outside (S.files shelf.old) (S.absences shelf.old) (S.faults shelf.old)) (outside (S.files shelf.new) (S.absences shelf.new) (S.faults shelf.new))
+        result (SeveralChecks operations.now.signatures (S.files shelf.old) host.now (texts extensions.now) (SourceChecks (record { signatures = operations.now.signatures; meaning = M.meaning }) (S.files shelf.old) attribute.now source.entry))
+        (λ P. StopsComposed operations.now.signatures (S.files shelf.old) host.now (texts extensions.now) P (SourceEnd operations.now.signatures attribute.now source.entry P)) }
 {
     match read_composable(alloc, shelf, host, extensions, operations)? {
         Ok(all) => {
@@ -94,12 +92,9 @@ fn union_answer<S: Shelf, M: Meaning>(
     requires kept { IsKept operations.now.signatures operations.now.built_in operations.now.runs.items M.meaning
         (λ run vs. ⟦<Box<dyn Fn(&[Value]) -> Result<Value, OperationRefusal>> as Fn(&[Value]) -> Result<Value, OperationRefusal>>⟧.pre run vs)
         (λ run vs r. ⟦<Box<dyn Fn(&[Value]) -> Result<Value, OperationRefusal>> as Fn(&[Value]) -> Result<Value, OperationRefusal>>⟧.post run vs r) }
-    ensures ok { IfOk result (λ answer. SourceChecks (record { signatures = operations.now.signatures; meaning = M.meaning }) (S.files shelf.old) attribute.now source.entry host.now.resolved (all_resolved extensions.now) answer.status answer.report.items) }
-    ensures stopped { IfErr result (Stopped (outside (S.files shelf.old) (S.absences shelf.old) (S.faults shelf.old))
-        (outside (S.files shelf.new) (S.absences shelf.new) (S.faults shelf.new))
-        (λ P. SourceEnd operations.now.signatures attribute.now source.entry P host.now.resolved (all_resolved extensions.now))) }
-    ensures goes_on { GoesOn (outside (S.files shelf.old) (S.absences shelf.old) (S.faults shelf.old))
-        (outside (S.files shelf.new) (S.absences shelf.new) (S.faults shelf.new)) }
+    ensures { Answers (outside (S.files shelf.old) (S.absences shelf.old) (S.faults shelf.old)) (outside (S.files shelf.new) (S.absences shelf.new) (S.faults shelf.new))
+        result (SourceChecks (record { signatures = operations.now.signatures; meaning = M.meaning }) (S.files shelf.old) attribute.now source.entry host.now.resolved (all_resolved extensions.now))
+        (λ P. SourceEnd operations.now.signatures attribute.now source.entry P host.now.resolved (all_resolved extensions.now)) }
 {
     let attributes = composed_attributes(alloc, host, extensions)?;
     let answer = attribute_answer(
@@ -134,12 +129,9 @@ fn attribute_answer<S: Shelf, M: Meaning>(
     requires kept { IsKept operations.now.signatures operations.now.built_in operations.now.runs.items M.meaning
         (λ run vs. ⟦<Box<dyn Fn(&[Value]) -> Result<Value, OperationRefusal>> as Fn(&[Value]) -> Result<Value, OperationRefusal>>⟧.pre run vs)
         (λ run vs r. ⟦<Box<dyn Fn(&[Value]) -> Result<Value, OperationRefusal>> as Fn(&[Value]) -> Result<Value, OperationRefusal>>⟧.post run vs r) }
-    ensures ok { IfOk result (λ answer. SourceChecks (record { signatures = operations.now.signatures; meaning = M.meaning }) (S.files shelf.old) name.now source.entry host.now.resolved (all_resolved extensions.now) answer.status answer.report.items) }
-    ensures stopped { IfErr result (Stopped (outside (S.files shelf.old) (S.absences shelf.old) (S.faults shelf.old))
-        (outside (S.files shelf.new) (S.absences shelf.new) (S.faults shelf.new))
-        (λ P. SourceEnd operations.now.signatures name.now source.entry P host.now.resolved (all_resolved extensions.now))) }
-    ensures goes_on { GoesOn (outside (S.files shelf.old) (S.absences shelf.old) (S.faults shelf.old))
-        (outside (S.files shelf.new) (S.absences shelf.new) (S.faults shelf.new)) }
+    ensures { Answers (outside (S.files shelf.old) (S.absences shelf.old) (S.faults shelf.old)) (outside (S.files shelf.new) (S.absences shelf.new) (S.faults shelf.new))
+        result (SourceChecks (record { signatures = operations.now.signatures; meaning = M.meaning }) (S.files shelf.old) name.now source.entry host.now.resolved (all_resolved extensions.now))
+        (λ P. SourceEnd operations.now.signatures name.now source.entry P host.now.resolved (all_resolved extensions.now)) }
 {
     match root_attribute(alloc, host, attributes, name.as_bytes())? {
         Some(attribute) => {
@@ -181,12 +173,9 @@ fn source_answer<S: Shelf, M: Meaning>(
     requires kept { IsKept operations.now.signatures operations.now.built_in operations.now.runs.items M.meaning
         (λ run vs. ⟦<Box<dyn Fn(&[Value]) -> Result<Value, OperationRefusal>> as Fn(&[Value]) -> Result<Value, OperationRefusal>>⟧.pre run vs)
         (λ run vs r. ⟦<Box<dyn Fn(&[Value]) -> Result<Value, OperationRefusal>> as Fn(&[Value]) -> Result<Value, OperationRefusal>>⟧.post run vs r) }
-    ensures ok { IfOk result (λ answer. SourceRest (record { signatures = operations.now.signatures; meaning = M.meaning }) (S.files shelf.old) source.entry asked.now answer.status answer.report.items) }
-    ensures stopped { IfErr result (Stopped (outside (S.files shelf.old) (S.absences shelf.old) (S.faults shelf.old))
-        (outside (S.files shelf.new) (S.absences shelf.new) (S.faults shelf.new))
-        (λ P. SourceText P source.entry)) }
-    ensures goes_on { GoesOn (outside (S.files shelf.old) (S.absences shelf.old) (S.faults shelf.old))
-        (outside (S.files shelf.new) (S.absences shelf.new) (S.faults shelf.new)) }
+    ensures { Answers (outside (S.files shelf.old) (S.absences shelf.old) (S.faults shelf.old)) (outside (S.files shelf.new) (S.absences shelf.new) (S.faults shelf.new))
+        result (SourceRest (record { signatures = operations.now.signatures; meaning = M.meaning }) (S.files shelf.old) source.entry asked.now)
+        (λ P. SourceText P source.entry) }
 {
     let composed = compose(alloc, asked.host, asked.extensions)?;
     let answer = composed_answer(alloc, shelf, source, asked, &composed, operations);
@@ -209,12 +198,9 @@ fn composed_answer<S: Shelf, M: Meaning>(
     requires kept { IsKept operations.now.signatures operations.now.built_in operations.now.runs.items M.meaning
         (λ run vs. ⟦<Box<dyn Fn(&[Value]) -> Result<Value, OperationRefusal>> as Fn(&[Value]) -> Result<Value, OperationRefusal>>⟧.pre run vs)
         (λ run vs r. ⟦<Box<dyn Fn(&[Value]) -> Result<Value, OperationRefusal>> as Fn(&[Value]) -> Result<Value, OperationRefusal>>⟧.post run vs r) }
-    ensures ok { IfOk result (λ answer. SourceRest (record { signatures = operations.now.signatures; meaning = M.meaning }) (S.files shelf.old) source.entry asked.now answer.status answer.report.items) }
-    ensures stopped { IfErr result (Stopped (outside (S.files shelf.old) (S.absences shelf.old) (S.faults shelf.old))
-        (outside (S.files shelf.new) (S.absences shelf.new) (S.faults shelf.new))
-        (λ P. SourceText P source.entry)) }
-    ensures goes_on { GoesOn (outside (S.files shelf.old) (S.absences shelf.old) (S.faults shelf.old))
-        (outside (S.files shelf.new) (S.absences shelf.new) (S.faults shelf.new)) }
+    ensures { Answers (outside (S.files shelf.old) (S.absences shelf.old) (S.faults shelf.old)) (outside (S.files shelf.new) (S.absences shelf.new) (S.faults shelf.new))
+        result (SourceRest (record { signatures = operations.now.signatures; meaning = M.meaning }) (S.files shelf.old) source.entry asked.now)
+        (λ P. SourceText P source.entry) }
 {
     match source {
         Source::File { file, steps } => {

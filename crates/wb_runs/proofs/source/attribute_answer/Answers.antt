@@ -4,9 +4,9 @@ use Rattle.wb_operations.specs.Operations.{Operations, OperationSignature}
 use Rattle.wb_resolved.specs.declared.resolved.ResolvedParts.{ResolvedParts}
 use Rattle.wb_united_texts.specs.Unions.{all_resolved}
 use Rattle.wb_united_texts.specs.Roots.{HasNoRootAttribute, IsRootAttribute}
-use Rattle.wb_inputs.specs.Stopped.{outside, Stopped}
-use Rattle.wb_inputs.proofs.CauseLemmas.{goes_on_here, ok_of, on_err, on_ok, weaker_stop}
-use Rattle.wb_runs.specs.Inner.Sources.{SourceChecks, SourceEnd, SourceRest, SourceText}
+use Rattle.wb_inputs.specs.Stopped.{outside}
+use Rattle.wb_inputs.proofs.CauseLemmas.{goes_on_here, ok_of}
+use Rattle.wb_inputs.proofs.MakesLemmas.{answered, exhausted, made_since}
 use Rattle.wb_runs.specs.declared.asked.Asked.{Asked}
 use Rattle.wb_runs.proofs.SourceLemmas.{found_checks, found_end, unknown_checks}
 use Rattle.wb_runs.proofs.source.attribute_answer.Goals as goal
@@ -18,8 +18,9 @@ found_one : (host : ResolvedParts) (operations : List OperationSignature) (value
     → IsRootAttribute host operations values name attribute
 found_one host operations values name other found attribute same is holds =
     subst (λ (x : List ℕ). IsRootAttribute host operations values x attribute) same
-    (subst (λ (x : Option ℕ). MatchOption x (HasNoRootAttribute host operations values other) (IsRootAttribute host operations values other))
-    is holds)
+    (subst
+    (λ (x : Option ℕ). MatchOption x (HasNoRootAttribute host operations values other) (IsRootAttribute host operations values other)) is
+    holds)
 
 -- and where none was
 found_none : (host : ResolvedParts) (operations : List OperationSignature) (values : List ResolvedParts) (name other : List ℕ)
@@ -28,8 +29,9 @@ found_none : (host : ResolvedParts) (operations : List OperationSignature) (valu
     → HasNoRootAttribute host operations values name
 found_none host operations values name other found same is holds =
     subst (λ (x : List ℕ). HasNoRootAttribute host operations values x) same
-    (subst (λ (x : Option ℕ). MatchOption x (HasNoRootAttribute host operations values other) (IsRootAttribute host operations values other))
-    is holds)
+    (subst
+    (λ (x : Option ℕ). MatchOption x (HasNoRootAttribute host operations values other) (IsRootAttribute host operations values other)) is
+    holds)
 
 pub source_answer-requires-clause-asked : goal.source_answer-requires-clause-asked
 source_answer-requires-clause-asked g c =
@@ -43,15 +45,16 @@ source_answer-requires-clause-asked g c =
       attributes = c.requires.attributes;
       is_root = found_one host.resolved host.operations values c.args.name.now name found c.in-Some.attribute c.as_bytes.ensures.value
           c.in-Some.is
-          (ok_of c.root_attribute.result found (λ (x : Option ℕ). MatchOption x (HasNoRootAttribute host.resolved host.operations values name)
+          (ok_of c.root_attribute.result found
+          (λ (x : Option ℕ). MatchOption x (HasNoRootAttribute host.resolved host.operations values name)
           (IsRootAttribute host.resolved host.operations values name)) c.in_ok-attribute.was
           (c.root_attribute.ensures values c.requires.attributes));
     }
 
-pub returns-in-Some-clause-ok : goal.returns-in-Some-clause-ok
-returns-in-Some-clause-ok g c =
+pub returns-in-Some : goal.returns-in-Some
+returns-in-Some g c =
     let operations : Operations = record { signatures = c.args.operations.now.signatures; meaning = g.M.Meaning.meaning } in
-    let files = g.S.Shelf.files c.args.shelf.now in
+    let before = outside (g.S.Shelf.files c.args.shelf.now) (g.S.Shelf.absences c.args.shelf.now) (g.S.Shelf.faults c.args.shelf.now) in
     let host = c.args.host.now in
     let values = all_resolved c.args.extensions.now in
     let name = c.as_bytes.result.now in
@@ -71,53 +74,14 @@ returns-in-Some-clause-ok g c =
     (c.root_attribute.ensures values c.requires.attributes)) in
     let is_root : IsRootAttribute host.resolved operations.signatures values c.args.name.now attribute =
     subst (λ (xs : List OperationSignature). IsRootAttribute host.resolved xs values c.args.name.now attribute) c.requires.operations is in
-    on_ok c.source_answer.result (λ answer. SourceRest operations files c.args.source asked answer.status answer.report.items)
-    (λ answer. SourceChecks operations files c.args.name.now c.args.source host.resolved values answer.status answer.report.items)
-    (λ answer. found_checks operations files c.args.source asked attribute answer.status answer.report.items is_root)
-    c.source_answer.ensures.ok
+    made_since c.source_answer.result (goes_on_here before) c.source_answer.ensures
+    (λ answer. found_checks operations before.files c.args.source asked attribute answer.status answer.report.items is_root)
+    (λ P Q. found_end operations.signatures c.args.name.now c.args.source host.resolved values attribute P Q is_root)
 
-pub returns-in-Some-clause-stopped : goal.returns-in-Some-clause-stopped
-returns-in-Some-clause-stopped g c =
-    let signatures = c.args.operations.now.signatures in
-    let before = outside (g.S.Shelf.files c.args.shelf.now) (g.S.Shelf.absences c.args.shelf.now) (g.S.Shelf.faults c.args.shelf.now) in
-    let now = outside (g.S.Shelf.files c.source_answer.new.shelf) (g.S.Shelf.absences c.source_answer.new.shelf)
-    (g.S.Shelf.faults c.source_answer.new.shelf) in
-    let host = c.args.host.now in
-    let values = all_resolved c.args.extensions.now in
-    let name = c.as_bytes.result.now in
-    let found = c.in_ok-attribute.field-0 in
-    let attribute = c.in-Some.attribute in
-    let is : IsRootAttribute host.resolved host.operations values c.args.name.now attribute =
-    found_one host.resolved host.operations values c.args.name.now name found attribute c.as_bytes.ensures.value c.in-Some.is
-    (ok_of c.root_attribute.result found (λ (x : Option ℕ). MatchOption x (HasNoRootAttribute host.resolved host.operations values name)
-    (IsRootAttribute host.resolved host.operations values name)) c.in_ok-attribute.was
-    (c.root_attribute.ensures values c.requires.attributes)) in
-    let is_root : IsRootAttribute host.resolved signatures values c.args.name.now attribute =
-    subst (λ (xs : List OperationSignature). IsRootAttribute host.resolved xs values c.args.name.now attribute) c.requires.operations is in
-    on_err c.source_answer.result (Stopped before now (λ P. SourceText P c.args.source))
-    (Stopped before now (λ P. SourceEnd signatures c.args.name.now c.args.source P host.resolved values))
-    (λ failure. weaker_stop before now (λ P. SourceText P c.args.source)
-    (λ P. SourceEnd signatures c.args.name.now c.args.source P host.resolved values) failure
-    (λ P. found_end signatures c.args.name.now c.args.source host.resolved values attribute P is_root)) c.source_answer.ensures.stopped
-
-pub returns-in_err-attribute-clause-goes_on : goal.returns-in_err-attribute-clause-goes_on
-returns-in_err-attribute-clause-goes_on g c =
-    goes_on_here (outside (g.S.Shelf.files c.args.shelf.now) (g.S.Shelf.absences c.args.shelf.now) (g.S.Shelf.faults c.args.shelf.now))
-
-pub returns-in_err-unknown-in-None-clause-goes_on : goal.returns-in_err-unknown-in-None-clause-goes_on
-returns-in_err-unknown-in-None-clause-goes_on g c =
-    goes_on_here (outside (g.S.Shelf.files c.args.shelf.now) (g.S.Shelf.absences c.args.shelf.now) (g.S.Shelf.faults c.args.shelf.now))
-
-pub returns-in_ok-unknown-in-None-clause-goes_on : goal.returns-in_ok-unknown-in-None-clause-goes_on
-returns-in_ok-unknown-in-None-clause-goes_on g c =
-    goes_on_here (outside (g.S.Shelf.files c.args.shelf.now) (g.S.Shelf.absences c.args.shelf.now) (g.S.Shelf.faults c.args.shelf.now))
-
-pub returns-in-Some-clause-goes_on : goal.returns-in-Some-clause-goes_on
-returns-in-Some-clause-goes_on g c = c.source_answer.ensures.goes_on
-
-pub returns-in_ok-unknown-in-None-clause-ok : goal.returns-in_ok-unknown-in-None-clause-ok
-returns-in_ok-unknown-in-None-clause-ok g c =
+pub returns-in_ok-unknown-in-None : goal.returns-in_ok-unknown-in-None
+returns-in_ok-unknown-in-None g c =
     let operations : Operations = record { signatures = c.args.operations.now.signatures; meaning = g.M.Meaning.meaning } in
+    let files = g.S.Shelf.files c.args.shelf.now in
     let host = c.args.host.now in
     let values = all_resolved c.args.extensions.now in
     let name = c.as_bytes.result.now in
@@ -128,7 +92,17 @@ returns-in_ok-unknown-in-None-clause-ok g c =
     (ok_of c.root_attribute.result found (λ (x : Option ℕ). MatchOption x (HasNoRootAttribute host.resolved host.operations values name)
     (IsRootAttribute host.resolved host.operations values name)) c.in_ok-attribute.was
     (c.root_attribute.ensures values c.requires.attributes)) in
-    unknown_checks operations (g.S.Shelf.files c.args.shelf.now) c.args.source c.args.name.now host.resolved values answer.status
-    answer.report.items
+    answered answer (unknown_checks operations files c.args.source c.args.name.now host.resolved values answer.status answer.report.items
     (subst (λ (xs : List OperationSignature). HasNoRootAttribute host.resolved xs values c.args.name.now) c.requires.operations none)
-    c.in_ok-unknown-in-None.ensures
+    c.in_ok-unknown-in-None.ensures)
+    (goes_on_here (outside files (g.S.Shelf.absences c.args.shelf.now) (g.S.Shelf.faults c.args.shelf.now)))
+
+pub returns-in_err-attribute : goal.returns-in_err-attribute
+returns-in_err-attribute g c =
+    exhausted c.from_residual.result c.from_residual.ensures.1
+    (goes_on_here (outside (g.S.Shelf.files c.args.shelf.now) (g.S.Shelf.absences c.args.shelf.now) (g.S.Shelf.faults c.args.shelf.now)))
+
+pub returns-in_err-unknown-in-None : goal.returns-in_err-unknown-in-None
+returns-in_err-unknown-in-None g c =
+    exhausted c.from_residual-in_err-unknown-in-None.result c.from_residual-in_err-unknown-in-None.ensures.1
+    (goes_on_here (outside (g.S.Shelf.files c.args.shelf.now) (g.S.Shelf.absences c.args.shelf.now) (g.S.Shelf.faults c.args.shelf.now)))

@@ -1,17 +1,13 @@
 -- Nothing is read where nothing can be composed.
 use Rattle.wb_inputs.specs.Stopped.{outside}
 use Rattle.wb_inputs.proofs.CauseLemmas.{goes_on_here}
+use Rattle.wb_inputs.proofs.MakesLemmas.{exhausted}
 use Rattle.wb_runs.proofs.source.source_answer.Goals as goal
 
-pub returns-in_err-composed-clause-goes_on : goal.returns-in_err-composed-clause-goes_on
-returns-in_err-composed-clause-goes_on g c =
-    goes_on_here (outside (g.S.Shelf.files c.args.shelf.now) (g.S.Shelf.absences c.args.shelf.now) (g.S.Shelf.faults c.args.shelf.now))
+pub returns : goal.returns
+returns g c = c.composed_answer-answer.ensures
 
-pub returns-clause-ok : goal.returns-clause-ok
-returns-clause-ok g c = c.composed_answer-answer.ensures.ok
-
-pub returns-clause-stopped : goal.returns-clause-stopped
-returns-clause-stopped g c = c.composed_answer-answer.ensures.stopped
-
-pub returns-clause-goes_on : goal.returns-clause-goes_on
-returns-clause-goes_on g c = c.composed_answer-answer.ensures.goes_on
+pub returns-in_err-composed : goal.returns-in_err-composed
+returns-in_err-composed g c =
+    exhausted c.from_residual.result c.from_residual.ensures.1
+    (goes_on_here (outside (g.S.Shelf.files c.args.shelf.now) (g.S.Shelf.absences c.args.shelf.now) (g.S.Shelf.faults c.args.shelf.now)))
