@@ -37,7 +37,7 @@ use Rattle.wb_additions.proofs.PositionLemmas.{place as place_of_group}
 use Rattle.wb_additions.proofs.SplitLemmas.{Parts, Groups}
 use Rattle.wb_additions.proofs.StayLemmas.{map_stays_all, Stays, nonterminal_stays, attribute_stays, occurrence_stays}
 
--- what stands behind the host's on what may be its production
+-- what comes after the host's on what may be its production
 abbrev pub own_locals : Option Production → List Local → List Local
 own_locals None locals = []
 own_locals (Some production) locals = drop (length production.locals) locals

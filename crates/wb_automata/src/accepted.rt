@@ -29,7 +29,7 @@ pub(crate) fn accepted_of(
     Ok(accepted)
 }
 
-// The same for one set of leaves more.
+// Like `accepted_of`, for one more set of leaves.
 fn push_accepted(
     alloc: Global,
     count: usize,

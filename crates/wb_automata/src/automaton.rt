@@ -59,7 +59,7 @@ impl Model for Automaton {
 }
 
 impl Automaton {
-    /// The automaton of these expressions and sets of them, of which it keeps copies. The only error is want of memory.
+    /// The automaton of these expressions and sets of them, of which it keeps copies.
     ///
     /// Members of a set that aren't below the number of terminals count for nothing. Terminals that are in no common set
     /// don't multiply; those of one set may: at worst its states double with each byte that a choice has to remember.
@@ -75,7 +75,7 @@ impl Automaton {
         from_tables(alloc, terminals, sets, &tables)
     }
 
-    /// The expressions of the terminals. Takes no memory.
+    /// The expressions of the terminals.
     pub fn terminals(&self) -> &[Regex]
         ensures value { result.now ≡ self.now.terminals }
         ensures not_empty { (terminal : ℕ) → ¬ IsMatch self.now.terminals terminal [] }
@@ -84,14 +84,14 @@ impl Automaton {
         &self.terminals
     }
 
-    /// The sets of terminals. Takes no memory.
+    /// The sets of terminals.
     pub fn sets(&self) -> &[TermSet]
         ensures { result.now ≡ self.now.sets }
     {
         &self.sets
     }
 
-    /// How many states there are, numbered from 0 on. Takes no memory.
+    /// How many states there are, numbered from 0 on.
     pub fn states(&self) -> usize
         ensures count { result ≡ length self.now.paths }
         ensures few { result ≤ most_states self.now.terminals }
@@ -100,7 +100,7 @@ impl Automaton {
         self.predecessors.len()
     }
 
-    /// The state of the empty text, at the start of a set. Takes no memory.
+    /// The state of the empty text, at the start of a set.
     pub fn start(&self, set: usize) -> usize
         requires { set < length self.now.sets }
         ensures state { result < length self.now.paths }
@@ -109,7 +109,7 @@ impl Automaton {
         self.starts[set]
     }
 
-    /// The state after one byte more, or None where no match of a terminal of the set goes on so. Takes no memory.
+    /// The state after one byte more, or None where no match of a terminal of the set goes on so.
     pub fn step(&self, state: usize, byte: u8) -> Option<usize>
         requires { state < length self.now.paths }
         ensures state { IfSome result (λ next. next < length self.now.paths) }
@@ -120,7 +120,7 @@ impl Automaton {
         state_from(self.moves[state * self.width + class])
     }
 
-    /// Whether the terminal is in the sets and matches the texts that lead to the state. Takes no memory.
+    /// Whether the terminal is in the sets and matches the texts that lead to the state.
     pub fn accepts(&self, state: usize, terminal: usize) -> bool
         requires { state < length self.now.paths }
         ensures { (set : ℕ) (text : List ℕ) → LeadsTo self.now set text state → IsTrue result ↔ MatchesIn self.now set terminal text }
@@ -128,7 +128,7 @@ impl Automaton {
         has(self.accepted(state), terminal)
     }
 
-    /// The terminals that are in the sets and match the texts that lead to the state, in order. Takes no memory.
+    /// The terminals that are in the sets and match the texts that lead to the state, in order.
     pub fn accepted(&self, state: usize) -> &[usize]
         requires { state < length self.now.paths }
         ensures exact { (terminal set : ℕ) (text : List ℕ) → LeadsTo self.now set text state → Contains result.now terminal ↔ MatchesIn self.now set terminal text }
@@ -137,7 +137,7 @@ impl Automaton {
         self.accepted.row(state)
     }
 
-    /// The set from whose start the state was found. Takes no memory.
+    /// The set from whose start the state was found.
     pub fn set(&self, state: usize) -> usize
         requires { state < length self.now.paths }
         ensures path { (path : Path) → slice_get self.now.paths state ≡ Some path → result ≡ path.set }
@@ -146,7 +146,7 @@ impl Automaton {
         self.predecessors[state].set
     }
 
-    /// The text by which the state was found. The only error is want of memory.
+    /// The text by which the state was found.
     pub fn text(&self, alloc: Global, state: usize) -> Result<Bytes, AllocError>
         requires { state < length self.now.paths }
         ensures { IfOk result (λ text. (path : Path) → slice_get self.now.paths state ≡ Some path → text ≡ path.text) }
@@ -155,7 +155,6 @@ impl Automaton {
     }
 }
 
-// By hand, so that no crate above proves how the parts are dropped.
 impl Drop for Automaton {
     fn drop(self) {
         let Automaton {

@@ -22,8 +22,8 @@ use wb_termset::TermSet;
 /// The least text that both expressions match, by length and then by bytes, or that there is none.
 ///
 /// Pairs of a position of the one and a position of the other are met, each once, and no automaton is built. So beside the tables of
-/// positions the time is, for each class of bytes, at most the product of how many positions may follow one another in the one and in
-/// the other; the memory is a bit for each two nodes of both, and a number for each pair that is met. The only error is want of memory.
+/// positions the time is, for each class of bytes, at most the product of how many positions may follow one another in the one and in the
+/// other; the memory is a bit for each two nodes of both, and a number for each pair that is met.
 pub fn overlap(alloc: Global, left: &Regex, right: &Regex) -> Result<Overlap, AllocError>
     ensures { IfOk result (IsOverlap left.now right.now) }
 {
@@ -31,7 +31,7 @@ pub fn overlap(alloc: Global, left: &Regex, right: &Regex) -> Result<Overlap, Al
     least_shared(alloc, &tables)
 }
 
-/// The shortest text that matches, and of these the first in byte order. The only error is want of memory.
+/// The shortest text that matches, and of these the first in byte order.
 pub fn least_text(alloc: Global, regex: &Regex) -> Result<Bytes, AllocError>
     ensures { IfOk result (IsLeastMatch regex.now) }
 {

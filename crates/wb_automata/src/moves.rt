@@ -9,7 +9,7 @@ use std::marker::Model;
 // States from this one on have no code.
 const LIMIT: usize = 4294967295;
 
-// A list of moves: each leads to a state or nowhere. Numbers that don't fit are want of memory.
+// A list of moves: each leads to a state or nowhere. Numbers that don't fit are reported as out of memory.
 #[derive(Drop)]
 pub(crate) struct Moves {
     codes: Vec<u32>,

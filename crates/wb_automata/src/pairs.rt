@@ -43,7 +43,7 @@ pub(crate) fn least_shared(alloc: Global, tables: &Tables) -> Result<Overlap, Al
     shared_by(alloc, tables, &classes.firsts)
 }
 
-// The same, where these bytes stand for all.
+// Like `least_shared`, where these bytes stand for all.
 fn shared_by(alloc: Global, tables: &Tables, bytes: &[u8]) -> Result<Overlap, AllocError>
     requires two { AreTwo tables.now }
     requires bytes { AreFirsts tables.now.nodes.items bytes.now }
@@ -94,7 +94,7 @@ fn no_groups(alloc: Global, count: usize) -> Result<Groups, AllocError>
     ensures pairs { IfOk result (λ groups. groups.pairs ≡ []) }
     ensures predecessors { IfOk result (λ groups. groups.predecessors.items ≡ []) }
 {
-    // As many flags are want of memory.
+    // So many flags don't fit into memory.
     let Some(limit) = count.checked_mul(count) else {
         return Err(AllocError);
     };

@@ -1,4 +1,4 @@
--- A true refusal but for want of memory rules a language out.
+-- A true refusal other than out of memory rules a language out.
 use Rattle.wb_contexts.proofs.ConflictLemmas.{shown_conflict}
 use Rattle.wb_languages.specs.Languages.{LanguageView}
 use Rattle.wb_bare.specs.declared.refusal.LanguageRefusal.{LanguageRefusal}

@@ -27,8 +27,8 @@ pub record IsFormClash (l : LanguageView) (prefix : List Symbol) (left right : �
   pub right_matches : IsMatch l.expressions right text
   pub unordered : ¬ AreOrdered l.preferences left right
 
--- what is shown is an example of the first of these that holds: preferences form a cycle, the grammar has a conflict, or two forms clash, of
--- which the lesser is first. Want of memory says nothing of the grammar
+-- what is shown is an example of the first of these that holds: preferences form a cycle, the grammar has a conflict, or two forms clash,
+-- of which the lesser is first. Out of memory says nothing of the grammar
 abbrev pub IsLanguageRefusal : LanguageView → LanguageRefusal → Type 0
 IsLanguageRefusal l (r.Cycle cycle) = IsSimpleCycle l.preferences cycle
 IsLanguageRefusal l (r.Conflict prefix terminal first second) = AreAcyclic l × IsConflictAt l.grammar prefix terminal first second
@@ -42,7 +42,7 @@ pub record IsFree (l : LanguageView) : Type 0 where
   pub no_conflict : HasNoConflict l.grammar
   pub no_clash : (prefix : List Symbol) (left right : ℕ) (text : List ℕ) → ¬ IsFormClash l prefix left right text
 
--- the refusal is want of memory
+-- the refusal is that memory ran out
 abbrev pub IsNoMemory : LanguageRefusal → Type 0
 IsNoMemory (r.Cycle _) = ⊥
 IsNoMemory (r.Conflict _ _ _ _) = ⊥

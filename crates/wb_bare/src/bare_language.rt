@@ -1,4 +1,4 @@
-//! Which language has a grammar whose terminals are written as they are?
+//! Builds the language of a grammar whose terminals are written as they are.
 //!
 //! One automaton serves the test for clashes and the scanner.
 

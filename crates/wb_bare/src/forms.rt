@@ -1,4 +1,4 @@
-//! Which forms have terminals that are written as they are?
+//! Builds the forms of terminals that are written as they are.
 
 ghost use Rattle.std.specs.Prelude.{◌≡◌, IfOk};
 ghost use Rattle.wb_bare.specs.Bare.{bare_forms};

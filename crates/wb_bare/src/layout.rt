@@ -1,4 +1,4 @@
-//! Which set has all layout?
+//! Builds the set of all layout.
 
 ghost use Rattle.std.specs.Prelude.{◌≡◌, ◌≤◌, ◌<◌, ◌↔◌, ℕ, IfOk, length};
 ghost use Rattle.wb_termset.specs.Sets.{IsMember};

@@ -24,7 +24,7 @@ pub enum LanguageRefusal {
         right: usize,
         text: Bytes,
     },
-    /// There was no memory to tell, or a number is too large for a table.
+    /// Out of memory, or a number is too large for a table.
     NoMemory(AllocError),
 }
 

@@ -17,7 +17,7 @@ use Rattle.wb_types.specs.Rules.{KindsOk}
 abbrev pub IsOneExtension : ResolvedParts → List ℕ → Type 0
 IsOneExtension r name = r.attributes.extensions ≡ name ∷ []
 
--- the markers of the extension keep their rules: they begin its bridges, and can be told from what else is scanned beside them
+-- the markers of the extension keep their rules: they begin its bridges, and can be told apart from what else is scanned
 pub record AreMarkersKept (r : ResolvedParts) (grammar : GrammarView) : Type 0 where
   pub bridges : AreBridges r grammar
   pub clashes : HasNoMarkerClash r

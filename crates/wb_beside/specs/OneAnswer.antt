@@ -14,7 +14,7 @@ use Rattle.wb_types.specs.declared.refusal.TypeRefusal.{TypeRefusal}
 use Rattle.wb_beside.specs.Extensions.{IsCertifiedBeside}
 use Rattle.wb_beside.specs.Refusals.{IsBesideRefusal, IsMemory}
 
--- an extension that stands for a value isn't refused for its names, but for want of memory
+-- an extension that stands for a value isn't refused for its names, except when memory runs out
 abbrev pub NamesExclude : (host : ResolvedParts) → SpecView → ResolvedParts → Type 0
 NamesExclude host spec r =
     ResolvesExtension host spec r → (refusal : NameRefusal) → IsExtensionNameRefusal host spec refusal → IsNameMemory refusal
@@ -29,7 +29,7 @@ module _ (host r : ResolvedParts) (operations : List OperationSignature) where
     pub determinism_attributes : (x : DeterminismRefusal) (y : AttributeRefusal) → IsBesideRefusal host r operations (c.Determinism x)
         → ¬ IsBesideRefusal host r operations (c.Attributes y)
 
-  -- an extension that is certified isn't refused, but for want of memory, and refusals of two sorts aren't both true
+  -- an extension that is certified isn't refused, except when memory runs out, and refusals of two sorts aren't both true
   pub record HasOneAnswer : Type 0 where
     pub certified : IsCertifiedBeside host r operations → (refusal : CertifyRefusal) → IsBesideRefusal host r operations refusal
         → IsMemory refusal

@@ -29,7 +29,7 @@ use Rattle.wb_beside.specs.Extensions.{AreMarkersKept, IsDeterministicBeside}
 
 -- what is shown is an example of the first of these that holds of a host with an extension, where g is its grammar and the other that of
 -- the host with holes: a rule on bridges fails; preferences form a cycle; a marker clashes; or markers keep their rules, and the extension
--- isn't deterministic beside the host. Want of memory says nothing
+-- isn't deterministic beside the host. Out of memory says nothing
 abbrev pub IsReason : ResolvedParts → (g host : GrammarView) → DeterminismRefusal → Type 0
 IsReason r g host (d.NotBridge production) = IsNoBridge r g production
 IsReason r g host (d.MarkerElsewhere marker) = IsElsewhere r g marker
@@ -65,7 +65,7 @@ pub record AreNotWellDefined (host r : ResolvedParts) (operations : List Operati
   pub deterministic : IsDeterministicBeside host r host_grammar grammar
   pub reason : IsAttributeRefusal r.attributes (Some grammar.start) refusal
 
--- the refusal is true of a host with an extension; that of names isn't about one, there is always a start, and want of memory says nothing
+-- the refusal is true of a host with an extension; that of names isn't about one, there is always a start, and out of memory says nothing
 -- and is in no other reason
 abbrev pub IsBesideRefusal : (host r : ResolvedParts) → List OperationSignature → CertifyRefusal → Type 0
 IsBesideRefusal host r operations (c.Names refusal) = ⊥
@@ -89,7 +89,7 @@ IsExtensionCertifyRefusal host spec operations (c.Names refusal) = IsExtensionNa
 IsExtensionCertifyRefusal host spec operations (c.NoMemory error) = Unit {0}
 IsExtensionCertifyRefusal host spec operations other = IsNotCertified host spec operations other
 
--- the refusal is want of memory
+-- the refusal is that memory ran out
 abbrev pub IsMemory : CertifyRefusal → Type 0
 IsMemory (c.NoMemory error) = Unit {0}
 IsMemory other = ⊥

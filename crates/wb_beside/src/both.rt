@@ -6,7 +6,7 @@ ghost use Rattle.wb_beside.specs.Kept.{AreCertifiedBoth};
 
 use crate::CertifiedExtension;
 
-/// A certified extension and its host are certified both, with their grammars. Takes no memory.
+/// A certified extension and its host are certified both, with their grammars.
 pub fn certified_both(extension: &CertifiedExtension)
     ensures { (h g : GrammarView) → extension.now.host.grammar ≡ Some h → extension.now.resolved.grammar ≡ Some g → AreCertifiedBoth extension.now.host extension.now.resolved h g extension.now.operations }
 {

@@ -36,7 +36,7 @@ impl Model for CertifiedExtension {
 }
 
 impl CertifiedExtension {
-    /// The name of the extension. Takes no memory.
+    /// The name of the extension.
     pub fn name(&self) -> &[u8]
         ensures { IsOneExtension self.now.resolved result.now }
     {
@@ -49,7 +49,7 @@ impl CertifiedExtension {
             .as_slice()
     }
 
-    /// The host by numbers, without the extension. Takes no memory.
+    /// The host by numbers, without the extension.
     pub fn host(&self) -> &Resolved
         ensures host { result.now ≡ self.now.host }
         ensures certified { IsCertifiedValue self.now.host self.now.operations }
@@ -57,7 +57,7 @@ impl CertifiedExtension {
         &self.host
     }
 
-    /// The host with the extension by numbers, of which the extension is owner 1. Takes no memory.
+    /// The host with the extension by numbers, of which the extension is owner 1.
     pub fn resolved(&self) -> &Resolved
         ensures resolved { result.now ≡ self.now.resolved }
         ensures extends { Extends self.now.host self.now.resolved }
@@ -66,7 +66,7 @@ impl CertifiedExtension {
         &self.resolved
     }
 
-    /// What is made of the grammar of host and extension, with holes. Takes no memory.
+    /// What is made of the grammar of host and extension, with holes.
     pub fn parts(&self) -> &ExtensionParts
         ensures parts { result.now ≡ self.now.parts }
         ensures of_grammar { AreKeptParts self.now.host self.now.resolved self.now.parts }
@@ -74,7 +74,7 @@ impl CertifiedExtension {
         &self.parts
     }
 
-    /// The signatures of the operations with which it was certified. Takes no memory.
+    /// The signatures of the operations with which it was certified.
     pub fn operations(&self) -> &OperationSignatures
         ensures { result.now ≡ self.now.operations }
     {

@@ -8,7 +8,7 @@ ghost use Rattle.wb_beside.specs.OneAnswer.{HasOneAnswer, NamesExclude};
 
 use wb_extensions::extension_refusals_law;
 
-/// That an extension is certified excludes each refusal but want of memory, and a refusal of one sort excludes one of another.
+/// That an extension is certified excludes each refusal but out of memory, and a refusal of one sort excludes one of another.
 pub fn one_answer_law()
     ensures { (host r : ResolvedParts) (operations : List OperationSignature) → HasOneAnswer host r operations }
 {
@@ -16,7 +16,7 @@ pub fn one_answer_law()
     wb_forwards::one_answer_law();
 }
 
-/// That an extension's names are right excludes each refusal of names but want of memory.
+/// That an extension's names are right excludes each refusal of names but out of memory.
 pub fn names_law()
     ensures { (host : ResolvedParts) (spec : SpecView) (r : ResolvedParts) → NamesExclude host spec r }
 {}

@@ -1,6 +1,6 @@
 //! What does an action make of the parts that are read?
 //!
-//! Actions stand between the symbols of right sides. What each group of them does is in the file of what it is about.
+//! Actions are between the symbols of right sides. What each group of them does is in the file of what it is about.
 
 ghost use Rattle.std.specs.Prelude.{◌≡◌, OnOk};
 ghost use Rattle.wb_builder.specs.Actions.{act};
@@ -19,7 +19,7 @@ pub enum Action {
     Expression(ExpressionAction),
 }
 
-/// What an action does. The only error is want of memory.
+/// What an action does.
 pub fn act(alloc: Global, action: Action, values: &mut SpecBuilder) -> Result<(), AllocError>
     ensures ok { OnOk result (values.new ≡ act action values.old) }
 {

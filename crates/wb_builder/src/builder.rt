@@ -75,7 +75,7 @@ pub struct SpecBuilder {
 }
 
 impl SpecBuilder {
-    /// No parts. Takes no memory.
+    /// No parts.
     pub fn new(alloc: Global) -> SpecBuilder
         ensures { result ≡ empty }
     {
@@ -102,42 +102,42 @@ impl SpecBuilder {
         }
     }
 
-    /// A name was read at this place. The only error is want of memory.
+    /// A name was read at this place.
     pub fn read_name(&mut self, bytes: Bytes, at: usize) -> Result<(), AllocError>
         ensures ok { OnOk result (self.new ≡ with_name bytes at self.old) }
     {
         self.names.push(PlacedBytes { bytes, at })
     }
 
-    // A word that may begin an item, an equation or a read was read at this place. The only error is want of memory.
+    // A word that may begin an item, an equation or a read was read at this place.
     pub(crate) fn read_start(&mut self, at: usize) -> Result<(), AllocError>
         ensures ok { OnOk result (self.new ≡ with_start at self.old) }
     {
         self.starts.push(at)
     }
 
-    /// An integer was read. The only error is want of memory.
+    /// An integer was read.
     pub fn read_integer(&mut self, value: i64) -> Result<(), AllocError>
         ensures ok { OnOk result (self.new ≡ with_integer value self.old) }
     {
         self.integers.push(value)
     }
 
-    /// A string was read. The only error is want of memory.
+    /// A string was read.
     pub fn read_text(&mut self, text: Bytes) -> Result<(), AllocError>
         ensures ok { OnOk result (self.new ≡ with_text text self.old) }
     {
         self.texts.push(text)
     }
 
-    /// A regular expression was read at this place. The only error is want of memory.
+    /// A regular expression was read at this place.
     pub fn read_pattern(&mut self, bytes: Bytes, at: usize) -> Result<(), AllocError>
         ensures ok { OnOk result (self.new ≡ with_pattern bytes at self.old) }
     {
         self.patterns.push(WrittenPattern { bytes, at })
     }
 
-    /// The specification of the whole parts, which are taken out. Takes no memory.
+    /// The specification of the whole parts, which are taken out.
     pub fn take_written(&mut self, alloc: Global) -> WrittenSpec
         ensures { result ≡ written_of self.old }
     {
@@ -153,7 +153,6 @@ impl SpecBuilder {
     }
 }
 
-// By hand, so that no crate above proves how the parts are dropped.
 impl Drop for SpecBuilder {
     fn drop(self) {
         let SpecBuilder {

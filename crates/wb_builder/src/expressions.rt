@@ -32,7 +32,7 @@ pub enum ExpressionAction {
     AddArgument,
 }
 
-// What an action on expressions does. The only error is want of memory.
+// What an action on expressions does.
 pub(crate) fn expression_act(
     alloc: Global,
     action: ExpressionAction,
@@ -59,7 +59,7 @@ pub(crate) fn expression_act(
 }
 
 impl SpecBuilder {
-    // The node goes after the others of its expression. The only error is want of memory.
+    // The node goes after the others of its expression.
     fn add_node(&mut self, node: Node) -> Result<(), AllocError>
         ensures ok { OnOk result (self.new ≡ with_node node self.old) }
     {
@@ -69,7 +69,7 @@ impl SpecBuilder {
         self.roots.push(place)
     }
 
-    // The last integer is a part. The only error is want of memory.
+    // The last integer is a part.
     fn add_number(&mut self) -> Result<(), AllocError>
         ensures ok { OnOk result (self.new ≡ with_number self.old) }
     {
@@ -79,7 +79,7 @@ impl SpecBuilder {
         self.add_node(Node::Int(value))
     }
 
-    // The last string is a part. The only error is want of memory.
+    // The last string is a part.
     fn add_string(&mut self) -> Result<(), AllocError>
         ensures ok { OnOk result (self.new ≡ with_string self.old) }
     {
@@ -89,7 +89,7 @@ impl SpecBuilder {
         self.add_node(Node::Text(text))
     }
 
-    // The last name is a part. The only error is want of memory.
+    // The last name is a part.
     fn add_label(&mut self) -> Result<(), AllocError>
         ensures ok { OnOk result (self.new ≡ with_label (λ l. n.Label l) self.old) }
     {
@@ -99,7 +99,7 @@ impl SpecBuilder {
         self.add_node(Node::Label(name.bytes))
     }
 
-    // The text of the child of the last name is a part. The only error is want of memory.
+    // The text of the child of the last name is a part.
     fn add_lexeme(&mut self) -> Result<(), AllocError>
         ensures ok { OnOk result (self.new ≡ with_label (λ l. n.Lexeme l) self.old) }
     {
@@ -109,7 +109,7 @@ impl SpecBuilder {
         self.add_node(Node::Lexeme(name.bytes))
     }
 
-    // An attribute of a child or local is a part. The only error is want of memory.
+    // An attribute of a child or local is a part.
     fn add_read(&mut self) -> Result<(), AllocError>
         ensures ok { OnOk result (self.new ≡ with_read self.old) }
     {
@@ -122,7 +122,7 @@ impl SpecBuilder {
         })
     }
 
-    // An attribute of the top is a part. The only error is want of memory.
+    // An attribute of the top is a part.
     fn add_top(&mut self) -> Result<(), AllocError>
         ensures ok { OnOk result (self.new ≡ with_placed_read (λ a. n.Top a) self.old) }
     {
@@ -135,7 +135,7 @@ impl SpecBuilder {
         self.add_node(Node::Top(name.bytes))
     }
 
-    // An attribute of the forwarded tree is a part. The only error is want of memory.
+    // An attribute of the forwarded tree is a part.
     fn add_forward(&mut self) -> Result<(), AllocError>
         ensures ok { OnOk result (self.new ≡ with_placed_read (λ a. n.Forward a) self.old) }
     {
@@ -148,7 +148,7 @@ impl SpecBuilder {
         self.add_node(Node::Forward(name.bytes))
     }
 
-    // The last part is an argument. The only error is want of memory.
+    // The last part is an argument.
     fn add_argument(&mut self) -> Result<(), AllocError>
         ensures ok { OnOk result (self.new ≡ with_argument self.old) }
     {
@@ -158,7 +158,7 @@ impl SpecBuilder {
         append(&mut self.arguments, root)
     }
 
-    // A tree of a production is a part. The only error is want of memory.
+    // A tree of a production is a part.
     fn add_build(&mut self) -> Result<(), AllocError>
         ensures ok { OnOk result (self.new ≡ with_call (λ name list. n.Build name list) self.old) }
     {
@@ -174,7 +174,7 @@ impl SpecBuilder {
         })
     }
 
-    // The result of an operation is a part. The only error is want of memory.
+    // The result of an operation is a part.
     fn add_call(&mut self) -> Result<(), AllocError>
         ensures ok { OnOk result (self.new ≡ with_call (λ name list. n.Call name list) self.old) }
     {
@@ -190,7 +190,7 @@ impl SpecBuilder {
         })
     }
 
-    // A choice is a part. The only error is want of memory.
+    // A choice is a part.
     fn add_if(&mut self) -> Result<(), AllocError>
         ensures ok { OnOk result (self.new ≡ with_if self.old) }
     {

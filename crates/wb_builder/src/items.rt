@@ -38,7 +38,7 @@ pub enum ItemAction {
     Production,
 }
 
-// What an action on headers, items and productions does. The only error is want of memory.
+// What an action on headers, items and productions does.
 pub(crate) fn item_act(
     alloc: Global,
     action: ItemAction,
@@ -84,7 +84,6 @@ fn format_of(value: i64) -> u32
 
 impl SpecBuilder {
     /// A reserved word was read at this place, which is kept where it may begin an item, an equation or a read.
-    /// The only error is want of memory.
     pub fn read_word(&mut self, word: Word, at: usize) -> Result<(), AllocError>
         ensures ok { OnOk result (self.new ≡ word_shift word at self.old) }
     {
@@ -110,7 +109,7 @@ impl SpecBuilder {
         }
     }
 
-    // The number of the format was read. Takes no memory.
+    // The number of the format was read.
     fn begin(&mut self)
         ensures { self.new ≡ with_begin self.old }
     {
@@ -120,7 +119,7 @@ impl SpecBuilder {
         self.format = format_of(value);
     }
 
-    // The specification has this name and this header. Takes no memory.
+    // The specification has this name and this header.
     fn set_header(&mut self, name: Bytes, header: Header)
         ensures { self.new ≡ with_header name header self.old }
     {
@@ -128,7 +127,7 @@ impl SpecBuilder {
         self.header = header;
     }
 
-    // A host's header is whole. Takes no memory.
+    // A host's header is whole.
     fn add_host(&mut self)
         ensures { self.new ≡ with_host self.old }
     {
@@ -138,7 +137,7 @@ impl SpecBuilder {
         self.set_header(name.bytes, Header::Host);
     }
 
-    // An extension's header is whole. Takes no memory.
+    // An extension's header is whole.
     fn add_extension(&mut self)
         ensures { self.new ≡ with_extension self.old }
     {
@@ -148,7 +147,7 @@ impl SpecBuilder {
         self.set_header(name.bytes, Header::Extension { host: host.bytes });
     }
 
-    // The last start, or 0 where there is none, which no reading meets. Takes no memory.
+    // The last start, or 0 where there is none, which no reading meets.
     fn take_start(&mut self) -> usize
         ensures start { result ≡ last_start self.old }
         ensures rest { self.new ≡ without_start self.old }
@@ -159,7 +158,7 @@ impl SpecBuilder {
         at
     }
 
-    // An item is whole. The only error is want of memory.
+    // An item is whole.
     fn add_item(&mut self, form: ItemForm<WrittenPattern>) -> Result<(), AllocError>
         ensures ok { OnOk result (self.new ≡ with_item form self.old) }
     {
@@ -167,7 +166,7 @@ impl SpecBuilder {
         self.items.push(Item { offset, form })
     }
 
-    // An item with a regular expression is whole. The only error is want of memory.
+    // An item with a regular expression is whole.
     fn add_lexical(&mut self, role: Role) -> Result<(), AllocError>
         ensures ok { OnOk result (self.new ≡ with_role role self.old) }
     {
@@ -184,7 +183,7 @@ impl SpecBuilder {
         })
     }
 
-    // A preference is whole. The only error is want of memory.
+    // A preference is whole.
     fn add_prefer(&mut self) -> Result<(), AllocError>
         ensures ok { OnOk result (self.new ≡ with_pair (λ first second. f.Plain (i.Prefer first second)) self.old) }
     {
@@ -197,7 +196,7 @@ impl SpecBuilder {
         }))
     }
 
-    // A nonterminal's declaration is whole. The only error is want of memory.
+    // A nonterminal's declaration is whole.
     fn add_nonterminal(&mut self) -> Result<(), AllocError>
         ensures ok { OnOk result (self.new ≡ with_named (λ name. f.Plain (i.Nonterminal name)) self.old) }
     {
@@ -207,7 +206,7 @@ impl SpecBuilder {
         self.add_item(ItemForm::Plain(PlainForm::Nonterminal(name.bytes)))
     }
 
-    // The start's declaration is whole. The only error is want of memory.
+    // The start's declaration is whole.
     fn add_start(&mut self) -> Result<(), AllocError>
         ensures ok { OnOk result (self.new ≡ with_named (λ name. f.Plain (i.Start name)) self.old) }
     {
@@ -217,7 +216,7 @@ impl SpecBuilder {
         self.add_item(ItemForm::Plain(PlainForm::Start(name.bytes)))
     }
 
-    // A permission to extend is whole. The only error is want of memory.
+    // A permission to extend is whole.
     fn add_extensible(&mut self) -> Result<(), AllocError>
         ensures ok { OnOk result (self.new ≡ with_named (λ name. f.Plain (i.Extensible name)) self.old) }
     {
@@ -227,7 +226,7 @@ impl SpecBuilder {
         self.add_item(ItemForm::Plain(PlainForm::Extensible(name.bytes)))
     }
 
-    // A synthesized attribute is whole. The only error is want of memory.
+    // A synthesized attribute is whole.
     fn add_synthesized(&mut self) -> Result<(), AllocError>
         ensures ok { OnOk result (self.new ≡ with_attribute (λ name kind. i.Synthesized name kind) self.old) }
     {
@@ -243,7 +242,7 @@ impl SpecBuilder {
         }))
     }
 
-    // An inherited attribute is whole. The only error is want of memory.
+    // An inherited attribute is whole.
     fn add_inherited(&mut self) -> Result<(), AllocError>
         ensures ok { OnOk result (self.new ≡ with_attribute (λ name kind. i.Inherited name kind) self.old) }
     {
@@ -259,7 +258,7 @@ impl SpecBuilder {
         }))
     }
 
-    // An occurrence is whole. The only error is want of memory.
+    // An occurrence is whole.
     fn add_occurs(&mut self) -> Result<(), AllocError>
         ensures ok { OnOk result (self.new ≡ with_occurs self.old) }
     {
@@ -276,7 +275,7 @@ impl SpecBuilder {
         }))
     }
 
-    // A flow type of forwarded trees is whole. The only error is want of memory.
+    // A flow type of forwarded trees is whole.
     fn add_forward_on(&mut self) -> Result<(), AllocError>
         ensures ok { OnOk result (self.new ≡ with_forward_on self.old) }
     {
@@ -292,7 +291,7 @@ impl SpecBuilder {
         }))
     }
 
-    // An item with a production is whole. The only error is want of memory.
+    // An item with a production is whole.
     fn add_production_item(&mut self, role: ProductionRole) -> Result<(), AllocError>
         ensures ok { OnOk result (self.new ≡ with_production_item role self.old) }
     {
@@ -302,7 +301,7 @@ impl SpecBuilder {
         self.add_item(ItemForm::Production { role, production })
     }
 
-    // Further equations of a production are whole. The only error is want of memory.
+    // Further equations of a production are whole.
     fn add_aspect(&mut self) -> Result<(), AllocError>
         ensures ok { OnOk result (self.new ≡ with_aspect self.old) }
     {
@@ -318,7 +317,7 @@ impl SpecBuilder {
         })
     }
 
-    // A production is whole. The only error is want of memory.
+    // A production is whole.
     fn add_production(&mut self) -> Result<(), AllocError>
         ensures ok { OnOk result (self.new ≡ with_production self.old) }
     {

@@ -1,6 +1,6 @@
 //! What is read of a specification so far, and what each token and each action adds.
 //!
-//! Parts that are read stand on stacks until an action puts them together, so nothing recurses. Which tokens and actions come in which
+//! Parts that are read are kept on stacks until an action puts them together, so nothing recurses. Which tokens and actions come in which
 //! order is in `wb_reader`.
 #![tactic(auto)]
 

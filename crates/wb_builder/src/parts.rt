@@ -34,7 +34,7 @@ pub enum PartAction {
     AddEquation,
 }
 
-// What an action on kinds, flow types, children and equations does. The only error is want of memory.
+// What an action on kinds, flow types, children and equations does.
 pub(crate) fn part_act(
     alloc: Global,
     action: PartAction,
@@ -64,14 +64,14 @@ pub(crate) fn part_act(
 }
 
 impl SpecBuilder {
-    // A kind without a name was read. The only error is want of memory.
+    // A kind without a name was read.
     fn add_kind(&mut self, kind: NamedKind) -> Result<(), AllocError>
         ensures ok { OnOk result (self.new ≡ with_kind kind self.old) }
     {
         self.kinds.push(kind)
     }
 
-    // The last name is a kind. The only error is want of memory.
+    // The last name is a kind.
     fn add_named_kind(&mut self) -> Result<(), AllocError>
         ensures ok { OnOk result (self.new ≡ with_named_kind self.old) }
     {
@@ -81,7 +81,7 @@ impl SpecBuilder {
         self.kinds.push(NamedKind::Name(name.bytes))
     }
 
-    // A flow type is whole. The only error is want of memory.
+    // A flow type is whole.
     fn add_needs(&mut self) -> Result<(), AllocError>
         ensures ok { OnOk result (self.new ≡ with_needs self.old) }
     {
@@ -91,7 +91,7 @@ impl SpecBuilder {
         self.needs.push(Some(names.into_sequence()))
     }
 
-    // The last name goes to the end of its list. The only error is want of memory.
+    // The last name goes to the end of its list.
     fn add_name(&mut self) -> Result<(), AllocError>
         ensures ok { OnOk result (self.new ≡ with_listed self.old) }
     {
@@ -101,7 +101,7 @@ impl SpecBuilder {
         append(&mut self.lists, name.bytes)
     }
 
-    // A child is whole. The only error is want of memory.
+    // A child is whole.
     fn add_child(&mut self) -> Result<(), AllocError>
         ensures ok { OnOk result (self.new ≡ with_child self.old) }
     {
@@ -115,7 +115,7 @@ impl SpecBuilder {
         append(&mut self.children, Child { label, kind })
     }
 
-    // An equation for an attribute of the top begins. The only error is want of memory.
+    // An equation for an attribute of the top begins.
     fn begin_top(&mut self) -> Result<(), AllocError>
         ensures ok { OnOk result (self.new ≡ with_target (λ a. g.Top a) self.old) }
     {
@@ -129,7 +129,7 @@ impl SpecBuilder {
         self.targets.push(PlacedTarget { target, at })
     }
 
-    // An equation for an attribute of the forwarded tree begins. The only error is want of memory.
+    // An equation for an attribute of the forwarded tree begins.
     fn begin_forward(&mut self) -> Result<(), AllocError>
         ensures ok { OnOk result (self.new ≡ with_target (λ a. g.Forward a) self.old) }
     {
@@ -143,7 +143,7 @@ impl SpecBuilder {
         self.targets.push(PlacedTarget { target, at })
     }
 
-    // An equation for an attribute of a child or local begins. The only error is want of memory.
+    // An equation for an attribute of a child or local begins.
     fn begin_label(&mut self) -> Result<(), AllocError>
         ensures ok { OnOk result (self.new ≡ with_label_target self.old) }
     {
@@ -158,7 +158,7 @@ impl SpecBuilder {
         self.targets.push(PlacedTarget { target, at })
     }
 
-    // An equation for a local begins. The only error is want of memory.
+    // An equation for a local begins.
     fn begin_local(&mut self) -> Result<(), AllocError>
         ensures ok { OnOk result (self.new ≡ with_local_target self.old) }
     {
@@ -175,7 +175,7 @@ impl SpecBuilder {
         self.targets.push(PlacedTarget { target, at })
     }
 
-    // An equation for the forwarded tree begins. The only error is want of memory.
+    // An equation for the forwarded tree begins.
     fn begin_forwards_to(&mut self) -> Result<(), AllocError>
         ensures ok { OnOk result (self.new ≡ with_forwards_to self.old) }
     {
@@ -186,7 +186,7 @@ impl SpecBuilder {
         self.targets.push(PlacedTarget { target, at })
     }
 
-    // An equation is whole. The only error is want of memory.
+    // An equation is whole.
     fn add_equation(&mut self) -> Result<(), AllocError>
         ensures ok { OnOk result (self.new ≡ with_equation self.old) }
     {

@@ -20,7 +20,7 @@ pub(crate) fn take_two<T: Drop>(values: &mut Stack<T>) -> Option<(T, T)>
     Some((first, last))
 }
 
-// The value goes to the end of the last list, where there is one. The only error is want of memory.
+// The value goes to the end of the last list, where there is one.
 pub(crate) fn append<T: Drop>(lists: &mut Stack<List<T>>, value: T) -> Result<(), AllocError>
     ensures ok { OnOk result (lists.new ≡ with_last value lists.old) }
 {
@@ -31,7 +31,7 @@ pub(crate) fn append<T: Drop>(lists: &mut Stack<List<T>>, value: T) -> Result<()
     lists.push(list)
 }
 
-// The same, and the place of the value in its list; none where there is no list.
+// Like `append`, and answers the place of the value in its list; none where there is no list.
 pub(crate) fn append_at<T: Drop>(
     lists: &mut Stack<List<T>>,
     value: T,

@@ -67,17 +67,17 @@ pub record AreNotWellDefined (r : ResolvedParts) (operations : List OperationSig
   pub deterministic : IsDeterministic r
   pub reason : IsAttributeRefusal r (start_of r) refusal
 
--- it is want of memory
+-- it is that memory ran out
 abbrev pub IsTypeMemory : TypeRefusal → Type 0
 IsTypeMemory (t.NoMemory error) = Unit {0}
 IsTypeMemory other = ⊥
 
--- it is want of memory
+-- it is that memory ran out
 abbrev pub IsAttributeMemory : AttributeRefusal → Type 0
 IsAttributeMemory (a.NoMemory error) = Unit {0}
 IsAttributeMemory other = ⊥
 
--- the refusal is true of a resolved host; that of names isn't about one, and want of memory says nothing and is in no other reason
+-- the refusal is true of a resolved host; that of names isn't about one, and out of memory says nothing and is in no other reason
 abbrev pub IsValueRefusal : ResolvedParts → List OperationSignature → CertifyRefusal → Type 0
 IsValueRefusal r operations (c.Names refusal) = ⊥
 IsValueRefusal r operations (c.Types refusal) = IsTrueRefusal r.attributes operations refusal × ¬ IsTypeMemory refusal
@@ -92,7 +92,7 @@ pub record IsNotCertified (spec : SpecView) (operations : List OperationSignatur
   pub names : ResolvesHost spec resolved
   pub reason : IsValueRefusal resolved operations refusal
 
--- it is want of memory
+-- it is that memory ran out
 abbrev pub IsNameMemory : NameRefusal → Type 0
 IsNameMemory (n.NoMemory error) = Unit {0}
 IsNameMemory other = ⊥

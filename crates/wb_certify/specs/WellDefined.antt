@@ -22,7 +22,7 @@ pub record HasIllDefinedAttributes (r : ResolvedParts) (operations : List Operat
   pub kinds : KindsOk r.attributes operations
   pub reason : IsAttributeRefusal r (start_of r) refusal
 
--- the refusal is true of a resolved host whose attributes are asked about: a rule of kinds or of attributes, and no other; want of memory
+-- the refusal is true of a resolved host whose attributes are asked about: a rule of kinds or of attributes, and no other; out of memory
 -- says nothing and is in no other reason
 abbrev pub IsWellDefinedRefusal : ResolvedParts → List OperationSignature → CertifyRefusal → Type 0
 IsWellDefinedRefusal r operations (c.Types refusal) = IsTrueRefusal r.attributes operations refusal × ¬ IsTypeMemory refusal

@@ -35,14 +35,14 @@ impl Model for CertifiedHost {
 }
 
 impl CertifiedHost {
-    /// The name of the host. Takes no memory.
+    /// The name of the host.
     pub fn name(&self) -> &[u8]
         ensures { result.now ≡ self.now.resolved.host }
     {
         self.resolved.parts().host.as_slice()
     }
 
-    /// The host by numbers. Takes no memory.
+    /// The host by numbers.
     pub fn resolved(&self) -> &Resolved
         ensures resolved { result.now ≡ self.now.resolved }
         ensures certified { IsCertifiedValue self.now.resolved self.now.operations }
@@ -50,7 +50,7 @@ impl CertifiedHost {
         &self.resolved
     }
 
-    /// What is made of its grammar with holes. Takes no memory.
+    /// What is made of its grammar with holes.
     pub fn parts(&self) -> &HostParts
         ensures parts { result.now ≡ self.now.parts }
         ensures of_grammar { (g : GrammarView) → self.now.resolved.grammar ≡ Some g → AreHostParts self.now.resolved g self.now.parts }
@@ -59,7 +59,7 @@ impl CertifiedHost {
         &self.parts
     }
 
-    /// The signatures of the operations with which it was certified. Takes no memory.
+    /// The signatures of the operations with which it was certified.
     pub fn operations(&self) -> &OperationSignatures
         ensures { result.now ≡ self.now.operations }
     {
@@ -72,7 +72,6 @@ impl CertifiedHost {
     }
 }
 
-// By hand, so that no crate above proves how the parts are dropped.
 impl Drop for CertifiedHost {
     fn drop(self) {
         let CertifiedHost {

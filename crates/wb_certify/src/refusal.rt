@@ -8,7 +8,7 @@ use wb_types::TypeRefusal;
 
 /// Why a specification isn't certified: the first rule that fails. Which of several examples is shown is left open.
 ///
-/// Want of memory is never inside another reason.
+/// Out of memory is never inside another reason.
 pub enum CertifyRefusal {
     /// A rule of names fails.
     Names(NameRefusal),
@@ -20,7 +20,7 @@ pub enum CertifyRefusal {
     Determinism(DeterminismRefusal),
     /// A rule of attributes fails.
     Attributes(AttributeRefusal),
-    /// There was no memory to tell, or a number is too large for a table.
+    /// Out of memory, or a number is too large for a table.
     NoMemory(AllocError),
 }
 
@@ -42,7 +42,6 @@ impl CertifyRefusal {
     }
 }
 
-// By hand, so that no crate above proves how the parts are dropped.
 impl Drop for CertifyRefusal {
     fn drop(self) {
         match self {

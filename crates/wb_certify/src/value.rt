@@ -151,7 +151,7 @@ fn attribute_refusal(alloc: Global, resolved: &Resolved) -> Result<(), Attribute
     check_flow(alloc, &parts.attributes)
 }
 
-/// The start of a resolved specification, where it has one. Takes no memory.
+/// The start of a resolved specification, where it has one.
 pub fn start(resolved: &Resolved) -> Option<usize>
     ensures { result ≡ start_of resolved.now }
 {

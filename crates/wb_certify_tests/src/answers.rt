@@ -1,6 +1,6 @@
-//! Is a refusal the one that is asked for?
+//! Is a refusal the expected one?
 //!
-//! An answer is a code with the names of the parts that the refusal shows, of which those that are left open are empty.
+//! An expected answer is a code with the names of the parts that the refusal shows. An empty name matches any part.
 
 use crate::parts::{Part, has_name, is_name, is_terminal};
 use crate::shown::{shown, shown_of_names};
@@ -16,7 +16,7 @@ use wb_syntax::Spec;
 // A code and the names of three parts.
 pub(crate) type Answer = (&'static str, &'static str, &'static str, &'static str);
 
-// A text, and what is answered to it.
+// A text and its expected answer.
 pub(crate) type Row = (&'static str, Answer);
 
 // The specification of a text.
@@ -30,7 +30,7 @@ pub(crate) fn spec_of(alloc: Global, text: &str) -> Option<Spec> {
     }
 }
 
-// Whether a refusal of a file with this text, whose names are right, is the answer.
+// Whether a refusal of a file with this text, whose names are right, is the expected one.
 pub(crate) fn shows(
     resolved: &Resolved,
     text: &str,
@@ -63,7 +63,7 @@ fn ends_in(resolved: &Resolved, symbols: &[Symbol], name: &str) -> bool {
     }
 }
 
-// Whether a refusal for names is the answer.
+// Whether a refusal for names is the expected one.
 pub(crate) fn shows_name(refusal: &NameRefusal, answer: &Answer) -> bool {
     match shown_of_names(refusal) {
         (code, Part::Text(name), _, _) => code == answer.0 && is_name(name, answer.1),

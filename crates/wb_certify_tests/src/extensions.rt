@@ -1,7 +1,6 @@
-//! Does each rule refuse what it asks of an extension with its host, with a true example?
+//! Does each rule refuse an extension that breaks it, with a true example?
 //!
-//! Each row has an extension and its answer. Expected answers follow from the rules; where more than one example is true, what they differ in
-//! is left empty.
+//! Each row has an extension and its expected answer, which follows from the rules. What true examples may differ in is left empty.
 
 ghost use Rattle.std.specs.Prelude.{◌≡◌};
 
@@ -15,12 +14,12 @@ use wb_names::resolve_extension;
 use wb_operations::{OperationTable, Standard, standard_table};
 use wb_syntax::Spec;
 
-// Fails unless each extension of the host of this text gets the answer that is beside it.
+// Fails unless each extension of the host of this text gets its expected answer.
 pub(crate) fn extensions_get<R: Abort + AllocGlobal>(rt: &R, host: &str, rows: &[Row]) {
     assert!(rt; are_answered(rt.alloc(), host, rows));
 }
 
-// Whether each extension of the host of this text gets its answer.
+// Whether each extension of the host of this text gets its expected answer.
 fn are_answered(alloc: Global, host: &str, rows: &[Row]) -> bool {
     match standard_table(alloc) {
         Ok(operations) => all_over(alloc, &operations, host, rows),
@@ -45,7 +44,7 @@ fn all_over(
     }
 }
 
-// The same of the host of this specification.
+// The same for the host of this specification.
 fn all_of(alloc: Global, operations: &OperationTable<Standard>, spec: &Spec, rows: &[Row]) -> bool {
     match certify_host(alloc, spec, operations) {
         Ok(host) => {
@@ -60,7 +59,7 @@ fn all_of(alloc: Global, operations: &OperationTable<Standard>, spec: &Spec, row
     }
 }
 
-// Whether each extension of the host gets the answer that is beside it.
+// Whether each extension of the host gets its expected answer.
 fn all_get(
     alloc: Global,
     host: &CertifiedHost,
@@ -121,7 +120,7 @@ fn spec_gets(
     }
 }
 
-// Whether a refusal is the answer.
+// Whether a refusal is the expected one.
 fn is_answer(
     alloc: Global,
     host: &CertifiedHost,
@@ -135,7 +134,7 @@ fn is_answer(
     }
 }
 
-// Whether a refusal of an extension whose names are right is the answer.
+// Whether a refusal of an extension whose names are right is the expected one.
 fn is_refused(
     alloc: Global,
     host: &CertifiedHost,
@@ -159,23 +158,41 @@ fn is_refused(
 // Extensions of the language with statements.
 static OF_STATEMENTS: [Row; 6] = [
     (
-        "format 1; extension a for mini; marking Sum /sum/; prefer Sum over Id; concrete dbl : Factor ::= m : Sum o : Open x : Expr c : Close { forwards to paren(\"(\", plus(x, \"+\", factor(paren(\"(\", x, \")\"))), \")\"); }",
+        "format 1; extension a for mini; \
+            marking Sum /sum/; prefer Sum over Id; \
+            concrete dbl : Factor ::= m : Sum o : Open x : Expr c : Close { \
+              forwards to paren(\"(\", plus(x, \"+\", factor(paren(\"(\", x, \")\"))), \")\"); \
+            }",
         ("ok", "", "", ""),
     ),
     (
-        "format 1; extension b for mini; marking Sum /sum/; prefer Sum over Id; concrete sqr : Factor ::= m : Sum o : Open x : Expr c : Close { forwards to paren(\"(\", term(times(factor(paren(\"(\", x, \")\")), \"*\", paren(\"(\", x, \")\"))), \")\"); }",
+        "format 1; extension b for mini; \
+            marking Sum /sum/; prefer Sum over Id; \
+            concrete sqr : Factor ::= m : Sum o : Open x : Expr c : Close { \
+              forwards to paren(\"(\", term(times(factor(paren(\"(\", x, \")\")), \"*\", paren(\"(\", x, \")\"))), \")\"); \
+            }",
         ("ok", "", "", ""),
     ),
     (
-        "format 1; extension power for mini; marking Square /square/; prefer Square over Id; concrete sq : Factor ::= m : Square o : Open e : Expr c : Close { forwards to paren(\"(\", term(times(factor(paren(\"(\", e, \")\")), \"*\", paren(\"(\", e, \")\"))), \")\"); }",
+        "format 1; extension power for mini; \
+            marking Square /square/; prefer Square over Id; \
+            concrete sq : Factor ::= m : Square o : Open e : Expr c : Close { \
+              forwards to paren(\"(\", term(times(factor(paren(\"(\", e, \")\")), \"*\", paren(\"(\", e, \")\"))), \")\"); \
+            }",
         ("ok", "", "", ""),
     ),
     (
-        "format 1; extension repeat for mini; marking Twice /twice/; prefer Twice over Id; concrete again : Stmt ::= m : Twice s : Stmt { forwards to block(\"{\", more(more(none(), s), s), \"}\"); }",
+        "format 1; extension repeat for mini; \
+            marking Twice /twice/; prefer Twice over Id; \
+            concrete again : Stmt ::= m : Twice s : Stmt { forwards to block(\"{\", more(more(none(), s), s), \"}\"); }",
         ("ok", "", "", ""),
     ),
     (
-        "format 1; extension comma for mini; marking Dot /dot/; terminal Comma /,/; prefer Dot over Id; concrete two : Factor ::= m : Dot o : Open x : Expr k : Comma y : Expr c : Close { forwards to paren(\"(\", plus(x, \"+\", factor(paren(\"(\", y, \")\"))), \")\"); }",
+        "format 1; extension comma for mini; \
+            marking Dot /dot/; terminal Comma /,/; prefer Dot over Id; \
+            concrete two : Factor ::= m : Dot o : Open x : Expr k : Comma y : Expr c : Close { \
+              forwards to paren(\"(\", plus(x, \"+\", factor(paren(\"(\", y, \")\"))), \")\"); \
+            }",
         ("E5", "Comma", "", ""),
     ),
     (
@@ -193,7 +210,11 @@ fn extensions_of_a_language_with_statements(rt: HostRuntime) {
 static OF_SUMS: [Row; 4] = [
     ("format 1; extension e for tiny;", ("ok", "", "", "")),
     (
-        "format 1; extension count for tiny; syn leaves : int; occurs leaves on E; occurs leaves on T; aspect plus { top.leaves = @add(a.leaves, b.leaves); } aspect term { top.leaves = t.leaves; } aspect num { top.leaves = 1; }",
+        "format 1; extension count for tiny; \
+            syn leaves : int; occurs leaves on E; occurs leaves on T; \
+            aspect plus { top.leaves = @add(a.leaves, b.leaves); } \
+            aspect term { top.leaves = t.leaves; } \
+            aspect num { top.leaves = 1; }",
         ("ok", "", "", ""),
     ),
     (
@@ -263,15 +284,23 @@ static WRONG_MARKERS: [Row; 10] = [
         ("E3", "p", "", ""),
     ),
     (
-        "format 1; extension e for tiny; marking M /m/; marking K /k/; prefer M over K; prefer K over M; concrete x : T ::= m : M { forwards to num(\"1\"); } concrete y : T ::= k : K { forwards to num(\"1\"); }",
+        "format 1; extension e for tiny; \
+            marking M /m/; marking K /k/; prefer M over K; prefer K over M; \
+            concrete x : T ::= m : M { forwards to num(\"1\"); } \
+            concrete y : T ::= k : K { forwards to num(\"1\"); }",
         ("G6", "M", "K", ""),
     ),
     (
-        "format 1; extension e for tiny; marking K /k/; prefer K over Num; prefer Num over K; concrete p : T ::= k : K { forwards to num(\"1\"); }",
+        "format 1; extension e for tiny; \
+            marking K /k/; prefer K over Num; prefer Num over K; \
+            concrete p : T ::= k : K { forwards to num(\"1\"); }",
         ("G6", "K", "Num", ""),
     ),
     (
-        "format 1; extension e for tiny; marking M /7/; marking K /k/; prefer M over K; prefer K over M; concrete x : T ::= m : M { forwards to num(\"1\"); } concrete y : T ::= k : K { forwards to num(\"1\"); }",
+        "format 1; extension e for tiny; \
+            marking M /7/; marking K /k/; prefer M over K; prefer K over M; \
+            concrete x : T ::= m : M { forwards to num(\"1\"); } \
+            concrete y : T ::= k : K { forwards to num(\"1\"); }",
         ("G6", "M", "K", ""),
     ),
     (
@@ -287,7 +316,10 @@ static WRONG_MARKERS: [Row; 10] = [
         ("E4", "K", "Space", " "),
     ),
     (
-        "format 1; extension e for tiny; marking M /m/; marking K /m/; concrete x : T ::= m : M { forwards to num(\"1\"); } concrete y : T ::= k : K { forwards to num(\"1\"); }",
+        "format 1; extension e for tiny; \
+            marking M /m/; marking K /m/; \
+            concrete x : T ::= m : M { forwards to num(\"1\"); } \
+            concrete y : T ::= k : K { forwards to num(\"1\"); }",
         ("E4", "M", "K", "m"),
     ),
 ];
@@ -300,7 +332,10 @@ fn markers_and_preferences_of_extensions_keep_their_rules(rt: HostRuntime) {
 // Extensions of sums whose grammar or scanner is wrong.
 static WRONG_GRAMMARS: [Row; 8] = [
     (
-        "format 1; extension e for tiny; marking K /k/; nonterminal Q; concrete p : T ::= k : K { forwards to num(\"1\"); } concrete q : Q ::= n : Num { }",
+        "format 1; extension e for tiny; \
+            marking K /k/; nonterminal Q; \
+            concrete p : T ::= k : K { forwards to num(\"1\"); } \
+            concrete q : Q ::= n : Num { }",
         ("G1 unreachable", "Q", "", ""),
     ),
     (
@@ -308,27 +343,54 @@ static WRONG_GRAMMARS: [Row; 8] = [
         ("G1 unproductive", "Q", "", ""),
     ),
     (
-        "format 1; extension e for tiny; marking K /k/; nonterminal Q; concrete p : T ::= k : K q : Q { forwards to num(\"1\"); } concrete a : Q ::= q : Q { } concrete b : Q ::= n : Num { }",
+        "format 1; extension e for tiny; \
+            marking K /k/; nonterminal Q; \
+            concrete p : T ::= k : K q : Q { forwards to num(\"1\"); } \
+            concrete a : Q ::= q : Q { } \
+            concrete b : Q ::= n : Num { }",
         ("G2", "Q", "", ""),
     ),
     (
-        "format 1; extension e for tiny; marking K /k/; nonterminal Q; concrete p : T ::= k : K q : Q { forwards to num(\"1\"); } nonterminal R; concrete a : Q ::= r : R q : Q n : Num { } concrete b : Q ::= n : Num { } concrete c : R ::= { }",
+        "format 1; extension e for tiny; \
+            marking K /k/; nonterminal Q; \
+            concrete p : T ::= k : K q : Q { forwards to num(\"1\"); } \
+            nonterminal R; \
+            concrete a : Q ::= r : R q : Q n : Num { } \
+            concrete b : Q ::= n : Num { } \
+            concrete c : R ::= { }",
         ("G3", "Q", "", ""),
     ),
     (
-        "format 1; extension e for tiny; marking K /k/; nonterminal Q; concrete p : T ::= k : K q : Q { forwards to num(\"1\"); } concrete a : Q ::= q : Q o : Plus r : Q { } concrete b : Q ::= n : Num { }",
+        "format 1; extension e for tiny; \
+            marking K /k/; nonterminal Q; \
+            concrete p : T ::= k : K q : Q { forwards to num(\"1\"); } \
+            concrete a : Q ::= q : Q o : Plus r : Q { } \
+            concrete b : Q ::= n : Num { }",
         ("G4", "Plus", "shift", ""),
     ),
     (
-        "format 1; extension e for tiny; marking K /k/; nonterminal Q; concrete p : T ::= k : K q : Q { forwards to num(\"1\"); } concrete a : Q ::= n : Num { } concrete b : Q ::= n : Num { }",
+        "format 1; extension e for tiny; \
+            marking K /k/; nonterminal Q; \
+            concrete p : T ::= k : K q : Q { forwards to num(\"1\"); } \
+            concrete a : Q ::= n : Num { } \
+            concrete b : Q ::= n : Num { }",
         ("G4", "", "a", "b"),
     ),
     (
-        "format 1; extension e for tiny; marking K /k/; nonterminal Q; concrete p : T ::= k : K q : Q { forwards to num(\"1\"); } terminal U /7/; concrete a : Q ::= u : U { } concrete b : Q ::= n : Num { }",
+        "format 1; extension e for tiny; \
+            marking K /k/; nonterminal Q; \
+            concrete p : T ::= k : K q : Q { forwards to num(\"1\"); } \
+            terminal U /7/; \
+            concrete a : Q ::= u : U { } \
+            concrete b : Q ::= n : Num { }",
         ("G5", "Num", "U", "7"),
     ),
     (
-        "format 1; extension e for tiny; marking K /k/; nonterminal Q; concrete p : T ::= k : K q : Q { forwards to num(\"1\"); } terminal U /[ ]/; concrete a : Q ::= u : U { }",
+        "format 1; extension e for tiny; \
+            marking K /k/; nonterminal Q; \
+            concrete p : T ::= k : K q : Q { forwards to num(\"1\"); } \
+            terminal U /[ ]/; \
+            concrete a : Q ::= u : U { }",
         ("G5", "U", "Space", " "),
     ),
 ];
@@ -353,7 +415,11 @@ static WRONG_ATTRIBUTES: [Row; 6] = [
         ("A1", "num", "leaves", ""),
     ),
     (
-        "format 1; extension e for tiny; syn leaves : int; inh i : int; occurs i on T; occurs leaves on T needs { i }; occurs leaves on E; aspect num { top.leaves = top.i; } aspect term { top.leaves = t.leaves; } aspect plus { top.leaves = 0; }",
+        "format 1; extension e for tiny; \
+            syn leaves : int; inh i : int; occurs i on T; occurs leaves on T needs { i }; occurs leaves on E; \
+            aspect num { top.leaves = top.i; } \
+            aspect term { top.leaves = t.leaves; } \
+            aspect plus { top.leaves = 0; }",
         ("A2", "term", "t", "i"),
     ),
     (
@@ -361,7 +427,10 @@ static WRONG_ATTRIBUTES: [Row; 6] = [
         ("A3", "num", "leaves", "i"),
     ),
     (
-        "format 1; extension e for tiny; syn leaves : int; inh i : int; occurs i on T; occurs leaves on T needs { i }; aspect num { top.leaves = top.i; } aspect term { t.i = t.leaves; }",
+        "format 1; extension e for tiny; \
+            syn leaves : int; inh i : int; occurs i on T; occurs leaves on T needs { i }; \
+            aspect num { top.leaves = top.i; } \
+            aspect term { t.i = t.leaves; }",
         ("A4", "term", "i", "leaves"),
     ),
 ];

@@ -1,7 +1,6 @@
-//! Has a part of a refusal the name that is asked for?
+//! Does a part of a refusal have the expected name?
 //!
-//! Numbers are compared by the names that the file writes for them in a resolved specification, or in its grammar with holes. An empty name is
-//! not asked for: any part has it.
+//! Numbers are compared by the names that the file gives them, or that its grammar with holes does. An empty name matches any part.
 
 use wb_base::Grammar;
 use wb_flow::Vertex;
@@ -12,11 +11,11 @@ use wb_resolved::Resolved;
 // A part of a refusal.
 #[derive(Clone, Copy)]
 pub(crate) enum Part<'a> {
-    // What isn't shown.
+    // Nothing is shown.
     Nothing,
     // A name, or a text that is matched.
     Text(&'a [u8]),
-    // What stands in the file from a place on.
+    // What the file has from a position on.
     Place(usize),
     Terminal(usize),
     Nonterminal(usize),
@@ -29,7 +28,7 @@ pub(crate) enum Part<'a> {
     Passed(Item),
     // The label of a child of a production.
     Label(usize, usize),
-    // What reads: an attribute, or the forwarded tree.
+    // The reader of an attribute: an attribute, or the forwarded tree.
     Reader(Option<usize>),
     // Some of these terminals, nonterminals or vertices.
     Terminals(&'a [usize]),
@@ -67,7 +66,7 @@ fn has_other_name(resolved: &Resolved, part: Part<'_>, name: &str) -> bool {
     }
 }
 
-// Whether a name is the one that is asked for.
+// Whether a name is the expected one.
 pub(crate) fn is_name(shown: &[u8], name: &str) -> bool {
     name.len() == 0 || shown == name.as_bytes()
 }
@@ -96,8 +95,8 @@ fn is_attribute(resolved: &Resolved, number: usize, name: &str) -> bool {
     number < attributes.len() && is_name(attributes[number].name.as_slice(), name)
 }
 
-// Whether the terminal of this number in the grammar with holes has the name; that of a hole is its nonterminal's after `hole:`, and the
-// number after all is `end`.
+// Whether the terminal of this number in the grammar with holes has the name. A hole is named by its nonterminal after `hole:`. The number
+// after all terminals is `end`.
 fn is_lookahead(resolved: &Resolved, number: usize, name: &str) -> bool {
     let terminals = terminals_in(&resolved.parts().grammar);
     if number < terminals {
@@ -112,7 +111,7 @@ fn is_lookahead(resolved: &Resolved, number: usize, name: &str) -> bool {
     }
 }
 
-// Whether the name is that of this nonterminal's hole.
+// Whether the name is that of the hole of this nonterminal.
 fn is_hole(resolved: &Resolved, nonterminal: usize, name: &str) -> bool {
     match name.strip_prefix("hole:") {
         Some(rest) => is_nonterminal(resolved, nonterminal, rest),
@@ -128,13 +127,13 @@ fn terminals_in(grammar: &Option<Grammar>) -> usize {
     }
 }
 
-// Whether this stands in a text from a place on.
+// Whether a text has this from a position on.
 fn stands_at(text: &str, place: usize, shown: &str) -> bool {
     let bytes = text.as_bytes();
     place <= bytes.len() && bytes[place..].starts_with(shown.as_bytes())
 }
 
-// Whether the child at this place has the label.
+// Whether the child at this position has the label.
 fn is_label(resolved: &Resolved, production: usize, place: usize, label: &str) -> bool {
     let productions = resolved.parts().attributes.parts().productions.as_slice();
     if production >= productions.len() {
@@ -144,7 +143,7 @@ fn is_label(resolved: &Resolved, production: usize, place: usize, label: &str) -
     place < children.len() && is_name(children[place].label.as_slice(), label)
 }
 
-// Whether it is a shift, or to reduce by the production of this name. An empty name is not asked for.
+// Whether it is a shift, or a reduction by the production of this name. An empty name matches any production.
 fn is_action(resolved: &Resolved, action: Action, name: &str) -> bool {
     match action {
         Action::Shift(_) => name.len() == 0 || name == "shift",

@@ -1,6 +1,6 @@
 //! What does a refusal show: which code, and which parts?
 //!
-//! Prefixes may be any, so that they are no parts. Whether a part is the one that is asked for is in `parts`.
+//! A prefix may be any, so that it is no part. Whether a part is the expected one is in `parts`.
 
 use crate::parts::Part;
 use crate::parts::Part::{
@@ -190,7 +190,7 @@ fn shown_of_attributes(refusal: &AttributeRefusal) -> Shown<'_> {
     }
 }
 
-// What a refusal for what an attribute reads shows.
+// What a refusal for the reads of an attribute shows.
 fn shown_of_flow(refusal: &AttributeRefusal) -> Shown<'_> {
     match refusal {
         AttributeRefusal::Reads {

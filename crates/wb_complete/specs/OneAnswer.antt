@@ -4,7 +4,7 @@ use Rattle.wb_flow.specs.declared.vertex.Vertex.{Vertex}
 use Rattle.wb_resolved.specs.declared.attribution.AttributionParts.{AttributionParts}
 use Rattle.wb_complete.specs.Refusals.{CompleteOk, StartHas, LacksForward, LacksEquation, LacksInherited}
 
--- where the rules hold, no refusal is true but want of memory
+-- where the rules hold, no refusal but out of memory is true
 pub record CompleteExcludes (a : AttributionParts) (start extension : Option ℕ) : Type 0 where
   pub start_inherits : (x : ℕ) → ¬ StartHas a start x
   pub forwards : (p : ℕ) → ¬ LacksForward a start extension p

@@ -46,7 +46,7 @@ pub fn check_complete(
     answer
 }
 
-// The same, where occurrences are by nonterminal.
+// Like `check_complete`, where occurrences are by nonterminal.
 fn check_in(
     scope: &Scope,
     start: Option<usize>,

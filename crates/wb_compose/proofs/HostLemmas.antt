@@ -128,7 +128,7 @@ free_host r g has in_range live is = record {
         let to = inside.1 in
         inr (layout_member r g has place (omega (arith, forms, from)) (omega (arith, forms, numbers, few, to)))
 
--- its grammar is refused for want of memory alone
+-- its grammar is refused only when memory runs out
 pub analysed : (r : ResolvedParts) (g : GrammarView) → IsDeterministicHost r g → (refusal : GrammarRefusal) → IsTrueRefusal g refusal
     → grammar.IsNoMemory refusal
 analysed r g is (grammar_refusal.NotReduced (reason.Unreachable a)) h = absurd (h.1 (is.fit.sound.reduced.reachable a h.0))
@@ -155,7 +155,7 @@ module _ (r : ResolvedParts) (g h : GrammarView) (es : List Tree) (ls : List ℕ
   written_at has =
       subst (λ (l : LanguageView). AreWrittenFor l.grammar.terminals l.expressions l.layout l.preferences) (sym view_at) (written_host r g has)
 
-  -- and is refused for want of memory alone
+  -- and is refused only when memory runs out
   pub no_refusal : HasGrammar r g → IsGrammar h → IsLive g → IsDeterministicHost r g → (refusal : LanguageRefusal)
       → IsLanguageRefusal (language_with h es ls ps) refusal → bare.IsNoMemory refusal
   no_refusal has in_range live is refusal refused =

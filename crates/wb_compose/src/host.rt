@@ -1,4 +1,4 @@
-//! Which language has a deterministic host by itself?
+//! Builds the language of a deterministic host by itself.
 //!
 //! What the tests of determinism exclude with holes doesn't happen without them.
 
@@ -20,7 +20,7 @@ use wb_regex::Regex;
 use wb_resolved::Resolved;
 use wb_scan::Language;
 
-/// The language of a deterministic host by itself, whose terminals are written as they are. The only error is want of memory.
+/// The language of a deterministic host by itself, whose terminals are written as they are.
 pub fn host_language(alloc: Global, resolved: &Resolved) -> Result<Language, AllocError>
     requires grammar { IsSome resolved.now.grammar }
     requires deterministic { IfSome resolved.now.grammar (IsDeterministicHost resolved.now) }
@@ -32,7 +32,7 @@ pub fn host_language(alloc: Global, resolved: &Resolved) -> Result<Language, All
     }
 }
 
-// The same where this is the grammar.
+// Like `host_language`, where this is the grammar.
 fn with_grammar(
     alloc: Global,
     resolved: &Resolved,

@@ -1,6 +1,6 @@
-//! Languages and attributes that are composed: those of a host by itself.
+//! The language of a certified host by itself.
 //!
-//! What was certified has a language: no call here has a refusal but want of memory.
+//! What was certified has a language: the only refusal of the calls here is out of memory.
 #![tactic(auto)]
 
 mod host;

@@ -1,4 +1,4 @@
-//! What is lent of extensions to the union?
+//! What do extensions lend to the union?
 
 ghost use Rattle.std.specs.Prelude.{◌≡◌, IfOk};
 ghost use Rattle.std.specs.List.{AllZip};

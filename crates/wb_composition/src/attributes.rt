@@ -1,4 +1,4 @@
-//! Which attributes have a certified host and extensions that are certified with it?
+//! Builds the attributes of a certified host with its certified extensions.
 
 ghost use Rattle.std.specs.Prelude.{◌≡◌, All, IfOk, map};
 ghost use Rattle.wb_base.specs.Different.{Differ};
@@ -14,7 +14,7 @@ use wb_certify::CertifiedHost;
 use wb_resolved::Attribution;
 use wb_united_attribution::united_attribution;
 
-/// The attributes of a host and of extensions, each certified with this host over the same operations. The only error is want of memory.
+/// The attributes of a host and of extensions, each certified with this host over the same operations.
 ///
 /// In each list the host's rows come first, and then those of each extension. No clause bounds the time.
 pub fn composed_attributes(

@@ -1,4 +1,4 @@
-//! Which language have a certified host and extensions that are certified with it?
+//! Builds the language of a certified host with its certified extensions.
 
 ghost use Rattle.std.specs.Prelude.{◌≡◌, All, IfOk, IsSome, map};
 ghost use Rattle.wb_base.specs.Different.{Differ};
@@ -23,14 +23,14 @@ pub struct Composed {
 }
 
 impl Composed {
-    /// The language. Takes no memory.
+    /// The language.
     pub fn language(&self) -> &Language
         ensures { result.now ≡ self.now.language }
     {
         &self.language
     }
 
-    /// The markers without a bare form, by extension and then by number. Takes no memory.
+    /// The markers without a bare form, by extension and then by number.
     pub fn withdrawn(&self) -> &[usize]
         ensures { result.now ≡ self.now.withdrawn.items }
     {
@@ -43,7 +43,7 @@ impl Composed {
     }
 }
 
-/// The language of a host and of extensions, each certified with this host over the same operations. The only error is want of memory.
+/// The language of a host and of extensions, each certified with this host over the same operations.
 ///
 /// Terminals are numbered by the host, then by each extension, and then comes the host's layout. No clause bounds the time.
 pub fn compose(

@@ -1,7 +1,8 @@
 //! What certified extensions make with their certified host, whichever are picked: one language, and its attributes.
 //!
-//! No call here has a refusal but want of memory, and the laws say why: a certified extension is a piece of a union (`laws`), whose attributes
-//! are well defined (`attribute_laws`) and agree with its grammar (`agreement`). A host by itself has its language in `wb_compose`.
+//! The only refusal of the calls here is out of memory, and the laws say why: a certified extension is a piece of a union (`laws`), whose
+//! attributes are well defined (`attribute_laws`) and agree with its grammar (`agreement`). A host by itself has its language in
+//! `wb_compose`.
 #![tactic(auto)]
 
 mod additions;

@@ -11,7 +11,7 @@ use Rattle.wb_lookahead.specs.declared.action.Action.TheVariants.{Shift, Reduce,
 use Rattle.wb_lookahead.specs.Tables.{Stands, IsConflict, ComesBefore}
 use Rattle.wb_contexts.specs.Conflicts.{CanAct, IsConflictAt}
 
--- an action that stands in tables can be taken
+-- an action that is in tables can be taken
 pub can_act : (kernels : KernelsView) (s t : ℕ) (action : Action) → Stands kernels s t action
     → CanAct kernels.grammar (prefix_of kernels s) t action
 can_act kernels s t (Shift n) stands = stands.0

@@ -16,7 +16,7 @@ pub record ArePartsOf (g : GrammarView) (parts : Parts) : Type 0 where
   pub lookaheads : AreLookaheads parts.kernels parts.lookaheads
   pub tables : AreTables parts.kernels parts.tables
 
--- what is shown is a conflict of the grammar. Want of memory says nothing of it
+-- what is shown is a conflict of the grammar. Out of memory says nothing of it
 abbrev pub IsPartsRefusal : GrammarView → PartsRefusal → Type 0
 IsPartsRefusal g (r.Conflict conflict) = IsConflictAt g conflict.prefix conflict.terminal conflict.first conflict.second
 IsPartsRefusal g (r.NoMemory _) = Unit {0}

@@ -30,7 +30,7 @@ pub struct ContextClash {
 
 /// Looks for two terminals that are considered at one prefix and match a common text, with no preference between them.
 ///
-/// Which of several clashes is shown is left open. The only error is want of memory.
+/// Which of several clashes is shown is left open.
 pub fn clash_at(
     alloc: Global,
     kernels: &Kernels,
@@ -47,7 +47,7 @@ pub fn clash_at(
     clash_in(alloc, kernels, lexicon, &sets)
 }
 
-// The same by the sets of what is considered.
+// Like `clash_at`, by the sets of what is considered.
 fn clash_in(
     alloc: Global,
     kernels: &Kernels,

@@ -15,8 +15,7 @@ use wb_items::Kernels;
 use wb_lookahead::Tables;
 use wb_termset::TermSet;
 
-/// For each kernel the set of what is considered there: the scanned terminals that are valid at its prefixes, and layout. The only
-/// error is want of memory.
+/// For each kernel the set of what is considered there: the scanned terminals that are valid at its prefixes, and layout.
 pub fn considered_sets(
     alloc: Global,
     kernels: &Kernels,

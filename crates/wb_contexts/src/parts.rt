@@ -1,4 +1,4 @@
-//! Which kernels, lookaheads and tables has a grammar, or at which prefix has it a conflict?
+//! Builds the kernels, lookaheads and tables of a grammar, or finds a prefix with a conflict.
 
 ghost use Rattle.std.specs.Prelude.{◌≡◌, IfErr, IfOk};
 ghost use Rattle.wb_grammar.specs.Facts.{AreFacts};
@@ -43,7 +43,7 @@ pub struct Conflict {
 pub enum PartsRefusal {
     /// G4: two actions can be taken. Which of several conflicts is shown is left open.
     Conflict(Conflict),
-    /// There was no memory to tell, or a number is too large for a table.
+    /// Out of memory, or a number is too large for a table.
     NoMemory(AllocError),
 }
 
@@ -58,7 +58,7 @@ impl From<AllocError> for PartsRefusal {
     }
 }
 
-/// The kernels, lookaheads and tables of a grammar, or a conflict. The only other error is want of memory.
+/// The kernels, lookaheads and tables of a grammar, or a conflict. The only other error is out of memory.
 pub fn parts_of(alloc: Global, grammar: &Grammar, facts: &Facts) -> Result<Parts, PartsRefusal>
     requires { AreFacts grammar.now facts.now }
     ensures ok { IfOk result (ArePartsOf grammar.now) }

@@ -1,4 +1,4 @@
--- A true refusal but for want of memory rules determinism out.
+-- A true refusal other than out of memory rules determinism out.
 use Rattle.wb_base.specs.Grammar.{GrammarView}
 use Rattle.wb_grammar.specs.declared.refusal.Reason.{Reason}
 use Rattle.wb_grammar.specs.declared.refusal.Reason.TheVariants.{Unreachable, Unproductive}

@@ -17,7 +17,7 @@ use Rattle.wb_determinism.specs.Hosts.{AreAcyclic, IsSound, IsFitForParsing}
 
 -- what is shown is an example of the first of these that holds of a host with this grammar: preferences form a cycle; the grammar isn't
 -- reduced; with holes it has a unit cycle, hidden left recursion, a conflict, or a clash, whose lesser terminal is first. The other reasons
--- are of extensions alone, and want of memory says nothing of the host
+-- are of extensions alone, and out of memory says nothing of the host
 abbrev pub IsHostRefusal : ResolvedParts → GrammarView → DeterminismRefusal → Type 0
 IsHostRefusal r g (d.NotBridge _) = ⊥
 IsHostRefusal r g (d.MarkerElsewhere _) = ⊥
@@ -37,7 +37,7 @@ IsHostRefusal r g (d.Lookahead _ _ _) = ⊥
 IsHostRefusal r g (d.Envelope _ _) = ⊥
 IsHostRefusal r g (d.NoMemory _) = Unit {0}
 
--- the refusal is want of memory
+-- the refusal is that memory ran out
 abbrev pub IsNoMemory : DeterminismRefusal → Type 0
 IsNoMemory (d.NotBridge _) = ⊥
 IsNoMemory (d.MarkerElsewhere _) = ⊥

@@ -57,7 +57,7 @@ struct Lists {
     pairs: Vec<(usize, usize)>,
 }
 
-// The same where the host has this grammar.
+// Like `host_determinism`, where the host has this grammar.
 fn with_grammar(alloc: Global, host: &Host) -> Result<HostParts, DeterminismRefusal>
     requires { HasGrammar host.now.resolved.now host.now.grammar.now }
     ensures ok { IfOk result (λ parts. IsDeterministicHost host.now.resolved.now host.now.grammar.now × AreHostParts host.now.resolved.now host.now.grammar.now parts) }
@@ -94,7 +94,7 @@ fn lists_of(alloc: Global, host: &Host) -> Result<Lists, AllocError>
     })
 }
 
-// The same where this is scanned.
+// Like `with_grammar`, where this is scanned.
 fn with_lexicon(
     alloc: Global,
     host: &Host,

@@ -6,7 +6,7 @@ ghost use Rattle.wb_determinism.specs.declared.refusal.DeterminismRefusal.{Deter
 ghost use Rattle.wb_determinism.specs.Hosts.{IsDeterministicHost};
 ghost use Rattle.wb_determinism.specs.Refusals.{IsHostRefusal, IsNoMemory};
 
-/// A host that is refused, but for want of memory, isn't deterministic.
+/// A host that is refused for any reason but out of memory isn't deterministic.
 pub fn host_refusals_law()
     ensures { (r : ResolvedParts) (g : GrammarView) (refusal : Refusal) → IsHostRefusal r g refusal → IsDeterministicHost r g → IsNoMemory refusal }
 {}

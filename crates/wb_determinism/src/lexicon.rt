@@ -1,4 +1,4 @@
-//! What is scanned of a resolved specification, as lists of its own?
+//! Lists what is scanned of a resolved specification.
 
 ghost use Rattle.std.specs.Prelude.{◌≡◌, ◌<◌, IfOk, length, map, true, false, slice_set};
 ghost use Rattle.wb_resolved.specs.declared.terminal.Preference.{Preference};
@@ -11,7 +11,7 @@ use wb_regex::Regex;
 use wb_resolved::{Preference, Terminal, TerminalKind};
 use wb_termset::TermSet;
 
-/// The expressions of terminals, in their order. The only error is want of memory.
+/// The expressions of terminals, in their order.
 pub fn expressions_of(alloc: Global, terminals: &[Terminal]) -> Result<Vec<Regex>, AllocError>
     ensures { IfOk result (λ made. made.items ≡ map (λ (t : Terminal). t.pattern) terminals.now) }
 {
@@ -48,7 +48,7 @@ fn put_layout(layout: &mut TermSet, terminal: &Terminal, number: usize)
     }
 }
 
-/// The preferences as pairs, the preferred terminal first. The only error is want of memory.
+/// The preferences as pairs, the preferred terminal first.
 pub fn pairs_of(
     alloc: Global,
     preferences: &[Preference],

@@ -59,7 +59,7 @@ pub enum DeterminismRefusal {
         prefix: Sequence<Symbol>,
         fault: EnvelopeFault,
     },
-    /// There was no memory to tell, or a number is too large for a table.
+    /// Out of memory, or a number is too large for a table.
     NoMemory(AllocError),
 }
 
@@ -95,7 +95,6 @@ impl From<AllocError> for DeterminismRefusal {
     }
 }
 
-// By hand, so that no crate above proves how the parts are dropped.
 impl Drop for DeterminismRefusal {
     fn drop(self) {
         match self {

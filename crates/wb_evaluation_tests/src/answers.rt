@@ -1,6 +1,6 @@
-//! Is the answer of an evaluation the one that is asked for?
+//! Is the answer of an evaluation the expected one?
 //!
-//! A row has a term, an attribute of its root, how many steps there are, and the answer. Each host is certified first.
+//! A row has a term, an attribute of its root, the limit of steps, and the expected answer. Each host is certified first.
 
 ghost use Rattle.std.specs.Prelude.{◌≡◌, ◌<◌, ◌↔◌, ℕ, [], length, IfSome, IsTrue};
 ghost use Rattle.wb_attributes.specs.Modular.{EachProduction};
@@ -25,7 +25,7 @@ use wb_syntax::Spec;
 use wb_terms::read_term;
 use wb_values::{TreeId, TreeStore, Value};
 
-// What an evaluation is to answer.
+// The expected answer of an evaluation.
 #[derive(Clone, Copy)]
 pub(crate) enum Answer {
     // This number.
@@ -34,14 +34,14 @@ pub(crate) enum Answer {
     Text(&'static str),
     // A fault of the operation of this name, with this code.
     Fault(&'static str, u32),
-    // That there are too few steps.
+    // More steps are needed than the limit.
     MoreSteps,
 }
 
-// A term, the name of an attribute, how many steps there are, and the answer.
+// A term, the name of an attribute, the limit of steps, and the expected answer.
 pub(crate) type Row = (&'static str, &'static str, u64, Answer);
 
-// Whether each row has its answer in the host of this text, by the standard operations.
+// Whether each row gets its expected answer in the host of this text, by the standard operations.
 pub(crate) fn rows_answer(alloc: Global, text: &str, rows: &[Row]) -> bool {
     match standard_table(alloc) {
         Ok(operations) => table_answers(alloc, text, &operations, rows),
@@ -133,7 +133,7 @@ fn all_answer<M: Meaning>(
     true
 }
 
-// Whether a row has its answer.
+// Whether a row gets its expected answer.
 fn row_answers<M: Meaning>(
     alloc: Global,
     attributes: &Attribution,
@@ -158,7 +158,7 @@ fn row_answers<M: Meaning>(
     }
 }
 
-// The same, where the tree of the term is read.
+// The same, after the term is read as a tree.
 fn tree_answers<M: Meaning>(
     alloc: Global,
     attributes: &Attribution,
@@ -186,7 +186,7 @@ fn tree_answers<M: Meaning>(
     }
 }
 
-// Whether what is given is the answer.
+// Whether the result is the expected one.
 fn shows(given: &Evaluated, operations: &OperationSignatures, answer: Answer) -> bool {
     match given {
         Evaluated::Value(value) => shows_value(value, answer),
@@ -200,7 +200,7 @@ fn shows(given: &Evaluated, operations: &OperationSignatures, answer: Answer) ->
     }
 }
 
-// Whether a value is the answer.
+// Whether a value is the expected one.
 fn shows_value(value: &Value, answer: Answer) -> bool {
     match answer {
         Answer::Int(wanted) => match value {
@@ -265,7 +265,7 @@ fn is_named(attributes: &AttributionParts, number: usize, name: &[u8]) -> bool
         && list[number].name.as_slice() == name
 }
 
-// Whether values go up.
+// Whether the direction is that of synthesized attributes.
 fn is_synthesized(direction: Direction) -> bool
     ensures { IsTrue result ↔ (direction ≡ Synthesized) }
 {

@@ -1,6 +1,6 @@
-//! Which value, or which fault, do operations come to?
+//! Which value, or which fault, do expressions of operations give?
 //!
-//! Arguments go from left to right, one branch alone is evaluated, and the first fault is the answer.
+//! Arguments are evaluated from left to right, one branch alone is evaluated, and the first fault is the answer.
 
 use crate::answers::{Answer, Row, rows_answer};
 use crate::hosts::NUMBERS;
@@ -83,7 +83,7 @@ fn operations_fail(rt: HostRuntime) {
     assert!(rt; rows_answer(rt.alloc(), NUMBERS, &FAULTS));
 }
 
-// What is not needed has no fault.
+// What isn't needed gives no fault.
 static NOT_NEEDED: [Row; 5] = [
     (
         "first(lit(1), div(lit(1), lit(0)))",

@@ -1,6 +1,6 @@
-//! Has a production that forwards what the forwarded tree has?
+//! Does a production that forwards have the attributes of the forwarded tree?
 //!
-//! An equation of its own wins, and inherited attributes are copied where no equation stands for them.
+//! An equation of its own wins. Inherited attributes are copied where no equation gives them.
 
 use crate::answers::{Answer, Row, rows_answer};
 use crate::hosts::{ENDLESS, HANDED_DOWN, NUMBERS, TWO_INHERITED};
@@ -36,7 +36,7 @@ fn attributes_are_those_of_the_forwarded_tree(rt: HostRuntime) {
     assert!(rt; rows_answer(rt.alloc(), NUMBERS, &FORWARDED));
 }
 
-// Inherited attributes of it, copied or by an equation.
+// Inherited attributes of the forwarded tree, copied or by an equation.
 static COPIED: [Row; 5] = [
     ("root(copied(leaf(\"x\")))", "v", 1_000_000, Answer::Int(3)),
     (

@@ -1,6 +1,6 @@
-//! Do inherited attributes reach what they are handed down to?
+//! Do inherited attributes reach the trees that they are handed down to?
 //!
-//! Also to locals, and by tables that attributes hand on.
+//! Some of these trees are locals, and some are tables that attributes hand on.
 
 use crate::answers::{Answer, Row, rows_answer};
 use crate::hosts::{HANDED_DOWN, STATEMENTS};
@@ -22,7 +22,7 @@ fn inherited_attributes_are_handed_down(rt: HostRuntime) {
     assert!(rt; rows_answer(rt.alloc(), HANDED_DOWN, &DOWN));
 }
 
-// Locals have what the equations for them say.
+// Locals have the attributes that their equations give.
 static LOCALS: [Row; 4] = [
     ("root(through())", "v", 1_000_000, Answer::Int(5)),
     ("root(again(through()))", "v", 1_000_000, Answer::Int(5)),
@@ -40,7 +40,7 @@ fn locals_have_their_own(rt: HostRuntime) {
     assert!(rt; rows_answer(rt.alloc(), HANDED_DOWN, &LOCALS));
 }
 
-// Statements, with names whose values stand in a table.
+// Statements, with a table of names and their values.
 static NAMES: [Row; 6] = [
     ("prog(none())", "out", 1_000_000, Answer::Text("")),
     (
@@ -50,7 +50,8 @@ static NAMES: [Row; 6] = [
         Answer::Text("4\n"),
     ),
     (
-        "prog(more(more(none(), let(\"let\", \"x\", \"=\", term(factor(num(\"4\"))), \";\")), print(\"print\", plus(term(factor(var(\"x\"))), \"+\", factor(num(\"3\"))), \";\")))",
+        "prog(more(more(none(), let(\"let\", \"x\", \"=\", term(factor(num(\"4\"))), \";\")), \
+            print(\"print\", plus(term(factor(var(\"x\"))), \"+\", factor(num(\"3\"))), \";\")))",
         "out",
         1_000_000,
         Answer::Text("7\n"),
@@ -62,13 +63,16 @@ static NAMES: [Row; 6] = [
         Answer::Text("0\n"),
     ),
     (
-        "prog(more(more(more(none(), let(\"let\", \"x\", \"=\", term(factor(num(\"4\"))), \";\")), let(\"let\", \"x\", \"=\", term(times(factor(var(\"x\")), \"*\", var(\"x\"))), \";\")), print(\"print\", term(factor(var(\"x\"))), \";\")))",
+        "prog(more(more(more(none(), let(\"let\", \"x\", \"=\", term(factor(num(\"4\"))), \";\")), \
+            let(\"let\", \"x\", \"=\", term(times(factor(var(\"x\")), \"*\", var(\"x\"))), \";\")), \
+            print(\"print\", term(factor(var(\"x\"))), \";\")))",
         "out",
         1_000_000,
         Answer::Text("16\n"),
     ),
     (
-        "prog(more(more(none(), block(\"{\", more(none(), let(\"let\", \"x\", \"=\", term(factor(num(\"4\"))), \";\")), \"}\")), print(\"print\", term(factor(var(\"x\"))), \";\")))",
+        "prog(more(more(none(), block(\"{\", more(none(), let(\"let\", \"x\", \"=\", term(factor(num(\"4\"))), \";\")), \"}\")), \
+            print(\"print\", term(factor(var(\"x\"))), \";\")))",
         "out",
         1_000_000,
         Answer::Text("0\n"),

@@ -1,6 +1,6 @@
-//! Tests of evaluation: which value, fault or want of steps an attribute of a tree has.
+//! Tests of evaluation: which value or fault an attribute of a tree has, or that more steps are needed.
 //!
-//! Certified hosts by themselves are tested in `wb_certify_tests`. Nothing depends on this crate.
+//! Tests of certified hosts are in `wb_certify_tests`. Nothing depends on this crate.
 #![tactic(auto)]
 
 #[cfg(test)]

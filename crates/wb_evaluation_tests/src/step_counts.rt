@@ -1,6 +1,6 @@
 //! How many steps does an answer take?
 //!
-//! Each instance that is needed is a step, counted once: a count beside a row has as many as it needs, and the row after it one fewer.
+//! Each instance that is needed is one step. A row has the limit that just suffices, and the row after it has one step less.
 
 use crate::answers::{Answer, Row, rows_answer};
 use crate::hosts::{HANDED_DOWN, NUMBERS, TWO_INHERITED};
@@ -44,7 +44,7 @@ fn operations_take_no_step(rt: HostRuntime) {
     assert!(rt; rows_answer(rt.alloc(), NUMBERS, &OF_NUMBERS));
 }
 
-// What is read twice, and what is not read.
+// What is read twice, and what isn't read.
 static READS: [Row; 10] = [
     ("twice(lit(4))", "value", 2, Answer::Int(8)),
     ("twice(lit(4))", "value", 1, Answer::MoreSteps),
@@ -83,7 +83,7 @@ fn a_read_counts_once(rt: HostRuntime) {
     assert!(rt; rows_answer(rt.alloc(), NUMBERS, &READS));
 }
 
-// The forwarded tree is a step, and its attribute.
+// The forwarded tree is a step, and so is its attribute.
 static OF_FORWARDS: [Row; 6] = [
     ("doubled(lit(3))", "value", 5, Answer::Int(6)),
     ("doubled(lit(3))", "value", 4, Answer::MoreSteps),
@@ -119,7 +119,7 @@ fn a_copy_is_a_step(rt: HostRuntime) {
     assert!(rt; rows_answer(rt.alloc(), HANDED_DOWN, &OF_COPIES));
 }
 
-// An attribute that an equation replaces is not needed.
+// An attribute that an equation replaces isn't needed.
 static OF_EQUATIONS: [Row; 4] = [
     ("root(leaf(\"x\"))", "value", 4, Answer::Int(3)),
     ("root(leaf(\"x\"))", "value", 3, Answer::MoreSteps),

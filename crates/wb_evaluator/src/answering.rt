@@ -31,7 +31,7 @@ use wb_values::{TreeId, TreeStore, Value};
 /// The value or the fault of a synthesized attribute of a tree, or that more instances are needed than there are steps.
 ///
 /// Each instance's expression is gone through once: where it reads one whose value isn't known, it waits with what it has, and goes on from
-/// there. Only that read is made again. Want of memory may come at any step.
+/// there. Only that read is made again. Memory may run out at any step.
 pub fn evaluate<M: Meaning>(
     alloc: Global,
     attributes: &Attribution,

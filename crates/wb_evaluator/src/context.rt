@@ -1,4 +1,4 @@
-//! By what is evaluated, and which expression?
+//! What does an evaluation rest on, and which expression does it evaluate?
 
 use wb_operations::{Meaning, OperationTable};
 use wb_resolved::{AttributionParts, Node};

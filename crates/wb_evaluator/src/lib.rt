@@ -1,5 +1,5 @@
-//! Evaluation of attributes on demand, over trees that forwarding makes: the value or the fault of an attribute of a root, within a number
-//! of steps.
+//! Demand-driven evaluation of attribute grammars with forwarding: the value or the fault of an attribute of a root, within a number of
+//! steps.
 //!
 //! What is answered is in `wb_evaluation`: this crate's clauses cite its relations, and never a memo or a stack.
 #![tactic(auto)]

@@ -52,7 +52,7 @@ pub(crate) fn run<'a, M: Meaning>(
     }
 }
 
-// By what the last instance is worked on: an expression's work is there, on from where it waited or from the start.
+// From what the last instance is evaluated: an expression's work is there, from where it waited or from the start.
 fn resume<'a>(
     definitions: &Definitions<'a>,
     evaluation: &mut Evaluation<'a>,
@@ -77,7 +77,7 @@ fn resume<'a>(
     }
 }
 
-// The same from the start.
+// Like `resume`, from the start.
 fn begin<'a>(
     definitions: &Definitions<'a>,
     machine: &Machine,

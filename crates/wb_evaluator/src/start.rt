@@ -1,6 +1,6 @@
-//! By what is an instance worked on?
+//! From what is an instance evaluated?
 //!
-//! By its rule, if there is one at the production where it would stand. What is done then is in `run`.
+//! From its rule, if there is one at the production where it would be. What is done then is in `run`.
 
 ghost use Rattle.std.specs.Prelude.{◌≡◌, ◌<◌, length, IfSome, IfNone};
 ghost use Rattle.wb_attributes.specs.Rules.{target_vertex, IsRule, HasRule};
@@ -18,7 +18,7 @@ use wb_resolved::{Node, Place, Production, Target};
 use wb_rules::{Rules, equation_for, forward_nodes, local_nodes};
 use wb_values::TreeStore;
 
-// By what an instance is worked on.
+// What an instance is evaluated from.
 #[derive(Clone, Copy)]
 pub(crate) enum Start<'a> {
     // The expression of these nodes, at a site.
@@ -31,7 +31,7 @@ pub(crate) enum Start<'a> {
     Needs(Key),
 }
 
-// By what the instance of a key is worked on.
+// From what the instance of a key is evaluated.
 pub(crate) fn start_of<'a>(
     definitions: &Definitions<'a>,
     machine: &Machine,
@@ -53,7 +53,7 @@ pub(crate) fn start_of<'a>(
     }
 }
 
-// By what the tree of a local or forward is.
+// From what the tree of a local or forward is evaluated.
 fn start_of_tree<'a>(
     definitions: &Definitions<'a>,
     machine: &Machine,
@@ -87,7 +87,7 @@ fn tree_nodes(production: &Production, step: Step) -> Option<&[Node]>
     }
 }
 
-// By what an inherited attribute is.
+// From what an inherited attribute is evaluated.
 fn start_of_inherited<'a>(
     definitions: &Definitions<'a>,
     machine: &Machine,
@@ -113,7 +113,7 @@ fn start_of_inherited<'a>(
     }
 }
 
-// By what a synthesized attribute is.
+// From what a synthesized attribute is evaluated.
 fn start_of_synthesized<'a>(
     definitions: &Definitions<'a>,
     machine: &Machine,

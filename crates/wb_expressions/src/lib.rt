@@ -1,4 +1,4 @@
-//! What is an expression, whatever is at its names?
+//! What is an expression, whatever stands for its names?
 //!
 //! Written specifications have names there and resolved ones have numbers, and both keep an expression as one list of nodes. So its
 //! trees, their nodes and the walk over them are defined and proved here once. What an expression means lies elsewhere.

@@ -80,7 +80,7 @@ no_bad_text : (contents : List ℕ) (shown : Refusal) (spec : SpecView) → IsAc
 no_bad_text contents shown spec accepted bad =
     not_memory bad.refusal shown bad.shows (none_refused contents spec bad.refusal accepted bad.cause)
 
--- want of memory of names isn't shown
+-- a refusal of names for being out of memory isn't shown
 name_not_memory : (refusal : NameRefusal) (shown : Refusal) → of_spec (name_reason refusal) ≡ Some shown → IsNameMemory refusal → ⊥
 name_not_memory (n.Unknown name) shown is memory = absurd memory
 name_not_memory (n.Duplicate name) shown is memory = absurd memory

@@ -72,7 +72,7 @@ module _ (host : ResolvedParts) where
     pub shows : extension_refusal_shown value refusal ≡ Some shown
 
 -- what the report shows of contents that aren't a certified extension of the host: a rule of what is written, of names or of kinds fails;
--- or the file names another host; or else a rule of certification fails; and want of memory says nothing
+-- or the file names another host; or else a rule of certification fails; and out of memory says nothing
 abbrev pub IsExtensionRefusal : (host : ResolvedParts) → List OperationSignature → List ℕ → FileRefusal → Type 0
 IsExtensionRefusal host operations contents (f.Specification shown) =
     IsBadText contents shown ⊎ HasBadNames host contents shown ⊎ IsRefusedValue host operations contents IsOfKinds shown

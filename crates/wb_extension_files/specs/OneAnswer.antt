@@ -9,7 +9,7 @@ use Rattle.wb_extension_files.specs.Specifications.{IsSpecFor, IsHeaderRefusal}
 use Rattle.wb_extension_files.specs.declared.refusal.FileRefusal.{FileRefusal}
 use Rattle.wb_extension_files.specs.declared.refusal.FileRefusal.TheVariants as f
 
--- the refusal is want of memory
+-- the refusal is that memory ran out
 abbrev pub IsFileMemory : FileRefusal → Type 0
 IsFileMemory (f.NoMemory error) = Unit {0}
 IsFileMemory other = ⊥
@@ -26,16 +26,16 @@ module _ (host : ResolvedParts) (operations : List OperationSignature) (contents
     pub one_host : (name other : List ℕ) → IsExtensionRefusal host operations contents (f.WrongHost name)
         → IsExtensionRefusal host operations contents (f.WrongHost other) → name ≡ other
 
-  -- contents are a certified extension of one value at most; where they are one they aren't refused, but for want of memory; and refusals
-  -- are of one sort
+  -- contents are a certified extension of one value at most; where they are one they aren't refused, except when memory runs out; and
+  -- refusals are of one sort
   pub record HaveOneAnswer : Type 0 where
     pub one : (r s : ResolvedParts) → IsExtensionText host operations contents r → IsExtensionText host operations contents s → r ≡ s
     pub certified : (r : ResolvedParts) → IsExtensionText host operations contents r → (refusal : FileRefusal)
         → IsExtensionRefusal host operations contents refusal → IsFileMemory refusal
     pub sorts : AreOfOneSort
 
--- contents are one specification of an extension of the host at most; where they are one they aren't refused for the first line, but for
--- want of memory; and what is shown for the first line is shown of the contents
+-- contents are one specification of an extension of the host at most; where they are one they aren't refused for the first line, except
+-- when memory runs out; and what is shown for the first line is shown of the contents
 pub record HaveOneHeader (host : ResolvedParts) (contents : List ℕ) : Type 0 where
   pub one : (x y : SpecView) → IsSpecFor host contents x → IsSpecFor host contents y → x ≡ y
   pub excluded : (spec : SpecView) → IsSpecFor host contents spec → (refusal : FileRefusal) → IsHeaderRefusal host contents refusal

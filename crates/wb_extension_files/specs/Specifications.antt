@@ -25,7 +25,7 @@ pub record IsNoExtension (contents : List ℕ) (shown : Refusal) : Type 0 where
   pub shows : shown ≡ r.Specification (s.WrongKind spec.name)
 
 -- what the report shows of contents that aren't an extension of the host by what is written and by the first line: a rule of what is
--- written fails, or they are a host, or they name another host; and want of memory says nothing
+-- written fails, or they are a host, or they name another host; and out of memory says nothing
 abbrev pub IsHeaderRefusal : (host : ResolvedParts) → List ℕ → FileRefusal → Type 0
 IsHeaderRefusal host contents (f.Specification shown) = IsBadText contents shown ⊎ IsNoExtension contents shown
 IsHeaderRefusal host contents (f.WrongHost name) = NamesOtherHost host contents name

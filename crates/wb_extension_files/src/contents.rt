@@ -1,4 +1,4 @@
-//! Which certified extension of a host are the contents of a file?
+//! Reads the contents of a file as a certified extension of a host.
 //!
 //! They are read, names get their numbers beside the host, and the value that they stand for is certified with it; each refusal is handed on
 //! as a report shows it.
@@ -30,7 +30,7 @@ use wb_resolved::Resolved;
 use wb_shown::{name_rule, of_spec, shown_extension_refusal};
 use wb_syntax::Spec;
 
-/// The certified extension of a certified host that the contents of a file are, or why they are none.
+/// The contents of a file as a certified extension of a certified host, or why they aren't one.
 ///
 /// The table of operations is one with which the host was certified. No other extension is looked at. Which of several examples of a refusal
 /// is shown is left open. No clause bounds the time.
@@ -53,7 +53,7 @@ pub fn extension_of<M: Meaning>(
     answer
 }
 
-/// The certified extension of a certified host that a specification is, or why it is none.
+/// A specification as a certified extension of a certified host, or why it isn't one.
 ///
 /// What is said of the specification is said of any contents that are it. All else is as in [`extension_of`].
 pub fn extension_of_spec<M: Meaning>(

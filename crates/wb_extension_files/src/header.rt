@@ -19,7 +19,7 @@ use wb_report::{Refusal, SpecReason};
 use wb_shown::{of_spec, written_rule};
 use wb_syntax::{Header, Spec};
 
-/// The specification of an extension of a certified host that the contents of a file are, or why they are none.
+/// The contents of a file as the specification of an extension of a certified host, or why they aren't one.
 ///
 /// What is written is tested, and that the file is an extension and names this host. Its names aren't looked at.
 pub fn extension_spec(
@@ -82,7 +82,7 @@ fn spec_of(alloc: Global, contents: &[u8]) -> Result<Spec, FileRefusal>
     }
 }
 
-// What is shown of contents that are no specification.
+// What is shown of contents that aren't a specification.
 fn bad_text(refusal: SpecRefusal) -> FileRefusal
     requires { ¬ IsNoMemory refusal }
     ensures { (host : ResolvedParts) (contents : List ℕ) → HasCause contents refusal → IsHeaderRefusal host contents result }

@@ -1,7 +1,7 @@
-//! Which certified extension of a certified host are the contents of a file?
+//! Reads the contents of a file as a certified extension of a certified host.
 //!
-//! Here reading, names and certification beside the host meet, and refusals get the names that reports show. What a certified extension is
-//! stands in `wb_beside`, the lines in `wb_report`.
+//! Here reading, names and certification beside the host meet, and refusals get the names that reports show. Certified extensions are
+//! defined in `wb_beside`, the lines in `wb_report`.
 #![tactic(auto)]
 
 mod contents;

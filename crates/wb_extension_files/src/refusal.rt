@@ -1,4 +1,4 @@
-//! Why are the contents of a file no certified extension of a host?
+//! Why aren't the contents of a file a certified extension of a host?
 
 use std::alloc::AllocError;
 use wb_base::Bytes;
@@ -13,7 +13,7 @@ pub enum FileRefusal {
     WrongHost(Bytes),
     /// A rule of markers, grammars, scanners or attributes fails.
     Certification(Refusal),
-    /// There was no memory to tell, or a number is too large for a table.
+    /// Out of memory, or a number is too large for a table.
     NoMemory(AllocError),
 }
 

@@ -1,4 +1,4 @@
--- A true refusal but for want of memory rules determinism out; and what determinism is to a union.
+-- A true refusal other than out of memory rules determinism out; and what determinism is to a union.
 use Rattle.std.proofs.Common.{◌≡◌, ◌∙◌, ℕ, List, map, sym, subst, ap, inl, inr, arith}
 use Rattle.wb_base.specs.declared.symbol.Symbol.{Symbol}
 use Rattle.wb_base.specs.Grammar.{GrammarView}

@@ -24,6 +24,6 @@ item_up m item = record { production = production_up m item.production; dot = it
 abbrev pub renaming_by : Numbers → (ℕ → ℕ) → Renaming
 renaming_by m nonterminal = record { terminal = terminal_up m; nonterminal = nonterminal; production = production_up m }
 
--- the same where nonterminals keep their numbers
+-- these numbers, where nonterminals keep theirs
 abbrev pub up_by : Numbers → Renaming
 up_by m = renaming_by m (λ a. a)

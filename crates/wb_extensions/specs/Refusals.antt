@@ -32,7 +32,7 @@ module _ (r : ResolvedParts) (g host : GrammarView) where
 
   -- what is shown is an example of the first of these that holds of the specification of a host with an extension: a reason for which it
   -- wouldn't do as a host; a lookahead that the extension adds at a kernel of the host; or a fault with the envelope. Reasons of marks are
-  -- found elsewhere, and want of memory says nothing of it
+  -- found elsewhere, and out of memory says nothing of it
   abbrev pub IsExtensionRefusal : DeterminismRefusal → Type 0
   IsExtensionRefusal (d.NotBridge _) = ⊥
   IsExtensionRefusal (d.MarkerElsewhere _) = ⊥

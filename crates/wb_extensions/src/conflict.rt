@@ -1,4 +1,4 @@
-//! Has a new kernel of host's items a conflict, with the envelope as lookaheads?
+//! Does a new kernel of the host's items have a conflict, with the envelope as lookaheads?
 
 ghost use Rattle.std.specs.Prelude.{◌≡◌, ◌<◌, ℕ, All, MatchOption, Some, length, slice_get};
 ghost use Rattle.wb_items.specs.declared.item_lookahead.ItemLookahead.{ItemLookahead};

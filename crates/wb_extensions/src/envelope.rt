@@ -36,7 +36,7 @@ pub(crate) fn envelope_of(
     envelope_row(alloc, context, own, &closure)
 }
 
-// The same with the items of the closure.
+// Like `envelope_of`, with the items of the closure.
 fn envelope_row(
     alloc: Global,
     context: &Context,
@@ -52,7 +52,7 @@ fn envelope_row(
     row_by(alloc, context, own, closure, &containing)
 }
 
-// The same with the numbers of the host's kernels that contain the kernel.
+// Like `envelope_row`, with the numbers of the host's kernels that contain the kernel.
 fn row_by(
     alloc: Global,
     context: &Context,

@@ -1,4 +1,4 @@
-//! Do two terminals that are considered at one new kernel of host's items match one text, with no preference between them?
+//! Do two terminals that are considered at one new kernel of the host's items match one text, with no preference between them?
 
 ghost use Rattle.std.specs.Prelude.{◌≡◌, IfErr, IfOk};
 ghost use Rattle.wb_contexts.specs.Sets.{lent};

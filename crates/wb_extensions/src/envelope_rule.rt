@@ -1,4 +1,4 @@
-//! Does an item of a new kernel of host's items have a lookahead beyond the envelope?
+//! Does an item of a new kernel of the host's items have a lookahead beyond the envelope?
 
 ghost use Rattle.std.specs.Prelude.{◌≡◌, ◌<◌, MatchOption, Contains};
 ghost use Rattle.wb_grammars.specs.Closure.{InClosure};

@@ -1,4 +1,4 @@
-//! Which terminals are considered at each new kernel of host's items, or how does one go beyond the envelope?
+//! Which terminals are considered at each new kernel of the host's items, or how does one go beyond the envelope?
 //!
 //! Terminals that are considered together are compared in `envelope_clash.rt`.
 
@@ -114,7 +114,7 @@ fn own_items(alloc: Global, context: &Context, state: usize) -> Result<Sequence<
     Ok(own)
 }
 
-// The same with its items in the host's numbers.
+// Like `new_set`, with the kernel's items in the host's numbers.
 fn set_of_items(
     alloc: Global,
     context: &Context,
@@ -135,7 +135,7 @@ fn set_of_items(
     set_of_row(alloc, context, layout, state, own, &row)
 }
 
-// The same with the closure's items and their lookaheads in the envelope.
+// Like `set_of_items`, with the closure's items and their lookaheads in the envelope.
 fn set_of_row(
     alloc: Global,
     context: &Context,
@@ -158,7 +158,7 @@ fn set_of_row(
     }
 }
 
-// The same where no lookahead is beyond the envelope.
+// Like `set_of_row`, where no lookahead is beyond the envelope.
 fn set_by_shifts(
     alloc: Global,
     context: &Context,

@@ -45,7 +45,7 @@ pub fn extension_determinism(
     }
 }
 
-// The same where the specification has this grammar.
+// Like `extension_determinism`, where the specification has this grammar.
 fn with_grammar(
     alloc: Global,
     host: &HostParts,
@@ -144,7 +144,7 @@ fn test_rules(
     test_by_images(alloc, extended, numbers, regions, &images)
 }
 
-// The same with what the terminals stand for.
+// Like `test_rules`, with what the terminals stand for.
 fn test_by_images(
     alloc: Global,
     extended: &Extended,

@@ -12,7 +12,7 @@ ghost use Rattle.wb_extensions.specs.Images.{stands_for};
 ghost use Rattle.wb_extensions.specs.Numbers.{renaming_by};
 ghost use Rattle.wb_extensions.specs.Refusals.{IsExtensionRefusal};
 
-/// An extension that is refused, but for want of memory, isn't deterministic beside its host.
+/// An extension that is refused for any reason but out of memory isn't deterministic beside its host.
 pub fn extension_refusals_law()
     ensures { (r : ResolvedParts) (g host : GrammarView) (refusal : Refusal) → IsExtensionRefusal r g host refusal → IsDeterministicExtension r g host → IsNoMemory refusal }
 {}

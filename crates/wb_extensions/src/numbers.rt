@@ -1,4 +1,4 @@
-//! Which number has something of a host in the host with an extension, and the other way round?
+//! Converts between the host's numbers and those of the host with an extension.
 //!
 //! What the host has of its own keeps its number. Holes, the end of a text, productions of holes and `S' -> S` come after the extension's.
 

@@ -24,7 +24,6 @@ impl ExtensionParts {
     pub fn release(self) {}
 }
 
-// By hand, so that no crate above proves how the parts are dropped.
 impl Drop for ExtensionParts {
     fn drop(self) {
         let ExtensionParts {

@@ -68,7 +68,7 @@ pub(crate) fn test_envelopes(
     test_with_layout(alloc, context, regions, parts, &layout)
 }
 
-// The same with the set of layout.
+// Like `test_envelopes`, with the set of layout.
 fn test_with_layout(
     alloc: Global,
     context: &Context,
@@ -104,7 +104,7 @@ fn considered(
     envelope_sets(alloc, context, &rules, regions, layout)
 }
 
-// The same with the sets of what is considered.
+// Like `test_with_layout`, with the sets of what is considered.
 fn test_scanner(
     alloc: Global,
     context: &Context,
@@ -129,7 +129,7 @@ fn test_scanner(
     test_with_lexicon(alloc, context, parts, &lexicon, sets)
 }
 
-// The same where this is scanned.
+// Like `test_scanner`, where this is scanned.
 fn test_with_lexicon(
     alloc: Global,
     context: &Context,

@@ -1,4 +1,4 @@
-//! Which terminals can be shifted at a new kernel of host's items, and which are valid there with the envelope as lookaheads?
+//! Which terminals can be shifted at a new kernel of the host's items, and which are valid there with the envelope as lookaheads?
 
 ghost use Rattle.std.specs.Prelude.{◌≡◌, ◌≤◌, ◌<◌, ◌+◌, ◌↔◌, ◌⊎◌, ℕ, All, IfOk, length};
 ghost use Rattle.wb_items.specs.declared.item_lookahead.ItemLookahead.{ItemLookahead};

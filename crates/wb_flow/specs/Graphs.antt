@@ -1,4 +1,4 @@
--- What is a production's flow graph.
+-- What a production's flow graph is.
 use Rattle.std.specs.Prelude.{◌≡◌, ◌↔◌, ℕ, Some, All, Contains, length, slice_get}
 use Rattle.wb_base.specs.Different.{Differ}
 use Rattle.wb_graph.specs.Graphs.{IsEdgeBelow}

@@ -4,7 +4,7 @@ use Rattle.wb_resolved.specs.declared.attribution.AttributionParts.{AttributionP
 use Rattle.wb_flow.specs.declared.vertex.Vertex.{Vertex}
 use Rattle.wb_flow.specs.Refusals.{FlowsOk, LacksForwardNeed, HasReadOutside, HasFlowCycle}
 
--- where the rules hold, no refusal is true but want of memory
+-- where the rules hold, no refusal but out of memory is true
 pub record FlowsExclude (a : AttributionParts) : Type 0 where
   pub lacks : (m x i : ℕ) → ¬ LacksForwardNeed a m x i
   pub reads : (p : ℕ) (x : Option ℕ) (i : ℕ) → ¬ HasReadOutside a p x i

@@ -1,4 +1,4 @@
-//! Which edges has the flow graph of a production?
+//! Lists the edges of the flow graph of a production.
 //!
 //! Each kind of edge is found by itself, by the vertices of its ends; positions of vertices are given in `graph`.
 

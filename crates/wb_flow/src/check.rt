@@ -36,7 +36,7 @@ pub fn check_flow(alloc: Global, attributes: &Attribution) -> Result<(), Attribu
     )
 }
 
-// The same, where occurrences are by nonterminal.
+// Like `check_flow`, where occurrences are by nonterminal.
 fn check_in(alloc: Global, scope: &Scope) -> Result<(), AttributeRefusal>
     requires attribution { IsAttribution scope.now.attributes.now }
     requires index { IsIndexOf scope.now.attributes.now.occurrences scope.now.index.now }

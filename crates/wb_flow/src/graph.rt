@@ -26,8 +26,7 @@ use wb_resolved::{Attribution, Production};
 
 /// The flow graph of the production of this number.
 ///
-/// The time is about linear in the attribution, for the index of its occurrences, and in the graph; no clause bounds it. The only error
-/// is want of memory.
+/// The time is about linear in the attribution, for the index of its occurrences, and in the graph; no clause bounds it.
 pub fn production_graph(
     alloc: Global,
     attributes: &Attribution,
@@ -45,7 +44,7 @@ pub fn production_graph(
     graph_of(alloc, &scope, &parts.productions.as_slice()[production])
 }
 
-// The same, where occurrences are by nonterminal.
+// Like `production_graph`, where occurrences are by nonterminal.
 pub(crate) fn graph_of(
     alloc: Global,
     scope: &Scope,
@@ -61,7 +60,7 @@ pub(crate) fn graph_of(
     graph_over(alloc, scope, production, &trees, &vertices)
 }
 
-// The same, with its trees and vertices.
+// Like `graph_of`, with the production's trees and vertices.
 fn graph_over(
     alloc: Global,
     scope: &Scope,

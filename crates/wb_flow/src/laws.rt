@@ -3,7 +3,7 @@
 ghost use Rattle.wb_flow.specs.OneAnswer.{FlowsHaveOneAnswer};
 ghost use Rattle.wb_resolved.specs.declared.attribution.AttributionParts.{AttributionParts};
 
-/// That the rules hold excludes each refusal but want of memory, and a refusal by one rule excludes one by another.
+/// That the rules hold excludes each refusal but out of memory, and a refusal by one rule excludes one by another.
 pub fn one_answer_law()
     ensures { (a : AttributionParts) → FlowsHaveOneAnswer a }
 {}

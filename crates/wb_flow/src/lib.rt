@@ -1,4 +1,5 @@
-//! The flow graphs of productions: whether attributes need no more than their flow types say, and nothing needs itself.
+//! The flow graphs of an attribute grammar's productions: whether attributes need no more than their flow types say, and nothing needs
+//! itself.
 //!
 //! Each production is tested by itself, by the flow types of the attributes around it, so an extension is tested with its host alone. The
 //! rules are defined in `wb_attributes`. Whether each attribute has an equation is tested elsewhere.

@@ -27,7 +27,7 @@ impl Model for OccurrenceIndex {
 }
 
 impl OccurrenceIndex {
-    /// The index of these occurrences. The only error is want of memory.
+    /// The index of these occurrences.
     pub fn new(alloc: Global, attributes: &AttributionParts) -> Result<OccurrenceIndex, AllocError>
         requires { IsAttribution attributes.now }
         ensures { IfOk result (IsIndexOf attributes.now.occurrences) }
@@ -40,7 +40,7 @@ impl OccurrenceIndex {
         Ok(index)
     }
 
-    /// The numbers of the occurrences on a nonterminal, in any order. Takes no memory.
+    /// The numbers of the occurrences on a nonterminal, in any order.
     pub fn on(&self, nonterminal: usize) -> &[usize]
         ensures { result.now ≡ slice_index_or self.now nonterminal [] }
     {
@@ -61,7 +61,6 @@ impl OccurrenceIndex {
     }
 }
 
-// By hand, so that no crate above proves how the parts are dropped.
 impl Drop for OccurrenceIndex {
     fn drop(self) {
         let OccurrenceIndex { rows } = self;
@@ -90,7 +89,7 @@ pub struct Scope<'a> {
 }
 
 impl<'a> Scope<'a> {
-    /// The occurrence of a number. Takes no memory.
+    /// The occurrence of a number.
     pub fn occurrence(&self, number: usize) -> &'a Occurrence
         requires { number < length self.now.attributes.now.occurrences }
         ensures { slice_get self.now.attributes.now.occurrences number ≡ Some result.now }
@@ -98,7 +97,7 @@ impl<'a> Scope<'a> {
         &self.attributes.occurrences.as_slice()[number]
     }
 
-    /// Whether the values of an attribute go up. Takes no memory.
+    /// Whether the values of an attribute go up.
     pub fn is_synthesized(&self, attribute: usize) -> bool
         ensures { IsTrue result ↔ Goes self.now.attributes.now Synthesized attribute }
     {
@@ -107,7 +106,7 @@ impl<'a> Scope<'a> {
             && matches!(attributes[attribute].direction, Direction::Synthesized)
     }
 
-    /// Whether the values of an attribute go down. Takes no memory.
+    /// Whether the values of an attribute go down.
     pub fn is_inherited(&self, attribute: usize) -> bool
         ensures { IsTrue result ↔ Goes self.now.attributes.now Inherited attribute }
     {
@@ -116,8 +115,8 @@ impl<'a> Scope<'a> {
             && matches!(attributes[attribute].direction, Direction::Inherited)
     }
 
-    /// The flow type of an attribute on a nonterminal, and nothing where it doesn't occur there. Takes no memory, and time linear in the
-    /// occurrences on the nonterminal.
+    /// The flow type of an attribute on a nonterminal, and nothing where it doesn't occur there. Takes time linear in the occurrences on
+    /// the nonterminal.
     pub fn needs(&self, attribute: usize, nonterminal: usize) -> &'a [usize]
         requires attribution { IsAttribution self.now.attributes.now }
         requires index { IsIndexOf self.now.attributes.now.occurrences self.now.index.now }
@@ -132,7 +131,7 @@ impl<'a> Scope<'a> {
         &[]
     }
 
-    /// The flow type of the forward of a nonterminal. Takes no memory.
+    /// The flow type of the forward of a nonterminal.
     pub fn forward_needs(&self, nonterminal: usize) -> &'a [usize]
         ensures { (i : ℕ) → Contains result.now i ↔ ForwardNeeds self.now.attributes.now nonterminal i }
     {

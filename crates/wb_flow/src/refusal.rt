@@ -63,7 +63,7 @@ pub enum AttributeRefusal {
         /// What isn't in the flow type.
         inherited: usize,
     },
-    /// There was no memory to tell.
+    /// Out of memory.
     NoMemory(AllocError),
 }
 

@@ -29,7 +29,6 @@ pub struct FlowGraph {
     pub edges: Sequence<(usize, usize)>,
 }
 
-// By hand, so that no crate above proves how the parts are dropped.
 impl Drop for FlowGraph {
     fn drop(self) {
         let FlowGraph { vertices, edges } = self;

@@ -1,4 +1,4 @@
-//! Which vertices has the flow graph of a production?
+//! Lists the vertices of the flow graph of a production.
 //!
 //! The attributes of each of its trees, and the trees that expressions make.
 

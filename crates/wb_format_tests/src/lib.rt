@@ -1,7 +1,6 @@
-//! Tests of texts: what reads and prints a format, and files in memory.
+//! Tests of the readers and printers of the formats, and of files in memory.
 //!
-//! Tests of the program are in `wb_tests`, those of the libraries that know no format in `wb_grammar_tests`, `wb_language_tests`,
-//! `wb_library_tests`, `wb_specification_tests` and `wb_value_tests`. Nothing depends on this crate.
+//! Tests of the program are in `wb_tests`. Nothing depends on this crate.
 #![tactic(auto)]
 
 #[cfg(test)]

@@ -1,6 +1,6 @@
-//! Does a table read whole texts, and stop at the first thing that can't follow?
+//! Does a table read whole texts, and stop at the first token that can't follow?
 //!
-//! By the table of nested lists, which has a token, a list and an action of each sort.
+//! The table is that of nested lists, which has a token, a list and an action of each sort.
 
 use std::alloc::{AllocError, Global};
 use std::test::Fail;
@@ -8,7 +8,7 @@ use wb_predictive::nested::Event::{Began, Finished, Met};
 use wb_predictive::nested::{Event, Events, Nested};
 use wb_predictive::{Outcome, read_all};
 
-// What the text below meets.
+// The steps that the text below leads to.
 static MET: [Event; 7] = [
     Began,
     Met { digit: 1, at: 1 },
@@ -19,7 +19,7 @@ static MET: [Event; 7] = [
     Finished,
 ];
 
-// Whether the whole text is read, and meets these.
+// Whether the whole text is read by these steps.
 fn meets(alloc: Global, text: &[u8], wanted: &[Event]) -> Result<bool, AllocError> {
     match read_all(alloc, &Nested, text, Events::new(alloc))? {
         Outcome::Whole(events) => Ok(events.as_slice() == wanted),
@@ -33,7 +33,7 @@ fn a_whole_text_has_what_it_meets(rt: HostRuntime) -> Result<(), Fail> {
     Ok(())
 }
 
-// Whether a text is read up to this place.
+// Whether a text is read up to this position.
 fn stops_at(alloc: Global, text: &[u8], place: usize) -> Result<bool, AllocError> {
     match read_all(alloc, &Nested, text, Events::new(alloc))? {
         Outcome::Whole(_) => Ok(false),

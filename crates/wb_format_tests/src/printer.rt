@@ -1,6 +1,6 @@
-//! Is a canonical text cut into lines, with one space or none between two tokens?
+//! Is a canonical text divided into lines, with one space or none between two tokens?
 //!
-//! Expected values follow from the rule of canonical texts, not from a run.
+//! Expected values follow from the rule of canonical texts.
 
 use std::alloc::{AllocError, Global};
 use std::test::Fail;
@@ -32,7 +32,7 @@ fn is_printed(alloc: Global, spec: &Spec, canonical: &str) -> Result<bool, Alloc
     Ok(print_spec(alloc, spec)?.as_slice() == canonical.as_bytes())
 }
 
-// Whether the second text is the canonical one of the first.
+// Whether the second text is the canonical text of the first.
 fn is_canonical(alloc: Global, text: &str, canonical: &str) -> Result<bool, AllocError> {
     match read_spec(alloc, text.as_bytes()) {
         Ok(spec) => is_printed(alloc, &spec, canonical),

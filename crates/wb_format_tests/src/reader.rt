@@ -1,12 +1,12 @@
-//! Does each text have its outcome as a specification, and the parts of one their places?
+//! Does each text read as expected, and do the parts of a specification have their positions?
 //!
-//! Expected values follow from the grammar and the order of refusals, not from a run.
+//! Expected values follow from the grammar and the order of refusals.
 
 use std::alloc::Global;
 use wb_reader::{SpecRefusal, read_spec};
 use wb_syntax::{Header, Item, ItemForm, Node, Pattern, ProductionRole, Spec};
 
-// The code and the place of a refusal; 0 where it has no place, and the length of its name where it has one.
+// The code and the position of a refusal: 0 where it has none, and the length of its name where it has one.
 fn shown(refusal: &SpecRefusal) -> (&'static str, usize) {
     match refusal {
         SpecRefusal::TooLong => ("S2", 0),
@@ -18,7 +18,7 @@ fn shown(refusal: &SpecRefusal) -> (&'static str, usize) {
     }
 }
 
-// Whether a text has so many items, or is refused by this code at this place.
+// Whether a text has this number of items, or is refused by this code at this position.
 fn has_outcome(alloc: Global, text: &[u8], code: &str, place: usize) -> bool {
     match read_spec(alloc, text) {
         Ok(spec) => code == "items" && spec.items().len() == place,
@@ -29,7 +29,7 @@ fn has_outcome(alloc: Global, text: &[u8], code: &str, place: usize) -> bool {
     }
 }
 
-// Whether each text, of those with their code and place, has its outcome.
+// Whether each text gets the code and the position in its row.
 fn have_outcomes(alloc: Global, cases: &[(&str, &str, usize)]) -> bool {
     for (text, code, place) in cases {
         if !has_outcome(alloc, text.as_bytes(), *code, *place) {
@@ -89,7 +89,7 @@ fn a_pattern_or_an_item_has_its_outcome(rt: HostRuntime) {
     assert!(rt; have_outcomes(rt.alloc(), &ITEMS));
 }
 
-// Whether the node of the equation below is at its place.
+// Whether the node of the equation below is at its position.
 fn is_right(place: usize, node: &Node) -> bool {
     match node {
         Node::Label(_) => place == 0,

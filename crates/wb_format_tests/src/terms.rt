@@ -1,6 +1,6 @@
-//! Are terms read and printed as their grammar says, with the first fault at its place?
+//! Are terms read and printed as their grammar says, with the first error at its position?
 //!
-//! Signatures and stores are made in helpers, one for each test. What the program prints of them is in `value`.
+//! Signatures and stores are made in helpers, one for each test. What the program prints of values is tested in `wb_tests`.
 
 ghost use Rattle.std.specs.Prelude.{◌<◌, IfOk, length};
 
@@ -10,7 +10,7 @@ use wb_base::Kind;
 use wb_terms::{PrintRefusal, TermRefusal, print_value, read_term};
 use wb_values::{Signatures, TreeId, TreeStore, Value};
 
-// What a reading answers.
+// The expected result of reading a text.
 #[derive(Clone, Copy, PartialEq, Eq)]
 enum Answer {
     Read,
@@ -20,8 +20,8 @@ enum Answer {
     NoMemory,
 }
 
-// The productions `lit` and `add` of numbers, `e:both` with a child of each kind, and `leaf` without a child, of another nonterminal;
-// and a second `lit`.
+// The productions `lit` and `add` of numbers, `e:both` with a child of each kind, `leaf` of another nonterminal and without a child, and a
+// second `lit`.
 fn signatures(alloc: Global) -> Result<Signatures, AllocError> {
     let mut made = Signatures::new(alloc);
     made.add(b"lit", 0, &[Kind::Int])?;
@@ -36,7 +36,7 @@ fn signatures(alloc: Global) -> Result<Signatures, AllocError> {
     Ok(made)
 }
 
-// What is read of a text into a store.
+// The result of reading a text into a store.
 fn answer_in(alloc: Global, text: &[u8], signatures: &Signatures, store: &mut TreeStore) -> Answer {
     match read_term(alloc, text, signatures, store) {
         Ok(_) => Answer::Read,
@@ -47,7 +47,7 @@ fn answer_in(alloc: Global, text: &[u8], signatures: &Signatures, store: &mut Tr
     }
 }
 
-// Whether each text is answered as beside it.
+// Whether each text gets the expected result in its row.
 fn are_answered(alloc: Global, signatures: &Signatures, cases: &[(&str, Answer)]) -> bool {
     let mut store = TreeStore::new(alloc);
     for (text, wanted) in cases {
@@ -96,7 +96,7 @@ fn terms_are_read_exactly(rt: HostRuntime) -> Result<(), Fail> {
     Ok(())
 }
 
-// What is printed of a tree.
+// The text that a tree is printed as.
 fn is_text(
     alloc: Global,
     tree: TreeId,
@@ -112,7 +112,7 @@ fn is_text(
     }
 }
 
-// Whether the term of a text is printed so.
+// Whether the term of a text is printed as this text.
 fn is_printed(alloc: Global, signatures: &Signatures, text: &[u8], wanted: &[u8]) -> bool {
     let mut store = TreeStore::new(alloc);
     match read_term(alloc, text, signatures, &mut store) {
@@ -149,7 +149,7 @@ fn values_are_printed(rt: HostRuntime) -> Result<(), Fail> {
     Ok(())
 }
 
-// A text of a term nested so deep, of three forms in turn.
+// A text of a term nested to this depth, of three forms in turn.
 fn nested(alloc: Global, depth: usize) -> Result<Vec<u8>, AllocError> {
     let mut text = Vec::new(alloc);
     for _ in 0..depth {
@@ -166,7 +166,7 @@ fn nested(alloc: Global, depth: usize) -> Result<Vec<u8>, AllocError> {
     Ok(text)
 }
 
-// Whether a term nested so deep is printed as it was read.
+// Whether a term nested to this depth is printed as it was read.
 fn is_the_same(alloc: Global, depth: usize) -> Result<bool, AllocError> {
     let text = nested(alloc, depth)?;
     is_printed_as(alloc, &text, &text)
@@ -219,7 +219,7 @@ fn twice(alloc: Global, store: &mut TreeStore, tree: TreeId) -> Result<TreeId, A
     store.build(1, children)
 }
 
-// The tree that has the one before it twice, as often as that.
+// A leaf that is doubled this number of times: each tree has the one before it as both children.
 fn shared(alloc: Global, store: &mut TreeStore, count: usize) -> Result<TreeId, AllocError>
     ensures { IfOk result (λ made. made.0 < length store.new) }
 {
@@ -246,7 +246,7 @@ fn is_too_long(
     }
 }
 
-// Whether a graph of so many doublings is too long to be printed.
+// Whether a graph of this number of doublings is too long to be printed.
 fn is_shared_long(
     alloc: Global,
     count: usize,

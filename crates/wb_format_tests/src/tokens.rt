@@ -1,6 +1,6 @@
-//! Are texts cut into the longest tokens, and is nothing else a token?
+//! Are texts divided into the longest tokens, and is nothing else a token?
 //!
-//! Expected values follow from the rules of tokens, not from a run.
+//! Expected values follow from the rules of tokens.
 
 ghost use Rattle.std.specs.Prelude.{◌≤◌, length};
 
@@ -34,14 +34,14 @@ fn append_token(out: &mut Vec<u8>, token: &Token) -> Result<(), AllocError> {
     }
 }
 
-// Appends a sign and a place.
+// Appends a sign and a position.
 fn append_place(out: &mut Vec<u8>, sign: &[u8], at: usize) -> Result<(), AllocError> {
     let mut buffer = Buffer::new();
     out.extend_from_slice(sign)?;
     out.extend_from_slice(buffer.format(at).as_bytes())
 }
 
-// Appends a token with its place.
+// Appends a token with its position.
 fn append_placed(out: &mut Vec<u8>, token: &Token, at: usize) -> Result<(), AllocError> {
     append_token(out, token)?;
     append_place(out, b"@", at)?;
@@ -54,7 +54,7 @@ fn append_end(out: &mut Vec<u8>, sign: &[u8], at: usize) -> Result<Option<usize>
     Ok(None)
 }
 
-// Appends what is next in a text, and answers where it ends, if it is a token.
+// Appends what is next in a text, and returns where it ends if it is a token.
 fn append_next(
     alloc: Global,
     text: &[u8],
@@ -74,7 +74,7 @@ fn append_next(
     }
 }
 
-// Appends each token with its place after `@`, and in the end `$` with the length, or `!` with the place where no token begins.
+// Appends each token with its position after `@`, then `$` with the length, or `!` with the position where no token begins.
 fn append_all(
     alloc: Global,
     text: &[u8],
@@ -94,14 +94,14 @@ fn append_all(
     Ok(())
 }
 
-// Whether the tokens of a text are shown so.
+// Whether the tokens of a text are shown as this text.
 fn is_shown(alloc: Global, text: &[u8], layout: Layout, tokens: &[u8]) -> Result<bool, AllocError> {
     let mut out = Vec::new(alloc);
     append_all(alloc, text, layout, &mut out)?;
     Ok(out.as_slice() == tokens)
 }
 
-// Whether the tokens of each text are shown as beside it.
+// Whether the tokens of each text are shown as its row says.
 fn are_shown(alloc: Global, cases: &[(&str, &str)], layout: Layout) -> Result<bool, AllocError> {
     for (text, tokens) in cases {
         if !is_shown(alloc, text.as_bytes(), layout, tokens.as_bytes())? {

@@ -1,12 +1,12 @@
-//! Do the shelf and the sink in memory answer as they are asked to?
+//! Do the shelf and the sink in memory read and write as they are set to?
 //!
-//! Expected values follow from their limits, not from a run. Runs of the program over them are in `show` and `value`.
+//! Expected values follow from their limits. Runs of the program over them are in `wb_tests`.
 
 use std::alloc::{AllocError, Global};
 use std::test::Fail;
 use wb_world::{Got, MemoryShelf, MemorySink, Put, Shelf, Sink};
 
-// Whether reads of the file below are answered so, the fourth by a failure.
+// Whether reads of the file below have these results, the fourth a failure.
 fn are_read(shelf: &mut MemoryShelf) -> bool {
     let mut buffer = [0; 4];
     let first = shelf.read("h", 0, &mut buffer) == Got::Bytes(4) && buffer == *b"abcd";
@@ -30,7 +30,7 @@ fn reads_give_the_file_from_a_place(rt: HostRuntime) -> Result<(), Fail> {
     Ok(())
 }
 
-// Whether writes are answered so, the second by a failure.
+// Whether writes have these results, the second a failure.
 fn are_written(sink: &mut MemorySink) -> bool {
     let first = sink.write(b"abcd") == Put::Took(3);
     let second = sink.write(b"de") == Put::Failed;

@@ -152,7 +152,7 @@ module _ (a : AttributionParts) (is : IsAttribution a) (production : Production)
           let same = (contains_one start walk.start).0 walk.is_start in
           by_walk (walk_leads a production graph flow start vertex at k (subst (λ z. Walk graph.edges z k) same walk.walk))
 
--- what is told of a production is told of the attribution
+-- what is reported of a production is reported of the attribution
 pub refuses : (a : AttributionParts) (extension number : ℕ) (production : Production) → slice_get a.productions number ≡ Some production
     → IsBridging a extension production → (refusal : AttributeRefusal) → RefusesProduction a number production refusal
     → IsTrueForwardRefusal a extension refusal

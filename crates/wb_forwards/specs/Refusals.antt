@@ -25,7 +25,7 @@ pub record HasForwardRead (a : AttributionParts) (extension number attribute inh
   pub bridging : IsBridging a extension production
   pub reads : ReadsOutside a production attribute inherited_one
 
--- the refusal is of this test, and true; want of memory says nothing
+-- the refusal is of this test, and true; out of memory says nothing
 abbrev pub IsTrueForwardRefusal : AttributionParts → ℕ → AttributeRefusal → Type 0
 IsTrueForwardRefusal a extension (r.ForwardReads production attribute inherited_one) =
     HasForwardRead a extension production attribute inherited_one

@@ -52,7 +52,7 @@ pub(crate) struct Checked<'a> {
     extension: usize,
 }
 
-// The same, where occurrences are by nonterminal.
+// Like `check_forward`, where occurrences are by nonterminal.
 fn check_in(alloc: Global, checked: &Checked) -> Result<(), AttributeRefusal>
     requires { IsChecked checked.now }
     ensures ok { IfOk result (λ done. ForwardEquationsReach checked.now.scope.now.attributes.now checked.now.extension) }

@@ -1,4 +1,4 @@
-//! How many leaves do the trees of each nonterminal have at the least? Knuth's generalization of Dijkstra's algorithm: the nonterminals
+//! What is the least number of leaves of the trees of each nonterminal? Knuth's generalization of Dijkstra's algorithm: the nonterminals
 //! with the fewest leaves come first, and lower the counts of those whose right sides they are in.
 
 ghost use Rattle.std.specs.Prelude.{◌≡◌, ◌↔◌, ◌+◌, ◌<◌, ◌≤◌, ℕ, All, IfOk, IsTrue, OnOk, [], ◌∷◌, length, replicate};
@@ -21,7 +21,7 @@ pub(crate) fn least_counts(alloc: Global, grammar: &Grammar) -> Result<Vec<u64>,
     lowered_counts(alloc, grammar, &groups)
 }
 
-// The same, by the productions that have each nonterminal on the right.
+// Like `least_counts`, by the productions that have each nonterminal on the right.
 fn lowered_counts(alloc: Global, grammar: &Grammar, uses: &[Group]) -> Result<Vec<u64>, AllocError>
     requires { AreUses grammar.now uses.now }
     ensures { IfOk result (λ counts. AreLeast grammar.now 100001 counts.items) }

@@ -1,4 +1,4 @@
-//! Which productions has each nonterminal on the left, and which have it on the right?
+//! Groups productions by the nonterminal on their left, and by those on their right.
 //!
 //! A group has the productions of one nonterminal in order, so that neither counts nor choices look at any others.
 

@@ -16,7 +16,7 @@ use wb_regex::Regex;
 /// The text that the number makes of at most so many leaves, or that each text has more.
 ///
 /// The expressions are those by which terminals are written: that of a marker has its prefix. The layout is the place of one more
-/// expression, whose least text stands between two leaves. Whether the text scans to the same leaves isn't promised.
+/// expression, whose least text comes between two leaves. Whether the text scans to the same leaves isn't promised.
 ///
 /// Least counts are found in about linear time. Then there is a step for each node of the text's tree, which goes over the productions of its
 /// nonterminal. Where many nonterminals derive only the empty text, in more than one way, there may be exponentially many such nodes.

@@ -1,4 +1,4 @@
-//! How many leaves come of a right side at the least? Sums stop at 100,001, since no text may have more leaves than 100,000.
+//! What is the least number of leaves of a right side? Sums stop at 100,001, since no text may have more leaves than 100,000.
 
 ghost use Rattle.std.specs.Prelude.{◌≡◌, ◌≤◌, ℕ, IfOk, min, slice_index};
 ghost use Rattle.wb_base.specs.declared.symbol.Symbol.{Symbol};

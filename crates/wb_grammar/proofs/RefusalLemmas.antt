@@ -1,4 +1,4 @@
--- A true refusal but for want of memory rules facts out.
+-- A true refusal other than out of memory rules facts out.
 use Rattle.wb_base.specs.Grammar.{GrammarView}
 use Rattle.wb_grammars.proofs.CycleLemmas.{unit_cycle_member, hidden_cycle_above, first_element}
 use Rattle.wb_grammar.specs.declared.refusal.Reason.TheVariants.{Unreachable, Unproductive}

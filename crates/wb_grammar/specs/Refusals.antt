@@ -15,14 +15,14 @@ IsTrueReason g (Unreachable a) = (a < g.nonterminals) × (¬ IsReachable g a)
 IsTrueReason g (Unproductive a) = (a < g.nonterminals) × (¬ IsProductive g a)
 
 -- the first of these that holds: the grammar isn't reduced, has a unit cycle, or has hidden left recursion; and what is shown is an
--- example, a cycle with each of its nonterminals once. Want of memory says nothing of the grammar
+-- example, a cycle with each of its nonterminals once. Out of memory says nothing of the grammar
 abbrev pub IsTrueRefusal : GrammarView → GrammarRefusal → Type 0
 IsTrueRefusal g (NotReduced reason) = IsTrueReason g reason
 IsTrueRefusal g (UnitCycle list) = IsReduced g × IsUnitCycle g list × Differ list
 IsTrueRefusal g (HiddenLeftRecursion list) = IsReduced g × HasNoUnitCycle g × IsHiddenCycle g list × Differ list
 IsTrueRefusal g (NoMemory _) = Unit {0}
 
--- the refusal is want of memory
+-- the refusal is that memory ran out
 abbrev pub IsNoMemory : GrammarRefusal → Type 0
 IsNoMemory (NotReduced _) = ⊥
 IsNoMemory (UnitCycle _) = ⊥

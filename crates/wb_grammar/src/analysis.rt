@@ -37,7 +37,7 @@ pub fn analyse(alloc: Global, grammar: &Grammar) -> Result<Facts, GrammarRefusal
     Ok(Facts { nullable, first })
 }
 
-/// A refusal but for want of memory and facts exclude each other: no grammar has both.
+/// A refusal other than out of memory and facts exclude each other: no grammar has both.
 pub fn refusals_law()
     ensures { (g : GrammarView) (refusal : Refusal) (facts : FactsView) → IsTrueRefusal g refusal → AreFacts g facts → IsNoMemory refusal }
 {}

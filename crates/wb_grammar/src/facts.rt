@@ -28,7 +28,7 @@ impl Model for Facts {
 }
 
 impl Facts {
-    /// Whether the nonterminal derives the empty text. Takes no memory.
+    /// Whether the nonterminal derives the empty text.
     pub fn nullable(&self, nonterminal: usize) -> bool
         requires { nonterminal < length self.now.nullable }
         ensures set { IsTrue result ↔ IsMember self.now.nullable nonterminal }
@@ -37,7 +37,7 @@ impl Facts {
         self.nullable.contains(nonterminal)
     }
 
-    /// The terminals that begin what the nonterminal derives. Takes no memory.
+    /// The terminals that begin what the nonterminal derives.
     ///
     /// The set is one of numbers below the number of terminals and one more, so that it can be joined with sets in which the end
     /// of a text may stand. It has no member but terminals.
@@ -51,7 +51,6 @@ impl Facts {
     }
 }
 
-// By hand, so that no crate above proves how the parts are dropped.
 impl Drop for Facts {
     fn drop(self) {
         let Facts { nullable, first } = self;

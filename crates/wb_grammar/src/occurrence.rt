@@ -53,7 +53,7 @@ fn left_corner<'a>(symbols: &'a [Symbol], empty: usize, nullable: &TermSet) -> &
     }
 }
 
-// The same without the first symbol of all.
+// Like `left_corner`, without the first symbol of all.
 fn hidden_left<'a>(symbols: &'a [Symbol], empty: usize, nullable: &TermSet) -> &'a [Symbol]
     requires within { empty ≤ length symbols.now }
     requires leading { IsLeading nullable.now symbols.now empty }

@@ -1,4 +1,4 @@
-//! In which order do productions mostly come after those of the nonterminals of their right sides? By a walk down from the start.
+//! Orders productions so that they mostly come after those of the nonterminals of their right sides. By a walk down from the start.
 //!
 //! Passes in this order need few rounds. No result depends on it, so no clause says more than that it lists productions.
 

@@ -22,7 +22,7 @@ pub enum GrammarRefusal {
     /// G3: nonterminals each the left side of a production with the next in it, and the last with the first, after symbols that
     /// derive the empty text; at one place these symbols are at least one. Each is there once.
     HiddenLeftRecursion(Sequence<usize>),
-    /// There was no memory to tell.
+    /// Out of memory.
     NoMemory(AllocError),
 }
 

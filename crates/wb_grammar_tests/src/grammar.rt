@@ -1,4 +1,4 @@
-//! Facts and refusals of small grammars.
+//! Which facts, or which refusal, does the analysis of a small grammar give?
 
 ghost use Rattle.std.specs.Prelude.{◌<◌};
 ghost use Rattle.wb_grammar.specs.Facts.{AreFacts};
@@ -13,7 +13,7 @@ const X: Symbol = T0;
 
 const Y: Symbol = T1;
 
-// What is expected: for each nonterminal whether it derives the empty text, and whether x and y begin what it derives; or what refusal.
+// The expected result: for each nonterminal, whether it derives the empty text and whether x and y begin what it derives; or a refusal.
 enum Expected {
     Facts(&'static [(bool, bool, bool)]),
     UnitCycle(usize),
@@ -22,7 +22,7 @@ enum Expected {
     Unproductive(usize),
 }
 
-// A grammar over x and y, and what is expected of it.
+// A grammar over x and y, and its expected result.
 struct Row {
     grammar: Small,
     expected: Expected,
@@ -131,7 +131,7 @@ fn is_fact(grammar: &Grammar, facts: &Facts, nonterminal: usize, row: (bool, boo
     ) == row
 }
 
-// Whether the answer is what is expected.
+// Whether the result is the expected one.
 fn is_expected(alloc: Global, grammar: &Grammar, expected: &Expected) -> bool {
     match analyse(alloc, grammar) {
         Ok(facts) => match expected {
@@ -142,7 +142,7 @@ fn is_expected(alloc: Global, grammar: &Grammar, expected: &Expected) -> bool {
     }
 }
 
-// Whether the refusal is what is expected.
+// Whether the refusal is the expected one.
 fn is_refused(refusal: &GrammarRefusal, expected: &Expected) -> bool {
     match refusal {
         GrammarRefusal::UnitCycle(list) => match expected {
@@ -165,7 +165,7 @@ fn is_refused(refusal: &GrammarRefusal, expected: &Expected) -> bool {
     }
 }
 
-// Whether the grammar of a row gives what is expected.
+// Whether the grammar of a row gives its expected result.
 fn is_row(alloc: Global, row: &Row) -> Result<bool, AllocError> {
     match grammar_of(alloc, &row.grammar)? {
         Some(grammar) => Ok(is_expected(alloc, &grammar, &row.expected)),

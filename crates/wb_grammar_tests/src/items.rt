@@ -1,4 +1,4 @@
-//! Kernels of small grammars, found by the prefixes that lead to them.
+//! Does each prefix of a small grammar lead to its kernel?
 
 ghost use Rattle.std.specs.Prelude.{◌<◌};
 ghost use Rattle.wb_items.specs.Kernels.{count_of};
@@ -23,7 +23,7 @@ fn are_items(items: &[Item], places: &[Place]) -> bool {
     true
 }
 
-// These items from the last to the first, and then the last once more.
+// These items in reverse order, and then the last one again.
 fn turned(alloc: Global, places: &[Place]) -> Result<Vec<Item>, AllocError> {
     let mut items = Vec::new(alloc);
     for (production, dot) in places {
@@ -94,7 +94,7 @@ fn has_items(kernels: &Kernels, state: usize, row: &Row) -> bool
     are_items(kernels.kernel(state), row.kernel) && are_items(kernels.closure(state), row.closure)
 }
 
-// Whether these items, turned, have this number.
+// Whether these items, in reverse order, have this number.
 fn is_found(
     alloc: Global,
     kernels: &Kernels,
@@ -129,7 +129,7 @@ fn agrees(alloc: Global, kernels: &Kernels, row: &Row, rows: &[Row]) -> Result<b
     )
 }
 
-// Whether all rows are so.
+// Whether all rows are as they say.
 fn are_rows(alloc: Global, kernels: &Kernels, rows: &[Row]) -> Result<bool, AllocError> {
     for row in rows {
         if !agrees(alloc, kernels, row, rows)? {

@@ -1,4 +1,4 @@
-//! Small grammars with the kernels of their prefixes, which another program found from the definition of valid items.
+//! Small grammars with the kernels of their prefixes. Another program found these from the definition of valid items.
 
 use crate::small::{A, B, C, Small, T0, T1, T2};
 use wb_base::Symbol;
@@ -6,7 +6,7 @@ use wb_base::Symbol;
 /// An item: its production, and how many symbols come before its dot.
 pub type Place = (usize, usize);
 
-/// What is expected of a kernel.
+/// A kernel as it is expected.
 pub struct Row {
     /// Symbols that lead to it from the kernel of the empty prefix.
     pub prefix: &'static [Symbol],

@@ -1,4 +1,4 @@
-//! A terminal in the set at one item.
+//! Is a terminal added to the set at one item, and to no other?
 
 ghost use Rattle.std.specs.Prelude.{◌≡◌, ◌<◌, All, Contains, length};
 ghost use Rattle.wb_items.specs.Lookaheads.{items_in, row_of};

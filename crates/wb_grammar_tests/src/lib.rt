@@ -1,8 +1,6 @@
-//! Tests of grammars by number: their analysis, their kernels, lookaheads and tables, each public call with ample memory, on values from
-//! outside.
+//! Tests of grammars: their analysis, kernels, lookaheads and tables. Each public call is tested with ample memory.
 //!
-//! Tests of the other libraries that know no format are in `wb_library_tests`, those of texts and of the program in `wb_tests`. No crate
-//! below these three has tests, since a crate with tests is proved twice.
+//! Tests are in crates of their own, since a crate with tests is proved twice. Nothing depends on this crate.
 #![tactic(auto)]
 
 #[cfg(test)]

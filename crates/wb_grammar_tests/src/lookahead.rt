@@ -1,4 +1,4 @@
-//! Lookaheads of small grammars. The expected sets are those of canonical item sets, found by another program and merged by kernel.
+//! Lookaheads of small grammars. Expected sets are those of canonical LR(1) item sets, found by another program and merged by kernel.
 
 ghost use Rattle.wb_items.specs.Lookaheads.{AreLookaheadsOf};
 
@@ -11,7 +11,7 @@ use wb_base::{Grammar, Symbol};
 use wb_items::{ItemLookahead, Kernels, Lookaheads};
 use wb_termset::TermSet;
 
-// The symbols that lead to a kernel, and a mask of the lookaheads for each item of its closure.
+// The symbols that lead to a kernel, and for each item of its closure a mask of its lookaheads.
 struct Expected {
     prefix: &'static [Symbol],
     masks: &'static [u64],
@@ -76,7 +76,7 @@ fn is_right(alloc: Global, case: &Case) -> Result<bool, AllocError> {
     }
 }
 
-// A grammar, and what is expected of its lookaheads.
+// A grammar and its expected lookaheads.
 struct Case {
     grammar: Small,
     rows: &'static [Expected],

@@ -1,4 +1,4 @@
-//! Lookaheads against the textbook's canonical LR(1) sets, which are found here plainly, over lists, and merged by kernel.
+//! Are lookaheads those of the canonical LR(1) sets, merged by kernel? The sets are found here as textbooks do, over lists.
 
 ghost use Rattle.wb_items.specs.Lookaheads.{AreLookaheadsOf};
 
@@ -8,7 +8,7 @@ use std::test::Fail;
 use wb_base::{Grammar, Symbol, push};
 use wb_items::{Item, Kernels, Lookaheads};
 
-// More than the sets, their items and the rounds of these grammars.
+// More than the sets, items and passes of these grammars.
 const LIMIT: usize = 1000;
 
 // A production, the number of symbols before its dot, and a lookahead.
@@ -83,7 +83,7 @@ static GRAMMARS: [Small; 5] = [
     },
 ];
 
-// Adds to the pairs of nonterminals and terminals what a production begins with; the end stands for nothing.
+// Adds to the pairs of nonterminals and terminals what a production begins with. The end stands for the empty text.
 fn add_first(
     grammar: &Grammar,
     production: usize,
@@ -171,7 +171,7 @@ fn begins(grammar: &Grammar, pairs: &[(usize, usize)], item: Item1, terminal: us
     false
 }
 
-// Adds the initial items that an item opens.
+// Adds the initial items of the nonterminal after an item's dot.
 fn open(
     grammar: &Grammar,
     pairs: &[(usize, usize)],
@@ -189,7 +189,7 @@ fn open(
     Ok(())
 }
 
-// Those of one production.
+// Adds the initial items of one production.
 fn open_production(
     grammar: &Grammar,
     pairs: &[(usize, usize)],
@@ -228,7 +228,7 @@ fn close(
     Ok(())
 }
 
-// What sets are made from.
+// The grammar and the pairs that sets are made from.
 #[derive(Clone, Copy)]
 struct Context<'a> {
     grammar: &'a Grammar,
@@ -261,7 +261,7 @@ fn is_among(sets: &[Set], items: &[Item1]) -> bool {
     false
 }
 
-// Adds a set, unless it is there.
+// Adds a set, unless it is there already.
 fn add_set(sets: &mut Vec<Set>, kernel: usize, items: Vec<Item1>) -> Result<(), AllocError> {
     if is_among(sets, &items) {
         return Ok(());
@@ -269,7 +269,7 @@ fn add_set(sets: &mut Vec<Set>, kernel: usize, items: Vec<Item1>) -> Result<(), 
     push(sets, Set { kernel, items })
 }
 
-// Adds the set after a symbol, unless it is empty or there.
+// Adds the set after a symbol, unless it is empty or there already.
 fn add_after(
     alloc: Global,
     context: &Context,
@@ -334,7 +334,7 @@ fn agrees(kernels: &Kernels, lookaheads: &Lookaheads, sets: &[Set], kernel: usiz
     true
 }
 
-// Whether all do.
+// Whether those of all kernels are.
 fn all_agree(kernels: &Kernels, lookaheads: &Lookaheads, sets: &[Set]) -> bool
     requires { AreLookaheadsOf kernels.now lookaheads.now }
 {

@@ -1,4 +1,4 @@
-//! Tables of small grammars. The expected actions are those of the textbook's item sets.
+//! Do the tables of small grammars have the actions of the textbook's item sets?
 
 ghost use Rattle.std.specs.Prelude.{◌≡◌, IfOk};
 
@@ -109,7 +109,7 @@ fn sums_without_precedence_have_a_conflict(rt: HostRuntime) -> Result<(), Fail> 
     Ok(())
 }
 
-// The symbols that lead to a kernel, a terminal or the end, and the action there. Where a shift leads is left open.
+// The symbols that lead to a kernel, a terminal or the end, and the action there. The target of a shift is left open.
 type Wanted = (&'static [Symbol], usize, Action);
 
 // A grammar, a mask of the terminals that are valid at first, and some actions.
@@ -169,7 +169,7 @@ fn has_action(grammar: &Grammar, made: &Tables, wanted: &Wanted) -> bool
     found == wanted.2 || (is_shift(found) && is_shift(wanted.2))
 }
 
-// Whether the tables are as they are wanted.
+// Whether the tables are the expected ones.
 fn are_right(grammar: &Grammar, made: &Tables, case: &Case) -> bool
     requires terminals { made.now.terminals ≡ grammar.now.terminals }
     requires nonterminals { made.now.nonterminals ≡ grammar.now.nonterminals }

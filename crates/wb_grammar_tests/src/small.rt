@@ -1,4 +1,4 @@
-//! Small grammars, made of tables of their productions, and what is found of them on the way to what is tested.
+//! Makes small grammars from tables of their productions, with their facts, kernels and lookaheads.
 
 ghost use Rattle.std.specs.Prelude.{◌≡◌, ◌<◌, All, IfOk, IfSome, IsTrue};
 ghost use Rattle.wb_base.specs.Grammar.{IsSymbolBelow};
@@ -45,7 +45,7 @@ fn are_below(symbols: &[Symbol], terminals: usize, nonterminals: usize) -> bool
     })
 }
 
-// Adds a production whose numbers are in range, and answers whether they are.
+// Adds a production if its numbers are in range, and returns whether they are.
 fn add_checked(grammar: &mut Grammar, left: usize, right: &[Symbol]) -> Result<bool, AllocError> {
     if left >= grammar.nonterminals() {
         return Ok(false);
@@ -57,7 +57,7 @@ fn add_checked(grammar: &mut Grammar, left: usize, right: &[Symbol]) -> Result<b
     Ok(true)
 }
 
-// Adds productions, and answers whether the numbers of all are in range.
+// Adds productions, and returns whether the numbers of all are in range.
 fn add_all(grammar: &mut Grammar, productions: &[(usize, &[Symbol])]) -> Result<bool, AllocError> {
     for (left, right) in productions {
         if !add_checked(grammar, *left, *right)? {
@@ -80,7 +80,7 @@ pub(crate) fn grammar_of(alloc: Global, small: &Small) -> Result<Option<Grammar>
     }
 }
 
-// The facts of a grammar that passes its analysis. Of another there are none, as if memory were short, so that its test fails.
+// The facts of a grammar that passes its analysis. For another one the answer is out of memory, so that its test fails.
 fn facts_of(alloc: Global, grammar: &Grammar) -> Result<Facts, AllocError>
     ensures { IfOk result (λ facts. AreFacts grammar.now facts) }
 {

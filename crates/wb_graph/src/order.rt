@@ -20,7 +20,7 @@ pub enum Order {
 
 /// A topological order of the vertices from 0 to below the count, or a cycle where there is one.
 ///
-/// An edge `(u, v)` leads from u to v, so v comes before u. Which of several orders or cycles is answered is left open. The only error is want of memory.
+/// An edge `(u, v)` leads from u to v, so v comes before u. Which of several orders or cycles is answered is left open.
 pub fn order_of(alloc: Global, count: usize, edges: &[(usize, usize)]) -> Result<Order, AllocError>
     requires { All (IsEdgeBelow count) edges.now }
     ensures ok { IfOk result (IsAnswer count edges.now) }
@@ -30,7 +30,7 @@ pub fn order_of(alloc: Global, count: usize, edges: &[(usize, usize)]) -> Result
     order_by(alloc, count, edges, &mut search)
 }
 
-// The same by a search that has met no vertex.
+// Like `order_of`, by a search that has met no vertex.
 fn order_by(
     alloc: Global,
     count: usize,

@@ -61,7 +61,6 @@ impl Components {
     }
 }
 
-// By hand, so that no crate above proves how the parts are dropped.
 impl Drop for Components {
     fn drop(self) {
         let Components { numbers, roots } = self;
@@ -72,7 +71,7 @@ impl Drop for Components {
 
 /// The strongly connected components of the vertices from 0 to below the count.
 ///
-/// An edge `(u, v)` leads from u to v. The time is linear in vertices and edges; no clause bounds it. The only error is want of memory.
+/// An edge `(u, v)` leads from u to v. The time is linear in vertices and edges; no clause bounds it.
 pub fn strong_components(
     alloc: Global,
     count: usize,
@@ -85,7 +84,7 @@ pub fn strong_components(
     components_by(alloc, count, edges, &mut groups)
 }
 
-// The same by a search that has met no vertex.
+// Like `strong_components`, by a search that has met no vertex.
 fn components_by(
     alloc: Global,
     count: usize,

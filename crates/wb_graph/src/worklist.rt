@@ -9,7 +9,7 @@ use std::alloc::{AllocError, Global};
 
 /// For each vertex from 0 to below the count, whether a walk of zero or more edges leads to it from a vertex of `from`.
 ///
-/// A vertex may be in `from` several times. The only error is want of memory.
+/// A vertex may be in `from` several times.
 pub fn reachable_from(
     alloc: Global,
     count: usize,

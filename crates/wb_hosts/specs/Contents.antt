@@ -59,7 +59,7 @@ pub record IsRefusedValue (operations : List OperationSignature) (contents : Lis
   pub shows : refusal_shown value refusal ≡ Some shown
 
 -- what the report shows of contents that aren't a certified host: a rule of what is written, of names or of kinds fails, or else a rule of
--- certification; and want of memory says nothing
+-- certification; and out of memory says nothing
 abbrev pub IsHostRefusal : List OperationSignature → List ℕ → HostRefusal → Type 0
 IsHostRefusal operations contents (h.Specification shown) =
     IsBadText contents shown ⊎ HasBadNames contents shown ⊎ IsRefusedValue operations contents IsOfKinds shown

@@ -26,7 +26,7 @@ pub record IsIllDefined (operations : List OperationSignature) (contents : List 
   pub shows : refusal_shown value refusal ≡ Some shown
 
 -- what the report shows of contents that aren't such a host: a rule of what is written, of names or of kinds fails, or else a rule of
--- attributes; and want of memory says nothing
+-- attributes; and out of memory says nothing
 abbrev pub IsWellDefinedTextRefusal : List OperationSignature → List ℕ → HostRefusal → Type 0
 IsWellDefinedTextRefusal operations contents (h.Specification shown) =
     IsBadText contents shown ⊎ HasBadNames contents shown ⊎ IsIllDefined operations contents IsOfKinds shown

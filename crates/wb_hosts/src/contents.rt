@@ -1,4 +1,4 @@
-//! Which certified host are the contents of a file?
+//! Reads the contents of a file as a certified host.
 //!
 //! They are read, names get their numbers, and the value that they stand for is certified; each refusal is handed on as a report shows it.
 
@@ -24,7 +24,7 @@ use wb_resolved::Resolved;
 use wb_shown::{name_rule, of_spec, shown_refusal, written_rule};
 use wb_syntax::Spec;
 
-/// The certified host that the contents of a file are, over a table of operations, or why they are none.
+/// The contents of a file as a certified host over a table of operations, or why they aren't one.
 ///
 /// Which of several examples of a refusal is shown is left open. No clause bounds the time.
 pub fn host_of<M: Meaning>(
@@ -99,7 +99,7 @@ fn spec_of(alloc: Global, contents: &[u8]) -> Result<Spec, HostRefusal>
     }
 }
 
-// What is shown of contents that are no specification.
+// What is shown of contents that aren't a specification.
 fn bad_text(refusal: SpecRefusal) -> HostRefusal
     requires { ¬ IsNoMemory refusal }
     ensures { (contents : List ℕ) → HasCause contents refusal → IsUnresolved contents result }

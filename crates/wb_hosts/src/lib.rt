@@ -1,7 +1,7 @@
-//! Which certified host are the contents of a file, or which host whose attributes are well defined?
+//! Reads the contents of a file as a certified host, or as a host whose attributes are well defined.
 //!
-//! Here reading, names and certification meet, and refusals get the names that reports show. What a certified host is stands in
-//! `wb_certify`, the lines in `wb_report`.
+//! Here reading, names and certification meet, and refusals get the names that reports show. Certified hosts are defined in `wb_certify`,
+//! the lines in `wb_report`.
 #![tactic(auto)]
 
 mod contents;

@@ -1,4 +1,4 @@
-//! Why are the contents of a file no certified host?
+//! Why aren't the contents of a file a certified host?
 
 use std::alloc::AllocError;
 use wb_report::Refusal;
@@ -10,7 +10,7 @@ pub enum HostRefusal {
     Specification(Refusal),
     /// A rule of grammars, scanners or attributes fails.
     Certification(Refusal),
-    /// There was no memory to tell, or a number is too large for a table.
+    /// Out of memory, or a number is too large for a table.
     NoMemory(AllocError),
 }
 

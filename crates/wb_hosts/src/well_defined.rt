@@ -1,4 +1,4 @@
-//! Which host with well-defined attributes are the contents of a file? Nothing is asked of its grammar.
+//! Reads the contents of a file as a host whose attributes are well defined. Nothing is asked of its grammar.
 
 ghost use Rattle.std.specs.Prelude.{◌≡◌, [], IfErr, IfOk, List, ℕ};
 ghost use Rattle.wb_certify.specs.WellDefined.{HasWellDefinedAttributes};
@@ -12,7 +12,7 @@ use wb_certify::{CertifyRefusal, check_well_defined};
 use wb_operations::{Meaning, OperationTable};
 use wb_resolved::Resolved;
 
-/// The host with well-defined attributes over a table of operations that the contents of a file are, or why they are none.
+/// The contents of a file as a host with well-defined attributes over a table of operations, or why they aren't one.
 ///
 /// It may have no start, and nothing is asked of its grammar. Which of several examples of a refusal is shown is left open. No clause
 /// bounds the time.

@@ -28,7 +28,7 @@ pub record AreTooMany (extensions : List (List ℕ)) (bytes : List ℕ) : Type 0
   pub many : 64 < length extensions
   pub line : bytes ≡ report_of o.TooManyExtensions
 
--- a refused extension: the status of its sort, and the line that says why; want of memory has no line
+-- a refused extension: the status of its sort, and the line that says why; out of memory has no line
 abbrev pub RefusedExtension : List ℕ → FileRefusal → Report
 RefusedExtension file (f.Specification shown) = Ends SpecRefused (λ bytes. bytes ≡ report_of (o.Refused file shown))
 RefusedExtension file (f.WrongHost name) = Ends WrongHost (λ bytes. bytes ≡ report_of (o.WrongHost file name))

@@ -12,6 +12,6 @@ pub record Makes {X : Type 0} (before now : Outside) (result : Result X ReadFail
   pub stopped : IfErr result (Stopped before now Comes)
   pub goes_on : GoesOn before now
 
--- the same of an answer, by its status and its report
+-- an answer is made so, by its status and its report
 abbrev pub Answers : Outside → Outside → Result Answer ReadFailure → Report → ((List ℕ → Type 0) → Type 0) → Type 0
 Answers before now result IsSo Comes = Makes before now result (λ answer. IsSo answer.status answer.report.items) Comes

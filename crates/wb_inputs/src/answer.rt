@@ -15,7 +15,6 @@ pub struct Answer {
     pub report: Vec<u8>,
 }
 
-// By hand, so that no crate above proves how the parts are dropped.
 impl Drop for Answer {
     fn drop(self) {
         let Answer { status: _, report } = self;

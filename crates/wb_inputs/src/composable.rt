@@ -1,4 +1,4 @@
-//! Which host and which extensions do the words of a command name that composes them?
+//! Reads the host and the extensions that the words of a composing command name.
 //!
 //! How many extensions there are is tested first. Then the host is read, in `hosts`, and then each extension, in `several`.
 
@@ -38,7 +38,6 @@ impl Composable {
     }
 }
 
-// By hand, so that no crate above proves how the parts are dropped.
 impl Drop for Composable {
     fn drop(self) {
         let Composable { host, extensions } = self;

@@ -1,6 +1,6 @@
 //! Which host is in a file: one that is certified, or one whose attributes are well defined?
 //!
-//! What such hosts are, and why contents are none, is found by `wb_hosts`.
+//! What such hosts are, and why contents aren't one, is found by `wb_hosts`.
 
 ghost use Rattle.std.specs.Prelude.{◌≡◌, IfOk, IfErr, Ok};
 ghost use Rattle.std.specs.Result.{IsErrAnd};
@@ -25,7 +25,7 @@ use wb_report::{Outcome, Refusal, SpecReason};
 use wb_resolved::Resolved;
 use wb_world::Shelf;
 
-/// The certified host of a file, or the answer where the file is none.
+/// The certified host of a file, or the answer where the file isn't one.
 pub fn read_host<S: Shelf, M: Meaning>(
     alloc: Global,
     shelf: &mut S,
@@ -45,7 +45,7 @@ pub fn read_host<S: Shelf, M: Meaning>(
     Ok(answered(alloc, word, host)?)
 }
 
-/// The host of a file, whose attributes are well defined, or the answer where the file is none.
+/// The host of a file, whose attributes are well defined, or the answer where the file isn't one.
 pub fn read_well_defined<S: Shelf, M: Meaning>(
     alloc: Global,
     shelf: &mut S,

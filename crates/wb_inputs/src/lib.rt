@@ -1,6 +1,6 @@
-//! How does a run begin: which host, which extensions and which texts do the files hold that its words name?
+//! How does a run begin: which host, extensions and texts are in the files that its words name?
 //!
-//! Statuses and answers stand here too, since a file may end the run. What the commands make of them is in `wb_runs` and `wb_program`.
+//! Statuses and answers are here too, since a file may end the run. What the commands make of them is in `wb_runs` and `wb_program`.
 #![tactic(auto)]
 
 mod answer;

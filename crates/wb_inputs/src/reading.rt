@@ -19,7 +19,7 @@ pub enum ReadFailure {
     Absent,
     /// The file couldn't be read.
     ReadFault,
-    /// Memory was wanting.
+    /// Memory ran out.
     NoMemory,
 }
 

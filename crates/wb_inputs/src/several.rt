@@ -1,4 +1,4 @@
-//! Which certified extensions of a host are in files, no two of one name?
+//! Reads certified extensions of a host from files, no two of one name.
 //!
 //! A file is read by what is written and by its first line, then its name is compared with those before it, and then it is certified.
 
@@ -75,7 +75,7 @@ pub(crate) fn read_into<S: Shelf, M: Meaning>(
     Ok(Ok(()))
 }
 
-// Adds an extension after the others. The only error is want of memory.
+// Adds an extension after the others.
 fn add(
     extensions: &mut Vec<CertifiedExtension>,
     extension: CertifiedExtension,

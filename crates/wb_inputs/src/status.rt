@@ -28,7 +28,7 @@ pub enum Status {
     ReadFault = 9,
     /// The report couldn't be written whole.
     WriteFault = 10,
-    /// Memory was wanting.
+    /// Memory ran out.
     NoMemory = 11,
     /// The text or term has more bytes than one may have.
     TextTooLong = 12,

@@ -16,7 +16,7 @@ use wb_base::{Grammar, Sequence, push};
 use wb_grammars::Item;
 use wb_termset::TermSet;
 
-/// The items of the closure of a kernel, with those of the kernel first. The only error is want of memory.
+/// The items of the closure of a kernel, with those of the kernel first.
 pub fn kernel_closure(
     alloc: Global,
     grammar: &Grammar,
@@ -36,7 +36,7 @@ pub fn kernel_closure(
     Ok(closure)
 }
 
-// The same in order, each once.
+// The items of the closure of a kernel in order, each once.
 pub(crate) fn close(
     alloc: Global,
     grammar: &Grammar,

@@ -23,7 +23,7 @@ pub(crate) fn compare(kernel: &[Item], items: &[Item], in_order: bool) -> Orderi
     }
 }
 
-// The same of a list in order: the first place where they differ decides.
+// Like `compare`, for a list in order: the first place where they differ decides.
 fn compare_in_order(kernel: &[Item], items: &[Item]) -> Ordering
     requires kernel { AreInOrder kernel.now }
     requires items { AreInOrder items.now }
@@ -46,7 +46,7 @@ fn compare_in_order(kernel: &[Item], items: &[Item]) -> Ordering
     }
 }
 
-// The same of any list, item by item of the kernel.
+// Like `compare`, for any list, item by item of the kernel.
 fn compare_any(kernel: &[Item], items: &[Item]) -> Ordering
     requires { AreInOrder kernel.now }
     ensures { MatchOrdering result (ComesFirst kernel.now items.now) (SameItems kernel.now items.now) (ComesFirst items.now kernel.now) }

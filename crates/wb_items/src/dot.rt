@@ -9,7 +9,7 @@ ghost use Rattle.wb_grammars.specs.Items.{after_dot};
 use wb_base::{Grammar, Symbol};
 use wb_grammars::Item;
 
-/// The symbol after the dot of an item, or none where the dot is at the right end or the grammar has no such item. Takes no memory.
+/// The symbol after the dot of an item, or none where the dot is at the right end or the grammar has no such item.
 pub fn symbol_after(grammar: &Grammar, item: Item) -> Option<Symbol>
     ensures symbol { MatchOption result (after_dot grammar.now item ≡ []) (λ x. (rest : List Symbol) × (after_dot grammar.now item ≡ x ∷ rest)) }
     ensures below { IfSome result (IsSymbolBelow grammar.now.terminals grammar.now.nonterminals) }

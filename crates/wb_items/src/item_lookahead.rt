@@ -1,4 +1,4 @@
-//! Which set of terminals has each item of one kernel?
+//! Keeps a set of terminals for each item of one kernel.
 
 ghost use Rattle.std.specs.Prelude.{◌≡◌, ◌<◌, ◌↔◌, List, Bool, IsTrue, true, false, IfOk, Some, length, All, Contains, slice_get, slice_set};
 ghost use Rattle.wb_termset.specs.Sets.{IsMember, IsEmpty, IsUnion, Grew};
@@ -21,7 +21,6 @@ pub struct ItemLookahead {
     pub set: TermSet,
 }
 
-// By hand, so that no crate above proves how the parts are dropped.
 impl Drop for ItemLookahead {
     fn drop(self) {
         let ItemLookahead { item: _, set } = self;
@@ -79,7 +78,7 @@ impl Row {
         position(&self.looks, item)
     }
 
-    // The same, where the item may be at this place.
+    // Like `place`, where the item may be at this place.
     pub(crate) fn place_near(&self, item: Item, near: usize) -> usize
         requires { Contains (items_in self.now) item }
         ensures { slice_get (items_in self.now) result ≡ Some item }

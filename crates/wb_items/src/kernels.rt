@@ -40,7 +40,7 @@ impl Model for Kernels {
 }
 
 impl Kernels {
-    /// The kernels of a grammar that passed its analysis. The only error is want of memory.
+    /// The kernels of a grammar that passed its analysis.
     ///
     /// No clause bounds the time or how many kernels there are.
     pub fn build(alloc: Global, grammar: &Grammar, facts: &Facts) -> Result<Kernels, AllocError>
@@ -65,7 +65,7 @@ impl Kernels {
         self.found.len()
     }
 
-    /// The items of a kernel, by production and then by dot. Takes no memory.
+    /// The items of a kernel, by production and then by dot.
     pub fn kernel(&self, state: usize) -> &[Item]
         requires { state < count_of self.now }
         ensures exact { ListsKernel self.now.grammar (prefix_of self.now state) result.now }
@@ -74,7 +74,7 @@ impl Kernels {
         self.found.kernel(state)
     }
 
-    /// The items of the prefixes that have a kernel, by production and then by dot. Takes no memory.
+    /// The items of the prefixes that have a kernel, by production and then by dot.
     pub fn closure(&self, state: usize) -> &[Item]
         requires { state < count_of self.now }
         ensures is { result.now ≡ closure_of self.now state }
@@ -85,7 +85,7 @@ impl Kernels {
     }
 
     /// The moves of a kernel: each symbol that some item has after its dot, with the kernel of the prefix with that symbol after it.
-    /// Terminals come first, then nonterminals, each by number. Takes no memory.
+    /// Terminals come first, then nonterminals, each by number.
     pub fn moves(&self, state: usize) -> &[Move]
         requires { state < count_of self.now }
         ensures exact { (symbol : Symbol) (next : ℕ) → Contains result.now (record { symbol = symbol; state = next }) ↔ LeadsTo self.now state symbol next }
@@ -94,7 +94,7 @@ impl Kernels {
         self.rows[state].as_slice()
     }
 
-    /// The kernel of the prefix with one more symbol, where some item has its dot before the symbol. Takes no memory.
+    /// The kernel of the prefix with one more symbol, where some item has its dot before the symbol.
     pub fn next(&self, state: usize, symbol: Symbol) -> Option<usize>
         requires { state < count_of self.now }
         ensures some { IfSome result (LeadsTo self.now state symbol) }
@@ -103,7 +103,7 @@ impl Kernels {
         find_move(self.rows[state].as_slice(), symbol)
     }
 
-    /// The number of the kernel with these items, in any order and also where an item repeats. Takes no memory.
+    /// The number of the kernel with these items, in any order and also where an item repeats.
     pub fn find(&self, items: &[Item]) -> Option<usize>
         ensures some { IfSome result (λ state. (state < count_of self.now) × ListsKernel self.now.grammar (prefix_of self.now state) items.now) }
         ensures none { IsNone result ↔ ((prefix : List Symbol) → IsViablePrefix self.now.grammar prefix → ¬ ListsKernel self.now.grammar prefix items.now) }
@@ -111,7 +111,7 @@ impl Kernels {
         self.found.find(items)
     }
 
-    /// The prefix that a number stands for. The only error is want of memory.
+    /// The prefix that a number stands for.
     pub fn prefix(&self, alloc: Global, state: usize) -> Result<Vec<Symbol>, AllocError>
         requires { state < count_of self.now }
         ensures { IfOk result (λ prefix. prefix.items ≡ prefix_of self.now state) }
@@ -120,7 +120,6 @@ impl Kernels {
     }
 }
 
-// By hand, so that no crate above proves how the parts are dropped.
 impl Drop for Kernels {
     fn drop(self) {
         let Kernels {

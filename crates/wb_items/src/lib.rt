@@ -1,4 +1,4 @@
-//! The kernels of a grammar's prefixes, with their items and moves, and sets of terminals for these items.
+//! The LR(0) kernels of a grammar's prefixes, with their items and moves, and sets of terminals for these items.
 //!
 //! A parser is at a kernel after each symbol. The kernels are numbered as they are found from that of the empty prefix, and each
 //! number stands for a prefix that has it. What the words mean is in `wb_grammars`. Which terminals are lookaheads is found in the

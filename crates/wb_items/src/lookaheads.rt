@@ -34,7 +34,7 @@ impl Model for Lookaheads {
 }
 
 impl Lookaheads {
-    /// Empty sets. The only error is want of memory.
+    /// Empty sets.
     pub fn new(
         alloc: Global,
         grammar: &Grammar,
@@ -54,7 +54,7 @@ impl Lookaheads {
         Ok(Lookaheads { rows })
     }
 
-    /// The items of a kernel's closure with their sets, in order. Takes no memory.
+    /// The items of a kernel's closure with their sets, in order.
     pub fn row(&self, state: usize) -> &[ItemLookahead]
         requires { state < length self.now }
         ensures { result.now ≡ row_of self.now state }
@@ -62,7 +62,7 @@ impl Lookaheads {
         self.rows[state].as_slice()
     }
 
-    /// The place of an item. Takes no memory.
+    /// The place of an item.
     pub fn place(&self, state: usize, item: Item) -> usize
         requires state { state < length self.now }
         requires item { Contains (items_in (row_of self.now state)) item }
@@ -71,7 +71,7 @@ impl Lookaheads {
         self.rows[state].place(item)
     }
 
-    /// The place of an item, found at once where it is the place `near`. Takes no memory.
+    /// The place of an item, found at once where it is the place `near`.
     pub fn place_near(&self, state: usize, item: Item, near: usize) -> usize
         requires state { state < length self.now }
         requires item { Contains (items_in (row_of self.now state)) item }
@@ -80,7 +80,7 @@ impl Lookaheads {
         self.rows[state].place_near(item, near)
     }
 
-    /// The set at an item. Takes no memory.
+    /// The set at an item.
     pub fn of(&self, state: usize, item: Item) -> &TermSet
         requires state { state < length self.now }
         requires item { Contains (items_in (row_of self.now state)) item }
@@ -90,7 +90,7 @@ impl Lookaheads {
         self.at(state, place)
     }
 
-    /// The set at the place of an item. Takes no memory.
+    /// The set at the place of an item.
     pub fn at(&self, state: usize, place: usize) -> &TermSet
         requires state { state < length self.now }
         requires place { place < length (row_of self.now state) }
@@ -99,7 +99,7 @@ impl Lookaheads {
         &self.row(state)[place].set
     }
 
-    /// Adds a terminal, or the end, to the set at an item, and answers whether it was new. Takes no memory.
+    /// Adds a terminal, or the end, to the set at an item, and answers whether it was new.
     pub fn insert(&mut self, state: usize, item: Item, terminal: usize) -> bool
         requires state { state < length self.old }
         requires item { Contains (items_in (row_of self.old state)) item }
@@ -110,7 +110,7 @@ impl Lookaheads {
         self.insert_at(state, place, terminal)
     }
 
-    /// The same by the item's place.
+    /// Like `insert`, by the item's place.
     pub fn insert_at(&mut self, state: usize, place: usize, terminal: usize) -> bool
         requires state { state < length self.old }
         requires place { place < length (row_of self.old state) }
@@ -121,7 +121,7 @@ impl Lookaheads {
         self.rows[state].insert(place, terminal)
     }
 
-    /// Adds each member of a set to the set at the place of an item, and answers whether one was new. Takes no memory.
+    /// Adds each member of a set to the set at the place of an item, and answers whether one was new.
     pub fn union_at(&mut self, state: usize, place: usize, set: &TermSet) -> bool
         requires state { state < length self.old }
         requires place { place < length (row_of self.old state) }
@@ -133,7 +133,6 @@ impl Lookaheads {
     }
 }
 
-// By hand, so that no crate above proves how the parts are dropped.
 impl Drop for Lookaheads {
     fn drop(self) {
         let Lookaheads { rows } = self;

@@ -1,4 +1,4 @@
-//! Which productions has each nonterminal?
+//! Lists the productions of each nonterminal.
 
 ghost use Rattle.std.specs.Prelude.{◌≡◌, ◌<◌, ◌+◌, ◌++◌, ◌∷◌, [], IfOk, OnOk, length, replicate};
 ghost use Rattle.wb_items.specs.Inner.Passes.{RowsUpTo};
@@ -39,7 +39,7 @@ impl Numbers {
         push(&mut self.numbers, number)
     }
 
-    /// The numbers. Takes no memory.
+    /// The numbers.
     pub fn as_slice(&self) -> &[usize]
         ensures { result.now ≡ self.now }
     {
@@ -47,7 +47,7 @@ impl Numbers {
     }
 }
 
-/// The numbers of the productions of each nonterminal, in order. The only error is want of memory.
+/// The numbers of the productions of each nonterminal, in order.
 pub fn production_numbers(alloc: Global, grammar: &Grammar) -> Result<Vec<Numbers>, AllocError>
     ensures { IfOk result (λ rows. AreProductions grammar.now rows.items) }
 {

@@ -1,4 +1,4 @@
-//! Which kernels has a grammar? The LR(0) kernels are found by following each symbol from each, until none is new.
+//! Finds the kernels of a grammar. The LR(0) kernels are found by following each symbol from each, until none is new.
 //!
 //! Those found are kept in `kernel_index.rt`; one closure is made in `closure.rt`, and what moves over a symbol found in `advance.rt`.
 
@@ -170,7 +170,7 @@ fn number_of(
     Ok(next)
 }
 
-// The same, where the symbol led to another kernel before.
+// Like `number_of`, where the symbol led to another kernel before.
 fn find_or_add(
     grammar: &Grammar,
     state: usize,

@@ -1,4 +1,4 @@
-//! To which kernel does a symbol lead from one? The row of its moves is in the order of symbols, and searched by binary search.
+//! To which kernel does a symbol lead from another? The row of its moves is in the order of symbols, and searched by binary search.
 
 ghost use Rattle.std.specs.Prelude.{◌≡◌, ◌<◌, ℕ, IfSome, IfNone, Contains, Some};
 ghost use Rattle.std.specs.Ordering.{MatchOrdering};

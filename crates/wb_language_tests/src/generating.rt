@@ -1,4 +1,4 @@
-//! Texts that numbers make.
+//! Which text of a language does a number make?
 
 ghost use Rattle.std.specs.Prelude.{◌<◌, ◌≤◌, IfSome, length};
 ghost use Rattle.wb_grammar.specs.Facts.{AreFacts};
@@ -12,7 +12,7 @@ use wb_generate::{Generated, generate};
 use wb_grammar::{Facts, analyse};
 use wb_regex::Regex;
 
-// What a number makes: this text of so many leaves, one of so many bytes and leaves, or none, where the least has so many leaves.
+// What a number makes: this text with its leaves, a text of this number of bytes and leaves, or none, with the least number of leaves.
 #[derive(Clone, Copy)]
 enum Wanted {
     Text(&'static str, u64),
@@ -20,7 +20,7 @@ enum Wanted {
     NoSentence(u64),
 }
 
-// A number, at most how many leaves its text may have, and what it makes.
+// A number, the greatest number of leaves of its text, and what it makes.
 type Draw = (u64, u64, Wanted);
 
 fn is_wanted(answer: &Generated, wanted: Wanted) -> bool {
@@ -41,14 +41,14 @@ fn is_text(text: &[u8], leaves: u64, wanted: Wanted) -> bool {
     }
 }
 
-// The place, where it is before the end.
+// The position, if it is before the end.
 fn place_before(place: usize, end: usize) -> Option<usize>
     ensures { IfSome result (λ p. p < end) }
 {
     if place < end { Some(place) } else { None }
 }
 
-// Whether the number makes this of the grammar, where the first expression behind those of the terminals is the layout.
+// Whether the number makes this of the grammar, where the first expression after those of the terminals is the layout.
 fn makes_by(alloc: Global, grammar: &Grammar, facts: &Facts, regexes: &[Regex], draw: Draw) -> bool
     requires { AreFacts grammar.now facts.now }
 {
@@ -111,8 +111,8 @@ fn numbers_make_their_one_text(rt: HostRuntime) {
     assert!(rt; make_all(rt.alloc(), &TEXTS));
 }
 
-// Adds nonterminals of which each but the last is the next one twice, so that the first has as many leaves as 2 to so many; and before them
-// one that is made of these.
+// Gives nonterminal 0 these symbols. Each later nonterminal is the next one twice, and the last is a terminal: so nonterminal 1 has 2 to
+// the power of `doublings` leaves.
 fn add_doublings(grammar: &mut Grammar, doublings: usize, first: &[Symbol]) -> bool
     requires { doublings ≤ 100 }
 {

@@ -1,4 +1,4 @@
-//! Tests of languages: scanning and parsing of small texts, and texts that numbers make. Expected values come from the rules, never from a run.
+//! Tests of languages: scanning and parsing small texts, and making texts from numbers. Expected values follow from the rules.
 #![tactic(auto)]
 
 mod generating;

@@ -1,4 +1,4 @@
-//! Trees and stops of small texts.
+//! Which tree does a small text have, or where does it stop?
 
 ghost use Rattle.std.specs.Prelude.{◌<◌, length};
 
@@ -11,7 +11,7 @@ use wb_scan::Language;
 use wb_terms::print_value;
 use wb_values::{Signatures, TreeId, TreeStore, Value};
 
-// What a text gives: a tree, as it prints, or a stop at a place, at which no token is next or this terminal; or why it has no language.
+// What a text gives: a tree, as it prints; a stop at a position with no token or this terminal next; or why there is no language.
 #[derive(Clone, Copy)]
 enum Wanted {
     Tree(&'static str),
@@ -22,7 +22,7 @@ enum Wanted {
     Clash,
 }
 
-// A sample, a text, and what it gives.
+// A sample, a text and what the text gives.
 type Row = (&'static Sample, &'static str, Wanted);
 
 // Whether the refusal is this.
@@ -45,7 +45,7 @@ fn is_stop(at: usize, kind: StopKind, wanted: Wanted) -> bool {
     }
 }
 
-// Whether the tree prints so.
+// Whether the tree prints as this text.
 fn is_printed(
     alloc: Global,
     signatures: &Signatures,
@@ -115,7 +115,7 @@ static TEXTS: [Row; 20] = [
     (&KEYWORDS, "iffy", Wanted::Tree("two(\"iffy\")")),
     (&KEYWORDS, "if", Wanted::Unexpected(2, 2)), // the end
     (&KEYWORDS, "", Wanted::Unexpected(0, 2)),
-    (&KEYWORDS, "  ", Wanted::Unexpected(2, 2)), // behind the layout
+    (&KEYWORDS, "  ", Wanted::Unexpected(2, 2)), // after the layout
     (&KEYWORDS, " if  x ", Wanted::Tree("one(\"if\", \"x\")")),
     (&KEYWORDS, "if if if", Wanted::NoToken(6)), // no terminal is valid there but the end
     (&KEYWORDS, "if 7", Wanted::NoToken(3)),
@@ -133,7 +133,7 @@ static TEXTS: [Row; 20] = [
         Wanted::Tree("assign(star(\"*\", ofl(id(\"a\"))), \"=\", ofl(id(\"b\")))"),
     ),
     (&POINTERS, "a=", Wanted::Unexpected(2, 3)),
-    (&POINTERS, "a=b=c", Wanted::Unexpected(3, 1)), // a name has one kernel before and behind the sign
+    (&POINTERS, "a=b=c", Wanted::Unexpected(3, 1)), // a name has one kernel before and after the sign
     (&POINTERS, "=a", Wanted::NoToken(0)),
     (&CONTEXTS, "aaa", Wanted::Tree("pair(\"a\", \"aa\")")), // "aa" isn't considered at the beginning
     (&CONTEXTS, "aa", Wanted::NoToken(1)),

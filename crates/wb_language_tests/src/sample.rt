@@ -1,6 +1,6 @@
-//! A small language by number, and what is made of it.
+//! Makes the language of a sample, which gives its symbols by number.
 //!
-//! A sample whose numbers are out of range is answered as one that finds no memory, so that its test fails.
+//! For a sample whose numbers are out of range the answer is out of memory, so that its test fails.
 
 ghost use Rattle.std.specs.Prelude.{◌≡◌, ◌<◌, ◌≤◌, ◌+◌, ℕ, All, IsTrue, IfOk, Some, length, slice_get};
 ghost use Rattle.wb_bare.specs.Bare.{AreWrittenFor};
@@ -23,7 +23,7 @@ pub(crate) struct Rule {
     pub(crate) right: &'static [Symbol],
 }
 
-// A language: so many nonterminals, of which 0 is the start; its productions; and the expressions of its terminals and then of layout.
+// A language: the number of nonterminals, of which 0 is the start; its productions; and the expressions of its terminals, then of layout.
 pub(crate) struct Sample {
     pub(crate) terminals: usize,
     pub(crate) nonterminals: usize,
@@ -70,7 +70,7 @@ fn with_facts(
     language_of(alloc, grammar, facts, regexes, layout, preferences)
 }
 
-// What a language has beside its grammar and its expressions: the numbers of layout, and preferences.
+// What a language has besides its grammar and its expressions: the numbers of layout, and preferences.
 struct Beside {
     layout: Vec<usize>,
     preferences: Vec<(usize, usize)>,
@@ -128,7 +128,7 @@ fn are_pairs_below(pairs: &[(usize, usize)], count: usize) -> bool
     pairs.iter().all(|pair| pair.0 < count && pair.1 < count)
 }
 
-// Adds the expressions, and answers whether all are read.
+// Adds the expressions, and returns whether all are read.
 pub(crate) fn add_regexes(alloc: Global, texts: &[&str], regexes: &mut Vec<Regex>) -> bool {
     for text in texts {
         if !add_regex(alloc, *text, regexes) {
@@ -157,7 +157,7 @@ fn grammar_of(alloc: Global, sample: &Sample) -> Result<Grammar, AllocError> {
     }
 }
 
-// Adds the productions, and answers whether all are in range.
+// Adds the productions, and returns whether all are in range.
 pub(crate) fn add_rules(grammar: &mut Grammar, rules: &[Rule]) -> bool {
     for rule in rules {
         if !add(grammar, rule.left, rule.right) {
@@ -167,7 +167,7 @@ pub(crate) fn add_rules(grammar: &mut Grammar, rules: &[Rule]) -> bool {
     true
 }
 
-// Adds a production, and answers whether its numbers are in range.
+// Adds a production, and returns whether its numbers are in range.
 pub(crate) fn add(grammar: &mut Grammar, left: usize, right: &[Symbol]) -> bool {
     left < grammar.nonterminals()
         && are_below(right, grammar.terminals(), grammar.nonterminals())
@@ -183,7 +183,7 @@ fn are_below(symbols: &[Symbol], terminals: usize, nonterminals: usize) -> bool
     })
 }
 
-// Adds the signatures of productions, and answers whether there was memory.
+// Adds the signatures of productions, and returns whether memory sufficed.
 pub(crate) fn add_signatures(alloc: Global, rules: &[Rule], signatures: &mut Signatures) -> bool {
     for rule in rules {
         if !add_signature(alloc, rule, signatures) {

@@ -1,4 +1,4 @@
-//! Small languages.
+//! Small languages that the tests share.
 
 use crate::sample::{Rule, Sample};
 use wb_base::Symbol::{Nonterminal as N, Terminal as T};
@@ -156,7 +156,7 @@ pub(crate) const LAYOUTS: Sample = Sample {
     preferences: &[(2, 0)],
 };
 
-// Preferences in a ring.
+// Preferences in a cycle.
 pub(crate) const RING: Sample = Sample {
     terminals: 2,
     nonterminals: 1,

@@ -1,11 +1,11 @@
-//! Next tokens of small texts, at the beginning.
+//! Which token is next in a small text, at the beginning of a sentence?
 
 use crate::sample::{Sample, language};
 use crate::samples::{CONTEXTS, KEYWORDS, LAYOUTS};
 use std::alloc::Global;
 use wb_scan::{Language, Scanned, scan};
 
-// What is next: a token of a terminal from a place to another, the end, or nothing.
+// What is next: a token of a terminal from one position to another, the end, or nothing.
 #[derive(Clone, Copy)]
 enum Wanted {
     Token(usize, usize, usize),
@@ -16,7 +16,7 @@ enum Wanted {
 // A sample, a text, where the scan begins in it, and what is next there at the beginning of a sentence.
 type Row = (&'static Sample, &'static str, usize, Wanted);
 
-// The answer to a scan; a token's form has no prefix.
+// The answer to a scan. The form of a token has no prefix.
 fn scanned(wanted: Wanted) -> Scanned {
     match wanted {
         Wanted::Token(terminal, at, end) => Scanned::Token {

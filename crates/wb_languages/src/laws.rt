@@ -40,7 +40,7 @@ pub fn next_law()
     ensures some { (l : LanguageView) (tables : TablesView) → IsLanguage l → AreTablesOf l.grammar tables → (text : List ℕ) (prefix : List Symbol) → IsViablePrefix l.grammar prefix → (at : ℕ) → at ≤ length text → (next : Next) × NextToken l text prefix at next }
 {}
 
-/// One form wins where of any two that match one piece one beats the other, and neither two nor three do so in a ring.
+/// One form wins where of any two that match one piece one beats the other, and neither two nor three do so in a cycle.
 pub fn winner_law()
     ensures { (l : LanguageView) (tables : TablesView) → IsWritten l → AreTablesOf l.grammar tables → AreDecided l → HasOneWinner l }
 {}

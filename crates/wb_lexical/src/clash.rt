@@ -27,10 +27,10 @@ pub struct Clash {
 
 /// Looks for two terminals of one set that match a common text, with no preference between them.
 ///
-/// A terminal is a place in `terminals`, and `Clash::set` a place in `sets`. The pair `(t, u)` prefers t to u, and pairs
-/// don't chain: `(t, u)` and `(u, v)` leave t and v unordered. Members without a terminal count for nothing. The text is
-/// the least that the two share, shorter ones first and then by bytes. Which of several clashes is shown is left open. The
-/// only error is want of memory: one automaton is built, with a start for each set, and no clause bounds its size.
+/// A terminal is a place in `terminals`, and `Clash::set` a place in `sets`. The pair `(t, u)` prefers t to u, and pairs don't chain: `(t,
+/// u)` and `(u, v)` leave t and v unordered. Members without a terminal count for nothing. The text is the least that the two share,
+/// shorter ones first and then by bytes. Which of several clashes is shown is left open. The only error is out of memory: one automaton is
+/// built, with a start for each set, and no clause bounds its size.
 pub fn find_clash(
     alloc: Global,
     terminals: &[Regex],
@@ -46,7 +46,7 @@ pub fn find_clash(
     find_clash_in(alloc, &automaton, preferences)
 }
 
-/// The same where the automaton of the terminals and sets is there already.
+/// Like `find_clash`, where the automaton of the terminals and sets is there already.
 pub fn find_clash_in(
     alloc: Global,
     automaton: &Automaton,

@@ -9,8 +9,7 @@ use wb_graph::{Order, order_of};
 
 /// A cycle of preferences, each terminal preferred to the next and the last to the first, or None where there is none.
 ///
-/// Terminals are numbers below the count, and the pair `(t, u)` prefers t to u. Which of several cycles is shown is left
-/// open. The only error is want of memory.
+/// Terminals are numbers below the count, and the pair `(t, u)` prefers t to u. Which of several cycles is shown is left open.
 pub fn preference_cycle(
     alloc: Global,
     count: usize,

@@ -1,4 +1,4 @@
-//! Which two of the terminals that match a text does no preference order?
+//! Finds two terminals that match a text and that no preference orders.
 
 ghost use Rattle.std.specs.Prelude.{◌≡◌, ◌<◌, ◌↔◌, ℕ, Contains, IfSome, IsNone, IsTrue};
 ghost use Rattle.wb_lexical.specs.Clash.{AreOrdered};
@@ -31,7 +31,7 @@ pub(crate) fn undecided_pair(accepted: &[usize], preferences: &[(usize, usize)])
     None
 }
 
-// The same with this terminal as the first.
+// Like `undecided_pair`, with this terminal as the first.
 fn undecided_with(accepted: &[usize], preferences: &[(usize, usize)], left: usize) -> Option<Pair>
     requires { Contains accepted.now left }
     ensures some { IfSome result (λ pair. IsUndecided accepted.now preferences.now pair.left pair.right) }

@@ -1,4 +1,4 @@
-//! Does the automaton agree with a plain matcher, and are texts those that were worked out by hand?
+//! Does the automaton agree with a plain matcher, and are the texts that it finds those worked out by hand?
 
 use crate::holds;
 use std::alloc::{AllocError, Global};
@@ -7,18 +7,18 @@ use wb_base::push;
 use wb_regex::{Regex, RegexNode, RegexRefusal, read_regex};
 use wb_termset::TermSet;
 
-// The longest text, and how many places there are in it, its end among them.
+// The length of the longest text, and the number of positions in it, with its end.
 const LONGEST: usize = 4;
 
 const PLACES: usize = 5;
 
-// An entry of a table, and nothing outside it.
+// An entry of a table, or nothing outside it.
 fn entry(table: &[u8], node: usize, place: usize) -> u8 {
     let index = node.wrapping_mul(PLACES).wrapping_add(place);
     if index < table.len() { table[index] } else { 0 }
 }
 
-// Where the node ends from each of these places, as bits.
+// Where the node ends from each of these positions, as bits.
 fn ends_from(table: &[u8], node: usize, places: u8) -> u8 {
     let mut ends = 0;
     for place in 0..PLACES {
@@ -29,7 +29,7 @@ fn ends_from(table: &[u8], node: usize, places: u8) -> u8 {
     ends
 }
 
-// The same any number of times.
+// The same for any number of repetitions.
 fn repeated(table: &[u8], node: usize, places: u8) -> u8 {
     let mut ends = places;
     for _ in 0..PLACES {
@@ -63,7 +63,7 @@ fn node_ends(table: &[u8], node: RegexNode, text: &[u8], place: usize) -> u8 {
     }
 }
 
-// Whether the whole text matches, node by node and place by place.
+// Whether the whole text matches, node by node and position by position.
 fn matches_plainly(alloc: Global, regex: &Regex, text: &[u8]) -> Result<bool, AllocError> {
     let mut table: Vec<u8> = Vec::new(alloc);
     let mut last = 0;
@@ -137,14 +137,14 @@ fn build(alloc: Global, terminals: &[Regex], lists: &[&[usize]]) -> Result<Autom
     Automaton::build(alloc, terminals, &sets)
 }
 
-// What is asked of an automaton.
+// A question about an automaton.
 #[derive(Clone, Copy)]
 enum Question {
     // Whether it agrees with a plain matcher.
     Agrees,
     // Whether its states are in order.
     IsOrdered,
-    // Whether it matches those of the nested texts that it is to.
+    // Whether it matches the nested texts that it should, and no others.
     Matches,
 }
 
@@ -199,7 +199,7 @@ a(b|c)*a
 c(a|b)?c?
 (a|b|c)+abc|b";
 
-// One set has all twenty, and the other each second.
+// One set has all twenty, and the other has every second one.
 static ALL_AND_HALF: [&[usize]; 2] = [
     &[
         0, 1, 2, 3, 4, 5, 6, 7, 8, 9, 10, 11, 12, 13, 14, 15, 16, 17, 18, 19,
@@ -230,7 +230,7 @@ fn agree_on(alloc: Global, automaton: &Automaton, text: &[u8]) -> Result<bool, A
     Ok(true)
 }
 
-// Whether they agree on all texts of three letters that are no longer than the longest.
+// Whether they agree on all texts over three letters up to the greatest length.
 fn agree(alloc: Global, automaton: &Automaton) -> Result<bool, AllocError> {
     for number in 0..81usize {
         let text = [
@@ -253,7 +253,7 @@ fn the_automaton_agrees_with_a_plain_matcher(rt: HostRuntime) {
     assert!(rt; holds(answers(rt.alloc(), TWENTY, &ALL_AND_HALF, Question::Agrees)));
 }
 
-// Terminals that take any text but a blank and a letter, a different one each, after a name, a keyword and blanks.
+// A name, a keyword and blanks, then terminals of which each takes any text but a blank and a letter of its own.
 fn raw_terminals(alloc: Global) -> Result<Vec<Regex>, RegexRefusal> {
     let mut all = expressions(alloc, "[a-z]+\nif\n[ \\n]+")?;
     for letter in b'a'..b'y' {
@@ -272,7 +272,7 @@ fn sets_of_one(alloc: Global) -> Result<Vec<TermSet>, AllocError> {
     Ok(sets)
 }
 
-// Whether there are fewer states than a product of those terminals would have.
+// Whether there are fewer states than the product of those terminals would have.
 fn are_few_states(alloc: Global, terminals: &[Regex]) -> Result<bool, AllocError> {
     let sets = sets_of_one(alloc)?;
     let states = Automaton::build(alloc, terminals, &sets)?.states();
@@ -303,7 +303,7 @@ fn is_found_by(
     Ok(automaton.text(alloc, state)?.as_slice() == text)
 }
 
-// States of the automaton of `ab` and `c`, each in a set of its own, with their sets and texts.
+// States of the automaton of `ab` and `c`, each of which is in a set of its own, with their sets and texts.
 static FOUND: [(usize, usize, &str); 4] = [(0, 0, ""), (2, 0, "ab"), (3, 1, ""), (4, 1, "c")];
 
 static ONE_EACH: [&[usize]; 2] = [&[0], &[1]];
@@ -334,7 +334,7 @@ static NESTED: [(&str, bool); 8] = [
     ("aca", false),
 ];
 
-// Whether exactly those of the texts match that are said to.
+// Whether exactly the expected texts match.
 fn are_matched(automaton: &Automaton, rows: &[(&str, bool)]) -> bool {
     for (text, wanted) in rows {
         if matches_by_steps(automaton, 0, text.as_bytes(), 0) != *wanted {

@@ -1,6 +1,6 @@
 //! Do texts, names, grammars and sequences give back what was put into them?
 //!
-//! Lengths around 22 are those between a text in the value itself and one that is shared.
+//! A text of up to 22 bytes is in the value itself, and a longer one is shared. So lengths around 22 are tested.
 
 ghost use Rattle.std.specs.Prelude.{◌≡◌};
 
@@ -9,7 +9,7 @@ use std::alloc::{AllocError, Global};
 use wb_base::decimal::{digit_count, hex_value, magnitude, with_sign};
 use wb_base::{Added, Bytes, FILE_LIMIT, Grammar, Names, Sequence, Symbol, push};
 
-// Whether a text has these bytes, and its copy too.
+// Whether a text has these bytes, and so has its copy.
 fn has_bytes(made: &Bytes, text: &[u8]) -> Result<bool, AllocError> {
     Ok(made.as_slice() == text && made.copy()?.as_slice() == text)
 }
@@ -47,7 +47,7 @@ fn bytes_are_those_put_in(rt: HostRuntime) {
     assert!(rt; holds(are_kept(rt.alloc(), text, &LENGTHS)));
 }
 
-// Whether names are numbered in the order in which they came, each once.
+// Whether each name is numbered once, in order of first appearance.
 fn are_numbered(names: &mut Names) -> Result<bool, AllocError> {
     let first = names.add(b"E")? == Added::New(0) && names.add(b"T")? == Added::New(1);
     let again = names.add(b"E")? == Added::Present(0);
@@ -81,7 +81,7 @@ fn is_copy_recursive(grammar: &Grammar) -> Result<bool, AllocError> {
     is_recursive(&grammar.copy()?)
 }
 
-// Whether a grammar is that one after two productions are added, and so is its copy.
+// Whether a grammar is that one after two productions are added, and its copy is too.
 fn becomes_recursive(grammar: &mut Grammar) -> Result<bool, AllocError>
     requires terminals { grammar.old.terminals ≡ 1 }
     requires nonterminals { grammar.old.nonterminals ≡ 1 }
@@ -101,7 +101,7 @@ fn a_grammar_holds_its_productions(rt: HostRuntime) {
     assert!(rt; holds(is_made(rt.alloc())));
 }
 
-// Whether a sequence gives back its values, and its copy too.
+// Whether a sequence gives back its values, and so does its copy.
 fn is_given_back(alloc: Global) -> Result<bool, AllocError> {
     let mut values = vec![in alloc; 3u8, 1]?;
     push(&mut values, 2)?;
@@ -131,7 +131,7 @@ fn are_magnitudes() -> bool {
         && magnitude(b"18446744073709551616") == None
 }
 
-// Whether a number has its sign, where it is inside 64 bits then.
+// Whether a number has its sign, if it then fits in 64 bits.
 fn are_signed() -> bool {
     with_sign(true, 1 << 63) == Some(i64::MIN)
         && with_sign(false, 1 << 63) == None

@@ -1,4 +1,4 @@
-//! Topological orders, cycles, what is reached, and strongly connected components.
+//! Are topological orders, cycles, reachable vertices and strongly connected components right?
 ghost use Rattle.std.specs.Prelude.{All, length};
 ghost use Rattle.wb_graph.specs.Graphs.{IsEdgeBelow};
 
@@ -6,7 +6,7 @@ use crate::holds;
 use std::alloc::{AllocError, Global};
 use wb_graph::{Order, order_of, reachable_from, strong_components};
 
-// Whether the graph has a cycle of so many vertices, with 0 among them or not.
+// Whether the graph has a cycle of this number of vertices, with 0 among them or not.
 fn has_cycle(
     alloc: Global,
     count: usize,
@@ -22,7 +22,7 @@ fn has_cycle(
     }
 }
 
-// Whether the graph has no cycle, and its vertices this order.
+// Whether the graph has no cycle, and its vertices have this order.
 fn has_order(
     alloc: Global,
     count: usize,
@@ -54,7 +54,7 @@ fn has_numbers(
     Ok(true)
 }
 
-// Whether there are so many components, each with a vertex that has its number.
+// Whether there is this number of components, each with a vertex that has its number.
 fn has_roots(
     alloc: Global,
     count: usize,
@@ -84,7 +84,7 @@ fn a_cycle_is_shown_without_what_leads_to_it(rt: HostRuntime) {
     assert!(rt; holds(has_cycle(rt.alloc(), 4, &[(0, 1), (1, 2), (2, 3), (3, 1)], 3, false)));
 }
 
-// Whether a walk from 0 over the edge to 1 reaches these, and not 2.
+// Whether these, and not 2, are reachable from 0 over the edge to 1.
 fn reaches_the_first_two(alloc: Global) -> Result<bool, AllocError> {
     let reached = reachable_from(alloc, 3, &[(0, 1)], &[0])?;
     Ok(reached.as_slice() == [true, true, false].as_slice())

@@ -9,14 +9,14 @@ use std::alloc::{AllocError, Global};
 use wb_lexical::{Clash, find_clash, preference_cycle, prefers};
 use wb_regex::{Regex, RegexRefusal};
 
-// The ways round three terminals.
+// The cycles through three terminals.
 static ROUNDS: [[usize; 3]; 3] = [[0, 1, 2], [1, 2, 0], [2, 0, 1]];
 
 fn is_round(cycle: &[usize]) -> bool {
     cycle == ROUNDS[0].as_slice() || cycle == ROUNDS[1].as_slice() || cycle == ROUNDS[2].as_slice()
 }
 
-// Whether a cycle of preferences among three terminals is shown or not, and goes round all of them where it is.
+// Whether a cycle of preferences among three terminals is shown or not. One that is shown goes through all three.
 fn is_cycle(alloc: Global, preferences: &[(usize, usize)], shown: bool) -> Result<bool, AllocError>
     requires { All (IsEdgeBelow 3) preferences.now }
 {
@@ -32,7 +32,7 @@ fn preferences_in_a_round_are_a_cycle(rt: HostRuntime) {
     assert!(rt; holds(is_cycle(rt.alloc(), &[(0, 1), (1, 2)], false)));
 }
 
-// Whether a clash is that of names and keywords, in the second set, by the least text that they share.
+// Whether a clash is that of names and keywords in the second set, with the least text that they share.
 fn is_of_keywords(clash: &Clash) -> bool {
     clash.set == 1
         && clash.left == 0
@@ -62,7 +62,7 @@ static PREFERENCES: [(&[(usize, usize)], bool); 3] = [
     (&[(2, 0)], false),
 ];
 
-// Whether it is shown just by the preferences that leave it.
+// Whether it is shown under exactly the preferences that leave it.
 fn are_found(alloc: Global, terminals: &[Regex]) -> Result<bool, AllocError> {
     for (preferences, shown) in &PREFERENCES {
         if !is_found(alloc, terminals, preferences, *shown)? {

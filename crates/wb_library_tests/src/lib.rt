@@ -1,8 +1,6 @@
-//! Tests of bytes, lists, graphs, sets of terminals, regular expressions and automata: each public call with ample memory, on values from
-//! outside.
+//! Tests of bytes, lists, graphs, sets of terminals, regular expressions and automata. Each public call is tested with ample memory.
 //!
-//! Tests of values and kinds are in `wb_value_tests`, of grammars by number in `wb_grammar_tests`, of texts and of the program in
-//! `wb_tests`. No crate below these four has tests, since a crate with tests is proved twice.
+//! Tests are in crates of their own, since a crate with tests is proved twice. Nothing depends on this crate.
 #![tactic(auto)]
 
 #[cfg(test)]
@@ -20,7 +18,7 @@ mod regex;
 #[cfg(test)]
 mod termset;
 
-// Whether a check was made, and holds.
+// Whether a check could be made, and holds.
 #[cfg(test)]
 fn holds<E: Drop>(answer: Result<bool, E>) -> bool {
     matches!(answer, Ok(true))

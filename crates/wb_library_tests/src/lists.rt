@@ -4,7 +4,7 @@ use crate::holds;
 use std::alloc::{AllocError, Global};
 use wb_lists::{List, Stack};
 
-// Whether a list has the values that were pushed, in their order.
+// Whether a list has the values that were pushed, in order.
 fn is_list_of(alloc: Global, values: &[usize]) -> Result<bool, AllocError> {
     let mut list = List::new(alloc);
     for value in values {

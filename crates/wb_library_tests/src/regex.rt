@@ -1,7 +1,6 @@
-//! What are texts read as? The wanted answers were worked out from the grammar, by hand and by a reader of another make.
+//! Which expression is each text read as? Expected answers were worked out from the grammar, by hand and by an independent reader.
 //!
-//! An expression is shown by its nodes in order: a set by its ranges of bytes in hexadecimal, a sequence by `.`, and else by
-//! the byte that the grammar has for it.
+//! An expression is shown by its nodes in order: a set by its ranges in hexadecimal, a sequence by `.`, and others by their own sign.
 
 ghost use Rattle.std.specs.Prelude.{◌<◌};
 
@@ -59,19 +58,19 @@ fn show(nodes: &[RegexNode], shown: &mut Vec<u8>) -> Result<(), AllocError> {
     Ok(())
 }
 
-// Whether nodes are shown so.
+// Whether nodes are shown as this text.
 fn are_shown(alloc: Global, nodes: &[RegexNode], wanted: &[u8]) -> Result<bool, AllocError> {
     let mut shown = Vec::new(alloc);
     show(nodes, &mut shown)?;
     Ok(shown.as_slice() == wanted)
 }
 
-// Whether a refusal at this offset is wanted.
+// Whether a refusal at this offset is expected.
 fn is_bad(alloc: Global, offset: usize, wanted: &[u8]) -> Result<bool, AllocError> {
     Ok(format!(in alloc; "bad {offset}")?.as_bytes() == wanted)
 }
 
-// Whether the answer to a text is the one that is wanted.
+// Whether the answer to a text is the expected one.
 fn is_answer(alloc: Global, text: &[u8], wanted: &[u8]) -> Result<bool, AllocError> {
     match read_regex(alloc, text) {
         Ok(regex) => are_shown(alloc, regex.nodes(), wanted),
@@ -81,7 +80,7 @@ fn is_answer(alloc: Global, text: &[u8], wanted: &[u8]) -> Result<bool, AllocErr
     }
 }
 
-// Whether each line's text has the answer that is wanted.
+// Whether the text of each line gets its expected answer.
 fn are_answers(alloc: Global, lines: &str) -> Result<bool, AllocError> {
     for line in lines.lines() {
         let Some((text, wanted)) = line.split_once(" => ") else {
@@ -94,7 +93,7 @@ fn are_answers(alloc: Global, lines: &str) -> Result<bool, AllocError> {
     Ok(true)
 }
 
-// Lines of a text, ` => ` and what it is read as.
+// Lines with a text, ` => ` and what the text is read as.
 static TABLES: [&str; 8] = [
     // A byte without a meaning is a literal.
     r#"a => <61>
@@ -147,7 +146,7 @@ a\N => bad 1
 [a-\x4 => bad 3
 a|\b => bad 2
 *\q => bad 0"#,
-    // Marks bind before sequences, and these before alternatives, from the left.
+    // Marks bind tighter than sequences, and these tighter than alternatives. Both associate to the left.
     r#"a|b => <61><62>|
 ab|cd => <61><62>.<63><64>.|
 a|b|c => <61><62>|<63>|
@@ -268,7 +267,7 @@ a?b?c? => empty
 (a?)(b*) => empty"#,
 ];
 
-// Whether the lines of each table have the answers that are wanted, and a line's end has.
+// Whether the lines of each table get their expected answers, and so does the end of a line.
 fn are_tables_right(alloc: Global, tables: &[&str]) -> Result<bool, AllocError> {
     for lines in tables {
         if !are_answers(alloc, lines)? {
@@ -296,7 +295,7 @@ fn push_deep(text: &mut Vec<u8>, first: u8, last: u8) -> Result<(), AllocError> 
     push_many(text, last)
 }
 
-// Whether many bytes, then another and then as many again have the answer that is wanted.
+// Whether many bytes, then another one, and then as many again get the expected answer.
 fn is_repeated(alloc: Global, first: u8, last: u8, wanted: &[u8]) -> Result<bool, AllocError> {
     let mut text = Vec::new(alloc);
     push_deep(&mut text, first, last)?;
@@ -325,7 +324,7 @@ fn an_equal_expression_is_copied(rt: HostRuntime) {
     assert!(rt; holds(are_five_copied(rt.alloc())));
 }
 
-// Whether an expression behind a prefix, which isn't empty, is shown so.
+// Whether an expression after a prefix, which isn't empty, is shown as this text.
 fn is_prefixed(
     alloc: Global,
     regex: &Regex,
@@ -335,7 +334,7 @@ fn is_prefixed(
     Ok(!prefix.is_empty() && are_shown(alloc, regex.prefixed(prefix)?.nodes(), wanted)?)
 }
 
-// Whether the expression of a text behind a prefix is shown so.
+// Whether the expression of a text after a prefix is shown as this text.
 fn is_behind(
     alloc: Global,
     prefix: &[u8],
@@ -352,7 +351,7 @@ static BEHIND: [(&[u8], &[u8], &[u8]); 3] = [
     (b"a", b"(b|c*)d?e", b"<61><62><63>*|<64>?.<65>.."),
 ];
 
-// Whether the second text of each row behind the first is shown so.
+// Whether the second text of each row after the first is shown as the third.
 fn are_behind(alloc: Global, rows: &[(&[u8], &[u8], &[u8])]) -> Result<bool, RegexRefusal> {
     for (prefix, text, wanted) in rows {
         if !is_behind(alloc, prefix, text, wanted)? {

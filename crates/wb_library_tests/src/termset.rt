@@ -1,4 +1,4 @@
-//! Sets of numbers: members across words, unions, subsets, and members in their order.
+//! Do sets of numbers keep their members across words, and are unions, subsets and the order of members right?
 use crate::holds;
 use std::alloc::{AllocError, Global};
 use wb_termset::TermSet;
@@ -25,7 +25,7 @@ fn is_joined(low: &mut TermSet, high: &TermSet) -> bool {
     apart && grew && stayed && low.intersects(high) && high.is_subset(low) && !low.equals(high)
 }
 
-// Whether the set's members are these, in their order.
+// Whether the members of the set are these, in order.
 fn has_members(set: &TermSet, members: &[usize]) -> bool {
     let mut from = 0;
     for &member in members {
@@ -38,19 +38,19 @@ fn has_members(set: &TermSet, members: &[usize]) -> bool {
     is_last && set.is_empty() == members.is_empty()
 }
 
-// Whether the set of these numbers has these members, in their order.
+// Whether the set of these numbers has these members, in order.
 fn is_set_of(alloc: Global, numbers: &[usize], members: &[usize]) -> Result<bool, AllocError> {
     let set = set_of(alloc, numbers)?;
     Ok(has_members(&set, members))
 }
 
-// Whether a copy of the set of these numbers has them, in their order.
+// Whether a copy of the set of these numbers has them, in order.
 fn is_copied(alloc: Global, numbers: &[usize]) -> Result<bool, AllocError> {
     let set = set_of(alloc, numbers)?.copy()?;
     Ok(has_members(&set, numbers))
 }
 
-// Whether 64 is new once, and 63 and 129 are members already.
+// Whether 64 is new only once, and 63 and 129 are members already.
 fn is_added(set: &mut TermSet) -> bool {
     if set.count() != 200 {
         return false;
@@ -75,7 +75,7 @@ fn members_come_in_increasing_order(rt: HostRuntime) {
     assert!(rt; holds(is_set_of(rt.alloc(), &[199, 5, 64, 63], &[5, 63, 64, 199])));
 }
 
-// Whether the sets of these two numbers are joined so.
+// Whether the union of the sets of these two numbers is right.
 fn are_joined(alloc: Global, one: usize, other: usize) -> Result<bool, AllocError> {
     let mut low = set_of(alloc, &[one])?;
     let high = set_of(alloc, &[other])?;

@@ -1,4 +1,4 @@
-//! With which lists and stacks does a builder keep what it has read?
+//! Lists and stacks in which a builder keeps what it has read.
 //!
 //! Contracts see them as their values and nothing else. Lists that don't grow are `wb_base::Sequence`.
 #![tactic(auto)]

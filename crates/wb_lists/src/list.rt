@@ -23,7 +23,7 @@ impl<T> Model for List<T> {
 }
 
 impl<T: Drop> List<T> {
-    /// No values. Takes no memory.
+    /// No values.
     pub fn new(alloc: Global) -> List<T>
         ensures { result ≡ [] }
     {
@@ -32,7 +32,7 @@ impl<T: Drop> List<T> {
         }
     }
 
-    /// One value more, which is last. The only error is want of memory, and then the values are as before.
+    /// One value more, which is last. If memory runs out, the values are as before.
     pub fn push(&mut self, value: T) -> Result<(), AllocError>
         ensures ok { OnOk result (self.new ≡ self.old ++ value ∷ []) }
         ensures err { OnErr result (self.new ≡ self.old) }
@@ -48,7 +48,7 @@ impl<T: Drop> List<T> {
         self.items.len()
     }
 
-    /// The values, which are no longer here. Takes no memory.
+    /// The values, which are no longer here.
     pub fn take(&mut self) -> Sequence<T>
         ensures all { result ≡ self.old }
         ensures none { self.new ≡ [] }
@@ -57,7 +57,7 @@ impl<T: Drop> List<T> {
         Sequence::from_vec(replace(&mut self.items, Vec::new(alloc)))
     }
 
-    /// The values. Takes no memory.
+    /// The values.
     pub fn into_sequence(self) -> Sequence<T>
         ensures { result ≡ self }
     {
@@ -66,7 +66,6 @@ impl<T: Drop> List<T> {
     }
 }
 
-// By hand, so that no crate above proves how the parts are dropped.
 impl<T: Drop> Drop for List<T> {
     fn drop(self) {
         let List { items } = self;

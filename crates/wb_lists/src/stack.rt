@@ -1,4 +1,4 @@
-//! How are values kept of which the last is taken first?
+//! Keeps values of which the last is taken first.
 //!
 //! Contracts see the stack from its top, as an action of a table speaks of it. Values that are taken all at once are in `list`.
 
@@ -21,7 +21,7 @@ impl<T> Model for Stack<T> {
 }
 
 impl<T: Drop> Stack<T> {
-    /// No values. Takes no memory.
+    /// No values.
     pub fn new(alloc: Global) -> Stack<T>
         ensures { result ≡ [] }
     {
@@ -30,7 +30,7 @@ impl<T: Drop> Stack<T> {
         }
     }
 
-    /// Puts a value on top. The only error is want of memory, and then the values are as before.
+    /// Puts a value on top. If memory runs out, the values are as before.
     pub fn push(&mut self, value: T) -> Result<(), AllocError>
         ensures ok { OnOk result (self.new ≡ value ∷ self.old) }
         ensures err { OnErr result (self.new ≡ self.old) }
@@ -39,7 +39,7 @@ impl<T: Drop> Stack<T> {
         Ok(())
     }
 
-    /// Takes the value on top, where there is one. Takes no memory.
+    /// Takes the value on top, where there is one.
     pub fn pop(&mut self) -> Option<T>
         ensures { MatchOption result
             ((self.old ≡ []) × (self.new ≡ []))
@@ -49,7 +49,6 @@ impl<T: Drop> Stack<T> {
     }
 }
 
-// By hand, so that no crate above proves how the parts are dropped.
 impl<T: Drop> Drop for Stack<T> {
     fn drop(self) {
         let Stack { items } = self;

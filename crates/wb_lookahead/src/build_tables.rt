@@ -1,4 +1,4 @@
-//! Which tables has a grammar? They are made one kernel after another, unless some kernel has a conflict.
+//! Builds the tables of a grammar. They are made one kernel after another, unless some kernel has a conflict.
 //!
 //! One kernel's row is made in `rows.rt`; how tables are asked is in `parser_tables.rt`.
 
@@ -28,9 +28,9 @@ struct Parts {
     valid: Vec<TermSet>,
 }
 
-/// The tables of a grammar, or a conflict. The only other error is want of memory.
+/// The tables of a grammar, or a conflict. The only other error is out of memory.
 ///
-/// A number of a kernel or of a production that doesn't fit in 30 bits is want of memory. No clause bounds the time.
+/// A number of a kernel or of a production that doesn't fit in 30 bits is reported as out of memory. No clause bounds the time.
 pub fn tables(
     alloc: Global,
     grammar: &Grammar,

@@ -7,7 +7,7 @@ use crate::action::Action;
 use std::alloc::{AllocError, Global};
 use wb_base::push;
 
-// Numbers from here on have no code, which is want of memory.
+// Numbers from here on have no code, which is reported as out of memory.
 const LIMIT: usize = 1 << 30;
 
 // The codes of the actions.

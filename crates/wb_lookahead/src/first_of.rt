@@ -33,7 +33,7 @@ pub(crate) fn rests_of(
     rests_with(alloc, grammar, facts, &repeats)
 }
 
-// The same with the terminals that come after each nonterminal in its own productions.
+// Like `rests_of`, with the terminals that come after each nonterminal in its own productions.
 fn rests_with(
     alloc: Global,
     grammar: &Grammar,
@@ -54,7 +54,7 @@ fn rests_with(
     Ok(rests)
 }
 
-// The same for one right side.
+// Like `rests_with`, for one right side.
 fn rests_in(
     alloc: Global,
     grammar: &Grammar,

@@ -1,4 +1,4 @@
-//! The lookaheads of a grammar's items, and the tables by which a parser runs.
+//! The LALR(1) lookaheads of a grammar's items, found by propagation, and the tables by which a parser runs.
 //!
 //! A parser reduces by a production only before a lookahead of its complete item. Prefixes with the same kernel share their
 //! lookaheads. Tables have at most one action for each kernel and terminal; a grammar with a conflict has none. The kernels are in

@@ -1,4 +1,4 @@
-//! What does a parser ask tables? Actions, kernels after nonterminals, and valid terminals.
+//! What does a parser ask of its tables? Actions, kernels after nonterminals, and valid terminals.
 //!
 //! They are made in `build_tables.rt`.
 
@@ -63,7 +63,7 @@ impl Tables {
         self.valid.len()
     }
 
-    /// What a parser does at a kernel on a terminal, or on the end of a text. Takes no memory.
+    /// What a parser does at a kernel on a terminal, or on the end of a text.
     pub fn action(&self, state: usize, terminal: usize) -> Action
         requires state { state < size_of self.now }
         requires terminal { terminal ≤ self.now.terminals }
@@ -72,7 +72,7 @@ impl Tables {
         action_from(self.actions.at(state, terminal))
     }
 
-    /// The kernel to which a nonterminal leads. Takes no memory.
+    /// The kernel to which a nonterminal leads.
     pub fn goto(&self, state: usize, nonterminal: usize) -> Option<usize>
         requires state { state < size_of self.now }
         requires nonterminal { nonterminal < self.now.nonterminals }
@@ -81,7 +81,7 @@ impl Tables {
         goto_from(self.gotos.at(state, nonterminal))
     }
 
-    /// The terminals that are valid at a kernel. Takes no memory.
+    /// The terminals that are valid at a kernel.
     pub fn valid(&self, state: usize) -> &TermSet
         requires { state < size_of self.now }
         ensures { result.now ≡ valid_of self.now state }
@@ -90,7 +90,6 @@ impl Tables {
     }
 }
 
-// By hand, so that no crate above proves how the parts are dropped.
 impl Drop for Tables {
     fn drop(self) {
         let Tables {

@@ -25,7 +25,7 @@ use wb_grammar::Facts;
 use wb_items::{Item, Kernels, Lookaheads, Numbers, production_numbers};
 use wb_termset::TermSet;
 
-/// The lookaheads of every item of every kernel's closure. The only error is want of memory.
+/// The lookaheads of every item of every kernel's closure.
 ///
 /// They are found by propagation over the items of kernels and the nonterminals that each kernel opens. No clause bounds the time.
 pub fn plain_lookaheads(
@@ -42,7 +42,7 @@ pub fn plain_lookaheads(
     with_productions(alloc, grammar, facts, kernels, &productions)
 }
 
-// The same with the productions of each nonterminal.
+// Like `plain_lookaheads`, with the productions of each nonterminal.
 fn with_productions(
     alloc: Global,
     grammar: &Grammar,
@@ -66,7 +66,7 @@ fn with_productions(
     propagated(alloc, &context, count)
 }
 
-// The same with what rests of right sides begin with.
+// Like `with_productions`, with what rests of right sides begin with.
 fn propagated(alloc: Global, context: &Context, count: usize) -> Result<Lookaheads, AllocError>
     requires context { IsContext context.now.kernels.now context.now.grammar.now context.now.productions.now context.now.rests.now }
     requires count { count ≡ count_of context.now.kernels.now }
@@ -133,7 +133,7 @@ fn fill(context: &Context, count: usize, lookaheads: &mut Lookaheads) -> Result<
     Ok(())
 }
 
-// The same for one kernel.
+// Like `fill`, for one kernel.
 fn fill_kernel(
     context: &Context,
     state: usize,
@@ -152,7 +152,7 @@ fn fill_kernel(
     Ok(())
 }
 
-// The same for the items for which the one at a place stands.
+// Like `fill_kernel`, for the items for which the one at a place stands.
 fn fill_from(context: &Context, place: Place, lookaheads: &mut Lookaheads) -> Result<(), AllocError>
     requires context { IsContext context.now.kernels.now context.now.grammar.now context.now.productions.now context.now.rests.now }
     requires place { IsPlace context.now.kernels.now place }

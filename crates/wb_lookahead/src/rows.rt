@@ -1,4 +1,4 @@
-//! What has one kernel? Its actions, the kernels after nonterminals, and its valid terminals.
+//! What do tables keep of one kernel? Its actions, the kernels after nonterminals, and its valid terminals.
 //!
 //! Single actions are put by `action_row.rt`, and the rows gathered by `build_tables.rt`.
 

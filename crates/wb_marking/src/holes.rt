@@ -1,4 +1,4 @@
-//! Which grammar has a host, or a host with an extension, with a hole for each extensible nonterminal?
+//! Builds the grammar of a host, or of a host with an extension, with a hole for each extensible nonterminal.
 //!
 //! Numbers of the grammar without holes stay as they are, but for that of the end of a text.
 
@@ -11,9 +11,9 @@ use wb_resolved::Resolved;
 
 /// The grammar of a resolved specification with a hole for each extensible nonterminal.
 ///
-/// A hole is a terminal that matches no text, and is alone on the right side of one production more of its nonterminal. These terminals
-/// are numbered after all others, and so are these productions, both in the order in which the extensible nonterminals are listed. The
-/// number that stands for the end of a text comes after the holes. The only error is want of memory.
+/// A hole is a terminal that matches no text, and is alone on the right side of one production more of its nonterminal. These terminals are
+/// numbered after all others, and so are these productions, both in the order in which the extensible nonterminals are listed. The number
+/// that stands for the end of a text comes after the holes.
 pub fn with_holes(alloc: Global, resolved: &Resolved) -> Result<Grammar, AllocError>
     requires { IsSome resolved.now.grammar }
     ensures { IfOk result (λ made. IfSome resolved.now.grammar (λ g. made ≡ with_holes_of g resolved.now.extensible)) }

@@ -1,4 +1,4 @@
-//! What of a grammar with holes holds of the grammar without?
+//! What does a grammar with holes show of the grammar without?
 
 ghost use Rattle.std.specs.Prelude.{◌<◌, ℕ, List};
 ghost use Rattle.wb_base.specs.declared.symbol.Symbol.{Symbol};
@@ -12,7 +12,7 @@ ghost use Rattle.wb_marking.specs.Holes.{with_holes_of};
 /// A reduced grammar is reduced with holes. One that with holes has no unit cycle or no hidden left recursion has none without.
 ///
 /// The rest is said of a grammar whose numbers are in range. Its viable prefixes stay so with holes. Where some terminal begins what is
-/// behind each symbol of a right side, as it does where every nonterminal derives a text, such a grammar has no conflict if it has none with
+/// after each symbol of a right side, as it does where every nonterminal derives a text, such a grammar has no conflict if it has none with
 /// holes, and each of its own terminals stays valid with holes at the prefixes at which it is valid. The end of a text is none of these
 /// terminals, and has another number with holes.
 pub fn holes_law()

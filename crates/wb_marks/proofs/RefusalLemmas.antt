@@ -1,4 +1,4 @@
--- Where all rules hold, no refusal is true but want of memory.
+-- Where all rules hold, no refusal but out of memory is true.
 use Rattle.wb_base.specs.Grammar.{GrammarView}
 use Rattle.wb_resolved.specs.declared.resolved.ResolvedParts.{ResolvedParts}
 use Rattle.wb_marks.specs.declared.refusal.MarkRefusal.{MarkRefusal}

@@ -1,4 +1,4 @@
--- Whether the markers of an extension can be told from what else is scanned beside them.
+-- Whether the markers of an extension can be told apart from what else is scanned.
 use Rattle.std.specs.Prelude.{◌≡◌, ◌≢◌, ◌⊎◌, ℕ, List, Some, map, slice_get}
 use Rattle.wb_regex.specs.Matches.{Matches}
 use Rattle.wb_lexical.specs.Clash.{AreOrdered}

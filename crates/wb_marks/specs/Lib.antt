@@ -2,7 +2,7 @@
 pub mod Markers
 -- what an extension may begin with its markers
 pub mod Bridges
--- whether markers can be told from what else is scanned
+-- whether markers can be told apart from what else is scanned
 pub mod Clashes
 -- why markers are refused, each reason with a true example where no earlier one holds
 pub mod Refusals

@@ -30,7 +30,7 @@ pub record IsShownClash (r : ResolvedParts) (marker other : ℕ) (text : List �
   pub clash : IsMarkerClash r marker other text
   pub in_order : IsMarker r other → marker < other
 
--- what is shown is an example of the first rule on bridges that fails; want of memory says nothing
+-- what is shown is an example of the first rule on bridges that fails; out of memory says nothing
 abbrev pub IsBridgeRefusal : ResolvedParts → GrammarView → MarkRefusal → Type 0
 IsBridgeRefusal r g (m.NotBridge production) = IsNoBridge r g production
 IsBridgeRefusal r g (m.MarkerElsewhere marker) = IsElsewhere r g marker
@@ -38,7 +38,7 @@ IsBridgeRefusal r g (m.NotExtensible production) = IsNotExtensible r g productio
 IsBridgeRefusal r g (m.MarkerClash _ _ _) = ⊥
 IsBridgeRefusal r g (m.NoMemory _) = Unit {0}
 
--- what is shown is a clash; want of memory says nothing
+-- what is shown is a clash; out of memory says nothing
 abbrev pub IsClashRefusal : ResolvedParts → MarkRefusal → Type 0
 IsClashRefusal r (m.NotBridge _) = ⊥
 IsClashRefusal r (m.MarkerElsewhere _) = ⊥
@@ -46,7 +46,7 @@ IsClashRefusal r (m.NotExtensible _) = ⊥
 IsClashRefusal r (m.MarkerClash marker other text) = IsShownClash r marker other text
 IsClashRefusal r (m.NoMemory _) = Unit {0}
 
--- what is shown is an example of the first rule that fails: one on bridges, or where these hold a clash; want of memory says nothing
+-- what is shown is an example of the first rule that fails: one on bridges, or where these hold a clash; out of memory says nothing
 abbrev pub IsMarkRefusal : ResolvedParts → GrammarView → MarkRefusal → Type 0
 IsMarkRefusal r g (m.NotBridge production) = IsNoBridge r g production
 IsMarkRefusal r g (m.MarkerElsewhere marker) = IsElsewhere r g marker
@@ -54,7 +54,7 @@ IsMarkRefusal r g (m.NotExtensible production) = IsNotExtensible r g production
 IsMarkRefusal r g (m.MarkerClash marker other text) = AreBridges r g × IsShownClash r marker other text
 IsMarkRefusal r g (m.NoMemory _) = Unit {0}
 
--- the refusal is want of memory
+-- the refusal is that memory ran out
 abbrev pub IsNoMemory : MarkRefusal → Type 0
 IsNoMemory (m.NotBridge _) = ⊥
 IsNoMemory (m.MarkerElsewhere _) = ⊥

@@ -32,7 +32,7 @@ pub fn check_bridges(alloc: Global, resolved: &Resolved) -> Result<(), MarkRefus
     }
 }
 
-// The same where the specification has this grammar.
+// Like `check_bridges`, where the specification has this grammar.
 fn check_in(alloc: Global, scope: &Scope) -> Result<(), MarkRefusal>
     requires { HasGrammar scope.now.parts.now scope.now.grammar.now }
     ensures ok { IfOk result (λ done. AreBridges scope.now.parts.now scope.now.grammar.now) }
@@ -81,7 +81,7 @@ fn check_extensible(alloc: Global, scope: &Scope) -> Result<(), MarkRefusal>
     check_left_sides(scope, &extensible)
 }
 
-// The same, where these are the extensible nonterminals.
+// Like `check_extensible`, where these are the extensible nonterminals.
 fn check_left_sides(scope: &Scope, extensible: &TermSet) -> Result<(), MarkRefusal>
     requires extensible { AreIn scope.now.grammar.now.nonterminals scope.now.parts.now.extensible extensible.now }
     requires begin { BeginWithMarkers scope.now.parts.now scope.now.grammar.now }

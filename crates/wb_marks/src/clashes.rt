@@ -1,4 +1,4 @@
-//! Can the markers of an extension be told from what is scanned beside them?
+//! Can the markers of an extension be told apart from what else is scanned?
 //!
 //! Each marker is compared with each other terminal by itself: by preferences, then by the bytes with which matches begin and by the texts
 //! of keywords, and only then by their places. No automaton is built.
@@ -153,7 +153,7 @@ fn check_pair(alloc: Global, compared: &Compared, other: usize) -> Result<(), Ma
     }
 }
 
-// Whether the marker has to be told from the other, no preference orders them, and neither their first bytes nor their texts say that
+// Whether the marker has to be told apart from the other, no preference orders them, and neither their first bytes nor their texts say that
 // they differ.
 fn may_clash(compared: &Compared, other: usize) -> bool
     requires compared { IsCompared compared.now }

@@ -1,4 +1,4 @@
-//! Which terminals does a marker have to be told from, and which of them are ordered against it?
+//! Which terminals does a marker have to be told apart from, and which of them are ordered against it?
 
 ghost use Rattle.std.specs.Prelude.{◌≡◌, ◌≢◌, ◌<◌, ◌↔◌, ◌⊎◌, ℕ, All, IfOk, IsTrue, length};
 ghost use Rattle.wb_marks.specs.Clashes.{IsRival};
@@ -11,7 +11,7 @@ use std::alloc::{AllocError, Global};
 use wb_resolved::{Preference, ResolvedParts, Terminal, TerminalKind};
 use wb_termset::TermSet;
 
-// Whether a marker has to be told from the other; of two markers the lesser from the greater.
+// Whether a marker has to be told apart from the other; of two markers the lesser from the greater.
 pub(crate) fn are_compared(parts: &ResolvedParts, marker: usize, other: usize) -> bool
     requires marker { IsMarker parts.now marker }
     requires other { other < length parts.now.terminals }

@@ -19,7 +19,7 @@ pub(crate) struct Beginning {
     empty: bool,
 }
 
-// The bytes with which matches of an expression may begin. The only error is want of memory.
+// The bytes with which matches of an expression may begin.
 pub(crate) fn first_bytes(alloc: Global, regex: &Regex) -> Result<Beginning, AllocError>
     ensures within { IfOk result (BeginWithin regex.now) }
     ensures some { IfOk result (λ _. ¬ Matches regex.now []) }

@@ -15,7 +15,7 @@ pub fn marked_law()
     ensures { (r : ResolvedParts) (g : GrammarView) → HasGrammar r g → AreBridges r g → IsMarked r g }
 {}
 
-/// Where markers are refused, but for want of memory, some rule fails.
+/// Where markers are refused for any reason but out of memory, some rule fails.
 pub fn mark_refusals_law()
     ensures { (r : ResolvedParts) (g : GrammarView) (refusal : Refusal) → IsMarkRefusal r g refusal → AreBridges r g → HasNoMarkerClash r → IsNoMemory refusal }
 {}

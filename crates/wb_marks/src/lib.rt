@@ -1,4 +1,4 @@
-//! The rules of an extension on its markers: which productions they begin, and that they can be told from what is scanned beside them.
+//! The rules of an extension on its markers: which productions they begin, and that they can be told apart from what else is scanned.
 //!
 //! Nothing here asks for tables of a grammar. A marker is a terminal of an extension; the production that it begins is its bridge, by which
 //! one comes from a nonterminal of the host into the extension.

@@ -80,7 +80,7 @@ fn elsewhere(scope: &Scope, table: &[Option<usize>]) -> Option<usize>
     None
 }
 
-// The same in one production.
+// Like `elsewhere`, in one production.
 fn elsewhere_in(scope: &Scope, table: &[Option<usize>], number: usize) -> Option<usize>
     requires number { number < length scope.now.grammar.now.productions }
     requires table { length table.now ≡ length scope.now.parts.now.terminals }

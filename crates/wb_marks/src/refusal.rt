@@ -20,7 +20,7 @@ pub enum MarkRefusal {
         other: usize,
         text: Bytes,
     },
-    /// There was no memory to tell.
+    /// Out of memory.
     NoMemory(AllocError),
 }
 

@@ -11,7 +11,7 @@ use std::alloc::{AllocError, Global};
 use wb_base::{Sequence, push};
 use wb_regex::{Regex, RegexNode};
 
-// The one text that an expression matches, where it is a row of single bytes; another one may have none. The only error is want of memory.
+// The one text that an expression matches, where it is a row of single bytes; another one may have none.
 pub(crate) fn only_text(alloc: Global, regex: &Regex) -> Result<Option<Sequence<u8>>, AllocError>
     ensures { IfOk result (λ found. IfSome found (MatchesOnly regex.now)) }
 {

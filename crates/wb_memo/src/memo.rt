@@ -24,7 +24,7 @@ pub struct Memo {
 }
 
 impl Memo {
-    /// The root alone, with its tree. A site with values has room for so many at least. The only error is want of memory.
+    /// The root alone, with its tree. A site with values has room for so many at least.
     pub fn new(alloc: Global, root: TreeId, room: usize) -> Result<Memo, AllocError>
         ensures whole { IfOk result IsWhole }
         ensures origins { IfOk result (λ made. made.sites.origins.items ≡ []) }
@@ -59,7 +59,7 @@ impl Memo {
         Ok(Some(value))
     }
 
-    /// Keeps the value of an attribute. The only error is want of memory.
+    /// Keeps the value of an attribute.
     pub fn set_attribute(
         &mut self,
         site: usize,
@@ -81,8 +81,7 @@ impl Memo {
         Ok(())
     }
 
-    /// The site one step down from another, with its tree where that is known; it is added where it isn't there. The only error is want
-    /// of memory.
+    /// The site one step down from another, with its tree where that is known; it is added where it isn't there.
     pub fn below(
         &mut self,
         parent: usize,
@@ -119,7 +118,6 @@ impl Memo {
     }
 }
 
-// By hand, so that no crate above proves how the parts are dropped.
 impl Drop for Memo {
     fn drop(self) {
         let Memo {

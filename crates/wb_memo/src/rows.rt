@@ -37,7 +37,7 @@ impl Model for Rows {
 }
 
 impl Rows {
-    /// No rows. One that is written has room for so many numbers at least. Takes no memory.
+    /// No rows. One that is written has room for so many numbers at least.
     pub fn new(alloc: Global, least: usize) -> Rows
         ensures { result ≡ [] }
     {
@@ -57,7 +57,7 @@ impl Rows {
         Ok(())
     }
 
-    /// The number at a place, or 0. Takes no memory.
+    /// The number at a place, or 0.
     pub fn get(&self, row: usize, column: usize) -> usize
         ensures { result ≡ at self.now row column }
     {
@@ -73,7 +73,7 @@ impl Rows {
         }
     }
 
-    /// Writes the number at a place, after as many rows as that takes. The only error is want of memory.
+    /// Writes the number at a place, after as many rows as that takes.
     pub fn put(&mut self, row: usize, column: usize, number: usize) -> Result<(), AllocError>
         ensures len { OnOk result ((length self.new ≡ length self.old) ⊎ (length self.new ≤ suc row)) }
         ensures set { OnOk result (at self.new row column ≡ number) }
@@ -147,7 +147,6 @@ impl Rows {
     }
 }
 
-// By hand, so that no crate above proves how the parts are dropped.
 impl Drop for Rows {
     fn drop(self) {
         let Rows {

@@ -42,7 +42,7 @@ pub struct Sites {
 }
 
 impl Sites {
-    /// The root alone. Takes no memory.
+    /// The root alone.
     pub fn new(alloc: Global) -> Sites
         ensures origins { result.origins.items ≡ [] }
         ensures whole { IsSites result }
@@ -55,7 +55,7 @@ impl Sites {
         }
     }
 
-    /// The site one step down from another, or 0. Takes no memory.
+    /// The site one step down from another, or 0.
     pub fn find(&self, parent: usize, step: Step) -> usize
         ensures { result ≡ link self.now parent step }
     {
@@ -66,7 +66,7 @@ impl Sites {
         }
     }
 
-    /// Adds the site one step down from another, which isn't there. The only error is want of memory.
+    /// Adds the site one step down from another, which isn't there.
     pub fn add(&mut self, parent: usize, step: Step) -> Result<usize, AllocError>
         requires whole { IsSites self.old }
         requires there { parent ≤ length self.old.origins.items }
@@ -97,7 +97,6 @@ impl Sites {
     }
 }
 
-// By hand, so that no crate above proves how the parts are dropped.
 impl Drop for Sites {
     fn drop(self) {
         let Sites {

@@ -25,7 +25,7 @@ use wb_resolved::{
     ResolvedParts, Target, Terminal, TerminalKind,
 };
 
-/// Adds what a base declares after the others. The only error is want of memory, and then some of it may be there.
+/// Adds what a base declares after the others. If memory runs out, some of it may be there.
 pub fn add_base_declarations(
     base: &ResolvedParts,
     out: &mut Vec<Declaration>,

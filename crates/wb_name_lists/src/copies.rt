@@ -1,4 +1,4 @@
-//! What does a value take that names two things?
+//! Copies two names for a value that names two things.
 //!
 //! Both copies come before the value is built, so that nothing is left to fail there.
 
@@ -7,7 +7,7 @@ ghost use Rattle.std.specs.Prelude.{◌≡◌, IfOk};
 use std::alloc::AllocError;
 use wb_base::Bytes;
 
-// Copies of two names. The only error is want of memory.
+// Copies of two names.
 pub(crate) fn copies(first: &Bytes, second: &Bytes) -> Result<(Bytes, Bytes), AllocError>
     ensures { IfOk result (λ made. made ≡ (first.now, second.now)) }
 {

@@ -16,7 +16,7 @@ use wb_syntax::{
     Child, Equation, Item, ItemForm, NamedKind, Pattern, PlainForm, Production, Role, Target,
 };
 
-/// Adds what items declare after the others, in the order of the text. The only error is want of memory, and then some of it may be there.
+/// Adds what items declare after the others, in the order of the text. If memory runs out, some of it may be there.
 pub fn add_item_declarations(
     items: &[Item<Pattern>],
     out: &mut Vec<Declaration>,

@@ -13,8 +13,8 @@ use wb_syntax::{
     Child, Equation, Item, ItemForm, NamedKind, Pattern, ProductionRole, Role, Target,
 };
 
-/// Adds the names of what items have where it has no place, after the others. The owner 0 is a host. The only error is want of memory, and
-/// then some of it may be there.
+/// Adds the names of what items have where it has no place, after the others. The owner 0 is a host. If memory runs out, some of it may be
+/// there.
 pub fn add_misplaced(
     owner: usize,
     items: &[Item<Pattern>],

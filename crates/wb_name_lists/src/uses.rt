@@ -16,7 +16,7 @@ use wb_syntax::{
     ProductionRole, Target,
 };
 
-/// Adds what items use after the others, in the order of the text. The only error is want of memory, and then some of it may be there.
+/// Adds what items use after the others, in the order of the text. If memory runs out, some of it may be there.
 pub fn add_uses(items: &[Item<Pattern>], out: &mut Vec<Usage>) -> Result<(), AllocError>
     ensures { OnOk result (out.new.items ≡ out.old.items ++ spec.uses items.now) }
 {

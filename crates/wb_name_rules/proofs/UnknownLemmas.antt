@@ -89,7 +89,7 @@ module _ (declared : List Declaration) where
   shows_no_forward used production attribute at there has is not =
       f.no_forward (record { written = subst (λ (z : Site). Contains used (u.Attribute production attribute z)) is has; there = there }) not
 
-  -- whether it doesn't is told by what is found of it
+  -- whether it doesn't is known by what is found of it
   pub tells_forward : (production : List ℕ) (at : Site) (found : Option ℕ) (b : Bool) → at ≡ site.Forward → is_some found ≡ not b
       → IfSome found (λ (place : ℕ). slice_get declared place ≡ Some (d.Forward production))
       → IfNone found (¬ Forwards declared production) → TellsForward declared production at b

@@ -61,7 +61,7 @@ impl NameIndex {
         drop(self)
     }
 
-    /// The declarations: those of the base, then those of the items in the order of the text. Takes no memory.
+    /// The declarations: those of the base, then those of the items in the order of the text.
     pub fn declarations(&self) -> &[Declaration]
         ensures all { result.now ≡ self.now }
         ensures once { CountOnce self.now }
@@ -101,7 +101,7 @@ impl NameIndex {
         Ok(self.place(&key))
     }
 
-    /// The place of the terminal, layout, marker, nonterminal or production of a name, from 0 on. The only error is want of memory.
+    /// The place of the terminal, layout, marker, nonterminal or production of a name, from 0 on.
     pub fn symbol(&self, alloc: Global, name: &[u8]) -> Result<Option<usize>, AllocError>
         ensures found { IfOk result (λ found. IfSome found (λ place. (is : Sort) × (slice_get self.now place ≡ Some (d.Symbol name.now is)))) }
         ensures none { IfOk result (λ found. IfNone found ((is : Sort) → ¬ meaning.IsSymbol self.now name.now is)) }
@@ -110,7 +110,7 @@ impl NameIndex {
         self.text_place(alloc, SYMBOL, name)
     }
 
-    /// The place of the attribute of a name. The only error is want of memory.
+    /// The place of the attribute of a name.
     pub fn attribute(&self, alloc: Global, name: &[u8]) -> Result<Option<usize>, AllocError>
         ensures found { IfOk result (λ found. IfSome found (λ place. (direction : Direction) × (slice_get self.now place ≡ Some (d.Attribute name.now direction)))) }
         ensures none { IfOk result (λ found. IfNone found ((direction : Direction) → ¬ meaning.IsAttribute self.now name.now direction)) }
@@ -119,7 +119,7 @@ impl NameIndex {
         self.text_place(alloc, ATTRIBUTE, name)
     }
 
-    /// The place of the label of a production. The only error is want of memory.
+    /// The place of the label of a production.
     pub fn label(
         &self,
         alloc: Global,
@@ -169,7 +169,6 @@ impl NameIndex {
     }
 }
 
-// By hand, so that no crate above proves how the parts are dropped.
 impl Drop for NameIndex {
     fn drop(self) {
         let NameIndex {

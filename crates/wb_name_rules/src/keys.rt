@@ -1,4 +1,4 @@
-//! By which bytes is a declaration found?
+//! Builds the bytes by which a declaration is found.
 //!
 //! Declarations of the same thing have one key, and others have another, whatever bytes their names have. The table is in `index`.
 
@@ -31,7 +31,7 @@ pub(crate) const FORWARD_NEEDS: u8 = 9;
 
 pub(crate) const PREFERENCE: u8 = 10;
 
-// The key of a declaration. The only error is want of memory.
+// The key of a declaration.
 pub(crate) fn key_of(alloc: Global, declaration: &Declaration) -> Result<Vec<u8>, AllocError>
     ensures { IfOk result (λ key. key.items ≡ spec.key_of declaration.now) }
 {

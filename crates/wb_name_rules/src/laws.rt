@@ -4,8 +4,8 @@ ghost use Rattle.std.specs.Prelude.{List};
 ghost use Rattle.wb_naming.specs.declared.declaration.Declaration.{Declaration};
 ghost use Rattle.wb_name_rules.specs.Index.{IsEachShown};
 
-/// Declarations of the same thing that count are one exactly where no name shows that something is declared twice. What stands in a
-/// production that is itself declared twice shows nothing, and the law holds all the same, since there the production's name shows it.
+/// Declarations of the same thing that count are one exactly where no name shows that something is declared twice. What is in a production
+/// that is itself declared twice shows nothing, and the law holds all the same, since there the production's name shows it.
 pub fn twice_law()
     ensures { (declared : List Declaration) → IsEachShown declared }
 {}

@@ -17,7 +17,7 @@ use wb_base::Bytes;
 use wb_naming::{Declaration, Labelled, Site, Sort};
 use wb_resolved::Direction;
 
-// What a name is declared as. The only error is want of memory.
+// What a name is declared as.
 pub(crate) fn sort_of(
     alloc: Global,
     index: &NameIndex,

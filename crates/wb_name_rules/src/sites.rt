@@ -13,7 +13,7 @@ use std::alloc::{AllocError, Global};
 use wb_base::Bytes;
 use wb_naming::{Labelled, Site, Sort};
 
-// The nonterminal of the tree at a site of a production, where it is one. The only error is want of memory.
+// The nonterminal of the tree at a site of a production, where it is one.
 pub(crate) fn site_of<'a>(
     alloc: Global,
     index: &'a NameIndex,

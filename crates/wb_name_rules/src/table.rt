@@ -56,7 +56,7 @@ impl Table {
         }
     }
 
-    // The same with the key of a declaration.
+    // Like `add`, with the key of a declaration.
     fn add_key(
         &mut self,
         alloc: Global,

@@ -23,7 +23,7 @@ use wb_symbols::lent::Lent;
 use wb_symbols::symbols::{Counts, Symbols, fill, no_symbols};
 use wb_values::Signatures;
 
-// The numbered value. The only error is want of memory.
+// The numbered value.
 pub(crate) fn numbered(alloc: Global, file: &Lent) -> Result<Resolved, AllocError>
     requires { IsReady (lent_file file.now) }
     ensures { IfOk result (Resolves (lent_file file.now)) }
@@ -36,7 +36,7 @@ pub(crate) fn numbered(alloc: Global, file: &Lent) -> Result<Resolved, AllocErro
     made
 }
 
-// The same, where all rows are to be filled.
+// Like `numbered`, where all rows are to be filled.
 fn numbered_in(
     alloc: Global,
     file: &Lent,

@@ -1,4 +1,4 @@
-//! Which row has one production of a base or of a file?
+//! Builds the row of one production of a base or of a file.
 //!
 //! Its children and its locals give it labels, and then all that the file writes on it is numbered. Which items write on it is in
 //! `wb_symbols`.
@@ -33,7 +33,7 @@ pub(crate) struct Context<'a> {
     pub(crate) writers: &'a Writers,
 }
 
-// Adds the row of a base's production. The only error is want of memory.
+// Adds the row of a base's production.
 pub(crate) fn add_extended(
     alloc: Global,
     context: &Context,
@@ -160,7 +160,7 @@ fn add_written(
     added
 }
 
-// Adds the row of a production that the file declares. The only error is want of memory.
+// Adds the row of a production that the file declares.
 pub(crate) fn add_own(
     alloc: Global,
     context: &Context,

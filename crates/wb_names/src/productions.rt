@@ -1,4 +1,4 @@
-//! Which rows have the productions of a base and of a file?
+//! Builds the rows of the productions of a base and of a file.
 //!
 //! Concrete ones are kept apart, since they are numbered first. The row of one production is made in `production`.
 
@@ -25,8 +25,7 @@ pub(crate) struct Productions {
     pub(crate) others: Vec<Production>,
 }
 
-// Adds the rows of a file's and its base's productions to none, in one list, and answers how many are concrete. The only error is want of
-// memory.
+// Adds the rows of a file's and its base's productions to none, in one list, and answers how many are concrete.
 pub(crate) fn add_productions(
     alloc: Global,
     context: &Context,

@@ -24,7 +24,7 @@ use wb_syntax::{Header, Spec};
 
 /// The numbered value of a host, or the first name rule that fails.
 ///
-/// A file that is no host is refused for that, with its own name. The time is about linear in the specification; no clause bounds it.
+/// A file that isn't a host is refused for that, with its own name. The time is about linear in the specification; no clause bounds it.
 pub fn resolve_host(alloc: Global, spec: &Spec) -> Result<Resolved, NameRefusal>
     ensures ok { IfOk result (ResolvesHost spec.now) }
     ensures refused { IfErr result (IsHostNameRefusal spec.now) }
@@ -35,7 +35,7 @@ pub fn resolve_host(alloc: Global, spec: &Spec) -> Result<Resolved, NameRefusal>
     }
 }
 
-// The same where the file is a host.
+// Like `resolve_host`, where the file is a host.
 fn host_of(alloc: Global, spec: &Spec) -> Result<Resolved, NameRefusal>
     requires { spec.now.header ≡ Header.Host }
     ensures ok { IfOk result (ResolvesHost spec.now) }
@@ -58,8 +58,8 @@ fn host_of(alloc: Global, spec: &Spec) -> Result<Resolved, NameRefusal>
 
 /// The numbered value of a host with an extension, or the first name rule that fails.
 ///
-/// The numbers of the host are moved, where those of the extension come before them in a group; the extension is owner 1. A file that is no
-/// extension is refused for that, with its own name, and one for another host with the other's name. The time is about linear in both.
+/// The numbers of the host are moved, where those of the extension come before them in a group; the extension is owner 1. A file that isn't
+/// an extension is refused for that, with its own name, and one for another host with the other's name. The time is about linear in both.
 pub fn resolve_extension(
     alloc: Global,
     host: &Resolved,

@@ -1,4 +1,4 @@
-//! Which rows have attributes, occurrences and preferences, which nonterminals are extensible, and what is the start?
+//! Builds the rows of attributes, occurrences and preferences, and finds the extensible nonterminals and the start.
 //!
 //! A base's come first, in new numbers, and then what a file declares.
 
@@ -34,7 +34,7 @@ pub(crate) struct Rest {
     pub(crate) start: Option<usize>,
 }
 
-// Adds those of a base and a file to none. The only error is want of memory.
+// Adds those of a base and a file to none.
 pub(crate) fn add_rest(
     alloc: Global,
     file: &Lent,

@@ -1,4 +1,4 @@
-//! Which rows has a file on its base, beside those of terminals and nonterminals, each sort in the order of its numbers?
+//! Builds the rows of a file on its base, but for terminals and nonterminals, each sort in the order of its numbers.
 //!
 //! What is concrete comes first, in a count of its own. Each sort is made elsewhere. All are owned by one value, which is made empty and
 //! lent, so that nothing is owned where memory runs out.
@@ -60,7 +60,7 @@ pub(crate) fn nothing_written(alloc: Global) -> Written
     }
 }
 
-// Adds the rows to none, where names have their numbers. The only error is want of memory.
+// Adds the rows to none, where names have their numbers.
 pub(crate) fn add_rows(
     alloc: Global,
     file: &Lent,

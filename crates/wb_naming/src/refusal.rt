@@ -15,11 +15,11 @@ pub enum NameRefusal {
     Duplicate(Bytes),
     /// N3: an extension says of this name what it may not.
     Orphan(Bytes),
-    /// N4: this name is of another kind than its place asks for, or the file of this name is no host, or no extension.
+    /// N4: this name is of another kind than its place asks for, or the file of this name isn't a host, or isn't an extension.
     WrongKind(Bytes),
     /// N5: the extension is for this host, which is another.
     WrongHost(Bytes),
-    /// There was no memory to tell.
+    /// Out of memory.
     NoMemory(AllocError),
 }
 

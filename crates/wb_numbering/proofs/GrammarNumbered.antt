@@ -1,4 +1,4 @@
--- What is of the grammar has the first numbers, and the grammar is that of its rows.
+-- What belongs to the grammar has the first numbers, and the grammar is that of its rows.
 use Rattle.std.proofs.Common.{◌≡◌, ◌≢◌, ◌≤◌, ◌<◌, ◌++◌, ◌∷◌, ◌⊎◌, ◌↔◌, inl, inr, [], ℕ, suc, List, Option, Some}
 use Rattle.std.proofs.Common.{None}
 use Rattle.std.proofs.Common.{Contains, take, length, slice_get, ap, sym, refl, subst, ◌∙◌, arith, length-append}

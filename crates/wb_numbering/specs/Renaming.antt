@@ -19,6 +19,6 @@ module _ {L M A B P Q O : Type 0} (IsLabel : L → M → Type 0) (IsAttribute : 
   IsRenamedNode (n.Call operation arguments) to = to ≡ n.Call operation arguments
   IsRenamedNode (n.If condition holds fails) to = to ≡ n.If condition holds fails
 
-  -- the same of all nodes of an expression, in order
+  -- the second nodes are the first, renamed so, in order
   abbrev pub AreRenamedNodes : List (Node L A P O) → List (Node M B Q O) → Type 0
   AreRenamedNodes nodes others = AllZip IsRenamedNode nodes others

@@ -56,7 +56,7 @@ fn remainder(x: i64, y: i64) -> Result<Value, OperationRefusal>
     }
 }
 
-/// The first and the second together, with fault 1 outside 64 bits. Takes no memory.
+/// The first and the second together, with fault 1 outside 64 bits.
 #[tactic(auto, unfolding(crate::specs::Standard::standard_at, crate::specs::Standard::standard_operations))]
 pub fn standard_add(arguments: &[Value]) -> Result<Value, OperationRefusal>
     requires { FitKinds two_ints arguments.now }
@@ -69,7 +69,7 @@ pub fn standard_add(arguments: &[Value]) -> Result<Value, OperationRefusal>
     }
 }
 
-/// The first less the second, with fault 1 outside 64 bits. Takes no memory.
+/// The first less the second, with fault 1 outside 64 bits.
 #[tactic(auto, unfolding(crate::specs::Standard::standard_at, crate::specs::Standard::standard_operations))]
 pub fn standard_sub(arguments: &[Value]) -> Result<Value, OperationRefusal>
     requires { FitKinds two_ints arguments.now }
@@ -82,7 +82,7 @@ pub fn standard_sub(arguments: &[Value]) -> Result<Value, OperationRefusal>
     }
 }
 
-/// The first times the second, with fault 1 outside 64 bits. Takes no memory.
+/// The first times the second, with fault 1 outside 64 bits.
 #[tactic(auto, unfolding(crate::specs::Standard::standard_at, crate::specs::Standard::standard_operations))]
 pub fn standard_mul(arguments: &[Value]) -> Result<Value, OperationRefusal>
     requires { FitKinds two_ints arguments.now }
@@ -95,7 +95,7 @@ pub fn standard_mul(arguments: &[Value]) -> Result<Value, OperationRefusal>
     }
 }
 
-/// The first by the second, toward zero, with fault 2 for a zero divisor and fault 1 outside 64 bits. Takes no memory.
+/// The first by the second, toward zero, with fault 2 for a zero divisor and fault 1 outside 64 bits.
 #[tactic(auto, unfolding(crate::specs::Standard::standard_at, crate::specs::Standard::standard_operations))]
 pub fn standard_div(arguments: &[Value]) -> Result<Value, OperationRefusal>
     requires { FitKinds two_ints arguments.now }
@@ -108,7 +108,7 @@ pub fn standard_div(arguments: &[Value]) -> Result<Value, OperationRefusal>
     }
 }
 
-/// What is left by that quotient, with the sign of the first and the faults of the quotient. Takes no memory.
+/// What is left by that quotient, with the sign of the first and the faults of the quotient.
 #[tactic(auto, unfolding(crate::specs::Standard::standard_at, crate::specs::Standard::standard_operations))]
 pub fn standard_rem(arguments: &[Value]) -> Result<Value, OperationRefusal>
     requires { FitKinds two_ints arguments.now }
@@ -121,7 +121,7 @@ pub fn standard_rem(arguments: &[Value]) -> Result<Value, OperationRefusal>
     }
 }
 
-/// The negative, with fault 1 outside 64 bits. Takes no memory.
+/// The negative, with fault 1 outside 64 bits.
 #[tactic(auto, unfolding(crate::specs::Standard::standard_at, crate::specs::Standard::standard_operations))]
 pub fn standard_neg(arguments: &[Value]) -> Result<Value, OperationRefusal>
     requires { FitKinds one_int arguments.now }

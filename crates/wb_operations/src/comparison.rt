@@ -13,7 +13,7 @@ ghost use Rattle.wb_operations.specs.Standard.{standard};
 use crate::OperationRefusal;
 use wb_values::Value;
 
-/// Whether two numbers are equal. Takes no memory.
+/// Whether two numbers are equal.
 #[tactic(auto, unfolding(crate::specs::Standard::standard_at, crate::specs::Standard::standard_operations))]
 pub fn standard_eq(arguments: &[Value]) -> Result<Value, OperationRefusal>
     requires { FitKinds two_ints arguments.now }
@@ -26,7 +26,7 @@ pub fn standard_eq(arguments: &[Value]) -> Result<Value, OperationRefusal>
     }
 }
 
-/// Whether the first number is below the second. Takes no memory.
+/// Whether the first number is below the second.
 #[tactic(auto, unfolding(crate::specs::Standard::standard_at, crate::specs::Standard::standard_operations))]
 pub fn standard_less(arguments: &[Value]) -> Result<Value, OperationRefusal>
     requires { FitKinds two_ints arguments.now }
@@ -39,7 +39,7 @@ pub fn standard_less(arguments: &[Value]) -> Result<Value, OperationRefusal>
     }
 }
 
-/// Whether two texts have the same bytes. Takes no memory.
+/// Whether two texts have the same bytes.
 #[tactic(auto, unfolding(crate::specs::Standard::standard_at, crate::specs::Standard::standard_operations))]
 pub fn standard_same(arguments: &[Value]) -> Result<Value, OperationRefusal>
     requires { FitKinds two_texts arguments.now }
@@ -52,7 +52,7 @@ pub fn standard_same(arguments: &[Value]) -> Result<Value, OperationRefusal>
     }
 }
 
-/// Whether it doesn't hold. Takes no memory.
+/// Whether it doesn't hold.
 #[tactic(auto, unfolding(crate::specs::Standard::standard_at, crate::specs::Standard::standard_operations))]
 pub fn standard_not(arguments: &[Value]) -> Result<Value, OperationRefusal>
     requires { FitKinds one_bool arguments.now }
@@ -65,7 +65,7 @@ pub fn standard_not(arguments: &[Value]) -> Result<Value, OperationRefusal>
     }
 }
 
-/// Whether both hold. Takes no memory.
+/// Whether both hold.
 #[tactic(auto, unfolding(crate::specs::Standard::standard_at, crate::specs::Standard::standard_operations))]
 pub fn standard_and(arguments: &[Value]) -> Result<Value, OperationRefusal>
     requires { FitKinds two_bools arguments.now }
@@ -78,7 +78,7 @@ pub fn standard_and(arguments: &[Value]) -> Result<Value, OperationRefusal>
     }
 }
 
-/// Whether one or both hold. Takes no memory.
+/// Whether one or both hold.
 #[tactic(auto, unfolding(crate::specs::Standard::standard_at, crate::specs::Standard::standard_operations))]
 pub fn standard_or(arguments: &[Value]) -> Result<Value, OperationRefusal>
     requires { FitKinds two_bools arguments.now }

@@ -1,4 +1,4 @@
-//! How is an operation stored that a caller hands over?
+//! How is a caller's own operation stored?
 //!
 //! It is a boxed closure. That it answers what is meant is the clause `kept` of a table's calls.
 

@@ -37,7 +37,7 @@ impl Model for OperationSignatures {
 }
 
 impl OperationSignatures {
-    /// No operations. Takes no memory.
+    /// No operations.
     pub fn new(alloc: Global) -> OperationSignatures
         ensures { result ≡ [] }
     {
@@ -48,7 +48,7 @@ impl OperationSignatures {
         }
     }
 
-    /// Adds the signature of an operation after the others, and answers its number. The only error is want of memory.
+    /// Adds the signature of an operation after the others, and answers its number.
     pub fn add(&mut self, name: &[u8], takes: &[Kind], gives: Kind) -> Result<usize, AllocError>
         requires new { ¬ HasOperation self.old name.now }
         requires takes { All IsPlainKind takes.now }
@@ -65,7 +65,7 @@ impl OperationSignatures {
         Ok(number)
     }
 
-    /// How many operations there are. Takes no memory.
+    /// How many operations there are.
     pub fn len(&self) -> usize
         ensures count { result ≡ length self.now }
         ensures different { Differ (names_of self.now) }
@@ -74,14 +74,14 @@ impl OperationSignatures {
         self.names.len()
     }
 
-    /// Whether there is no operation. Takes no memory.
+    /// Whether there is no operation.
     pub fn is_empty(&self) -> bool
         ensures { IsTrue result ↔ (self.now ≡ []) }
     {
         self.len() == 0
     }
 
-    /// The operation of a name. Takes no memory, and about constant time.
+    /// The operation of a name. Takes about constant time.
     pub fn find(&self, name: &[u8]) -> Option<usize>
         ensures found { IfSome result (IsOperation self.now name.now) }
         ensures none { IfNone result (¬ HasOperation self.now name.now) }
@@ -90,7 +90,7 @@ impl OperationSignatures {
         self.names.find(name)
     }
 
-    /// The name of an operation. Takes no memory.
+    /// The name of an operation.
     pub fn name(&self, operation: usize) -> &[u8]
         requires { operation < length self.now }
         ensures { IfSome (slice_get self.now operation) (λ s. result.now ≡ s.name) }
@@ -98,7 +98,7 @@ impl OperationSignatures {
         self.names.name(operation)
     }
 
-    /// The kinds that an operation takes. Takes no memory.
+    /// The kinds that an operation takes.
     pub fn takes(&self, operation: usize) -> &[Kind]
         requires { operation < length self.now }
         ensures { IfSome (slice_get self.now operation) (λ s. result.now ≡ s.takes) }
@@ -106,7 +106,7 @@ impl OperationSignatures {
         self.entries[operation].takes.as_slice()
     }
 
-    /// The kind that an operation gives. Takes no memory.
+    /// The kind that an operation gives.
     pub fn gives(&self, operation: usize) -> Kind
         requires { operation < length self.now }
         ensures { IfSome (slice_get self.now operation) (λ s. result ≡ s.gives) }
@@ -114,7 +114,7 @@ impl OperationSignatures {
         self.entries[operation].gives
     }
 
-    /// Equal signatures. The only error is want of memory.
+    /// Equal signatures.
     pub fn copy(&self) -> Result<OperationSignatures, AllocError>
         ensures { IfOk result (λ made. made ≡ self.now) }
     {
@@ -133,7 +133,6 @@ impl OperationSignatures {
     pub fn release(self) {}
 }
 
-// By hand, so that no crate above proves how the parts are dropped.
 impl Drop for OperationSignatures {
     fn drop(self) {
         let OperationSignatures {

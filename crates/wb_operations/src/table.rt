@@ -27,7 +27,7 @@ pub struct OperationTable<M: Meaning> {
     pub of: PhantomData<M>,
 }
 
-/// A table of the sixteen standard operations. The only error is want of memory.
+/// A table of the sixteen standard operations.
 pub fn standard_table(alloc: Global) -> Result<OperationTable<Standard>, AllocError>
     ensures signatures { IfOk result (λ table. table.signatures ≡ standard_signatures) }
     ensures kept { IfOk result (λ table. IsKept table.signatures table.built_in table.runs.items standard (λ run vs. Run.pre run vs) (λ run vs r. Run.post run vs r)) }
@@ -43,7 +43,7 @@ pub fn standard_table(alloc: Global) -> Result<OperationTable<Standard>, AllocEr
 }
 
 impl<M: Meaning> OperationTable<M> {
-    /// A table without operations. Takes no memory.
+    /// A table without operations.
     pub fn new(alloc: Global) -> OperationTable<M>
         ensures signatures { result.signatures ≡ [] }
         ensures kept { IsKept result.signatures result.built_in result.runs.items M.meaning (λ run vs. Run.pre run vs) (λ run vs r. Run.post run vs r) }
@@ -57,8 +57,8 @@ impl<M: Meaning> OperationTable<M> {
         }
     }
 
-    /// Adds an operation after the others, and answers its number. The only error is want of memory, and then the closure is
-    /// dropped. What it answers has to be known of every list, so a closure that is handed over has its clauses written at it.
+    /// Adds an operation after the others, and answers its number. If memory runs out, the closure is dropped. What it answers has to be
+    /// known of every list, so a closure that is handed over has its clauses written at it.
     pub fn add(
         &mut self,
         name: &[u8],
@@ -84,21 +84,21 @@ impl<M: Meaning> OperationTable<M> {
         Ok(number)
     }
 
-    /// The names and the kinds of the operations. Takes no memory.
+    /// The names and the kinds of the operations.
     pub fn signatures(&self) -> &OperationSignatures
         ensures { result.now ≡ self.now.signatures }
     {
         &self.signatures
     }
 
-    /// How many operations there are. Takes no memory.
+    /// How many operations there are.
     pub fn len(&self) -> usize
         ensures { result ≡ length self.now.signatures }
     {
         self.signatures.len()
     }
 
-    /// The operation of a name. Takes no memory, and about constant time.
+    /// The operation of a name. Takes about constant time.
     pub fn find(&self, name: &[u8]) -> Option<usize>
         ensures found { IfSome result (IsOperation self.now.signatures name.now) }
         ensures none { IfNone result (¬ HasOperation self.now.signatures name.now) }
@@ -106,7 +106,7 @@ impl<M: Meaning> OperationTable<M> {
         self.signatures.find(name)
     }
 
-    /// The name of an operation. Takes no memory.
+    /// The name of an operation.
     pub fn name(&self, operation: usize) -> &[u8]
         requires { operation < length self.now.signatures }
         ensures { IfSome (slice_get self.now.signatures operation) (λ s. result.now ≡ s.name) }
@@ -114,7 +114,7 @@ impl<M: Meaning> OperationTable<M> {
         self.signatures.name(operation)
     }
 
-    /// The kinds that an operation takes. Takes no memory.
+    /// The kinds that an operation takes.
     pub fn takes(&self, operation: usize) -> &[Kind]
         requires { operation < length self.now.signatures }
         ensures { IfSome (slice_get self.now.signatures operation) (λ s. result.now ≡ s.takes) }
@@ -122,7 +122,7 @@ impl<M: Meaning> OperationTable<M> {
         self.signatures.takes(operation)
     }
 
-    /// The kind that an operation gives. Takes no memory.
+    /// The kind that an operation gives.
     pub fn gives(&self, operation: usize) -> Kind
         requires { operation < length self.now.signatures }
         ensures { IfSome (slice_get self.now.signatures operation) (λ s. result ≡ s.gives) }
@@ -130,7 +130,7 @@ impl<M: Meaning> OperationTable<M> {
         self.signatures.gives(operation)
     }
 
-    /// What an operation answers: the value or the fault that is meant, or want of memory.
+    /// What an operation answers: the value or the fault that is meant, or out of memory.
     pub fn call(&self, operation: usize, arguments: &[Value]) -> Result<Value, OperationRefusal>
         requires there { operation < length self.now.signatures }
         requires fits { (s : _) → slice_get self.now.signatures operation ≡ Some s → FitKinds s.takes arguments.now }
@@ -144,7 +144,6 @@ impl<M: Meaning> OperationTable<M> {
     }
 }
 
-// By hand, so that no crate above proves how the parts are dropped.
 impl<M: Meaning> Drop for OperationTable<M> {
     fn drop(self) {
         let OperationTable {

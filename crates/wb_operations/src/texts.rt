@@ -63,7 +63,7 @@ fn join(alloc: Global, x: &[u8], y: &[u8]) -> Result<Bytes, AllocError>
     Bytes::from_vec(bytes)
 }
 
-/// How many bytes a text has. Takes no memory.
+/// How many bytes a text has.
 #[tactic(auto, unfolding(crate::specs::Standard::standard_at, crate::specs::Standard::standard_operations))]
 pub fn standard_length(arguments: &[Value]) -> Result<Value, OperationRefusal>
     requires { FitKinds one_text arguments.now }
@@ -99,8 +99,8 @@ fn print(alloc: Global, number: i64) -> Result<Value, OperationRefusal>
     }
 }
 
-/// The number that a text writes: an optional `-` and one or more digits, of which the first may be 0. Fault 3 where it is no such
-/// text, or the number is outside 64 bits. Takes no memory.
+/// The number that a text writes: an optional `-` and one or more digits, of which the first may be 0. Fault 3 where it is no such text, or
+/// the number is outside 64 bits.
 #[tactic(auto, unfolding(crate::specs::Standard::standard_at, crate::specs::Standard::standard_operations))]
 pub fn standard_to_int(arguments: &[Value]) -> Result<Value, OperationRefusal>
     requires { FitKinds one_text arguments.now }

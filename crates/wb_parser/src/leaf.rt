@@ -1,4 +1,4 @@
-//! How is one leaf taken? It is scanned at the state behind the one before it, and shifted after the reductions that it asks for.
+//! How is one leaf taken? It is scanned at the state after the leaf before it, and shifted after the reductions that it asks for.
 
 ghost use Rattle.std.specs.Prelude.{◌≡◌, ◌<◌, ◌≤◌, ◌++◌, ◌∷◌, [], ℕ, List, IfOk, OnOk, length, slice_range};
 ghost use Rattle.wb_base.specs.declared.symbol.Symbol.{Symbol};

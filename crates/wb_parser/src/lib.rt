@@ -1,6 +1,6 @@
-//! The one tree or the one stop of a text, by the tables of a language.
+//! An LR parser: the one tree or the one stop of a text, by the tables of a language.
 //!
-//! A text has exactly one of the two. The scanner is asked once for each leaf, at the state right behind the shift before it; reductions
+//! A text has exactly one of the two. The scanner is asked once for each leaf, at the state right after the shift before it; reductions
 //! come after that and change neither place nor kind of a stop. What a tree and a stop are lies in `wb_languages`.
 #![tactic(auto)]
 

@@ -1,4 +1,4 @@
-//! Which tree has a text, or where does it stop?
+//! Which tree does a text have, or where does the text stop?
 //!
 //! Leaf after leaf is taken until the text is read or stops. Whatever was built for a text that stops is taken back.
 
@@ -16,10 +16,10 @@ use wb_values::TreeStore;
 // Of texts that are no longer there is nothing to save.
 const SHORT: usize = 1024;
 
-/// The one tree of a text in a language, or the one stop. The only error is want of memory.
+/// The one tree of a text in a language, or the one stop.
 ///
 /// The children of the tree's nodes are its trees and lexemes, in order; a lexeme is without the prefix of its form. After a tree the store
-/// begins with what it held before. After a stop, and after want of memory, it is as before. A stack of states and values, one of each for
+/// begins with what it held before. After a stop, and when memory ran out, it is as before. A stack of states and values, one of each for
 /// each root, and two numbers for each production are all that is kept beside the store, in which a sixteenth of a long text tells how much
 /// room is made for all of it.
 pub fn parse(
@@ -47,7 +47,7 @@ pub fn parse(
     }
 }
 
-// The same, with whatever was built left in the store.
+// Like `parse`, with whatever was built left in the store.
 fn read_all(
     alloc: Global,
     language: &Language,

@@ -68,7 +68,7 @@ fn move_states(
     Ok(target)
 }
 
-// The same for one state. That below it is known before the action is, so that a chain of such reductions doesn't wait for it.
+// Like `move_states`, for one state. That below it is known before the action is, so that a chain of such reductions doesn't wait for it.
 fn replace_top(tables: &Tables, states: &mut Vec<usize>, left: usize) -> usize
     requires left { left < tables.now.nonterminals }
     requires some { 1 ≤ length states.old.items }

@@ -1,4 +1,4 @@
-//! Which left side and how many symbols on the right has each production? In one short list, since a reduction asks for both.
+//! Keeps the left side of each production, and the number of symbols on its right. In one short list, since a reduction asks for both.
 
 ghost use Rattle.std.specs.Prelude.{◌<◌, IfOk, length};
 ghost use Rattle.wb_parser.specs.Inner.Rules.{AreRules, IsRule};

@@ -14,7 +14,7 @@ pub(crate) struct Stack {
 }
 
 impl Stack {
-    // No roots. Takes no memory.
+    // No roots.
     pub(crate) fn new(alloc: Global) -> Stack
         ensures states { result.states.items ≡ [] }
         ensures values { result.values ≡ [] }

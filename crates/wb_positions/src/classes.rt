@@ -19,7 +19,7 @@ pub struct Classes {
     pub firsts: Vec<u8>,
 }
 
-/// The classes of bytes that are in the same sets of these nodes. The only error is want of memory.
+/// The classes of bytes that are in the same sets of these nodes.
 pub fn classes_of(alloc: Global, nodes: &[RegexNode]) -> Result<Classes, AllocError>
     ensures { IfOk result (λ c. AreClasses nodes.now c.of.items c.firsts.items (length nodes.now)) }
 {

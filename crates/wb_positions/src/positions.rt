@@ -32,7 +32,7 @@ pub(crate) fn add_follows(
     add_new_follows(alloc, order, &repeated, follow)
 }
 
-// The same by the nodes that add something.
+// Like `add_follows`, by the nodes that add something.
 fn add_new_follows(
     alloc: Global,
     order: &PostOrder,

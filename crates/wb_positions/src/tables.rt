@@ -29,7 +29,6 @@ pub struct Tables {
     pub starts: Rows,
 }
 
-// By hand, so that no crate above proves how the parts are dropped.
 impl Drop for Tables {
     fn drop(self) {
         let Tables {
@@ -42,7 +41,7 @@ impl Drop for Tables {
     }
 }
 
-/// The tables of these expressions and sets of them. The only error is want of memory.
+/// The tables of these expressions and sets of them.
 pub fn tables_of(alloc: Global, terminals: &[Regex], sets: &[TermSet]) -> Result<Tables, AllocError>
     ensures { IfOk result (λ t. AreTables terminals.now sets.now t) }
 {
@@ -77,7 +76,7 @@ fn links_of(alloc: Global, nodes: &[RegexNode], roots: &[usize]) -> Result<Links
     links_in(alloc, &order, roots)
 }
 
-// The same, where it is known which nodes match the empty text.
+// Like `links_of`, where it is known which nodes match the empty text.
 fn links_in(alloc: Global, order: &PostOrder, roots: &[usize]) -> Result<Links, AllocError>
     requires parts { AreParts order.now.nodes.now }
     requires nullable { AreNullable order.now.nodes.now order.now.empty.now (length order.now.nodes.now) }

@@ -66,7 +66,7 @@ fn expand<T: Table>(
     }
 }
 
-/// Takes a token, if it can follow those before it. The only error is want of memory.
+/// Takes a token, if it can follow those before it.
 pub fn take<T: Table>(
     alloc: Global,
     table: &T,
@@ -99,7 +99,6 @@ pub fn take<T: Table>(
 }
 
 /// Whether the tokens that were taken are a text; then the values are those of the text.
-/// The only error is want of memory.
 pub fn finish<T: Table>(
     alloc: Global,
     table: &T,

@@ -70,7 +70,7 @@ impl Model for Events {
 }
 
 impl Events {
-    /// Nothing yet. Takes no memory.
+    /// Nothing yet.
     pub fn new(alloc: Global) -> Events
         ensures { result ≡ [] }
     {
@@ -79,7 +79,7 @@ impl Events {
         }
     }
 
-    /// One event more. The only error is want of memory.
+    /// One event more.
     pub fn push(&mut self, event: Event) -> Result<(), AllocError>
         ensures ok { OnOk result (self.new ≡ self.old ++ event ∷ []) }
     {
@@ -87,7 +87,7 @@ impl Events {
         Ok(())
     }
 
-    /// The events. Takes no memory.
+    /// The events.
     pub fn as_slice(&self) -> &[Event]
         ensures { result.now ≡ self.now }
     {
@@ -95,7 +95,6 @@ impl Events {
     }
 }
 
-// By hand, so that no crate above proves how the parts are dropped.
 impl Drop for Events {
     fn drop(self) {
         let Events { items } = self;

@@ -75,10 +75,9 @@ fn advance<T: Table>(
 
 /// Reads a text by a table, beginning with these values.
 ///
-/// It is accepted exactly where its bytes spell tokens that the grammar derives, and the answer has
-/// the values that the grammar makes of them, which are the only ones. Else the answer is its one
-/// first error. The time is linear in the text: each token costs a number of steps that the table
-/// bounds. The only error is want of memory.
+/// It is accepted exactly where its bytes spell tokens that the grammar derives, and the answer has the values that the grammar makes of
+/// them, which are the only ones. Else the answer is its one first error. The time is linear in the text: each token costs a number of
+/// steps that the table bounds.
 pub fn read_all<T: Table>(
     alloc: Global,
     table: &T,

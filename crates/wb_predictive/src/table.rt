@@ -1,4 +1,4 @@
-//! What does a format give, so that its texts are read?
+//! What does a format give so that its texts can be read?
 //!
 //! A trait, so that the parser is proved once for all formats. What a table's test computes is in `specs/Entries.antt`; `nested` is a
 //! small example.
@@ -69,19 +69,19 @@ pub trait Table {
     /// This is next after a place of the text.
     ghost IsNext: { List ℕ → ℕ → Next Self.Token → Type 0 };
 
-    /// The nonterminal that derives whole texts. Takes no memory.
+    /// The nonterminal that derives whole texts.
     fn start(&self) -> Self::Nonterminal
         ensures { result ≡ grammar.start };
 
-    /// The kind of the end. Takes no memory.
+    /// The kind of the end.
     fn end(&self) -> Self::Kind
         ensures { result ≡ end_kind };
 
-    /// The kind of a token. Takes no memory.
+    /// The kind of a token.
     fn kind(&self, token: &Self::Token) -> Self::Kind
         ensures { result ≡ grammar.kind_of token.now };
 
-    /// The rules of a nonterminal, in the grammar's order. Takes no memory.
+    /// The rules of a nonterminal, in the grammar's order.
     fn rules(
         &self,
         nonterminal: Self::Nonterminal,
@@ -89,13 +89,12 @@ pub trait Table {
         ensures rights { rights_of result.now ≡ grammar.rights nonterminal }
         ensures kinds { let entry = entries nonterminal in kinds_of result.now ≡ entry.kinds };
 
-    /// What is next after a place. The only error is want of memory.
+    /// What is next after a place.
     fn next(&self, alloc: Global, text: &[u8], from: usize) -> Result<Next<Self::Token>, AllocError>
         requires { from ≤ length text.now }
         ensures ok { IfOk result (λ next. IsNext text.now from next) };
 
-    /// Changes the values by a token, which begins at `at` and ends before `end`.
-    /// The only error is want of memory, and then the values may be anything.
+    /// Changes the values by a token, which begins at `at` and ends before `end`. If memory runs out, the values may be anything.
     fn shift(
         &self,
         alloc: Global,
@@ -106,8 +105,7 @@ pub trait Table {
     ) -> Result<(), AllocError>
         ensures ok { OnOk result (values.new ≡ grammar.shift token at end values.old) };
 
-    /// Changes the values by an action.
-    /// The only error is want of memory, and then the values may be anything.
+    /// Changes the values by an action. If memory runs out, the values may be anything.
     fn act(
         &self,
         alloc: Global,

@@ -1,4 +1,4 @@
--- No layout stands where a token stands.
+-- No layout is where a token is.
 use Rattle.std.proofs.Common.{◌≡◌, ◌≤◌, ◌<◌, ◌+◌, ℕ, List, [], ◌∷◌, ◌++◌, Bool, true, false, ◌||◌, not, eqb, length, get_or, refl, sym, ap}
 use Rattle.std.proofs.Common.{◌∙◌, subst, arith, ℤ, length-append, append_assoc}
 use Rattle.std.specs.Fmt.{signed_decimal}
@@ -60,7 +60,7 @@ mark_clear mark =
     not_true (begins_layout (get_or (punctuation_text mark) 0 0))
     (each_value marks.enum (λ x. not (begins_layout (get_or (punctuation_text x) 0 0))) refl mark)
 
--- no layout stands where the bytes from there on begin with one that begins none
+-- no layout is where the bytes from there on begin with one that begins none
 clear_piece : (text : List ℕ) (at : ℕ) → begins_layout (get_or text at 0) ≡ false → (behind : ℕ)
     → ¬ IsLayoutPiece WithComments text at behind
 clear_piece text at clear behind (blank within is after) = let e = sym clear ∙ ap (λ t. t || eqb (get_or text at 0) 47) is in absurd (cc)
@@ -80,7 +80,7 @@ second_byte text front y at e f =
     let same : at ≡ length front + 0 = omega (arith, f) in
     ap (λ l. get_or l at 0) e ∙ (ap (λ k. get_or (front ++ y) k 0) same ∙ get_or-append-add front y 0 0)
 
--- no layout stands where bytes stand whose first begins none
+-- no layout is where the first of the bytes begins none
 front_piece : (text front x rest : List ℕ) (at : ℕ) → text ≡ front ++ (x ++ rest) → at ≡ length front → 0 < length x → IsClear x
     → (behind : ℕ) → ¬ IsLayoutPiece WithComments text at behind
 front_piece text front [] rest at e f some clear behind piece = omega (arith, some)
@@ -92,7 +92,7 @@ name_clear : (name : List ℕ) → IsIdentifier name → IsClear name
 name_clear [] s = absurd s
 name_clear (b ∷ x) s = letter_clear b s.0
 
--- no layout stands where a token is printed
+-- no layout is where a token is printed
 pub no_piece : (text front rest : List ℕ) (at : ℕ) (token : Token) → 0 < length (printed token) → Spells token (printed token)
     → text ≡ front ++ (printed token ++ rest) → at ≡ length front → (behind : ℕ) → ¬ IsLayoutPiece WithComments text at behind
 no_piece text front rest at (t.Name name) some s e f = front_piece text front name rest at e f some (name_clear name s.1)

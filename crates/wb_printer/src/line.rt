@@ -1,4 +1,4 @@
-//! Where do spaces stand between tokens?
+//! Which tokens have a space between them?
 //!
 //! A text is written token by token, and knows whether the next token is at its end without a space.
 
@@ -13,7 +13,7 @@ use std::marker::Model;
 use wb_base::push;
 use wb_tokens::{Punctuation, Word, print_int, print_text};
 
-// The text so far. Where a call ends with want of memory, what it holds is open.
+// The text so far. Where memory runs out in a call, what it holds is open.
 #[derive(Drop)]
 pub(crate) struct Line {
     text: Vec<u8>,
@@ -54,7 +54,7 @@ fn is_close_after(mark: Punctuation) -> bool
 
 #[tactic(auto, unfolding(crate::specs::Inner::Output::put, crate::specs::Inner::Output::ended))]
 impl Line {
-    // The first line of a text of these bytes, with nothing on it. Takes no memory.
+    // The first line of a text of these bytes, with nothing on it.
     pub(crate) fn new(text: Vec<u8>) -> Line
         ensures { result ≡ record { text = text.items; closely = true } }
     {
@@ -64,7 +64,7 @@ impl Line {
         }
     }
 
-    // The bytes. Takes no memory.
+    // The bytes.
     pub(crate) fn into_text(self) -> Vec<u8>
         ensures { result.items ≡ self.text }
     {

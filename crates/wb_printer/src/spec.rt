@@ -16,7 +16,7 @@ use std::alloc::{AllocError, Global};
 use wb_syntax::{Header, Item, Pattern, Spec};
 use wb_tokens::{Punctuation, Word};
 
-/// The canonical text of a specification. The only error is want of memory.
+/// The canonical text of a specification.
 ///
 /// The text reads back as the same specification but for places, where it isn't too long for a file, and is the canonical text of
 /// each such specification. An absent `needs` stays absent, and a regular expression keeps its bytes. No clause bounds the work: it is

@@ -25,7 +25,7 @@ are_asked : (operations : List OperationSignature) (words : List (List ℕ)) (kn
     → ComesTo operations words known P → InCommandSet words
 are_asked operations words known P comes = record { asked = comes.asked; asks = comes.asks }
 
--- a run that stops at a file that the words name is asked for a command, but for want of memory
+-- a run that stops at a file that the words name is asked for a command, unless memory runs out
 pub stopped_asked : (operations : List OperationSignature) (before now : Outside) (words : List (List ℕ)) (failure : ReadFailure) →
     Stopped before now (ComesTo operations words before.files) failure
     → ¬ InCommandSet words → failure ≡ NoMemory

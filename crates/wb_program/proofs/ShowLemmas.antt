@@ -19,7 +19,7 @@ use Rattle.wb_inputs.proofs.HostLemmas.{read_is}
 use Rattle.wb_program.specs.ShowReport.{ShowReport}
 use Rattle.wb_program.specs.Inner.Shown.{ContentsShow, RefusesRead, ShowsRefusal}
 
--- what is shown isn't want of memory
+-- what is shown isn't out of memory
 not_memory : (refusal : SpecRefusal) (shown : Refusal) → of_spec (written_reason refusal) ≡ Some shown → ¬ IsNoMemory refusal
 not_memory s.TooLong shown shows none = none
 not_memory s.WrongFormat shown shows none = none

@@ -26,7 +26,7 @@ HaveOneText = (operations : Operations) (words : List (List ℕ)) (files : Files
     → IsReport operations words (Some files) status bytes → IsReport operations words (Some files) status others → bytes ≡ others
 
 -- where words and known files have a report, a run ends with its status, so with 0 where everything is in order; else it ends at a file or
--- at the output, or for want of memory
+-- at the output, or when memory runs out
 abbrev pub EndAsReported : Type 0
 EndAsReported = (operations : Operations) (words : List (List ℕ)) (files : Files) (status end : Status) (bytes : List ℕ)
     (before now : Option (List ℕ)) → IsReport operations words (Some files) status bytes

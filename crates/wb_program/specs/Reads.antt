@@ -46,7 +46,7 @@ pub record ComesTo (operations : List OperationSignature) (words : List (List �
   pub asks : Asks words asked
   pub comes : ReadsTo operations known asked P
 
--- a run that ends for want of a file: one that the words name is missing, and no check before it fails
+-- a run that ends at a missing file: one that the words name is missing, and no check before it fails
 abbrev pub AbsentCause : List OperationSignature → List (List ℕ) → Option Files → (List ℕ → ℕ) → (List ℕ → ℕ) → Type 0
 AbsentCause operations words known before now = ComesTo operations words known (IsMissing known before now)
 

@@ -1,7 +1,7 @@
 //! What does `certify HOST EXT..` answer, and which certified extension of a host is in a file?
 //!
-//! The host comes first, by the checks in `check`, and then each extension in order. What a certified extension is, and why contents are
-//! none, is found by `wb_extension_files`.
+//! The host comes first, by the checks in `check`, and then each extension in order. What a certified extension is, and why contents aren't
+//! one, is found by `wb_extension_files`.
 
 ghost use Rattle.std.specs.Prelude.{◌≡◌, ◌++◌, IfOk, IfErr, OnOk, List, ℕ, [], ◌∷◌, map};
 ghost use Rattle.wb_beside.specs.Extensions.{IsOneExtension};
@@ -89,7 +89,7 @@ fn push_name(names: &mut Vec<Bytes>, name: Bytes) -> Result<(), AllocError>
     Ok(())
 }
 
-// The name of the certified extension of a file, or the answer for one that is none.
+// The name of the certified extension of a file, or the answer for a file that isn't one.
 fn name_of<S: Shelf, M: Meaning>(
     alloc: Global,
     shelf: &mut S,

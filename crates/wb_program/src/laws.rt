@@ -34,8 +34,8 @@ pub fn one_text_law()
     wb_united_texts::generated_laws::one_text_law();
 }
 
-/// Where words and known files have a report, a run ends with its status: with 0 where everything is in order. Else it ends at a file or
-/// at the output, or for want of memory.
+/// Where words and known files have a report, a run ends with its status: with 0 where everything is in order. Else it ends at a file or at
+/// the output, or when memory runs out.
 pub fn complete_law()
     ensures { EndAsReported }
 {

@@ -34,10 +34,11 @@ use wb_world::{Shelf, Sink};
 
 /// All that the program does: reads the words as a command, reads the files that they name, and writes the report.
 ///
-/// Equations may name the operations of the table. Those of a host are held against their signatures, and `value`, `run` and `generate` call them.
+/// Equations of a host and of its extensions may name the operations of the table. Their calls are tested against the signatures of these
+/// operations, and `value`, `run` and `generate` call the operations.
 ///
-/// The whole report is made before its first byte is written. Want of memory may come at any step before
-/// that. How many reads and writes there are is left open.
+/// The whole report is made before its first byte is written. Memory may run out at any step before that. How many reads and writes there
+/// are is left open.
 pub fn workbench<S: Shelf, K: Sink, M: Meaning>(
     alloc: Global,
     words: &[String],

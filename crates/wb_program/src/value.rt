@@ -139,7 +139,7 @@ fn shown(
     }
 }
 
-// The answer for a file that is no term of its host.
+// The answer for a file that isn't a term of its host.
 fn refused_term(alloc: Global, file: &str, reason: TermReason) -> Result<Answer, AllocError>
     ensures { IfOk result (λ made. RootReport file.now [] (RootAnswer.Refused reason) made.status made.report.items) }
 {

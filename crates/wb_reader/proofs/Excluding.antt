@@ -152,7 +152,7 @@ one_refusal bytes (MatchesEmpty a) (MatchesEmpty b) c d h k = ap (λ x. MatchesE
 pub one_answer : HasOneAnswer
 one_answer = (none_refused, one_refusal)
 
--- want of memory may come at any bytes
+-- memory may run out at any bytes
 only_memory : (text : List ℕ) (e : SpecRefusal) → IsNoMemory e → HasCause text e
 only_memory text (NoMemory error) on = tt
 only_memory text TooLong on = absurd on

@@ -1,4 +1,4 @@
-//! Which rules have expressions?
+//! The rules of expressions.
 //!
 //! ```text
 //! expression = INT | STRING | 'true' | 'false'

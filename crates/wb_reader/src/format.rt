@@ -24,7 +24,7 @@ pub(crate) enum Wanted {
     Semicolon,
 }
 
-// Whether a text begins with `format`, an integer other than 1, and `;`. The only error is want of memory.
+// Whether a text begins with `format`, an integer other than 1, and `;`.
 pub(crate) fn is_other_format(alloc: Global, bytes: &[u8]) -> Result<bool, AllocError>
     ensures { IfOk result (λ other. IsTrue other ↔ IsOtherFormat bytes.now) }
 {

@@ -1,4 +1,4 @@
-//! Which rules have headers, items and productions?
+//! The rules of headers, items and productions.
 //!
 //! ```text
 //! file       = 'format' 1 ';' header item*

@@ -1,4 +1,4 @@
-//! Which specification are these bytes, or why are they none?
+//! Reads bytes as a specification, or says why they aren't one.
 //!
 //! A table decides by one token of lookahead, so nothing recurses; regular expressions are read after all else. What is read so far is
 //! in `wb_builder`, what a specification is in `wb_syntax`.

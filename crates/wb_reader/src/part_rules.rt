@@ -1,4 +1,4 @@
-//! Which rules have kinds, flow types, children and equations?
+//! The rules of kinds, flow types, children and equations.
 //!
 //! ```text
 //! kind     = 'int' | 'bool' | 'text' | NAME

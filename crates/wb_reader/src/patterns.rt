@@ -13,7 +13,7 @@ use wb_base::push;
 use wb_regex::{RegexRefusal, read_regex};
 use wb_syntax::{Item, ItemForm, Pattern, WrittenPattern};
 
-// The form with its regular expression read. The refusals are `BadRegex`, `MatchesEmpty` and want of memory.
+// The form with its regular expression read. The refusals are `BadRegex`, `MatchesEmpty` and out of memory.
 fn read_form(
     alloc: Global,
     form: ItemForm<WrittenPattern>,

@@ -1,11 +1,11 @@
-//! Why are bytes no specification that is taken?
+//! Why are bytes refused as a specification?
 //!
 //! The causes have one order, and the first that holds is the refusal. When each holds is in `specs/Refusals.antt`.
 
 use std::alloc::AllocError;
 use wb_base::Bytes;
 
-/// Why bytes are no specification that is taken. Offsets count bytes from the beginning of the file.
+/// Why bytes are refused as a specification. Offsets count bytes from the beginning of the file.
 #[derive(Debug, Drop)]
 pub enum SpecRefusal {
     /// S2: there are more than 1,048,576 bytes.
@@ -21,7 +21,7 @@ pub enum SpecRefusal {
     /// R2: the first regular expression that isn't taken matches the empty text. It is that of the terminal, layout or marking
     /// terminal of this name.
     MatchesEmpty(Bytes),
-    /// There was no memory to tell.
+    /// Out of memory.
     NoMemory(AllocError),
 }
 

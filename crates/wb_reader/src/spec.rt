@@ -1,4 +1,4 @@
-//! Which specification are these bytes?
+//! Reads bytes as a specification.
 //!
 //! The steps come in the order of their refusals, and each is in a file of its own.
 

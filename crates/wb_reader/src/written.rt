@@ -1,4 +1,4 @@
-//! What are bytes written as, before their regular expressions are read?
+//! Reads bytes as a specification whose regular expressions aren't read yet.
 //!
 //! The table reads them, and what it leaves after is the written specification.
 
@@ -13,7 +13,7 @@ use wb_builder::SpecBuilder;
 use wb_predictive::{Outcome, read_all};
 use wb_syntax::WrittenSpec;
 
-// The specification that bytes are written as. The refusals are `Syntax` and want of memory.
+// The specification that bytes are written as. The refusals are `Syntax` and out of memory.
 pub(crate) fn read_written(alloc: Global, bytes: &[u8]) -> Result<WrittenSpec, SpecRefusal>
     ensures ok { IfOk result (λ spec. IsWrittenText bytes.now spec) }
     ensures refused { IfErr result (OnSyntax bytes.now) }

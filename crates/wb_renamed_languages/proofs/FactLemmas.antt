@@ -1,4 +1,4 @@
--- What is a language on which texts are parsed is one in other numbers.
+-- A language on which texts are parsed is one in other numbers too.
 use Rattle.std.proofs.Common.{◌++◌, ◌∙◌, ◌∷◌, ◌≡◌, ◌<◌, List, Some, [], ap, map, slice_get, subst, sym, ℕ}
 use Rattle.std.specs.Prelude.{All}
 use Rattle.std.proofs.lemmas.List.{map-append}

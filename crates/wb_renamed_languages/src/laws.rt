@@ -19,7 +19,7 @@ pub fn answers_law()
     ensures { (r : Renumbering) (s : Renumbering) (l : LanguageView) (m : LanguageView) → IsSameLanguage r s l m → HasSameAnswers r.names l m }
 {}
 
-/// What is a language on which texts are parsed is one in other numbers too, where layout is numbered on behind the terminals there.
+/// A language on which texts are parsed is one in other numbers too, where layout is numbered on after the terminals there.
 pub fn language_law()
     ensures { (r : Renumbering) (s : Renumbering) (l : LanguageView) (m : LanguageView) → IsSameLanguage r s l m → IsNumberedOn m → IsLanguage l → IsLanguage m }
 {}

@@ -1,4 +1,4 @@
-//! What is an equation, a local or a forward of a production in new numbers?
+//! Renumbers the equations, locals and forwards of a production.
 
 ghost use Rattle.std.specs.Prelude.{◌≡◌, IfOk, map};
 ghost use Rattle.wb_united_attributes.specs.Rows as rows;
@@ -10,7 +10,7 @@ use std::alloc::{AllocError, Global};
 use wb_base::{Sequence, push};
 use wb_resolved::{Equation, Forward, Local, Node, Place, Target};
 
-/// An equation. The only error is want of memory, here and below.
+/// An equation.
 pub fn new_equation(
     alloc: Global,
     numbers: &Numbers,

@@ -1,6 +1,6 @@
-//! Which number has something in a union?
+//! Gives the number of something in a union.
 //!
-//! Numbers of one sort stand in blocks: those of the host come first, and then those of each extension.
+//! Numbers of one sort are in blocks: those of the host come first, and then those of each extension.
 
 ghost use Rattle.std.specs.Prelude.{◌≡◌, IfOk};
 ghost use Rattle.wb_renumbered.specs.NewNumbers.{grouped_in, place_in};
@@ -17,7 +17,7 @@ pub struct Block {
     pub total: usize,
 }
 
-/// The same of two groups, of which one leads.
+/// Such numbers of two groups, of which one leads.
 ///
 /// The host of the second is what comes before its extensions' own in the union: all that leads, and what of the host follows.
 #[derive(Clone, Copy)]

@@ -1,4 +1,4 @@
-//! What are the children of a production in new numbers?
+//! Renumbers the children of a production.
 
 ghost use Rattle.std.specs.Prelude.{◌≡◌, IfOk, map};
 ghost use Rattle.wb_united_attributes.specs.Rows as rows;
@@ -10,7 +10,7 @@ use std::alloc::{AllocError, Global};
 use wb_base::{Sequence, push};
 use wb_resolved::{Child, ChildKind};
 
-/// The children of a production. The only error is want of memory.
+/// The children of a production.
 pub fn new_children(
     alloc: Global,
     numbers: &Numbers,

@@ -1,4 +1,4 @@
-//! What is a nonterminal, an attribute or an occurrence in new numbers?
+//! Renumbers a nonterminal, an attribute or an occurrence.
 
 ghost use Rattle.std.specs.Prelude.{◌≡◌, IfOk, map};
 ghost use Rattle.wb_united_attributes.specs.Rows as rows;
@@ -9,14 +9,14 @@ use std::alloc::{AllocError, Global};
 use wb_base::{Kind, Sequence, push};
 use wb_resolved::{Attribute, Nonterminal, Occurrence};
 
-/// Whose something is in the union. Takes no memory.
+/// The owner of something in the union.
 pub fn new_owner(numbers: &Numbers, owner: usize) -> usize
     ensures { result ≡ rows.new_owner numbers.now.owner owner }
 {
     if owner == 0 { 0 } else { numbers.owner }
 }
 
-/// A nonterminal. The only error is want of memory, here and below.
+/// A nonterminal.
 pub fn new_nonterminal(
     alloc: Global,
     numbers: &Numbers,

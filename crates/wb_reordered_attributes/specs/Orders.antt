@@ -47,6 +47,6 @@ module _ (host : Rows) (all others : List Addition) (to : ℕ → ℕ) where
     local_in = λ p. moved_local (host_number host all p);
   }
 
-  -- the same with the places of the extensions
+  -- the new numbers, with the places of the extensions
   abbrev pub reordered_rows : Renumbering
   reordered_rows = record { numbers = reordered_numbers; extension = to }

@@ -6,7 +6,7 @@ use Rattle.wb_base.specs.Different.{Differ}
 use Rattle.wb_lemmas.proofs.Members.{place_of}
 use Rattle.wb_lemmas.proofs.Places.{at_once, at_within}
 
--- where what is at a place is in the other list, by what the function makes of it; what is behind the one list is as far behind the other
+-- where what is at a place is in the other list, by what the function makes of it; what is after the one list is as far after the other
 pub record Spot {X : Type 0} (f : X → X) (xs ys : List X) (p : ℕ) : Type 0 where
   pub place : ℕ
   pub element : (x : X) → slice_get xs p ≡ Some x → slice_get ys place ≡ Some (f x)

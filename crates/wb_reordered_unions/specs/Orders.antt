@@ -30,7 +30,7 @@ number_at own sizes (past j) = own + (total_of sizes + j)
 abbrev pub number_to : (own : ℕ) → (sizes others : List ℕ) → (ℕ → ℕ) → ℕ → ℕ
 number_to own sizes others to x = number_at own others (place_to to (place_of own sizes x))
 
--- the same for the terminals, nonterminals and productions of the union of a host with extensions and with these in another order
+-- terminals, nonterminals and productions of the union of a host with extensions, in the union with these in another order
 abbrev pub reordered : GrammarView → List ℕ → (pieces others : List Piece) → (ℕ → ℕ) → Renaming
 reordered host extensible pieces others to = record {
   terminal = number_to host.terminals (terminal_sizes host extensible pieces) (terminal_sizes host extensible others) to;

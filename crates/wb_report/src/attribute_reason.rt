@@ -1,4 +1,4 @@
-//! Why is a file refused whose attributes aren't well-defined?
+//! Reports why a file is refused: its attributes aren't well defined.
 
 ghost use Rattle.std.specs.Prelude.{◌≡◌, ◌++◌, OnOk};
 ghost use Rattle.wb_report.specs.Reasons.{attribute_text, reader_text};

@@ -1,4 +1,4 @@
-//! What does a command show that comes to its end?
+//! What does a command that comes to its end show?
 
 ghost use Rattle.std.specs.Prelude.{◌≡◌, ◌++◌, OnOk};
 ghost use Rattle.std.specs.Fmt.{decimal};

@@ -1,4 +1,4 @@
-//! Why is an extension refused that must not meddle with its host?
+//! Reports why an extension is refused by the rules E1 to E6.
 
 ghost use Rattle.std.specs.Prelude.{◌≡◌, ◌++◌, OnOk};
 ghost use Rattle.wb_report.specs.Reasons.{extension_text};
@@ -49,7 +49,7 @@ pub enum ExtensionReason {
     },
 }
 
-// Appends why an extension is refused that must not meddle with its host.
+// Appends the reason for which an extension is refused (E1 to E6).
 pub(crate) fn push_extension_reason(
     out: &mut Vec<u8>,
     reason: &ExtensionReason,

@@ -1,4 +1,4 @@
-//! Why is a file refused whose grammar or scanner isn't deterministic?
+//! Reports why a file is refused: its grammar or scanner isn't deterministic.
 
 ghost use Rattle.std.specs.Prelude.{◌≡◌, ◌++◌, OnOk};
 ghost use Rattle.wb_report.specs.Reasons.{grammar_text};

@@ -17,7 +17,7 @@ use wb_base::Bytes;
 
 /// The report of an outcome: one line, or the lines of a command that comes to its end, each ended by LF.
 ///
-/// Names and printed values are written as they are handed in. The only error is want of memory.
+/// Names and printed values are written as they are handed in.
 pub fn report(alloc: Global, outcome: &Outcome) -> Result<Vec<u8>, AllocError>
     ensures { IfOk result (λ lines. lines.items ≡ report_of outcome.now) }
 {

@@ -23,7 +23,6 @@ pub struct ShownConflict {
     pub second: ShownAction,
 }
 
-// By hand, so that no crate above proves how the parts are dropped.
 impl Drop for ShownConflict {
     fn drop(self) {
         let ShownConflict {
@@ -45,7 +44,6 @@ pub struct ShownItem {
     pub dot: usize,
 }
 
-// By hand, so that no crate above proves how the parts are dropped.
 impl Drop for ShownItem {
     fn drop(self) {
         let ShownItem { production, dot: _ } = self;

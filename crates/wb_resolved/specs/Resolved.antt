@@ -1,4 +1,4 @@
--- What is a resolved specification.
+-- What a resolved specification is.
 use Rattle.std.specs.Prelude.{◌≡◌, ◌≢◌, ℕ, ◌++◌, All, IfSome, map, slice_get, Some}
 use Rattle.wb_base.specs.Different.{Differ}
 use Rattle.wb_base.specs.Grammar.{GrammarView}

@@ -8,13 +8,12 @@ use wb_base::{Bytes, Kind, Sequence};
 pub struct Nonterminal {
     /// Its name, as its owner's file writes it.
     pub name: Bytes,
-    /// Whose it is.
+    /// Its owner, by number.
     pub owner: usize,
     /// The numbers of the inherited attributes that what its productions forward to may need.
     pub forward_needs: Sequence<usize>,
 }
 
-// By hand, so that no crate above proves how the parts are dropped.
 impl Drop for Nonterminal {
     fn drop(self) {
         let Nonterminal {
@@ -40,7 +39,7 @@ pub enum Direction {
 pub struct Attribute {
     /// Its name, as its owner's file writes it.
     pub name: Bytes,
-    /// Whose it is.
+    /// Its owner, by number.
     pub owner: usize,
     /// Which way its values go.
     pub direction: Direction,
@@ -48,7 +47,6 @@ pub struct Attribute {
     pub kind: Kind,
 }
 
-// By hand, so that no crate above proves how the parts are dropped.
 impl Drop for Attribute {
     fn drop(self) {
         let Attribute {
@@ -63,7 +61,7 @@ impl Drop for Attribute {
 
 /// An attribute on a nonterminal.
 pub struct Occurrence {
-    /// Whose it is.
+    /// Its owner, by number.
     pub owner: usize,
     /// The number of the attribute.
     pub attribute: usize,
@@ -73,7 +71,6 @@ pub struct Occurrence {
     pub needs: Sequence<usize>,
 }
 
-// By hand, so that no crate above proves how the parts are dropped.
 impl Drop for Occurrence {
     fn drop(self) {
         let Occurrence {

@@ -1,7 +1,7 @@
-//! Which lists are the attributes of a host with extensions?
+//! Keeps the attributes of a host with extensions.
 //!
-//! Those in which each name is seen where it is written and is of the right kind, and extensions keep to what they may, so that no reader
-//! has to test it. Which nonterminals come first is in `specs/Grammar`.
+//! They are lists in which each name is seen where it is written and is of the right kind, and extensions keep to what they may, so that no
+//! reader has to test it. Which nonterminals come first is in `specs/Grammar`.
 
 ghost use Rattle.std.specs.Prelude.{◌≡◌, IfOk};
 ghost use Rattle.wb_resolved.specs.Attribution.{IsAttribution};
@@ -29,7 +29,6 @@ pub struct AttributionParts {
     pub signatures: Signatures,
 }
 
-// By hand, so that no crate above proves how the parts are dropped.
 impl Drop for AttributionParts {
     fn drop(self) {
         let AttributionParts {
@@ -72,7 +71,7 @@ impl Model for Attribution {
 }
 
 impl Attribution {
-    /// The attribution of these lists. The only error is want of memory.
+    /// The attribution of these lists.
     pub fn new(alloc: Global, parts: AttributionParts) -> Result<Attribution, AllocError>
         requires { IsAttribution parts }
         ensures { IfOk result (λ made. made ≡ parts) }
@@ -82,7 +81,7 @@ impl Attribution {
         })
     }
 
-    /// Its lists. Takes no memory.
+    /// Its lists.
     pub fn parts(&self) -> &AttributionParts
         ensures parts { result.now ≡ self.now }
         ensures whole { IsAttribution self.now }
@@ -103,7 +102,6 @@ impl Attribution {
     pub fn release(self) {}
 }
 
-// By hand, so that no crate above proves how the parts are dropped.
 impl Drop for Attribution {
     fn drop(self) {
         let Attribution { parts } = self;

@@ -36,7 +36,7 @@ pub enum Target {
 
 /// An equation for an attribute.
 pub struct Equation {
-    /// Whose it is.
+    /// Its owner, by number.
     pub owner: usize,
     /// The position of its first token, in bytes from the beginning of its owner's file.
     pub offset: usize,
@@ -46,7 +46,6 @@ pub struct Equation {
     pub nodes: Sequence<Node>,
 }
 
-// By hand, so that no crate above proves how the parts are dropped.
 impl Drop for Equation {
     fn drop(self) {
         let Equation {

@@ -31,7 +31,6 @@ pub struct Child {
     pub kind: ChildKind,
 }
 
-// By hand, so that no crate above proves how the parts are dropped.
 impl Drop for Child {
     fn drop(self) {
         let Child { label, kind: _ } = self;
@@ -43,7 +42,7 @@ impl Drop for Child {
 pub struct Local {
     /// The label by which its owner's file names it.
     pub label: Bytes,
-    /// Whose it is.
+    /// Its owner, by number.
     pub owner: usize,
     /// The position of the first token of its equation, in bytes from the beginning of its owner's file.
     pub offset: usize,
@@ -53,7 +52,6 @@ pub struct Local {
     pub nodes: Sequence<Node>,
 }
 
-// By hand, so that no crate above proves how the parts are dropped.
 impl Drop for Local {
     fn drop(self) {
         let Local {
@@ -76,7 +74,6 @@ pub struct Forward {
     pub nodes: Sequence<Node>,
 }
 
-// By hand, so that no crate above proves how the parts are dropped.
 impl Drop for Forward {
     fn drop(self) {
         let Forward { offset: _, nodes } = self;
@@ -88,7 +85,7 @@ impl Drop for Forward {
 pub struct Production {
     /// Its name, as its owner's file writes it.
     pub name: Bytes,
-    /// Whose it is.
+    /// Its owner, by number.
     pub owner: usize,
     /// Whether the concrete grammar has it.
     pub role: ProductionRole,
@@ -104,7 +101,6 @@ pub struct Production {
     pub equations: Sequence<Equation>,
 }
 
-// By hand, so that no crate above proves how the parts are dropped.
 impl Drop for Production {
     fn drop(self) {
         let Production {

@@ -1,6 +1,6 @@
-//! Which lists are a resolved specification?
+//! Keeps a resolved specification.
 //!
-//! Those whose attributes are an attribution and whose grammar and terminals fit it.
+//! It is lists whose attributes are an attribution and whose grammar and terminals fit it.
 
 ghost use Rattle.std.specs.Prelude.{◌≡◌, IfOk};
 ghost use Rattle.wb_resolved.specs.Resolved.{IsResolved};
@@ -27,7 +27,6 @@ pub struct ResolvedParts {
     pub attributes: Attribution,
 }
 
-// By hand, so that no crate above proves how the parts are dropped.
 impl Drop for ResolvedParts {
     fn drop(self) {
         let ResolvedParts {
@@ -73,7 +72,7 @@ impl Model for Resolved {
 }
 
 impl Resolved {
-    /// The resolved specification of these parts. The only error is want of memory.
+    /// The resolved specification of these parts.
     pub fn new(alloc: Global, parts: ResolvedParts) -> Result<Resolved, AllocError>
         requires { IsResolved parts }
         ensures { IfOk result (λ made. made ≡ parts) }
@@ -83,7 +82,7 @@ impl Resolved {
         })
     }
 
-    /// Its parts. Takes no memory.
+    /// Its parts.
     pub fn parts(&self) -> &ResolvedParts
         ensures parts { result.now ≡ self.now }
         ensures whole { IsResolved self.now }
@@ -104,7 +103,6 @@ impl Resolved {
     pub fn release(self) {}
 }
 
-// By hand, so that no crate above proves how the parts are dropped.
 impl Drop for Resolved {
     fn drop(self) {
         let Resolved { parts } = self;

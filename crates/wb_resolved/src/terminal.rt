@@ -21,7 +21,7 @@ pub enum TerminalKind {
 pub struct Terminal {
     /// Its name, as its owner's file writes it.
     pub name: Bytes,
-    /// Whose it is.
+    /// Its owner, by number.
     pub owner: usize,
     /// What it is for.
     pub kind: TerminalKind,
@@ -29,7 +29,6 @@ pub struct Terminal {
     pub pattern: Regex,
 }
 
-// By hand, so that no crate above proves how the parts are dropped.
 impl Drop for Terminal {
     fn drop(self) {
         let Terminal {

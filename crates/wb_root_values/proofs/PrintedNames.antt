@@ -33,7 +33,7 @@ identifier_no_colon [] is = absurd is
 identifier_no_colon (b ∷ x) (first, later) =
     (λ f. let is : is_letter 58 ≡ true = subst (λ c. is_letter c ≡ true) f first in absurd (cc is), bytes_no_colon x later)
 
--- what comes before the first colon, and what behind it
+-- what comes before the first colon, and what after it
 one_split : (x y u v : List ℕ) → HasNoColon x → HasNoColon y → x ++ codes ":" ++ u ≡ y ++ codes ":" ++ v → (x ≡ y) × (u ≡ v)
 one_split [] [] u v p q e = let whole : 58 ∷ u ≡ 58 ∷ v = e in (refl, cc)
 one_split [] (d ∷ y) u v p q e = let whole : 58 ∷ u ≡ d ∷ (y ++ codes ":" ++ v) = e in absurd (q.0 (cc))

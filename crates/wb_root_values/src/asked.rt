@@ -1,4 +1,4 @@
-//! Which attribute may be asked by a name, on a nonterminal or of a tree?
+//! Which attribute of a nonterminal or of a tree may be asked for by a name?
 //!
 //! One that is synthesized, occurs there and needs nothing there. Names are compared as reports print them.
 
@@ -16,7 +16,7 @@ use wb_resolved::{Attribute, Attribution, AttributionParts, Direction, Occurrenc
 use wb_rows::signatures::printed;
 use wb_values::{Signatures, TreeId, TreeStore};
 
-/// The attribute that may be asked by a printed name on a nonterminal. The only error is want of memory.
+/// The attribute that may be asked by a printed name on a nonterminal.
 pub fn asked_on(
     alloc: Global,
     attributes: &Attribution,

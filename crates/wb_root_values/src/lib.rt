@@ -1,4 +1,4 @@
-//! Which printed value has an attribute at the root of a tree, and of a written term?
+//! Evaluates an attribute at the root of a tree or of a written term, and prints its value.
 //!
 //! Terms are read and values printed in `wb_terms`, attributes evaluated in `wb_evaluator`; here they meet, and operations and attributes are
 //! named as reports show them.

@@ -1,4 +1,4 @@
-//! Which printed value has an attribute at the root of a written term?
+//! Evaluates an attribute at the root of a written term, and prints its value.
 //!
 //! The term is read, and the attribute looked up by its printed name; what comes of it is in `tree`.
 
@@ -26,7 +26,7 @@ use wb_values::{TreeId, TreeStore, Value};
 /// What comes of asking for the attribute of a printed name at the root of a written term, within so many steps.
 ///
 /// The term is refused first, then the attribute, then the evaluation, and then the length of the printed value. A step is an instance that
-/// is needed, counted once. The only error is want of memory. No clause bounds the time.
+/// is needed, counted once. No clause bounds the time.
 pub fn root_value<M: Meaning>(
     alloc: Global,
     attributes: &Attribution,
@@ -55,7 +55,7 @@ pub fn root_value<M: Meaning>(
     }
 }
 
-// The same for the tree of a term.
+// Like `root_value`, for the tree of a term.
 fn tree_answer<M: Meaning>(
     alloc: Global,
     attributes: &Attribution,

@@ -1,4 +1,4 @@
-//! Which printed value has an attribute at the root of a tree?
+//! Evaluates an attribute at the root of a tree, and prints its value.
 //!
 //! The attribute is evaluated, and what comes of it is printed.
 
@@ -24,8 +24,8 @@ use wb_values::{Signatures, TreeId, TreeStore, Value};
 
 /// What comes of an attribute at the root of a tree, within so many steps.
 ///
-/// The evaluation comes first, and then the length of the printed value. A step is an instance that is needed, counted once. The only error
-/// is want of memory. No clause bounds the time.
+/// The evaluation comes first, and then the length of the printed value. A step is an instance that is needed, counted once. No clause
+/// bounds the time.
 pub fn tree_value<M: Meaning>(
     alloc: Global,
     attributes: &Attribution,

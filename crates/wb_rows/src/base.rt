@@ -1,4 +1,4 @@
-//! Which rows have a base's attributes, occurrences and preferences in other numbers?
+//! Renumbers the attributes, occurrences and preferences of a base.
 //!
 //! Attributes keep their numbers. What a file adds to them is in `plains`.
 
@@ -13,7 +13,7 @@ use std::alloc::{AllocError, Global};
 use wb_base::push;
 use wb_resolved::{Attribute, Occurrence, Preference};
 
-/// Adds these attributes. The only error is want of memory.
+/// Adds these attributes.
 pub fn add_attributes(
     moves: &Moves,
     attributes: &[Attribute],
@@ -42,7 +42,7 @@ fn moved_attribute(moves: &Moves, attribute: &Attribute) -> Result<Attribute, Al
     })
 }
 
-/// Adds these occurrences. The only error is want of memory.
+/// Adds these occurrences.
 pub fn add_occurrences(
     alloc: Global,
     moves: &Moves,
@@ -76,7 +76,7 @@ fn moved_occurrence(
     })
 }
 
-/// Adds these preferences. The only error is want of memory.
+/// Adds these preferences.
 pub fn add_preferences(
     moves: &Moves,
     preferences: &[Preference],

@@ -1,4 +1,4 @@
-//! What do all the items make that write on one production?
+//! What do all the items that write on one production make?
 //!
 //! The items are given by their places in the file. What one equation makes is in `equation` and `local`.
 
@@ -25,7 +25,7 @@ pub struct Body {
     pub equations: Vec<Equation>,
 }
 
-/// The labels of a production with these children and locals, to which the items at these places add. The only error is want of memory.
+/// The labels of a production with these children and locals, to which the items at these places add.
 pub fn labels_of(
     alloc: Global,
     children: &[Child],
@@ -76,7 +76,7 @@ fn add_all_written(
     Ok(())
 }
 
-/// Adds what the items at these places make. The only error is want of memory.
+/// Adds what the items at these places make.
 pub fn add_all(
     alloc: Global,
     scope: &Scope,

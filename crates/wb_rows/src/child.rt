@@ -16,7 +16,7 @@ use wb_base::{Kind, Sequence, push};
 use wb_resolved::{Child, ChildKind};
 use wb_syntax::NamedKind;
 
-/// The children of a production. The only error is want of memory.
+/// The children of a production.
 pub fn written_children(
     alloc: Global,
     scope: &Scope,

@@ -1,6 +1,6 @@
-//! Which equations, locals and forwarded trees do a file's equations stand for, by number?
+//! Numbers the equations of a file that are for attributes.
 //!
-//! Each equation goes into the list of its sort, after those that are there. Its nodes are numbered in `node`.
+//! Each goes after those that are there. Its nodes are numbered in `node`.
 
 ghost use Rattle.std.specs.Prelude.{◌≡◌, true, false, All, OnOk, MatchOption};
 ghost use Rattle.wb_numbering.specs.Written.{makes_attribute};
@@ -14,7 +14,7 @@ use std::alloc::{AllocError, Global};
 use wb_base::push;
 use wb_resolved::{Equation, Target};
 
-// Adds the equations for attributes among these. The only error is want of memory.
+// Adds the equations for attributes among these.
 pub(crate) fn add_equations(
     alloc: Global,
     scope: &Scope,

@@ -1,4 +1,4 @@
-//! Which grammar have the concrete productions of a file and its base?
+//! Builds the grammar of the concrete productions of a file and its base.
 //!
 //! Their symbols are the numbers that they have, since terminals and nonterminals of the grammar come first.
 
@@ -11,7 +11,7 @@ use std::alloc::{AllocError, Global};
 use wb_base::{Grammar, Kind, Symbol, push};
 use wb_resolved::{Child, ChildKind, Production};
 
-/// The grammar of concrete productions, of so many terminals and nonterminals and with this start. The only error is want of memory.
+/// The grammar of concrete productions, of so many terminals and nonterminals and with this start.
 pub fn grammar_of(
     alloc: Global,
     terminals: usize,

@@ -1,6 +1,6 @@
 //! Which names do the items of a file say are of the grammar?
 //!
-//! Starts, extensible nonterminals, and what stands in concrete productions. What a base has in its grammar is told by its numbers.
+//! Starts, extensible nonterminals, and what occurs in concrete productions. What a base has in its grammar is known by its numbers.
 
 ghost use Rattle.std.specs.Prelude.{◌≡◌, ◌++◌, IfOk, OnOk, flat_map};
 ghost use Rattle.wb_syntax.specs.declared.item.Item.{Item as Written};
@@ -15,7 +15,7 @@ use crate::index::Index;
 use std::alloc::{AllocError, Global};
 use wb_syntax::{Child, Item, ItemForm, NamedKind, Pattern, PlainForm, Production, ProductionRole};
 
-/// The names, by which one is found. The only error is want of memory.
+/// The names, by which one is found.
 pub fn grammar_names_of(alloc: Global, items: &[Item<Pattern>]) -> Result<Index, AllocError>
     ensures { IfOk result (λ names. names ≡ grammar_names items.now) }
 {

@@ -1,4 +1,4 @@
-//! Which nonterminals of a base are of its grammar?
+//! Which nonterminals of a base are in its grammar?
 //!
 //! Its start, its extensible ones and those in concrete productions, also where it has no start and so no grammar. What items say is in
 //! `grammar_names`.
@@ -14,7 +14,7 @@ use std::alloc::{AllocError, Global};
 use wb_base::{Grammar, Kind};
 use wb_resolved::{Child, ChildKind, Production, ProductionRole, ResolvedParts};
 
-/// A flag for each nonterminal of a base, by number. The only error is want of memory.
+/// A flag for each nonterminal of a base, by number.
 pub fn base_flags(alloc: Global, base: &ResolvedParts) -> Result<Vec<bool>, AllocError>
     ensures count { IfOk result (λ flags. length flags.items ≡ length base.now.attributes.nonterminals) }
     ensures exact { IfOk result (λ flags. (k : ℕ) → k < length base.now.attributes.nonterminals → IsMarked flags.items k ↔ IsOfGrammar base.now k) }

@@ -28,7 +28,7 @@ impl Model for Index {
 }
 
 impl Index {
-    /// No texts. Takes no memory.
+    /// No texts.
     pub fn new(alloc: Global) -> Index
         ensures { result ≡ [] }
     {
@@ -39,7 +39,7 @@ impl Index {
         }
     }
 
-    /// Adds a text after the others. The only error is want of memory.
+    /// Adds a text after the others.
     pub fn add(&mut self, text: Bytes) -> Result<(), AllocError>
         ensures { OnOk result (self.new ≡ self.old ++ text ∷ []) }
     {
@@ -50,7 +50,7 @@ impl Index {
         Ok(())
     }
 
-    /// A place of a text, where it is there. Takes no memory, and about constant time.
+    /// A place of a text, where it is there. Takes about constant time.
     pub fn find(&self, text: &[u8]) -> Option<usize>
         ensures found { IfSome result (λ number. slice_get self.now number ≡ Some text.now) }
         ensures none { IfNone result (¬ Contains self.now text.now) }
@@ -67,7 +67,6 @@ impl Index {
     }
 }
 
-// By hand, so that no crate above proves how the parts are dropped.
 impl Drop for Index {
     fn drop(self) {
         let Index {

@@ -1,4 +1,4 @@
-//! Which labels has a production, in the order of their places?
+//! Lists the labels of a production, in the order of their places.
 //!
 //! Those of its children come first, and then those of its locals, as they are there and as equations make them.
 
@@ -11,7 +11,7 @@ use std::alloc::AllocError;
 use wb_resolved::{Child, Local};
 use wb_syntax::{Equation, Target};
 
-// Adds the labels of children. The only error is want of memory.
+// Adds the labels of children.
 pub(crate) fn add_children(labels: &mut Index, children: &[Child]) -> Result<(), AllocError>
     ensures { OnOk result (labels.new ≡ labels.old ++ map (λ c. c.label) children.now) }
 {
@@ -21,7 +21,7 @@ pub(crate) fn add_children(labels: &mut Index, children: &[Child]) -> Result<(),
     Ok(())
 }
 
-// Adds the labels of locals. The only error is want of memory.
+// Adds the labels of locals.
 pub(crate) fn add_locals(labels: &mut Index, locals: &[Local]) -> Result<(), AllocError>
     ensures { OnOk result (labels.new ≡ labels.old ++ map (λ l. l.label) locals.now) }
 {
@@ -31,7 +31,7 @@ pub(crate) fn add_locals(labels: &mut Index, locals: &[Local]) -> Result<(), All
     Ok(())
 }
 
-// Adds the labels of the locals that equations make. The only error is want of memory.
+// Adds the labels of the locals that equations make.
 pub(crate) fn add_written(labels: &mut Index, equations: &[Equation]) -> Result<(), AllocError>
     ensures { OnOk result (labels.new ≡ labels.old ++ map (λ q. local_label q.target) (local_equations equations.now)) }
 {

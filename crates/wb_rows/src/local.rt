@@ -1,4 +1,4 @@
-//! Which locals and forwarded trees do a file's equations make, by number?
+//! Numbers the locals and forwarded trees that a file's equations make.
 //!
 //! Each goes after those that are there. Equations for attributes are in `equation`.
 
@@ -14,7 +14,7 @@ use wb_base::push;
 use wb_resolved::{Forward, Local};
 use wb_syntax::{Equation, Target};
 
-// Adds the locals that these equations make. The only error is want of memory.
+// Adds the locals that these equations make.
 pub(crate) fn add_locals(
     alloc: Global,
     scope: &Scope,
@@ -60,7 +60,7 @@ fn add_local(
     )
 }
 
-// Adds the trees to which these equations forward. The only error is want of memory.
+// Adds the trees to which these equations forward.
 pub(crate) fn add_forwards(
     alloc: Global,
     scope: &Scope,

@@ -1,4 +1,4 @@
-//! Which rows are those of a base in other numbers?
+//! Renumbers the rows of a base.
 //!
 //! Attributes, labels and locals keep their numbers and places; the new numbers of the rest are looked up. What a file adds is elsewhere.
 
@@ -19,7 +19,6 @@ pub struct Moves {
     pub productions: Vec<usize>,
 }
 
-// By hand, so that no crate above proves how the parts are dropped.
 impl Drop for Moves {
     fn drop(self) {
         let Moves {
@@ -57,7 +56,7 @@ pub(crate) fn moved_child_kind(moves: &Moves, kind: ChildKind) -> ChildKind
     }
 }
 
-// The nodes of an expression. The only error is want of memory.
+// The nodes of an expression.
 pub(crate) fn moved_nodes(
     alloc: Global,
     moves: &Moves,
@@ -111,7 +110,7 @@ fn moved_node(alloc: Global, moves: &Moves, node: &Node) -> Result<Node, AllocEr
     }
 }
 
-/// The equations of a production. The only error is want of memory.
+/// The equations of a production.
 pub fn moved_equations(
     alloc: Global,
     moves: &Moves,
@@ -141,7 +140,7 @@ fn moved_equation(alloc: Global, moves: &Moves, equation: &Equation) -> Result<E
     })
 }
 
-/// The locals of a production. The only error is want of memory.
+/// The locals of a production.
 pub fn moved_locals(
     alloc: Global,
     moves: &Moves,
@@ -174,7 +173,7 @@ fn moved_local(alloc: Global, moves: &Moves, local: &Local) -> Result<Local, All
     })
 }
 
-/// What a production forwards to. The only error is want of memory.
+/// What a production forwards to.
 pub fn moved_forward(alloc: Global, moves: &Moves, forward: &Forward) -> Result<Forward, AllocError>
     requires { All (NodeIsWithin moves.now) forward.now.nodes }
     ensures { IfOk result (IsForwardNow moves.now forward.now) }
@@ -185,7 +184,7 @@ pub fn moved_forward(alloc: Global, moves: &Moves, forward: &Forward) -> Result<
     })
 }
 
-/// The children of a production. The only error is want of memory.
+/// The children of a production.
 pub fn moved_children(
     alloc: Global,
     moves: &Moves,

@@ -13,7 +13,7 @@ use wb_base::{Bytes, Sequence, push};
 use wb_resolved::Node;
 use wb_syntax::Node as Written;
 
-// The nodes of an expression that a file writes on a production with these labels. The only error is want of memory.
+// The nodes of an expression that a file writes on a production with these labels.
 pub(crate) fn written_nodes(
     alloc: Global,
     scope: &Scope,
@@ -84,7 +84,7 @@ fn attribute_of(scope: &Scope, attribute: &Bytes) -> usize
     number_of(&scope.attributes, attribute.as_slice())
 }
 
-// The node that builds with this production. The only error is want of memory.
+// The node that builds with this production.
 pub(crate) fn built(
     alloc: Global,
     production: usize,
@@ -98,7 +98,7 @@ pub(crate) fn built(
     })
 }
 
-// The node that calls this operation. The only error is want of memory.
+// The node that calls this operation.
 pub(crate) fn called(
     alloc: Global,
     operation: &Bytes,
@@ -113,7 +113,7 @@ pub(crate) fn called(
     })
 }
 
-// The same places in a list of their own. The only error is want of memory.
+// The same places in a list of their own.
 pub(crate) fn copied(alloc: Global, places: &[usize]) -> Result<Sequence<usize>, AllocError>
     ensures { IfOk result (λ made. made ≡ places.now) }
 {

@@ -1,4 +1,4 @@
-//! Which rows do a file's attributes, occurrences and preferences make?
+//! Builds the rows of a file's attributes, occurrences and preferences.
 //!
 //! Each goes after those that are there. Terminals and nonterminals have rows by group, and are elsewhere.
 
@@ -24,7 +24,7 @@ pub struct Plains {
     pub preferences: Vec<Preference>,
 }
 
-/// Adds the rows of what these items declare. The only error is want of memory.
+/// Adds the rows of what these items declare.
 pub fn add_plains(
     alloc: Global,
     scope: &Scope,
@@ -148,7 +148,7 @@ fn needs_of(
     }
 }
 
-/// The numbers of attributes in a flow type. The only error is want of memory.
+/// The numbers of attributes in a flow type.
 pub fn written_needs(
     alloc: Global,
     scope: &Scope,

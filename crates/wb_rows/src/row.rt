@@ -1,4 +1,4 @@
-//! Which row has a production of these parts?
+//! Builds the row of a production from its parts.
 //!
 //! A row is a head and what is written on it. A crate that lets go of either, or of whole rows, by the calls here proves no drop of what
 //! they hold.
@@ -22,7 +22,7 @@ pub struct Head {
     pub forward: Option<Forward>,
 }
 
-/// Adds the row of a head and a body. Lets go of what the body forwards to. The only error is want of memory.
+/// Adds the row of a head and a body. Lets go of what the body forwards to.
 pub fn add_row(head: Head, body: Body, rows: &mut Vec<Production>) -> Result<(), AllocError>
     ensures { OnOk result (rows.new.items ≡ rows.old.items ++ row_of head body ∷ []) }
 {

@@ -1,4 +1,4 @@
-//! Which number has a name that is there?
+//! Which number does a declared name have?
 //!
 //! Names are kept in the order of their numbers, all in sight of the owner of the file. Whether a name is there is tested by its rules.
 

@@ -1,6 +1,4 @@
-//! Which signatures have the productions of a file and its base?
-//!
-//! Those by their numbers, with their names as reports write them.
+//! Builds the signatures of the productions of a file and its base, by number, with their names as reports write them.
 
 ghost use Rattle.std.specs.Prelude.{◌≡◌, ◌++◌, ◌∷◌, map, codes, slice_index_or, IfOk, OnOk, []};
 ghost use Rattle.wb_resolved.specs.declared.production.Child.{Child};
@@ -12,7 +10,7 @@ use wb_base::{Bytes, Kind, push};
 use wb_resolved::{Child, ChildKind, Production};
 use wb_values::Signatures;
 
-/// The signatures of productions, by number. The only error is want of memory.
+/// The signatures of productions, by number.
 pub fn signatures_of(
     alloc: Global,
     extensions: &[Bytes],
@@ -59,7 +57,7 @@ fn add_named(
     Ok(())
 }
 
-/// A name as reports write it. The only error is want of memory.
+/// A name as reports write it.
 pub fn printed(
     alloc: Global,
     extensions: &[Bytes],

@@ -1,4 +1,4 @@
-//! Which rows have the terminals of a base and of a file?
+//! Builds the rows of the terminals of a base and of a file.
 //!
 //! Layout is kept apart, since it is numbered on after the terminals of the grammar.
 
@@ -18,7 +18,6 @@ pub struct Terminals {
     pub layout: Vec<Terminal>,
 }
 
-// By hand, so that no crate above proves how the parts are dropped.
 impl Drop for Terminals {
     fn drop(self) {
         let Terminals { scanned, layout } = self;
@@ -27,7 +26,7 @@ impl Drop for Terminals {
     }
 }
 
-/// Adds those of a base. The only error is want of memory.
+/// Adds those of a base.
 pub fn add_base(terminals: &[Terminal], made: &mut Terminals) -> Result<(), AllocError>
     ensures { OnOk result (AddsTerminals has_scanned IsCopy terminals.now made.old made.new) }
 {
@@ -37,7 +36,7 @@ pub fn add_base(terminals: &[Terminal], made: &mut Terminals) -> Result<(), Allo
     Ok(())
 }
 
-/// Adds those that these items of this owner declare. The only error is want of memory.
+/// Adds those that these items of this owner declare.
 pub fn add_declared(
     owner: usize,
     items: &[Item<Pattern>],

@@ -33,7 +33,7 @@ pub struct Rules<'a> {
     pub equations: &'a Equations,
 }
 
-/// The nodes of the equation for a target. Takes no memory, and constant time.
+/// The nodes of the equation for a target. Takes constant time.
 pub fn equation_for<'a>(rules: &Rules<'a>, target: Target) -> Option<&'a [Node]>
     requires { IsIndexOf rules.now.production.now.equations (length rules.now.production.now.equations) rules.now.equations.now }
     ensures some { IfSome result (λ nodes. IsRule rules.now.production.now (target_vertex target) nodes.now) }
@@ -48,7 +48,7 @@ pub fn equation_for<'a>(rules: &Rules<'a>, target: Target) -> Option<&'a [Node]>
     }
 }
 
-/// The nodes of the tree of a local. Takes no memory.
+/// The nodes of the tree of a local.
 pub fn local_nodes(production: &Production, x: usize) -> Option<&[Node]>
     ensures some { IfSome result (λ nodes. IsRule production.now (tree_of (local x)) nodes.now) }
     ensures none { IfNone result (¬ HasRule production.now (tree_of (local x))) }
@@ -61,7 +61,7 @@ pub fn local_nodes(production: &Production, x: usize) -> Option<&[Node]>
     }
 }
 
-/// The nodes of the forwarded tree. Takes no memory.
+/// The nodes of the forwarded tree.
 pub fn forward_nodes(production: &Production) -> Option<&[Node]>
     ensures some { IfSome result (λ nodes. IsRule production.now (tree_of forward) nodes.now) }
     ensures none { IfNone result (¬ HasRule production.now (tree_of forward)) }
@@ -129,7 +129,6 @@ impl Equations {
     }
 }
 
-// By hand, so that no crate above proves how the parts are dropped.
 impl Drop for Equations {
     fn drop(self) {
         let Equations {

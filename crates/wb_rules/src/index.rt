@@ -14,7 +14,7 @@ pub struct RuleIndex {
 }
 
 impl RuleIndex {
-    /// The index of these productions. The only error is want of memory.
+    /// The index of these productions.
     pub fn new(alloc: Global, productions: &[Production]) -> Result<RuleIndex, AllocError>
         ensures { IfOk result (λ made. AreIndexes productions.now made.rows.items) }
     {
@@ -33,7 +33,6 @@ impl RuleIndex {
     }
 }
 
-// By hand, so that no crate above proves how the parts are dropped.
 impl Drop for RuleIndex {
     fn drop(self) {
         let RuleIndex { rows } = self;

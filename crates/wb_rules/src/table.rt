@@ -48,7 +48,7 @@ impl Table {
         }
     }
 
-    /// Writes the number at a place of a row that is there. The only error is want of memory.
+    /// Writes the number at a place of a row that is there.
     pub fn set(&mut self, row: usize, column: usize, number: usize) -> Result<(), AllocError>
         requires { row < length self.old.rows.items }
         ensures len { OnOk result (length self.new.rows.items ≡ length self.old.rows.items) }
@@ -60,7 +60,7 @@ impl Table {
         Ok(())
     }
 
-    /// Writes the number at a place, after as many rows as that takes. The only error is want of memory.
+    /// Writes the number at a place, after as many rows as that takes.
     pub fn put(&mut self, row: usize, column: usize, number: usize) -> Result<(), AllocError>
         ensures set { OnOk result (at self.new.rows.items row column ≡ number) }
         ensures columns { OnOk result ((other : ℕ) → other ≢ column → at self.new.rows.items row other ≡ at self.old.rows.items row other) }
@@ -83,7 +83,6 @@ impl Table {
     }
 }
 
-// By hand, so that no crate above proves how the parts are dropped.
 impl Drop for Table {
     fn drop(self) {
         let Table { alloc: _, rows } = self;

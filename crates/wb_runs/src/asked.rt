@@ -1,6 +1,6 @@
 //! What is answered of an attribute that may be asked at the start, for a text that is read or made?
 //!
-//! The text's value is found by `wb_united_texts`, and the text that a number makes by `wb_united_texts`.
+//! The text's value, and the text that a number makes, are found by `wb_united_texts`.
 
 ghost use Rattle.std.specs.Prelude.{◌≡◌, ◌≤◌, IfOk, ℕ, List, None, Some, length};
 ghost use Rattle.wb_composition.specs.Composed.{IsComposed};

@@ -42,7 +42,7 @@ impl Model for Language {
 }
 
 impl Language {
-    /// The language of these parts. Takes no memory.
+    /// The language of these parts.
     ///
     /// The grammar is reduced, without unit cycle, hidden left recursion and conflict, and the tables are its own. Forms are of its
     /// terminals, and the layout terminal at place k has the number of the grammar's terminals and k more.
@@ -71,7 +71,7 @@ impl Language {
         }
     }
 
-    /// The grammar. Takes no memory.
+    /// The grammar.
     pub fn grammar(&self) -> &Grammar
         ensures grammar { result.now ≡ self.now.language.grammar }
         ensures language { IsLanguage self.now.language }
@@ -79,7 +79,7 @@ impl Language {
         &self.grammar
     }
 
-    /// The tables of the grammar. Takes no memory.
+    /// The tables of the grammar.
     pub fn tables(&self) -> &Tables
         ensures tables { result.now ≡ self.now.tables }
         ensures of_grammar { AreTablesOf self.now.language.grammar self.now.tables }
@@ -92,7 +92,6 @@ impl Language {
     pub fn release(self) {}
 }
 
-// By hand, so that no crate above proves how the parts are dropped.
 impl Drop for Language {
     fn drop(self) {
         let Language {

@@ -16,7 +16,7 @@ use crate::longest::longest;
 use crate::winner::winner;
 use crate::{Language, Scanned};
 
-/// What is next on a text at a state from a place on: a token, the end of the text, or nothing. Takes no memory.
+/// What is next on a text at a state from a place on: a token, the end of the text, or nothing.
 ///
 /// Where several forms match one longest text, the one wins that beats each other; a prefixed form beats every bare one. The bytes that
 /// are read are those of layout and of the token, and further ones only while a form that is considered may still match.

@@ -1,4 +1,4 @@
--- Every reason for which an extension isn't deterministic with its host is shown, but want of memory.
+-- Every reason for which an extension isn't deterministic with its host is shown, but out of memory.
 use Rattle.std.proofs.Common.{◌≡◌, None, Some}
 use Rattle.wb_determinism.specs.Refusals.{IsNoMemory}
 use Rattle.wb_determinism.specs.declared.refusal.DeterminismRefusal.{DeterminismRefusal}
@@ -10,7 +10,7 @@ use Rattle.wb_shown.specs.Extensions.{determinism_shown}
 some_none : {X : Type 0} {x : X} → Some x ≡ None → ⊥
 some_none e = cc
 
--- a reason that isn't want of memory is shown
+-- a reason that isn't out of memory is shown
 pub reason_shown : (r : ResolvedParts) (refusal : DeterminismRefusal) → ¬ IsNoMemory refusal → determinism_shown r refusal ≡ None → ⊥
 reason_shown r (d.NotBridge production) other is = some_none is
 reason_shown r (d.MarkerElsewhere marker) other is = some_none is

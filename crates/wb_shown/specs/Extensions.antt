@@ -29,7 +29,7 @@ envelope_reason r prefix (f.Conflict terminal first second) =
     (record { terminal = lookahead_shown r terminal; first = action_shown r first; second = action_shown r second })
 envelope_reason r prefix (f.Clash left right text) = e.NewClash prefix (terminal_shown r left) (terminal_shown r right) text
 
--- a rule on what an extension adds to its host, as it is shown; the rules that hosts have too, and want of memory, have none
+-- a rule on what an extension adds to its host, as it is shown; the rules that hosts have too, and out of memory, have none
 abbrev pub extension_reason : ResolvedParts → DeterminismRefusal → Option ExtensionReason
 extension_reason r (d.NotBridge production) = Some (e.NotBridge (production_shown r production))
 extension_reason r (d.MarkerElsewhere marker) = Some (e.MarkerElsewhere (terminal_shown r marker))

@@ -35,7 +35,7 @@ use Rattle.wb_types.specs.declared.refusal.TypeRefusal.TheVariants as t
 use Rattle.wb_shown.specs.Names.{terminal_shown, nonterminal_shown, attribute_shown, production_shown}
 use Rattle.wb_shown.specs.Names.{lookahead_shown, reduction_shown, symbol_shown, child_shown, local_shown}
 
--- a rule of what is written, as it is shown; want of memory has no line
+-- a rule of what is written, as it is shown; out of memory has no line
 abbrev pub written_reason : SpecRefusal → Option SpecReason
 written_reason s.TooLong = Some shown_spec.TooLong
 written_reason s.WrongFormat = Some shown_spec.WrongFormat
@@ -44,7 +44,7 @@ written_reason (s.BadRegex offset) = Some (shown_spec.BadRegex offset)
 written_reason (s.MatchesEmpty name) = Some (shown_spec.MatchesEmpty name)
 written_reason (s.NoMemory error) = None
 
--- a rule of names, as it is shown; another host has a line of its own, and want of memory has none
+-- a rule of names, as it is shown; another host has a line of its own, and out of memory has none
 abbrev pub name_reason : NameRefusal → Option SpecReason
 name_reason (n.Unknown name) = Some (shown_spec.Unknown name)
 name_reason (n.Duplicate name) = Some (shown_spec.Duplicate name)
@@ -72,7 +72,7 @@ action_shown r (act.Reduce p) = shown_action.Reduce (reduction_shown r p)
 action_shown r act.Accept = shown_action.Accept
 action_shown r act.None = shown_action.Accept
 
--- a rule of grammars and scanners, as it is shown of a host; the rules on what extensions add, and want of memory, have none
+-- a rule of grammars and scanners, as it is shown of a host; the rules on what extensions add, and out of memory, have none
 abbrev pub grammar_reason : ResolvedParts → DeterminismRefusal → Option GrammarReason
 grammar_reason r (d.PreferenceCycle terminals) = Some (shown_grammar.PreferenceCycle (map (terminal_shown r) terminals))
 grammar_reason r (d.NotReduced reason) = Some (reduced_reason r reason)
@@ -111,7 +111,7 @@ inherited_reason r number p (v.Forward k) = None
 inherited_reason r number p (v.LocalTree n) = None
 inherited_reason r number p v.ForwardTree = None
 
--- a rule of attributes, as it is shown; want of memory has none
+-- a rule of attributes, as it is shown; out of memory has none
 abbrev pub attribute_reason : ResolvedParts → AttributeRefusal → Option AttributeReason
 attribute_reason r (a.StartInherits k) = Some (shown_attribute.StartInherits (attribute_shown r k))
 attribute_reason r (a.NoForward p) = Some (shown_attribute.NoForward (production_shown r p))

@@ -16,7 +16,7 @@ use wb_flow::{AttributeRefusal, Vertex};
 use wb_report::{AttributeReason, Refusal, ShownVertex};
 use wb_resolved::{Child, Local, Resolved};
 
-// A rule of attributes; none for want of memory.
+// A rule of attributes; none for out of memory.
 pub(crate) fn attribute_rule(
     alloc: Global,
     resolved: &Resolved,

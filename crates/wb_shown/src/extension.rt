@@ -18,7 +18,7 @@ use wb_items::Item;
 use wb_report::{ExtensionReason, Refusal, ShownConflict, ShownItem};
 use wb_resolved::Resolved;
 
-// A rule on what an extension adds to its host; none for the rules that hosts have too, and for want of memory.
+// A rule on what an extension adds to its host; none for the rules that hosts have too, and for out of memory.
 pub(crate) fn extension_rule(
     alloc: Global,
     resolved: &Resolved,

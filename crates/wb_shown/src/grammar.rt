@@ -16,7 +16,7 @@ use wb_lookahead::Action;
 use wb_report::{GrammarReason, Refusal, ShownAction, ShownConflict};
 use wb_resolved::Resolved;
 
-// A rule of grammars and scanners; none for the rules on what extensions add, and for want of memory.
+// A rule of grammars and scanners; none for the rules on what extensions add, and for out of memory.
 pub(crate) fn grammar_rule(
     alloc: Global,
     resolved: &Resolved,

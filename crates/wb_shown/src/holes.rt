@@ -82,7 +82,7 @@ fn prefixed(alloc: Global, name: &[u8]) -> Result<Bytes, AllocError>
     Bytes::from_vec(text)
 }
 
-/// How many terminals a grammar has, where there is one. Takes no memory.
+/// How many terminals a grammar has, where there is one.
 pub fn terminals_in(grammar: &Option<Grammar>) -> usize
     ensures { result ≡ spec.terminals_in grammar.now }
 {

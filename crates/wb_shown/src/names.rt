@@ -1,7 +1,7 @@
 //! Which name does a report show for a number?
 //!
-//! Numbers are those of a resolved specification, and in a grammar with holes those of that grammar. A number that is none has the empty
-//! name.
+//! Numbers are those of a resolved specification, and in a grammar with holes those of that grammar. A number that names nothing has the
+//! empty name.
 
 ghost use Rattle.std.specs.Prelude.{◌≡◌, IfOk};
 ghost use Rattle.wb_resolved.specs.Owners.{printed_name};
@@ -12,7 +12,7 @@ use wb_base::Bytes;
 use wb_resolved::{Resolved, ResolvedParts};
 use wb_rows::signatures::printed;
 
-/// The name of a terminal or layout. The only error is want of memory.
+/// The name of a terminal or layout.
 pub fn terminal_name(alloc: Global, resolved: &Resolved, number: usize) -> Result<Bytes, AllocError>
     ensures { IfOk result (λ name. name ≡ spec.terminal_shown resolved.now number) }
 {

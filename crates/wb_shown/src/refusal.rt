@@ -14,8 +14,7 @@ use wb_determinism::DeterminismRefusal;
 use wb_report::{GrammarReason, Refusal, SpecReason};
 use wb_resolved::Resolved;
 
-/// Why a resolved host isn't certified, by names; none for want of memory, and for rules on what extensions add. The only error is want
-/// of memory.
+/// Why a resolved host isn't certified, by names; none for out of memory, and for rules on what extensions add.
 pub fn shown_refusal(
     alloc: Global,
     resolved: &Resolved,
@@ -33,8 +32,7 @@ pub fn shown_refusal(
     }
 }
 
-/// Why an extension isn't certified with its host, by names, where the numbers are those of host and extension; none for want of memory. The
-/// only error is want of memory.
+/// Why an extension isn't certified with its host, by names, where the numbers are those of host and extension; none for out of memory.
 pub fn shown_extension_refusal(
     alloc: Global,
     resolved: &Resolved,

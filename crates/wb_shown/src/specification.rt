@@ -9,7 +9,7 @@ use wb_reader::SpecRefusal;
 use wb_report::SpecReason;
 use wb_types::TypeRefusal;
 
-/// A rule of what is written; none for want of memory. The only error is want of memory.
+/// A rule of what is written; none for out of memory.
 pub fn written_rule(refusal: &SpecRefusal) -> Result<Option<SpecReason>, AllocError>
     ensures { IfOk result (λ shown. shown ≡ spec.written_reason refusal.now) }
 {
@@ -23,7 +23,7 @@ pub fn written_rule(refusal: &SpecRefusal) -> Result<Option<SpecReason>, AllocEr
     })
 }
 
-/// A rule of names; none for another host and for want of memory. The only error is want of memory.
+/// A rule of names; none for another host and for out of memory.
 pub fn name_rule(refusal: &NameRefusal) -> Result<Option<SpecReason>, AllocError>
     ensures { IfOk result (λ shown. shown ≡ spec.name_reason refusal.now) }
 {
@@ -37,7 +37,7 @@ pub fn name_rule(refusal: &NameRefusal) -> Result<Option<SpecReason>, AllocError
     })
 }
 
-/// A rule of kinds; none for want of memory. The only error is want of memory.
+/// A rule of kinds; none for out of memory.
 pub fn type_rule(refusal: &TypeRefusal) -> Result<Option<SpecReason>, AllocError>
     ensures { IfOk result (λ shown. shown ≡ spec.type_reason refusal.now) }
 {

@@ -1,6 +1,6 @@
-//! Are attributes complete, do they keep to their flow types, and does nothing need itself?
+//! Are attributes complete, do they keep to their flow types, and does none need itself?
 //!
-//! A host with one nonterminal, one attribute on it, and one production with one equation. Expected answers follow from the rules.
+//! The host has one nonterminal, one attribute on it, and one production with one equation. Expected answers follow from the rules.
 
 use crate::written::{Asked, Row, Tested, hosts_get};
 use std::alloc::{AllocError, Global};

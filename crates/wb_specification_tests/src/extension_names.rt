@@ -1,12 +1,14 @@
-//! Does each name rule refuse what it asks of an extension, with the name that shows it?
+//! Does each name rule refuse an extension that breaks it, with the name that shows it?
 //!
-//! Extensions are named `e`, and each row has what comes after the first line. Expected answers follow from the rules.
+//! Extensions are named `e`. Each row has the text after the first line. Expected answers follow from the rules.
 
 use crate::written::{Asked, Row, Tested, extensions_get, hosts_get};
 
-// A host whose attributes and productions extensions are tried on.
-const HOST: &str =
-    "format 1; host h; nonterminal E; syn v : int; syn w : int; inh i : int; occurs v on E; occurs w on E; occurs i on E; abstract p : E ::= x : E { top.v = 1; } abstract q : E ::= { forwards to q(); }";
+// The host whose attributes and productions the extensions refer to.
+const HOST: &str = "format 1; host h; \
+    nonterminal E; syn v : int; syn w : int; inh i : int; occurs v on E; occurs w on E; occurs i on E; \
+    abstract p : E ::= x : E { top.v = 1; } \
+    abstract q : E ::= { forwards to q(); }";
 
 static NAMES: Asked = Asked {
     tested: Tested::Names,
@@ -82,10 +84,10 @@ static WITH_FIRST_LINES: Asked = Asked {
     first_line: "",
 };
 
-// An extension where a host is asked for, and a name twice.
+// An extension in place of a host, and a name declared twice.
 static NO_HOST: [Row; 1] = [("format 1; extension e for g; start A; start A;", "N4 e")];
 
-// A host where an extension is asked for, and an extension of another host, each with a name twice.
+// A host in place of an extension, and an extension of another host, each with a name declared twice.
 static NO_EXTENSIONS: [Row; 2] = [
     ("format 1; host k; start A; start A;", "N4 k"),
     ("format 1; extension e for g; start A; start A;", "N5 g"),

@@ -1,7 +1,6 @@
 //! Do an extension's equations for a forwarded tree keep to the flow type of the forward?
 //!
-//! Extensions are named `e`, and each row has what comes after the first line; a refusal shows the production, the attribute of the
-//! forwarded tree and what it needs of the top. Expected answers follow from the rules.
+//! Extensions are named `e`. A refusal shows the production, the attribute of the forwarded tree, and what it needs of the top.
 
 use crate::markers::append_production;
 use crate::written::{Asked, Row, Tested, append, extensions_get};
@@ -10,16 +9,22 @@ use wb_flow::AttributeRefusal;
 use wb_forwards::check_forward;
 use wb_resolved::{Resolved, ResolvedParts};
 
-// A host: the forward on E may need i, and that on F needs nothing.
-const HOST: &str =
-    "format 1; host h; nonterminal E; nonterminal F; inh i : int; inh j : int; syn v : int; syn w : int; occurs i on E; occurs j on E; occurs v on E needs { i, j }; occurs w on E needs { i }; forward on E needs { i }; occurs i on F; occurs j on F; occurs v on F needs { i, j }; abstract p : E ::= x : E { x.i = 1; x.j = 2; top.v = x.v; top.w = x.w; } abstract q : F ::= n : int { top.v = n; }";
+// A host: the forward on E may need i, and the one on F may need nothing.
+const HOST: &str = "format 1; host h; \
+    nonterminal E; nonterminal F; \
+    inh i : int; inh j : int; syn v : int; syn w : int; \
+    occurs i on E; occurs j on E; occurs v on E needs { i, j }; occurs w on E needs { i }; \
+    forward on E needs { i }; \
+    occurs i on F; occurs j on F; occurs v on F needs { i, j }; \
+    abstract p : E ::= x : E { x.i = 1; x.j = 2; top.v = x.v; top.w = x.w; } \
+    abstract q : F ::= n : int { top.v = n; }";
 
 static FORWARDS: Asked = Asked {
     tested: Tested::Forwards,
     first_line: "format 1; extension e for h; ",
 };
 
-// Appends the equation for a forwarded tree that needs too much, with the names that show it.
+// Appends the equation for a forwarded tree that needs too much, by the names that show it.
 pub(crate) fn append_forwards(
     alloc: Global,
     extension: &Resolved,
@@ -67,7 +72,7 @@ fn append_attribute(
     append(out, &[b" ".as_slice(), attributes[number].name.as_slice()])
 }
 
-// Equations for a forwarded tree that need an attribute of the top that the forward's flow type hasn't.
+// Equations for a forwarded tree that need an attribute of the top outside the flow type of the forward.
 static OUTSIDE: [Row; 7] = [
     (
         "abstract x : E ::= { forwards to p(y()); forward.i = top.j; } abstract y : E ::= { forwards to y(); }",
@@ -81,19 +86,20 @@ static OUTSIDE: [Row; 7] = [
         "abstract x : F ::= { forwards to q(1); forward.j = top.i; }",
         "E8 x j i",
     ),
-    // By a child, whose attribute needs what the production gives it.
+    // Through a child, whose attribute needs what the production gives it.
     (
         "abstract x : E ::= a : E { forwards to a; a.i = top.j; a.j = 1; forward.i = a.w; }",
         "E8 x i j",
     ),
-    // By the forwarded tree's other attribute, which is that of the top where no equation is for it.
+    // Through another attribute of the forwarded tree. With no equation for it, it is that of the top.
     (
         "abstract x : E ::= { forwards to x(); forward.i = forward.v; }",
         "E8 x i j",
     ),
-    // By a local.
+    // Through a local.
     (
-        "abstract x : F ::= { local l : E = p(y()); l.i = top.j; l.j = 1; forwards to q(1); forward.i = l.w; } abstract y : E ::= { forwards to y(); }",
+        "abstract x : F ::= { local l : E = p(y()); l.i = top.j; l.j = 1; forwards to q(1); forward.i = l.w; } \
+            abstract y : E ::= { forwards to y(); }",
         "E8 x i j",
     ),
     // In one branch alone.
@@ -116,7 +122,7 @@ static KEPT: [Row; 8] = [
         "abstract x : E ::= { forwards to x(); forward.i = 1; forward.j = 2; }",
         "ok",
     ),
-    // What the flow type has may be needed, and so may the attribute itself.
+    // The attributes of the flow type may be needed, and so may the attribute itself.
     (
         "abstract x : E ::= { forwards to x(); forward.j = top.i; forward.i = top.i; }",
         "ok",
@@ -129,12 +135,12 @@ static KEPT: [Row; 8] = [
         "abstract x : F ::= { forwards to q(1); forward.i = top.i; forward.j = top.j; }",
         "ok",
     ),
-    // On its own nonterminal an extension gives what it likes.
+    // On its own nonterminal an extension may give any equation.
     (
         "nonterminal N; occurs i on N; occurs j on N; abstract x : N ::= { forwards to x(); forward.i = top.j; }",
         "ok",
     ),
-    // Other equations are no matter of this rule.
+    // This rule doesn't concern other equations.
     (
         "abstract x : E ::= a : E { forwards to a; a.i = top.j; a.j = top.i; top.v = a.v; }",
         "ok",

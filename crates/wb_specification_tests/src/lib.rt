@@ -1,7 +1,6 @@
-//! Tests of names, attributes, markers and reports: which name rule fails of a host or an extension, whether attributes are well-defined,
-//! which rule an extension's markers break, and the lines that report each outcome.
+//! Tests of name rules, attributes, markers of extensions, and the lines that report each outcome.
 //!
-//! Tests of values, operations and kinds by number are in `wb_value_tests`. Nothing depends on this crate.
+//! Tests of values, operations and kinds are in `wb_value_tests`. Nothing depends on this crate.
 #![tactic(auto)]
 
 #[cfg(test)]

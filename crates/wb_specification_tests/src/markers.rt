@@ -1,6 +1,6 @@
-//! Does each rule on markers refuse what it asks of an extension, with an example?
+//! Does each rule on markers refuse an extension that breaks it, with an example?
 //!
-//! Extensions are named `e`, and each row has what comes after the first line. Expected answers follow from the rules.
+//! Extensions are named `e`. Each row has the text after the first line. Expected answers follow from the rules.
 
 use crate::written::{Asked, Row, Tested, append, extensions_get};
 use std::alloc::{AllocError, Global};
@@ -9,8 +9,12 @@ use wb_marks::{MarkRefusal, check_marks};
 use wb_resolved::{Resolved, ResolvedParts};
 
 // A host: E is extensible and C isn't; words of small letters are Id, and S is layout.
-const HOST: &str =
-    "format 1; host h; terminal T /[0-9]+/; terminal Id /[a-z]+/; ignore S /[ ]+/; nonterminal E; nonterminal C; start E; extensible E; concrete p : E ::= t : T { } concrete q : E ::= c : C { } concrete r : C ::= x : Id { }";
+const HOST: &str = "format 1; host h; \
+    terminal T /[0-9]+/; terminal Id /[a-z]+/; ignore S /[ ]+/; \
+    nonterminal E; nonterminal C; start E; extensible E; \
+    concrete p : E ::= t : T { } \
+    concrete q : E ::= c : C { } \
+    concrete r : C ::= x : Id { }";
 
 static MARKERS: Asked = Asked {
     tested: Tested::Markers,
@@ -120,14 +124,14 @@ fn productions_on_the_hosts_nonterminals_begin_with_markers(rt: HostRuntime) {
     assert!(rt; extensions_get(rt.alloc(), &MARKERS, HOST, &NO_BRIDGE));
 }
 
-// Extensions with a marker that doesn't begin exactly one production on a nonterminal of the host, or is elsewhere.
+// Extensions with a marker that doesn't begin exactly one production on a nonterminal of the host, or occurs elsewhere.
 static ELSEWHERE: [Row; 8] = [
     ("marking M /M/;", "E2 M"),
     (
         "marking M /M/; concrete x : E ::= m : M { } concrete y : E ::= m : M t : T { }",
         "E2 M",
     ),
-    // Later in its own bridge.
+    // A marker that occurs again later in its own bridge.
     ("marking M /M/; concrete x : E ::= m : M a : M { }", "E2 M"),
     (
         "marking M /M/; nonterminal N; concrete x : N ::= m : M { }",
@@ -171,7 +175,7 @@ fn bridges_are_on_extensible_nonterminals(rt: HostRuntime) {
     assert!(rt; extensions_get(rt.alloc(), &MARKERS, HOST, &NOT_EXTENSIBLE));
 }
 
-// Extensions with a marker that shares a text with another terminal, unordered; each with the two and the least text.
+// Extensions with a marker that shares a text with another terminal and no preference. Each row has the two and the least text.
 static CLASHES: [Row; 11] = [
     ("marking M /m/; concrete x : E ::= m : M { }", "E4 M Id m"),
     (
@@ -188,12 +192,12 @@ static CLASHES: [Row; 11] = [
         "marking M /A*B?c+/; concrete x : E ::= m : M { }",
         "E4 M Id c",
     ),
-    // Of two markers the one that is declared first comes first.
+    // Of two markers, the one that is declared first is shown first.
     (
         "marking M /M/; marking K /K|M/; concrete x : E ::= k : K { } concrete y : E ::= m : M { }",
         "E4 M K M",
     ),
-    // A text is one however it is written.
+    // The same text may be written in several ways.
     (
         "marking M /Mab/; marking K /[M](a)b/; concrete x : E ::= m : M { } concrete y : E ::= k : K { }",
         "E4 M K Mab",
@@ -202,7 +206,7 @@ static CLASHES: [Row; 11] = [
         "marking M /Mab/; marking K /Ma?b/; concrete x : E ::= m : M { } concrete y : E ::= k : K { }",
         "E4 M K Mab",
     ),
-    // Preferences don't chain.
+    // Preferences aren't transitive.
     (
         "marking M /m/; terminal A /m/; prefer M over A; prefer A over Id; concrete x : E ::= m : M a : A { }",
         "E4 M Id m",
@@ -219,7 +223,7 @@ fn markers_that_share_a_text_are_ordered(rt: HostRuntime) {
     assert!(rt; extensions_get(rt.alloc(), &MARKERS, HOST, &CLASHES));
 }
 
-// Extensions whose markers keep the rules.
+// Extensions whose markers obey the rules.
 static KEPT: [Row; 11] = [
     ("", "ok"),
     ("marking M /M/; concrete x : E ::= m : M { }", "ok"),
@@ -235,13 +239,16 @@ static KEPT: [Row; 11] = [
         "marking M /M/; marking K /K|M/; prefer K over M; concrete x : E ::= m : M { } concrete y : E ::= k : K { }",
         "ok",
     ),
-    // Its own terminals may share a text with a marker: states tell them apart, or the grammar is refused for it.
+    // Other terminals of the extension may share a text with a marker. States tell them apart, or the grammar is refused.
     (
         "marking M /M/; terminal U /M/; concrete x : E ::= m : M u : U { }",
         "ok",
     ),
     (
-        "nonterminal N; terminal U /U/; marking M /M/; concrete x : E ::= m : M n : N { } concrete y : N ::= u : U n : N { } concrete z : N ::= { }",
+        "nonterminal N; terminal U /U/; marking M /M/; \
+            concrete x : E ::= m : M n : N { } \
+            concrete y : N ::= u : U n : N { } \
+            concrete z : N ::= { }",
         "ok",
     ),
     ("marking M /A?B/; concrete x : E ::= m : M { }", "ok"),
@@ -253,7 +260,7 @@ static KEPT: [Row; 11] = [
         "marking M /Mab/; marking K /Mac/; concrete x : E ::= m : M { } concrete y : E ::= k : K { }",
         "ok",
     ),
-    // What is abstract needs no marker.
+    // An abstract production needs no marker.
     ("abstract x : E ::= n : int { }", "ok"),
 ];
 

@@ -1,7 +1,6 @@
-//! Does each name rule refuse what it asks of a host, with the name that shows it?
+//! Does each name rule refuse a host that breaks it, with the name that shows it?
 //!
-//! Hosts are named `h`, and each row has what comes after the first line. Expected answers follow from the rules. Extensions are in
-//! `extension_names`.
+//! Hosts are named `h`. Each row has the text after the first line. Expected answers follow from the rules.
 
 use crate::written::{Asked, Row, Tested, hosts_get};
 

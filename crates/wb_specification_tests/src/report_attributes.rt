@@ -27,7 +27,7 @@ fn labelled(alloc: Global) -> ShownVertex {
     }
 }
 
-// The number of a refusal of attributes.
+// The refusal of attributes with this number.
 pub(crate) fn attribute_reason(alloc: Global, number: usize) -> AttributeReason {
     match number {
         0 => AttributeReason::StartInherits(text(alloc, "i")),
@@ -41,7 +41,7 @@ pub(crate) fn attribute_reason(alloc: Global, number: usize) -> AttributeReason 
     }
 }
 
-// An attribute without equation.
+// An attribute without an equation.
 fn no_equation(alloc: Global) -> AttributeReason {
     AttributeReason::NoEquation {
         production: text(alloc, "go"),
@@ -49,7 +49,7 @@ fn no_equation(alloc: Global) -> AttributeReason {
     }
 }
 
-// An attribute of a label without equation.
+// An attribute of a label without an equation.
 fn no_inherited(alloc: Global) -> AttributeReason {
     AttributeReason::NoInherited {
         production: text(alloc, "go"),

@@ -1,7 +1,6 @@
-//! Are outcomes reported by these lines?
+//! Is each outcome reported by its line? The outcomes are in `report_refusals`, `report_attributes` and `report_outcomes`.
 //!
-//! Texts and lists that find no memory are empty, and then the lines differ: so no outcome is alive where a test may end early. The
-//! outcomes are in `report_refusals`, `report_attributes` and `report_outcomes`, and the expected lines are those of the table of reports.
+//! Out of memory, a text or list is empty and the lines differ. So a test doesn't end early with an outcome alive.
 
 use crate::report_attributes::attribute_reason;
 use crate::report_outcomes::{done, outcome};
@@ -10,7 +9,7 @@ use std::alloc::Global;
 use wb_base::{Bytes, Sequence};
 use wb_report::{Outcome, Refusal, report};
 
-// What is reported: what a command shows that comes to its end, an outcome that refuses no file, or why the file `f` is refused.
+// What is reported: the result of a command, an outcome that refuses no file, or the reason why the file `f` is refused.
 #[derive(Clone, Copy)]
 pub(crate) enum Reported {
     Ends,
@@ -22,7 +21,7 @@ pub(crate) enum Reported {
     Attributes,
 }
 
-// The number of an outcome of these.
+// The outcome of this number.
 fn outcome_of(alloc: Global, reported: Reported, number: usize) -> Outcome {
     match reported {
         Reported::Ends => Outcome::Done(done(alloc, number)),
@@ -38,7 +37,7 @@ fn outcome_of(alloc: Global, reported: Reported, number: usize) -> Outcome {
     }
 }
 
-// That the file `f` is refused for this reason.
+// The outcome that the file `f` is refused for this reason.
 fn refused(alloc: Global, refusal: Refusal) -> Outcome {
     let file = text(alloc, "f");
     Outcome::Refused { file, refusal }
@@ -54,7 +53,7 @@ pub(crate) fn are_reported(alloc: Global, reported: Reported, rows: &[&str]) -> 
     true
 }
 
-// Whether the outcome is reported so.
+// Whether the outcome is reported by these lines.
 fn is_reported(alloc: Global, outcome: Outcome, lines: &str) -> bool {
     let are = are_lines(alloc, &outcome, lines);
     outcome.release();

@@ -4,7 +4,7 @@ use crate::report_lines::{Reported, are_reported, bytes, text, texts};
 use std::alloc::Global;
 use wb_report::{Done, Outcome, ShownStop};
 
-// The number of an outcome without a refused file.
+// The outcome without a refused file of this number.
 pub(crate) fn outcome(alloc: Global, number: usize) -> Outcome {
     match number {
         0 => Outcome::Usage,
@@ -22,7 +22,7 @@ pub(crate) fn outcome(alloc: Global, number: usize) -> Outcome {
     }
 }
 
-// A text that stops at a place.
+// A text that stops at a position.
 fn stopped(at: usize, stop: ShownStop) -> Outcome {
     Outcome::Stopped { at, stop }
 }
@@ -64,7 +64,7 @@ fn other_outcomes_have_their_line(rt: HostRuntime) {
     assert!(rt; are_reported(rt.alloc(), Reported::Others, &OTHERS));
 }
 
-// The number of what a command shows that comes to its end.
+// The result of a command with this number.
 pub(crate) fn done(alloc: Global, number: usize) -> Done {
     match number {
         0 => value(alloc),
@@ -111,7 +111,7 @@ fn generated(alloc: Global) -> Done {
     }
 }
 
-// The lines of each command that comes to its end.
+// The lines of each result of a command.
 static ENDS: [&str; 6] = [
     "count:leaves = 2\n",
     "format 1;\nhost t;\n",

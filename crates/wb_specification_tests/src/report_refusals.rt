@@ -1,4 +1,4 @@
-//! Which line reports a specification or a term that is refused for what is written, its names, its grammar or what it adds?
+//! Which line reports a specification or a term that is refused for its text, names or kinds, its grammar, or what it adds?
 
 use crate::report_lines::{Reported, are_reported, text, texts};
 use std::alloc::Global;
@@ -7,7 +7,7 @@ use wb_report::{
     ExtensionReason, GrammarReason, ShownAction, ShownConflict, ShownItem, SpecReason, TermReason,
 };
 
-// The number of a refusal of what is written.
+// The refusal with this number of a specification, for its text, names or kinds.
 pub(crate) fn spec_reason(alloc: Global, number: usize) -> SpecReason {
     match number {
         0 => SpecReason::Syntax(14),
@@ -24,7 +24,7 @@ pub(crate) fn spec_reason(alloc: Global, number: usize) -> SpecReason {
     }
 }
 
-// The line of each refusal of what is written.
+// The line of each of these refusals.
 static WRITTEN: [&str; 11] = [
     "refused f S1 at 14\n",
     "refused f S2\n",
@@ -44,7 +44,7 @@ fn what_is_written_is_refused_with_place_or_name(rt: HostRuntime) {
     assert!(rt; are_reported(rt.alloc(), Reported::Written, &WRITTEN));
 }
 
-// The number of a refusal of a term.
+// The refusal of a term with this number.
 pub(crate) fn term_reason(number: usize) -> TermReason {
     match number {
         0 => TermReason::Syntax(10),
@@ -65,7 +65,7 @@ fn terms_are_refused_with_their_place(rt: HostRuntime) {
     assert!(rt; are_reported(rt.alloc(), Reported::Terms, &TERMS));
 }
 
-// The number of a refusal of a grammar.
+// The refusal of a grammar with this number.
 pub(crate) fn grammar_reason(alloc: Global, number: usize) -> GrammarReason {
     match number {
         0 => GrammarReason::PreferenceCycle(texts(alloc, "T", "e:U")),
@@ -123,7 +123,7 @@ fn grammars_are_refused_with_an_example(rt: HostRuntime) {
     assert!(rt; are_reported(rt.alloc(), Reported::Grammars, &GRAMMARS));
 }
 
-// The number of a refusal of what an extension adds.
+// The refusal with this number of what an extension adds.
 pub(crate) fn extension_reason(alloc: Global, number: usize) -> ExtensionReason {
     match number {
         0 => ExtensionReason::NotBridge(text(alloc, "e:p")),
@@ -155,7 +155,7 @@ fn lookahead(alloc: Global) -> ExtensionReason {
     }
 }
 
-// The item of a production with its dot in the second place.
+// The item of a production with its dot after the first symbol.
 fn item(alloc: Global) -> ShownItem {
     ShownItem {
         production: text(alloc, "term"),

@@ -1,6 +1,6 @@
-//! What comes of a written host, and of a written extension of it?
+//! Does each text of a host, or of an extension of a host, get its expected answer?
 //!
-//! An answer is a text: the rule that fails first, with the names that show it, or `ok`. Tests have tables of what is written and its answer.
+//! An answer is a text: the rule that fails first, with the names that show it, or `ok`. Tests have tables of texts and answers.
 
 ghost use Rattle.std.specs.Prelude.{◌≡◌, []};
 
@@ -23,13 +23,13 @@ pub(crate) enum Tested {
     Forwards,
 }
 
-// What is tested, and the first line before what is written.
+// What is tested, and the first line, which comes before each text.
 pub(crate) struct Asked {
     pub(crate) tested: Tested,
     pub(crate) first_line: &'static str,
 }
 
-// What is written, and its answer.
+// A text and its expected answer.
 pub(crate) type Row = (&'static str, &'static str);
 
 // Appends pieces of text.
@@ -117,7 +117,7 @@ fn host_gets(alloc: Global, asked: &Asked, row: &Row) -> bool {
         && host_text_gets(alloc, asked.tested, &text, row.1)
 }
 
-// Whether each host gets its answer.
+// Whether each host gets its expected answer.
 pub(crate) fn hosts_get(alloc: Global, asked: &Asked, rows: &[Row]) -> bool {
     for row in rows {
         if !host_gets(alloc, asked, row) {
@@ -219,7 +219,7 @@ fn all_get_with(alloc: Global, asked: &Asked, spec: &Spec, rows: &[Row]) -> bool
     }
 }
 
-// Whether each extension of the host gets its answer.
+// Whether each extension of the host gets its expected answer.
 pub(crate) fn extensions_get(alloc: Global, asked: &Asked, host: &str, rows: &[Row]) -> bool {
     match read_spec(alloc, host.as_bytes()) {
         Ok(spec) => {

@@ -1,4 +1,4 @@
-//! What may the trees need to which productions of a nonterminal forward?
+//! What may the trees to which productions of a nonterminal forward need?
 //!
 //! At most one item says it of each nonterminal. It is found by one look-up among the names that items say it of.
 
@@ -20,7 +20,7 @@ use wb_rows::plains::written_needs;
 use wb_rows::scope::Scope;
 use wb_syntax::{Item, ItemForm, Pattern, PlainForm};
 
-// For each item the nonterminal of which it says so, or no bytes. The only error is want of memory.
+// For each item the nonterminal of which it says so, or no bytes.
 pub(crate) fn forwarders_of(alloc: Global, items: &[Item<Pattern>]) -> Result<Index, AllocError>
     ensures { IfOk result (λ names. names ≡ map (λ (item : Written Read). form_forwarder item.form) items.now) }
 {

@@ -1,10 +1,10 @@
-//! What is a file, as functions are lent it?
+//! A file as functions are lent it.
 
 use wb_base::Bytes;
 use wb_resolved::ResolvedParts;
 use wb_syntax::{Item, Pattern};
 
-/// A file on its base: what was there before it, whose its names are, the names of the extensions up to it, and its items.
+/// A file on its base: the base, the owner of the file's names, the names of the extensions up to it, and its items.
 #[derive(Clone, Copy)]
 pub struct Lent<'a> {
     pub base: &'a ResolvedParts,

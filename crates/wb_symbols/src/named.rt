@@ -1,4 +1,4 @@
-//! Which names have rows, in their order, and which numbers have these names?
+//! Lists the names of rows in their order, and finds the numbers of these names.
 //!
 //! Rows of all sorts are gone through by the same two loops.
 

@@ -1,4 +1,4 @@
-//! Which names has each sort, in the order of their numbers?
+//! Lists the names of each sort, in the order of their numbers.
 //!
 //! A base's names go before those of a file, but what is of the grammar goes before what isn't.
 

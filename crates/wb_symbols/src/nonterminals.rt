@@ -1,4 +1,4 @@
-//! Which rows have the nonterminals of a base and of a file?
+//! Builds the rows of the nonterminals of a base and of a file.
 //!
 //! Those of the grammar are kept apart, since they are numbered first. A base's rows stay, as its attributes keep their numbers.
 
@@ -29,7 +29,6 @@ pub struct Nonterminals {
     pub others: Vec<Nonterminal>,
 }
 
-// By hand, so that no crate above proves how the parts are dropped.
 impl Drop for Nonterminals {
     fn drop(self) {
         let Nonterminals { of_grammar, others } = self;
@@ -47,7 +46,7 @@ pub(crate) struct Known<'a> {
     pub(crate) forwarders: &'a Index,
 }
 
-// Adds those of the base, and then those that items declare, in one list, and answers how many are of the grammar. The only error is want of memory.
+// Adds those of the base, and then those that items declare, in one list, and answers how many are of the grammar.
 pub(crate) fn add_nonterminals(
     alloc: Global,
     file: &Lent,

@@ -1,4 +1,4 @@
-//! Which names has a file on its base, in the order of their numbers, and which numbers have the base's names there?
+//! Lists the names of a file on its base, in the order of their numbers, and gives the numbers of the base's names there.
 //!
 //! Terminals and nonterminals have their rows here. Productions have their names alone, since what is written in them reads all of these.
 
@@ -24,7 +24,7 @@ use wb_rows::terminals::{Terminals, add_base, add_declared};
 
 /// Rows of terminals and nonterminals, the names of all sorts by number, and the new numbers of a base's.
 ///
-/// Once they are filled, layout stands after what is scanned, in one list with it, and other nonterminals after those of the grammar.
+/// Once they are filled, layout comes after what is scanned, in one list with it, and other nonterminals after those of the grammar.
 pub struct Symbols {
     pub terminals: Terminals,
     pub nonterminals: Nonterminals,
@@ -32,7 +32,6 @@ pub struct Symbols {
     pub moves: Moves,
 }
 
-// By hand, so that no crate above proves how the parts are dropped.
 impl Drop for Symbols {
     fn drop(self) {
         let Symbols {
@@ -90,7 +89,7 @@ pub struct Counts {
     pub of_grammar: usize,
 }
 
-/// Makes the rows, the names, and then the numbers. The only error is want of memory.
+/// Makes the rows, the names, and then the numbers.
 pub fn fill(alloc: Global, file: &Lent, symbols: &mut Symbols) -> Result<Counts, AllocError>
     requires right { IsRight (lent_file file.now) }
     requires nothing { IsEmpty file.now.owner symbols.old }

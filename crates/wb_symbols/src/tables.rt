@@ -1,4 +1,4 @@
-//! Which numbers have the names of a base among those of a file on it?
+//! Gives the numbers of a base's names among those of a file on it.
 //!
 //! Each name of a base is there, so each has a number.
 
@@ -12,7 +12,7 @@ use std::alloc::AllocError;
 use wb_rows::moves::Moves;
 use wb_rows::scope::Scope;
 
-// Adds the number of each name of the base. The only error is want of memory.
+// Adds the number of each name of the base.
 pub(crate) fn add_tables(file: &Lent, scope: &Scope, moves: &mut Moves) -> Result<(), AllocError>
     requires { HasBase (lent_file file.now) scope.now }
     ensures { OnOk result (AddsTables (lent_file file.now) scope.now moves.old moves.new) }

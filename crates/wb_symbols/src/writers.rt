@@ -31,7 +31,6 @@ impl Writers {
     }
 }
 
-// By hand, so that no crate above proves how the parts are dropped.
 impl Drop for Writers {
     fn drop(self) {
         let Writers { names, places } = self;
@@ -40,7 +39,7 @@ impl Drop for Writers {
     }
 }
 
-/// Adds the places of those of these items that write on productions to none. The only error is want of memory.
+/// Adds the places of those of these items that write on productions to none.
 pub fn add_items(
     alloc: Global,
     items: &[Item<Pattern>],

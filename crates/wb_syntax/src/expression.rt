@@ -43,7 +43,6 @@ pub struct Equation {
     pub nodes: Sequence<Node>,
 }
 
-// By hand, so that no crate above proves how the parts are dropped.
 impl Drop for Equation {
     fn drop(self) {
         let Equation {

@@ -1,4 +1,4 @@
-//! Which forms has an item, and what does each keep?
+//! Which forms does an item have, and what does each keep?
 //!
 //! Forms are grouped by what they hold: a regular expression, which is read later than the rest; names alone; or equations. So a form of
 //! names alone is in one enum, and what is said of regular expressions or equations needs no line for it.

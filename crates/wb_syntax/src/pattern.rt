@@ -22,7 +22,6 @@ pub struct Pattern {
     pub regex: Regex,
 }
 
-// By hand, so that no crate above proves how the parts are dropped.
 impl Drop for Pattern {
     fn drop(self) {
         let Pattern { bytes, regex } = self;

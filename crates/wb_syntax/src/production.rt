@@ -26,7 +26,6 @@ pub struct Child {
     pub kind: NamedKind,
 }
 
-// By hand, so that no crate above proves how the parts are dropped.
 impl Drop for Child {
     fn drop(self) {
         let Child { label, kind } = self;
@@ -47,7 +46,6 @@ pub struct Production {
     pub equations: Sequence<Equation>,
 }
 
-// By hand, so that no crate above proves how the parts are dropped.
 impl Drop for Production {
     fn drop(self) {
         let Production {

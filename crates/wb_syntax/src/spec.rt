@@ -40,7 +40,7 @@ impl Model for Spec {
 }
 
 impl Spec {
-    /// A specification of these parts, which some text has as its reading. The only error is want of memory.
+    /// A specification of these parts, which some text has as its reading.
     pub fn new(
         format: u32,
         name: Bytes,
@@ -58,28 +58,28 @@ impl Spec {
         })
     }
 
-    /// The number of its format. Takes no memory.
+    /// The number of its format.
     pub fn format(&self) -> u32
         ensures { result ≡ self.now.format }
     {
         self.format
     }
 
-    /// Its name. Takes no memory.
+    /// Its name.
     pub fn name(&self) -> &[u8]
         ensures { result.now ≡ self.now.name }
     {
         self.name.as_slice()
     }
 
-    /// Whether it is a host, or an extension of which. Takes no memory.
+    /// Whether it is a host, or an extension of which.
     pub fn header(&self) -> &Header
         ensures { result.now ≡ self.now.header }
     {
         &self.header
     }
 
-    /// Its items, in the order of the text. Takes no memory.
+    /// Its items, in the order of the text.
     ///
     /// Some text has the specification, so each name in it is a name, and the nodes of each equation are one whole expression.
     pub fn items(&self) -> &[Item<Pattern>]
@@ -109,7 +109,6 @@ impl Spec {
     pub fn release(self) {}
 }
 
-// By hand, so that no crate above proves how the parts are dropped.
 impl Drop for Spec {
     fn drop(self) {
         let Spec {

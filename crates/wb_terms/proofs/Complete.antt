@@ -1,4 +1,4 @@
--- What is a term by its grammar is derived by the table, which makes of what was met before what is met in the term after it.
+-- A term by its grammar is derived by the table, which makes of what was met before what is met in the term after it.
 use Rattle.std.proofs.Common.{◌≡◌, ◌⊎◌, inl, inr, ℕ, ℤ, pos, negsuc, List, ◌∷◌, Bool as Truth, true, false, cond, refl, sym, subst}
 use Rattle.std.specs.Prelude.{◌==◌}
 use Rattle.wb_predictive.specs.declared.symbol.Symbol.{Symbol}

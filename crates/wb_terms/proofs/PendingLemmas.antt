@@ -37,7 +37,7 @@ tree_begun ss ts p n old new ps qs (Ok x) first e g h =
     ap (λ k. children_text k ss (values_from k (children_of t)) ++ 41 ∷ pending_text ss ts (reverse ps)) first in
     a ∙ (ap (λ l. ((old ++ name_of ss n) ++ 40 ∷ []) ++ l) b ∙ begun_text ss t n old (pending_text ss ts (reverse ps)) e)
 
--- the values from a place on are the one there and those behind it
+-- the values from a place on are the one there and those after it
 pub from_at : (xs : Values) (k : ℕ) (x : Value) → value_at xs k ≡ Some x → values_from k xs ≡ more x (values_from (suc k) xs)
 from_at empty k x at = absurd cc
 from_at (more y ys) zero x at = let e : y ≡ x = cc in ap (λ (z : Value). more z ys) e
@@ -68,7 +68,7 @@ ended_weight ts p rest le =
     let e : children_weight (left_of ts p) ≡ 1 = ap children_weight (from_end (children_of (tree_in ts p.tree.0)) p.next le) in
     omega (arith, e)
 
--- the next child with its separator, and the children behind it
+-- the next child with its separator, and the children after it
 child_text : (ss : List Signature) (k : ℕ) (x : Value) (xs : Values)
     → children_text k ss (more x xs) ≡ before k ++ (printed_value ss x ++ children_text (suc k) ss xs)
 child_text ss zero x xs = refl

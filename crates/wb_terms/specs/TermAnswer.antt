@@ -43,7 +43,7 @@ IsAnswer signatures bytes (bad place) = IsFirstFault bytes place
 IsAnswer signatures bytes (unknown place) = HasUnknown signatures bytes place
 IsAnswer signatures bytes (wrong place) = HasWrongChild signatures bytes place
 
--- the answer that a refusal gives; want of memory gives none
+-- the answer that a refusal gives; out of memory gives none
 abbrev pub answer_of : TermRefusal → Option Answer
 answer_of (Bad place) = Some (bad place)
 answer_of (Unknown place) = Some (unknown place)

@@ -112,7 +112,7 @@ impl Faults {
 }
 
 impl Builder {
-    // Nothing was met. Takes no memory.
+    // Nothing was met.
     pub(crate) fn new(alloc: Global) -> Builder
         ensures { (signatures : List Signature) (trees : List Tree) → Holds signatures trees [] result }
     {
@@ -194,7 +194,7 @@ impl Builder {
         self.add(Value::Tree(tree), frame.at)
     }
 
-    // What is met next. The only error is want of memory, and then trees were added at most.
+    // What is met next. If memory runs out, trees were added at most.
     pub(crate) fn handle(
         &mut self,
         signatures: &Signatures,

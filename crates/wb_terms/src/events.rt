@@ -37,7 +37,7 @@ fn qualified_name(alloc: Global, owner: &[u8], name: &[u8]) -> Result<Bytes, All
 }
 
 impl Events {
-    // Nothing yet. Takes no memory.
+    // Nothing yet.
     pub(crate) fn new(alloc: Global) -> Events
         ensures { result ≡ [] }
     {
@@ -46,7 +46,7 @@ impl Events {
         }
     }
 
-    // One event more, which is the last. The only error is want of memory.
+    // One event more, which is the last.
     pub(crate) fn push(&mut self, event: Event) -> Result<(), AllocError>
         ensures ok { OnOk result (self.new ≡ event ∷ self.old) }
     {
@@ -81,7 +81,7 @@ impl Events {
         }
     }
 
-    // Of the last two names the first is that of an owner, and the two are one name. The only error is want of memory.
+    // Of the last two names the first is that of an owner, and the two are one name.
     pub(crate) fn qualify(&mut self, alloc: Global) -> Result<(), AllocError>
         ensures ok { OnOk result (self.new ≡ qualified self.old) }
     {
@@ -97,7 +97,7 @@ impl Events {
         }
     }
 
-    // The events from the first to the last. Takes no memory.
+    // The events from the first to the last.
     pub(crate) fn as_slice(&self) -> &[Event]
         ensures { reverse result.now ≡ self.now }
     {

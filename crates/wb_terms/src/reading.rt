@@ -10,7 +10,7 @@ use crate::table::TermTable;
 use std::alloc::{AllocError, Global};
 use wb_predictive::{Outcome, read_all};
 
-// What is met in the term that the bytes are, or the place of the first thing that can't follow. The only error is want of memory.
+// What is met in the term that the bytes are, or the place of the first thing that can't follow.
 pub(crate) fn read_events(alloc: Global, bytes: &[u8]) -> Result<Outcome<Events>, AllocError>
     ensures ok { IfOk result (λ outcome. IsTermReading bytes.now outcome) }
 {

@@ -16,7 +16,7 @@ pub enum TermRefusal {
     /// The node whose name is at this place has a wrong number of children, or the child at this place is of a wrong kind. It is
     /// the first such place.
     WrongChild(usize),
-    /// Memory is wanting.
+    /// Out of memory.
     NoMemory(AllocError),
 }
 
@@ -36,7 +36,7 @@ impl From<AllocError> for TermRefusal {
 pub enum PrintRefusal {
     /// The text has more than 16,777,216 bytes.
     TooLong,
-    /// Memory is wanting.
+    /// Out of memory.
     NoMemory(AllocError),
 }
 

@@ -1,4 +1,4 @@
-//! Which rules has the grammar of terms as a table?
+//! The rules of the grammar of terms, as a table.
 //!
 //! They are those of `specs/TermGrammar` with actions between the symbols. What is made of the actions is in `events`.
 

@@ -1,26 +1,47 @@
-//! Has each extension with its host the report of `certify`?
+//! Does `certify` report the expected lines for each extension with its host?
 //!
-//! Over files in memory. A refusal may show any true example, so that a row leaves open what may differ. The checks of a host are in `check`.
+//! Files are in memory. A refusal may show any true example, so a row leaves open what may differ. The checks of a host are in `check`.
 
 use crate::runs::{Row, each_ends_so};
 use crate::specifications::{KW0, MINI, TINY};
 use wb_inputs::Status;
 
-const ADJ: &str =
-    "format 1; host adj; terminal A /a/; terminal X /x/; terminal P /p/; terminal Q /q/; terminal Y /y/; nonterminal S; nonterminal N; nonterminal H; nonterminal G; start S; extensible H; extensible G; concrete sn : S ::= n : N x : X { } concrete sh : S ::= p : P h : H { } concrete sg : S ::= q : Q g : G { } concrete na : N ::= a : A { } concrete hx : H ::= x : X { } concrete gy : G ::= y : Y { }";
+const ADJ: &str = "format 1; host adj; \
+    terminal A /a/; terminal X /x/; terminal P /p/; terminal Q /q/; terminal Y /y/; \
+    nonterminal S; nonterminal N; nonterminal H; nonterminal G; start S; extensible H; extensible G; \
+    concrete sn : S ::= n : N x : X { } \
+    concrete sh : S ::= p : P h : H { } \
+    concrete sg : S ::= q : Q g : G { } \
+    concrete na : N ::= a : A { } \
+    concrete hx : H ::= x : X { } \
+    concrete gy : G ::= y : Y { }";
 
-const PQ: &str =
-    "format 1; host pq; terminal P /p/; terminal Q /q/; terminal C /c/; terminal X /x/; terminal Y /y/; terminal Z /z/; nonterminal S; nonterminal A; nonterminal B; nonterminal G; start S; extensible G; concrete sa : S ::= p : P a : A x : X { } concrete sb : S ::= p : P b : B y : Y { } concrete sg : S ::= q : Q g : G { } concrete ac : A ::= c : C { } concrete bc : B ::= c : C { } concrete gz : G ::= z : Z { }";
+const PQ: &str = "format 1; host pq; \
+    terminal P /p/; terminal Q /q/; terminal C /c/; terminal X /x/; terminal Y /y/; terminal Z /z/; \
+    nonterminal S; nonterminal A; nonterminal B; nonterminal G; start S; extensible G; \
+    concrete sa : S ::= p : P a : A x : X { } \
+    concrete sb : S ::= p : P b : B y : Y { } \
+    concrete sg : S ::= q : Q g : G { } \
+    concrete ac : A ::= c : C { } \
+    concrete bc : B ::= c : C { } \
+    concrete gz : G ::= z : Z { }";
 
-const CTX: &str =
-    "format 1; host ctx; ignore Space /[ ]+/; terminal X /x/; nonterminal P; nonterminal N; start P; extensible N; inh env : int; inh store : int; syn value : int; occurs env on N; occurs store on N; occurs value on P; occurs value on N needs { env, store }; concrete root : P ::= n : N { n.env = 1; n.store = 2; top.value = n.value; } concrete leaf : N ::= x : X { top.value = @add(top.env, top.store); }";
+const CTX: &str = "format 1; host ctx; \
+    ignore Space /[ ]+/; terminal X /x/; \
+    nonterminal P; nonterminal N; start P; extensible N; \
+    inh env : int; inh store : int; syn value : int; \
+    occurs env on N; occurs store on N; occurs value on P; occurs value on N needs { env, store }; \
+    concrete root : P ::= n : N { n.env = 1; n.store = 2; top.value = n.value; } \
+    concrete leaf : N ::= x : X { top.value = @add(top.env, top.store); }";
 
 static ROWS: [Row; 19] = [
     (
         "workbench certify h t",
         &[
             TINY,
-            "format 1; extension dup for tiny; marking D /d/; concrete twin : T ::= m : D t : T {   forwards to num(@to_text(@mul(2, t.value))); }",
+            "format 1; extension dup for tiny; \
+                marking D /d/; \
+                concrete twin : T ::= m : D t : T {   forwards to num(@to_text(@mul(2, t.value))); }",
         ],
         Status::Done,
         "certified host tiny\n…certified extension dup\n",
@@ -29,7 +50,11 @@ static ROWS: [Row; 19] = [
         "workbench certify h t",
         &[
             TINY,
-            "format 1; extension count for tiny; syn leaves : int; occurs leaves on E; occurs leaves on T; aspect plus { top.leaves = @add(a.leaves, b.leaves); } aspect term { top.leaves = t.leaves; } aspect num { top.leaves = 1; }",
+            "format 1; extension count for tiny; \
+                syn leaves : int; occurs leaves on E; occurs leaves on T; \
+                aspect plus { top.leaves = @add(a.leaves, b.leaves); } \
+                aspect term { top.leaves = t.leaves; } \
+                aspect num { top.leaves = 1; }",
         ],
         Status::Done,
         "certified host tiny\n…certified extension count\n",
@@ -65,7 +90,10 @@ static ROWS: [Row; 19] = [
         "workbench certify h t",
         &[
             TINY,
-            "format 1; extension e for tiny; marking D /d/; concrete a : T ::= m : D { forwards to num(\"1\"); } concrete b : T ::= m : D n : Num { forwards to num(\"1\"); }",
+            "format 1; extension e for tiny; \
+                marking D /d/; \
+                concrete a : T ::= m : D { forwards to num(\"1\"); } \
+                concrete b : T ::= m : D n : Num { forwards to num(\"1\"); }",
         ],
         Status::NotCertified,
         "refused t E2 e:D\n",
@@ -92,7 +120,11 @@ static ROWS: [Row; 19] = [
         "workbench certify h t",
         &[
             MINI,
-            "format 1; extension comma for mini; marking Dot /dot/; terminal Comma /,/; prefer Dot over Id; concrete two : Factor ::= m : Dot o : Open x : Expr k : Comma y : Expr c : Close {   forwards to paren(\"(\", plus(x, \"+\", factor(paren(\"(\", y, \")\"))), \")\"); }",
+            "format 1; extension comma for mini; \
+                marking Dot /dot/; terminal Comma /,/; prefer Dot over Id; \
+                concrete two : Factor ::= m : Dot o : Open x : Expr k : Comma y : Expr c : Close {   \
+                  forwards to paren(\"(\", plus(x, \"+\", factor(paren(\"(\", y, \")\"))), \")\"); \
+                }",
         ],
         Status::NotCertified,
         "refused t E5 after…on comma:Comma\n",
@@ -146,7 +178,9 @@ static ROWS: [Row; 19] = [
         "workbench certify h t",
         &[
             MINI,
-            "format 1; extension dup for tiny; marking D /d/; concrete twin : T ::= m : D t : T {   forwards to num(@to_text(@mul(2, t.value))); }",
+            "format 1; extension dup for tiny; \
+                marking D /d/; \
+                concrete twin : T ::= m : D t : T {   forwards to num(@to_text(@mul(2, t.value))); }",
         ],
         Status::WrongHost,
         "wrong host t names tiny\n",
@@ -173,7 +207,9 @@ static ROWS: [Row; 19] = [
         "workbench certify h t",
         &[
             KW0,
-            "format 1; extension dup for tiny; marking D /d/; concrete twin : T ::= m : D t : T {   forwards to num(@to_text(@mul(2, t.value))); }",
+            "format 1; extension dup for tiny; \
+                marking D /d/; \
+                concrete twin : T ::= m : D t : T {   forwards to num(@to_text(@mul(2, t.value))); }",
         ],
         Status::NotCertified,
         "refused h G5 after…\n",
@@ -185,7 +221,7 @@ fn each_extension_has_its_report(rt: HostRuntime) {
     each_ends_so(&rt, &ROWS);
 }
 
-// One extension named 64 times, and once more.
+// One extension that is named 64 times, and once more.
 static MANY: [Row; 2] = [
     (
         "workbench certify h \

@@ -1,6 +1,6 @@
-//! Has each host the report of `check`?
+//! Does `check` report the expected lines for each host?
 //!
-//! Over files in memory. A refusal may show any true example, so that there is a row for each that is true.
+//! Files are in memory. A refusal may show any true example, so there is a row for each.
 
 use crate::long_runs::{LongRow, each_long_ends_so};
 use crate::runs::{Row, each_ends_so, expect, one_ends_so, status_of};
@@ -125,7 +125,10 @@ static NOT_CERTIFIED: [Row; 14] = [
     (
         "workbench check h",
         &[
-            "format 1; host h; terminal X /x/; nonterminal S; start S; nonterminal N; concrete go : S ::= x : X { } concrete n : N ::= x : X { }",
+            "format 1; host h; \
+                terminal X /x/; nonterminal S; start S; nonterminal N; \
+                concrete go : S ::= x : X { } \
+                concrete n : N ::= x : X { }",
         ],
         Status::NotCertified,
         "refused h G1 unreachable N\n",
@@ -149,7 +152,11 @@ static NOT_CERTIFIED: [Row; 14] = [
     (
         "workbench check h",
         &[
-            "format 1; host h; terminal X /x/; nonterminal S; start S; nonterminal N; concrete a : S ::= n : N s : S x : X { } concrete b : S ::= x : X { } concrete c : N ::= { }",
+            "format 1; host h; \
+                terminal X /x/; nonterminal S; start S; nonterminal N; \
+                concrete a : S ::= n : N s : S x : X { } \
+                concrete b : S ::= x : X { } \
+                concrete c : N ::= { }",
         ],
         Status::NotCertified,
         "refused h G3 S\n",
@@ -157,7 +164,10 @@ static NOT_CERTIFIED: [Row; 14] = [
     (
         "workbench check h",
         &[
-            "format 1; host h; terminal X /x/; nonterminal S; start S; terminal Y /[a-z]/; concrete a : S ::= x : X { } concrete b : S ::= y : Y { }",
+            "format 1; host h; \
+                terminal X /x/; nonterminal S; start S; terminal Y /[a-z]/; \
+                concrete a : S ::= x : X { } \
+                concrete b : S ::= y : Y { }",
         ],
         Status::NotCertified,
         "refused h G5 after: X and Y share \"x\"\n",
@@ -165,7 +175,11 @@ static NOT_CERTIFIED: [Row; 14] = [
     (
         "workbench check h",
         &[
-            "format 1; host h; terminal X /x/; nonterminal S; start S; extensible S; terminal P /p/; concrete a : S ::= l : S p : P r : S { } concrete b : S ::= x : X { }",
+            "format 1; host h; \
+                terminal X /x/; nonterminal S; start S; extensible S; \
+                terminal P /p/; \
+                concrete a : S ::= l : S p : P r : S { } \
+                concrete b : S ::= x : X { }",
         ],
         Status::NotCertified,
         "refused h G4 after S P S on P: shift and reduce a\n",
@@ -195,7 +209,12 @@ static NOT_CERTIFIED: [Row; 14] = [
     (
         "workbench check h",
         &[
-            "format 1; host h; terminal X /x/; nonterminal S; start S; inh i : int; syn s : int; nonterminal N; occurs i on N; occurs s on N needs { i }; occurs s on S; concrete go : S ::= n : N { top.s = n.s; } concrete leaf : N ::= x : X { top.s = top.i; }",
+            "format 1; host h; \
+                terminal X /x/; nonterminal S; start S; inh i : int; syn s : int; \
+                nonterminal N; \
+                occurs i on N; occurs s on N needs { i }; occurs s on S; \
+                concrete go : S ::= n : N { top.s = n.s; } \
+                concrete leaf : N ::= x : X { top.s = top.i; }",
         ],
         Status::NotCertified,
         "refused h A2 go n.i\n",
@@ -203,7 +222,11 @@ static NOT_CERTIFIED: [Row; 14] = [
     (
         "workbench check h",
         &[
-            "format 1; host h; terminal X /x/; nonterminal S; start S; inh i : int; syn s : int; nonterminal N; occurs i on N; occurs s on N; concrete go : S ::= n : N { } concrete leaf : N ::= x : X { top.s = top.i; }",
+            "format 1; host h; \
+                terminal X /x/; \
+                nonterminal S; start S; inh i : int; syn s : int; nonterminal N; occurs i on N; occurs s on N; \
+                concrete go : S ::= n : N { } \
+                concrete leaf : N ::= x : X { top.s = top.i; }",
         ],
         Status::NotCertified,
         "refused h A3 leaf s reads i\n",
@@ -211,7 +234,12 @@ static NOT_CERTIFIED: [Row; 14] = [
     (
         "workbench check h",
         &[
-            "format 1; host h; terminal X /x/; nonterminal S; start S; inh i : int; syn s : int; nonterminal N; occurs i on N; occurs s on N; forward on N needs { i }; concrete go : S ::= n : N { } concrete leaf : N ::= x : X { top.s = 1; }",
+            "format 1; host h; \
+                terminal X /x/; nonterminal S; start S; inh i : int; syn s : int; \
+                nonterminal N; \
+                occurs i on N; occurs s on N; forward on N needs { i }; \
+                concrete go : S ::= n : N { } \
+                concrete leaf : N ::= x : X { top.s = 1; }",
         ],
         Status::NotCertified,
         "refused h A6 N s lacks i\n",
@@ -223,9 +251,12 @@ fn each_rule_of_certification_has_its_line(rt: HostRuntime) {
     each_ends_so(&rt, &NOT_CERTIFIED);
 }
 
-// A host whose child needs itself, with the cycle from either of its vertices on.
-const CYCLE: &str =
-    "format 1; host h; terminal X /x/; nonterminal S; start S; inh i : int; syn s : int; nonterminal N; occurs i on N; occurs s on N needs { i }; concrete go : S ::= n : N { n.i = n.s; } concrete leaf : N ::= x : X { top.s = top.i; }";
+// A host with a child whose attribute needs itself, and the cycle from either of its vertices on.
+const CYCLE: &str = "format 1; host h; \
+    terminal X /x/; \
+    nonterminal S; start S; inh i : int; syn s : int; nonterminal N; occurs i on N; occurs s on N needs { i }; \
+    concrete go : S ::= n : N { n.i = n.s; } \
+    concrete leaf : N ::= x : X { top.s = top.i; }";
 
 static CYCLES: [Row; 2] = [
     (
@@ -263,10 +294,10 @@ fn is_conflict(report: &[u8]) -> bool {
     !sums.is_empty()
 }
 
-// The host that has it.
+// The host that has this conflict.
 static AMBIGUOUS: [&str; 1] = [AMB];
 
-// Whether a run shows it.
+// Whether a run shows this conflict.
 fn has_conflict(alloc: Global) -> Result<bool, AllocError> {
     let mut sink = MemorySink::new(alloc, 1000, 1000)?;
     let ended = status_of(alloc, "workbench check h", &AMBIGUOUS, &mut sink)?;

@@ -1,6 +1,6 @@
-//! Have a host with extensions the report of `compose`, and texts in their language that of `tree`?
+//! Does `compose` report the expected lines for a host with extensions, and `tree` for texts in their language?
 //!
-//! Over files in memory: a host in `h`, and extensions or a text in `t`, `u` and `v`. What refuses an extension by itself is in `certify`.
+//! Files are in memory: a host in `h`, and extensions or a text in `t`, `u` and `v`. Refusals of single extensions are in `certify`.
 
 use crate::runs::{Row, each_ends_so};
 use crate::specifications::{A, B, DUP, LIST, MINI, MINUS, TINY};
@@ -115,7 +115,8 @@ static TREES: [Row; 10] = [
         "workbench tree --text v h t u",
         &[MINI, A, B, "print sum + a::sum(1);"],
         Status::Done,
-        "prog(more(none(), print(\"print\", plus(term(factor(var(\"sum\"))), \"+\", factor(a:dbl(\"sum\", \"(\", term(factor(num(\"1\"))), \")\"))), \";\")))\n",
+        "prog(more(none(), print(\"print\", plus(term(factor(var(\"sum\"))), \"+\", \
+            factor(a:dbl(\"sum\", \"(\", term(factor(num(\"1\"))), \")\"))), \";\")))\n",
     ),
     (
         "workbench tree --text v h t",
@@ -154,7 +155,7 @@ fn texts_of_the_composed_language_have_their_trees(rt: HostRuntime) {
     each_ends_so(&rt, &TREES);
 }
 
-// One extension named 64 times, and once more.
+// One extension that is named 64 times, and once more.
 static MANY: [Row; 4] = [
     (
         "workbench compose h \

@@ -1,4 +1,4 @@
-//! Does a read or a write that fails end the run of a row, with no more written than before it?
+//! Does a read or a write that fails end the run of a row, with nothing more written?
 
 ghost use Rattle.std.specs.Prelude.{◌≤◌};
 
@@ -8,7 +8,7 @@ use std::process::Abort;
 use wb_inputs::Status;
 use wb_world::{MemoryShelf, MemorySink};
 
-/// Which read and which write of a run fail, counted from 1 and 0 for none, and how many bytes a write takes at most.
+/// Which read and which write of a run fail, counted from 1 and 0 for none, and the greatest number of bytes that a write takes.
 #[derive(Clone, Copy)]
 pub struct Faults {
     pub read: u64,
@@ -16,7 +16,7 @@ pub struct Faults {
     pub most: usize,
 }
 
-/// Fails unless the run of a row ends so with these faults.
+/// Fails unless the run of a row ends as expected with these faults.
 pub fn ends_with_faults<R: Abort + AllocGlobal>(rt: &R, row: &Row, faults: &Faults)
     requires { 1 ≤ faults.now.most }
 {
@@ -39,7 +39,7 @@ fn ends_so(
     Ok(ended == status && sink.bytes() == report.as_bytes())
 }
 
-// How the run of a row whose read of this number fails ends.
+// The status of the run of a row whose read of this number fails.
 fn status_to(
     alloc: Global,
     row: &Row,
@@ -52,12 +52,12 @@ fn status_to(
     status_on(alloc, row.0, &mut shelf, sink)
 }
 
-/// Fails unless each read of a run that fails ends it without a report, and it has at least so many reads.
+/// Fails unless the run has at least this number of reads, and each of them that fails ends the run without a report.
 pub fn each_read_may_fail<R: Abort + AllocGlobal>(rt: &R, row: &Row, least: u64) {
     expect(rt, has_reads(rt.alloc(), row, least));
 }
 
-// Whether a run has at least so many reads, and less than 99, of which each that fails ends it without a report.
+// Whether a run has at least this number of reads and less than 99, and each of them that fails ends the run without a report.
 fn has_reads(alloc: Global, row: &Row, least: u64) -> Result<bool, AllocError> {
     for read in 1..100 {
         let faults = Faults {
@@ -75,12 +75,12 @@ fn has_reads(alloc: Global, row: &Row, least: u64) -> Result<bool, AllocError> {
     Ok(false)
 }
 
-/// Fails unless each write of one byte that fails ends a run and leaves what was written before it.
+/// Fails unless each write of one byte that fails ends the run and leaves what was written before it.
 pub fn each_write_may_fail<R: Abort + AllocGlobal>(rt: &R, row: &Row) {
     expect_none(rt, first_uncut(rt.alloc(), row));
 }
 
-// The number of bytes after which a write that fails ends the run otherwise.
+// The number of bytes after which a write that fails doesn't end the run so.
 fn first_uncut(alloc: Global, row: &Row) -> Result<Option<usize>, AllocError> {
     for count in 0..row.3.len() {
         let faults = Faults {

@@ -1,4 +1,4 @@
-//! Has a text that is made from a number the report of `generate`?
+//! Does `generate` report the expected lines for a text that is made from a number?
 
 use crate::runs::{Row, each_ends_so, ends_so, expect_none, status_of};
 use crate::specifications::{A, B, LIST, MINI, TINY};
@@ -89,7 +89,7 @@ fn leaves_in(report: &[u8]) -> u64 {
 
 static STATEMENTS: [&str; 1] = [MINI];
 
-// The number of leaves in this report, where a run of this line writes it.
+// The number of leaves in this report, if a run of this line writes it.
 fn leaves_again(alloc: Global, line: &str, report: &[u8]) -> Result<Option<u64>, AllocError> {
     match str::from_utf8(report) {
         Ok(text) if ends_so(alloc, line, &STATEMENTS, Status::Done, text)? => {
@@ -99,20 +99,20 @@ fn leaves_again(alloc: Global, line: &str, report: &[u8]) -> Result<Option<u64>,
     }
 }
 
-// The number of leaves where two runs of this line end with a value and write the same.
+// The number of leaves, if two runs of this line end with a value and write the same.
 fn leaves_by(alloc: Global, line: &str) -> Result<Option<u64>, AllocError> {
     let mut sink = MemorySink::new(alloc, 1_000_000, 1_000)?;
     status_of(alloc, line, &STATEMENTS, &mut sink)?;
     leaves_again(alloc, line, sink.bytes())
 }
 
-// The number of leaves of the text of up to 20,000 leaves that the number makes, where two runs write the same.
+// The number of leaves of the text of up to 20,000 leaves that the number makes, if two runs write the same.
 fn leaves_of(alloc: Global, number: usize) -> Result<Option<u64>, AllocError> {
     let line = format!(in alloc; "workbench generate --size 20000 --attr out --number {number} h")?;
     leaves_by(alloc, line.as_str())
 }
 
-// The number below 32 whose text isn't the same twice or has more than 20,000 leaves; or 32, where none has more than 10,000.
+// The first number below 32 whose text isn't the same twice or has more than 20,000 leaves; or 32, if no text has more than 10,000.
 fn first_wrong(alloc: Global) -> Result<Option<usize>, AllocError> {
     let mut most = 0;
     for number in 0..32 {

@@ -1,24 +1,24 @@
-//! Does a run of the program end as its row says where files are long?
+//! Does a run of the program over long files end as its row says?
 //!
-//! A row has the pieces of its files, each with how often it stands.
+//! A row has the pieces of its files, each with the number of its repetitions.
 
 use crate::runs::{ends_so, expect_none};
 use std::alloc::{AllocError, Global};
 use std::process::Abort;
 use wb_inputs::Status;
 
-/// A text, and how often it stands.
+/// A text and the number of its repetitions.
 pub type Piece = (&'static str, usize);
 
 /// A command line, the pieces of the files `h` and `t`, a status and a report.
 pub type LongRow = (&'static str, [&'static [Piece]; 2], Status, &'static str);
 
-/// Fails at the first row that ends otherwise, and shows its number, counted from 0.
+/// Fails at the first row that doesn't end as it says, and shows its number, counted from 0.
 pub fn each_long_ends_so<R: Abort + AllocGlobal>(rt: &R, rows: &[LongRow]) {
     expect_none(rt, first_wrong(rt.alloc(), rows));
 }
 
-// The number of the first row that ends otherwise.
+// The number of the first row that doesn't end as it says.
 fn first_wrong(alloc: Global, rows: &[LongRow]) -> Result<Option<usize>, AllocError> {
     for (place, row) in rows.iter().enumerate() {
         if !long_ends_so(alloc, row)? {
@@ -28,13 +28,13 @@ fn first_wrong(alloc: Global, rows: &[LongRow]) -> Result<Option<usize>, AllocEr
     Ok(None)
 }
 
-// Whether a row ends so.
+// Whether a row ends as it says.
 fn long_ends_so(alloc: Global, row: &LongRow) -> Result<bool, AllocError> {
     let host = text_of(alloc, row.1[0])?;
     ends_over(alloc, host.as_str(), row)
 }
 
-// Whether a row whose first file has this text ends so.
+// Whether a row whose first file has this text ends as it says.
 fn ends_over(alloc: Global, host: &str, row: &LongRow) -> Result<bool, AllocError> {
     let text = text_of(alloc, row.1[1])?;
     ends_so(alloc, row.0, &[host, text.as_str()], row.2, row.3)
@@ -49,7 +49,7 @@ fn text_of(alloc: Global, pieces: &[Piece]) -> Result<String, AllocError> {
     Ok(text)
 }
 
-// Appends a piece so many times.
+// Appends a piece this number of times.
 fn repeat(text: &mut String, piece: &str, times: usize) -> Result<(), AllocError> {
     for _ in 0..times {
         text.push_str(piece)?;

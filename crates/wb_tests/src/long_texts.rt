@@ -1,4 +1,4 @@
-//! Has each run of a text its status where the text is long or deep?
+//! Does each run over a long or deep text end with its status?
 
 use crate::long_runs::{LongRow, Piece, each_long_ends_so};
 use crate::specifications::{MINI, TINY};

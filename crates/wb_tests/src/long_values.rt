@@ -1,4 +1,4 @@
-//! Has each run of `value` its status where files, terms, trees or values are long?
+//! Does each run of `value` over long files, terms, trees or values end with its status?
 
 use crate::long_runs::{LongRow, Piece, each_long_ends_so};
 use crate::runs::{Row, each_ends_so};
@@ -10,12 +10,12 @@ const LIMIT: usize = 1_048_576;
 
 const TERM: &str = "add(lit(1), lit(2))";
 
-// A host and a term with spaces behind them, up to the limit.
+// A host and a term with spaces after them, up to the limit.
 const LONG_HOST: &[Piece] = &[(CALC0, 1), (" ", LIMIT - CALC0.len())];
 
 const LONG_TERM: &[Piece] = &[(TERM, 1), (" ", LIMIT - TERM.len())];
 
-// And one more.
+// The same with one space more.
 const LONGER_HOST: &[Piece] = &[(CALC0, 1), (" ", LIMIT + 1 - CALC0.len())];
 
 const LONGER_TERM: &[Piece] = &[(TERM, 1), (" ", LIMIT + 1 - TERM.len())];
@@ -84,7 +84,7 @@ fn an_expression_may_be_deep(rt: HostRuntime) {
     each_long_ends_so(&rt, &DEEP_EXPRESSION);
 }
 
-// Values that double so many times.
+// Values that double this number of times.
 static LONG_VALUES: [LongRow; 3] = [
     (
         "workbench value h t t",

@@ -1,6 +1,6 @@
-//! Does `run` call the operations of the table that it is handed, and not the standard ones?
+//! Does `run` call the operations of the table that it is given, and not the standard ones?
 //!
-//! A table of two operations: one adds, with a fault of its own where the second number is 4, and one reads a number.
+//! The table has two operations: one adds, with a fault of its own if the second number is 4, and one reads a number.
 
 ghost use Rattle.wb_tests.specs.Inner.Odd.{odd, odd_sum};
 ghost use Rattle.wb_operations.specs.Given.{FitKinds, IsGiven, plains_of};
@@ -24,7 +24,7 @@ impl Meaning for Odd {
     ghost meaning = { odd };
 }
 
-// A sum, or fault 9 where the second number is 4.
+// A sum, or fault 9 if the second number is 4.
 fn odd_sum(x: i64, y: i64) -> Result<Value, OperationRefusal>
     ensures { IsGiven (odd_sum x y) result }
 {
@@ -58,7 +58,7 @@ fn odd_to_int(arguments: &[Value]) -> Result<Value, OperationRefusal>
     standard_to_int(arguments)
 }
 
-// How a run by a table of both ends.
+// The status of a run by a table of both.
 fn status_to(
     alloc: Global,
     line: &str,
@@ -92,7 +92,7 @@ fn row_to(alloc: Global, row: &Row, sink: &mut MemorySink) -> Result<Status, All
     status_to(alloc, row.0, &mut shelf, sink)
 }
 
-// Whether a row ends so.
+// Whether a row ends as it says.
 fn ends_so(alloc: Global, row: &Row) -> Result<bool, AllocError> {
     let mut sink = MemorySink::new(alloc, 1_000, 1_000)?;
     let ended = row_to(alloc, row, &mut sink)?;

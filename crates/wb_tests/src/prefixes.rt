@@ -1,11 +1,11 @@
-//! Where has each prefix of `MINI` its first error?
+//! Where does each prefix of `MINI` have its first error?
 //!
-//! Worked out from the grammar, by another reader. The test that compares them is in `show`.
+//! The positions were found from the grammar by an independent reader. The test that compares them is in `show`.
 
 use crate::show::Wrong;
 use crate::show::Wrong::{At, AtItsEnd, Nowhere};
 
-/// From each length on, where a prefix of `MINI` of that length has its first error. Worked out from the grammar, by another reader.
+/// From each length on, the position of the first error in a prefix of `MINI` of that length.
 pub static MINI_PREFIXES: [(usize, Wrong); 375] = [
     (0, AtItsEnd),
     (1, At(0)),

@@ -1,6 +1,6 @@
-//! Has a root attribute of a text the report of `run`?
+//! Does `run` report the expected lines for an attribute at the root of a text?
 //!
-//! Over files in memory: a host in `h`, and extensions or a text in `t`, `u` and `v`. Long texts are in `long_texts`.
+//! Files are in memory: a host in `h`, and extensions or a text in `t`, `u` and `v`. Long texts are in `long_texts`.
 
 use crate::failing_runs::{each_read_may_fail, each_write_may_fail};
 use crate::runs::{Row, each_ends_so};
@@ -89,7 +89,7 @@ fn root_attributes_of_texts_have_their_values(rt: HostRuntime) {
     each_ends_so(&rt, &VALUES);
 }
 
-// More instances are needed than there are steps.
+// More instances are needed than the limit of steps.
 static MORE_STEPS: [Row; 5] = [
     (
         "workbench run --text v --attr value --steps 6 h t",
@@ -128,7 +128,7 @@ fn more_needed_instances_than_steps_are_more_steps(rt: HostRuntime) {
     each_ends_so(&rt, &MORE_STEPS);
 }
 
-// Another end than a value, by the check that comes first.
+// Runs that end without a value. The first check that fails determines the outcome.
 static OTHERS: [Row; 14] = [
     (
         "workbench run --text x --attr size h",

@@ -1,7 +1,6 @@
 //! Does a run of the program end as its row says, over files in memory?
 //!
-//! For the tests of one command each, whose rows are plain data. What a run needs is made in one function each and lent to the next, since a
-//! proof goes through all that is owned at each exit. Long files are in `long_runs`, and faults in `failing_runs`.
+//! Each function makes one thing that a run needs and lends it to the next, since a proof goes through all that is owned at each exit.
 
 ghost use Rattle.std.specs.Prelude.{◌≡◌, []};
 ghost use Rattle.wb_operations.specs.Kept.{IsKept};
@@ -14,7 +13,7 @@ use wb_program::workbench;
 use wb_values::Value;
 use wb_world::{MemoryShelf, MemorySink};
 
-/// A command line, the files `h`, `t`, `u` and `v` or the first of them, a status, and a report, in which `…` stands for any text.
+/// A command line, the files `h`, `t`, `u` and `v` or the first of them, a status, and a report, in which `…` matches any text.
 pub type Row = (&'static str, &'static [&'static str], Status, &'static str);
 
 /// Fails unless this holds.
@@ -22,17 +21,17 @@ pub fn expect<R: Abort>(rt: &R, holds: Result<bool, AllocError>) {
     assert!(rt; matches!(holds, Ok(true)));
 }
 
-/// Fails where something is wrong, and shows its number.
+/// Fails if something is wrong, and shows its number.
 pub fn expect_none<R: Abort>(rt: &R, wrong: Result<Option<usize>, AllocError>) {
     assert!(rt; matches!(wrong, Ok(None)), "{wrong:?}");
 }
 
-/// Fails at the first row that ends otherwise, and shows its number, counted from 0.
+/// Fails at the first row that doesn't end as it says, and shows its number, counted from 0.
 pub fn each_ends_so<R: Abort + AllocGlobal>(rt: &R, rows: &[Row]) {
     expect_none(rt, first_wrong(rt.alloc(), rows));
 }
 
-// The number of the first row that ends otherwise.
+// The number of the first row that doesn't end as it says.
 fn first_wrong(alloc: Global, rows: &[Row]) -> Result<Option<usize>, AllocError> {
     for (place, (line, files, status, report)) in rows.iter().enumerate() {
         if !ends_so(alloc, *line, *files, *status, *report)? {
@@ -42,7 +41,7 @@ fn first_wrong(alloc: Global, rows: &[Row]) -> Result<Option<usize>, AllocError>
     Ok(None)
 }
 
-/// Fails at the first line that ends otherwise over these files, and shows its number.
+/// Fails at the first line that doesn't end as it says over these files, and shows its number.
 pub fn each_line_ends_so<R: Abort + AllocGlobal>(
     rt: &R,
     lines: &[&str],
@@ -56,7 +55,7 @@ pub fn each_line_ends_so<R: Abort + AllocGlobal>(
     );
 }
 
-// The number of the first line that ends otherwise over these files.
+// The number of the first line that doesn't end as it says over these files.
 fn first_wrong_line(
     alloc: Global,
     lines: &[&str],
@@ -72,12 +71,12 @@ fn first_wrong_line(
     Ok(None)
 }
 
-/// Fails unless one of the rows ends so, of those that say what may be reported of one run.
+/// Fails unless one of the rows ends as it says. The rows have the possible reports of one run.
 pub fn one_ends_so<R: Abort + AllocGlobal>(rt: &R, rows: &[Row]) {
     expect(rt, is_one(rt.alloc(), rows));
 }
 
-// Whether one of the rows ends so.
+// Whether one of the rows ends as it says.
 fn is_one(alloc: Global, rows: &[Row]) -> Result<bool, AllocError> {
     for (line, files, status, report) in rows {
         if ends_so(alloc, *line, *files, *status, *report)? {
@@ -108,7 +107,7 @@ pub fn fits(report: &str, text: &[u8]) -> bool {
     }
 }
 
-/// How a run of this line over these files ends, which writes to the sink.
+/// The status of a run of this line over these files, which writes to the sink.
 pub fn status_of(
     alloc: Global,
     line: &str,
@@ -142,7 +141,7 @@ pub fn add_files(shelf: &mut MemoryShelf, files: &[&str]) -> Result<(), AllocErr
     shelf.add_file("v", last.as_bytes())
 }
 
-/// How a run of this line over the files of a shelf ends.
+/// The status of a run of this line over the files of a shelf.
 pub fn status_on(
     alloc: Global,
     line: &str,

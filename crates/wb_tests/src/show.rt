@@ -1,6 +1,6 @@
-//! Has each file the report of `show`, and is what is shown shown again?
+//! Does `show` report the expected lines for each file, and is its output shown as itself?
 //!
-//! Over files in memory, which fail where they are asked to. `value` is in `value`.
+//! Files are in memory, and fail where a test sets them to.
 
 use crate::failing_runs::{Faults, ends_with_faults};
 use crate::long_runs::{LongRow, each_long_ends_so};
@@ -103,7 +103,7 @@ fn each_text_has_its_report(rt: HostRuntime) {
     each_ends_so(&rt, &REPORTS);
 }
 
-// Whether what is shown of a text is the text.
+// Whether a text is shown as itself.
 fn is_fixed(alloc: Global, text: &[u8]) -> Result<bool, AllocError> {
     match str::from_utf8(text) {
         Ok(shown) => ends_so(alloc, SHOW, &[shown], Status::Done, shown),
@@ -111,14 +111,14 @@ fn is_fixed(alloc: Global, text: &[u8]) -> Result<bool, AllocError> {
     }
 }
 
-// Whether a text is shown, and what is shown of it is shown again as it is.
+// Whether a text is shown, and the output is shown as itself.
 fn is_stable(alloc: Global, text: &str) -> Result<bool, AllocError> {
     let mut sink = MemorySink::new(alloc, 20_000, 1_000)?;
     let ended = status_of(alloc, SHOW, &[text], &mut sink)?;
     Ok(ended == Status::Done && is_fixed(alloc, sink.bytes())?)
 }
 
-// The number of the first text that isn't.
+// The number of the first text that isn't shown so.
 fn first_unstable(alloc: Global, texts: &[&str]) -> Result<Option<usize>, AllocError> {
     for (place, text) in texts.iter().enumerate() {
         if !is_stable(alloc, *text)? {
@@ -133,14 +133,14 @@ fn what_is_shown_is_shown_again(rt: HostRuntime) {
     expect_none(&rt, first_unstable(rt.alloc(), &ALL));
 }
 
-/// Where a text has its first error as a specification.
+/// The position of the first error of a text as a specification.
 pub enum Wrong {
     Nowhere,
     AtItsEnd,
     At(usize),
 }
 
-// Whether a text has its first error there.
+// Whether a text has its first error at this position.
 fn goes_wrong(alloc: Global, text: &str, wrong: &Wrong) -> Result<bool, AllocError> {
     let place = match wrong {
         Wrong::Nowhere => return ends_so(alloc, SHOW, &[text], Status::Done, "…"),
@@ -151,7 +151,7 @@ fn goes_wrong(alloc: Global, text: &str, wrong: &Wrong) -> Result<bool, AllocErr
     ends_so(alloc, SHOW, &[text], Status::SpecRefused, line.as_str())
 }
 
-// The length of the first prefix that has its first error elsewhere than these say, from each length on to before the next.
+// The length of the first prefix whose first error isn't where these positions say. Each holds up to the length of the next.
 fn first_prefix(
     alloc: Global,
     text: &str,

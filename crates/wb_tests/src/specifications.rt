@@ -1,6 +1,6 @@
-//! Which specifications do the tests read?
+//! The specifications that the tests read.
 //!
-//! One host with a form of each item, and others, each written for what the first lacks. What is shown of them is in `show`.
+//! `MINI` comes first, and each of the others is written for something that it lacks. What `show` prints of them is tested in `show`.
 
 /// A host with statements, expressions and an environment.
 pub const MINI: &str = r#"format 1; host mini;
@@ -56,10 +56,14 @@ concrete paren : Factor ::= o : Open e : Expr c : Close {
 "#;
 
 /// A host of sums of numbers.
-pub const TINY: &str =
-    "format 1; host tiny; ignore Space /[ ]+/; terminal Num /[0-9]+/; terminal Plus /\\+/; nonterminal E; nonterminal T; start E; extensible T; syn value : int; occurs value on E; occurs value on T; concrete plus : E ::= a : E p : Plus b : T { top.value = @add(a.value, b.value); } concrete term : E ::= t : T { top.value = t.value; } concrete num : T ::= n : Num { top.value = @to_int(n.lexeme); }";
+pub const TINY: &str = "format 1; host tiny; \
+    ignore Space /[ ]+/; terminal Num /[0-9]+/; terminal Plus /\\+/; \
+    nonterminal E; nonterminal T; start E; extensible T; syn value : int; occurs value on E; occurs value on T; \
+    concrete plus : E ::= a : E p : Plus b : T { top.value = @add(a.value, b.value); } \
+    concrete term : E ::= t : T { top.value = t.value; } \
+    concrete num : T ::= n : Num { top.value = @to_int(n.lexeme); }";
 
-/// A host of sums with an ambiguous grammar.
+/// A host of sums whose grammar is ambiguous.
 pub const AMB: &str = r#"format 1; host amb;
 terminal Num /[0-9]+/; terminal Plus /\+/;
 nonterminal E; start E;
@@ -137,8 +141,10 @@ abstract leaf : N ::= { top.s = top.i; }
 "#;
 
 /// A host of texts that double.
-pub const DBL: &str =
-    r#"format 1; host dbl; nonterminal E; syn t : text; occurs t on E; abstract z : E ::= { top.t = "x"; } abstract d : E ::= a : E { top.t = @concat(a.t, a.t); }"#;
+pub const DBL: &str = "format 1; host dbl; \
+    nonterminal E; syn t : text; occurs t on E; \
+    abstract z : E ::= { top.t = \"x\"; } \
+    abstract d : E ::= a : E { top.t = @concat(a.t, a.t); }";
 
 /// A host whose trees forward without end.
 pub const LOOP: &str = r#"format 1; host loop; terminal X /x/;
@@ -146,9 +152,12 @@ nonterminal S; start S; syn v : int; occurs v on S;
 concrete go : S ::= x : X { forwards to go(x.lexeme); }
 "#;
 
-/// A host of trees with a tree as value.
-pub const TWINS: &str =
-    r#"format 1; host twins; nonterminal E; syn u : E; occurs u on E; abstract z : E ::= { top.u = z(); } abstract p : E ::= a : E b : E { top.u = z(); } abstract d : E ::= a : E { top.u = p(a.u, a.u); }"#;
+/// A host whose attribute has a tree as value.
+pub const TWINS: &str = "format 1; host twins; \
+    nonterminal E; syn u : E; occurs u on E; \
+    abstract z : E ::= { top.u = z(); } \
+    abstract p : E ::= a : E b : E { top.u = z(); } \
+    abstract d : E ::= a : E { top.u = p(a.u, a.u); }";
 
 /// An extension of sums that doubles.
 pub const DUP: &str =
@@ -159,12 +168,18 @@ pub const MINUS: &str =
     "format 1; extension minus for tiny; marking M /-/; concrete same : T ::= m : M t : T { forwards to t; }";
 
 /// An extension of statements by doubles.
-pub const A: &str =
-    "format 1; extension a for mini; marking Sum /sum/; prefer Sum over Id; concrete dbl : Factor ::= m : Sum o : Open x : Expr c : Close { forwards to paren(\"(\", plus(x, \"+\", factor(paren(\"(\", x, \")\"))), \")\"); }";
+pub const A: &str = "format 1; extension a for mini; \
+    marking Sum /sum/; prefer Sum over Id; \
+    concrete dbl : Factor ::= m : Sum o : Open x : Expr c : Close { \
+      forwards to paren(\"(\", plus(x, \"+\", factor(paren(\"(\", x, \")\"))), \")\"); \
+    }";
 
 /// An extension of statements by squares that are called sums.
-pub const B: &str =
-    "format 1; extension b for mini; marking Sum /sum/; prefer Sum over Id; concrete sqr : Factor ::= m : Sum o : Open x : Expr c : Close { forwards to paren(\"(\", term(times(factor(paren(\"(\", x, \")\")), \"*\", paren(\"(\", x, \")\"))), \")\"); }";
+pub const B: &str = "format 1; extension b for mini; \
+    marking Sum /sum/; prefer Sum over Id; \
+    concrete sqr : Factor ::= m : Sum o : Open x : Expr c : Close { \
+      forwards to paren(\"(\", term(times(factor(paren(\"(\", x, \")\")), \"*\", paren(\"(\", x, \")\"))), \")\"); \
+    }";
 
 /// An extension of statements by squares.
 pub const POWER: &str = r#"format 1; extension power for mini;
@@ -189,7 +204,7 @@ aspect term { top.leaves = t.leaves; }
 aspect num { top.leaves = 1; }
 "#;
 
-/// A host that hands two numbers down.
+/// A host with two inherited numbers.
 pub const CTX2: &str = r#"format 1; host ctx;
 ignore Space /[ ]+/; terminal X /x/;
 nonterminal P; nonterminal N; start P; extensible N;
@@ -201,12 +216,12 @@ concrete leaf : N ::= x : X { top.value = @add(top.env, top.store); }
 forward on N needs { store };
 "#;
 
-/// An extension that hands the one on as the other.
+/// An extension that hands one of them on as the other.
 pub const SWAP: &str = r#"format 1; extension swap for ctx; marking M /m/;
 concrete swap : N ::= m : M n : N { forwards to n; forward.env = top.store; }
 "#;
 
-/// The specifications of the tests, as they stand in files.
+/// The specifications of the tests, as files have them.
 pub static ALL: [&str; 38] = [
     r#"format 1; extension a for mini;
 marking Sum /sum/; prefer Sum over Id;
@@ -271,7 +286,9 @@ concrete leaf : N ::= x : X { top.value = @add(top.env, top.store); }
 forward on N needs { store };
 "#,
     CYC,
-    r#"format 1; extension dash for tiny; marking D /d/; ignore Dash /-/; concrete twin : T ::= m : D t : T { forwards to num(@to_text(@mul(2, t.value))); }"#,
+    "format 1; extension dash for tiny; \
+        marking D /d/; ignore Dash /-/; \
+        concrete twin : T ::= m : D t : T { forwards to num(@to_text(@mul(2, t.value))); }",
     DBL,
     DIVS,
     r#"format 1; extension dup for tiny; marking D /d/;

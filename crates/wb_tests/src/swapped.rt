@@ -1,4 +1,4 @@
-//! Does the program call the operations of the table that it is handed, and no others?
+//! Does the program call the operations of the table that it is given, and no others?
 
 ghost use Rattle.wb_operations.specs.Given.{FitKinds, IsGiven, plains_of};
 ghost use Rattle.wb_operations.specs.Standard.{standard};
@@ -23,7 +23,7 @@ impl Meaning for Swapped {
     ghost meaning = { λ number. standard (number + 1) };
 }
 
-// How a run by a table whose only operation is called `add` and subtracts ends.
+// The status of a run by a table whose only operation is called `add` and subtracts.
 fn status_to(
     alloc: Global,
     line: &str,
@@ -49,7 +49,7 @@ fn row_to(alloc: Global, row: &Row, sink: &mut MemorySink) -> Result<Status, All
     status_to(alloc, row.0, &mut shelf, sink)
 }
 
-// Whether a row ends so.
+// Whether a row ends as it says.
 fn ends_so(alloc: Global, row: &Row) -> Result<bool, AllocError> {
     let mut sink = MemorySink::new(alloc, 1_000, 1_000)?;
     let ended = row_to(alloc, row, &mut sink)?;

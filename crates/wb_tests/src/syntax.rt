@@ -1,4 +1,4 @@
-//! Is a copy of a specification printed as the specification is?
+//! Is a copy of a specification printed like the specification?
 
 use crate::specifications::MINI;
 use std::alloc::{AllocError, Global};
@@ -11,7 +11,7 @@ fn is_printed(alloc: Global, spec: &Spec, text: &[u8]) -> Result<bool, AllocErro
     Ok(print_spec(alloc, spec)?.as_slice() == text)
 }
 
-// Whether it is that of a copy.
+// Whether this is the canonical text of a copy.
 fn is_copy_printed(alloc: Global, spec: &Spec, text: &[u8]) -> Result<bool, AllocError> {
     let copy = spec.copy()?;
     let is = is_printed(alloc, &copy, text);
@@ -19,13 +19,13 @@ fn is_copy_printed(alloc: Global, spec: &Spec, text: &[u8]) -> Result<bool, Allo
     is
 }
 
-// Whether a specification and its copy have one canonical text.
+// Whether a specification and its copy have the same canonical text.
 fn is_copied(alloc: Global, spec: &Spec) -> Result<bool, AllocError> {
     let text = print_spec(alloc, spec)?;
     is_copy_printed(alloc, spec, &text)
 }
 
-// Whether the specification of a text and its copy have one.
+// Whether the specification of a text and its copy have the same canonical text.
 fn is_text_copied(alloc: Global, text: &str) -> bool {
     match read_spec(alloc, text.as_bytes()) {
         Ok(spec) => {

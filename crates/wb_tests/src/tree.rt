@@ -1,6 +1,6 @@
-//! Has each text the report of `tree`?
+//! Does `tree` report the expected lines for each text?
 //!
-//! Over files in memory. The checks of a host are in `check`.
+//! Files are in memory. The checks of a host are in `check`.
 
 use crate::long_runs::{LongRow, each_long_ends_so};
 use crate::runs::{Row, each_ends_so};
@@ -81,7 +81,7 @@ fn each_text_has_its_tree_or_its_stop(rt: HostRuntime) {
     each_ends_so(&rt, &ROWS);
 }
 
-// A file that is named first is refused before another is absent.
+// A refusal of the file that is named first comes before the absence of another.
 static WORDS: [Row; 6] = [
     (
         "workbench tree --text=t h",

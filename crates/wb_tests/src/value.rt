@@ -1,6 +1,6 @@
-//! Has each run of `value` its status and its report?
+//! Does each run of `value` end with its status and its report?
 //!
-//! Over files in memory, which fail where they are asked to. Long terms and values are in `long_values`.
+//! Files are in memory, and fail where a test sets them to. Long terms and values are in `long_values`.
 
 use crate::failing_runs::{each_read_may_fail, each_write_may_fail};
 use crate::runs::{Row, each_ends_so, each_line_ends_so, one_ends_so};
@@ -345,7 +345,7 @@ fn a_host_is_refused_before_the_term_is_read(rt: HostRuntime) {
 const USAGE: &str =
     "usage: workbench value|show|check|certify|compose|tree|run|generate ARGUMENTS\n";
 
-// Words that ask for nothing, first none at all and an empty one.
+// Command lines that aren't valid. The first have no word at all and an empty one.
 static NO_COMMANDS: [&str; 42] = [
     "workbench",
     "workbench ",

@@ -1,4 +1,4 @@
--- What stands between two quotes or slashes is the longest string or regular expression.
+-- What is between two quotes or slashes is the longest string or regular expression.
 use Rattle.std.proofs.Common.{◌≡◌, ℕ, suc, ◌+◌, ◌<◌, ◌≤◌, List, [], ◌∷◌, ◌++◌, Some, None, length, get_or, take, drop, sym, ap, ◌∙◌, subst}
 use Rattle.std.proofs.Common.{arith, length-take, length-append, append_assoc}
 use Rattle.std.proofs.lemmas.List.{take-append-drop, take_more, drop_more}

@@ -111,7 +111,7 @@ integer_stands x rest z (IsInteger.negative {x = w} {y} n e f) fits stops first 
     (length y) (length x)
     (digits_stand true y rest z n f fits stops) (omega (arith, ap length e))
 
--- what stands between two closing bytes, and what follows
+-- what is between two closing bytes, and what follows
 after_body : (q : ℕ) (body rest : List ℕ) → (body ++ q ∷ []) ++ rest ≡ body ++ q ∷ rest
 after_body q body rest = append_assoc body (q ∷ []) rest
 

@@ -1,4 +1,4 @@
-//! Of what kind is a token, for a grammar?
+//! What kind does a token have in a grammar?
 //!
 //! Tables decide by kinds, and a kind forgets what a name or a text says. The words and the marks are in `word` and `punctuation`.
 
@@ -29,7 +29,7 @@ pub enum TokenKind {
 }
 
 impl Token {
-    /// Its kind. Takes no memory.
+    /// Its kind.
     pub fn kind(&self) -> TokenKind
         ensures { result ≡ kind_of self.now }
     {

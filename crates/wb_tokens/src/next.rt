@@ -33,10 +33,10 @@ fn longest_token(alloc: Global, text: &[u8]) -> Result<Option<(Token, usize)>, A
 
 /// What is next in a text from a place on, after layout: the longest token, the end of the text, or bytes that begin no token.
 ///
-/// Places count bytes from the beginning of the text; to go on, call again from the token's end. An integer goes on as
-/// long as digits do, so one that is out of range is no token, and no shorter one is read. The only error is want of memory, which
-/// is taken for the bytes of a name, a string or a regular expression alone. No clause bounds the work: it is linear in the bytes
-/// of the layout and the token, and where no token begins at most in those of the line.
+/// Places count bytes from the beginning of the text; to go on, call again from the token's end. An integer goes on as long as digits do,
+/// so one that is out of range is no token, and no shorter one is read. Memory is taken only for the bytes of a name, a string or a regular
+/// expression. No clause bounds the work: it is linear in the bytes of the layout and the token, and where no token begins at most in those
+/// of the line.
 pub fn next_token(
     alloc: Global,
     text: &[u8],

@@ -10,7 +10,7 @@ ghost use Rattle.wb_tokens.specs.declared.token.Token.TheVariants as t;
 use itoa::Buffer;
 use std::alloc::AllocError;
 
-/// Appends an integer in decimal, with `-` before a negative. The only error is want of memory.
+/// Appends an integer in decimal, with `-` before a negative.
 pub fn print_int(out: &mut Vec<u8>, value: i64) -> Result<(), AllocError>
     ensures ok { OnOk result (out.new.items ≡ out.old.items ++ signed_decimal value) }
     ensures token { IsToken (t.Int value) (signed_decimal value) }
@@ -57,7 +57,7 @@ fn append_text(out: &mut Vec<u8>, text: &[u8]) -> Result<(), AllocError>
     out.extend_from_slice(b"\"")
 }
 
-/// Appends a text as a string, with its quotes. The only error is want of memory.
+/// Appends a text as a string, with its quotes.
 pub fn print_text(out: &mut Vec<u8>, text: &[u8]) -> Result<(), AllocError>
     ensures ok { OnOk result (out.new.items ≡ out.old.items ++ printed_text text.now) }
     ensures token { IsToken (t.Text text.now) (printed_text text.now) }

@@ -36,7 +36,7 @@ pub enum Punctuation {
 }
 
 impl Punctuation {
-    /// The bytes that spell it. Takes no memory.
+    /// The bytes that spell it.
     pub fn text(self) -> &'static [u8]
         ensures { result.now ≡ punctuation_text self }
     {

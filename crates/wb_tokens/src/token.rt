@@ -12,7 +12,7 @@ pub enum Token {
     Word(Word),
     /// An integer, by its value.
     Int(i64),
-    /// A string: the text that stands between the quotes, with escapes replaced by what they stand for.
+    /// A string: the text between the quotes, with escapes replaced by what they stand for.
     Text(Bytes),
     /// A regular expression: the bytes between the slashes, as they are there.
     Regex(Bytes),
@@ -20,7 +20,7 @@ pub enum Token {
     Punctuation(Punctuation),
 }
 
-/// What may stand between two tokens beside space, tab, LF and CR.
+/// What may come between two tokens beside space, tab, LF and CR.
 #[derive(Clone, Copy, Debug, PartialEq, Eq)]
 pub enum Layout {
     /// Comments too: from `//` to before the next LF, or to the end of the text.

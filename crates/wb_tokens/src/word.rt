@@ -84,7 +84,7 @@ const WORDS: [Word; 35] = [
 ];
 
 impl Word {
-    /// The bytes that spell it. Takes no memory.
+    /// The bytes that spell it.
     pub fn text(self) -> &'static [u8]
         ensures { result.now ≡ word_text self }
     {

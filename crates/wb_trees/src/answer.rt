@@ -8,7 +8,7 @@ use wb_report::ShownStop;
 pub enum TextAnswer {
     /// It has a tree, which is printed so.
     Tree(Bytes),
-    /// It stops at this place, counted in bytes from 0 on, behind the layout that is skipped there.
+    /// It stops at this place, counted in bytes from 0 on, after the layout that is skipped there.
     Stopped { at: usize, stop: ShownStop },
     /// It has a tree whose printed text is longer than 16,777,216 bytes.
     TooLong,

@@ -1,4 +1,4 @@
-//! Which printed tree has a text in the language of a certified host?
+//! Parses a text in the language of a certified host, and prints its tree.
 //!
 //! Parsing is in `wb_parser`, printing in `wb_terms`; here they meet, and a stop gets the name that reports show.
 #![tactic(auto)]

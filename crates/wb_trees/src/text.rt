@@ -1,4 +1,4 @@
-//! Which printed tree has a text in the language of a certified host?
+//! Parses a text in the language of a certified host, and prints its tree.
 
 ghost use Rattle.std.specs.Prelude.{◌≡◌, ◌<◌, ℕ, List, IfOk, Some, length, slice_get};
 ghost use Rattle.wb_base.specs.Grammar.{GrammarView};
@@ -23,8 +23,7 @@ use wb_shown::{terminal_name, terminals_in};
 use wb_terms::{PrintRefusal, print_value};
 use wb_values::{TreeId, TreeStore, Value};
 
-/// The printed tree of a text in the language of a certified host without extensions, or why it has none. The only error is want of
-/// memory.
+/// The printed tree of a text in the language of a certified host without extensions, or why it has none.
 ///
 /// The time is about linear in the text and the printed tree, besides that for the host's tables; no clause bounds it.
 pub fn text_answer(

@@ -5,7 +5,7 @@ use Rattle.wb_resolved.specs.declared.attribution.AttributionParts.{AttributionP
 use Rattle.wb_types.specs.Refusals.{CallsUnknown, HasWrongArity, HasWrongKind}
 use Rattle.wb_types.specs.Rules.{KindsOk}
 
--- where the rules hold, no refusal is true but want of memory
+-- where the rules hold, no refusal but out of memory is true
 pub record RulesExclude (a : AttributionParts) (operations : List OperationSignature) : Type 0 where
   pub unknown : (name : List ℕ) → ¬ CallsUnknown a operations name
   pub arity : (at : ℕ) → ¬ HasWrongArity a operations at

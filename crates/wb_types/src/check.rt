@@ -48,7 +48,7 @@ pub fn check_types<M: Meaning>(
     )
 }
 
-// The same by the signatures of the operations.
+// Like `check_types`, by the signatures of the operations.
 fn check_kinds(
     alloc: Global,
     attributes: &AttributionParts,

@@ -1,4 +1,4 @@
-//! Which kind has each node of an expression?
+//! Finds the kind of each node of an expression.
 //!
 //! Nodes are visited in order, so the kinds of a node's parts are known when it is met; a node without a kind has None.
 
@@ -20,7 +20,7 @@ use wb_operations::OperationSignatures;
 use wb_resolved::{AttributionParts, ChildKind, Node, Place, Production};
 use wb_values::Signatures;
 
-// Whether an expression is of a kind. The only error is want of memory.
+// Whether an expression is of a kind.
 pub(crate) fn has_kind(
     alloc: Global,
     context: &Context,

@@ -16,7 +16,7 @@ pub enum TypeRefusal {
     WrongArity(usize),
     /// Y1: an equation's expression isn't of the kind that its place asks for. The position is as for Y2.
     TypeMismatch(usize),
-    /// There was no memory to tell.
+    /// Out of memory.
     NoMemory(AllocError),
 }
 

@@ -80,7 +80,7 @@ data Place (prefix : List Symbol) (i : Item) (t : ℕ) : Type 0 where
   after_one : (x : Symbol) → t ≡ 4 → prefix ≡ x ∷ [] → i.production ≡ number x → i.dot ≡ 1 → example_right i.production ≡ x ∷ [] →
       Place prefix i t
 
--- nothing is after a dot behind the one symbol
+-- nothing is after a dot that comes after the one symbol
 over_one : (p d : ℕ) (x y : Symbol) (rest : List Symbol) → example_right p ≡ x ∷ [] → d ≡ 1 → drop d (example_right p) ≡ y ∷ rest → ⊥
 over_one p d x y rest e f g =
     let h : drop 1 (x ∷ []) ≡ y ∷ rest = ap (drop 1) (sym e) ∙ (ap (λ z. drop z (example_right p)) (sym f) ∙ g) in

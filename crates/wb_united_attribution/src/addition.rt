@@ -1,4 +1,4 @@
-//! What is lent of a host and of an extension to the attributes of their union?
+//! What do a host and an extension lend to the attributes of their union?
 
 use wb_resolved::{Attribute, Nonterminal, Occurrence, Production};
 

@@ -1,4 +1,4 @@
-//! Which rows has the union?
+//! Builds the rows of the union.
 //!
 //! Those of the grammar lead, with attributes and occurrences, and those that are abstract alone follow.
 

@@ -1,4 +1,4 @@
-//! Which new numbers have the host and each extension?
+//! Gives the new numbers of the host and of each extension.
 //!
 //! Each sort of rows has a block for the host and one for each extension, in order.
 

@@ -1,4 +1,4 @@
-//! What is a production in new numbers, with what is written on it besides?
+//! Builds a production in new numbers, with what extensions write on it.
 
 ghost use Rattle.std.specs.Prelude.{◌≡◌, ◌+◌, ◌++◌, [], IfOk, OnOk, map, option_map};
 ghost use Rattle.wb_united_attributes.specs.Rows as rows;

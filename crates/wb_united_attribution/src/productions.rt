@@ -1,4 +1,4 @@
-//! What are productions in new numbers, with what extensions write on those of the host?
+//! Builds productions in new numbers, with what extensions write on those of the host.
 
 ghost use Rattle.std.specs.Prelude.{◌≡◌, ◌++◌, [], IfOk, OnOk, length};
 ghost use Rattle.wb_united_attribution.specs.Inner.Gathered.{host_productions, own_productions};

@@ -1,4 +1,4 @@
-//! What are nonterminals, attributes and occurrences in new numbers?
+//! Renumbers nonterminals, attributes and occurrences.
 
 ghost use Rattle.std.specs.Prelude.{◌≡◌, ◌++◌, OnOk};
 ghost use Rattle.wb_united_attribution.specs.Inner.Gathered.{attributes_by, nonterminals_by, occurrences_by};

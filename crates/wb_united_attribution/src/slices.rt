@@ -2,7 +2,7 @@
 
 ghost use Rattle.std.specs.Prelude.{◌≡◌, drop, take};
 
-/// The first so many. Takes no memory.
+/// The first so many.
 pub fn leading<T>(list: &[T], count: usize) -> &[T]
     ensures { result.now ≡ take count list.now }
 {
@@ -13,7 +13,7 @@ pub fn leading<T>(list: &[T], count: usize) -> &[T]
     }
 }
 
-/// What comes after so many. Takes no memory.
+/// What comes after so many.
 pub fn behind<T>(list: &[T], count: usize) -> &[T]
     ensures { result.now ≡ drop count list.now }
 {

@@ -1,4 +1,4 @@
-//! Which attributes has the union of a host and extensions?
+//! Builds the attributes of the union of a host and extensions.
 
 ghost use Rattle.std.specs.Prelude.{◌≡◌, IfOk, OnOk};
 ghost use Rattle.wb_numbered_unions.specs.United as united;
@@ -14,7 +14,7 @@ use wb_base::Sequence;
 use wb_resolved::{Attribution, AttributionParts};
 use wb_rows::signatures::signatures_of;
 
-/// The attributes of the union of a host and extensions. The only error is want of memory.
+/// The attributes of the union of a host and extensions.
 pub fn united_attribution(
     alloc: Global,
     host: &Rows,

@@ -1,4 +1,4 @@
--- Forms that beat each other in a ring are of terminals that are preferred in a ring.
+-- Forms that beat each other in a cycle are of terminals that are preferred in a cycle.
 use Rattle.std.specs.Prelude.{Contains}
 use Rattle.wb_languages.specs.declared.form.Form.{Form}
 use Rattle.wb_languages.specs.Languages.{LanguageView}

@@ -11,8 +11,8 @@ ghost use Rattle.wb_united_forms.specs.Apart.{AreWrittenApart};
 ghost use Rattle.wb_united_forms.specs.Languages.{IsUnitedLanguage};
 ghost use Rattle.wb_united_forms.specs.Written.{WrittenPiece, pieces_of};
 
-/// In the language of the union of a host and extensions that are certified apart, of any two forms that are considered at one prefix and match
-/// one text one beats the other, and neither two nor three forms beat each other in a ring.
+/// In the language of the union of a host and extensions that are certified apart, of any two forms that are considered at one prefix and
+/// match one text one beats the other, and neither two nor three forms beat each other in a cycle.
 pub fn decided_law()
     ensures { (host : GrammarView) (extensible : List ℕ) (own : LexiconView) (written : List WrittenPiece) (l : LanguageView) → AreCertified host extensible (pieces_of written) → AreWrittenApart host extensible own written → IsUnitedLanguage host extensible own written l → AreDecided l }
 {}

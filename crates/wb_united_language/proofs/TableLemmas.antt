@@ -1,4 +1,4 @@
--- A deterministic grammar is refused for want of memory alone.
+-- A deterministic grammar is refused only when memory runs out.
 use Rattle.std.proofs.Common.{ℕ, List}
 use Rattle.wb_base.specs.Grammar.{GrammarView}
 use Rattle.wb_contexts.specs.Parts.{ArePartsOf}

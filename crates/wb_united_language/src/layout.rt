@@ -1,4 +1,4 @@
-//! Which numbers has the layout of the union?
+//! Gives the numbers of the union's layout.
 
 ghost use Rattle.std.specs.Prelude.{◌≡◌, ◌+◌, IfOk};
 ghost use Rattle.std.specs.List.{range_with_len};

@@ -1,6 +1,6 @@
 //! The language of a host with its extensions, from their parts by number.
 //!
-//! What is certified has a language: no call here has a refusal but want of memory. Grammar and forms are made in `wb_uniting`.
+//! What is certified has a language: the only refusal of the calls here is out of memory. Grammar and forms are made in `wb_uniting`.
 #![tactic(auto)]
 
 mod form_sets;

@@ -1,6 +1,4 @@
-//! Which preferences has the union?
-//!
-//! Those of the host, and those of each extension with it, by the numbers of the union.
+//! Lists the preferences of the union: those of the host, and those of each extension with it, by the numbers of the union.
 
 ghost use Rattle.std.specs.Prelude.{◌≡◌, ◌≤◌, ◌++◌, IfOk, OnOk, map};
 ghost use Rattle.wb_uniting.specs.Lents.{IsUnitable};

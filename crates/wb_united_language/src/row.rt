@@ -1,4 +1,4 @@
-//! Which number in the union has a terminal or layout of the host, or of the host with an extension?
+//! Gives the number in the union of a terminal or layout of the host, or of the host with an extension.
 
 ghost use Rattle.std.specs.Prelude.{◌≡◌, ◌≤◌, IfOk};
 ghost use Rattle.wb_united_language.specs.Inner.Rows.{row_in};

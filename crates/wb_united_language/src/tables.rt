@@ -1,6 +1,6 @@
-//! Which tables has a grammar that is deterministic?
+//! Builds the tables of a deterministic grammar.
 //!
-//! There is no refusal but want of memory.
+//! The only refusal is out of memory.
 
 ghost use Rattle.std.specs.Prelude.{IfOk};
 ghost use Rattle.wb_grammar.specs.Facts.{AreFacts};

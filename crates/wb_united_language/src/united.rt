@@ -1,4 +1,4 @@
-//! Which language has a host with its extensions?
+//! Builds the language of a host with its extensions.
 //!
 //! Its grammar, its forms and how they are written are those of `wb_uniting`; what is considered at a state is of its tables.
 
@@ -33,7 +33,7 @@ pub struct UnitedLanguage {
     pub withdrawn: Vec<usize>,
 }
 
-/// The language of a host and of extensions that are certified with it alone. The only error is want of memory.
+/// The language of a host and of extensions that are certified with it alone.
 ///
 /// Terminals are numbered by the host, then by each extension, and then comes the host's layout. No clause bounds the time.
 pub fn united_language(alloc: Global, lent: &Lent) -> Result<UnitedLanguage, AllocError>

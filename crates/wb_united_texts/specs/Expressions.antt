@@ -16,7 +16,7 @@ use Rattle.wb_united_forms.specs.Apart.{colon}
 abbrev pub marker_prefix : List ℕ → List ℕ
 marker_prefix name = name ++ colon ∷ colon ∷ []
 
--- a terminal of this kind and expression is written by the one made: a marker by its own behind the prefix, any other by its own
+-- a terminal of this kind and expression is written by the one made: a marker by its own after the prefix, any other by its own
 abbrev pub IsWrittenAs : TerminalKind → List ℕ → Tree → Tree → Type 0
 IsWrittenAs kind.Plain name pattern made = made ≡ pattern
 IsWrittenAs kind.Ignore name pattern made = made ≡ pattern

@@ -10,7 +10,7 @@ use Rattle.wb_shown.specs.Names.{terminals_in}
 use Rattle.wb_united_texts.specs.Expressions.{AreUnitedExpressions}
 use Rattle.wb_united_texts.specs.Unions.{Union, united_of}
 
--- the host's first layout, where it has one: layouts are numbered on behind its terminals
+-- the host's first layout, where it has one: layouts are numbered on after its terminals
 abbrev pub first_layout : ResolvedParts → Option Terminal
 first_layout host = slice_get host.terminals (terminals_in host.grammar)
 

@@ -1,4 +1,4 @@
-//! Which expressions come of the terminals between two numbers?
+//! Lists the expressions of the terminals between two numbers.
 
 ghost use Rattle.std.specs.Prelude.{◌≤◌, None, Some, OnOk, length};
 ghost use Rattle.wb_united_texts.specs.Expressions.{rows_of};

@@ -1,4 +1,4 @@
-//! By which expressions are all terminals and layouts of a union written?
+//! Lists the expressions by which all terminals and layouts of a union are written.
 
 ghost use Rattle.std.specs.Prelude.{None, IfOk, OnOk, length, map};
 ghost use Rattle.wb_reordered_unions.specs.Names.{all_of};
@@ -15,7 +15,7 @@ use wb_regex::Regex;
 use wb_resolved::Resolved;
 use wb_shown::terminals_in;
 
-/// The expressions of all terminals of the union, by number, and then those of the host's layouts. The only error is want of memory.
+/// The expressions of all terminals of the union, by number, and then those of the host's layouts.
 ///
 /// Each terminal has one: a marker that of its prefixed form, and any other its own. It takes time and memory that are linear in the
 /// expressions and, for each marker, in the name of its extension.

@@ -14,8 +14,7 @@ use wb_generate::{Generated, generate};
 use wb_resolved::Resolved;
 use wb_shown::terminals_in;
 
-/// The text of at most so many leaves that the number makes of what is composed of a host and extensions, or that each text has more. The
-/// only error is want of memory.
+/// The text of at most so many leaves that the number makes of what is composed of a host and extensions, or that each text has more.
 ///
 /// Between two leaves is the least text of the host's first layout. Whether the text scans to the same leaves isn't promised.
 pub fn generated_text(

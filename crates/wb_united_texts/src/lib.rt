@@ -1,4 +1,5 @@
-//! What has a text in the language of a certified host with certified extensions? Its tree, the values at its root, and how a number makes one.
+//! Texts in the language of a certified host with certified extensions: the tree of a text, the values at its root, and the text that a
+//! number makes.
 //!
 //! The language and its attributes are made in `wb_composition`; here their numbers get the names that reports show, the host's and then each
 //! extension's. Trees of a host by itself are in `wb_trees`, values of attributes of a tree in `wb_root_values`.

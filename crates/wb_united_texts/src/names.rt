@@ -13,8 +13,7 @@ use wb_certify::CertifiedHost;
 use wb_resolved::Resolved;
 use wb_shown::{terminal_name, terminals_in};
 
-/// The printed names of all terminals of the union, by number: the host's, and then those that each extension adds. The only error is want
-/// of memory.
+/// The printed names of all terminals of the union, by number: the host's, and then those that each extension adds.
 pub fn united_terminals(
     alloc: Global,
     host: &CertifiedHost,

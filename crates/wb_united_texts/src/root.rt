@@ -11,8 +11,7 @@ use wb_certify::CertifiedHost;
 use wb_resolved::Attribution;
 use wb_root_values::asked_on;
 
-/// The attribute that may be asked by a printed name at the start, among the attributes of a host with extensions. The only error is want
-/// of memory.
+/// The attribute that may be asked by a printed name at the start, among the attributes of a host with extensions.
 pub fn root_attribute(
     alloc: Global,
     host: &CertifiedHost,

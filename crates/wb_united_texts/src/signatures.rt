@@ -1,4 +1,4 @@
-//! Which signatures have the productions of a union?
+//! Builds the signatures of the productions of a union.
 
 ghost use Rattle.std.specs.Prelude.{◌≡◌, ◌<◌, ◌≤◌, ◌+◌, ◌-◌, ◌++◌, ◌∷◌, [], IfOk, IfSome, OnOk, length, map, slice_get};
 ghost use Rattle.wb_shown.specs.Names.{productions_in as productions_of};
@@ -15,7 +15,7 @@ use wb_resolved::Resolved;
 use wb_values::Signatures;
 
 /// The signatures of all productions of the union, by number: the host's, and then those that each extension adds, with their printed names
-/// and in the union's numbers. The only error is want of memory.
+/// and in the union's numbers.
 pub fn united_signatures(
     alloc: Global,
     host: &CertifiedHost,

@@ -1,4 +1,4 @@
-//! Which value has an attribute at the root of a text's tree?
+//! Evaluates an attribute at the root of a text's tree.
 
 ghost use Rattle.std.specs.Prelude.{ℕ, List, IfOk};
 ghost use Rattle.wb_attributes.specs.Modular.{EachProduction};
@@ -20,7 +20,7 @@ use wb_root_values::tree_value;
 use wb_values::{TreeStore, Value};
 
 /// What comes of a text and an attribute that may be asked at the start, within so many steps, in the language that is composed of a host
-/// and extensions. The only error is want of memory.
+/// and extensions.
 ///
 /// The parse comes first, then the evaluation, and then the length of the printed value. No clause bounds the time.
 pub fn text_value<M: Meaning>(

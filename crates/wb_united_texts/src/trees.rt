@@ -1,4 +1,4 @@
-//! Which printed tree has a text in the language of a host with extensions?
+//! Parses a text in the language of a host with extensions, and prints its tree.
 
 ghost use Rattle.std.specs.Prelude.{◌≡◌, ◌<◌, ℕ, List, IfOk, length};
 ghost use Rattle.wb_composition.specs.Composed.{IsComposed};
@@ -23,8 +23,7 @@ use wb_terms::{PrintRefusal, print_value};
 use wb_trees::TextAnswer;
 use wb_values::{Signatures, TreeId, TreeStore, Value};
 
-/// The printed tree of a text in the language that is composed of a host and extensions, or why it has none. The only error is want of
-/// memory.
+/// The printed tree of a text in the language that is composed of a host and extensions, or why it has none.
 ///
 /// The time is about linear in the text and the printed tree, besides that for names and signatures; no clause bounds it.
 pub fn united_text_answer(
@@ -44,7 +43,7 @@ pub fn united_text_answer(
     answer_of(alloc, host, extensions, &store, parsed)
 }
 
-/// Why a text stops, by names. The only error is want of memory.
+/// Why a text stops, by names.
 pub fn united_stop(
     alloc: Global,
     host: &CertifiedHost,

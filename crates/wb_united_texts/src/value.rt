@@ -8,6 +8,6 @@ use wb_root_values::TreeValue;
 pub enum TextValue {
     /// The text has a tree, and this comes of the attribute at its root.
     Tree(TreeValue),
-    /// It stops at this place, counted in bytes from 0 on, behind the layout that is skipped there.
+    /// It stops at this place, counted in bytes from 0 on, after the layout that is skipped there.
     Stopped { at: usize, stop: ShownStop },
 }

@@ -13,8 +13,7 @@ use wb_beside::CertifiedExtension;
 use wb_certify::CertifiedHost;
 use wb_composition::Composed;
 
-/// The printed names of the markers without a bare form in what is composed of a host and extensions, by extension and then by number. The
-/// only error is want of memory.
+/// The printed names of the markers without a bare form in what is composed of a host and extensions, by extension and then by number.
 pub fn withdrawn_names(
     alloc: Global,
     host: &CertifiedHost,

@@ -1,4 +1,4 @@
-//! By which expression is a terminal of an extension written?
+//! Finds the expression by which a terminal of an extension is written.
 
 ghost use Rattle.std.specs.Prelude.{◌≡◌, IfOk};
 ghost use Rattle.wb_regex.specs.Prefixed.{IsPrefixed};
@@ -20,7 +20,7 @@ pub(crate) fn written_by(alloc: Global, name: &[u8], row: &Terminal) -> Result<R
     }
 }
 
-// The expression behind the name and two colons.
+// The expression after the name and two colons.
 fn prefixed_by(alloc: Global, name: &[u8], pattern: &Regex) -> Result<Regex, AllocError>
     ensures { IfOk result (IsPrefixed (marker_prefix name.now) pattern.now) }
 {

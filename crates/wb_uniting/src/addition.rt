@@ -1,4 +1,4 @@
-//! What is lent of an extension?
+//! What does an extension lend?
 
 ghost use Rattle.std.specs.Prelude.{◌≡◌, ◌<◌, Some, length, slice_get};
 

@@ -1,4 +1,4 @@
-//! Which forms have the own terminals of an extension in a union?
+//! Builds the forms of an extension's own terminals in a union.
 //!
 //! A marker has its prefixed form, and its bare one where no terminal of another extension shares a text with it. Any other terminal has
 //! its bare form.

@@ -1,4 +1,4 @@
-//! Which grammar is the union of a host and its extensions?
+//! Builds the grammar of the union of a host and its extensions.
 //!
 //! The host's symbols and productions come first, then those of each extension, each once.
 
@@ -14,7 +14,7 @@ use crate::own_productions::{Before, add_own, after, sum};
 use std::alloc::{AllocError, Global};
 use wb_base::Grammar;
 
-/// The union of a host's grammar and those of extensions with it. The only error is want of memory.
+/// The union of a host's grammar and those of extensions with it.
 pub fn united_grammar(
     alloc: Global,
     host: &Grammar,

@@ -1,4 +1,4 @@
-//! Which productions has an extension beyond its host's, in the numbers of a union?
+//! Lists the productions that an extension adds to its host's, in the numbers of a union.
 //!
 //! The host's symbols keep their numbers, and the extension's own move up by what comes before them.
 

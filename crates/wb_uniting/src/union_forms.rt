@@ -1,4 +1,4 @@
-//! Which forms has the language of a union, which expression has each, and which markers are withdrawn?
+//! Builds the forms of the language of a union with their expressions, and finds the markers that are withdrawn.
 //!
 //! The host's terminals come first, then those of each extension (`extension_forms`), and the expressions of layout last.
 
@@ -29,7 +29,7 @@ pub struct UnitedForms {
     pub withdrawn: Vec<usize>,
 }
 
-/// The forms of the union of a host and its extensions. The only error is want of memory.
+/// The forms of the union of a host and its extensions.
 ///
 /// A marker is compared with a terminal of another extension only where texts of both may begin with one byte.
 pub fn united_forms(alloc: Global, lent: &Lent) -> Result<UnitedForms, AllocError>
@@ -53,7 +53,7 @@ pub(crate) struct Opened<'a> {
     pub(crate) first_bytes: &'a [FirstBytes],
 }
 
-// The same where first bytes are known.
+// Like `united_forms`, where first bytes are known.
 fn forms_with(alloc: Global, opened: &Opened) -> Result<UnitedForms, AllocError>
     requires { IsOpened opened.now }
     ensures forms { IfOk result (λ made. AreForms opened.now.lent.grammar.now opened.now.lent.extensible.now (own_in opened.now.lent) (all_in opened.now.lent) made.forms.items) }

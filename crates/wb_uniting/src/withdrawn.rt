@@ -107,7 +107,7 @@ fn shares(alloc: Global, one: &Opening, other: &Opening) -> Result<bool, AllocEr
     }
 }
 
-// The same whatever the first bytes.
+// Like `shares`, whatever the first bytes.
 fn have_common_text(alloc: Global, one: &Regex, other: &Regex) -> Result<bool, AllocError>
     ensures { IfOk result (λ shares. IsTrue shares ↔ ShareText one.now other.now) }
 {

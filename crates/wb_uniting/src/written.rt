@@ -1,6 +1,6 @@
 //! How is a form of a terminal written down, with its expression?
 //!
-//! The bare form has the terminal's expression, and the prefixed one that expression behind the extension's name and two colons.
+//! The bare form has the terminal's expression, and the prefixed one that expression after the extension's name and two colons.
 
 ghost use Rattle.std.specs.Prelude.{◌≡◌, ◌<◌, ◌++◌, ◌∷◌, [], IfOk, OnOk, length};
 ghost use Rattle.wb_languages.specs.Languages.{bare};

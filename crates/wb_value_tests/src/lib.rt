@@ -1,4 +1,4 @@
-//! Tests of values, operations, resolved specifications and their kinds: each public call with ample memory, on values from outside.
+//! Tests of values, operations, resolved specifications and their kinds. Each public call is tested with ample memory.
 //!
 //! Tests of the libraries below these are in `wb_library_tests`. Nothing depends on this crate.
 #![tactic(auto)]
@@ -15,7 +15,7 @@ mod values;
 #[cfg(test)]
 use std::alloc::AllocError;
 
-// Whether there was memory for a check, and it holds.
+// Whether memory sufficed for a check, and it holds.
 #[cfg(test)]
 fn holds(answer: Result<bool, AllocError>) -> bool {
     matches!(answer, Ok(true))

@@ -1,6 +1,6 @@
 //! Are operations found by name and called by number, whatever they mean?
 //!
-//! Three tables: the standard one, one whose `and` is `or`, and one of two operations of their own.
+//! There are three tables: the standard one, one whose `and` means `or`, and one of two other operations.
 
 ghost use Rattle.wb_value_tests.specs.Inner.Odd.{odd, odd_sum};
 ghost use Rattle.wb_operations.specs.Given.{FitKinds, IsGiven, plains_of};
@@ -73,7 +73,7 @@ fn a_table_answers_its_own_meaning(rt: HostRuntime) {
     assert!(rt; holds(is_either(rt.alloc())));
 }
 
-// The first operation adds, with fault 9 where the second number is 4, and the second reads a number: they differ by their number.
+// The first operation adds, with fault 9 if the second number is 4, and the second reads a number. They are told apart by their numbers.
 struct Odd;
 
 impl Meaning for Odd {
@@ -113,7 +113,7 @@ fn odd_to_int(arguments: &[Value]) -> Result<Value, OperationRefusal>
     standard_to_int(arguments)
 }
 
-// Whether the first operation fails where it is odd, and the second reads -7.
+// Whether the first operation gives fault 9 for a second number 4, and the second reads -7.
 fn is_odd(alloc: Global, seven: &[Value]) -> Result<bool, AllocError>
     requires { FitKinds one_text seven.now }
 {
@@ -150,7 +150,7 @@ fn operations_go_by_their_number(rt: HostRuntime) {
     assert!(rt; holds(are_odd(rt.alloc())));
 }
 
-// The texts joined.
+// The concatenation of the texts.
 struct Joining;
 
 impl Meaning for Joining {
@@ -160,7 +160,7 @@ impl Meaning for Joining {
     ghost meaning = { λ number. standard (number + 12) };
 }
 
-// Whether two texts are joined to `ab` by a closure that holds the allocator.
+// Whether a closure that holds the allocator concatenates two texts to `ab`.
 #[tactic(auto, unfolding(wb_operations::specs::Standard::standard_at, wb_operations::specs::Standard::standard_operations))]
 fn is_joined(alloc: Global, texts: &[Value]) -> Result<bool, AllocError>
     requires { FitKinds two_texts texts.now }

@@ -1,6 +1,6 @@
 //! What do the sixteen standard operations give, at the edges of 64 bits and on texts of any bytes?
 //!
-//! Rows of arguments and answers, all plain data. How operations are looked up and called is in `operation_tables`.
+//! Rows have arguments and answers, all plain data. Tests of finding and calling operations are in `operation_tables`.
 
 ghost use Rattle.wb_operations.specs.Given.{FitKinds};
 ghost use Rattle.wb_operations.specs.Takes.{one_int, one_text, two_bools, two_ints, two_texts};
@@ -20,18 +20,18 @@ const LEAST: i64 = i64::MIN;
 
 const GREATEST: i64 = i64::MAX;
 
-// What an operation is to answer.
+// The expected answer of an operation.
 #[derive(Clone, Copy)]
 enum Wanted {
     Int(i64),
     Bool(bool),
     Text(&'static str),
-    // A text of so many bytes.
+    // A text of this number of bytes.
     Long(usize),
     Fault(u32),
 }
 
-// Whether an answer is the wanted one.
+// Whether an answer is the expected one.
 fn is(answer: &Result<Value, OperationRefusal>, wanted: Wanted) -> bool {
     match answer {
         Ok(value) => is_value(value, wanted),
@@ -89,7 +89,7 @@ fn ints_give(operation: OfInts, x: i64, y: i64, wanted: Wanted) -> bool {
     is(&of_ints(operation, &[Value::Int(x), Value::Int(y)]), wanted)
 }
 
-// Whether each row's operation gives what is wanted of its two numbers.
+// Whether the operation of each row gives the expected answer for its two numbers.
 fn all_ints_give(rows: &[(OfInts, i64, i64, Wanted)]) -> bool {
     for (operation, x, y, wanted) in rows {
         if !ints_give(*operation, *x, *y, *wanted) {
@@ -176,7 +176,7 @@ fn int_gives(alloc: Global, operation: OfInt, x: i64, wanted: Wanted) -> bool {
     is(&of_int(alloc, operation, &[Value::Int(x)]), wanted)
 }
 
-// Whether each row's operation gives what is wanted of its number.
+// Whether the operation of each row gives the expected answer for its number.
 fn all_int_give(alloc: Global, rows: &[(OfInt, i64, Wanted)]) -> bool {
     for (operation, x, wanted) in rows {
         if !int_gives(alloc, *operation, *x, *wanted) {
@@ -225,7 +225,7 @@ fn bools_give(operation: OfBools, x: bool, y: bool, wanted: bool) -> bool {
     )
 }
 
-// Whether each row's operation gives what is wanted of its two truth values.
+// Whether the operation of each row gives the expected answer for its two truth values.
 fn all_bools_give(rows: &[(OfBools, bool, bool, bool)]) -> bool {
     for (operation, x, y, wanted) in rows {
         if !bools_give(*operation, *x, *y, *wanted) {
@@ -278,7 +278,7 @@ fn text_gives(
     Ok(is(&of_text(operation, &[Value::Text(x)]), wanted))
 }
 
-// Whether each row's operation gives what is wanted of its text.
+// Whether the operation of each row gives the expected answer for its text.
 fn all_text_give(alloc: Global, rows: &[(OfText, &str, Wanted)]) -> Result<bool, AllocError> {
     for (operation, x, wanted) in rows {
         if !text_gives(alloc, *operation, x, *wanted)? {
@@ -350,7 +350,7 @@ fn texts_give(
     ))
 }
 
-// Whether each row's operation gives what is wanted of its two texts.
+// Whether the operation of each row gives the expected answer for its two texts.
 fn all_texts_give(
     alloc: Global,
     rows: &[(OfTexts, &str, &str, Wanted)],
@@ -381,7 +381,7 @@ fn texts_are_joined_and_counted(rt: HostRuntime) {
     assert!(rt; holds(all_text_give(rt.alloc(), &COUNTED)));
 }
 
-// Whether the longest text is joined with an empty one, and refused with a longer one.
+// Whether the longest text is concatenated with an empty one, and refused with a longer one.
 fn is_limit_kept(alloc: Global) -> Result<bool, AllocError> {
     let longest = vec![in alloc; b'a'; LONGEST_TEXT]?;
     let alone = Wanted::Long(LONGEST_TEXT);

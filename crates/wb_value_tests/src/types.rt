@@ -1,7 +1,6 @@
 //! Are resolved specifications made, copied and checked for kinds?
 //!
-//! One host declares nothing, and one has a single equation, which each test gives another expression. Expected answers follow from the
-//! rules of kinds.
+//! One host declares nothing. Another has one equation, with another expression in each test. Answers follow from the rules of kinds.
 
 ghost use Rattle.std.specs.Prelude.{◌≡◌, [], ◌∷◌, IfOk, OnOk};
 ghost use Rattle.wb_value_tests.specs.Inner.Empty.{no_parts};
@@ -39,7 +38,7 @@ fn no_parts(alloc: Global) -> AttributionParts
     }
 }
 
-// The attributes of a host that declares none.
+// The attributes of a host that declares nothing.
 fn no_attributes(alloc: Global) -> Result<Attribution, AllocError>
     ensures { IfOk result (λ made. made ≡ no_parts) }
 {
@@ -77,7 +76,7 @@ fn attributes(alloc: Global) -> Result<Sequence<Attribute>, AllocError>
     Ok(Sequence::from_vec(all))
 }
 
-// That `v` occurs on `N`.
+// The occurrence of `v` on `N`.
 fn occurrences(alloc: Global) -> Result<Sequence<Occurrence>, AllocError>
     ensures { IfOk result (λ made. made ≡ v_on_n ∷ []) }
 {
@@ -141,8 +140,8 @@ fn fill(alloc: Global, parts: &mut AttributionParts, node: Node) -> Result<(), A
     Ok(())
 }
 
-// The attributes of such a host. Lists that are empty at first are filled in place, so that no more than one value is dropped
-// where there is no memory for the next.
+// The attributes of such a host. Lists that are empty at first are filled in place, so that at most one value is dropped when memory runs
+// out.
 fn one_equation(alloc: Global, node: Node) -> Result<Attribution, AllocError>
     requires { IsSampleNode node }
     ensures { IfOk result (λ made. made ≡ sample node) }
@@ -199,14 +198,14 @@ fn is_copied(resolved: &Resolved) -> Result<bool, AllocError> {
     is_empty_host(&resolved.copy()?)
 }
 
-// What is said of kinds.
+// What the rules of kinds say.
 #[derive(Clone, Copy, PartialEq, Eq)]
 enum Verdict {
-    // That they are right.
+    // Kinds are right.
     Right,
-    // That there is no operation `frob`.
+    // There is no operation `frob`.
     Unknown,
-    // That the arity or the kind at this byte is wrong.
+    // The arity or the kind at this byte is wrong.
     WrongArity(usize),
     WrongKind(usize),
     Else,
@@ -230,7 +229,7 @@ fn has_verdict(alloc: Global, resolved: &Resolved, wanted: Verdict) -> Result<bo
     Ok(verdict_of(&check_types::<Standard>(alloc, resolved, &table)) == wanted)
 }
 
-// The same of a host whose one equation is by this node.
+// The same for a host whose one equation is by this node.
 fn has_verdict_by(alloc: Global, node: Node, wanted: Verdict) -> Result<bool, AllocError>
     requires { IsSampleNode node }
 {
@@ -238,7 +237,7 @@ fn has_verdict_by(alloc: Global, node: Node, wanted: Verdict) -> Result<bool, Al
     has_verdict(alloc, &resolved, wanted)
 }
 
-// The same of a call of an operation that isn't there.
+// The same for a call of an operation that doesn't exist.
 fn has_verdict_by_call(alloc: Global, wanted: Verdict) -> Result<bool, AllocError> {
     let operation = Bytes::from_slice(alloc, b"frob")?;
     let call = Node::Call {

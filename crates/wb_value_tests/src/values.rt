@@ -1,6 +1,6 @@
-//! Are trees built, asked for and taken back, are values kept in 8 bytes as they are in a list, and are signatures found by their names?
+//! Are trees built, read and removed, are packed values equal to those of a list, and are signatures found by their names?
 //!
-//! Wanted values are plain data, which owns nothing: a value is made at the call that takes it, and lives no longer.
+//! Expected values are plain data, which owns nothing. A value is made at the call that takes it, and lives no longer.
 
 ghost use Rattle.std.specs.Prelude.{◌<◌, IfOk, length};
 ghost use Rattle.wb_values.specs.ValuesIn.{IsIn};
@@ -10,17 +10,17 @@ use std::alloc::{AllocError, Global};
 use wb_base::{Bytes, Kind, push};
 use wb_values::{PackedValues, Signatures, TreeId, TreeStore, Value};
 
-// What a value is to be.
+// An expected value.
 #[derive(Clone, Copy)]
 enum Plain {
     Int(i64),
     Bool(bool),
     Text(&'static str),
-    // The tree with this place in its store.
+    // The tree of this number in its store.
     Tree(usize),
 }
 
-// Whether a value is the wanted one.
+// Whether a value is the expected one.
 fn is(value: &Value, wanted: Plain) -> bool {
     match wanted {
         Plain::Int(wanted) => matches!(value, Value::Int(number) if *number == wanted),
@@ -37,7 +37,7 @@ fn is_text(value: &Value, wanted: &[u8]) -> bool {
     }
 }
 
-// The tree that is wanted, if one is.
+// The expected tree, if one is expected.
 fn tree_of(wanted: Plain) -> Option<TreeId> {
     match wanted {
         Plain::Tree(tree) => Some(TreeId(tree)),
@@ -45,7 +45,7 @@ fn tree_of(wanted: Plain) -> Option<TreeId> {
     }
 }
 
-// Whether the child at a place is the wanted one.
+// Whether the child at a position is the expected one.
 fn is_child(
     store: &TreeStore,
     tree: TreeId,
@@ -116,7 +116,7 @@ fn is_pair_built(store: &mut TreeStore, alloc: Global) -> Result<bool, AllocErro
     Ok(leaf == TreeId(0) && pair == TreeId(1) && has_trees(store, &PAIR)?)
 }
 
-// Whether only the leaf is left once the pair is taken back.
+// Whether only the leaf is left after the pair is removed.
 fn is_pair_taken_back(store: &mut TreeStore, alloc: Global) -> Result<bool, AllocError> {
     if !store.is_empty() || !is_pair_built(store, alloc)? || store.len() < 1 {
         return Ok(false);
@@ -139,7 +139,7 @@ fn trees_are_built_and_taken_back(rt: HostRuntime) {
 // A pair of the last two values, and a leaf of none.
 static TAKEN_OFF: [(usize, &[Plain]); 2] = [(5, &[Plain::Bool(true), Plain::Int(2)]), (6, &[])];
 
-// Whether one of three values is left in a vector after a pair and a leaf have been taken off its end.
+// Whether one of three values is left in a vector after a pair and a leaf have taken the others from its end.
 fn is_one_left(store: &mut TreeStore, alloc: Global) -> Result<bool, AllocError> {
     let mut values = vec![in alloc; Value::Int(1), Value::Bool(true), Value::Int(2)]?;
     store.build_from(5, &mut values, 2)?;
@@ -157,7 +157,7 @@ fn children_are_taken_off_the_end(rt: HostRuntime) {
     assert!(rt; holds(are_taken_off(rt.alloc())));
 }
 
-// Values that fit into a cell, and those that just don't.
+// Values that fit into a cell, and values that just don't.
 static SAMPLES: [Plain; 12] = [
     Plain::Int(2_147_483_647),
     Plain::Int(2_147_483_648),
@@ -177,7 +177,7 @@ fn sample(number: usize) -> Plain {
     SAMPLES[number % 12]
 }
 
-// One of these, or a tree, also with a number that just doesn't fit.
+// One of these values, or a tree. The number of a tree may also be one that just doesn't fit.
 fn sample_or_tree(number: usize) -> Plain {
     match number % 5 {
         0 => Plain::Tree(number),
@@ -211,7 +211,7 @@ fn are_those(packed: &PackedValues, list: &[Plain]) -> Result<bool, AllocError> 
     Ok(packed.len() == list.len() && packed.last_tree() == last)
 }
 
-// Whether the values stay those of a list, when one is added to both, and a third is cut off now and then.
+// Whether the values stay those of a list, when values are added to both and a third of them is sometimes removed.
 fn stay_in_step(
     packed: &mut PackedValues,
     list: &mut Vec<Plain>,
@@ -280,7 +280,7 @@ fn add_over_samples(
     store.build_packed(number, packed, 2)
 }
 
-// Whether a tree is added behind one more packed value, and the values before it stay.
+// Whether a tree is added after one more packed value, and the values before it stay.
 fn is_added(
     store: &mut TreeStore,
     packed: &mut PackedValues,
@@ -308,7 +308,7 @@ fn are_kept(store: &TreeStore, trees: usize) -> Result<bool, AllocError> {
     Ok(store.len() == trees)
 }
 
-// Whether trees are added, from the number of those that are there on.
+// Whether trees are added, with numbers from the number of present trees on.
 fn are_added(
     store: &mut TreeStore,
     packed: &mut PackedValues,
@@ -323,7 +323,7 @@ fn are_added(
     are_kept(store, trees)
 }
 
-// Whether trees are added, taken back and added again.
+// Whether trees are added, removed and added again.
 fn are_added_again(
     store: &mut TreeStore,
     packed: &mut PackedValues,
@@ -423,7 +423,7 @@ static SIGNATURES: [(&str, usize, &[Kind]); 3] = [
     ("lit", 1, &[Kind::Text]),
 ];
 
-// Adds them, and answers the number of the last.
+// Adds them, and returns the number of the last.
 fn add_all(signatures: &mut Signatures) -> Result<usize, AllocError> {
     let mut last = 0;
     for (name, left, children) in &SIGNATURES {
@@ -432,7 +432,7 @@ fn add_all(signatures: &mut Signatures) -> Result<usize, AllocError> {
     Ok(last)
 }
 
-// Whether they are those, and the first of each name is found.
+// Whether the signatures are these, and the first of each name is found.
 fn are_found(signatures: &Signatures) -> bool {
     for (number, (name, left, children)) in SIGNATURES.iter().enumerate() {
         if signatures.len() <= number
@@ -451,7 +451,7 @@ fn is_copy_found(signatures: &Signatures) -> Result<bool, AllocError> {
     Ok(are_found(&signatures.copy()?))
 }
 
-// Whether they are found in signatures that are empty at first, and in a copy.
+// Whether they are found in signatures that were empty at first, and in a copy.
 fn are_found_in(signatures: &mut Signatures) -> Result<bool, AllocError> {
     let empty = signatures.is_empty();
     let last = add_all(signatures)?;

@@ -24,7 +24,7 @@ pub(crate) enum Cell {
     Tree(u32),
     Int(i32),
     Bool(bool),
-    // The length of a text, and its bytes with others behind them.
+    // The length of a text, and its bytes with others after them.
     Text(u8, [u8; 6]),
     // The place of a large value: its high part and its low one.
     Large(u16, u32),

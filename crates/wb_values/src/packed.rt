@@ -34,7 +34,7 @@ impl Model for PackedValues {
 }
 
 impl PackedValues {
-    /// No values. Takes no memory.
+    /// No values.
     pub fn new(alloc: Global) -> PackedValues
         ensures { result ≡ [] }
     {
@@ -44,14 +44,14 @@ impl PackedValues {
         }
     }
 
-    /// How many values there are. Takes no memory.
+    /// How many values there are.
     pub fn len(&self) -> usize
         ensures { result ≡ length self.now }
     {
         self.cells.len()
     }
 
-    /// Adds a value after the others. The only error is want of memory, and then the value is dropped and the others stay.
+    /// Adds a value after the others. If memory runs out, the value is dropped and the others stay.
     pub fn push(&mut self, value: Value) -> Result<(), AllocError>
         ensures ok { OnOk result (self.new ≡ self.old ++ value ∷ []) }
         ensures err { OnErr result (self.new ≡ self.old) }
@@ -62,7 +62,7 @@ impl PackedValues {
         }
     }
 
-    /// Adds a tree after the others. The only error is want of memory, and then the others stay.
+    /// Adds a tree after the others. If memory runs out, the others stay.
     #[inline]
     pub fn push_tree(&mut self, tree: TreeId) -> Result<(), AllocError>
         ensures ok { OnOk result (self.new ≡ self.old ++ Stored tree ∷ []) }
@@ -74,7 +74,7 @@ impl PackedValues {
         }
     }
 
-    /// Adds a text after the others. The only error is want of memory, and then the others stay.
+    /// Adds a text after the others. If memory runs out, the others stay.
     pub fn push_text(&mut self, text: &[u8]) -> Result<(), AllocError>
         ensures ok { OnOk result (self.new ≡ self.old ++ Text text.now ∷ []) }
         ensures err { OnErr result (self.new ≡ self.old) }
@@ -107,7 +107,7 @@ impl PackedValues {
         }
     }
 
-    /// The tree at a place, if the value there is one. Takes no memory.
+    /// The tree at a place, if the value there is one.
     #[inline]
     pub fn tree(&self, place: usize) -> Option<TreeId>
         requires { place < length self.now }
@@ -124,7 +124,7 @@ impl PackedValues {
         }
     }
 
-    /// The tree that is the last value, if it is one. Takes no memory.
+    /// The tree that is the last value, if it is one.
     pub fn last_tree(&self) -> Option<TreeId>
         ensures some { IfSome result (λ tree. slice_get self.now (length self.now - 1) ≡ Some (Stored tree)) }
         ensures none { IfNone result ((tree : TreeId) → slice_get self.now (length self.now - 1) ≢ Some (Stored tree)) }
@@ -136,7 +136,7 @@ impl PackedValues {
         self.tree(len - 1)
     }
 
-    /// Keeps the first values, so many of them, and drops the others. Takes no memory.
+    /// Keeps the first values, so many of them, and drops the others.
     pub fn truncate(&mut self, len: usize)
         requires { len ≤ length self.old }
         ensures { self.new ≡ take len self.old }
@@ -153,7 +153,7 @@ impl PackedValues {
         let _cells = self.cells.reserve_exact(more);
     }
 
-    // Moves the values from a place on here, after the others and in order. The only error is want of memory.
+    // Moves the values from a place on here, after the others and in order.
     #[inline]
     pub(crate) fn take_end(
         &mut self,
@@ -222,7 +222,7 @@ impl PackedValues {
         copied
     }
 
-    // The same, but after a refusal there may be some of them.
+    // Like `copy_end`, but after a refusal there may be some of them.
     fn copy_some(&mut self, values: &PackedValues, start: usize) -> Result<(), AllocError>
         requires { start ≤ length values.now }
         ensures ok { OnOk result (self.new ≡ self.old ++ drop start values.now) }
@@ -248,7 +248,7 @@ impl PackedValues {
         copied
     }
 
-    // The same, but after a refusal there may be some of them.
+    // Like `extend`, but after a refusal there may be some of them.
     fn extend_some(&mut self, values: &[Value]) -> Result<(), AllocError>
         ensures ok { OnOk result (self.new ≡ self.old ++ values.now) }
         ensures begins { take (length self.old) self.new ≡ self.old }
@@ -310,7 +310,6 @@ impl PackedValues {
     }
 }
 
-// By hand, so that no crate above proves how the parts are dropped.
 impl Drop for PackedValues {
     fn drop(self) {
         let PackedValues { cells, large } = self;

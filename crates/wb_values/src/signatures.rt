@@ -41,7 +41,7 @@ impl Model for Signatures {
 }
 
 impl Signatures {
-    /// No signatures. Takes no memory.
+    /// No signatures.
     pub fn new(alloc: Global) -> Signatures
         ensures { result ≡ [] }
     {
@@ -53,7 +53,7 @@ impl Signatures {
         }
     }
 
-    /// Adds the signature of a production after the others, and answers its number. The only error is want of memory.
+    /// Adds the signature of a production after the others, and answers its number.
     pub fn add(&mut self, name: &[u8], left: usize, children: &[Kind]) -> Result<usize, AllocError>
         ensures number { IfOk result (λ number. number ≡ length self.old) }
         ensures ok { OnOk result (self.new ≡ self.old ++ record { name = name.now; left = left; children = children.now } ∷ []) }
@@ -71,21 +71,21 @@ impl Signatures {
         Ok(number)
     }
 
-    /// How many productions there are. Takes no memory.
+    /// How many productions there are.
     pub fn len(&self) -> usize
         ensures { result ≡ length self.now }
     {
         self.entries.len()
     }
 
-    /// Whether there is no production. Takes no memory.
+    /// Whether there is no production.
     pub fn is_empty(&self) -> bool
         ensures { IsTrue result ↔ (self.now ≡ []) }
     {
         self.entries.is_empty()
     }
 
-    /// The printed name of a production. Takes no memory.
+    /// The printed name of a production.
     pub fn name(&self, production: usize) -> &[u8]
         requires { production < length self.now }
         ensures { IfSome (slice_get self.now production) (λ s. result.now ≡ s.name) }
@@ -94,7 +94,7 @@ impl Signatures {
         self.names.name(entry.name)
     }
 
-    /// The nonterminal on the left of a production. Takes no memory.
+    /// The nonterminal on the left of a production.
     pub fn left(&self, production: usize) -> usize
         requires { production < length self.now }
         ensures { IfSome (slice_get self.now production) (λ s. result ≡ s.left) }
@@ -102,7 +102,7 @@ impl Signatures {
         self.entries[production].left
     }
 
-    /// The kinds of the children of a production, from left to right. Takes no memory.
+    /// The kinds of the children of a production, from left to right.
     pub fn children(&self, production: usize) -> &[Kind]
         requires { production < length self.now }
         ensures { IfSome (slice_get self.now production) (λ s. result.now ≡ s.children) }
@@ -110,7 +110,7 @@ impl Signatures {
         self.entries[production].children.as_slice()
     }
 
-    /// The first production of a printed name. Takes no memory, and about constant time.
+    /// The first production of a printed name. Takes about constant time.
     pub fn find(&self, name: &[u8]) -> Option<usize>
         ensures found { IfSome result (IsFirst self.now name.now) }
         ensures none { IfNone result (HasNone self.now name.now) }
@@ -120,7 +120,7 @@ impl Signatures {
         Some(self.firsts[number])
     }
 
-    /// Equal signatures. The only error is want of memory.
+    /// Equal signatures.
     pub fn copy(&self) -> Result<Signatures, AllocError>
         ensures { IfOk result (λ made. made ≡ self.now) }
     {
@@ -136,7 +136,6 @@ impl Signatures {
     }
 }
 
-// By hand, so that no crate above proves how the parts are dropped.
 impl Drop for Signatures {
     fn drop(self) {
         let Signatures {

@@ -35,7 +35,7 @@ impl Model for TreeStore {
 }
 
 impl TreeStore {
-    /// A store without trees. Takes no memory.
+    /// A store without trees.
     pub fn new(alloc: Global) -> TreeStore
         ensures { result ≡ [] }
     {
@@ -45,22 +45,21 @@ impl TreeStore {
         }
     }
 
-    /// How many trees there are. Takes no memory.
+    /// How many trees there are.
     pub fn len(&self) -> usize
         ensures { result ≡ length self.now }
     {
         self.nodes.len()
     }
 
-    /// Whether there is no tree. Takes no memory.
+    /// Whether there is no tree.
     pub fn is_empty(&self) -> bool
         ensures { IsTrue result ↔ (self.now ≡ []) }
     {
         self.len() == 0
     }
 
-    /// Adds the tree of a production over these children, after the others. The only error is want of memory, and then the
-    /// children are dropped.
+    /// Adds the tree of a production over these children, after the others. If memory runs out, the children are dropped.
     pub fn build(
         &mut self,
         production: usize,
@@ -75,8 +74,8 @@ impl TreeStore {
         self.build_from(production, &mut children, count)
     }
 
-    /// Adds the tree of a production over the last values of a vector, so many of them, in order, and takes them off it. A caller
-    /// that gathers children in one vector takes memory for a node in this store alone. The only error is want of memory.
+    /// Adds the tree of a production over the last values of a vector, so many of them, in order, and takes them off it. A caller that
+    /// gathers children in one vector takes memory for a node in this store alone.
     pub fn build_from(
         &mut self,
         production: usize,
@@ -101,8 +100,7 @@ impl TreeStore {
         Ok(tree)
     }
 
-    /// Adds the tree of a production over the last of packed values, so many of them, in order, and takes them off. The only error is want
-    /// of memory.
+    /// Adds the tree of a production over the last of packed values, so many of them, in order, and takes them off.
     pub fn build_packed(
         &mut self,
         production: usize,
@@ -140,7 +138,7 @@ impl TreeStore {
         self.children.make_room(more_children);
     }
 
-    /// Keeps the first trees, so many of them, and takes the others away. Takes no memory.
+    /// Keeps the first trees, so many of them, and takes the others away.
     pub fn truncate(&mut self, len: usize)
         requires { len ≤ length self.old }
         ensures { self.new ≡ take len self.old }
@@ -151,7 +149,7 @@ impl TreeStore {
         self.nodes.truncate(len);
     }
 
-    /// The production of a tree. Takes no memory.
+    /// The production of a tree.
     pub fn production(&self, tree: TreeId) -> usize
         requires { tree.0 < length self.now }
         ensures { result ≡ production_of (tree_in self.now tree.0) }
@@ -159,7 +157,7 @@ impl TreeStore {
         self.nodes[tree.0].production
     }
 
-    /// How many children a tree has. Takes no memory.
+    /// How many children a tree has.
     pub fn arity(&self, tree: TreeId) -> usize
         requires { tree.0 < length self.now }
         ensures { result ≡ count_of (children_of (tree_in self.now tree.0)) }
@@ -183,7 +181,7 @@ impl TreeStore {
         self.children.get(first + place)
     }
 
-    /// The child of a tree at a place, if it is a tree. It has a smaller id. Takes no memory.
+    /// The child of a tree at a place, if it is a tree. It has a smaller id.
     pub fn child_tree(&self, tree: TreeId, place: usize) -> Option<TreeId>
         requires there { tree.0 < length self.now }
         requires place { place < count_of (children_of (tree_in self.now tree.0)) }
@@ -198,7 +196,6 @@ impl TreeStore {
     }
 }
 
-// By hand, so that no crate above proves how the parts are dropped.
 impl Drop for TreeStore {
     fn drop(self) {
         let TreeStore { nodes, children } = self;

@@ -1,4 +1,4 @@
--- What words split into, by what stands at their beginning.
+-- What words split into, by what is at their beginning.
 use Rattle.std.proofs.Common.{◌≡◌, ◌≢◌, ◌<◌, ◌≤◌, ◌+◌, ◌-◌, inl, inr, ℕ, suc, List, [], ◌∷◌, ◌++◌, All, Bool, String, Global, string_bytes, true, false, Option, Some, None, IfSome, IfNone, MatchOption, Bor, length, drop, take, eqb, get_or, slice_get, refl, sym, ap, subst, ◌∙◌, arith}
 use Rattle.std.specs.List.{position_or_len, before_first, after_first}
 use Rattle.std.specs.Option.{option_map}
@@ -185,7 +185,7 @@ cut_none bs r is = by r (split_once_first 61 bs r is (omega arith)) where
         | inr other ↦ other.1 same
       ])
 
--- the words from a place on are the one there and those behind it
+-- the words from a place on are the one there and those after it
 pub from_place : (words : List (List ℕ)) (at : ℕ) (word : List ℕ) → slice_get words at ≡ Some word → drop at words ≡ word ∷ drop (at + 1) words
 from_place words at word is =
     drop-cons words at word (slice_get_within words at word is)

@@ -1,6 +1,6 @@
 -- The values of options, by places of their names.
 pub mod Slots
--- What stands at the beginning of some words.
+-- What is at the beginning of some words.
 pub mod Parts
 -- Numbers in decimal digits.
 pub mod Numbers

@@ -27,10 +27,10 @@ pub(crate) struct Options<'a> {
     pub(crate) rest: usize,
 }
 
-// What stands at a place of the words.
+// What is at a place of the words.
 #[derive(Clone, Copy)]
 pub(crate) enum Part<'a> {
-    // An option with its value, and then what stands at this place.
+    // An option with its value, and then what is at this place.
     Option {
         name: &'a str,
         value: &'a str,
@@ -65,7 +65,7 @@ pub(crate) fn options_of(words: &[String]) -> Option<Options<'_>>
     }
 }
 
-// What stands at a place.
+// What is at a place.
 fn part_at(words: &[String], at: usize) -> Part<'_>
     requires { at ≤ length words.now }
     ensures part { IsPart (texts words.now) at result }
@@ -86,7 +86,7 @@ fn part_at(words: &[String], at: usize) -> Part<'_>
     }
 }
 
-// What stands at the place of this option, which is without its dashes.
+// What is at the place of this option, which is without its dashes.
 fn option_at<'a>(words: &'a [String], at: usize, option: &'a str) -> Part<'a>
     requires at { at < length words.now }
     requires there { slice_get (texts words.now) at ≡ Some (codes "--" ++ option.now) }
@@ -105,7 +105,7 @@ fn option_at<'a>(words: &'a [String], at: usize, option: &'a str) -> Part<'a>
     }
 }
 
-// What stands at the place of the name of an option, whose value is the next word.
+// What is at the place of the name of an option, whose value is the next word.
 fn option_apart<'a>(words: &'a [String], at: usize, name: &'a str) -> Part<'a>
     requires at { at < length words.now }
     requires there { slice_get (texts words.now) at ≡ Some (codes "--" ++ name.now) }

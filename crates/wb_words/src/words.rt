@@ -16,7 +16,7 @@ use crate::options::{ATTRIBUTE, NUMBER, SIZE, STEPS, TEXT, options_of};
 /// The command that the words ask for, where they ask for one: the words are those after the name of the program.
 ///
 /// The first is the verb. Options come next, in any order and each at most once, as `--NAME VALUE` or `--NAME=VALUE`. The positional words
-/// are last. No value and no positional word is empty or begins with a dash. Takes no memory.
+/// are last. No value and no positional word is empty or begins with a dash.
 pub fn command_of(words: &[String]) -> Option<Command<'_>>
     ensures some { IfSome result (λ command. Asks (texts words.now) (asked_by command)) }
     ensures none { IfNone result ((asked : Asked) → ¬ Asks (texts words.now) asked) }

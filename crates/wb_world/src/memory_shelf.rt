@@ -1,4 +1,4 @@
-//! Which shelf shows contracts all that it does?
+//! A shelf that shows contracts all that it does.
 //!
 //! It is in memory, for tests and laws, and fails where it is asked to. The system's files are in `file_shelf`.
 
@@ -46,7 +46,7 @@ impl MemoryShelf {
         }
     }
 
-    /// Adds a file under a name that no file has. The only error is want of memory.
+    /// Adds a file under a name that no file has.
     pub fn add_file(&mut self, name: &str, contents: &[u8]) -> Result<(), AllocError>
         requires { file_at self.old.files name.now ≡ None }
         ensures ok { OnOk result (self.new ≡ record self.old { files = self.old.files ++ (name.now, contents.now) ∷ [] }) }
@@ -58,7 +58,7 @@ impl MemoryShelf {
         Ok(())
     }
 
-    /// Lets the read of this number fail, counted from 1. The only error is want of memory.
+    /// Lets the read of this number fail, counted from 1.
     pub fn fail_at(&mut self, call: u64) -> Result<(), AllocError>
         ensures ok { OnOk result (self.new ≡ record self.old { fails = self.old.fails ++ call ∷ [] }) }
         ensures err { OnErr result (self.new ≡ self.old) }
@@ -87,7 +87,7 @@ impl Shelf for MemoryShelf {
         ensures faults { NeverFalls (λ _. self.old.faults) (λ _. self.new.faults) }
         ensures absences { NeverFalls (λ _. self.old.absences) (λ _. self.new.absences) }
 
-        // Exactly the listed reads fail, and none wants memory.
+        // Exactly the listed reads fail, and none runs out of memory.
         ensures answer { AnswersRead self.old self.new name.now result }
     {
         self.calls = self.calls.saturating_add(1);

@@ -1,4 +1,4 @@
-//! Which sink shows contracts all that it takes?
+//! A sink that shows contracts all that it takes.
 //!
 //! It is in memory, for tests and laws, and fails where it is asked to. Standard output is in `output_sink`.
 
@@ -35,7 +35,7 @@ impl Model for MemorySink {
 }
 
 impl MemorySink {
-    /// An empty sink with room for `room` bytes, which takes at most `most` at once. The only error is want of memory.
+    /// An empty sink with room for `room` bytes, which takes at most `most` at once.
     pub fn new(alloc: Global, room: usize, most: usize) -> Result<MemorySink, AllocError>
         requires { 1 ≤ most }
         ensures ok { IfOk result (λ sink. sink ≡ record { bytes = []; room = room; most = most; fails = []; calls = 0; faults = 0 }) }
@@ -50,7 +50,7 @@ impl MemorySink {
         })
     }
 
-    /// Lets the write of this number fail, counted from 1. The only error is want of memory.
+    /// Lets the write of this number fail, counted from 1.
     pub fn fail_at(&mut self, call: u64) -> Result<(), AllocError>
         ensures ok { OnOk result (self.new ≡ record self.old { fails = self.old.fails ++ call ∷ [] }) }
         ensures err { OnErr result (self.new ≡ self.old) }
@@ -59,7 +59,7 @@ impl MemorySink {
         Ok(())
     }
 
-    /// The bytes written. Takes no memory.
+    /// The bytes written.
     pub fn bytes(&self) -> &[u8]
         ensures { result.now ≡ self.now.bytes }
     {

@@ -18,7 +18,7 @@ pub enum Got {
     Absent,
     /// The read failed.
     Failed,
-    /// Memory was wanting.
+    /// Memory ran out.
     NoMemory(AllocError),
 }
 

@@ -28,7 +28,7 @@ pub trait Sink {
     /// How often a write failed.
     ghost faults: { Self → ℕ };
 
-    /// Writes at least one byte from the beginning of a piece. Takes no memory.
+    /// Writes at least one byte from the beginning of a piece.
     fn write(&mut self, piece: &[u8]) -> Put
         requires { 0 < length piece.now }
 

@@ -71,7 +71,7 @@ abbrev pub maker_in : ℕ → Option Production → Owner
 maker_in extensions None = extension extensions
 maker_in extensions (Some r) = owner_of r.owner
 
--- what stands on the left of what may be a production, and below it; a production that isn't there has the start on its left
+-- what is on the left of what may be a production, and below it; a production that isn't there has the start on its left
 abbrev pub left_in : ℕ → Option Production → ℕ
 left_in start None = start
 left_in start (Some r) = r.left

@@ -41,7 +41,7 @@ pub record IsNamed (w : World) : Type 0 where
   pub needs_named : (o : Owner) (m a i : ℕ) → IsTrue (w.declares Synthesized o m a) → Contains (w.needs m a) i
       → OccursIn w (part_of o) Inherited m i
   pub forward_named : (m i : ℕ) → Contains (w.forward_needs m) i → OccursIn w (part_of (w.nonterminal_owner m)) Inherited m i
-  -- a rule stands at a production and for a vertex that its writer sees and may write, and reads what it sees
+  -- a rule is at a production and for a vertex that its writer sees and may write, and reads what it sees
   pub writes_there : (o : Owner) (p : ℕ) (v : Vertex) (e : List Node) → w.writes o p v ≡ Some e → Sees o (w.production_owner p)
   pub writes_seen : (o : Owner) (p : ℕ) (v : Vertex) (e : List Node) → w.writes o p v ≡ Some e → IsVertexIn w (part_of o) p v
   pub writes_may : (o : Owner) (p : ℕ) (v : Vertex) (e : List Node) → w.writes o p v ≡ Some e → MayWrite w o p v

@@ -54,7 +54,7 @@ pub record ArePartsOfDeterministic (r : ResolvedParts) (g : GrammarView) (host :
   pub deterministic : IsDeterministicExtension r g host.grammar
   pub made : AreExtensionParts r g host parts
 
--- the same in each grammar that the specification has
+-- the parts are those of a deterministic extension, for each grammar that the specification has
 abbrev pub ArePartsFound : ResolvedParts → HostParts → ExtensionParts → Type 0
 ArePartsFound r host parts = (g : GrammarView) → r.grammar ≡ Some g → ArePartsOfDeterministic r g host parts
 
@@ -72,7 +72,7 @@ pub record IsMade (host : CertifiedView) (r : ResolvedParts) (parts : ExtensionP
   pub found : IsFound host.resolved r
   pub beside : ArePartsBeside r host.parts parts
 
--- the same of an extension that is certified beside the host
+-- the host is certified, the extension is certified beside it, and the parts are those of the extended grammar
 pub record IsMadeCertified (host : CertifiedView) (r : ResolvedParts) (operations : List OperationSignature) (parts : ExtensionParts) :
     Type 0 where
   pub host_certified : IsCertified host
@@ -90,7 +90,7 @@ abbrev pub IsLaterRefusal : (host r : ResolvedParts) → CertifyRefusal → Type
 IsLaterRefusal host r refusal = (operations : List OperationSignature) → KindsOk r.attributes operations
     → IsBesideRefusal host r operations refusal
 
--- a rule of attributes fails for this reason; want of memory says nothing and is in no other reason
+-- a rule of attributes fails for this reason; out of memory says nothing and is in no other reason
 abbrev pub IsAttributesReason : ResolvedParts → CertifyRefusal → Type 0
 IsAttributesReason r (c.Attributes refusal) = IsAttributeRefusal r.attributes (start_of r) refusal × ¬ IsAttributeMemory refusal
 IsAttributesReason r (c.NoMemory error) = Unit {0}

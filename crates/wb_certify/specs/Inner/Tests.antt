@@ -23,13 +23,13 @@ pub record IsFound (r : ResolvedParts) (parts : HostParts) : Type 0 where
   pub deterministic : IsDeterministic r
   pub of_grammar : (g : GrammarView) → r.grammar ≡ Some g → AreHostParts r g parts
 
--- a rule of kinds fails for this reason; want of memory says nothing and is in no other reason
+-- a rule of kinds fails for this reason; out of memory says nothing and is in no other reason
 abbrev pub IsKindRefusal : ResolvedParts → List OperationSignature → CertifyRefusal → Type 0
 IsKindRefusal r operations (c.Types refusal) = IsTrueRefusal r.attributes operations refusal × ¬ IsTypeMemory refusal
 IsKindRefusal r operations (c.NoMemory error) = Unit {0}
 IsKindRefusal r operations other = ⊥
 
--- a rule of preferences, of the start, of the grammar or of the scanner fails for this reason; want of memory says nothing and is in no
+-- a rule of preferences, of the start, of the grammar or of the scanner fails for this reason; out of memory says nothing and is in no
 -- other reason
 abbrev pub IsGrammarRefusal : ResolvedParts → CertifyRefusal → Type 0
 IsGrammarRefusal r c.NoStart = AreAcyclic r × (r.grammar ≡ None)
@@ -37,7 +37,7 @@ IsGrammarRefusal r (c.Determinism refusal) = IsDeterminismOf r r.grammar refusal
 IsGrammarRefusal r (c.NoMemory error) = Unit {0}
 IsGrammarRefusal r other = ⊥
 
--- a rule of attributes fails for this reason; want of memory says nothing and is in no other reason
+-- a rule of attributes fails for this reason; out of memory says nothing and is in no other reason
 abbrev pub IsAttributesRefusal : ResolvedParts → CertifyRefusal → Type 0
 IsAttributesRefusal r (c.Attributes refusal) = IsAttributeRefusal r (start_of r) refusal × ¬ IsAttributeMemory refusal
 IsAttributesRefusal r (c.NoMemory error) = Unit {0}

@@ -44,14 +44,14 @@ IsOutside a vertex reached allowed inherited =
 abbrev pub KeepsAll : AttributionParts → Production → Type 0
 KeepsAll a production = KeepsFlowTypes a production × KeepsForwardFlowType a production
 
--- the refusal tells that the production of this number doesn't keep to its flow types, unless memory is wanting
+-- the refusal tells that the production of this number doesn't keep to its flow types, unless memory ran out
 abbrev pub RefusesReads : AttributionParts → ℕ → Production → AttributeRefusal → Type 0
 RefusesReads a number production (r.Reads shown attribute inherited) =
     (shown ≡ number) × ReachesOutside a production attribute inherited
 RefusesReads a number production (r.NoMemory error) = Unit {0}
 RefusesReads a number production other = ⊥
 
--- the refusal tells of a cycle in the production of this number, unless memory is wanting
+-- the refusal tells of a cycle in the production of this number, unless memory ran out
 abbrev pub RefusesCycle : AttributionParts → ℕ → Production → AttributeRefusal → Type 0
 RefusesCycle a number production (r.Cycle shown vertices) = (shown ≡ number) × IsFlowCycle a production vertices
 RefusesCycle a number production (r.NoMemory error) = Unit {0}
@@ -68,18 +68,18 @@ pub record IsTested (tested : Tested) : Type 0 where
 abbrev pub HoldsForward : AttributionParts → Occurrence → Type 0
 HoldsForward a o = Goes a Synthesized o.attribute → (i : ℕ) → ForwardNeeds a o.nonterminal i → Contains o.needs i
 
--- the refusal tells that a flow type lacks what that of a forward has, unless memory is wanting
+-- the refusal tells that a flow type lacks what that of a forward has, unless memory ran out
 abbrev pub RefusesForward : AttributionParts → AttributeRefusal → Type 0
 RefusesForward a (r.LacksForward nonterminal attribute inherited) = LacksForwardNeed a nonterminal attribute inherited
 RefusesForward a (r.NoMemory error) = Unit {0}
 RefusesForward a other = ⊥
 
--- the refusal tells of some production that it doesn't keep to its flow types, unless memory is wanting
+-- the refusal tells of some production that it doesn't keep to its flow types, unless memory ran out
 abbrev pub RefusesAnyReads : AttributionParts → AttributeRefusal → Type 0
 RefusesAnyReads a refusal =
     (number : ℕ) × (production : Production) × IsProduction a number production × RefusesReads a number production refusal
 
--- the refusal tells of a cycle in some production, unless memory is wanting
+-- the refusal tells of a cycle in some production, unless memory ran out
 abbrev pub RefusesAnyCycle : AttributionParts → AttributeRefusal → Type 0
 RefusesAnyCycle a refusal =
     (number : ℕ) × (production : Production) × IsProduction a number production × RefusesCycle a number production refusal

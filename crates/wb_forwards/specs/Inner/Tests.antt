@@ -58,7 +58,7 @@ abbrev pub IsOutside : AttributionParts → Vertex → Bool → List ℕ → ℕ
 IsOutside a vertex reached allowed attribute inherited_one = (vertex ≡ v.Top inherited_one) × Goes a Inherited inherited_one
     × (reached ≡ true) × (¬ Contains allowed inherited_one) × (inherited_one ≢ attribute)
 
--- the refusal tells that the production of this number has an equation that reaches outside, unless memory is wanting
+-- the refusal tells that the production of this number has an equation that reaches outside, unless memory ran out
 abbrev pub RefusesProduction : AttributionParts → ℕ → Production → AttributeRefusal → Type 0
 RefusesProduction a number production (r.ForwardReads shown attribute inherited_one) =
     (shown ≡ number) × ReadsOutside a production attribute inherited_one

@@ -8,7 +8,7 @@ use Rattle.wb_shown.specs.Shows.{refusal_shown}
 use Rattle.wb_hosts.specs.declared.refusal.HostRefusal.{HostRefusal}
 use Rattle.wb_hosts.specs.declared.refusal.HostRefusal.TheVariants as h
 
--- it is want of memory
+-- it is that memory ran out
 abbrev pub IsCertifyMemory : CertifyRefusal → Type 0
 IsCertifyMemory (c.NoMemory error) = Unit {0}
 IsCertifyMemory other = ⊥
@@ -18,7 +18,7 @@ abbrev pub IsSort : CertifyRefusal → Refusal → HostRefusal → Type 0
 IsSort (c.Types refusal) shown sort = sort ≡ h.Specification shown
 IsSort other shown sort = sort ≡ h.Certification shown
 
--- a value's refusal, as it is shown, as the sort that the rule is of; want of memory says nothing
+-- a value's refusal, as it is shown, as the sort that the rule is of; out of memory says nothing
 abbrev pub IsShownAs : ResolvedParts → CertifyRefusal → HostRefusal → Type 0
 IsShownAs r refusal (h.NoMemory error) = Unit {0}
 IsShownAs r refusal sort = (shown : Refusal) × (refusal_shown r refusal ≡ Some shown) × IsSort refusal shown sort

@@ -40,7 +40,7 @@ module _ (operations : List OperationSignature) (host : ResolvedParts) (before :
   abbrev pub IsNextSpecRefusal : SpecView → NextRefusal → Type 0
   IsNextSpecRefusal spec refusal = (contents : List ℕ) → IsSpecFor host contents spec → IsNextRefusal contents refusal
 
--- the refusal is for this name, which is taken, or it is for want of memory
+-- the refusal is for this name, which is taken, or it is that memory ran out
 abbrev pub IsDuplicateOf : List ℕ → NextRefusal → Type 0
 IsDuplicateOf name (n.Duplicate other) = other ≡ name
 IsDuplicateOf name (n.Header (f.NoMemory error)) = Unit {0}
@@ -58,7 +58,7 @@ pub record AreWith (operations : List OperationSignature) (known : Option Files)
   pub each : AreEach operations known host.resolved files [] (all_resolved all.extensions.items)
   pub apart : AreApart host all.extensions.items
 
--- a refused extension: the status of its sort, and the line that says why; want of memory has no line
+-- a refused extension: the status of its sort, and the line that says why; out of memory has no line
 abbrev pub RefusedNext : List ℕ → NextRefusal → Report
 RefusedNext file (n.Header refusal) = RefusedExtension file refusal
 RefusedNext file (n.Duplicate name) = Ends DuplicateExtension (λ bytes. bytes ≡ report_of (o.DuplicateExtension name))

@@ -21,7 +21,7 @@ pub record IsKernelFor (g : GrammarView) (prefix : List Symbol) (kernel : List I
   pub exact : ListsKernel g prefix kernel
   pub sorted : AreInOrder kernel
 
--- prefixes and kernels stand where they stood, with more after them
+-- prefixes and kernels are where they were, with more after them
 pub record Grows (old new : IndexView) : Type 0 where
   pub prefixes : (s : ℕ) (prefix : List Symbol) → slice_get old.prefixes s ≡ Some prefix → slice_get new.prefixes s ≡ Some prefix
   pub kernels : (s : ℕ) (kernel : List Item) → slice_get old.kernels s ≡ Some kernel → slice_get new.kernels s ≡ Some kernel

@@ -54,7 +54,7 @@ pub record AreRestsOf (g : GrammarView) (right : List Symbol) (row : List Rest) 
   pub each : (d : ℕ) (rest : Rest) (x : Symbol) → slice_get row d ≡ Some rest → slice_get right d ≡ Some x →
       IsOpening g x (drop (d + 1) right) rest
 
--- the same for each production
+-- for each production, and each place of its right side, what opens the symbol there
 pub record AreRests (g : GrammarView) (rests : List (List Rest)) : Type 0 where
   pub len : length rests ≡ length g.productions
   pub each : (p a : ℕ) (right : List Symbol) (row : List Rest) → slice_get rests p ≡ Some row → IsProduction g p a right →

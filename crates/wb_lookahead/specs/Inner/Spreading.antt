@@ -78,7 +78,7 @@ pub record IsItemPassed (kernels : KernelsView) (lookaheads : List (List ItemLoo
   pub opens : (b : ℕ) (rest : List Symbol) (p u : ℕ) → after_dot kernels.grammar item ≡ Nonterminal b ∷ rest →
       IsFirstOf kernels.grammar b p → IsFirst kernels.grammar (rest ++ Terminal t ∷ []) u → Lists lookaheads s (initial_item p) u
 
--- the same of each item for which the one stands
+-- a terminal is passed on so from each item for which the one stands
 abbrev pub IsPassedOn : KernelsView → List (List ItemLookahead) → ℕ → Item → ℕ → Type 0
 IsPassedOn kernels lookaheads s one t = (item : Item) → StandsFor kernels.grammar one item → IsItemPassed kernels lookaheads s item t
 
@@ -98,7 +98,7 @@ abbrev pub IsFilledFrom : KernelsView → List (List ItemLookahead) → ℕ → 
 IsFilledFrom kernels lookaheads s one = (item : Item) (t : ℕ) → StandsFor kernels.grammar one item → FlowsTo kernels s item t →
     Lists lookaheads s item t
 
--- the same of each of the items at the first places of the kernel
+-- what flows there is listed for each of the items at the first places of the kernel
 abbrev pub IsFilled : KernelsView → List (List ItemLookahead) → ℕ → ℕ → Type 0
 IsFilled kernels lookaheads s n = (j : ℕ) (one : Item) → j < n → slice_get (closure_of kernels s) j ≡ Some one →
     IsFilledFrom kernels lookaheads s one

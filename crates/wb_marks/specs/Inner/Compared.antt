@@ -16,7 +16,7 @@ use Rattle.wb_marks.specs.Inner.Texts.{MatchesOnly}
 use Rattle.wb_marks.specs.Markers.{IsMarker}
 use Rattle.wb_marks.specs.Refusals.{IsShownClash}
 
--- the marker has to be told from the other; of two markers the lesser from the greater
+-- the marker has to be told apart from the other; of two markers the lesser from the greater
 pub record AreCompared (r : ResolvedParts) (marker other : ℕ) : Type 0 where
   pub rivals : AreRivals r marker other
   pub in_order : IsMarker r other → marker < other
@@ -78,7 +78,7 @@ pub record IsCompared (compared : Compared) : Type 0 where
 abbrev pub ShowsNone : ResolvedParts → ℕ → ℕ → Type 0
 ShowsNone r marker other = (text : List ℕ) → ¬ IsShownClash r marker other text
 
--- the marker has to be told from the other, and no preference orders them
+-- the marker has to be told apart from the other, and no preference orders them
 pub record IsPairToTest (compared : Compared) (other : ℕ) : Type 0 where
   pub are : AreCompared compared.scanned.now.parts.now compared.marker other
   pub unordered : ¬ AreOrdered (preference_pairs compared.scanned.now.parts.now) compared.marker other

@@ -43,13 +43,13 @@ HasNoKey declared key = (one : Declaration) → Contains declared one → Counts
 abbrev pub IsFound : List Declaration → List ℕ → Option ℕ → Type 0
 IsFound declared key found = MatchOption found (HasNoKey declared key) (IsAtKey declared key)
 
--- the refusal shows the declaration as one that is there already, unless memory is wanting
+-- the refusal shows the declaration as one that is there already, unless memory ran out
 abbrev pub IsRefusedAs : Declaration → NameRefusal → Type 0
 IsRefusedAs declaration (r.Duplicate name) = name ≡ shown_name declaration
 IsRefusedAs declaration (r.NoMemory error) = Unit {0}
 IsRefusedAs declaration other = ⊥
 
--- the refusal tells that something is declared twice, unless memory is wanting
+-- the refusal tells that something is declared twice, unless memory ran out
 abbrev pub IsDuplicate : List Declaration → NameRefusal → Type 0
 IsDuplicate declared (r.Duplicate name) = FailsDuplicate declared name
 IsDuplicate declared (r.NoMemory error) = Unit {0}

@@ -23,13 +23,13 @@ MayDeclare declared from (d.Equation p a at) = IsOfHost (take from declared) p �
     → IsOwnOccurrence (drop from declared) a n ⊎ IsOwnLocal (drop from declared) p at
 MayDeclare declared from other = Unit {0}
 
--- the refusal tells that an extension says what it may not, of which its own declaration is an example, unless memory is wanting
+-- the refusal tells that an extension says what it may not, of which its own declaration is an example, unless memory ran out
 abbrev pub ShowsOrphan : List Declaration → ℕ → Declaration → NameRefusal → Type 0
 ShowsOrphan declared from one (r.Orphan name) = Contains (drop from declared) one → FailsOrphan (take from declared) (drop from declared) name
 ShowsOrphan declared from one (r.NoMemory error) = Unit {0}
 ShowsOrphan declared from one other = ⊥
 
--- the refusal tells that an extension says what it may not, unless memory is wanting
+-- the refusal tells that an extension says what it may not, unless memory ran out
 abbrev pub IsOrphanIn : List Declaration → ℕ → NameRefusal → Type 0
 IsOrphanIn declared from (r.Orphan name) = FailsOrphan (take from declared) (drop from declared) name
 IsOrphanIn declared from (r.NoMemory error) = Unit {0}
@@ -39,13 +39,13 @@ IsOrphanIn declared from other = ⊥
 abbrev pub IsLocal : Labelled → Type 0
 IsLocal is = (n : List ℕ) × (is ≡ Local n)
 
--- the refusal shows this name as one of what an extension may not say, unless memory is wanting
+-- the refusal shows this name as one of what an extension may not say, unless memory ran out
 abbrev pub NamesOrphan : List ℕ → NameRefusal → Type 0
 NamesOrphan shown (r.Orphan name) = name ≡ shown
 NamesOrphan shown (r.NoMemory error) = Unit {0}
 NamesOrphan shown other = ⊥
 
--- the refusal shows this name, and this holds, unless memory is wanting
+-- the refusal shows this name, and this holds, unless memory ran out
 abbrev pub IsOrphanIf : Type 0 → List ℕ → NameRefusal → Type 0
 IsOrphanIf P shown (r.Orphan name) = (name ≡ shown) × P
 IsOrphanIf P shown (r.NoMemory error) = Unit {0}

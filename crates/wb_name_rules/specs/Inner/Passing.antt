@@ -23,7 +23,7 @@ module _ (declared : List Declaration) (owner : ℕ) (items : Items) where
     pub known : All (IsKnown declared) (uses items)
     pub fails : FailsWrongKind declared (uses items) (misplaced owner items) name
 
-  -- the refusal tells that a use fails, unless memory is wanting
+  -- the refusal tells that a use fails, unless memory ran out
   abbrev pub UsesFail : NameRefusal → Type 0
   UsesFail (r.Unknown name) = FailsUnknown declared (uses items) name
   UsesFail (r.WrongKind name) = KindFails name
@@ -42,7 +42,7 @@ module _ (declared : List Declaration) (from owner : ℕ) (items : Items) where
     pub extension : owner ≢ 0
     pub fails : FailsOrphan (take from declared) (drop from declared) name
 
-  -- the refusal tells of the first test that fails, unless memory is wanting
+  -- the refusal tells of the first test that fails, unless memory ran out
   abbrev pub TestFails : NameRefusal → Type 0
   TestFails (r.Unknown name) = FailsUnknown declared (uses items) name
   TestFails (r.WrongKind name) = KindFails declared owner items name

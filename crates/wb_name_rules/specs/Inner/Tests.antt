@@ -43,38 +43,38 @@ IsOfKind declared (u.Label production l wanted) = IsSymbol declared production s
     → (is : Labelled) → HasLabel declared production l is → SuitsLabel declared wanted is
 IsOfKind declared other = Unit {0}
 
--- the refusal shows this name as one that isn't declared, unless memory is wanting
+-- the refusal shows this name as one that isn't declared, unless memory ran out
 abbrev pub NamesUnknown : List ℕ → NameRefusal → Type 0
 NamesUnknown shown (r.Unknown name) = name ≡ shown
 NamesUnknown shown (r.NoMemory error) = Unit {0}
 NamesUnknown shown other = ⊥
 
--- the refusal shows this name as one of another kind, unless memory is wanting
+-- the refusal shows this name as one of another kind, unless memory ran out
 abbrev pub NamesKind : List ℕ → NameRefusal → Type 0
 NamesKind shown (r.WrongKind name) = name ≡ shown
 NamesKind shown (r.NoMemory error) = Unit {0}
 NamesKind shown other = ⊥
 
--- the refusal tells that something isn't declared, of which the usage is an example, unless memory is wanting
+-- the refusal tells that something isn't declared, of which the usage is an example, unless memory ran out
 abbrev pub ShowsUnknown : List Declaration → Usage → NameRefusal → Type 0
 ShowsUnknown declared usage (r.Unknown name) = (used : List Usage) → Contains used usage → FailsUnknown declared used name
 ShowsUnknown declared usage (r.NoMemory error) = Unit {0}
 ShowsUnknown declared usage other = ⊥
 
--- the refusal tells that something isn't declared, unless memory is wanting
+-- the refusal tells that something isn't declared, unless memory ran out
 abbrev pub IsUnknownIn : List Declaration → List Usage → NameRefusal → Type 0
 IsUnknownIn declared used (r.Unknown name) = FailsUnknown declared used name
 IsUnknownIn declared used (r.NoMemory error) = Unit {0}
 IsUnknownIn declared used other = ⊥
 
--- the refusal tells that something is of another kind, of which the usage is an example, unless memory is wanting
+-- the refusal tells that something is of another kind, of which the usage is an example, unless memory ran out
 abbrev pub ShowsKind : List Declaration → Usage → NameRefusal → Type 0
 ShowsKind declared usage (r.WrongKind name) =
     (used : List Usage) (unplaced : List (List ℕ)) → Contains used usage → FailsWrongKind declared used unplaced name
 ShowsKind declared usage (r.NoMemory error) = Unit {0}
 ShowsKind declared usage other = ⊥
 
--- the refusal tells that something is of another kind, unless memory is wanting
+-- the refusal tells that something is of another kind, unless memory ran out
 abbrev pub IsWrongIn : List Declaration → List Usage → List (List ℕ) → NameRefusal → Type 0
 IsWrongIn declared used unplaced (r.WrongKind name) = FailsWrongKind declared used unplaced name
 IsWrongIn declared used unplaced (r.NoMemory error) = Unit {0}
@@ -85,7 +85,7 @@ abbrev pub TellsForward : List Declaration → List ℕ → Site → Bool → Ty
 TellsForward declared production at true = (at ≡ site.Forward) × ¬ Forwards declared production
 TellsForward declared production at false = at ≡ site.Forward → Forwards declared production
 
--- the refusal shows an attribute that doesn't occur on the nonterminal, unless memory is wanting
+-- the refusal shows an attribute that doesn't occur on the nonterminal, unless memory ran out
 abbrev pub ShowsAbsent : List Declaration → List ℕ → List ℕ → NameRefusal → Type 0
 ShowsAbsent declared attribute nonterminal (r.Unknown name) = (name ≡ attribute) × ¬ Occurs declared attribute nonterminal
 ShowsAbsent declared attribute nonterminal (r.NoMemory error) = Unit {0}
@@ -96,7 +96,7 @@ abbrev pub TellsLabel : List Declaration → LabelWanted → Labelled → Bool �
 TellsLabel declared wanted is true = SuitsLabel declared wanted is
 TellsLabel declared wanted is false = IsMisused declared wanted is
 
--- the refusal shows what is where it has no place, unless memory is wanting
+-- the refusal shows what is where it has no place, unless memory ran out
 abbrev pub ShowsPlace : List (List ℕ) → NameRefusal → Type 0
 ShowsPlace unplaced (r.WrongKind name) = Contains unplaced name
 ShowsPlace unplaced (r.NoMemory error) = Unit {0}

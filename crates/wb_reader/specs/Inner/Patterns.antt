@@ -60,7 +60,7 @@ OnItems items (BadRegex place) = IsFirstOn items (BadRegex place)
 OnItems items (MatchesEmpty name) = IsFirstOn items (MatchesEmpty name)
 OnItems items (NoMemory error) = Unit {0}
 
--- of the refusals only that of what can't follow, and want of memory
+-- of the refusals only that of what can't follow, and out of memory
 abbrev pub OnSyntax : List ℕ → SpecRefusal → Type 0
 OnSyntax bytes TooLong = ⊥
 OnSyntax bytes WrongFormat = ⊥

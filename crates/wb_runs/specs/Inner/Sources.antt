@@ -19,7 +19,7 @@ use Rattle.wb_runs.specs.declared.asked.Asked.{Asked}
 use Rattle.wb_runs.specs.declared.source.Source.{Source}
 use Rattle.wb_runs.specs.declared.source.Source.TheVariants.{File, Number}
 
--- how a printed value is shown: with the attribute's name, and behind so many leaves and bytes where the text was made
+-- how a printed value is shown: with the attribute's name, and after so many leaves and bytes where the text was made
 abbrev pub shown_with : (name : List ℕ) → (bytes : ℕ) → (leaves : Option ℕ) → List ℕ → Done
 shown_with name bytes None = λ printed. done.Value name printed
 shown_with name bytes (Some leaves) = λ printed. done.Generated leaves bytes name printed
@@ -52,7 +52,7 @@ pub record IsAsked (operations : List OperationSignature) (asked : Asked) : Type
   pub is_root : IsRootAttribute asked.host.now.resolved asked.host.now.operations (all_resolved asked.extensions.now) asked.name.now
       asked.attribute
 
--- what is reported behind the attribute
+-- what is reported after the attribute
 abbrev pub SourceRest : Operations → Option Files → Source → Asked → Report
 SourceRest operations known (File file steps) asked =
     Check TextTooLong (IsTooLongText known file.now) (IsText known file.now)

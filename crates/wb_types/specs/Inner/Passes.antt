@@ -25,13 +25,13 @@ pub record IsUnknownIn (operations : List OperationSignature) (nodes : List Node
   pub calls : Contains nodes (n.Call name arguments)
   pub unknown : ¬ HasOperation operations name
 
--- the refusal names an operation that the expression calls and that isn't there, unless memory is wanting
+-- the refusal names an operation that the expression calls and that isn't there, unless memory ran out
 abbrev pub FailsKnown : List OperationSignature → List Node → TypeRefusal → Type 0
 FailsKnown operations nodes (r.UnknownOperation name) = IsUnknownIn operations nodes name
 FailsKnown operations nodes (r.NoMemory error) = Unit {0}
 FailsKnown operations nodes other = ⊥
 
--- the refusal tells that the expression, whose equation begins at this offset, isn't of the kind, unless memory is wanting
+-- the refusal tells that the expression, whose equation begins at this offset, isn't of the kind, unless memory ran out
 abbrev pub FailsKind : AttributionParts → List OperationSignature → Production → List Node → Kind → ℕ → TypeRefusal → Type 0
 FailsKind a operations production nodes is offset (r.TypeMismatch at) = (at ≡ offset) × ¬ IsOfKind a operations production nodes is
 FailsKind a operations production nodes is offset (r.NoMemory error) = Unit {0}

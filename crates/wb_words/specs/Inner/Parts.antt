@@ -1,4 +1,4 @@
--- What stands at the beginning of some words.
+-- What is at the beginning of some words.
 use Rattle.std.specs.Prelude.{◌≡◌, ◌<◌, ◌≤◌, ◌++◌, ◌⊎◌, ℕ, List, ◌∷◌, All, Option, drop}
 use Rattle.std.specs.Borrow.{Bor}
 use lib.Chars.{codes}
@@ -23,7 +23,7 @@ IsPart words at (p.Option name value next) = IsOptionBefore (drop at words) (dro
 IsPart words at p.Positional = All IsPositional (drop at words)
 IsPart words at p.Neither = NeverSplits (drop at words)
 
--- an option ends behind where it began, and within so many words
+-- an option ends after where it began, and within so many words
 abbrev pub EndsWithin : ℕ → ℕ → Part → Type 0
 EndsWithin at count (p.Option name value next) = (at < next) × (next ≤ count)
 EndsWithin at count other = Unit {0}

@@ -1,4 +1,4 @@
--- An attribute was found that may be asked at the start, and what is behind it comes after it.
+-- An attribute was found that may be asked at the start, and what is reported after it comes next.
 use Rattle.std.proofs.Common.{◌≡◌, ℕ, List, Option, Some, None, MatchOption, subst}
 use Rattle.wb_operations.specs.Operations.{Operations, OperationSignature}
 use Rattle.wb_resolved.specs.declared.resolved.ResolvedParts.{ResolvedParts}
