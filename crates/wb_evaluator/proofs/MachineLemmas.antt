@@ -6,12 +6,13 @@ use Rattle.std.proofs.lemmas.List.{get_or_default}
 use Rattle.std.proofs.lemmas.Option.{slice_get_within}
 use Rattle.wb_base.specs.Different.{Differ}
 use Rattle.wb_lemmas.proofs.Elements.{all_contained}
-use Rattle.wb_lemmas.proofs.Members.{contains_at, place_of, contains_cases, contains_first, contains_later, contains_push, push_contains}
+use Rattle.wb_lemmas.proofs.Members.{contains_at, contains_cases, contains_first, contains_later, contains_push, push_contains}
 use Rattle.wb_lemmas.proofs.Members.{push_contains_last, nothing_in}
 use Rattle.wb_lemmas.proofs.Places.{at_push}
 use Rattle.wb_operations.specs.Operations.{Operations}
 use Rattle.wb_values.specs.Tree.{Tree, Value}
 use Rattle.wb_resolved.specs.declared.attribution.AttributionParts.{AttributionParts}
+use Rattle.wb_evaluation.proofs.CountLemmas.{no_more}
 use Rattle.wb_evaluation.proofs.AnswerLemmas.{one_node, one_answer}
 use Rattle.wb_evaluation.proofs.CycleLemmas.{nothing_needs_itself}
 use Rattle.wb_evaluation.proofs.DefinedLemmas.{needed_there, never_missing}
@@ -22,50 +23,6 @@ use Rattle.wb_evaluation.specs.Instances.{Instance, home}
 use Rattle.wb_evaluation.specs.Needed.{Comes, here, after, ReadsNext, IsNeeded, itself, next, NeedsMoreThan}
 use Rattle.wb_evaluation.specs.Walks.{Outcome, value, fault, Walk, done, read, missing, walk_of}
 use Rattle.wb_evaluator.specs.Inner.State.{start, Passed, at_once, by_read, Waiting, IsLeft, IsState, HasCome}
-
--- different members of a list are no more than the list has
-without : {X : Type 0} → ℕ → List X → List X
-without k [] = []
-without zero (y ∷ ys) = ys
-without (suc k) (y ∷ ys) = y ∷ without k ys
-
-length_without : {X : Type 0} (k : ℕ) (ys : List X) → k < length ys → length ys ≡ suc (length (without k ys))
-unfolding without
-length_without k [] lt = absurd (omega arith)
-length_without zero (y ∷ ys) lt = refl
-length_without (suc k) (y ∷ ys) lt = ap suc (length_without k ys (omega (arith, lt)))
-
-still_in : {X : Type 0} (k : ℕ) (ys : List X) (x y : X) → slice_get ys k ≡ Some x → Contains ys y → (x ≡ y) ⊎ Contains (without k ys) y
-unfolding without
-still_in k [] x y at has = absurd (nothing_in y has)
-still_in zero (z ∷ ys) x y at has = elim (contains_cases z y ys has) [
-  | inl same ↦ inl (let e : z ≡ x = cc at in sym e ∙ same)
-  | inr later ↦ inr later
-]
-still_in (suc k) (z ∷ ys) x y at has = elim (contains_cases z y ys has) [
-  | inl same ↦ inr (subst (Contains (z ∷ without k ys)) same (contains_first z (without k ys)))
-  | inr later ↦ elim (still_in k ys x y at later) [
-    | inl e ↦ inl e
-    | inr h ↦ inr (contains_later z y (without k ys) h)
-  ]
-]
-
-differ_rest : {X : Type 0} (x : X) (xs : List X) → Differ (x ∷ xs) → Differ xs
-differ_rest x xs d y i j at there = let e = d y (suc i) (suc j) at there in omega (arith, e)
-
-not_again : {X : Type 0} (x : X) (xs : List X) → Differ (x ∷ xs) → ¬ Contains xs x
-not_again x xs d has = let (i, at) = place_of xs x has in let e = d x 0 (suc i) refl at in absurd (omega (arith, e))
-
-pub no_more : {X : Type 0} (xs ys : List X) → Differ xs → ((x : X) → Contains xs x → Contains ys x) → length xs ≤ length ys
-no_more [] ys d f = omega arith
-no_more (x ∷ xs) ys d f =
-    let (k, at) = place_of ys x (f x (contains_first x xs)) in
-    let within = slice_get_within ys k x at in
-    let rest = no_more xs (without k ys) (differ_rest x xs d) (λ y has. elim (still_in k ys x y at (f y (contains_later x y xs has))) [
-      | inl same ↦ absurd (not_again x xs d (subst (Contains xs) (sym same) has))
-      | inr h ↦ h
-    ]) in
-    omega (arith, length_without k ys within, rest)
 
 -- one more that isn't there keeps a list different
 differ_more : {X : Type 0} (xs : List X) (x : X) → Differ xs → ¬ Contains xs x → Differ (xs ++ x ∷ [])

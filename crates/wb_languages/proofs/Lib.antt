@@ -19,3 +19,7 @@ pub mod TreeBounds
 pub mod UniqueLemmas
 pub mod WinnerLemmas
 pub mod WordLemmas
+pub mod ItemLists
+pub mod KernelsExist
+pub mod TablesExist
+pub mod AnswersExist

@@ -2,10 +2,12 @@
 
 ghost use Rattle.std.specs.Prelude.{◌≡◌, ◌≤◌, ◌↔◌, [], ℕ, List, length};
 ghost use Rattle.wb_base.specs.declared.symbol.Symbol.{Symbol};
-ghost use Rattle.wb_base.specs.Grammar.{GrammarView};
+ghost use Rattle.wb_base.specs.Grammar.{GrammarView, IsGrammar};
 ghost use Rattle.wb_grammars.specs.Trees.{Forest, symbols, IsDerived, leaves, DerivationTree};
 ghost use Rattle.wb_grammars.specs.Items.{IsViablePrefix};
 ghost use Rattle.wb_grammars.specs.Lookaheads.{HasNoConflict};
+ghost use Rattle.wb_grammars.specs.Shape.{IsReduced};
+ghost use Rattle.wb_items.specs.Kernels.{KernelsView, AreKernels};
 ghost use Rattle.wb_lookahead.specs.Contents.{TablesView};
 ghost use Rattle.wb_values.specs.Tree.{Tree};
 ghost use Rattle.wb_values.specs.Signature.{Signature};
@@ -15,7 +17,7 @@ ghost use Rattle.wb_languages.specs.Languages.{LanguageView};
 ghost use Rattle.wb_languages.specs.Winners.{IsConsideredForm};
 ghost use Rattle.wb_languages.specs.Tokens.{Next, NextToken};
 ghost use Rattle.wb_languages.specs.Texts.{ParsesTo, StopsAt, HasAnswer};
-ghost use Rattle.wb_languages.specs.Facts.{IsLanguage, IsWritten, AreDecided, AreOrderedForms, HasOneWinner};
+ghost use Rattle.wb_languages.specs.Facts.{IsLanguage, IsWritten, IsDeterministic, AreDecided, AreOrderedForms, HasOneWinner};
 ghost use Rattle.wb_languages.specs.Parts.{AreTablesOf, IsPrefixOf, IsConsideredAt};
 ghost use Rattle.wb_languages.specs.Shown.{AgreesWith, Shows};
 ghost use Rattle.wb_languages.specs.Words.{words_of};
@@ -70,4 +72,22 @@ pub fn reductions_law()
 /// A derivation tree fits signatures that agree with its grammar.
 pub fn fits_law()
     ensures { (signatures : List Signature) (g : GrammarView) → AgreesWith signatures g → (tree : Forest) → DerivationTree g tree → (value : Tree) → Shows value tree → FitsTree signatures value g.start }
+{}
+
+/// A reduced grammar has kernels: that there are none can't be.
+pub fn kernels_law()
+    ensures { (g : GrammarView) → IsGrammar g → IsReduced g → ¬ ¬ ((kernels : KernelsView) × AreKernels kernels × (kernels.grammar ≡ g)) }
+{}
+
+/// A reduced grammar without conflict has tables: that there are none can't be.
+pub fn tables_law()
+    ensures { (g : GrammarView) → IsGrammar g → IsReduced g → HasNoConflict g → ¬ ¬ ((tables : TablesView) × AreTablesOf g tables) }
+{}
+
+/// A text of a language has a tree or a stop, and something is next at each viable prefix and place: that there is nothing can't be. Where forms are
+/// decided, one wins.
+pub fn answer_law()
+    ensures answer { (l : LanguageView) → IsLanguage l → (text : List ℕ) → ¬ ¬ HasAnswer l text }
+    ensures next { (l : LanguageView) → IsLanguage l → (text : List ℕ) (prefix : List Symbol) → IsViablePrefix l.grammar prefix → (at : ℕ) → at ≤ length text → ¬ ¬ ((next : Next) × NextToken l text prefix at next) }
+    ensures winner { (l : LanguageView) → IsDeterministic l.grammar → IsWritten l → AreDecided l → ¬ ¬ HasOneWinner l }
 {}

@@ -129,3 +129,27 @@ goto_is {kernels} h s b goto some none = record { some = λ n. (there n goto som
         let (item, t, v) = leads.2 in
         let (one, rest, has, is) = before_last v (prefix_of kernels s) (Nonterminal b) refl in
         absurd (none refl one rest has is)
+
+-- without conflict one action stands at most
+pub stands_once : {kernels : KernelsView} → AreKernels kernels → HasNoConflict kernels.grammar → (s t : ℕ) (a b : Action) →
+    Stands kernels s t a → Stands kernels s t b → b ≡ a
+stands_once {kernels} h clear s t (Shift n) (Shift m) (_, x) (_, y) = ap Shift (step_once h s (Terminal t) m n y x)
+stands_once {kernels} h clear s t (Shift n) (Reduce q) (x, _) (_, y) = absurd (clear (prefix_of kernels s) t (inl (q, x, y)))
+stands_once {kernels} h clear s t (Shift n) Accept (x, _) y = absurd (clear (prefix_of kernels s) t (inl (top_of kernels.grammar, x, y)))
+stands_once {kernels} h clear s t (Reduce p) (Shift m) (_, x) (y, _) = absurd (clear (prefix_of kernels s) t (inl (p, y, x)))
+stands_once {kernels} h clear s t (Reduce p) (Reduce q) (_, x) (_, y) = elim (cases_eq q p) [
+  | inl e ↦ ap Reduce e
+  | inr other ↦ absurd (clear (prefix_of kernels s) t (inr (q, p, other, y, x)))
+]
+stands_once {kernels} h clear s t (Reduce p) Accept (lt, x) y =
+    let differ : p ≢ top_of kernels.grammar = λ e. omega (arith, e, lt) in
+    absurd (clear (prefix_of kernels s) t (inr (p, top_of kernels.grammar, differ, x, y)))
+stands_once {kernels} h clear s t Accept (Shift m) x (y, _) = absurd (clear (prefix_of kernels s) t (inl (top_of kernels.grammar, y, x)))
+stands_once {kernels} h clear s t Accept (Reduce q) x (lt, y) =
+    let differ : q ≢ top_of kernels.grammar = λ e. omega (arith, e, lt) in
+    absurd (clear (prefix_of kernels s) t (inr (q, top_of kernels.grammar, differ, y, x)))
+stands_once {kernels} h clear s t Accept Accept x y = refl
+stands_once {kernels} h clear s t (Shift n) act.None x y = absurd y
+stands_once {kernels} h clear s t (Reduce p) act.None x y = absurd y
+stands_once {kernels} h clear s t Accept act.None x y = absurd y
+stands_once {kernels} h clear s t act.None b x y = absurd x

@@ -1,7 +1,6 @@
-//! Tests of the program: runs of the top call over files in memory.
+//! Tests of the program: runs of its top call over files in memory.
 //!
-//! Tests of what reads and prints a format are in `wb_format_tests`, those of the libraries that know no format in `wb_grammar_tests`,
-//! `wb_language_tests`, `wb_library_tests`, `wb_specification_tests` and `wb_value_tests`. Nothing depends on this crate.
+//! Tests of the libraries are in the other crates of tests. Nothing depends on this crate.
 #![tactic(auto)]
 
 #[cfg(test)]
@@ -22,6 +21,8 @@ mod long_texts;
 mod long_values;
 #[cfg(test)]
 mod odd;
+#[cfg(test)]
+mod open_hosts;
 #[cfg(test)]
 mod prefixes;
 #[cfg(test)]

@@ -8,3 +8,9 @@ pub mod BareLemmas
 pub mod DecidedLemmas
 pub mod BeatsLemmas
 pub mod LanguageLemmas
+pub mod Listings
+pub mod SpelledLemmas
+pub mod LanguageExists
+pub mod TextsExist
+pub mod TreesExist
+pub mod WithdrawnExist
